@@ -1,0 +1,12 @@
+use Rattle.std.proofs.Common.{◌≡◌, Err, false, not, sym, subst, ap, ◌∙◌}
+use Rattle.amqp_ser.specs.Compounds.{paired}
+use Rattle.amqp_ser.proofs.Maps.{odd_map}
+use Rattle.amqp_ser.specs.declared.kind.Kind.TheVariants.{Map}
+use Rattle.amqp_ser.proofs.compound.map.SerializeMap.end.Goals as goal
+
+-- a map with a pending key has an odd number of parts
+pub returns-then-pending : goal.returns-then-pending
+returns-then-pending g c = λ start ps h e.
+    let odd : paired ps ≡ false = sym e ∙ ap not c.if-pending.true in
+    let refused = (c.misuse.ensures start Map ps h).1 in
+    subst (λ t. g.S.Serializer.permits start t (Err c.misuse.result) c.misuse.new.self) (sym (odd_map ps odd)) refused

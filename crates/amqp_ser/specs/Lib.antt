@@ -1,0 +1,12 @@
+pub mod Tree
+pub mod Limits
+pub mod Scalars
+pub mod Encoding
+pub mod Writable
+pub mod Marked
+pub mod Compounds
+pub mod Composites
+pub mod Ranged
+pub mod Permitted
+pub mod Same
+pub mod Fixed

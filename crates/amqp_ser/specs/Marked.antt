@@ -1,0 +1,47 @@
+-- The trees that a newtype's marker name makes of the tree inside it.
+use Rattle.std.specs.Prelude.{ℕ, List, Option, Some, None, Bool, true, false, nat_eq, length, bytes_eq, codes, if◌then◌else◌}
+use Rattle.amqp_ser.specs.Tree.{Scalar, long, binary, string, symbol, timestamp, decimal32, decimal64, decimal128, uuid, Tree, scalar, list, array, transparent}
+use Rattle.amqp_ser.specs.declared.mark.Mark.{Mark}
+use Rattle.amqp_ser.specs.declared.mark.Mark.TheVariants as mark
+
+-- the marker of a name; any other name marks nothing
+abbrev pub mark_of : List ℕ → Mark
+mark_of n =
+    if bytes_eq n (codes "__SYMBOL") then mark.Symbol
+    else if bytes_eq n (codes "__SYMBOL_REF") then mark.Symbol
+    else if bytes_eq n (codes "__TIMESTAMP") then mark.Timestamp
+    else if bytes_eq n (codes "__DECIMAL32") then mark.Decimal32
+    else if bytes_eq n (codes "__DECIMAL64") then mark.Decimal64
+    else if bytes_eq n (codes "__DECIMAL128") then mark.Decimal128
+    else if bytes_eq n (codes "__UUID") then mark.Uuid
+    else if bytes_eq n (codes "__ARRAY") then mark.Array
+    else if bytes_eq n (codes "__TRANSPARENT_VEC") then mark.Transparent
+    else if bytes_eq n (codes "__LAZY_VALUE") then mark.Lazy
+    else mark.Other
+
+-- a scalar, if its content has this length
+abbrev pub of_length : ℕ → List ℕ → Scalar → Option Tree
+of_length n bs s = if nat_eq (length bs) n then Some (scalar s) else None
+
+-- a symbol is marked on a string, a timestamp on a long, a decimal or a uuid on a binary of its length
+abbrev pub marked_scalar : Mark → Scalar → Option Tree
+marked_scalar mark.Symbol (string bs) = Some (scalar (symbol bs))
+marked_scalar mark.Timestamp (long z) = Some (scalar (timestamp z))
+marked_scalar mark.Decimal32 (binary bs) = of_length 4 bs (decimal32 bs)
+marked_scalar mark.Decimal64 (binary bs) = of_length 8 bs (decimal64 bs)
+marked_scalar mark.Decimal128 (binary bs) = of_length 16 bs (decimal128 bs)
+marked_scalar mark.Uuid (binary bs) = of_length 16 bs (uuid bs)
+marked_scalar mark.Other s = Some (scalar s)
+marked_scalar m s = None
+
+-- an array is marked on a list; transparent vectors and lazy values have no tree yet
+abbrev pub marked_tree : Mark → Tree → Option Tree
+marked_tree m (scalar s) = marked_scalar m s
+marked_tree mark.Array (list ts) = Some (array ts)
+marked_tree mark.Other t = Some t
+marked_tree m t = None
+
+-- the tree of a newtype with this marker; over none there is none
+abbrev pub marked : Mark → Option Tree → Option Tree
+marked m None = None
+marked m (Some t) = marked_tree m t

@@ -1,0 +1,13 @@
+//! Compounds whose parts are still fed, over any serializer.
+//!
+//! Each holds the serializer and what it holds open. A part that is refused leaves the compound as it was, and it may
+//! be fed on.
+
+pub(crate) mod feed;
+mod map;
+mod sequence;
+mod variant;
+
+pub use map::SerializeMap;
+pub use sequence::{SerializeSeq, SerializeTuple};
+pub use variant::{SerializeStructVariant, SerializeTupleVariant};

@@ -1,0 +1,49 @@
+//! Feeding a compound its parts.
+
+ghost use Rattle.std.specs.Prelude.{◌≡◌, ◌++◌, ◌∷◌, [], List, Option, Err, MatchResult, true};
+ghost use Rattle.amqp_ser.specs.Tree.{Tree};
+ghost use Rattle.amqp_ser.specs.Compounds.{whole, paired};
+
+use crate::kind::Kind;
+use crate::serialize::Serialize;
+use crate::serializer::Serializer;
+
+/// Feeds a compound one part more, or leaves it as it was.
+pub fn feed_part<S: Serializer, T: Serialize>(
+    serializer: &mut S,
+    held: &mut S::Open,
+    value: &T,
+) -> Result<(), S::Error>
+    ensures { (start : S) (kind : Kind) (ps : List (Option Tree)) → S.has start kind serializer.old held.old ps →
+        MatchResult result
+        (λ _. S.has start kind serializer.new held.new (ps ++ (T.tree value.now ∷ [])))
+        (λ e. S.has start kind serializer.new held.new ps × ((rest : List (Option Tree)) →
+        S.permits start (whole kind (ps ++ (T.tree value.now ∷ rest))) (Err e) serializer.new)) }
+{
+    serializer.begin_part(held);
+    let part = value.serialize(serializer);
+    serializer.end_part(held, part)
+}
+
+/// Feeds a map one entry more, or leaves it as it was.
+pub fn feed_entry<S: Serializer, K: Serialize, V: Serialize>(
+    serializer: &mut S,
+    held: &mut S::Open,
+    key: &K,
+    value: &V,
+) -> Result<(), S::Error>
+    ensures { (start : S) (ps : List (Option Tree)) → S.has start Kind.Map serializer.old held.old ps → paired ps ≡ true →
+        MatchResult result
+        (λ _. S.has start Kind.Map serializer.new held.new (ps ++ (K.tree key.now ∷ (V.tree value.now ∷ []))))
+        (λ e. S.has start Kind.Map serializer.new held.new ps × ((rest : List (Option Tree)) →
+        S.permits start (whole Kind.Map (ps ++ (K.tree key.now ∷ (V.tree value.now ∷ rest)))) (Err e) serializer.new)) }
+{
+    feed_part(&mut *serializer, &mut *held, key)?;
+    match feed_part(&mut *serializer, &mut *held, value) {
+        Ok(()) => Ok(()),
+        Err(e) => {
+            serializer.undo_part(held);
+            Err(e)
+        }
+    }
+}

@@ -1,0 +1,146 @@
+//! Maps, with a key that may be pending.
+
+ghost use Rattle.std.specs.Prelude.{◌≡◌, ◌++◌, ◌∷◌, [], List, Option, None, Err, MatchResult, IfErr, IsErr, not, true, false};
+ghost use Rattle.amqp_ser.specs.Tree.{Tree};
+ghost use Rattle.amqp_ser.specs.Compounds.{whole, paired};
+
+use super::feed::{feed_entry, feed_part};
+use crate::kind::Kind;
+use crate::serialize::Serialize;
+use crate::serializer::Serializer;
+
+/// A map whose keys and values are still fed, in turn.
+///
+/// # Encoding
+/// AMQP 1.0 part 1, section 1.6.23.
+pub struct SerializeMap<'a, S: Serializer> {
+    serializer: &'a mut S,
+    held: S::Open,
+    pending: bool,
+}
+
+impl<S: Serializer> Drop for SerializeMap<'_, S> {
+    fn drop(self)
+        ensures { self.exit.0.now ≡ self.entry.serializer.now }
+    {
+        let SerializeMap {
+            serializer: _,
+            held: _,
+            pending: _,
+        } = self;
+    }
+}
+
+impl<'a, S: Serializer> SerializeMap<'a, S> {
+    pub(crate) fn new(serializer: &'a mut S, held: S::Open) -> SerializeMap<'a, S>
+        ensures same_reference { result.serializer.ghost_name ≡ serializer.entry.ghost_name }
+        ensures now { result.serializer.now ≡ serializer.old }
+        ensures held { result.held ≡ held }
+        ensures no_key { result.pending ≡ false }
+    {
+        SerializeMap {
+            serializer,
+            held,
+            pending: false,
+        }
+    }
+
+    /// The serializer behind the map.
+    pub fn as_mut(&mut self) -> &mut S
+        ensures { result.now ≡ self.old.serializer.now }
+    {
+        &mut *self.serializer
+    }
+
+    /// Feeds a key, whose value comes next.
+    ///
+    /// # Errors
+    /// The serializer's refusal of the key, or of a second key while one is pending; the map is then as it was.
+    pub fn serialize_key<T: Serialize>(&mut self, key: &T) -> Result<(), S::Error>
+        ensures same { self.new.serializer.ghost_name ≡ self.old.serializer.ghost_name }
+        ensures pending { MatchResult result (λ _. (self.old.pending ≡ false) × (self.new.pending ≡ true)) (λ _. self.new.pending ≡ self.old.pending) }
+        ensures step { self.old.pending ≡ false → (start : S) (ps : List (Option Tree)) → S.has start Kind.Map self.old.serializer.now self.old.held ps →
+            MatchResult result
+            (λ _. S.has start Kind.Map self.new.serializer.now self.new.held (ps ++ (T.tree key.now ∷ [])))
+            (λ e. S.has start Kind.Map self.new.serializer.now self.new.held ps × ((rest : List (Option Tree)) →
+            S.permits start (whole Kind.Map (ps ++ (T.tree key.now ∷ rest))) (Err e) self.new.serializer.now)) }
+        ensures misuse { self.old.pending ≡ true → (start : S) (ps : List (Option Tree)) → S.has start Kind.Map self.old.serializer.now self.old.held ps →
+            IfErr result (λ e. S.has start Kind.Map self.new.serializer.now self.new.held ps × S.permits start None (Err e) self.new.serializer.now) }
+    {
+        if self.pending {
+            return Err(self.serializer.misuse(&mut self.held));
+        }
+        feed_part(&mut *self.serializer, &mut self.held, key)?;
+        self.pending = true;
+        Ok(())
+    }
+
+    /// Feeds the value of the pending key.
+    ///
+    /// # Errors
+    /// The serializer's refusal of the value, after which the key is still pending, or of a value without a key; the
+    /// map is then as it was.
+    pub fn serialize_value<T: Serialize>(&mut self, value: &T) -> Result<(), S::Error>
+        ensures same { self.new.serializer.ghost_name ≡ self.old.serializer.ghost_name }
+        ensures pending { MatchResult result (λ _. (self.old.pending ≡ true) × (self.new.pending ≡ false)) (λ _. self.new.pending ≡ self.old.pending) }
+        ensures step { self.old.pending ≡ true → (start : S) (ps : List (Option Tree)) → S.has start Kind.Map self.old.serializer.now self.old.held ps →
+            MatchResult result
+            (λ _. S.has start Kind.Map self.new.serializer.now self.new.held (ps ++ (T.tree value.now ∷ [])))
+            (λ e. S.has start Kind.Map self.new.serializer.now self.new.held ps × ((rest : List (Option Tree)) →
+            S.permits start (whole Kind.Map (ps ++ (T.tree value.now ∷ rest))) (Err e) self.new.serializer.now)) }
+        ensures misuse { self.old.pending ≡ false → (start : S) (ps : List (Option Tree)) → S.has start Kind.Map self.old.serializer.now self.old.held ps →
+            IfErr result (λ e. S.has start Kind.Map self.new.serializer.now self.new.held ps × S.permits start None (Err e) self.new.serializer.now) }
+    {
+        if !self.pending {
+            return Err(self.serializer.misuse(&mut self.held));
+        }
+        feed_part(&mut *self.serializer, &mut self.held, value)?;
+        self.pending = false;
+        Ok(())
+    }
+
+    /// Feeds a key and its value.
+    ///
+    /// # Errors
+    /// The serializer's refusal of the key or of the value, or of an entry while a key is pending; the map is then as
+    /// it was.
+    pub fn serialize_entry<K: Serialize, V: Serialize>(
+        &mut self,
+        key: &K,
+        value: &V,
+    ) -> Result<(), S::Error>
+        ensures same { self.new.serializer.ghost_name ≡ self.old.serializer.ghost_name }
+        ensures pending { self.new.pending ≡ self.old.pending }
+        ensures step { self.old.pending ≡ false → (start : S) (ps : List (Option Tree)) → S.has start Kind.Map self.old.serializer.now self.old.held ps → paired ps ≡ true →
+            MatchResult result
+            (λ _. S.has start Kind.Map self.new.serializer.now self.new.held (ps ++ (K.tree key.now ∷ (V.tree value.now ∷ []))))
+            (λ e. S.has start Kind.Map self.new.serializer.now self.new.held ps × ((rest : List (Option Tree)) →
+            S.permits start (whole Kind.Map (ps ++ (K.tree key.now ∷ (V.tree value.now ∷ rest)))) (Err e) self.new.serializer.now)) }
+        ensures misuse { self.old.pending ≡ true → IsErr result × ((start : S) (ps : List (Option Tree)) → S.has start Kind.Map self.old.serializer.now self.old.held ps →
+            IfErr result (λ e. S.has start Kind.Map self.new.serializer.now self.new.held ps × S.permits start None (Err e) self.new.serializer.now)) }
+    {
+        if self.pending {
+            return Err(self.serializer.misuse(&mut self.held));
+        }
+        feed_entry(&mut *self.serializer, &mut self.held, key, value)
+    }
+
+    /// Ends the map, with the serializer's answer on the tree of its pairs.
+    ///
+    /// # Errors
+    /// The serializer's refusal of that tree, or of a map whose last key has no value.
+    pub fn end(self) -> Result<S::Ok, S::Error>
+        ensures { (start : S) (ps : List (Option Tree)) → S.has start Kind.Map self.entry.serializer.now self.entry.held ps →
+            not self.entry.pending ≡ paired ps → S.permits start (whole Kind.Map ps) result self.exit.0.now }
+    {
+        let SerializeMap {
+            serializer,
+            mut held,
+            pending,
+        } = self;
+        if pending {
+            return Err(serializer.misuse(&mut held));
+        }
+        serializer.end(held)
+    }
+}

@@ -1,0 +1,4 @@
+//! The trees of Rust's own types.
+
+mod holders;
+mod text;

@@ -1,0 +1,21 @@
+//! A value with a data tree.
+
+ghost use Rattle.std.specs.Prelude.{Option, Result};
+ghost use Rattle.amqp_ser.specs.Tree.{Tree};
+
+use crate::serializer::Serializer;
+
+/// A value that means a data tree, or none.
+///
+/// # Implementer notes
+/// `tree` is the meaning, and `serialize` owes each serializer's answer on it. Where there is no tree every
+/// serializer refuses. Hand the value's parts to the compound that the serializer opens, each once and in order, and
+/// pass each refusal on; or delegate to the impl of a part.
+pub trait Serialize {
+    /// The value's tree, if it has one.
+    ghost tree: { Self → Option Tree };
+
+    /// Answers as the serializer answers on the value's tree.
+    fn serialize<S: Serializer>(&self, serializer: &mut S) -> Result<S::Ok, S::Error>
+        ensures { S.permits serializer.old (tree self.now) result serializer.new };
+}

@@ -1,0 +1,339 @@
+//! The law of a serializer, and the methods by which values are handed to it.
+
+ghost use Rattle.std.specs.Prelude.{◌≡◌, ◌++◌, ◌∷◌, [], List, Option, Some, None, Result, Ok, Err, MatchResult, IfOk, IsOk, true, false};
+ghost use Rattle.amqp_ser.specs.Tree.{Tree, Scalar, scalar, null, bool, ubyte, ushort, uint, ulong, byte, short, int, long, char, string, binary};
+ghost use Rattle.amqp_ser.specs.Fixed.{fixed_scalar};
+ghost use Rattle.amqp_ser.specs.Compounds.{whole, complete, paired};
+ghost use Rattle.amqp_ser.specs.Marked.{marked, mark_of};
+
+use crate::compound::feed::feed_part;
+use crate::compound::{
+    SerializeMap, SerializeSeq, SerializeStructVariant, SerializeTuple, SerializeTupleVariant,
+};
+use crate::fixed::Fixed;
+use crate::kind::Kind;
+use crate::mark::{Mark, mark_named};
+use crate::serialize::Serialize;
+
+/// Turns data trees into answers of one kind, as their length, their bytes or an untyped value.
+///
+/// An author writes the eleven required methods; the methods that values call, named as serde names them,
+/// stand on these and are the same for every serializer.
+///
+/// # Implementer notes
+/// `permits before tree answer after` says which answers are permitted on a tree, or on none, and what they leave of
+/// the serializer: fresh after each call, refused ones too. `has start kind now open parts` says that a compound which
+/// `start` opened may have been fed these parts; `awaits` says the same of a serializer that is ready for the next
+/// part. Three laws tie them to the parts: none at opening and one more after each that was taken; a refused part
+/// leaves the compound as it was, and its refusal is permitted on every continuation; at the end what is answered is
+/// permitted on the tree that the kind makes of the parts.
+pub trait Serializer {
+    ghost use Rattle.amqp_ser.specs.declared.kind.Kind.{Kind};
+
+    /// What is answered on a tree.
+    type Ok: Drop;
+    /// What is answered in its place.
+    type Error: Drop;
+    /// A compound whose parts are still fed.
+    type Open: Drop;
+
+    /// What may be answered on a tree, or on none, and what that leaves of the serializer.
+    ghost permits: { Self → Option Tree → Result Self.Ok Self.Error → Self → Type 0 };
+
+    /// A compound, opened by the first serializer, may have been fed these parts.
+    ghost has: { Self → Kind → Self → Self.Open → List (Option Tree) → Type 0 };
+
+    /// The same, and the serializer is ready for the next part.
+    ghost awaits: { Self → Kind → Self → Self.Open → List (Option Tree) → Type 0 };
+
+    /// Answers on null or a scalar of fixed width.
+    fn serialize_fixed(&mut self, fixed: Fixed) -> Result<Self::Ok, Self::Error>
+        ensures { permits self.old (Some (scalar (fixed_scalar fixed))) result self.new };
+
+    /// Answers on a string.
+    fn serialize_str(&mut self, v: &str) -> Result<Self::Ok, Self::Error>
+        ensures { permits self.old (Some (scalar (string v.now))) result self.new };
+
+    /// Answers on a binary.
+    fn serialize_bytes(&mut self, v: &[u8]) -> Result<Self::Ok, Self::Error>
+        ensures { permits self.old (Some (scalar (binary v.now))) result self.new };
+
+    /// Makes ready for a tree that stands for the marked one.
+    fn mark(&mut self, mark: Mark)
+        ensures { (t : Option Tree) (r : Result Self.Ok Self.Error) (after : Self) →
+            permits self.new t r after → permits self.old (marked mark t) r after };
+
+    /// Opens a compound.
+    fn begin(&mut self, kind: Kind) -> Self::Open
+        ensures { has self.old kind self.new result [] };
+
+    /// Makes ready for the next part.
+    fn begin_part(&mut self, held: &mut Self::Open)
+        ensures { (start : Self) (kind : Kind) (ps : List (Option Tree)) →
+            has start kind self.old held.old ps → awaits start kind self.new held.new ps };
+
+    /// Takes the answer on a part: the compound has it, or is as it was.
+    fn end_part(
+        &mut self,
+        held: &mut Self::Open,
+        part: Result<Self::Ok, Self::Error>,
+    ) -> Result<(), Self::Error>
+        ensures { (start : Self) (kind : Kind) (before : Self) (ps : List (Option Tree)) (p : Option Tree) →
+            awaits start kind before held.old ps → permits before p part self.old →
+            MatchResult result
+            (λ _. has start kind self.new held.new (ps ++ (p ∷ [])))
+            (λ e. has start kind self.new held.new ps × ((rest : List (Option Tree)) →
+            permits start (whole kind (ps ++ (p ∷ rest))) (Err e) self.new)) };
+
+    /// Takes the last part back: a key whose value was refused.
+    fn undo_part(&mut self, held: &mut Self::Open)
+        ensures back { (start : Self) (ps : List (Option Tree)) (p : Option Tree) →
+            has start Kind.Map self.old held.old (ps ++ (p ∷ [])) → paired ps ≡ true → has start Kind.Map self.new held.new ps }
+        ensures refusals { (start : Self) (t : Option Tree) (e : Self.Error) →
+            permits start t (Err e) self.old → permits start t (Err e) self.new };
+
+    /// The refusal of parts that make no tree.
+    fn misuse(&mut self, held: &mut Self::Open) -> Self::Error
+        ensures { (start : Self) (kind : Kind) (ps : List (Option Tree)) → has start kind self.old held.old ps →
+            has start kind self.new held.new ps × permits start None (Err result) self.new };
+
+    /// Ends the compound.
+    fn end(&mut self, held: Self::Open) -> Result<Self::Ok, Self::Error>
+        ensures { (start : Self) (kind : Kind) (ps : List (Option Tree)) → has start kind self.old held ps →
+            complete kind ps ≡ true → permits start (whole kind ps) result self.new };
+
+    /// Whether texts for people are wanted: never.
+    final fn is_human_readable(&self) -> bool
+        ensures { result ≡ false }
+    {
+        false
+    }
+
+    /// Answers on a truth value.
+    final fn serialize_bool(&mut self, v: bool) -> Result<Self::Ok, Self::Error>
+        ensures { Self.permits self.old (Some (scalar (bool v))) result self.new }
+    {
+        self.serialize_fixed(Fixed::Bool(v))
+    }
+
+    /// Answers on a byte.
+    final fn serialize_i8(&mut self, v: i8) -> Result<Self::Ok, Self::Error>
+        ensures { Self.permits self.old (Some (scalar (byte v))) result self.new }
+    {
+        self.serialize_fixed(Fixed::Byte(v))
+    }
+
+    /// Answers on a short.
+    final fn serialize_i16(&mut self, v: i16) -> Result<Self::Ok, Self::Error>
+        ensures { Self.permits self.old (Some (scalar (short v))) result self.new }
+    {
+        self.serialize_fixed(Fixed::Short(v))
+    }
+
+    /// Answers on an int.
+    final fn serialize_i32(&mut self, v: i32) -> Result<Self::Ok, Self::Error>
+        ensures { Self.permits self.old (Some (scalar (int v))) result self.new }
+    {
+        self.serialize_fixed(Fixed::Int(v))
+    }
+
+    /// Answers on a long.
+    final fn serialize_i64(&mut self, v: i64) -> Result<Self::Ok, Self::Error>
+        ensures { Self.permits self.old (Some (scalar (long v))) result self.new }
+    {
+        self.serialize_fixed(Fixed::Long(v))
+    }
+
+    /// Answers on an ubyte.
+    final fn serialize_u8(&mut self, v: u8) -> Result<Self::Ok, Self::Error>
+        ensures { Self.permits self.old (Some (scalar (ubyte v))) result self.new }
+    {
+        self.serialize_fixed(Fixed::Ubyte(v))
+    }
+
+    /// Answers on an ushort.
+    final fn serialize_u16(&mut self, v: u16) -> Result<Self::Ok, Self::Error>
+        ensures { Self.permits self.old (Some (scalar (ushort v))) result self.new }
+    {
+        self.serialize_fixed(Fixed::Ushort(v))
+    }
+
+    /// Answers on an uint.
+    final fn serialize_u32(&mut self, v: u32) -> Result<Self::Ok, Self::Error>
+        ensures { Self.permits self.old (Some (scalar (uint v))) result self.new }
+    {
+        self.serialize_fixed(Fixed::Uint(v))
+    }
+
+    /// Answers on an ulong.
+    final fn serialize_u64(&mut self, v: u64) -> Result<Self::Ok, Self::Error>
+        ensures { Self.permits self.old (Some (scalar (ulong v))) result self.new }
+    {
+        self.serialize_fixed(Fixed::Ulong(v))
+    }
+
+    /// Answers on a character.
+    final fn serialize_char(&mut self, v: char) -> Result<Self::Ok, Self::Error>
+        ensures { Self.permits self.old (Some (scalar (char v))) result self.new }
+    {
+        self.serialize_fixed(Fixed::Char(v))
+    }
+
+    /// Answers on no value, as null.
+    final fn serialize_none(&mut self) -> Result<Self::Ok, Self::Error>
+        ensures { Self.permits self.old (Some (scalar null)) result self.new }
+    {
+        self.serialize_fixed(Fixed::Null)
+    }
+
+    /// Answers on the unit, as null.
+    final fn serialize_unit(&mut self) -> Result<Self::Ok, Self::Error>
+        ensures { Self.permits self.old (Some (scalar null)) result self.new }
+    {
+        self.serialize_fixed(Fixed::Null)
+    }
+
+    /// Answers on a struct without fields, as null.
+    final fn serialize_unit_struct(&mut self, _name: &'static str) -> Result<Self::Ok, Self::Error>
+        ensures { Self.permits self.old (Some (scalar null)) result self.new }
+    {
+        self.serialize_fixed(Fixed::Null)
+    }
+
+    /// Answers on a variant without a value, as the uint of its index.
+    final fn serialize_unit_variant(
+        &mut self,
+        _name: &'static str,
+        index: u32,
+        _variant: &'static str,
+    ) -> Result<Self::Ok, Self::Error>
+        ensures { Self.permits self.old (Some (scalar (uint index))) result self.new }
+    {
+        self.serialize_fixed(Fixed::Uint(index))
+    }
+
+    /// Answers on a value that is there, as on the value itself.
+    final fn serialize_some<T: Serialize>(&mut self, v: &T) -> Result<Self::Ok, Self::Error>
+    where
+        Self: Sized,
+        ensures { Self.permits self.old (T.tree v.now) result self.new }
+    {
+        v.serialize(self)
+    }
+
+    /// Answers on a newtype, as its name marks the tree inside it.
+    final fn serialize_newtype_struct<T: Serialize>(
+        &mut self,
+        name: &'static str,
+        v: &T,
+    ) -> Result<Self::Ok, Self::Error>
+    where
+        Self: Sized,
+        ensures { Self.permits self.old (marked (mark_of name.now) (T.tree v.now)) result self.new }
+    {
+        let mark = mark_named(name);
+        self.mark(mark);
+        v.serialize(self)
+    }
+
+    /// Opens a list. The length is a hint: it is not checked and reserves nothing.
+    final fn serialize_seq(
+        &mut self,
+        _len: Option<usize>,
+    ) -> Result<SerializeSeq<'_, Self>, Self::Error>
+    where
+        Self: Sized,
+        ensures opened { IfOk result (λ seq. Self.has self.old Kind.List seq.serializer.now seq.held []) }
+        ensures same_reference { IfOk result (λ seq. seq.serializer.ghost_name ≡ self.entry.ghost_name) }
+        ensures succeeds { IsOk result }
+    {
+        let held = self.begin(Kind::List);
+        Ok(SerializeSeq::new(self, held))
+    }
+
+    /// Opens a tuple, a list of its elements.
+    final fn serialize_tuple(
+        &mut self,
+        _len: usize,
+    ) -> Result<SerializeTuple<'_, Self>, Self::Error>
+    where
+        Self: Sized,
+        ensures opened { IfOk result (λ tuple. Self.has self.old Kind.List tuple.serializer.now tuple.held []) }
+        ensures same_reference { IfOk result (λ tuple. tuple.serializer.ghost_name ≡ self.entry.ghost_name) }
+        ensures succeeds { IsOk result }
+    {
+        let held = self.begin(Kind::List);
+        Ok(SerializeTuple::new(self, held))
+    }
+
+    /// Opens a map.
+    final fn serialize_map(
+        &mut self,
+        _len: Option<usize>,
+    ) -> Result<SerializeMap<'_, Self>, Self::Error>
+    where
+        Self: Sized,
+        ensures opened { IfOk result (λ map. Self.has self.old Kind.Map map.serializer.now map.held []) }
+        ensures no_key { IfOk result (λ map. map.pending ≡ false) }
+        ensures same_reference { IfOk result (λ map. map.serializer.ghost_name ≡ self.entry.ghost_name) }
+        ensures succeeds { IsOk result }
+    {
+        let held = self.begin(Kind::Map);
+        Ok(SerializeMap::new(self, held))
+    }
+
+    /// Answers on a variant of one value. The names of an enum and its variants are not written.
+    final fn serialize_newtype_variant<T: Serialize>(
+        &mut self,
+        name: &'static str,
+        index: u32,
+        _variant: &'static str,
+        v: &T,
+    ) -> Result<Self::Ok, Self::Error>
+    where
+        Self: Sized,
+        ensures { Self.permits self.old (whole (Kind.Only index) (T.tree v.now ∷ [])) result self.new }
+    {
+        let mut held = self.begin(Kind::Only(index));
+        feed_part(self, &mut held, v)?;
+        self.end(held)
+    }
+
+    /// Opens a variant of fields that have no names.
+    final fn serialize_tuple_variant(
+        &mut self,
+        _name: &'static str,
+        index: u32,
+        _variant: &'static str,
+        _len: usize,
+    ) -> Result<SerializeTupleVariant<'_, Self>, Self::Error>
+    where
+        Self: Sized,
+        ensures opened { IfOk result (λ variant. Self.has self.old (Kind.Fields index) variant.serializer.now variant.held []) }
+        ensures index { IfOk result (λ variant. variant.index ≡ index) }
+        ensures same_reference { IfOk result (λ variant. variant.serializer.ghost_name ≡ self.entry.ghost_name) }
+        ensures succeeds { IsOk result }
+    {
+        let held = self.begin(Kind::Fields(index));
+        Ok(SerializeTupleVariant::new(self, held, index))
+    }
+
+    /// Opens a variant of named fields.
+    final fn serialize_struct_variant(
+        &mut self,
+        _name: &'static str,
+        index: u32,
+        _variant: &'static str,
+        _len: usize,
+    ) -> Result<SerializeStructVariant<'_, Self>, Self::Error>
+    where
+        Self: Sized,
+        ensures opened { IfOk result (λ variant. Self.has self.old (Kind.Fields index) variant.serializer.now variant.held []) }
+        ensures index { IfOk result (λ variant. variant.index ≡ index) }
+        ensures same_reference { IfOk result (λ variant. variant.serializer.ghost_name ≡ self.entry.ghost_name) }
+        ensures succeeds { IsOk result }
+    {
+        let held = self.begin(Kind::Fields(index));
+        Ok(SerializeStructVariant::new(self, held, index))
+    }
+}
