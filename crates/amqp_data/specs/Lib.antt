@@ -1,3 +1,4 @@
 pub mod Fixed
 pub mod Items
+pub mod Pairs
 pub mod Text
