@@ -15,6 +15,7 @@ pub mod markers;
 mod ordered_map;
 mod symbol;
 mod timestamp;
+mod transparent_vec;
 mod uuid;
 
 pub use array::Array;
@@ -27,4 +28,5 @@ pub use error::Error;
 pub use ordered_map::{Iter, OrderedMap};
 pub use symbol::{Symbol, SymbolRef};
 pub use timestamp::Timestamp;
+pub use transparent_vec::TransparentVec;
 pub use uuid::Uuid;
