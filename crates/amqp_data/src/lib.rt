@@ -12,6 +12,7 @@ mod described;
 mod descriptor;
 mod error;
 mod format_code;
+pub mod laws;
 pub mod markers;
 mod ordered_map;
 mod symbol;
