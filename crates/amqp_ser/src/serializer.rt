@@ -1,10 +1,11 @@
 //! The law of a serializer, and the methods by which values are handed to it.
 
 ghost use Rattle.std.specs.Prelude.{◌≡◌, ◌++◌, ◌∷◌, [], List, Option, Some, None, Result, Ok, Err, MatchResult, IfOk, IsOk, true, false};
-ghost use Rattle.amqp_ser.specs.Tree.{Tree, Scalar, scalar, null, bool, ubyte, ushort, uint, ulong, byte, short, int, long, char, string, binary};
+ghost use Rattle.amqp_ser.specs.Tree.{Tree, Scalar, scalar, null, bool, ubyte, ushort, uint, ulong, byte, short, int, long, float, double, char, string, binary};
 ghost use Rattle.amqp_ser.specs.Fixed.{fixed_scalar};
 ghost use Rattle.amqp_ser.specs.Compounds.{whole, complete, paired};
 ghost use Rattle.amqp_ser.specs.Marked.{is_described, marked, mark_of};
+ghost use Rattle.amqp_data.specs.Fixed.{f32_bits, f64_bits};
 
 use crate::compound::feed::feed_part;
 use crate::compound::{
@@ -15,6 +16,7 @@ use crate::fixed::Fixed;
 use crate::kind::Kind;
 use crate::mark::{Mark, is_described_name, mark_named};
 use crate::serialize::Serialize;
+use amqp_data::{F32Bits, F64Bits};
 
 /// Turns data trees into answers of one kind, as their length, their bytes or an untyped value.
 ///
@@ -171,6 +173,20 @@ pub trait Serializer {
         ensures { Self.permits self.old (Some (scalar (ulong v))) result self.new }
     {
         self.serialize_fixed(Fixed::Ulong(v))
+    }
+
+    /// Answers on a float, given by its bits.
+    final fn serialize_f32(&mut self, v: F32Bits) -> Result<Self::Ok, Self::Error>
+        ensures { Self.permits self.old (Some (scalar (float (f32_bits v)))) result self.new }
+    {
+        self.serialize_fixed(Fixed::Float(v.into_inner()))
+    }
+
+    /// Answers on a double, given by its bits.
+    final fn serialize_f64(&mut self, v: F64Bits) -> Result<Self::Ok, Self::Error>
+        ensures { Self.permits self.old (Some (scalar (double (f64_bits v)))) result self.new }
+    {
+        self.serialize_fixed(Fixed::Double(v.into_inner()))
     }
 
     /// Answers on a character.
