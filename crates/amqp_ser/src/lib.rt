@@ -9,6 +9,7 @@ mod compound;
 mod fixed;
 mod impls;
 mod kind;
+pub mod laws;
 mod mark;
 mod serialize;
 mod serializer;
