@@ -4,3 +4,5 @@ pub mod Cuts
 pub mod Open
 pub mod Primitive
 pub mod Filled
+pub mod Taking
+pub mod Ends

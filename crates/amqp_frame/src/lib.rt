@@ -7,10 +7,13 @@
 
 mod code;
 mod frame;
+mod intake;
 pub mod laws;
+mod lazy;
 mod read;
 mod readers;
 
 pub use frame::frame_len;
+pub use lazy::LazyValue;
 pub use read::Read;
 pub use readers::{IoReader, SliceReader};
