@@ -12,6 +12,8 @@ pub mod laws;
 mod lazy;
 mod read;
 mod readers;
+#[cfg(test)]
+mod tests;
 
 pub use frame::frame_len;
 pub use lazy::LazyValue;

@@ -17,7 +17,8 @@ loop-open-preserved-then-code-eq0 g c =
     let o = c.loop-open.invariant in
     let zero : c.in_ok-code.code ≡ 0 = omega arith in
     let was = c.in_ok-code.ensures in
-    let more : c.take_byte.new.taken.items ≡ c.loop-open.taken.items ++ 0 ∷ [] = was.bytes ∙ ap (λ x. c.loop-open.taken.items ++ x ∷ []) zero in
+    let bytes = was.bytes in
+    let more : c.take_byte.new.taken.items ≡ c.loop-open.taken.items ++ 0 ∷ [] = rw zero at bytes in
     record {
       moved = rw was.bytes (Consumes-trans _ _ _ _ _ o.moved was.ok);
       completes = rw more (open-more _ _ (omega arith) o.completes);
