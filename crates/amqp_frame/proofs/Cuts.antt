@@ -20,7 +20,8 @@ no-cut s none = ([], s, record { whole = refl; each = tt; over = none })
 
 add-cut : (s f r : List ℕ) → IsFrame f → s ≡ f ++ r → SomeCut r → SomeCut s
 add-cut s f r h e (frames, rest, c) =
-    (f ∷ frames, rest, record { whole = e ∙ ap (λ l. f ++ l) c.whole ∙ sym (append_assoc f (concat frames) rest); each = (h, c.each); over = c.over })
+    let all = e ∙ ap (λ l. f ++ l) c.whole ∙ sym (append_assoc f (concat frames) rest) in
+    (f ∷ frames, rest, record { whole = all; each = (h, c.each); over = c.over })
 
 cut-by : (s : List ℕ) → ((r : List ℕ) → length r < length s → SomeCut r) → (o : Outcome) → Means s o → SomeCut s
 cut-by s later (whole f r) m =
@@ -34,12 +35,14 @@ cut-by s later partial m = no-cut s (λ f. frame-beginning s f m)
 pub some-cut-within : (n : ℕ) (s : List ℕ) → length s < n → SomeCut s
 some-cut-within zero s h = absurd (omega arith)
 some-cut-within (suc n) s h =
-    cut-by s (λ r k. some-cut-within n r (omega arith)) (cut (length s + 1) s) (cut-means (length s + 1) s (omega arith))
+    cut-by s (λ r k. some-cut-within n r (omega arith)) (cut (length s + 1) s)
+    (cut-means (length s + 1) s (omega arith))
 
 pub some-cut : (s : List ℕ) → SomeCut s
 some-cut s = some-cut-within (length s + 1) s (omega arith)
 
-pub one-cut : (s rest last : List ℕ) (frames others : List (List ℕ)) → IsCut s frames rest → IsCut s others last → (frames ≡ others) × (rest ≡ last)
+pub one-cut : (s rest last : List ℕ) (frames others : List (List ℕ)) → IsCut s frames rest → IsCut s others last
+    → (frames ≡ others) × (rest ≡ last)
 one-cut s rest last [] [] c d = (refl, sym c.whole ∙ d.whole)
 one-cut s rest last [] (g ∷ others) c d =
     absurd (c.over (g, concat others ++ last, d.each.0, sym c.whole ∙ d.whole ∙ append_assoc g (concat others) last))
@@ -48,7 +51,8 @@ one-cut s rest last (f ∷ frames) [] c d =
 one-cut s rest last (f ∷ frames) (g ∷ others) c d =
     let x = concat frames ++ rest in
     let y = concat others ++ last in
-    let e : f ++ x ≡ g ++ y = sym (append_assoc f (concat frames) rest) ∙ sym c.whole ∙ d.whole ∙ append_assoc g (concat others) last in
+    let e : f ++ x ≡ g ++ y = sym (append_assoc f (concat frames) rest) ∙ sym c.whole ∙ d.whole
+    ∙ append_assoc g (concat others) last in
     let same = frame-frame f g x y c.each.0 d.each.0 e in
     let c' : IsCut x frames rest = record { whole = refl; each = c.each.1; over = c.over } in
     let d' : IsCut x others last = record { whole = same.1; each = d.each.1; over = d.over } in

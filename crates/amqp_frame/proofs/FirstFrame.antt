@@ -25,9 +25,16 @@ join next (whole d r) = shift (0 ∷ d) (next r)
 join next (broken b r) = broken (0 ∷ b) r
 join next partial = partial
 
+-- a code and its payload of n bytes, and what follows
+abbrev pub split_after : ℕ → ℕ → List ℕ → Outcome
+split_after n c s = whole (c ∷ take n s) (drop n s)
+
+abbrev pub fit_cut : Bool → ℕ → List ℕ → Outcome
+fit_cut fits c s = cond fits (split_after (payload_len (category c) s) c s) partial
+
 abbrev pub primitive_cut : ℕ → List ℕ → Outcome
 primitive_cut c s =
-    cond (is_primitive_code c) (cond (leb (payload_len (category c) s) (length s)) (whole (c ∷ take (payload_len (category c) s) s) (drop (payload_len (category c) s) s)) partial) (broken (c ∷ []) s)
+    cond (is_primitive_code c) (fit_cut (leb (payload_len (category c) s) (length s)) c s) (broken (c ∷ []) s)
 
 abbrev pub cut : ℕ → List ℕ → Outcome
 cut zero s = partial
@@ -53,7 +60,8 @@ body_len-front k p x h =
     let same : take (length p) (p ++ x) ≡ p = take-append_seam p x in
     sym (rw same at front)
 
-pub payload_len-more : (k : Category) (p x : List ℕ) → payload_len k p ≤ length p → payload_len k (p ++ x) ≡ payload_len k p
+pub payload_len-more : (k : Category) (p x : List ℕ) → payload_len k p ≤ length p
+    → payload_len k (p ++ x) ≡ payload_len k p
 payload_len-more k p x h = ap (λ n. size_width k + n) (body_len-front k p x (omega arith))
 
 pub primitive-not-zero : (c : ℕ) → IsTrue (is_primitive_code c) → eqb c 0 ≡ false
@@ -66,13 +74,16 @@ positive-not-zero c h = grind (arith, nat_tests)
 
 -- What the grammar says, the function finds.
 
-pub cut-primitive : (c : ℕ) (p x : List ℕ) → IsTrue (is_primitive_code c) → length p ≡ payload_len (category c) p → primitive_cut c (p ++ x) ≡ whole (c ∷ p) x
+pub cut-primitive : (c : ℕ) (p x : List ℕ) → IsTrue (is_primitive_code c) → length p ≡ payload_len (category c) p
+    → primitive_cut c (p ++ x) ≡ whole (c ∷ p) x
 cut-primitive c p x ok len =
-    let more : payload_len (category c) (p ++ x) ≡ length p = payload_len-more (category c) p x (omega arith) ∙ sym len in
+    let more : payload_len (category c) (p ++ x) ≡ length p = payload_len-more (category c) p x (omega arith)
+    ∙ sym len in
     let fits : leb (length p) (length (p ++ x)) ≡ true = le-leb _ _ (omega (arith, length-append p x)) in
     rw (ok, more, fits, take-append_seam, drop-append_seam) refl
 
-pub cut-short : (c : ℕ) (p : List ℕ) → IsTrue (is_primitive_code c) → length p < payload_len (category c) p → primitive_cut c p ≡ partial
+pub cut-short : (c : ℕ) (p : List ℕ) → IsTrue (is_primitive_code c) → length p < payload_len (category c) p
+    → primitive_cut c p ≡ partial
 cut-short c p ok len =
     let short : leb (payload_len (category c) p) (length p) ≡ false = lt-leb _ _ len in
     rw (ok, short) refl
@@ -129,7 +140,8 @@ shift-means d r fd (whole f x) m = (IsFrame.described d f fd m.0, rw (m.1, appen
 shift-means d r fd (broken f x) m = (IsBroken.in_value d f fd m.0, rw (m.1, append_assoc) refl)
 shift-means d r fd partial m = IsBeginning.in_value d r fd m
 
-join-means : (s : List ℕ) (next : List ℕ → Outcome) → ((r : List ℕ) → length r ≤ length s → Means r (next r)) → (o : Outcome) → Means s o → Means (0 ∷ s) (join next o)
+join-means : (s : List ℕ) (next : List ℕ → Outcome) → ((r : List ℕ) → length r ≤ length s → Means r (next r))
+    → (o : Outcome) → Means s o → Means (0 ∷ s) (join next o)
 join-means s next h (whole d r) m =
     let len = length-append d r in
     let e = ap length m.1 in
@@ -140,21 +152,25 @@ join-means s next h partial m = IsBeginning.in_descriptor s m
 primitive-means : (c : ℕ) (s : List ℕ) → 0 < c → Means (c ∷ s) (primitive_cut c s)
 primitive-means c s pos = by_code (is_primitive_code c) refl
   where
-    by_len : (b : Bool) → IsTrue (is_primitive_code c) → leb (payload_len (category c) s) (length s) ≡ b → Means (c ∷ s) (cond b (whole (c ∷ take (payload_len (category c) s) s) (drop (payload_len (category c) s) s)) partial)
+    by_len : (b : Bool) → IsTrue (is_primitive_code c) → leb (payload_len (category c) s) (length s) ≡ b
+        → Means (c ∷ s) (fit_cut b c s)
     by_len true ok e =
         let fits : payload_len (category c) s ≤ length s = leb-true _ _ e in
         let m = payload_len (category c) s in
         let len : length (take m s) ≡ m = omega (arith, length-take m s) in
-        let same : payload_len (category c) (take m s) ≡ m = ap (λ n. size_width (category c) + n) (body_len-take (category c) m s (omega arith)) in
+        let same : payload_len (category c) (take m s) ≡ m
+        = ap (λ n. size_width (category c) + n) (body_len-take (category c) m s (omega arith)) in
         (IsFrame.primitive c (take m s) ok (len ∙ sym same), rw take-append-drop refl)
     by_len false ok e = IsBeginning.short c s ok (leb-false _ _ e)
 
-    by_code : (b : Bool) → is_primitive_code c ≡ b → Means (c ∷ s) (cond b (cond (leb (payload_len (category c) s) (length s)) (whole (c ∷ take (payload_len (category c) s) s) (drop (payload_len (category c) s) s)) partial) (broken (c ∷ []) s))
+    by_code : (b : Bool) → is_primitive_code c ≡ b
+        → Means (c ∷ s) (cond b (fit_cut (leb (payload_len (category c) s) (length s)) c s) (broken (c ∷ []) s))
     by_code true e = by_len _ e refl
     by_code false e = (IsBroken.refused c pos e, refl)
 
 pub cut-means : (n : ℕ) (s : List ℕ) → length s < n → Means s (cut n s)
 cut-means zero s h = absurd (omega arith)
 cut-means (suc n) [] h = IsBeginning.nothing
-cut-means (suc n) (zero ∷ s) h = join-means s (cut n) (λ r k. cut-means n r (omega arith)) (cut n s) (cut-means n s (omega arith))
+cut-means (suc n) (zero ∷ s) h = join-means s (cut n) (λ r k. cut-means n r (omega arith)) (cut n s)
+    (cut-means n s (omega arith))
 cut-means (suc n) (suc c ∷ s) h = rw (positive-not-zero (suc c) (omega arith)) (primitive-means (suc c) s (omega arith))

@@ -7,31 +7,36 @@ use Rattle.amqp_frame.proofs.FirstFrame.Outcome.{whole, broken, partial}
 pub frame-frame : (a b x y : List ℕ) → IsFrame a → IsFrame b → a ++ x ≡ b ++ y → (a ≡ b) × (x ≡ y)
 frame-frame a b x y fa fb e =
     let n = length a + length b in
-    let same : whole a x ≡ whole b y = sym (cut-frame fa n x (omega arith)) ∙ ap (cut n) e ∙ cut-frame fb n y (omega arith) in
+    let same : whole a x ≡ whole b y = sym (cut-frame fa n x (omega arith)) ∙ ap (cut n) e
+    ∙ cut-frame fb n y (omega arith) in
     (cc, cc)
 
 pub broken-broken : (a b x y : List ℕ) → IsBroken a → IsBroken b → a ++ x ≡ b ++ y → (a ≡ b) × (x ≡ y)
 broken-broken a b x y ba bb e =
     let n = length a + length b in
-    let same : broken a x ≡ broken b y = sym (cut-broken ba n x (omega arith)) ∙ ap (cut n) e ∙ cut-broken bb n y (omega arith) in
+    let same : broken a x ≡ broken b y = sym (cut-broken ba n x (omega arith)) ∙ ap (cut n) e
+    ∙ cut-broken bb n y (omega arith) in
     (cc, cc)
 
 pub frame-broken : (s : List ℕ) → HasFrame s → ¬ HasBroken s
 frame-broken s (a, x, fa, ea) (b, y, bb, eb) =
     let n = length a + length b in
-    let same : whole a x ≡ broken b y = sym (cut-frame fa n x (omega arith)) ∙ ap (cut n) (sym ea ∙ eb) ∙ cut-broken bb n y (omega arith) in
+    let same : whole a x ≡ broken b y = sym (cut-frame fa n x (omega arith)) ∙ ap (cut n) (sym ea ∙ eb)
+    ∙ cut-broken bb n y (omega arith) in
     cc
 
 pub frame-beginning : (s : List ℕ) → HasFrame s → ¬ IsBeginning s
 frame-beginning s (a, x, fa, ea) be =
     let n = length a + length s in
-    let same : whole a x ≡ partial = sym (cut-frame fa n x (omega arith)) ∙ ap (cut n) (sym ea) ∙ cut-beginning be n (omega arith) in
+    let same : whole a x ≡ partial = sym (cut-frame fa n x (omega arith)) ∙ ap (cut n) (sym ea)
+    ∙ cut-beginning be n (omega arith) in
     cc
 
 pub broken-beginning : (s : List ℕ) → HasBroken s → ¬ IsBeginning s
 broken-beginning s (a, x, ba, ea) be =
     let n = length a + length s in
-    let same : broken a x ≡ partial = sym (cut-broken ba n x (omega arith)) ∙ ap (cut n) (sym ea) ∙ cut-beginning be n (omega arith) in
+    let same : broken a x ≡ partial = sym (cut-broken ba n x (omega arith)) ∙ ap (cut n) (sym ea)
+    ∙ cut-beginning be n (omega arith) in
     cc
 
 one-by : (s : List ℕ) (o : Outcome) → Means s o → ExactlyOne (HasFrame s) (HasBroken s) (IsBeginning s)

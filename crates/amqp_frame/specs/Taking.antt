@@ -31,4 +31,5 @@ Refuses old new before after at_end at_code (Message words) = ⊥
 -- want of memory and failed reads aside, the bytes that were left decide the answer
 abbrev pub DecidedBy : {T : Type 0} → List ℕ → Result T Error → Type 0
 DecidedBy s r =
-    IsErrOf r OutOfMemory ⊎ (IsErrOf r Io ⊎ ((IsOk r ↔ HasFrame s) × (IsErrOf r InvalidFormatCode ↔ HasBroken s) × (IsErrOf r UnexpectedEof ↔ IsBeginning s)))
+    IsErrOf r OutOfMemory ⊎ (IsErrOf r Io ⊎ ((IsOk r ↔ HasFrame s)
+    × (IsErrOf r InvalidFormatCode ↔ HasBroken s) × (IsErrOf r UnexpectedEof ↔ IsBeginning s)))

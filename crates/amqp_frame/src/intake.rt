@@ -10,13 +10,15 @@ use crate::code::{Category, body_len_of, size_width_of};
 use crate::read::Read;
 use amqp_data::Error;
 
-// How many bytes are asked for at once, at most, so that a false size takes no more memory than there are bytes.
+// How many bytes are asked for at once, at most, so that a false size takes no more memory than there
+// are bytes.
 const PIECE: usize = 4096;
 
 /// Takes one byte.
 pub fn take_byte<R: Read>(reader: &mut R, taken: &mut Vec<u8>) -> Result<u8, Error>
     ensures bytes { IfOk result (λ byte. taken.new.items ≡ taken.old.items ++ byte ∷ []) }
-    ensures ok { IfOk result (λ byte. Consumes (R.left reader.old) (R.left reader.new) (byte ∷ [])) }
+    ensures ok { IfOk result (λ byte.
+        Consumes (R.left reader.old) (R.left reader.new) (byte ∷ [])) }
     ensures refused { IfErr result (Refuses (R.left reader.old) (R.left reader.new)
         (R.failures reader.old) (R.failures reader.new)
         (RunsOut (R.left reader.old) (R.left reader.new) 1) ⊥) }
@@ -35,11 +37,13 @@ pub fn take_payload<R: Read>(
     taken: &mut Vec<u8>,
     category: Category,
 ) -> Result<(), Error>
-    ensures ok { OnOk result (Moves (R.left reader.old) (R.left reader.new) taken.old.items taken.new.items
+    ensures ok { OnOk result (Moves (R.left reader.old) (R.left reader.new)
+        taken.old.items taken.new.items
         (λ bytes. length bytes ≡ payload_len category bytes)) }
     ensures refused { IfErr result (Refuses (R.left reader.old) (R.left reader.new)
         (R.failures reader.old) (R.failures reader.new)
-        (IfSome (R.left reader.old) (λ s. (length s < payload_len category s) × (R.left reader.new ≡ Some []))) ⊥) }
+        (IfSome (R.left reader.old) (λ s.
+        (length s < payload_len category s) × (R.left reader.new ≡ Some []))) ⊥) }
     ensures count { R.failures reader.old ≤ R.failures reader.new }
 {
     let at = taken.len();
@@ -51,7 +55,8 @@ pub fn take_payload<R: Read>(
 
 // Takes `count` bytes, in pieces.
 fn take_bytes<R: Read>(reader: &mut R, taken: &mut Vec<u8>, count: u32) -> Result<(), Error>
-    ensures ok { OnOk result (Moves (R.left reader.old) (R.left reader.new) taken.old.items taken.new.items
+    ensures ok { OnOk result (Moves (R.left reader.old) (R.left reader.new)
+        taken.old.items taken.new.items
         (λ bytes. length bytes ≡ count)) }
     ensures refused { IfErr result (Refuses (R.left reader.old) (R.left reader.new)
         (R.failures reader.old) (R.failures reader.new)
@@ -70,7 +75,8 @@ fn take_bytes<R: Read>(reader: &mut R, taken: &mut Vec<u8>, count: u32) -> Resul
 
 // Takes as many bytes as the piece has, through the piece.
 fn take_piece<R: Read>(reader: &mut R, taken: &mut Vec<u8>, piece: &mut [u8]) -> Result<(), Error>
-    ensures ok { OnOk result (Moves (R.left reader.old) (R.left reader.new) taken.old.items taken.new.items
+    ensures ok { OnOk result (Moves (R.left reader.old) (R.left reader.new)
+        taken.old.items taken.new.items
         (λ bytes. length bytes ≡ length piece.old)) }
     ensures refused { IfErr result (Refuses (R.left reader.old) (R.left reader.new)
         (R.failures reader.old) (R.failures reader.new)

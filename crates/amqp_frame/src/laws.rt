@@ -1,4 +1,4 @@
-//! Laws of frames, which speak of the definitions alone: a caller learns one by calling its function.
+//! Laws of the definitions alone. A caller learns one by calling its function.
 
 ghost use Rattle.std.specs.Prelude.{◌≡◌, ◌<◌, ℕ, List, [], ◌++◌, length};
 ghost use Rattle.std.specs.List.{AllByRecursion, concat};
@@ -15,7 +15,7 @@ pub fn one_broken()
     ensures { (a b x y : List ℕ) → IsBroken a → IsBroken b → a ++ x ≡ b ++ y → (a ≡ b) × (x ≡ y) }
 {}
 
-/// Every string has exactly one of a frame as a front, a broken front, and being itself a beginning.
+/// Every string has exactly one of a frame as a front, a broken front, being itself a beginning.
 pub fn one_case()
     ensures { (s : List ℕ) → ExactlyOne (HasFrame s) (HasBroken s) (IsBeginning s) }
 {}
@@ -38,5 +38,6 @@ pub fn one_cut()
 
 /// Frames joined are cut back into the single ones.
 pub fn cut_back()
-    ensures { (frames : List (List ℕ)) → AllByRecursion IsFrame frames → IsCut (concat frames) frames [] }
+    ensures { (frames : List (List ℕ)) → AllByRecursion IsFrame frames
+        → IsCut (concat frames) frames [] }
 {}

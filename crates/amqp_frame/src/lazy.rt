@@ -16,7 +16,7 @@ use std::marker::Model;
 
 /// The bytes of exactly one frame, not looked into.
 ///
-/// Equality, order and hash go by the bytes. A contract sees a `LazyValue` as its bytes, which are a frame.
+/// Equality, order and hash go by the bytes. A contract sees a `LazyValue` as its bytes.
 #[derive(Debug, Drop, PartialEq, Eq, PartialOrd, Ord, Hash)]
 pub struct LazyValue {
     bytes: Bytes,
@@ -40,26 +40,28 @@ impl LazyValue {
     ///
     /// # Encoding
     ///
-    /// AMQP 1.0 part 1, sections 1.2 to 1.2.4. Accepted codes are 00, and 40 to FE with a low nibble of 0 to E.
+    /// AMQP 1.0 part 1, sections 1.2 to 1.2.4. Accepted codes are 00, and 40 to FE with a low nibble
+    /// of 0 to E.
     ///
     /// # Errors
     ///
-    /// [`Error::InvalidFormatCode`] where a refused code stands where a frame was to begin; it is the last byte taken.
-    /// [`Error::UnexpectedEof`] where the input ends before the frame does; nothing is left. [`Error::Io`] where a read
-    /// failed, and [`Error::OutOfMemory`]. After each of them, what was taken and what is left are together what was
-    /// left before.
+    /// [`Error::InvalidFormatCode`] where a refused code stands where a frame was to begin; it is the
+    /// last byte taken. [`Error::UnexpectedEof`] where the input ends before the frame does; nothing is
+    /// left. [`Error::Io`] where a read failed, and [`Error::OutOfMemory`]. After each of them, what was
+    /// taken and what is left are together what was left before.
     ///
     /// # Memory
     ///
-    /// Takes `alloc`. It grows with the bytes that come, by pieces of at most 4,096, and not with the sizes that they
-    /// claim. Frames inside one another are counted, with no call for each.
+    /// Takes `alloc`. It grows with the bytes that come, by pieces of at most 4,096, and not with the
+    /// sizes that they claim. Frames inside one another are counted, with no call for each.
     ///
     /// # Example
     ///
     /// From `500140` it takes `5001` and leaves `40`; from `00a1016145` it takes all five bytes.
     pub fn from_reader<R: Read>(alloc: Global, reader: &mut R) -> Result<LazyValue, Error>
         // What `Ok` holds, and what is left then.
-        ensures frame { IfOk result (λ value. IsFrame value × Consumes (R.left reader.old) (R.left reader.new) value) }
+        ensures frame { IfOk result (λ value.
+            IsFrame value × Consumes (R.left reader.old) (R.left reader.new) value) }
         // When each answer comes.
         ensures exact { IfSome (R.left reader.old) (λ s. DecidedBy s result) }
         ensures refused { IfErr result (Refuses (R.left reader.old) (R.left reader.new)
@@ -123,7 +125,7 @@ impl LazyValue {
         ensures frame { IsFrame self }
         ensures memory { IsOkUnless result Error.OutOfMemory }
     {
-        Ok(Vec::from_slice(alloc, self.bytes.as_slice())?)
+        Ok(Vec::from_slice(alloc, self.as_slice())?)
     }
 }
 
@@ -137,7 +139,8 @@ impl From<LazyValue> for Bytes {
 
 // The next frame, code by code, with a count of the frames that are still open.
 fn take_frame<R: Read>(alloc: Global, reader: &mut R) -> Result<LazyValue, Error>
-    ensures frame { IfOk result (λ value. IsFrame value × Consumes (R.left reader.old) (R.left reader.new) value) }
+    ensures frame { IfOk result (λ value.
+        IsFrame value × Consumes (R.left reader.old) (R.left reader.new) value) }
     ensures refused { IfErr result (Refuses (R.left reader.old) (R.left reader.new)
         (R.failures reader.old) (R.failures reader.new)
         (TakesBeginning (R.left reader.old) (R.left reader.new))

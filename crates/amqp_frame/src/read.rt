@@ -9,9 +9,9 @@ use amqp_data::Error;
 
 /// Gives bytes one after another, and counts its failures.
 ///
-/// For implementers: `left` is the bytes still to come, where the reader can tell them, and `failures` a `u64` that no
-/// call lowers. A call may answer [`Error::Io`] only where it raised that count or found it at its last value, and there
-/// it always does. So a reader whose count never rises never fails.
+/// For implementers: `left` is the bytes still to come, where the reader can tell them, and `failures` a
+/// `u64` that no call lowers. A call answers [`Error::Io`] only where it raised that count or found it at
+/// its last value, and at its last value always. So a reader whose count never rises never fails.
 pub trait Read {
     /// The bytes left, where the reader tells them.
     ghost left: { Self → Option (List ℕ) };
@@ -30,7 +30,8 @@ pub trait Read {
     /// Takes none.
     fn peek(&mut self) -> Result<Option<u8>, Error>
         ensures ok { IfOk result (λ byte. IfSome (left self.old) (λ s. byte ≡ slice_get s 0)) }
-        ensures io { IfErr result (λ e. (e ≡ Error.Io) × Failed (failures self.old) (failures self.new)) }
+        ensures io { IfErr result (λ e.
+            (e ≡ Error.Io) × Failed (failures self.old) (failures self.new)) }
         ensures last { failures self.old ≡ last_count → IsErrOf result Error.Io }
         ensures kept { Keeps (left self.old) (left self.new) }
         ensures count { failures self.old ≤ failures self.new };
@@ -45,9 +46,11 @@ pub trait Read {
     ///
     /// Takes none.
     fn next(&mut self) -> Result<Option<u8>, Error>
-        ensures ok { IfOk result (λ byte. Consumes (left self.old) (left self.new) (option_to_list byte)) }
+        ensures ok { IfOk result (λ byte.
+            Consumes (left self.old) (left self.new) (option_to_list byte)) }
         ensures end { IfOk result (λ byte. byte ≡ None → IsAtEnd (left self.new)) }
-        ensures io { IfErr result (λ e. (e ≡ Error.Io) × Failed (failures self.old) (failures self.new)) }
+        ensures io { IfErr result (λ e.
+            (e ≡ Error.Io) × Failed (failures self.old) (failures self.new)) }
         ensures last { failures self.old ≡ last_count → IsErrOf result Error.Io }
         ensures kept { OnErr result (Keeps (left self.old) (left self.new)) }
         ensures count { failures self.old ≤ failures self.new };
@@ -56,8 +59,8 @@ pub trait Read {
     ///
     /// # Errors
     ///
-    /// [`Error::UnexpectedEof`] where fewer are left, and then all of them are taken. [`Error::Io`] where a read failed;
-    /// what came before it is taken.
+    /// [`Error::UnexpectedEof`] where fewer are left, and then all of them are taken. [`Error::Io`] where
+    /// a read failed; what came before it is taken.
     ///
     /// # Memory
     ///
@@ -67,7 +70,8 @@ pub trait Read {
         ensures end { IsErrOf result Error.UnexpectedEof
             → RunsOut (left self.old) (left self.new) (length buf.old) }
         ensures io { IsErrOf result Error.Io
-            → Takes (left self.old) (left self.new) × Failed (failures self.old) (failures self.new) }
+            → Takes (left self.old) (left self.new)
+            × Failed (failures self.old) (failures self.new) }
         ensures others { IfErr result (λ e. (e ≡ Error.UnexpectedEof) ⊎ (e ≡ Error.Io)) }
         ensures last { failures self.old ≡ last_count → IsErrOf result Error.Io }
         ensures count { failures self.old ≤ failures self.new };

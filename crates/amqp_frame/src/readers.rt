@@ -134,7 +134,8 @@ impl<R: io::Read> Read for IoReader<R> {
 // One read, whose failure is counted.
 fn read_some<R: io::Read>(inner: &mut R, buf: &mut [u8], failures: &mut u64) -> Result<usize, Error>
     requires { failures.old < last_count }
-    ensures ok { IfOk result (λ n. Consumes (R.remaining inner.old) (R.remaining inner.new) (take n buf.new)) }
+    ensures ok { IfOk result (λ n.
+        Consumes (R.remaining inner.old) (R.remaining inner.new) (take n buf.new)) }
     ensures bound { IfOk result (λ n. n ≤ length buf.new) }
     ensures end { result ≡ Ok 0 → 0 < length buf.old → IsAtEnd (R.remaining inner.new) }
     ensures io { IsOkUnless result Error.Io }
@@ -154,7 +155,8 @@ fn read_some<R: io::Read>(inner: &mut R, buf: &mut [u8], failures: &mut u64) -> 
 // The next byte: none at the end.
 fn read_byte<R: io::Read>(inner: &mut R, failures: &mut u64) -> Result<Option<u8>, Error>
     requires { failures.old < last_count }
-    ensures ok { IfOk result (λ byte. Consumes (R.remaining inner.old) (R.remaining inner.new) (option_to_list byte)) }
+    ensures ok { IfOk result (λ byte.
+        Consumes (R.remaining inner.old) (R.remaining inner.new) (option_to_list byte)) }
     ensures end { IfOk result (λ byte. byte ≡ None → IsAtEnd (R.remaining inner.new)) }
     ensures io { IsOkUnless result Error.Io }
     ensures kept { OnErr result (Keeps (R.remaining inner.old) (R.remaining inner.new)) }

@@ -1,11 +1,14 @@
 //! Rows of frames, through readers that give a slice, one byte a call, or fail.
 
-ghost use Rattle.std.specs.Prelude.{Some};
+ghost use Rattle.std.specs.Prelude.{◌≡◌, ◌↔◌, IsTrue, Some};
+ghost use Rattle.std.specs.Cmp.Lexicographic.{slice_cmp};
+ghost use Rattle.std.specs.Ordering.{nat_cmp};
 
 use crate::{IoReader, LazyValue, Read, SliceReader, frame_len};
 use amqp_data::Error;
 use bytes::Bytes;
 use std::alloc::Global;
+use std::cmp::Ordering;
 use std::io::{self, ErrorKind};
 use std::test::Fail;
 
@@ -69,7 +72,8 @@ fn cut_by_bytes(
     cut(alloc, &mut by_bytes(bytes, failing, kind))
 }
 
-// Inputs, the length of the frame that each begins with or why there is none, and how many bytes are left.
+// Inputs, the length of the frame that each begins with or why there is none, and how many bytes are
+// left.
 const ROWS: [(&[u8], Result<usize, Error>, usize); 14] = [
     (b"\x50\x01\x40", Ok(2), 1),
     (b"\x00\xa1\x01\x61\x45", Ok(5), 0),
@@ -112,7 +116,7 @@ fn next_frame_by_single_bytes(rt: HostRuntime) {
     }
 }
 
-// By the high four bits of a code, how long it and a payload of zeros are: 0 where the code is refused.
+// By the high four bits of a code, how long it and a payload of zeros are: 0 where it is refused.
 const LENGTHS: [usize; 16] = [0, 0, 0, 0, 1, 2, 3, 5, 9, 17, 2, 5, 2, 5, 2, 5];
 
 #[test]
@@ -202,6 +206,20 @@ fn deep_frames_are_counted(rt: HostRuntime) -> Result<(), Fail> {
     Ok(())
 }
 
+// Equality goes by the bytes.
+fn is_same(a: &LazyValue, b: &LazyValue) -> bool
+    ensures { IsTrue result ↔ (a.now ≡ b.now) }
+{
+    a == b
+}
+
+// Order goes by the bytes.
+fn order_of(a: &LazyValue, b: &LazyValue) -> Ordering
+    ensures { result ≡ slice_cmp nat_cmp a.now b.now }
+{
+    a.cmp(b)
+}
+
 #[test]
 fn a_value_gives_its_bytes(rt: HostRuntime) -> Result<(), Fail> {
     let alloc = rt.alloc();
@@ -210,7 +228,8 @@ fn a_value_gives_its_bytes(rt: HostRuntime) -> Result<(), Fail> {
     let null = LazyValue::from_reader(alloc, &mut reader)?;
     let yes = LazyValue::from_reader(alloc, &mut reader)?;
     let again = LazyValue::from_reader(alloc, &mut reader)?;
-    assert!(rt; null == again && null != yes && null < yes);
+    assert!(rt; is_same(&null, &again) && !is_same(&null, &yes));
+    assert_eq!(rt; order_of(&null, &yes), Ordering::Less);
     assert_eq!(rt; null.as_bytes().as_slice(), b"\x40".as_slice());
     assert_eq!(rt; null.into_bytes().as_slice(), b"\x40".as_slice());
     assert_eq!(rt; Bytes::from(again).as_slice(), b"\x40".as_slice());

@@ -5,7 +5,8 @@ use Rattle.amqp_frame.proofs.Primitive.{front-refused, front-short, front-frame,
 use Rattle.amqp_frame.proofs.frame.primitive_len.Goals as goal
 
 pub returns-then-not-is_primitive-clause-none : goal.returns-then-not-is_primitive-clause-none
-returns-then-not-is_primitive-clause-none c = inl (front-refused c.args.bytes.now c.requires.some c.requires.code (sym c.if-not-is_primitive.ensures))
+returns-then-not-is_primitive-clause-none c = inl
+    (front-refused c.args.bytes.now c.requires.some c.requires.code (sym c.if-not-is_primitive.ensures))
 
 pub returns-then-payload-width-clause-none : goal.returns-then-payload-width-clause-none
 returns-then-payload-width-clause-none c =
@@ -17,7 +18,8 @@ returns-then-payload-len-clause-none c =
     let bs = c.args.bytes.now in
     let same = rest-is bs 1 in
     let k = c.category_of-category.result in
-    let read : body_len k (take (size_width k) (drop 1 bs)) ≡ body_len k (drop 1 bs) = body_len-take k (size_width k) (drop 1 bs) (omega arith) in
+    let read : body_len k (take (size_width k) (drop 1 bs)) ≡ body_len k (drop 1 bs)
+    = body_len-take k (size_width k) (drop 1 bs) (omega arith) in
     inr (front-short bs c.requires.some (sym c.if-not-is_primitive.ensures) (grind arith))
 
 pub returns-clause-found : goal.returns-clause-found
@@ -25,5 +27,6 @@ returns-clause-found c =
     let bs = c.args.bytes.now in
     let same = rest-is bs 1 in
     let k = c.category_of-category.result in
-    let read : body_len k (take (size_width k) (drop 1 bs)) ≡ body_len k (drop 1 bs) = body_len-take k (size_width k) (drop 1 bs) (omega arith) in
+    let read : body_len k (take (size_width k) (drop 1 bs)) ≡ body_len k (drop 1 bs)
+    = body_len-take k (size_width k) (drop 1 bs) (omega arith) in
     front-frame bs _ c.requires.some (sym c.if-not-is_primitive.ensures) (grind arith) (grind arith)
