@@ -4,3 +4,5 @@ pub mod Opening
 pub mod Spelled
 pub mod Lists
 pub mod Parts
+pub mod Made
+pub mod Listing

@@ -246,7 +246,7 @@ kept_back old s cut n k table cap e out =
       },
     )
 
-even_front : (ps : List (Option Tree)) (p : Option Tree) → paired ps ≡ true → paired (ps ++ (p ∷ [])) ≡ false
+pub even_front : (ps : List (Option Tree)) (p : Option Tree) → paired ps ≡ true → paired (ps ++ (p ∷ [])) ≡ false
 even_front ps p h = odd ps true h
   where
     odd : (qs : List (Option Tree)) (b : Bool) → paired qs ≡ b → paired (qs ++ (p ∷ [])) ≡ not b

@@ -2,3 +2,5 @@ pub mod Entries
 pub mod Solid
 pub mod Heads
 pub mod Written
+pub mod Listed
+pub mod Answer
