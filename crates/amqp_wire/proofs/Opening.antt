@@ -39,6 +39,14 @@ if_ok P (Err e) h = tt
 pub same_rest : (m a : Output) (rest : List Header) → Kept m a → a.taken ≡ m.taken → drop m.taken m.table.items ≡ rest → drop a.taken a.table.items ≡ rest
 same_rest m a rest k e h = ap (λ n. drop n a.table.items) e ∙ ap (λ v. drop m.taken v.items) k.table ∙ h
 
+pub list_arm : (b : Bool) (kind : Shape) (s a : Output) (ts : Trees) (r : Result (Unit {0}) Error) → kind ≡ shape.List →
+    ((h : Header) (rest : List Header) → drop s.taken s.table.items ≡ h ∷ rest → small h → leads s 1 (head b style.List h) r a) → Room b kind s ts → opens b kind s (heads kind ts) r a
+list_arm b kind s a ts r e f = subst (λ w. Room b w s ts → opens b w s (heads w ts) r a) (sym e) (λ m. f _ _ m.listed m.small)
+
+pub map_arm : (b : Bool) (kind : Shape) (s a : Output) (ts : Trees) (r : Result (Unit {0}) Error) → kind ≡ shape.Map →
+    ((h : Header) (rest : List Header) → drop s.taken s.table.items ≡ h ∷ rest → small h → leads s 1 (head b style.Map h) r a) → Room b kind s ts → opens b kind s (heads kind ts) r a
+map_arm b kind s a ts r e f = subst (λ w. Room b w s ts → opens b w s (heads w ts) r a) (sym e) (λ m. f _ _ m.listed m.small)
+
 pub only_arm : (i : ℕ) (b : Bool) (kind : Shape) (s a : Output) (ts : Trees) (r : Result (Unit {0}) Error) (X : Header → List Header → Type 0) → kind ≡ shape.Only i →
     ((h : Header) (rest : List Header) → drop s.taken s.table.items ≡ h ∷ rest → small h → leads s 1 (head b style.Map h ++ scalar_form (uint i)) r a × X h rest) → Room b kind s ts → opens b kind s (heads kind ts) r a
 only_arm i b kind s a ts r X e f = subst (λ w. Room b w s ts → opens b w s (heads w ts) r a) (sym e) (λ m. (f _ _ m.listed m.small).0)

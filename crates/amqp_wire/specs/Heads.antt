@@ -27,6 +27,10 @@ pick true whole payload = payload
 abbrev pub bytes_at : Bool → Tree → List ℕ
 bytes_at a t = pick a (enc t) (payload t)
 
+-- the length of a text or a binary, with the code of a length of one byte and that of four
+abbrev pub text_head : Bool → ℕ → ℕ → ℕ → List ℕ
+text_head a c8 c32 n = pick a (if is_short n then c8 ∷ n ∷ [] else c32 ∷ to_be_bytes w32 n) (to_be_bytes w32 n)
+
 -- a size and a count, with the code of a size of one byte and that of four
 abbrev pub counted_head : ℕ → ℕ → ℕ → ℕ → List ℕ
 counted_head c8 c32 n m = if is_short n && nat_le m 255 then c8 ∷ (n + 1) ∷ m ∷ [] else c32 ∷ (to_be_bytes w32 (n + 4) ++ to_be_bytes w32 m)

@@ -26,12 +26,12 @@ pub struct Output {
 }
 
 impl Output {
-    ghost use Rattle.amqp_wire.specs.Heads.{pick};
+    ghost use Rattle.amqp_wire.specs.Heads.{pick, text_head};
     ghost use Rattle.amqp_wire.specs.Written.{Kept, puts, nexts};
     ghost use Rattle.amqp_ser.specs.Fixed.{fixed_scalar};
-    ghost use Rattle.amqp_ser.specs.Scalars.{scalar_form, scalar_payload, sized};
+    ghost use Rattle.amqp_ser.specs.Scalars.{scalar_form, scalar_payload};
+    ghost use Rattle.amqp_size.specs.Width.{text_at};
     ghost use Rattle.amqp_size.specs.Form.{form_bytes, form_payload};
-    ghost use Rattle.std.specs.Int.{w32, to_be_bytes};
 
     /// An output with no byte yet.
     pub fn new(table: Vec<Header>, out: Vec<u8>) -> Output
@@ -154,7 +154,31 @@ impl Output {
         }
     }
 
-    /// Writes a text or a binary with these codes of a length of one byte and of four.
+    /// Writes the length of a text or a binary, with the code of a length of one byte or that of four.
+    fn put_length(
+        &mut self,
+        in_array: bool,
+        short: u8,
+        long: u8,
+        n: usize,
+    ) -> Result<(), Error>
+        requires { n ≤ 4294967291 }
+        ensures kept { Kept self.old self.new }
+        ensures taken { self.new.taken ≡ self.old.taken }
+        ensures written { puts self.old (text_head in_array short long n) result self.new }
+    {
+        let [a, b, c, d] = (n as u32).to_be_bytes();
+        if in_array {
+            return self.put(&[a, b, c, d]);
+        }
+        if n <= 254 {
+            self.put(&[short, d])
+        } else {
+            self.put(&[long, a, b, c, d])
+        }
+    }
+
+    /// Writes a text or a binary, with the code of a length of one byte or that of four.
     pub fn put_text(
         &mut self,
         in_array: bool,
@@ -165,17 +189,9 @@ impl Output {
         requires { length bytes.now ≤ 4294967291 }
         ensures kept { Kept self.old self.new }
         ensures taken { self.new.taken ≡ self.old.taken }
-        ensures written { puts self.old (pick in_array (sized short long bytes.now) (to_be_bytes w32 (length bytes.now) ++ bytes.now)) result self.new }
+        ensures written { puts self.old (text_at in_array short long bytes.now) result self.new }
     {
-        let n = bytes.len();
-        let [a, b, c, d] = (n as u32).to_be_bytes();
-        if in_array {
-            self.put(&[a, b, c, d])?;
-        } else if n <= 254 {
-            self.put(&[short, d])?;
-        } else {
-            self.put(&[long, a, b, c, d])?;
-        }
+        self.put_length(in_array, short, long, bytes.len())?;
         self.put(bytes)
     }
 
