@@ -1,0 +1,6 @@
+pub mod Fixed
+pub mod Items
+pub mod Iterates
+pub mod Lends
+pub mod Pairs
+pub mod Text
