@@ -1,0 +1,4 @@
+pub mod Image
+pub mod Plain
+pub mod AsMap
+pub mod TreeOf
