@@ -4,6 +4,7 @@
 //! hash go by contents. `laws` says how the image of a tree, which a value serializer answers with, is written.
 #![tactic(auto)]
 
+pub mod laws;
 mod value;
 
 pub use value::Value;

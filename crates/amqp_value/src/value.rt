@@ -1,5 +1,8 @@
 //! A value whose type is known at run time alone (AMQP 1.0 part 1, section 1.6).
 
+ghost use Rattle.std.specs.Prelude.{◌≡◌};
+ghost use Rattle.amqp_value.specs.declared.value.Value.TheVariants.{Null};
+
 use amqp_data::{
     Array, ByteBuf, Dec32, Dec64, Dec128, F32Bits, F64Bits, OrderedMap, Symbol, Timestamp, Uuid,
 };
@@ -66,6 +69,8 @@ pub enum Value {
 }
 
 impl Default for Value {
+    ghost is_default = { λ v. v ≡ Null };
+
     fn default() -> Value {
         Value::Null
     }
