@@ -5,6 +5,7 @@
 #![tactic(auto)]
 
 pub mod laws;
+mod show;
 mod value;
 
 pub use value::Value;
