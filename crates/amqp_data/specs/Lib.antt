@@ -1,4 +1,5 @@
 pub mod Fixed
+pub mod FormatCode
 pub mod Items
 pub mod Iterates
 pub mod Lends
