@@ -1,4 +1,6 @@
 //! The trees of Rust's own types.
 
 mod holders;
+mod scalars;
 mod text;
+mod tuples;

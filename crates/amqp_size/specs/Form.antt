@@ -1,0 +1,11 @@
+-- A code and the bytes of a number after it.
+use Rattle.std.specs.Prelude.{ℕ, List, ◌∷◌}
+use Rattle.std.specs.Int.{bytes_high_first}
+use Rattle.amqp_size.specs.declared.form.Form.{Form}
+
+-- the bytes after the code: the lowest of the bits, the highest byte first
+abbrev pub form_payload : Form → List ℕ
+form_payload f = bytes_high_first f.width f.bits
+
+abbrev pub form_bytes : Form → List ℕ
+form_bytes f = f.code ∷ form_payload f

@@ -1,0 +1,16 @@
+//! The length of a value's bytes, counted without memory.
+//!
+//! `serialized_size` succeeds exactly where the value's tree can be written, and gives the length of what writing
+//! gives. `SizeSerializer` is the serializer behind it. The widths of all headers stand in this crate alone.
+#![tactic(auto)]
+
+mod form;
+mod open_compound;
+mod place;
+mod serializer;
+pub mod width;
+
+pub use form::Form;
+pub use open_compound::Open;
+pub use place::{Place, ScalarMark, Shape, Under};
+pub use serializer::{SizeSerializer, serialized_size};

@@ -1,0 +1,156 @@
+//! The lengths of texts, lists, maps and arrays: the arithmetic of all headers.
+//!
+//! The public calls answer for lengths and counts of any size, and refuse past the limits.
+
+ghost use Rattle.std.specs.Prelude.{◌≡◌, ◌≤◌, ◌<◌, ◌+◌, ◌⊎◌, ◌&&◌, true, false, MatchResult, IfErr};
+ghost use Rattle.amqp_ser.specs.Limits.{fits, is_count};
+ghost use Rattle.amqp_size.specs.Width.{uint_width, text_width, map_width, list_width, array_width, place_width};
+
+use amqp_data::Error;
+
+/// The longest text, binary, list body, map body and array content, in bytes: 2^32 - 5.
+pub const LONGEST: usize = 4294967291;
+
+/// The most elements of an array: 2^32 - 1.
+pub const MOST: usize = 4294967295;
+
+/// The length of an uint by itself.
+pub(crate) fn uint_width(n: u32) -> usize
+    ensures { result ≡ uint_width n }
+{
+    if n == 0 {
+        1
+    } else if n <= 255 {
+        2
+    } else {
+        5
+    }
+}
+
+/// The length of a text or a binary of n bytes.
+pub(crate) fn text_width(n: usize) -> usize
+    requires { n ≤ 4294967291 }
+    ensures { result ≡ text_width n }
+{
+    if n <= 254 { n + 2 } else { n + 5 }
+}
+
+/// The length of a map whose body has n bytes.
+pub(crate) fn map_width(n: usize) -> usize
+    requires { n ≤ 4294967291 }
+    ensures { result ≡ map_width n }
+{
+    if n <= 254 { n + 3 } else { n + 9 }
+}
+
+/// The length of a list whose body has n bytes.
+pub(crate) fn list_width(n: usize) -> usize
+    requires { n ≤ 4294967291 }
+    ensures { result ≡ list_width n }
+{
+    if n == 0 { 1 } else { map_width(n) }
+}
+
+/// The length of an array of this content and this many elements.
+pub(crate) fn array_width(n: usize, count: usize) -> usize
+    requires { n ≤ 4294967291 }
+    ensures { result ≡ array_width n count }
+{
+    if n <= 254 && count <= 255 {
+        n + 3
+    } else {
+        n + 9
+    }
+}
+
+/// The length of a text, a symbol or a binary of n bytes: the whole form, or the payload in an array.
+///
+/// # Errors
+/// `TooLong` exactly where n is past 4,294,967,291.
+///
+/// # Memory
+/// Takes none.
+///
+/// # Example
+/// 254 bytes have the length 256, 255 bytes 260; in an array none have 4.
+pub fn text_len(n: usize, in_array: bool) -> Result<usize, Error>
+    ensures length { MatchResult result
+        (λ len. (fits n ≡ true) × (len ≡ place_width in_array (text_width n) (n + 4)))
+        (λ e. (fits n ≡ false) × (e ≡ Error.TooLong)) }
+{
+    if n > LONGEST {
+        return Err(Error::TooLong);
+    }
+    Ok(if in_array { n + 4 } else { text_width(n) })
+}
+
+/// The length of a list whose elements have n bytes together: the whole form, or the payload in an array.
+///
+/// # Errors
+/// `TooLong` exactly where n is past 4,294,967,291.
+///
+/// # Memory
+/// Takes none.
+///
+/// # Example
+/// No bytes have the length 1, 254 bytes 257, 255 bytes 264; in an array no bytes have 8.
+pub fn list_len(n: usize, in_array: bool) -> Result<usize, Error>
+    ensures length { MatchResult result
+        (λ len. (fits n ≡ true) × (len ≡ place_width in_array (list_width n) (n + 8)))
+        (λ e. (fits n ≡ false) × (e ≡ Error.TooLong)) }
+{
+    if n > LONGEST {
+        return Err(Error::TooLong);
+    }
+    Ok(if in_array { n + 8 } else { list_width(n) })
+}
+
+/// The length of a map whose keys and values have n bytes together: the whole form, or the payload in an array.
+///
+/// # Errors
+/// `TooLong` exactly where n is past 4,294,967,291.
+///
+/// # Memory
+/// Takes none.
+///
+/// # Example
+/// No bytes have the length 3, 254 bytes 257, 255 bytes 264; in an array no bytes have 8.
+pub fn map_len(n: usize, in_array: bool) -> Result<usize, Error>
+    ensures length { MatchResult result
+        (λ len. (fits n ≡ true) × (len ≡ place_width in_array (map_width n) (n + 8)))
+        (λ e. (fits n ≡ false) × (e ≡ Error.TooLong)) }
+{
+    if n > LONGEST {
+        return Err(Error::TooLong);
+    }
+    Ok(if in_array { n + 8 } else { map_width(n) })
+}
+
+/// The length of an array whose content, the constructor among it, has n bytes: the whole form, or the payload in an
+/// array.
+///
+/// # Errors
+/// `TooLong` exactly where n is past 4,294,967,291 or the count past 4,294,967,295.
+///
+/// # Memory
+/// Takes none.
+///
+/// # Example
+/// One byte and 255 elements have the length 4, one byte and 256 elements 10; in an array no element has 8.
+pub fn array_len(n: usize, count: usize, in_array: bool) -> Result<usize, Error>
+    ensures length { MatchResult result
+        (λ len. ((fits n && is_count count) ≡ true) × (len ≡ place_width in_array (array_width n count) (n + 8)))
+        (λ e. ((fits n && is_count count) ≡ false) × (e ≡ Error.TooLong)) }
+{
+    if n > LONGEST {
+        return Err(Error::TooLong);
+    }
+    if count > MOST {
+        return Err(Error::TooLong);
+    }
+    Ok(if in_array {
+        n + 8
+    } else {
+        array_width(n, count)
+    })
+}
