@@ -65,3 +65,12 @@ pub fn image_is_written_as_the_same_bytes()
     ensures limits { (t : Tree) → IsPlain t → within (image t) ≡ within t }
 {
 }
+
+/// A value whose maps have distinct keys, at every depth, is its own image.
+///
+/// # Memory
+/// Takes none.
+pub fn value_is_its_own_image()
+    ensures { (v : Value) → IsPlain (tree_of v) → image (tree_of v) ≡ tree_of v }
+{
+}
