@@ -5,6 +5,7 @@
 #![tactic(auto)]
 
 pub mod laws;
+mod serialize;
 mod show;
 mod value;
 
