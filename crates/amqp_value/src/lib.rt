@@ -7,6 +7,8 @@
 pub mod laws;
 mod serialize;
 mod show;
+#[cfg(test)]
+mod tests;
 mod value;
 
 pub use value::Value;
