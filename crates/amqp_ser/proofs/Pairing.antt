@@ -1,0 +1,47 @@
+-- Parts that are keys and values in turn.
+use Rattle.amqp_ser.specs.Tree.{Tree, Trees, Pairs, no_trees, more, no_pairs, pair}
+use Rattle.amqp_ser.specs.Compounds.{all_trees, before, in_pairs, before_pairs, paired}
+use Rattle.amqp_ser.specs.Encoding.{enc, enc_each, enc_pairs}
+use Rattle.amqp_ser.specs.Writable.{alike, alike_each, alike_pairs, within, within_each, within_pairs, inside, inside_each, inside_pairs}
+use Rattle.std.proofs.Common.{◌≡◌, ℕ, ◌+◌, List, [], ◌∷◌, ◌++◌, Option, Some, None, Bool, true, false, not, ◌&&◌, length, refl, ap, sym, ◌∙◌, subst}
+
+pub record Pairing (ts : Trees) : Type 0 where
+  pub pairs : Pairs
+  pub are : in_pairs ts ≡ Some pairs
+  pub bytes : enc_pairs pairs ≡ enc_each ts
+  pub alike_too : alike_pairs pairs ≡ alike_each ts
+  pub within_too : within_pairs pairs ≡ within_each ts
+  pub inside_too : inside_pairs pairs ≡ inside_each ts
+
+abbrev pub even : Trees → Bool
+even no_trees = true
+even (more t ts) = not (even ts)
+
+not_not : (b : Bool) → not (not b) ≡ b
+not_not true = refl
+not_not false = refl
+
+pub pairing : (ts : Trees) → even ts ≡ true → Pairing ts
+pairing no_trees h = record { pairs = no_pairs; are = refl; bytes = refl; alike_too = refl; within_too = refl; inside_too = refl }
+pairing (more k no_trees) h = cc
+pairing (more k (more v ts)) h =
+    let r = pairing ts (sym (not_not (even ts)) ∙ h) in
+    record {
+      pairs = pair k v r.pairs;
+      are = ap (before_pairs k v) r.are;
+      bytes = ap (λ bs. enc k ++ (enc v ++ bs)) r.bytes;
+      alike_too = ap (λ b. alike k && (alike v && b)) r.alike_too;
+      within_too = ap (λ b. within k && (within v && b)) r.within_too;
+      inside_too = ap (λ b. inside k && (inside v && b)) r.inside_too;
+    }
+
+go : (p : Option Tree) (o : Option Trees) (b : Bool) → ((us : Trees) → o ≡ Some us → b ≡ even us) → (ts : Trees) → before p o ≡ Some ts → not b ≡ even ts
+go None o b f ts h = cc
+go (Some t) None b f ts h = cc
+go (Some t) (Some us) b f ts h =
+    let e : more t us ≡ ts = cc in
+    subst (λ x. not b ≡ even x) e (ap not (f us refl))
+
+pub paired-even : (ps : List (Option Tree)) (ts : Trees) → all_trees ps ≡ Some ts → paired ps ≡ even ts
+paired-even [] ts h = let e : no_trees ≡ ts = cc in subst (λ x. true ≡ even x) e refl
+paired-even (p ∷ ps) ts h = go p (all_trees ps) (paired ps) (paired-even ps) ts h

@@ -1,0 +1,198 @@
+-- One part more.
+use Rattle.std.proofs.Common.{◌≡◌, ℕ, ◌+◌, ◌<◌, ◌≤◌, List, [], ◌∷◌, ◌++◌, Option, Some, None, Bool, true, false, not, ◌&&◌, Result, Ok, Err, MatchResult, IfOk, length, refl, ap, sym, ◌∙◌, subst, arith, length-append, nat_le, if◌then◌else◌, ◌⊎◌, inl, inr, is_some}
+use Rattle.amqp_data.specs.declared.error.Error.{Error}
+use Rattle.amqp_data.specs.declared.error.Error.TheVariants as error
+use Rattle.amqp_ser.specs.Tree.{uint, Tree, Trees, Pairs, list, array, map, variant, no_trees, more, count}
+use Rattle.amqp_ser.specs.Limits.{fits, is_count}
+use Rattle.amqp_ser.specs.Scalars.{scalar_form}
+use Rattle.amqp_ser.specs.Encoding.{enc, enc_each, con}
+use Rattle.amqp_ser.specs.Writable.{same_con, each_con, one_con, alike, alike_each, alike_pairs, within, within_each, within_pairs, inside, inside_each, inside_pairs, placed}
+use Rattle.amqp_ser.specs.Compounds.{all_trees, before, as_kind, as_map, as_variant, in_pairs, only, whole, paired}
+use Rattle.amqp_ser.specs.Permitted.{refuses_none}
+use Rattle.amqp_ser.specs.declared.kind.Kind.{Kind}
+use Rattle.amqp_ser.specs.declared.kind.Kind.TheVariants as kinds
+use Rattle.amqp_ser.proofs.Bools.{nat_eq-refl, both, left_false, right_false, one_false, left_true, right_true, le_false, le_true, not_le, is_le}
+use Rattle.amqp_ser.proofs.Joins.{join, joined, all_trees-append, kind_none, alike-join, within-join, inside-join, each-join, count-join}
+use Rattle.amqp_ser.proofs.Pairing.{Pairing, pairing, even}
+use Rattle.amqp_size.specs.Place.{outer, meant, shape_of, is_array, element, next, suits, form}
+use Rattle.amqp_size.specs.Counted.{at_place, refused, Counted, Holds, Fed, Back, content, counts, one_in, inner_of, first_place}
+use Rattle.amqp_size.specs.Take.{opens, over}
+use Rattle.amqp_size.specs.declared.place.Place.{Place}
+use Rattle.amqp_size.specs.declared.place.Place.TheVariants.{Root, Inside, First, Element}
+use Rattle.amqp_size.specs.declared.place.Under.{Under}
+use Rattle.amqp_size.specs.declared.place.Under.TheVariants as under
+use Rattle.amqp_size.specs.declared.serializer.SizeSerializer.{SizeSerializer}
+use Rattle.amqp_size.specs.declared.open_compound.Open.{Open}
+use Rattle.amqp_size.proofs.Joined.{content-join, rest_of, some_con}
+use Rattle.amqp_size.proofs.Whole.{stands_none, refused_shape}
+use Rattle.amqp_size.proofs.Refusing.{over_part}
+
+more_counted : (arr : Bool) (ts : Trees) (t : Tree) (n : ℕ) → n ≡ counts arr ts → (if arr then n + 1 else n) ≡ counts arr (join ts (more t no_trees))
+more_counted false ts t n h = h
+more_counted true ts t n h = let j = count-join ts (more t no_trees) in omega arith
+
+nothing_after : (arr : Bool) → length (rest_of arr no_trees) ≡ 0
+nothing_after true = refl
+nothing_after false = refl
+
+is_some-same : (o : Option ℕ) → is_some o ≡ true → same_con o o ≡ true
+is_some-same None h = cc
+is_some-same (Some c) h = nat_eq-refl c
+
+next_inner : (arr : Bool) (ts : Trees) (t : Tree) → one_in arr ts ≡ true → next (inner_of arr ts) t ≡ inner_of arr (join ts (more t no_trees))
+next_inner false ts t h = refl
+next_inner true no_trees t h = refl
+next_inner true (more v ts) t h =
+    let c = some_con (con v) (left_true (same_con (con v) (con v)) (each_con (con v) ts) h) in
+    ap (λ o. next (element o) t) c.1 ∙ sym (ap element c.1)
+
+-- what suits its place has nothing transparent inside
+suited_inside : (arr : Bool) (ts : Trees) (t : Tree) → one_in arr ts ≡ true → suits (inner_of arr ts) t ≡ true → inside t ≡ true
+suited_inside false ts t h s = s
+suited_inside true no_trees t h s = right_true (is_some (con t)) (inside t) s
+suited_inside true (more v ts) t h s =
+    let c = some_con (con v) (left_true (same_con (con v) (con v)) (each_con (con v) ts) h) in
+    right_true (same_con (Some c.0) (con t)) (inside t) (sym (ap (λ o. suits (element o) t) c.1) ∙ s)
+
+more_one : (arr : Bool) (ts : Trees) (t : Tree) → one_in arr ts ≡ true → suits (inner_of arr ts) t ≡ true → one_in arr (join ts (more t no_trees)) ≡ true
+more_one false ts t h s = refl
+more_one true no_trees t h s = both (same_con (con t) (con t)) true (is_some-same (con t) (left_true (is_some (con t)) (inside t) s)) refl
+more_one true (more v ts) t h s =
+    let mine = left_true (same_con (con v) (con v)) (each_con (con v) ts) h in
+    let others = right_true (same_con (con v) (con v)) (each_con (con v) ts) h in
+    let c = some_con (con v) mine in
+    let new : same_con (con v) (con t) ≡ true = ap (λ o. same_con o (con t)) c.1 ∙ left_true (same_con (Some c.0) (con t)) (inside t) (sym (ap (λ o. suits (element o) t) c.1) ∙ s) in
+    both (same_con (con v) (con v)) (each_con (con v) (join ts (more t no_trees))) mine
+    (each-join (con v) ts (more t no_trees) ∙ both (each_con (con v) ts) (same_con (con v) (con t) && true) others (both (same_con (con v) (con t)) true new refl))
+
+snoc_nil : (p : Option Tree) (qs : List (Option Tree)) (q : Option Tree) → p ∷ [] ≡ qs ++ (q ∷ []) → [] ≡ qs
+snoc_nil p [] q e = refl
+snoc_nil p (x ∷ []) q e = cc
+snoc_nil p (x ∷ (y ∷ qs)) q e = cc
+
+nil_snoc : (A : Type 0) (qs : List (Option Tree)) (q : Option Tree) → [] ≡ qs ++ (q ∷ []) → A
+nil_snoc A [] q e = cc
+nil_snoc A (x ∷ qs) q e = cc
+
+-- lists with one part more are equal where they were
+snoc_left : (ps qs : List (Option Tree)) (p q : Option Tree) → ps ++ (p ∷ []) ≡ qs ++ (q ∷ []) → ps ≡ qs
+snoc_left [] qs p q e = snoc_nil p qs q e
+snoc_left (x ∷ ps) [] p q e = nil_snoc (x ∷ ps ≡ []) ps p (cc)
+snoc_left (x ∷ ps) (y ∷ qs) p q e =
+    let tails : ps ++ (p ∷ []) ≡ qs ++ (q ∷ []) = cc in
+    let r = snoc_left ps qs p q tails in
+    let heads : x ≡ y = cc in
+    cc
+
+-- a part that was taken
+pub taken_part : (start : SizeSerializer) (kind : Kind) (held new : Open) (ps : List (Option Tree)) (h : Holds start kind held ps) (t : Tree) (size : ℕ) (after : Under) →
+    Counted held.inner t size after →
+    new.place ≡ held.place → new.shape ≡ held.shape → new.array ≡ held.array →
+    new.sum ≡ size + opens held.inner (outer after) + held.sum → new.count ≡ (if held.array then held.count + 1 else held.count) → new.count ≤ 4294967295 → new.inner ≡ outer after → new.before ≡ held.sum →
+    Holds start kind new (ps ++ (Some t ∷ []))
+taken_part start kind held new ps h t size after k a b c d e few f was =
+    let arr = held.array in
+    let ts = h.ts in
+    let us = join ts (more t no_trees) in
+    let place : outer after ≡ next (inner_of arr ts) t = ap outer k.place ∙ ap (λ w. next w t) h.fed.inner in
+    let total : size + opens held.inner (outer after) + held.sum ≡ length (form (inner_of arr ts) t) + opens (inner_of arr ts) (next (inner_of arr ts) t) + length (content arr ts) =
+    rw (k.len, place, h.fed.inner, h.fed.sum) refl in
+    let all = content-join arr ts t no_trees h.fed.one in
+    let nought = nothing_after arr in
+    let sum : new.sum ≡ length (content arr us) = omega arith in
+    record {
+      ts = us;
+      trees = all_trees-append ps (Some t ∷ []) ∙ ap (λ o. joined o (Some (more t no_trees))) h.trees;
+      place = a ∙ h.place;
+      shape = b ∙ h.shape;
+      arrays = c ∙ h.arrays ∙ ap is_array (sym b);
+      back = λ odd qs q e. record {
+        us = ts;
+        trees = ap all_trees (sym (snoc_left ps qs (Some t) q e)) ∙ h.trees;
+        sum = was ∙ h.fed.sum ∙ sym (ap (λ x. length (content x ts)) c);
+      };
+      fed = record {
+        sum = sum ∙ sym (ap (λ x. length (content x us)) c);
+        fits_sum = le_true new.sum 4294967291 new.small;
+        counted = e ∙ more_counted arr ts t held.count h.fed.counted ∙ sym (ap (λ x. counts x us) c);
+        few = le_true new.count 4294967295 few;
+        inner = f ∙ place ∙ next_inner arr ts t h.fed.one ∙ sym (ap (λ x. inner_of x us) c);
+        alike_parts = alike-join ts (more t no_trees) ∙ both (alike_each ts) (alike t && true) h.fed.alike_parts (both (alike t) true k.alike_it refl);
+        within_parts = within-join ts (more t no_trees) ∙ both (within_each ts) (within t && true) h.fed.within_parts (both (within t) true k.within_it refl);
+        inside_parts = inside-join ts (more t no_trees) ∙ both (inside_each ts) (inside t && true) h.fed.inside_parts (both (inside t) true (suited_inside arr ts t h.fed.one (subst (λ w. suits w t ≡ true) h.fed.inner k.suited)) refl);
+        one = ap (λ x. one_in x us) c ∙ more_one arr ts t h.fed.one (subst (λ w. suits w t ≡ true) h.fed.inner k.suited);
+      };
+    }
+
+-- what is known after a part was counted, or passed a limit
+pub end_taken : (start : SizeSerializer) (kind : Kind) (held new : Open) (ps : List (Option Tree)) (h : Holds start kind held ps) (p : Option Tree) (size : ℕ) (after : Under) (inner : Place) →
+    at_place held.inner p (Ok size) after → inner ≡ outer after → new.place ≡ held.place → new.shape ≡ held.shape → new.array ≡ held.array → (held.count ≤ 4294967295 → new.count ≤ 4294967295) →
+    (res : Result (Unit {0}) Error) → IfOk res (λ _. new.before ≡ held.sum) →
+    MatchResult res (λ _. (new.sum ≡ size + opens held.inner inner + held.sum) × ((new.count ≡ if held.array then held.count + 1 else held.count) × (new.inner ≡ inner)))
+    (λ e. (new ≡ held) × ((e ≡ error.TooLong) × over held.array held.count (size + opens held.inner inner + held.sum))) →
+    MatchResult res (λ _. Holds start kind new (ps ++ (p ∷ [])) × (under.Plain held.place ≡ under.Plain new.place))
+    (λ e. (Holds start kind new ps × (under.Plain held.place ≡ under.Plain new.place)) ×
+    ((rest : List (Option Tree)) → at_place (outer start.place) (meant start.place (whole kind (ps ++ (p ∷ rest)))) (Err e) (under.Plain held.place)))
+end_taken start kind held new ps h None size after inner r q a b c few res was m = absurd r
+end_taken start kind held new ps h (Some t) size after inner r q a b c few (Ok u) was m =
+    (taken_part start kind held new ps h t size after r a b c (m.0 ∙ ap (λ w. size + opens held.inner w + held.sum) q) m.1.0 (few (is_le held.count 4294967295 h.fed.few)) (m.1.1 ∙ q) was, ap under.Plain (sym a))
+end_taken start kind held new ps h (Some t) size after inner r q a b c few (Err e) was m = (
+  subst (λ x. Holds start kind x ps × (under.Plain held.place ≡ under.Plain x.place)) (sym m.0) (h, refl),
+  λ rest. subst (λ x. at_place (outer start.place) (meant start.place (whole kind (ps ++ (Some t ∷ rest)))) (Err x) (under.Plain held.place)) (sym m.1.0)
+      (over_part start kind held ps h t size inner r.len (q ∙ ap outer r.place) m.1.1 rest),
+)
+
+paired_more : (ps : List (Option Tree)) (p : Option Tree) → paired (ps ++ (p ∷ [])) ≡ not (paired ps)
+paired_more [] p = refl
+paired_more (x ∷ ps) p = ap not (paired_more ps p)
+
+no_array : (u : Under) → is_array (shape_of u kinds.Map) ≡ false
+no_array (under.Plain p) = refl
+no_array (under.Array p) = refl
+no_array (under.Scalar m p) = refl
+no_array (under.Nothing p) = refl
+
+one_less : (us ts : Trees) (p : Option Tree) → joined (Some us) (before p (Some no_trees)) ≡ Some ts → alike_each ts ≡ true → within_each ts ≡ true → inside_each ts ≡ true →
+    (alike_each us ≡ true) × ((within_each us ≡ true) × (inside_each us ≡ true))
+one_less us ts None e a w i = cc
+one_less us ts (Some t) e a w i =
+    let same : ts ≡ join us (more t no_trees) = cc in (
+      left_true (alike_each us) _ (sym (alike-join us (more t no_trees)) ∙ sym (ap alike_each same) ∙ a),
+      (
+        left_true (within_each us) _ (sym (within-join us (more t no_trees)) ∙ sym (ap within_each same) ∙ w),
+        left_true (inside_each us) _ (sym (inside-join us (more t no_trees)) ∙ sym (ap inside_each same) ∙ i),
+      ),
+    )
+
+-- the last part taken back
+pub undone : (start : SizeSerializer) (held new : Open) (ps : List (Option Tree)) (p : Option Tree) → Holds start kinds.Map held (ps ++ (p ∷ [])) → paired ps ≡ true →
+    new.place ≡ held.place → new.shape ≡ held.shape → new.array ≡ held.array → new.sum ≡ held.before → new.count ≡ held.count → new.inner ≡ held.inner → Holds start kinds.Map new ps
+undone start held new ps p h even a b c d e f =
+    let odd : paired (ps ++ (p ∷ [])) ≡ false = paired_more ps p ∙ ap not even in
+    let was = h.back odd ps p refl in
+    let plain : held.array ≡ false = h.arrays ∙ ap is_array h.shape ∙ no_array start.place in
+    let now : new.array ≡ false = c ∙ plain in
+    let trees : joined (Some was.us) (before p (Some no_trees)) ≡ Some h.ts = sym (ap (λ o. joined o (before p (Some no_trees))) was.trees) ∙ sym (all_trees-append ps (p ∷ [])) ∙ h.trees in
+    let less = one_less was.us h.ts p trees h.fed.alike_parts h.fed.within_parts h.fed.inside_parts in
+    record {
+      ts = was.us;
+      trees = was.trees;
+      place = a ∙ h.place;
+      shape = b ∙ h.shape;
+      arrays = c ∙ h.arrays ∙ ap is_array (sym b);
+      back = λ odd_now. absurd (both_ways (sym even ∙ odd_now));
+      fed = record {
+        sum = d ∙ was.sum ∙ ap (λ x. length (content x was.us)) (sym c);
+        fits_sum = le_true new.sum 4294967291 new.small;
+        counted = e ∙ h.fed.counted ∙ ap (λ x. counts x h.ts) plain ∙ ap (λ x. counts x was.us) (sym now);
+        few = ap (λ n. nat_le n 4294967295) e ∙ h.fed.few;
+        inner = f ∙ h.fed.inner ∙ ap (λ x. inner_of x h.ts) plain ∙ ap (λ x. inner_of x was.us) (sym now);
+        alike_parts = less.0;
+        within_parts = less.1.0;
+        inside_parts = less.1.1;
+        one = ap (λ x. one_in x was.us) now;
+      };
+    }
+  where
+    both_ways : true ≡ false → ⊥
+    both_ways q = cc

@@ -1,0 +1,181 @@
+-- The tree of a compound that has ended.
+use Rattle.std.proofs.Common.{◌≡◌, ℕ, ◌+◌, ◌*◌, List, ◌++◌, Option, Some, None, Bool, true, false, ◌&&◌, Result, length, refl, ap, sym, ◌∙◌, subst, arith}
+use Rattle.amqp_data.specs.declared.error.Error.{Error}
+use Rattle.amqp_ser.specs.Tree.{uint, Tree, Trees, Pairs, list, map, variant, count, pair_count}
+use Rattle.amqp_ser.specs.Limits.{fits}
+use Rattle.amqp_ser.specs.Scalars.{scalar_form}
+use Rattle.amqp_ser.specs.Encoding.{enc, payload, enc_each, enc_pairs}
+use Rattle.amqp_ser.specs.Writable.{alike, within, within_each, within_pairs, inside}
+use Rattle.amqp_ser.specs.Compounds.{as_kind, as_map, as_variant, in_pairs, only, whole, complete}
+use Rattle.amqp_ser.specs.Marked.{marked, marked_tree}
+use Rattle.amqp_ser.specs.declared.kind.Kind.{Kind}
+use Rattle.amqp_ser.specs.declared.kind.Kind.TheVariants as kinds
+use Rattle.amqp_ser.specs.declared.mark.Mark.TheVariants as mark
+use Rattle.amqp_ser.proofs.Bools.{both}
+use Rattle.amqp_ser.proofs.Pairing.{Pairing, pairing, paired-even}
+use Rattle.amqp_size.specs.Place.{outer, meant, shape_of, is_array, the_mark}
+use Rattle.amqp_size.specs.Counted.{at_place, Holds, content}
+use Rattle.amqp_size.specs.Width.{map_width, list_width, uint_width}
+use Rattle.amqp_size.specs.declared.place.Place.{Place}
+use Rattle.amqp_size.specs.declared.place.Under.{Under}
+use Rattle.amqp_size.specs.declared.place.Under.TheVariants as under
+use Rattle.amqp_size.specs.declared.place.ScalarMark.{ScalarMark}
+use Rattle.amqp_size.specs.declared.place.ScalarMark.TheVariants as scalar_mark
+use Rattle.amqp_size.specs.declared.place.Shape.TheVariants as shape
+use Rattle.amqp_size.specs.declared.serializer.SizeSerializer.{SizeSerializer}
+use Rattle.amqp_size.specs.declared.open_compound.Open.{Open}
+use Rattle.amqp_size.proofs.Lengths.{length-counted, length-list_form, length-variant}
+
+-- an answer on the tree that is meant
+pub stands : (u : Under) (q : Place) (o : Option Tree) (x : Tree) (r : Result ℕ Error) (after : Under) → outer u ≡ q → meant u o ≡ Some x → at_place q (Some x) r after → at_place (outer u) (meant u o) r after
+stands u q o x r after a b h = subst (λ w. at_place w (meant u o) r after) (sym a) (subst (λ w. at_place q w r after) (sym b) h)
+
+pub stands_none : (u : Under) (q : Place) (o : Option Tree) (r : Result ℕ Error) (after : Under) → outer u ≡ q → meant u o ≡ None → at_place q None r after → at_place (outer u) (meant u o) r after
+stands_none u q o r after a b h = subst (λ w. at_place w (meant u o) r after) (sym a) (subst (λ w. at_place q w r after) (sym b) h)
+
+pub map_shape : (u : Under) (k : Kind) → shape_of u k ≡ shape.Map → (u ≡ under.Plain (outer u)) × (k ≡ kinds.Map)
+map_shape (under.Plain p) kinds.List h = cc
+map_shape (under.Plain p) kinds.Map h = (refl, refl)
+map_shape (under.Plain p) (kinds.Fields i) h = cc
+map_shape (under.Plain p) (kinds.Only i) h = cc
+map_shape (under.Array p) kinds.List h = cc
+map_shape (under.Array p) kinds.Map h = cc
+map_shape (under.Array p) (kinds.Fields i) h = cc
+map_shape (under.Array p) (kinds.Only i) h = cc
+map_shape (under.Scalar m p) k h = cc
+map_shape (under.Nothing p) k h = cc
+
+pub fields_shape : (i : ℕ) (u : Under) (k : Kind) → shape_of u k ≡ shape.Fields i → (u ≡ under.Plain (outer u)) × (k ≡ kinds.Fields i)
+fields_shape j (under.Plain p) kinds.List h = cc
+fields_shape j (under.Plain p) kinds.Map h = cc
+fields_shape j (under.Plain p) (kinds.Fields i) h = (refl, cc)
+fields_shape j (under.Plain p) (kinds.Only i) h = cc
+fields_shape j (under.Array p) kinds.List h = cc
+fields_shape j (under.Array p) kinds.Map h = cc
+fields_shape j (under.Array p) (kinds.Fields i) h = cc
+fields_shape j (under.Array p) (kinds.Only i) h = cc
+fields_shape j (under.Scalar m p) k h = cc
+fields_shape j (under.Nothing p) k h = cc
+
+no_scalar_list : (m : ScalarMark) (ts : Trees) → marked_tree (the_mark m) (list ts) ≡ None
+no_scalar_list scalar_mark.Symbol ts = refl
+no_scalar_list scalar_mark.Timestamp ts = refl
+no_scalar_list scalar_mark.Decimal32 ts = refl
+no_scalar_list scalar_mark.Decimal64 ts = refl
+no_scalar_list scalar_mark.Decimal128 ts = refl
+no_scalar_list scalar_mark.Uuid ts = refl
+
+no_scalar_map : (m : ScalarMark) (ps : Pairs) → marked_tree (the_mark m) (map ps) ≡ None
+no_scalar_map scalar_mark.Symbol ps = refl
+no_scalar_map scalar_mark.Timestamp ps = refl
+no_scalar_map scalar_mark.Decimal32 ps = refl
+no_scalar_map scalar_mark.Decimal64 ps = refl
+no_scalar_map scalar_mark.Decimal128 ps = refl
+no_scalar_map scalar_mark.Uuid ps = refl
+
+no_scalar_variant : (m : ScalarMark) (i : ℕ) (t : Tree) → marked_tree (the_mark m) (variant i t) ≡ None
+no_scalar_variant scalar_mark.Symbol i t = refl
+no_scalar_variant scalar_mark.Timestamp i t = refl
+no_scalar_variant scalar_mark.Decimal32 i t = refl
+no_scalar_variant scalar_mark.Decimal64 i t = refl
+no_scalar_variant scalar_mark.Decimal128 i t = refl
+no_scalar_variant scalar_mark.Uuid i t = refl
+
+no_array_map : (o : Option Pairs) → marked mark.Array (as_map o) ≡ None
+no_array_map None = refl
+no_array_map (Some ps) = refl
+
+no_array_variant : (i : ℕ) (o : Option Tree) → marked mark.Array (as_variant i o) ≡ None
+no_array_variant i None = refl
+no_array_variant i (Some t) = refl
+
+as_map_scalar : (m : ScalarMark) (o : Option Pairs) → marked (the_mark m) (as_map o) ≡ None
+as_map_scalar m None = refl
+as_map_scalar m (Some ps) = no_scalar_map m ps
+
+as_variant_scalar : (m : ScalarMark) (i : ℕ) (o : Option Tree) → marked (the_mark m) (as_variant i o) ≡ None
+as_variant_scalar m i None = refl
+as_variant_scalar m i (Some t) = no_scalar_variant m i t
+
+-- no compound is a scalar
+no_scalar : (m : ScalarMark) (k : Kind) (o : Option Trees) → marked (the_mark m) (as_kind k o) ≡ None
+no_scalar m kinds.List None = refl
+no_scalar m kinds.Map None = refl
+no_scalar m (kinds.Fields i) None = refl
+no_scalar m (kinds.Only i) None = refl
+no_scalar m kinds.List (Some ts) = no_scalar_list m ts
+no_scalar m kinds.Map (Some ts) = as_map_scalar m (in_pairs ts)
+no_scalar m (kinds.Fields i) (Some ts) = no_scalar_variant m i (list ts)
+no_scalar m (kinds.Only i) (Some ts) = as_variant_scalar m i (only ts)
+
+pub refused_shape : (u : Under) (k : Kind) (o : Option Trees) → shape_of u k ≡ shape.Refused → meant u (as_kind k o) ≡ None
+refused_shape (under.Plain p) kinds.List o h = cc
+refused_shape (under.Plain p) kinds.Map o h = cc
+refused_shape (under.Plain p) (kinds.Fields i) o h = cc
+refused_shape (under.Plain p) (kinds.Only i) o h = cc
+refused_shape (under.Array p) kinds.List o h = cc
+refused_shape (under.Array p) kinds.Map None h = refl
+refused_shape (under.Array p) kinds.Map (Some ts) h = no_array_map (in_pairs ts)
+refused_shape (under.Array p) (kinds.Fields i) None h = refl
+refused_shape (under.Array p) (kinds.Fields i) (Some ts) h = refl
+refused_shape (under.Array p) (kinds.Only i) None h = refl
+refused_shape (under.Array p) (kinds.Only i) (Some ts) h = no_array_variant i (only ts)
+refused_shape (under.Scalar m p) k o h = no_scalar m k o
+refused_shape (under.Nothing p) k o h = refl
+
+-- a map that has ended: its tree and its lengths
+pub record MapEnd (start : SizeSerializer) (kind : Kind) (held : Open) (ps : List (Option Tree)) : Type 0 where
+  pub pairs : Pairs
+  pub is : meant start.place (whole kind ps) ≡ Some (map pairs)
+  pub within_it : within (map pairs) ≡ true
+  pub alike_it : alike (map pairs) ≡ true
+  pub inside_it : inside (map pairs) ≡ true
+  pub ordinary : length (enc (map pairs)) ≡ map_width held.sum
+  pub wide : length (payload (map pairs)) ≡ held.sum + 8
+
+pub map_end : (start : SizeSerializer) (kind : Kind) (held : Open) (ps : List (Option Tree)) → Holds start kind held ps → complete kind ps ≡ true → held.shape ≡ shape.Map → MapEnd start kind held ps
+unfolding whole
+map_end start kind held ps h done s =
+    let inv = map_shape start.place kind (sym h.shape ∙ s) in
+    let even = sym (paired-even ps h.ts h.trees) ∙ subst (λ k. complete k ps ≡ true) inv.1 done in
+    let p : Pairing h.ts = pairing h.ts even in
+    let tree : whole kind ps ≡ Some (map p.pairs) = ap (λ k. whole k ps) inv.1 ∙ ap (as_kind kinds.Map) h.trees ∙ ap as_map p.are in
+    let plain : meant start.place (whole kind ps) ≡ whole kind ps = ap (λ u. meant u (whole kind ps)) inv.0 in
+    let none_array : held.array ≡ false = h.arrays ∙ ap is_array s in
+    let sum : held.sum ≡ length (enc_pairs p.pairs) = h.fed.sum ∙ ap (λ b. length (content b h.ts)) none_array ∙ ap length (sym p.bytes) in
+    record {
+      pairs = p.pairs;
+      is = plain ∙ tree;
+      within_it = both (fits (length (enc_pairs p.pairs))) (within_pairs p.pairs) (ap fits (sym sum) ∙ h.fed.fits_sum) (p.within_too ∙ h.fed.within_parts);
+      alike_it = p.alike_too ∙ h.fed.alike_parts;
+      inside_it = p.inside_too ∙ h.fed.inside_parts;
+      ordinary = length-counted 0xc1 0xd1 (pair_count p.pairs * 2) (enc_pairs p.pairs) ∙ ap map_width (sym sum);
+      wide = omega arith;
+    }
+
+-- a variant of fields that has ended
+pub record FieldsEnd (i : ℕ) (start : SizeSerializer) (kind : Kind) (ps : List (Option Tree)) (size : ℕ) : Type 0 where
+  pub ts : Trees
+  pub is : meant start.place (whole kind ps) ≡ Some (variant i (list ts))
+  pub within_it : within (list ts) ≡ true
+  pub alike_it : alike (list ts) ≡ true
+  pub inside_it : inside (list ts) ≡ true
+  pub bytes : length (scalar_form (uint i) ++ enc (list ts)) ≡ uint_width i + size
+
+pub fields_end : (i : ℕ) (start : SizeSerializer) (kind : Kind) (held : Open) (ps : List (Option Tree)) (size : ℕ) → Holds start kind held ps → held.shape ≡ shape.Fields i → size ≡ list_width held.sum → FieldsEnd i start kind ps size
+unfolding whole
+fields_end i start kind held ps size h s e =
+    let inv = fields_shape i start.place kind (sym h.shape ∙ s) in
+    let tree : whole kind ps ≡ Some (variant i (list h.ts)) = ap (λ k. whole k ps) inv.1 ∙ ap (as_kind (kinds.Fields i)) h.trees in
+    let plain : meant start.place (whole kind ps) ≡ whole kind ps = ap (λ u. meant u (whole kind ps)) inv.0 in
+    let none_array : held.array ≡ false = h.arrays ∙ ap is_array s in
+    let sum : held.sum ≡ length (enc_each h.ts) = h.fed.sum ∙ ap (λ b. length (content b h.ts)) none_array in
+    let len : size ≡ length (enc (list h.ts)) = e ∙ ap list_width sum ∙ sym (length-list_form (count h.ts) (enc_each h.ts)) in
+    record {
+      ts = h.ts;
+      is = plain ∙ tree;
+      within_it = both (fits (length (enc_each h.ts))) (within_each h.ts) (ap fits (sym sum) ∙ h.fed.fits_sum) h.fed.within_parts;
+      alike_it = h.fed.alike_parts;
+      inside_it = h.fed.inside_parts;
+      bytes = length-variant i (list h.ts) size len;
+    }
