@@ -1,5 +1,5 @@
 -- The trees of the values that hold others, and of the parts that they are made of.
-use Rattle.std.proofs.Common.{◌≡◌, Bool, true, false, true≢false, if◌then◌else◌, List, [], ◌∷◌, Option, Some, Vec, Global, map, refl, sym, ap, ◌∙◌, rules}
+use Rattle.std.proofs.Common.{◌≡◌, Bool, true, false, true≢false, if◌then◌else◌, List, [], ◌∷◌, ◌++◌, Option, Some, Vec, Global, map, refl, sym, ap, ◌∙◌, rules}
 use Rattle.amqp_data.specs.Items.{array_items}
 use Rattle.amqp_data.specs.Pairs.{entries_of, insert_pair}
 use Rattle.amqp_data.specs.declared.array.Array as array
@@ -14,6 +14,8 @@ use Rattle.amqp_value.specs.Image.{insert_tree}
 use Rattle.amqp_value.specs.TreeOf.{tree_of, all_of, pairs_of, pairs_trees}
 use Rattle.amqp_value.specs.declared.value.Value.{Value, the_lemmas}
 use Rattle.amqp_value.specs.declared.value.Value.TheVariants.{List as ListValue, Map as MapValue, Array as ArrayValue}
+use Rattle.amqp_ser.proofs.Joins.{join}
+use Rattle.amqp_value.proofs.ImageLemmas.{joined}
 use Rattle.amqp_value.proofs.Sameness.{equal, equal-is_same}
 
 pub tree_of-List : (v : Vec Value Global) → tree_of (ListValue v) ≡ tree.list (all_of v.items)
@@ -24,6 +26,15 @@ tree_of-Map m = search (rules, the_lemmas)
 
 pub tree_of-Array : (a : array.Array Value) → tree_of (ArrayValue a) ≡ tree.array (all_of (array_items a))
 tree_of-Array a = search (rules, the_lemmas)
+
+-- values before others, and entries before others
+pub all_of-append : (vs ws : List Value) → all_of (vs ++ ws) ≡ join (all_of vs) (all_of ws)
+all_of-append [] ws = refl
+all_of-append (v ∷ vs) ws = ap (more (tree_of v)) (all_of-append vs ws)
+
+pub pairs_trees-append : (es fs : List (Value × Value)) → pairs_trees (es ++ fs) ≡ joined (pairs_trees es) (pairs_trees fs)
+pairs_trees-append [] fs = refl
+pairs_trees-append (e ∷ es) fs = ap (pair (tree_of e.0) (tree_of e.1)) (pairs_trees-append es fs)
 
 -- parts that all have trees
 pub all_trees-Some : {X : Type 0} (f : X → Tree) (xs : List X) → all_trees (map (λ x. Some (f x)) xs) ≡ Some (trees_of (map f xs))
