@@ -1,5 +1,5 @@
 -- The trees of the values that hold others, and of the parts that they are made of.
-use Rattle.std.proofs.Common.{◌≡◌, Bool, true, false, true≢false, if◌then◌else◌, List, [], ◌∷◌, ◌++◌, Option, Some, Vec, Global, map, refl, sym, ap, ◌∙◌, rules}
+use Rattle.std.proofs.Common.{◌≡◌, Bool, true, false, true≢false, if◌then◌else◌, List, [], ◌∷◌, ◌++◌, Some, Vec, Global, map, refl, sym, ap, ◌∙◌, rules}
 use Rattle.amqp_data.specs.Items.{array_items}
 use Rattle.amqp_data.specs.Pairs.{entries_of, insert_pair}
 use Rattle.amqp_data.specs.declared.array.Array as array
