@@ -1,0 +1,6 @@
+pub mod Few
+pub mod Split
+pub mod Opening
+pub mod Spelled
+pub mod Lists
+pub mod Parts

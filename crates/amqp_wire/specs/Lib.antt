@@ -1,0 +1,4 @@
+pub mod Entries
+pub mod Solid
+pub mod Heads
+pub mod Written
