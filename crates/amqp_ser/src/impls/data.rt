@@ -87,8 +87,7 @@ impl Serialize for Symbol {
     ghost tree = { λ v. Some (scalar (symbol (symbol_text v))) };
 
     fn serialize<S: Serializer>(&self, serializer: &mut S) -> Result<S::Ok, S::Error> {
-        serializer.mark(Mark::Symbol);
-        serializer.serialize_str(self.as_inner().as_str())
+        SymbolRef::from(self.as_inner().as_str()).serialize(serializer)
     }
 }
 
