@@ -105,11 +105,7 @@ impl Serializer for Calls {
         self.note(" ");
     }
 
-    fn end_part(
-        &mut self,
-        _held: &mut Kind,
-        part: Result<(), Refused>,
-    ) -> Result<(), Refused>
+    fn end_part(&mut self, _held: &mut Kind, part: Result<(), Refused>) -> Result<(), Refused>
         ensures { (start : Calls) (kind : Kind) (before : Calls) (ps : List (Option Tree)) (p : Option Tree) →
             Unit {0} → Unit {0} → MatchResult result (λ _. Unit {0}) (λ e. Unit {0} × ((rest : List (Option Tree)) → Unit {0})) }
     {
