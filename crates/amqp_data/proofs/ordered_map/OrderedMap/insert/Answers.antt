@@ -9,10 +9,9 @@ replaced : (g : _) (c : goal.After-drop-key g)
     → slice_set c.args.self.now.entries.items c.in-Some.at (c.index_mut.result.now.0, c.replace.new.dest)
     ≡ insert_pair g.K.PartialEq.eq c.args.self.now.entries.items c.args.key c.args.value
 replaced g c =
-    let es = c.args.self.now.entries.items in
-    let e = c.index_mut.result.now in
-    ap (λ v. slice_set es c.in-Some.at (e.0, v)) c.replace.ensures.after
-    ∙ insert_found g.K.PartialEq.eq c.args.key es c.args.value c.in-Some.at e c.in-Some.ensures c.index_mut.ensures.value
+    ap (λ v. slice_set c.args.self.now.entries.items c.in-Some.at (c.index_mut.result.now.0, v)) c.replace.ensures.after
+    ∙ insert_found g.K.PartialEq.eq c.args.key c.args.self.now.entries.items c.args.value c.in-Some.at
+    c.index_mut.result.now c.in-Some.ensures c.index_mut.ensures.value
 
 pub returns-in-Some-clause-replaced : goal.returns-in-Some-clause-replaced
 returns-in-Some-clause-replaced g c =
