@@ -10,3 +10,4 @@ pub mod Ranged
 pub mod Permitted
 pub mod Same
 pub mod Fixed
+pub mod Carried
