@@ -11,3 +11,4 @@ pub mod Permitted
 pub mod Same
 pub mod Fixed
 pub mod Carried
+pub mod Forms

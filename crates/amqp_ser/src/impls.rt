@@ -1,5 +1,6 @@
 //! The trees of Rust's own types and of the types of AMQP data.
 
+mod data;
 mod holders;
 mod maps;
 mod scalars;

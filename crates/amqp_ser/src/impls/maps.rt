@@ -26,7 +26,7 @@ impl<K: Serialize, V: Serialize> Serialize for OrderedMap<K, V> {
 
     fn serialize<S: Serializer>(&self, serializer: &mut S) -> Result<S::Ok, S::Error> {
         let mut map = serializer.serialize_map(Some(self.len()))?;
-        for (key, value) in self {
+        for (key, value) in self.iter() {
             map.serialize_entry(key, value)?;
         }
         map.end()
