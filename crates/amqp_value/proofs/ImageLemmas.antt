@@ -2,6 +2,7 @@
 use Rattle.std.proofs.Common.{◌≡◌, false, refl, sym, ap, ◌∙◌}
 use Rattle.amqp_ser.specs.Tree.{Tree, Trees, Pairs, scalar, list, array, map, described, variant, lazy, transparent, no_trees, more, no_pairs, pair}
 use Rattle.amqp_ser.specs.Same.{same_tree}
+use Rattle.amqp_ser.proofs.Joins.{join}
 use Rattle.amqp_value.specs.Image.{variant_map, image, images, images_onto, insert_tree}
 use Rattle.amqp_value.specs.Plain.{IsPlain, ArePlain, HasPlainPairs, LacksImage}
 use Rattle.amqp_value.specs.AsMap.{read_as_map, each_as_map, pairs_as_map}
@@ -18,6 +19,15 @@ joined_assoc (pair k v ps) qs rs = ap (pair k v) (joined_assoc ps qs rs)
 joined_none : (ps : Pairs) → joined ps no_pairs ≡ ps
 joined_none no_pairs = refl
 joined_none (pair k v ps) = ap (pair k v) (joined_none ps)
+
+-- trees before others, and pairs before others
+pub images-join : (ts us : Trees) → images (join ts us) ≡ join (images ts) (images us)
+images-join no_trees us = refl
+images-join (more t ts) us = ap (more (image t)) (images-join ts us)
+
+pub images_onto-joined : (ps qs done : Pairs) → images_onto (joined ps qs) done ≡ images_onto qs (images_onto ps done)
+images_onto-joined no_pairs qs done = refl
+images_onto-joined (pair k v ps) qs done = images_onto-joined ps qs (insert_tree done (image k) (image v))
 
 -- the key is none of these
 abbrev pub Lacks : Pairs → Tree → Type 0

@@ -20,31 +20,76 @@ equal a b = eq.ghosts.eq a b
 
 -- one level of it: one line for each variant
 abbrev level : Value-F Value → Value-F Value → Bool
-level x z = by false false (row.enum).parts
-  (λ a b. true,
-  (λ a b. bool_eq.ghosts.eq a.0 b.0,
-  (λ a b. a.0 == b.0,
-  (λ a b. a.0 == b.0,
-  (λ a b. a.0 == b.0,
-  (λ a b. a.0 == b.0,
-  (λ a b. int_eq a.0 b.0,
-  (λ a b. int_eq a.0 b.0,
-  (λ a b. int_eq a.0 b.0,
-  (λ a b. int_eq a.0 b.0,
-  (λ a b. a.0.0 == b.0.0,
-  (λ a b. a.0.0 == b.0.0,
-  (λ a b. same_bytes a.0.0 b.0.0,
-  (λ a b. same_bytes a.0.0 b.0.0,
-  (λ a b. same_bytes a.0.0 b.0.0,
-  (λ a b. a.0 == b.0,
-  (λ a b. int_eq a.0.0 b.0.0,
-  (λ a b. same_bytes a.0.0 b.0.0,
-  (λ a b. same_bytes a.0.0.items b.0.0.items,
-  (λ a b. same_bytes (string_bytes a.0) (string_bytes b.0),
-  (λ a b. same_bytes (string_bytes a.0.0) (string_bytes b.0.0),
-  (λ a b. pointwise equal a.0.items b.0.items,
-  (λ a b. pointwise (λ p q. equal p.0 q.0 && equal p.1 q.1) a.0.entries.items b.0.entries.items,
-  (λ a b. pointwise equal a.0.0.items b.0.0.items, tt)))))))))))))))))))))))) (split-Value (λ _. Value) x) (split-Value (λ _. Value) z)
+level x z = by false false (row.enum).parts (
+  λ a b. true,
+  (
+    λ a b. bool_eq.ghosts.eq a.0 b.0,
+    (
+      λ a b. a.0 == b.0,
+      (
+        λ a b. a.0 == b.0,
+        (
+          λ a b. a.0 == b.0,
+          (
+            λ a b. a.0 == b.0,
+            (
+              λ a b. int_eq a.0 b.0,
+              (
+                λ a b. int_eq a.0 b.0,
+                (
+                  λ a b. int_eq a.0 b.0,
+                  (
+                    λ a b. int_eq a.0 b.0,
+                    (
+                      λ a b. a.0.0 == b.0.0,
+                      (
+                        λ a b. a.0.0 == b.0.0,
+                        (
+                          λ a b. same_bytes a.0.0 b.0.0,
+                          (
+                            λ a b. same_bytes a.0.0 b.0.0,
+                            (
+                              λ a b. same_bytes a.0.0 b.0.0,
+                              (
+                                λ a b. a.0 == b.0,
+                                (
+                                  λ a b. int_eq a.0.0 b.0.0,
+                                  (
+                                    λ a b. same_bytes a.0.0 b.0.0,
+                                    (
+                                      λ a b. same_bytes a.0.0.items b.0.0.items,
+                                      (
+                                        λ a b. same_bytes (string_bytes a.0) (string_bytes b.0),
+                                        (
+                                          λ a b. same_bytes (string_bytes a.0.0) (string_bytes b.0.0),
+                                          (
+                                            λ a b. pointwise equal a.0.items b.0.items,
+                                            (
+                                              λ a b. pointwise (λ p q. equal p.0 q.0 && equal p.1 q.1) a.0.entries.items b.0.entries.items,
+                                              (λ a b. pointwise equal a.0.0.items b.0.0.items, tt),
+                                            ),
+                                          ),
+                                        ),
+                                      ),
+                                    ),
+                                  ),
+                                ),
+                              ),
+                            ),
+                          ),
+                        ),
+                      ),
+                    ),
+                  ),
+                ),
+              ),
+            ),
+          ),
+        ),
+      ),
+    ),
+  ),
+) (split-Value (λ _. Value) x) (split-Value (λ _. Value) z)
 
 opened : (a b : Value) → equal a b ≡ level (out-Value a) (out-Value b)
 opened a b = laws.is a b

@@ -18,8 +18,7 @@ use crate::Value;
 /// Takes none.
 pub fn equality_is_of_contents()
     ensures { (a b : Value) → ⟦<Value as PartialEq>⟧.eq a b ≡ same_tree (tree_of a) (tree_of b) }
-{
-}
+{}
 
 /// Trees are the same exactly where they are equal.
 ///
@@ -28,8 +27,7 @@ pub fn equality_is_of_contents()
 pub fn sameness_is_equality()
     ensures equal { (t u : Tree) → same_tree t u ≡ true → t ≡ u }
     ensures same { (t : Tree) → same_tree t t ≡ true }
-{
-}
+{}
 
 /// The image of a plain tree is the tree itself, each variant read as its map.
 ///
@@ -37,8 +35,7 @@ pub fn sameness_is_equality()
 /// Takes none.
 pub fn image_of_a_plain_tree()
     ensures { (t : Tree) → IsPlain t → image t ≡ read_as_map t }
-{
-}
+{}
 
 /// A variant is written as its map: the bytes, the constructor, and each cause for which a tree is refused are those
 /// of the tree whose variants are read as maps.
@@ -51,8 +48,7 @@ pub fn variants_are_written_as_maps()
     ensures limits { (t : Tree) → within (read_as_map t) ≡ within t }
     ensures constructors { (t : Tree) → alike (read_as_map t) ≡ alike t }
     ensures places { (t : Tree) → placed (read_as_map t) ≡ placed t }
-{
-}
+{}
 
 /// The image of a plain tree is written as the same bytes, or refused too, and for the same cause.
 ///
@@ -63,8 +59,7 @@ pub fn image_is_written_as_the_same_bytes()
     ensures bytes { (t : Tree) → IsPlain t → enc (image t) ≡ enc t }
     ensures constructor { (t : Tree) → IsPlain t → con (image t) ≡ con t }
     ensures limits { (t : Tree) → IsPlain t → within (image t) ≡ within t }
-{
-}
+{}
 
 /// A value whose maps have distinct keys, at every depth, is its own image.
 ///
@@ -72,5 +67,4 @@ pub fn image_is_written_as_the_same_bytes()
 /// Takes none.
 pub fn value_is_its_own_image()
     ensures { (v : Value) → IsPlain (tree_of v) → image (tree_of v) ≡ tree_of v }
-{
-}
+{}

@@ -5,7 +5,10 @@
 #![tactic(auto)]
 
 pub mod laws;
+mod serialize;
 mod show;
+#[cfg(test)]
+mod tests;
 mod value;
 
 pub use value::Value;

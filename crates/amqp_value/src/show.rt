@@ -53,7 +53,11 @@ fn show_items<W: Write>(items: &[Value], f: &mut Formatter<W>) -> fmt::Result
 fn separate<W: Write>(index: usize, f: &mut Formatter<W>) -> fmt::Result
     ensures { WritesOnOk W.write_str_gives f.old result (separator index) f.new }
 {
-    if index == 0 { Ok(()) } else { f.write_str(", ") }
+    if index == 0 {
+        Ok(())
+    } else {
+        f.write_str(", ")
+    }
 }
 
 fn quote<W: Write>(text: &str, f: &mut Formatter<W>) -> fmt::Result
