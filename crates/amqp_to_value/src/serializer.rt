@@ -9,8 +9,8 @@ use crate::scalars::{marked_bytes, marked_fixed, marked_text};
 use crate::under::Under;
 use amqp_data::Error;
 use amqp_ser::{
-    Fixed, Kind, Mark, SerializeMap, SerializeSeq, SerializeStructVariant, SerializeTuple,
-    SerializeTupleVariant,
+    Fixed, Kind, Mark, SerializeMap, SerializeSeq, SerializeStruct, SerializeStructVariant,
+    SerializeTuple, SerializeTupleStruct, SerializeTupleVariant,
 };
 use amqp_value::Value;
 use std::alloc::Global;
@@ -31,6 +31,12 @@ pub type TupleSerializer<'a> = SerializeTuple<'a, Serializer>;
 
 /// A map whose keys and values are still gathered.
 pub type MapSerializer<'a> = SerializeMap<'a, Serializer>;
+
+/// A tuple struct whose fields are still gathered.
+pub type TupleStructSerializer<'a> = SerializeTupleStruct<'a, Serializer>;
+
+/// A struct whose fields are still gathered.
+pub type StructSerializer<'a> = SerializeStruct<'a, Serializer>;
 
 /// A tuple variant whose fields are still gathered.
 pub type VariantSerializer<'a> = SerializeTupleVariant<'a, Serializer>;
