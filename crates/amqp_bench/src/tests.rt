@@ -31,3 +31,29 @@ fn sizes_of_the_shapes(rt: HostRuntime) {
         );
     }
 }
+
+#[test]
+fn bytes_have_the_hash_of_worked_bytes(rt: HostRuntime) {
+    let alloc = rt.alloc();
+    let strings = hash_of(b"\xc0\x08\x02\xa1\x01a\xa1\x02bc");
+    assert_eq!(rt; amqp_bench(alloc, 0, 2, b"a\nbc", 1), strings);
+    let numbers = hash_of(b"\xe0\x0a\x02\x70\0\0\0\x01\0\0\0\x02");
+    assert_eq!(rt;
+        amqp_bench(alloc, 1, 2, b"\0\0\0\x01\0\0\0\x02", 1),
+        numbers
+    );
+}
+
+#[test]
+fn each_shape_is_written_and_made(rt: HostRuntime) {
+    for shape in [0, 1, 2, 3, 4] {
+        let size = amqp_shape(rt.alloc(), shape, 0, 1);
+        assert!(rt; size > 0);
+        assert_eq!(rt;
+            amqp_shape(rt.alloc(), shape, 1, 2),
+            size.wrapping_mul(2),
+            "shape {shape}"
+        );
+        assert_eq!(rt; amqp_shape(rt.alloc(), shape, 3, 2), 2, "shape {shape}");
+    }
+}
