@@ -107,6 +107,7 @@ pub trait Serializer {
             complete kind ps ≡ true → permits start (whole kind ps) result self.new };
 
     /// Whether texts for people are wanted: never.
+    #[inline(always)]
     final fn is_human_readable(&self) -> bool
         ensures { result ≡ false }
     {
@@ -114,6 +115,7 @@ pub trait Serializer {
     }
 
     /// Answers on a truth value.
+    #[inline(always)]
     final fn serialize_bool(&mut self, v: bool) -> Result<Self::Ok, Self::Error>
         ensures { Self.permits self.old (Some (scalar (bool v))) result self.new }
     {
@@ -121,6 +123,7 @@ pub trait Serializer {
     }
 
     /// Answers on a byte.
+    #[inline(always)]
     final fn serialize_i8(&mut self, v: i8) -> Result<Self::Ok, Self::Error>
         ensures { Self.permits self.old (Some (scalar (byte v))) result self.new }
     {
@@ -128,6 +131,7 @@ pub trait Serializer {
     }
 
     /// Answers on a short.
+    #[inline(always)]
     final fn serialize_i16(&mut self, v: i16) -> Result<Self::Ok, Self::Error>
         ensures { Self.permits self.old (Some (scalar (short v))) result self.new }
     {
@@ -135,6 +139,7 @@ pub trait Serializer {
     }
 
     /// Answers on an int.
+    #[inline(always)]
     final fn serialize_i32(&mut self, v: i32) -> Result<Self::Ok, Self::Error>
         ensures { Self.permits self.old (Some (scalar (int v))) result self.new }
     {
@@ -142,6 +147,7 @@ pub trait Serializer {
     }
 
     /// Answers on a long.
+    #[inline(always)]
     final fn serialize_i64(&mut self, v: i64) -> Result<Self::Ok, Self::Error>
         ensures { Self.permits self.old (Some (scalar (long v))) result self.new }
     {
@@ -149,6 +155,7 @@ pub trait Serializer {
     }
 
     /// Answers on an ubyte.
+    #[inline(always)]
     final fn serialize_u8(&mut self, v: u8) -> Result<Self::Ok, Self::Error>
         ensures { Self.permits self.old (Some (scalar (ubyte v))) result self.new }
     {
@@ -156,6 +163,7 @@ pub trait Serializer {
     }
 
     /// Answers on an ushort.
+    #[inline(always)]
     final fn serialize_u16(&mut self, v: u16) -> Result<Self::Ok, Self::Error>
         ensures { Self.permits self.old (Some (scalar (ushort v))) result self.new }
     {
@@ -163,6 +171,7 @@ pub trait Serializer {
     }
 
     /// Answers on an uint.
+    #[inline(always)]
     final fn serialize_u32(&mut self, v: u32) -> Result<Self::Ok, Self::Error>
         ensures { Self.permits self.old (Some (scalar (uint v))) result self.new }
     {
@@ -170,6 +179,7 @@ pub trait Serializer {
     }
 
     /// Answers on an ulong.
+    #[inline(always)]
     final fn serialize_u64(&mut self, v: u64) -> Result<Self::Ok, Self::Error>
         ensures { Self.permits self.old (Some (scalar (ulong v))) result self.new }
     {
@@ -177,6 +187,7 @@ pub trait Serializer {
     }
 
     /// Answers on a float, given by its bits.
+    #[inline(always)]
     final fn serialize_f32(&mut self, v: F32Bits) -> Result<Self::Ok, Self::Error>
         ensures { Self.permits self.old (Some (scalar (float (f32_bits v)))) result self.new }
     {
@@ -184,6 +195,7 @@ pub trait Serializer {
     }
 
     /// Answers on a double, given by its bits.
+    #[inline(always)]
     final fn serialize_f64(&mut self, v: F64Bits) -> Result<Self::Ok, Self::Error>
         ensures { Self.permits self.old (Some (scalar (double (f64_bits v)))) result self.new }
     {
@@ -191,6 +203,7 @@ pub trait Serializer {
     }
 
     /// Answers on a character.
+    #[inline(always)]
     final fn serialize_char(&mut self, v: char) -> Result<Self::Ok, Self::Error>
         ensures { Self.permits self.old (Some (scalar (char v))) result self.new }
     {
@@ -198,6 +211,7 @@ pub trait Serializer {
     }
 
     /// Answers on no value, as null.
+    #[inline(always)]
     final fn serialize_none(&mut self) -> Result<Self::Ok, Self::Error>
         ensures { Self.permits self.old (Some (scalar null)) result self.new }
     {
@@ -205,6 +219,7 @@ pub trait Serializer {
     }
 
     /// Answers on the unit, as null.
+    #[inline(always)]
     final fn serialize_unit(&mut self) -> Result<Self::Ok, Self::Error>
         ensures { Self.permits self.old (Some (scalar null)) result self.new }
     {
@@ -212,6 +227,7 @@ pub trait Serializer {
     }
 
     /// Answers on a struct without fields, as null.
+    #[inline(always)]
     final fn serialize_unit_struct(&mut self, _name: &'static str) -> Result<Self::Ok, Self::Error>
         ensures { Self.permits self.old (Some (scalar null)) result self.new }
     {
@@ -219,6 +235,7 @@ pub trait Serializer {
     }
 
     /// Answers on a variant without a value, as the uint of its index.
+    #[inline(always)]
     final fn serialize_unit_variant(
         &mut self,
         _name: &'static str,
@@ -231,6 +248,7 @@ pub trait Serializer {
     }
 
     /// Answers on a value that is there, as on the value itself.
+    #[inline(always)]
     final fn serialize_some<T: Serialize>(&mut self, v: &T) -> Result<Self::Ok, Self::Error>
     where
         Self: Sized,
@@ -240,6 +258,7 @@ pub trait Serializer {
     }
 
     /// Answers on a newtype, as its name marks the tree inside it.
+    #[inline(always)]
     final fn serialize_newtype_struct<T: Serialize>(
         &mut self,
         name: &'static str,
@@ -255,6 +274,7 @@ pub trait Serializer {
     }
 
     /// Opens a list. The length is a hint: it is not checked and reserves nothing.
+    #[inline(always)]
     final fn serialize_seq(
         &mut self,
         _len: Option<usize>,
@@ -270,6 +290,7 @@ pub trait Serializer {
     }
 
     /// Opens a tuple, a list of its elements.
+    #[inline(always)]
     final fn serialize_tuple(
         &mut self,
         _len: usize,
@@ -285,6 +306,7 @@ pub trait Serializer {
     }
 
     /// Opens a tuple struct, a list of its fields. One with the name of a described struct has no tree.
+    #[inline(always)]
     final fn serialize_tuple_struct(
         &mut self,
         name: &'static str,
@@ -303,6 +325,7 @@ pub trait Serializer {
     }
 
     /// Opens a struct, a list of its fields. One with the name of a described struct has no tree.
+    #[inline(always)]
     final fn serialize_struct(
         &mut self,
         name: &'static str,
@@ -321,6 +344,7 @@ pub trait Serializer {
     }
 
     /// Opens a map.
+    #[inline(always)]
     final fn serialize_map(
         &mut self,
         _len: Option<usize>,
@@ -337,6 +361,7 @@ pub trait Serializer {
     }
 
     /// Answers on a variant of one value. The names of an enum and its variants are not written.
+    #[inline(always)]
     final fn serialize_newtype_variant<T: Serialize>(
         &mut self,
         name: &'static str,
@@ -354,6 +379,7 @@ pub trait Serializer {
     }
 
     /// Opens a variant of fields that have no names.
+    #[inline(always)]
     final fn serialize_tuple_variant(
         &mut self,
         _name: &'static str,
@@ -373,6 +399,7 @@ pub trait Serializer {
     }
 
     /// Opens a variant of named fields.
+    #[inline(always)]
     final fn serialize_struct_variant(
         &mut self,
         _name: &'static str,
