@@ -60,7 +60,7 @@ fn bytes(alloc: Global) -> Result<bool, Error> {
 
 fn fed_again(alloc: Global) -> Result<bool, Error> {
     let inner = vec![in alloc; "a"]?;
-    let bytes = to_vec(alloc, &Again(&inner))?;
+    let bytes = to_vec(alloc, &Again(inner))?;
     Ok(bytes.as_slice() == [0xc0, 7, 1, 0xc0, 4, 1, 0xa1, 1, b'a'].as_slice())
 }
 
