@@ -1,0 +1,78 @@
+-- One call of a reader after another.
+use Rattle.std.proofs.Common.{◌≡◌, ℕ, ◌+◌, ◌<◌, ◌≤◌, inl, inr, List, [], ◌++◌, Option, None, Some, Result, Ok, Err, IfErr, OnOk, IfSome, length, ◌-◌, take, drop, ap, ◌∙◌, arith, length-append, append_assoc}
+use Rattle.std.specs.Io.KnownBytes.{Consumes}
+use Rattle.std.proofs.KnownBytes.{Consumes-trans}
+use Rattle.std.proofs.lemmas.Bool.{cases_lt}
+use Rattle.std.proofs.Math.Seq.{drop-append_seam}
+use Rattle.amqp_frame.proofs.Primitive.{rest-is}
+use Rattle.amqp_data.specs.declared.error.Error.{Error}
+use Rattle.amqp_data.specs.declared.error.Error.TheVariants.{OutOfMemory, TooLong, InvalidValue, InvalidFormatCode, UnexpectedEof, Io, Message}
+use Rattle.amqp_frame.specs.declared.code.Category.{Category}
+use Rattle.amqp_frame.specs.Code.{size_width, body_len, payload_len}
+use Rattle.amqp_frame.specs.Reader.{Failed, RunsOut}
+use Rattle.amqp_frame.specs.Taking.{Refuses, Moves}
+use Rattle.amqp_frame.proofs.FirstFrame.{body_len-front}
+
+failed-later : (f g h : ℕ) → f ≤ g → g ≤ h → Failed g h → Failed f h
+failed-later f g h fg gh (inl rose) = inl (omega arith)
+failed-later f g h fg gh (inr last) =
+    elim (cases_lt f g) [ inl below ↦ inl (omega arith) | inr over ↦ inr (omega arith) ]
+
+-- a call that refuses, after bytes were taken
+pub refuses-later : (a b c : Option (List ℕ)) (f g h : ℕ) (taken : List ℕ) {E E' C C' : Type 0} → Consumes a b taken
+    → f ≤ g → g ≤ h → (E → E') → (C → C') → (e : Error) → Refuses b c g h E C e → Refuses a c f h E' C' e
+refuses-later a b c f g h taken t fg gh at_end at_code OutOfMemory (more, r) =
+    (taken ++ more, Consumes-trans a b c taken more t r)
+refuses-later a b c f g h taken t fg gh at_end at_code TooLong r = r
+refuses-later a b c f g h taken t fg gh at_end at_code InvalidValue r = r
+refuses-later a b c f g h taken t fg gh at_end at_code InvalidFormatCode r = at_code r
+refuses-later a b c f g h taken t fg gh at_end at_code UnexpectedEof r = at_end r
+refuses-later a b c f g h taken t fg gh at_end at_code Io ((more, r), fails) =
+    ((taken ++ more, Consumes-trans a b c taken more t r), failed-later f g h fg gh fails)
+refuses-later a b c f g h taken t fg gh at_end at_code (Message words) r = r
+
+pub refuses-last : {T : Type 0} (r : Result T Error) (a b c : Option (List ℕ)) (f g h : ℕ)
+    (taken : List ℕ) {E E' C C' : Type 0} → Consumes a b taken → f ≤ g → g ≤ h → (E → E') → (C → C')
+    → IfErr r (Refuses b c g h E C) → IfErr r (Refuses a c f h E' C')
+refuses-last (Ok x) a b c f g h taken t fg gh at_end at_code r = tt
+refuses-last (Err e) a b c f g h taken t fg gh at_end at_code r = refuses-later a b c f g h taken t fg gh at_end at_code
+    e r
+
+pub runs-out-later : (a b c : Option (List ℕ)) (bytes : List ℕ) (n m : ℕ) → Consumes a b bytes → length bytes + n ≤ m
+    → RunsOut b c n → RunsOut a c m
+runs-out-later None b c bytes n m t le r = tt
+runs-out-later (Some s) None c bytes n m t le r = absurd t
+runs-out-later (Some s) (Some x) c bytes n m t le r = (omega (arith, ap length t, length-append bytes x, r.0), r.1)
+
+-- a payload is its head and its body
+abbrev pub FallsShort : Category → Option (List ℕ) → Option (List ℕ) → Type 0
+FallsShort k old new = IfSome old (λ s. (length s < payload_len k s) × (new ≡ Some []))
+
+pub falls-short-head : (k : Category) (a b : Option (List ℕ)) (n : ℕ) → n ≡ size_width k → RunsOut a b n
+    → FallsShort k a b
+falls-short-head k None b n e r = tt
+falls-short-head k (Some s) b n e r = (omega (arith, r.0), r.1)
+
+pub falls-short-body : (k : Category) (a b c : Option (List ℕ)) (head : List ℕ) (n : ℕ) → Consumes a b head
+    → length head ≡ size_width k → n ≡ body_len k head → RunsOut b c n → FallsShort k a c
+falls-short-body k None b c head n t len e r = tt
+falls-short-body k (Some s) None c head n t len e r = absurd t
+falls-short-body k (Some s) (Some x) c head n t len e r =
+    let size : length s ≡ length head + length x = ap length t ∙ length-append head x in
+    let told : body_len k s ≡ body_len k head = ap (body_len k) t ∙ body_len-front k head x (omega arith) in
+    (omega (arith, r.0), r.1)
+
+pub moves-payload : {T : Type 0} (r : Result T Error) (k : Category) (a b c : Option (List ℕ))
+    (before mid after head : List ℕ) (n : ℕ) → Consumes a b head → mid ≡ before ++ head → length head ≡ size_width k
+    → n ≡ body_len k head → OnOk r (Moves b c mid after (λ bytes. length bytes ≡ n))
+    → OnOk r (Moves a c before after (λ bytes. length bytes ≡ payload_len k bytes))
+moves-payload (Ok x) k a b c before mid after head n t m len e (body, u, v, size) =
+    let told : body_len k (head ++ body) ≡ body_len k head = body_len-front k head body (omega arith) in
+    let whole : after ≡ before ++ (head ++ body) = v ∙ ap (λ l. l ++ body) m ∙ append_assoc before head body in
+    (head ++ body, Consumes-trans a b c head body t u, whole, omega (arith, length-append head body))
+moves-payload (Err d) k a b c before mid after head n t m len e h = tt
+
+-- what stands behind the bytes of before
+pub behind : (before head now : List ℕ) (at : ℕ) → now ≡ before ++ head → at ≡ length before
+    → take (length now - at) (drop at now) ≡ head
+behind before head now at e is = rest-is now at ∙ (rw (is, e) (drop-append_seam before head))

@@ -1,0 +1,5 @@
+pub mod Code
+pub mod Frame
+pub mod Cut
+pub mod Reader
+pub mod Taking

@@ -1,0 +1,66 @@
+//! The codes that begin a frame, and how long their payloads are.
+
+ghost use Rattle.std.specs.Prelude.{◌≡◌, ◌≤◌, length};
+ghost use Rattle.amqp_frame.specs.Code.{is_primitive_code, category, size_width, body_len};
+
+/// How the length of a payload is told.
+#[derive(Clone, Copy, Debug, PartialEq, Eq)]
+pub enum Category {
+    /// The code alone tells it (AMQP 1.0 part 1, section 1.2.1).
+    Fixed(u8),
+    /// The payload begins with one byte that tells how many follow (sections 1.2.2 to 1.2.4).
+    OneByteSize,
+    /// The payload begins with four bytes that tell how many follow (sections 1.2.2 to 1.2.4).
+    FourByteSize,
+}
+
+/// Whether the code is accepted as that of a primitive type.
+#[tactic(auto, unfolding(crate::specs::Code::is_primitive_code))]
+pub fn is_primitive(code: u8) -> bool
+    ensures { result ≡ is_primitive_code code }
+{
+    0x40 <= code && code < 0xFF && code % 16 < 15
+}
+
+/// The category of a code, by its high four bits.
+#[tactic(auto, unfolding(crate::specs::Code::category))]
+pub fn category_of(code: u8) -> Category
+    ensures { result ≡ category code }
+{
+    match code / 16 {
+        4 => Category::Fixed(0),
+        5 => Category::Fixed(1),
+        6 => Category::Fixed(2),
+        7 => Category::Fixed(4),
+        8 => Category::Fixed(8),
+        9 => Category::Fixed(16),
+        high if high % 2 == 0 => Category::OneByteSize,
+        _ => Category::FourByteSize,
+    }
+}
+
+/// How many bytes at the front of a payload are its size.
+#[tactic(auto, unfolding(crate::specs::Code::size_width))]
+pub fn size_width_of(category: Category) -> usize
+    ensures width { result ≡ size_width category }
+    ensures bound { result ≤ 4 }
+{
+    match category {
+        Category::Fixed(_) => 0,
+        Category::OneByteSize => 1,
+        Category::FourByteSize => 4,
+    }
+}
+
+/// How many bytes follow the size.
+#[tactic(auto, unfolding(crate::specs::Code::size_width, crate::specs::Code::body_len))]
+pub fn body_len_of(category: Category, size: &[u8]) -> u32
+    requires { length size.now ≡ size_width category }
+    ensures { result ≡ body_len category size.now }
+{
+    match category {
+        Category::Fixed(len) => u32::from(len),
+        Category::OneByteSize => u32::from(size[0]),
+        Category::FourByteSize => u32::from_be_bytes([size[0], size[1], size[2], size[3]]),
+    }
+}

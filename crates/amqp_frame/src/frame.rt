@@ -1,0 +1,71 @@
+//! Where the first frame of a slice ends.
+
+ghost use Rattle.std.specs.Prelude.{◌≡◌, ◌≢◌, ◌≤◌, ◌<◌, ◌⊎◌, ◌++◌, ℕ, List, IfSome, IfNone, Some, length, take, slice_index};
+ghost use Rattle.amqp_frame.specs.Frame.{IsFrame, IsBeginning, HasFrame, HasBroken};
+
+use crate::code::{body_len_of, category_of, is_primitive, size_width_of};
+
+/// The length of the frame that the bytes begin with: none where no front of them is a frame.
+///
+/// # Encoding
+///
+/// AMQP 1.0 part 1, sections 1.2 to 1.2.4. Accepted codes are 00, and 40 to FE with a low nibble of
+/// 0 to E.
+///
+/// # Memory
+///
+/// Takes none. Frames inside one another are counted, with no call for each.
+///
+/// # Example
+///
+/// `4010`: `Some(1)`. `00a1016145`: `Some(5)`. `10`, `a10561` and no bytes: `None`.
+pub fn frame_len(bytes: &[u8]) -> Option<usize>
+    ensures found { IfSome result (λ n. (n ≤ length bytes.now) × IsFrame (take n bytes.now)) }
+    ensures only { (front rest : List ℕ) → IsFrame front → bytes.now ≡ front ++ rest
+        → result ≡ Some (length front) }
+    ensures none { IfNone result (¬ HasFrame bytes.now) }
+{
+    let mut at = 0;
+    let mut open: u64 = 1;
+    while open > 0 {
+        if at == bytes.len() {
+            return None;
+        }
+        if bytes[at] == 0 {
+            at += 1;
+            open += 1;
+        } else {
+            let Some(len) = primitive_len(&bytes[at..]) else {
+                return None;
+            };
+            at += len;
+            open -= 1;
+        }
+    }
+    Some(at)
+}
+
+// The length of the primitive code that the bytes begin with, and of its payload.
+fn primitive_len(bytes: &[u8]) -> Option<usize>
+    requires some { 0 < length bytes.now }
+    requires code { slice_index bytes.now 0 ≢ 0 }
+    ensures bound { IfSome result (λ n. (0 < n) × (n ≤ length bytes.now)) }
+    ensures found { IfSome result (λ n. IsFrame (take n bytes.now)) }
+    ensures none { IfNone result (HasBroken bytes.now ⊎ IsBeginning bytes.now) }
+{
+    let code = bytes[0];
+    let payload = &bytes[1..];
+    if !is_primitive(code) {
+        return None;
+    }
+    let category = category_of(code);
+    let width = size_width_of(category);
+    if payload.len() < width {
+        return None;
+    }
+    let len = width + body_len_of(category, &payload[..width]) as usize;
+    if payload.len() < len {
+        return None;
+    }
+    Some(1 + len)
+}

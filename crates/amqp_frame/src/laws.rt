@@ -1,0 +1,43 @@
+//! Laws of the definitions alone. A caller learns one by calling its function.
+
+ghost use Rattle.std.specs.Prelude.{◌≡◌, ◌<◌, ℕ, List, [], ◌++◌, length};
+ghost use Rattle.std.specs.List.{AllByRecursion, concat};
+ghost use Rattle.amqp_frame.specs.Cut.{IsCut};
+ghost use Rattle.amqp_frame.specs.Frame.{IsFrame, IsBeginning, IsBroken, HasFrame, HasBroken, ExactlyOne};
+
+/// Of the fronts of a string at most one is a frame, so no frame is a proper front of another.
+pub fn one_frame()
+    ensures { (a b x y : List ℕ) → IsFrame a → IsFrame b → a ++ x ≡ b ++ y → (a ≡ b) × (x ≡ y) }
+{}
+
+/// Of the fronts of a string at most one is broken.
+pub fn one_broken()
+    ensures { (a b x y : List ℕ) → IsBroken a → IsBroken b → a ++ x ≡ b ++ y → (a ≡ b) × (x ≡ y) }
+{}
+
+/// Every string has exactly one of a frame as a front, a broken front, being itself a beginning.
+pub fn one_case()
+    ensures { (s : List ℕ) → ExactlyOne (HasFrame s) (HasBroken s) (IsBeginning s) }
+{}
+
+/// A frame has a byte at least.
+pub fn some_byte()
+    ensures { (frame : List ℕ) → IsFrame frame → 0 < length frame }
+{}
+
+/// Every string has a cut.
+pub fn some_cut()
+    ensures { (s : List ℕ) → (frames : List (List ℕ)) × (rest : List ℕ) × IsCut s frames rest }
+{}
+
+/// No string has two cuts.
+pub fn one_cut()
+    ensures { (s rest last : List ℕ) (frames others : List (List ℕ))
+        → IsCut s frames rest → IsCut s others last → (frames ≡ others) × (rest ≡ last) }
+{}
+
+/// Frames joined are cut back into the single ones.
+pub fn cut_back()
+    ensures { (frames : List (List ℕ)) → AllByRecursion IsFrame frames
+        → IsCut (concat frames) frames [] }
+{}

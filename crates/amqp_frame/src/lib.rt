@@ -1,0 +1,22 @@
+//! Frames of AMQP data, cut off any reader.
+//!
+//! A frame is the encoding of one value: a format code with its payload, or 00 with a descriptor and a
+//! value (AMQP 1.0 part 1, section 1.2). Where a frame ends is told by its codes and sizes alone; what a
+//! payload holds is not looked at. No frame is a proper front of another, so a reader that cuts one off
+//! has no choice to make.
+#![tactic(auto)]
+
+mod code;
+mod frame;
+mod intake;
+pub mod laws;
+mod lazy;
+mod read;
+mod readers;
+#[cfg(test)]
+mod tests;
+
+pub use frame::frame_len;
+pub use lazy::LazyValue;
+pub use read::Read;
+pub use readers::{IoReader, SliceReader};
