@@ -1,0 +1,4 @@
+pub mod Written
+pub mod Stopped
+pub mod Runs
+pub mod Decided

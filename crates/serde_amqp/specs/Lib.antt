@@ -1,0 +1,5 @@
+pub mod Writer
+pub mod Hexadecimal
+pub mod CutLines
+pub mod CutRun
+pub mod CutSteps
