@@ -4,7 +4,32 @@
 //! what was put in comes out unchanged, and equality, order and hash go by content.
 #![tactic(auto)]
 
+mod array;
+mod bits;
+mod byte_buf;
+mod decimal;
+mod described;
+mod descriptor;
 mod error;
+mod format_code;
+pub mod laws;
 pub mod markers;
+mod ordered_map;
+mod symbol;
+mod timestamp;
+mod transparent_vec;
+mod uuid;
 
+pub use array::Array;
+pub use bits::{F32Bits, F64Bits};
+pub use byte_buf::ByteBuf;
+pub use decimal::{Dec32, Dec64, Dec128};
+pub use described::Described;
+pub use descriptor::Descriptor;
 pub use error::Error;
+pub use format_code::EncodingCodes;
+pub use ordered_map::{Iter, OrderedMap};
+pub use symbol::{Symbol, SymbolRef};
+pub use timestamp::Timestamp;
+pub use transparent_vec::TransparentVec;
+pub use uuid::Uuid;

@@ -63,27 +63,28 @@ fn take_bytes<R: Read>(reader: &mut R, taken: &mut Vec<u8>, count: u32) -> Resul
         (RunsOut (R.left reader.old) (R.left reader.new) count) ⊥) }
     ensures count { R.failures reader.old ≤ R.failures reader.new }
 {
-    let mut piece = [0; PIECE];
     let mut left = count as usize;
     while left > 0 {
         let len = left.min(PIECE);
-        take_piece(reader, taken, &mut piece[..len])?;
+        take_piece(reader, taken, len)?;
         left -= len;
     }
     Ok(())
 }
 
-// Takes as many bytes as the piece has, through the piece.
-fn take_piece<R: Read>(reader: &mut R, taken: &mut Vec<u8>, piece: &mut [u8]) -> Result<(), Error>
+// Takes `len` bytes at once.
+fn take_piece<R: Read>(reader: &mut R, taken: &mut Vec<u8>, len: usize) -> Result<(), Error>
+    requires { len ≤ 4096 }
     ensures ok { OnOk result (Moves (R.left reader.old) (R.left reader.new)
         taken.old.items taken.new.items
-        (λ bytes. length bytes ≡ length piece.old)) }
+        (λ bytes. length bytes ≡ len)) }
     ensures refused { IfErr result (Refuses (R.left reader.old) (R.left reader.new)
         (R.failures reader.old) (R.failures reader.new)
-        (RunsOut (R.left reader.old) (R.left reader.new) (length piece.old)) ⊥) }
+        (RunsOut (R.left reader.old) (R.left reader.new) len) ⊥) }
     ensures count { R.failures reader.old ≤ R.failures reader.new }
 {
-    reader.read_exact(piece)?;
-    taken.extend_from_slice(piece)?;
+    let at = taken.len();
+    taken.resize(at + len, 0)?;
+    reader.read_exact(&mut taken[at..])?;
     Ok(())
 }

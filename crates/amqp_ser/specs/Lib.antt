@@ -10,3 +10,5 @@ pub mod Ranged
 pub mod Permitted
 pub mod Same
 pub mod Fixed
+pub mod Carried
+pub mod Forms

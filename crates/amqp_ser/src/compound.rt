@@ -6,8 +6,10 @@
 pub(crate) mod feed;
 mod map;
 mod sequence;
+mod structs;
 mod variant;
 
 pub use map::SerializeMap;
 pub use sequence::{SerializeSeq, SerializeTuple};
+pub use structs::{SerializeStruct, SerializeTupleStruct};
 pub use variant::{SerializeStructVariant, SerializeTupleVariant};

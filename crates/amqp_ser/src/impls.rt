@@ -1,4 +1,8 @@
-//! The trees of Rust's own types.
+//! The trees of Rust's own types and of the types of AMQP data.
 
+mod data;
 mod holders;
+mod maps;
+mod scalars;
 mod text;
+mod tuples;

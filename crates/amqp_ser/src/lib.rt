@@ -9,15 +9,17 @@ mod compound;
 mod fixed;
 mod impls;
 mod kind;
+pub mod laws;
 mod mark;
 mod serialize;
 mod serializer;
 
 pub use compound::{
-    SerializeMap, SerializeSeq, SerializeStructVariant, SerializeTuple, SerializeTupleVariant,
+    SerializeMap, SerializeSeq, SerializeStruct, SerializeStructVariant, SerializeTuple,
+    SerializeTupleStruct, SerializeTupleVariant,
 };
 pub use fixed::Fixed;
 pub use kind::Kind;
-pub use mark::{Mark, mark_named};
+pub use mark::{Mark, is_described_name, is_descriptor_key, mark_named};
 pub use serialize::Serialize;
 pub use serializer::Serializer;

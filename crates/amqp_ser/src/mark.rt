@@ -1,7 +1,7 @@
-//! What a newtype's name asks for.
+//! What the name of a newtype or of a struct asks for.
 
 ghost use Rattle.std.specs.Prelude.{◌≡◌};
-ghost use Rattle.amqp_ser.specs.Marked.{mark_of};
+ghost use Rattle.amqp_ser.specs.Marked.{is_described, is_descriptor, mark_of};
 
 use amqp_data::markers;
 
@@ -60,4 +60,26 @@ pub fn mark_named(name: &str) -> Mark
     } else {
         Mark::Other
     }
+}
+
+/// Whether a struct of this name is a described value: the one place where the names of described structs are compared.
+///
+/// # Memory
+/// Takes none.
+pub fn is_described_name(name: &str) -> bool
+    ensures { result ≡ is_described name.now }
+{
+    name == markers::DESCRIBED_BASIC
+        || name == markers::DESCRIBED_LIST
+        || name == markers::DESCRIBED_MAP
+}
+
+/// Whether a field of this key is its struct's descriptor.
+///
+/// # Memory
+/// Takes none.
+pub fn is_descriptor_key(key: &str) -> bool
+    ensures { result ≡ is_descriptor key.now }
+{
+    key == markers::DESCRIPTOR
 }

@@ -1,19 +1,22 @@
 //! The law of a serializer, and the methods by which values are handed to it.
 
 ghost use Rattle.std.specs.Prelude.{◌≡◌, ◌++◌, ◌∷◌, [], List, Option, Some, None, Result, Ok, Err, MatchResult, IfOk, IsOk, true, false};
-ghost use Rattle.amqp_ser.specs.Tree.{Tree, Scalar, scalar, null, bool, ubyte, ushort, uint, ulong, byte, short, int, long, char, string, binary};
+ghost use Rattle.amqp_ser.specs.Tree.{Tree, Scalar, scalar, null, bool, ubyte, ushort, uint, ulong, byte, short, int, long, float, double, char, string, binary};
 ghost use Rattle.amqp_ser.specs.Fixed.{fixed_scalar};
 ghost use Rattle.amqp_ser.specs.Compounds.{whole, complete, paired};
-ghost use Rattle.amqp_ser.specs.Marked.{marked, mark_of};
+ghost use Rattle.amqp_ser.specs.Marked.{is_described, marked, mark_of};
+ghost use Rattle.amqp_data.specs.Fixed.{f32_bits, f64_bits};
 
 use crate::compound::feed::feed_part;
 use crate::compound::{
-    SerializeMap, SerializeSeq, SerializeStructVariant, SerializeTuple, SerializeTupleVariant,
+    SerializeMap, SerializeSeq, SerializeStruct, SerializeStructVariant, SerializeTuple,
+    SerializeTupleStruct, SerializeTupleVariant,
 };
 use crate::fixed::Fixed;
 use crate::kind::Kind;
-use crate::mark::{Mark, mark_named};
+use crate::mark::{Mark, is_described_name, mark_named};
 use crate::serialize::Serialize;
+use amqp_data::{F32Bits, F64Bits};
 
 /// Turns data trees into answers of one kind, as their length, their bytes or an untyped value.
 ///
@@ -172,6 +175,20 @@ pub trait Serializer {
         self.serialize_fixed(Fixed::Ulong(v))
     }
 
+    /// Answers on a float, given by its bits.
+    final fn serialize_f32(&mut self, v: F32Bits) -> Result<Self::Ok, Self::Error>
+        ensures { Self.permits self.old (Some (scalar (float (f32_bits v)))) result self.new }
+    {
+        self.serialize_fixed(Fixed::Float(v.into_inner()))
+    }
+
+    /// Answers on a double, given by its bits.
+    final fn serialize_f64(&mut self, v: F64Bits) -> Result<Self::Ok, Self::Error>
+        ensures { Self.permits self.old (Some (scalar (double (f64_bits v)))) result self.new }
+    {
+        self.serialize_fixed(Fixed::Double(v.into_inner()))
+    }
+
     /// Answers on a character.
     final fn serialize_char(&mut self, v: char) -> Result<Self::Ok, Self::Error>
         ensures { Self.permits self.old (Some (scalar (char v))) result self.new }
@@ -264,6 +281,42 @@ pub trait Serializer {
     {
         let held = self.begin(Kind::List);
         Ok(SerializeTuple::new(self, held))
+    }
+
+    /// Opens a tuple struct, a list of its fields. One with the name of a described struct has no tree.
+    final fn serialize_tuple_struct(
+        &mut self,
+        name: &'static str,
+        _len: usize,
+    ) -> Result<SerializeTupleStruct<'_, Self>, Self::Error>
+    where
+        Self: Sized,
+        ensures opened { IfOk result (λ fields. Self.has self.old Kind.List fields.serializer.now fields.held []) }
+        ensures described { IfOk result (λ fields. fields.described ≡ is_described name.now) }
+        ensures same_reference { IfOk result (λ fields. fields.serializer.ghost_name ≡ self.entry.ghost_name) }
+        ensures succeeds { IsOk result }
+    {
+        let described = is_described_name(name);
+        let held = self.begin(Kind::List);
+        Ok(SerializeTupleStruct::new(self, held, described))
+    }
+
+    /// Opens a struct, a list of its fields. One with the name of a described struct has no tree.
+    final fn serialize_struct(
+        &mut self,
+        name: &'static str,
+        _len: usize,
+    ) -> Result<SerializeStruct<'_, Self>, Self::Error>
+    where
+        Self: Sized,
+        ensures opened { IfOk result (λ fields. Self.has self.old Kind.List fields.serializer.now fields.held []) }
+        ensures described { IfOk result (λ fields. fields.described ≡ is_described name.now) }
+        ensures same_reference { IfOk result (λ fields. fields.serializer.ghost_name ≡ self.entry.ghost_name) }
+        ensures succeeds { IsOk result }
+    {
+        let described = is_described_name(name);
+        let held = self.begin(Kind::List);
+        Ok(SerializeStruct::new(self, held, described))
     }
 
     /// Opens a map.

@@ -1,6 +1,9 @@
 -- The lengths of headers and bodies (AMQP 1.0 part 1, section 1.2).
-use Rattle.std.specs.Prelude.{ℕ, Bool, true, false, ◌&&◌, nat_le, nat_eq, ◌+◌, if◌then◌else◌}
+use Rattle.std.specs.Prelude.{ℕ, Bool, true, false, ◌&&◌, nat_le, nat_eq, ◌+◌, List, ◌++◌, length, if◌then◌else◌}
+use Rattle.std.specs.Int.{w32, to_be_bytes}
 use Rattle.amqp_ser.specs.Limits.{is_short}
+use Rattle.amqp_ser.specs.Scalars.{sized}
+use Rattle.amqp_ser.specs.Encoding.{wide, list_form, map_form, array_form}
 
 -- an uint by itself
 abbrev pub uint_width : ℕ → ℕ
@@ -22,7 +25,20 @@ list_width n = if nat_eq n 0 then 1 else map_width n
 abbrev pub array_width : ℕ → ℕ → ℕ
 array_width n count = if is_short n && nat_le count 255 then n + 3 else n + 9
 
--- the length of the whole form outside arrays, of the payload inside
-abbrev pub place_width : Bool → ℕ → ℕ → ℕ
-place_width false whole payload = whole
-place_width true whole payload = payload
+-- a text or a binary of these bytes, a list, a map and an array of this count and body: by itself, or as the
+-- payload of an array's element
+abbrev pub text_at : Bool → ℕ → ℕ → List ℕ → List ℕ
+text_at false c8 c32 bs = sized c8 c32 bs
+text_at true c8 c32 bs = to_be_bytes w32 (length bs) ++ bs
+
+abbrev pub list_at : Bool → ℕ → List ℕ → List ℕ
+list_at false count body = list_form count body
+list_at true count body = wide count body
+
+abbrev pub map_at : Bool → ℕ → List ℕ → List ℕ
+map_at false count body = map_form count body
+map_at true count body = wide count body
+
+abbrev pub array_at : Bool → ℕ → List ℕ → List ℕ
+array_at false count content = array_form count content
+array_at true count content = wide count content

@@ -8,6 +8,8 @@ mod form;
 mod open_compound;
 mod place;
 mod serializer;
+#[cfg(test)]
+mod tests;
 pub mod width;
 
 pub use form::Form;

@@ -2,9 +2,9 @@
 //!
 //! The public calls answer for lengths and counts of any size, and refuse past the limits.
 
-ghost use Rattle.std.specs.Prelude.{◌≡◌, ◌≤◌, ◌<◌, ◌+◌, ◌⊎◌, ◌&&◌, true, false, MatchResult, IfErr};
+ghost use Rattle.std.specs.Prelude.{◌≡◌, ◌≤◌, ◌&&◌, ℕ, List, length, true, false, MatchResult, IfOk};
 ghost use Rattle.amqp_ser.specs.Limits.{fits, is_count};
-ghost use Rattle.amqp_size.specs.Width.{uint_width, text_width, map_width, list_width, array_width, place_width};
+ghost use Rattle.amqp_size.specs.Width.{uint_width, text_width, map_width, list_width, array_width, text_at, list_at, map_at, array_at};
 
 use amqp_data::Error;
 
@@ -63,94 +63,99 @@ pub(crate) fn array_width(n: usize, count: usize) -> usize
     }
 }
 
-/// The length of a text, a symbol or a binary of n bytes: the whole form, or the payload in an array.
+/// The length of a text, a symbol or a binary of this many bytes: the whole form, or the payload in an array.
 ///
 /// # Errors
-/// `TooLong` exactly where n is past 4,294,967,291.
+/// `TooLong` exactly where that is past 4,294,967,291.
 ///
 /// # Memory
 /// Takes none.
 ///
 /// # Example
 /// 254 bytes have the length 256, 255 bytes 260; in an array none have 4.
-pub fn text_len(n: usize, in_array: bool) -> Result<usize, Error>
-    ensures length { MatchResult result
-        (λ len. (fits n ≡ true) × (len ≡ place_width in_array (text_width n) (n + 4)))
-        (λ e. (fits n ≡ false) × (e ≡ Error.TooLong)) }
+pub fn text_len(text: usize, in_array: bool) -> Result<usize, Error>
+    ensures limit { MatchResult result (λ _. fits text ≡ true) (λ e. (fits text ≡ false) × (e ≡ Error.TooLong)) }
+    ensures length { IfOk result (λ len. (c8 c32 : ℕ) (bs : List ℕ) → length bs ≡ text → length (text_at in_array c8 c32 bs) ≡ len) }
 {
-    if n > LONGEST {
+    if text > LONGEST {
         return Err(Error::TooLong);
     }
-    Ok(if in_array { n + 4 } else { text_width(n) })
+    if in_array {
+        return Ok(text + 4);
+    }
+    Ok(text_width(text))
 }
 
-/// The length of a list whose elements have n bytes together: the whole form, or the payload in an array.
+/// The length of a list whose elements have this many bytes together: the whole form, or the payload in an array.
 ///
 /// # Errors
-/// `TooLong` exactly where n is past 4,294,967,291.
+/// `TooLong` exactly where that is past 4,294,967,291.
 ///
 /// # Memory
 /// Takes none.
 ///
 /// # Example
 /// No bytes have the length 1, 254 bytes 257, 255 bytes 264; in an array no bytes have 8.
-pub fn list_len(n: usize, in_array: bool) -> Result<usize, Error>
-    ensures length { MatchResult result
-        (λ len. (fits n ≡ true) × (len ≡ place_width in_array (list_width n) (n + 8)))
-        (λ e. (fits n ≡ false) × (e ≡ Error.TooLong)) }
+pub fn list_len(elements: usize, in_array: bool) -> Result<usize, Error>
+    ensures limit { MatchResult result (λ _. fits elements ≡ true) (λ e. (fits elements ≡ false) × (e ≡ Error.TooLong)) }
+    ensures length { IfOk result (λ len. (m : ℕ) (body : List ℕ) → length body ≡ elements → length (list_at in_array m body) ≡ len) }
 {
-    if n > LONGEST {
+    if elements > LONGEST {
         return Err(Error::TooLong);
     }
-    Ok(if in_array { n + 8 } else { list_width(n) })
+    if in_array {
+        return Ok(elements + 8);
+    }
+    Ok(list_width(elements))
 }
 
-/// The length of a map whose keys and values have n bytes together: the whole form, or the payload in an array.
+/// The length of a map whose keys and values have this many bytes together: the whole form, or the payload in an array.
 ///
 /// # Errors
-/// `TooLong` exactly where n is past 4,294,967,291.
+/// `TooLong` exactly where that is past 4,294,967,291.
 ///
 /// # Memory
 /// Takes none.
 ///
 /// # Example
 /// No bytes have the length 3, 254 bytes 257, 255 bytes 264; in an array no bytes have 8.
-pub fn map_len(n: usize, in_array: bool) -> Result<usize, Error>
-    ensures length { MatchResult result
-        (λ len. (fits n ≡ true) × (len ≡ place_width in_array (map_width n) (n + 8)))
-        (λ e. (fits n ≡ false) × (e ≡ Error.TooLong)) }
+pub fn map_len(entries: usize, in_array: bool) -> Result<usize, Error>
+    ensures limit { MatchResult result (λ _. fits entries ≡ true) (λ e. (fits entries ≡ false) × (e ≡ Error.TooLong)) }
+    ensures length { IfOk result (λ len. (m : ℕ) (body : List ℕ) → length body ≡ entries → length (map_at in_array m body) ≡ len) }
 {
-    if n > LONGEST {
+    if entries > LONGEST {
         return Err(Error::TooLong);
     }
-    Ok(if in_array { n + 8 } else { map_width(n) })
+    if in_array {
+        return Ok(entries + 8);
+    }
+    Ok(map_width(entries))
 }
 
-/// The length of an array whose content, the constructor among it, has n bytes: the whole form, or the payload in an
+/// The length of an array whose content, the constructor among it, has this many bytes: the whole form, or the payload in an
 /// array.
 ///
 /// # Errors
-/// `TooLong` exactly where n is past 4,294,967,291 or the count past 4,294,967,295.
+/// `TooLong` exactly where that is past 4,294,967,291 or the count past 4,294,967,295.
 ///
 /// # Memory
 /// Takes none.
 ///
 /// # Example
 /// One byte and 255 elements have the length 4, one byte and 256 elements 10; in an array no element has 8.
-pub fn array_len(n: usize, count: usize, in_array: bool) -> Result<usize, Error>
-    ensures length { MatchResult result
-        (λ len. ((fits n && is_count count) ≡ true) × (len ≡ place_width in_array (array_width n count) (n + 8)))
-        (λ e. ((fits n && is_count count) ≡ false) × (e ≡ Error.TooLong)) }
+pub fn array_len(content: usize, count: usize, in_array: bool) -> Result<usize, Error>
+    ensures limit { MatchResult result (λ _. (fits content && is_count count) ≡ true) (λ e. ((fits content && is_count count) ≡ false) × (e ≡ Error.TooLong)) }
+    ensures length { IfOk result (λ len. (body : List ℕ) → length body ≡ content → length (array_at in_array count body) ≡ len) }
 {
-    if n > LONGEST {
+    if content > LONGEST {
         return Err(Error::TooLong);
     }
     if count > MOST {
         return Err(Error::TooLong);
     }
     Ok(if in_array {
-        n + 8
+        content + 8
     } else {
-        array_width(n, count)
+        array_width(content, count)
     })
 }

@@ -1,6 +1,7 @@
-//! Types that hold others: references and vectors.
+//! Types that hold others: references, boxes, options, vectors and arrays.
 
 ghost use Rattle.std.specs.Prelude.{map};
+ghost use Rattle.amqp_ser.specs.Carried.{optional};
 ghost use Rattle.amqp_ser.specs.Compounds.{whole};
 ghost use Rattle.amqp_ser.specs.declared.kind.Kind.TheVariants.{List};
 
@@ -15,14 +16,51 @@ impl<T: Serialize> Serialize for &T {
     }
 }
 
+impl<T: Serialize> Serialize for Box<T> {
+    ghost tree = { λ b. T.tree b.value };
+
+    fn serialize<S: Serializer>(&self, serializer: &mut S) -> Result<S::Ok, S::Error> {
+        (**self).serialize(serializer)
+    }
+}
+
+impl<T: Serialize> Serialize for Option<T> {
+    ghost tree = { optional T.tree };
+
+    fn serialize<S: Serializer>(&self, serializer: &mut S) -> Result<S::Ok, S::Error> {
+        match self {
+            Some(value) => serializer.serialize_some(value),
+            None => serializer.serialize_none(),
+        }
+    }
+}
+
 impl<T: Serialize> Serialize for Vec<T> {
     ghost tree = { λ v. whole List (map T.tree v.items) };
 
     fn serialize<S: Serializer>(&self, serializer: &mut S) -> Result<S::Ok, S::Error> {
-        let mut seq = serializer.serialize_seq(Some(self.len()))?;
-        for item in self {
-            seq.serialize_element(item)?;
-        }
-        seq.end()
+        serialize_items(self.as_slice(), serializer)
     }
+}
+
+impl<T: Serialize, const N: usize> Serialize for [T; N] {
+    ghost tree = { λ a. whole List (map T.tree a) };
+
+    fn serialize<S: Serializer>(&self, serializer: &mut S) -> Result<S::Ok, S::Error> {
+        serialize_items(self.as_slice(), serializer)
+    }
+}
+
+// Answers on the list of the items.
+fn serialize_items<T: Serialize, S: Serializer>(
+    items: &[T],
+    serializer: &mut S,
+) -> Result<S::Ok, S::Error>
+    ensures { S.permits serializer.old (whole List (map T.tree items.now)) result serializer.new }
+{
+    let mut seq = serializer.serialize_seq(Some(items.len()))?;
+    for item in items {
+        seq.serialize_element(item)?;
+    }
+    seq.end()
 }

@@ -1,11 +1,11 @@
 use Rattle.std.proofs.Common.{◌≡◌, map, take}
 use Rattle.amqp_ser.specs.declared.kind.Kind.TheVariants.{List}
-use Rattle.amqp_ser.proofs.impls.holders.VecSerialize.serialize.Given as goal
+use Rattle.amqp_ser.proofs.impls.holders.serialize_items.Given as goal
 
 -- the list was fed the trees of the items before this one
 abbrev pub invariant-loop-item : goal.invariant-loop-item
 invariant-loop-item g l =
     record {
       same : l.seq.serializer.ghost_name ≡ l.initial.seq.serializer.ghost_name;
-      fed : g.S.Serializer.has l.fn.serializer List l.seq.serializer.now l.seq.held (map g.T.Serialize.tree (take l.item-index l.item-items));
+      fed : g.S.Serializer.has l.fn.serializer List l.seq.serializer.now l.seq.held (map g.T.Serialize.tree (take l.item-index l.items));
     }

@@ -1,0 +1,100 @@
+-- Looking up a key and inserting it, by its place in the list.
+use Rattle.std.proofs.Common.{◌≡◌, ℕ, zero, suc, ◌+◌, ◌<◌, ◌≤◌, Bool, true, false, cond, nat_lt, List, [], ◌∷◌, ◌++◌, length, get_or, slice_set, position, Option, Some, None, refl, sym, ap, ◌∙◌, arith}
+use Rattle.std.proofs.lemmas.List.Quantifiers.{position-Some}
+use Rattle.std.proofs.lemmas.Bool.Decides.{nat_tests}
+use Rattle.std.specs.List.{position_or_len}
+use Rattle.std.specs.Map.{keys_of, lookup}
+use Rattle.amqp_data.specs.Pairs.{insert_pair, LacksKey, AreDistinct}
+
+-- the test fails at each element
+abbrev AllFail : {X : Type 0} → (X → Bool) → List X → Type 0
+AllFail p [] = Unit {0}
+AllFail p (x ∷ xs) = (p x ≡ false) × AllFail p xs
+
+module _ {X : Type 0} (p : X → Bool) where
+  head_fails : (b : Bool) (x : X) (xs : List X) → p x ≡ b → length (x ∷ xs) ≤ position_or_len p (x ∷ xs)
+      → (p x ≡ false) × (length xs ≤ position_or_len p xs)
+  head_fails true x xs is past = absurd (omega (arith, rw is at past))
+  head_fails false x xs is past = (is, omega (arith, rw is at past))
+
+  all_fail : (xs : List X) → length xs ≤ position_or_len p xs → AllFail p xs
+  all_fail [] past = tt
+  all_fail (x ∷ xs) past = let s = head_fails (p x) x xs refl past in (s.0, all_fail xs s.1)
+
+  not_below : (b : Bool) (m n : ℕ) → nat_lt m n ≡ b → cond b (Some m) None ≡ None → n ≤ m
+  not_below true m n is none = absurd (cc)
+  not_below false m n is none = grind (arith, nat_tests)
+
+  -- where no place is found, the test fails everywhere
+  fail_by_position : (xs : List X) → position p xs ≡ None → AllFail p xs
+  fail_by_position xs none = all_fail xs (not_below (nat_lt (position_or_len p xs) (length xs)) _ _ refl none)
+
+module _ {K V : Type 0} (eq : K → K → Bool) (k : K) where
+  -- the pair at place i is the first whose key equals k
+  abbrev IsFirst : List (K × V) → ℕ → (K × V) → Type 0
+  IsFirst es i d = (i < length es) × (eq k (get_or es i d).0 ≡ true) × ((j : ℕ) → j < i → eq k (get_or es j d).0 ≡ false)
+
+  -- the same one element further on
+  tail_first : (e : K × V) (es : List (K × V)) (i : ℕ) (d : K × V) → IsFirst (e ∷ es) (suc i) d → IsFirst es i d
+  tail_first e es i d first = (omega arith, first.1, λ j below. first.2 (suc j) (omega arith))
+
+  lookup_absent : (es : List (K × V)) → AllFail (λ e. eq k e.0) es → lookup (eq k) es ≡ None
+  lookup_absent [] fails = refl
+  lookup_absent (e ∷ es) fails = rw fails.0 (lookup_absent es fails.1)
+
+  insert_absent : (es : List (K × V)) (v : V) → AllFail (λ e. eq k e.0) es → insert_pair eq es k v ≡ es ++ (k, v) ∷ []
+  insert_absent [] v fails = refl
+  insert_absent (e ∷ es) v fails = rw fails.0 (ap (λ r. e ∷ r) (insert_absent es v fails.1))
+
+  lookup_first : (es : List (K × V)) (i : ℕ) (d : K × V) → IsFirst es i d → lookup (eq k) es ≡ Some (get_or es i d).1
+  lookup_first [] i d first = absurd (omega (arith, first.0))
+  lookup_first (e ∷ es) zero d first = rw first.1
+  lookup_first (e ∷ es) (suc i) d first = rw (first.2 0 (omega arith)) (lookup_first es i d (tail_first e es i d first))
+
+  insert_first : (es : List (K × V)) (v : V) (i : ℕ) (d : K × V) → IsFirst es i d
+      → slice_set es i ((get_or es i d).0, v) ≡ insert_pair eq es k v
+  insert_first [] v i d first = absurd (omega (arith, first.0))
+  insert_first (e ∷ es) v zero d first = rw first.1
+  insert_first (e ∷ es) v (suc i) d first =
+      rw (first.2 0 (omega arith)) (ap (λ r. e ∷ r) (insert_first es v i d (tail_first e es i d first)))
+
+  -- a key without a place has no value
+  pub lookup_none : (es : List (K × V)) → None ≡ position (λ e. eq k e.0) es → None ≡ lookup (eq k) es
+  lookup_none es none = sym (lookup_absent es (fail_by_position (λ e. eq k e.0) es (sym none)))
+
+  -- and its pair goes last
+  pub insert_new : (es : List (K × V)) (v : V) → None ≡ position (λ e. eq k e.0) es → es ++ (k, v) ∷ [] ≡ insert_pair eq es k v
+  insert_new es v none = sym (insert_absent es v (fail_by_position (λ e. eq k e.0) es (sym none)))
+
+  -- the pair at a key's place has its value
+  pub lookup_found : (es : List (K × V)) (i : ℕ) (e : K × V) → Some i ≡ position (λ x. eq k x.0) es → e ≡ get_or es i e
+      → Some e.1 ≡ lookup (eq k) es
+  lookup_found es i e found is =
+      ap (λ x. Some x.1) is ∙ sym (lookup_first es i e (position-Some (λ x. eq k x.0) es i e (sym found)))
+
+  -- and takes the new one
+  pub insert_found : (es : List (K × V)) (v : V) (i : ℕ) (e : K × V) → Some i ≡ position (λ x. eq k x.0) es → e ≡ get_or es i e
+      → slice_set es i (e.0, v) ≡ insert_pair eq es k v
+  insert_found es v i e found is =
+      ap (λ x. slice_set es i (x.0, v)) is ∙ insert_first es v i e (position-Some (λ x. eq k x.0) es i e (sym found))
+
+module _ {K V : Type 0} (eq : K → K → Bool) (symmetric : (x y : K) → eq x y ≡ eq y x) (k : K) (v : V) where
+  lacks_step : (x : K) (b : Bool) (e : K × V) (es : List (K × V)) → eq k e.0 ≡ b → LacksKey eq x (keys_of (e ∷ es))
+      → LacksKey eq x (keys_of (insert_pair eq es k v)) → LacksKey eq x (keys_of (insert_pair eq (e ∷ es) k v))
+  lacks_step x true e es is lacks rest = rw is lacks
+  lacks_step x false e es is lacks rest = rw is (lacks.0, rest)
+
+  -- a list without x has none after another key was inserted
+  lacks_after : (x : K) (es : List (K × V)) → eq k x ≡ false → LacksKey eq x (keys_of es) → LacksKey eq x (keys_of (insert_pair eq es k v))
+  lacks_after x [] other lacks = (symmetric x k ∙ other, tt)
+  lacks_after x (e ∷ es) other lacks = lacks_step x (eq k e.0) e es refl lacks (lacks_after x es other lacks.1)
+
+  distinct_step : (b : Bool) (e : K × V) (es : List (K × V)) → eq k e.0 ≡ b → AreDistinct eq (keys_of (e ∷ es))
+      → AreDistinct eq (keys_of (insert_pair eq es k v)) → AreDistinct eq (keys_of (insert_pair eq (e ∷ es) k v))
+  distinct_step true e es is distinct rest = rw is distinct
+  distinct_step false e es is distinct rest = rw is (lacks_after e.0 es is distinct.0, rest)
+
+  -- inserting keeps distinct keys distinct
+  pub distinct_after : (es : List (K × V)) → AreDistinct eq (keys_of es) → AreDistinct eq (keys_of (insert_pair eq es k v))
+  distinct_after [] distinct = (tt, tt)
+  distinct_after (e ∷ es) distinct = distinct_step (eq k e.0) e es refl distinct (distinct_after es distinct.1)

@@ -1,0 +1,147 @@
+//! Decimal floating-point numbers, held and never computed with (AMQP 1.0 part 1, sections 1.6.13 to 1.6.15).
+
+ghost use Rattle.std.specs.Prelude.{◌≡◌};
+ghost use Rattle.amqp_data.specs.Fixed.{dec32_bytes, dec64_bytes, dec128_bytes, GivesFixed};
+
+use crate::Error;
+
+/// A decimal32, as the 4 bytes of its IEEE 754 form.
+///
+/// # Encoding
+/// `74` and the bytes.
+///
+/// # Example
+/// The bytes 01, 02, 03, 04 are written `7401020304`.
+#[derive(Debug, PartialEq, Eq, PartialOrd, Ord, Hash, Clone, Copy)]
+pub struct Dec32([u8; 4]);
+
+impl Dec32 {
+    /// The 4 bytes.
+    pub fn as_inner(&self) -> &[u8; 4]
+        ensures { result.now ≡ dec32_bytes self.now }
+    {
+        &self.0
+    }
+
+    /// The 4 bytes.
+    pub fn into_inner(self) -> [u8; 4]
+        ensures { result ≡ dec32_bytes self }
+    {
+        self.0
+    }
+}
+
+impl From<[u8; 4]> for Dec32 {
+    ghost from_gives = { λ bytes decimal. dec32_bytes decimal ≡ bytes };
+
+    fn from(bytes: [u8; 4]) -> Dec32 {
+        Dec32(bytes)
+    }
+}
+
+/// # Errors
+/// `InvalidValue` where there are not 4 bytes.
+impl TryFrom<&[u8]> for Dec32 {
+    type Error = Error;
+
+    ghost try_from_gives = { λ bytes result. GivesFixed 4 dec32_bytes bytes.now result };
+
+    fn try_from(bytes: &[u8]) -> Result<Dec32, Error> {
+        match <[u8; 4]>::try_from(bytes) {
+            Ok(bytes) => Ok(Dec32(bytes)),
+            Err(_) => Err(Error::InvalidValue),
+        }
+    }
+}
+
+/// A decimal64, as the 8 bytes of its IEEE 754 form.
+///
+/// # Encoding
+/// `84` and the bytes.
+#[derive(Debug, PartialEq, Eq, PartialOrd, Ord, Hash, Clone, Copy)]
+pub struct Dec64([u8; 8]);
+
+impl Dec64 {
+    /// The 8 bytes.
+    pub fn as_inner(&self) -> &[u8; 8]
+        ensures { result.now ≡ dec64_bytes self.now }
+    {
+        &self.0
+    }
+
+    /// The 8 bytes.
+    pub fn into_inner(self) -> [u8; 8]
+        ensures { result ≡ dec64_bytes self }
+    {
+        self.0
+    }
+}
+
+impl From<[u8; 8]> for Dec64 {
+    ghost from_gives = { λ bytes decimal. dec64_bytes decimal ≡ bytes };
+
+    fn from(bytes: [u8; 8]) -> Dec64 {
+        Dec64(bytes)
+    }
+}
+
+/// # Errors
+/// `InvalidValue` where there are not 8 bytes.
+impl TryFrom<&[u8]> for Dec64 {
+    type Error = Error;
+
+    ghost try_from_gives = { λ bytes result. GivesFixed 8 dec64_bytes bytes.now result };
+
+    fn try_from(bytes: &[u8]) -> Result<Dec64, Error> {
+        match <[u8; 8]>::try_from(bytes) {
+            Ok(bytes) => Ok(Dec64(bytes)),
+            Err(_) => Err(Error::InvalidValue),
+        }
+    }
+}
+
+/// A decimal128, as the 16 bytes of its IEEE 754 form.
+///
+/// # Encoding
+/// `94` and the bytes.
+#[derive(Debug, PartialEq, Eq, PartialOrd, Ord, Hash, Clone, Copy)]
+pub struct Dec128([u8; 16]);
+
+impl Dec128 {
+    /// The 16 bytes.
+    pub fn as_inner(&self) -> &[u8; 16]
+        ensures { result.now ≡ dec128_bytes self.now }
+    {
+        &self.0
+    }
+
+    /// The 16 bytes.
+    pub fn into_inner(self) -> [u8; 16]
+        ensures { result ≡ dec128_bytes self }
+    {
+        self.0
+    }
+}
+
+impl From<[u8; 16]> for Dec128 {
+    ghost from_gives = { λ bytes decimal. dec128_bytes decimal ≡ bytes };
+
+    fn from(bytes: [u8; 16]) -> Dec128 {
+        Dec128(bytes)
+    }
+}
+
+/// # Errors
+/// `InvalidValue` where there are not 16 bytes.
+impl TryFrom<&[u8]> for Dec128 {
+    type Error = Error;
+
+    ghost try_from_gives = { λ bytes result. GivesFixed 16 dec128_bytes bytes.now result };
+
+    fn try_from(bytes: &[u8]) -> Result<Dec128, Error> {
+        match <[u8; 16]>::try_from(bytes) {
+            Ok(bytes) => Ok(Dec128(bytes)),
+            Err(_) => Err(Error::InvalidValue),
+        }
+    }
+}

@@ -1,0 +1,34 @@
+//! Descriptors (AMQP 1.0 part 1, section 1.5).
+
+ghost use Rattle.std.specs.Prelude.{◌≡◌};
+ghost use Rattle.amqp_data.specs.declared.descriptor.Descriptor.TheVariants.{Name, Code};
+
+use crate::Symbol;
+
+/// What a described value is: a name or a code. Each name is before all codes.
+///
+/// # Encoding
+/// A symbol or a ulong, between the `00` and the value.
+#[derive(Debug, PartialEq, Eq, PartialOrd, Ord, Hash, Drop)]
+pub enum Descriptor {
+    /// A symbolic descriptor.
+    Name(Symbol),
+    /// A numeric descriptor.
+    Code(u64),
+}
+
+impl From<Symbol> for Descriptor {
+    ghost from_gives = { λ name descriptor. descriptor ≡ Name name };
+
+    fn from(name: Symbol) -> Descriptor {
+        Descriptor::Name(name)
+    }
+}
+
+impl From<u64> for Descriptor {
+    ghost from_gives = { λ code descriptor. descriptor ≡ Code code };
+
+    fn from(code: u64) -> Descriptor {
+        Descriptor::Code(code)
+    }
+}

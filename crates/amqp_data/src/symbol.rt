@@ -1,0 +1,86 @@
+//! Symbols: names that the sender and the receiver agree on (AMQP 1.0 part 1, section 1.6.21).
+
+ghost use Rattle.std.specs.Prelude.{◌≡◌, IfOk, IfErr, string_bytes};
+ghost use Rattle.amqp_data.specs.Text.{symbol_text, symbol_ref_text};
+
+use crate::Error;
+use std::alloc::Global;
+
+/// A symbol with its own text.
+///
+/// # Encoding
+/// `a3` with a length of one byte, `b3` with a length of four. Any text is taken, though AMQP has symbols of ASCII alone.
+///
+/// # Example
+/// `amqp` is written `a304616d7170`.
+#[derive(Debug, PartialEq, Eq, PartialOrd, Ord, Hash, Drop)]
+pub struct Symbol(String);
+
+impl Symbol {
+    /// A symbol with a copy of the text.
+    ///
+    /// # Errors
+    /// `OutOfMemory` where the copy finds no room.
+    ///
+    /// # Memory
+    /// Takes `alloc`.
+    pub fn try_from_str(alloc: Global, text: &str) -> Result<Symbol, Error>
+        ensures ok { IfOk result (λ symbol. symbol_text symbol ≡ text.now) }
+        ensures memory { IfErr result (λ e. e ≡ Error.OutOfMemory) }
+    {
+        Ok(Symbol(String::from_str(alloc, text)?))
+    }
+
+    /// The text.
+    pub fn as_inner(&self) -> &String
+        ensures { string_bytes result.now ≡ symbol_text self.now }
+    {
+        &self.0
+    }
+
+    /// Gives the text up.
+    pub fn into_inner(self) -> String
+        ensures { string_bytes result ≡ symbol_text self }
+    {
+        self.0
+    }
+}
+
+impl From<String> for Symbol {
+    ghost from_gives = { λ text symbol. symbol_text symbol ≡ string_bytes text };
+
+    fn from(text: String) -> Symbol {
+        Symbol(text)
+    }
+}
+
+/// A symbol over a text that stands elsewhere.
+///
+/// # Encoding
+/// As a `Symbol` of the same text.
+#[derive(Debug, PartialEq, Eq, PartialOrd, Ord, Hash, Clone, Copy)]
+pub struct SymbolRef<'a>(&'a str);
+
+impl<'a> SymbolRef<'a> {
+    /// The text.
+    pub fn as_inner(&self) -> &'a str
+        ensures { result.now ≡ symbol_ref_text self.now }
+    {
+        self.0
+    }
+
+    /// Gives the text up.
+    pub fn into_inner(self) -> &'a str
+        ensures { result.now ≡ symbol_ref_text self.entry }
+    {
+        self.0
+    }
+}
+
+impl<'a> From<&'a str> for SymbolRef<'a> {
+    ghost from_gives = { λ text symbol. symbol_ref_text symbol ≡ text.now };
+
+    fn from(text: &'a str) -> SymbolRef<'a> {
+        SymbolRef(text)
+    }
+}

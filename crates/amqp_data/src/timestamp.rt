@@ -1,0 +1,52 @@
+//! Moments (AMQP 1.0 part 1, section 1.6.17).
+
+ghost use Rattle.std.specs.Prelude.{◌≡◌};
+ghost use Rattle.amqp_data.specs.Fixed.{milliseconds_of};
+
+/// A moment, as milliseconds since the Unix epoch, 1 January 1970 at 00:00 UTC.
+///
+/// # Encoding
+/// `83` and eight bytes, two's complement.
+///
+/// # Example
+/// 13 milliseconds are written `83000000000000000d`.
+#[derive(Debug, PartialEq, Eq, PartialOrd, Ord, Hash, Clone, Copy)]
+pub struct Timestamp(i64);
+
+impl Timestamp {
+    /// The moment so many milliseconds after the epoch, or before it where they are negative.
+    pub fn from_milliseconds(milliseconds: i64) -> Timestamp
+        ensures { milliseconds_of result ≡ milliseconds }
+    {
+        Timestamp(milliseconds)
+    }
+
+    /// The milliseconds since the epoch.
+    pub fn milliseconds(&self) -> i64
+        ensures { result ≡ milliseconds_of self.now }
+    {
+        self.0
+    }
+
+    /// The milliseconds since the epoch.
+    pub fn as_inner(&self) -> &i64
+        ensures { result.now ≡ milliseconds_of self.now }
+    {
+        &self.0
+    }
+
+    /// The milliseconds since the epoch.
+    pub fn into_inner(self) -> i64
+        ensures { result ≡ milliseconds_of self }
+    {
+        self.0
+    }
+}
+
+impl From<i64> for Timestamp {
+    ghost from_gives = { λ milliseconds timestamp. milliseconds_of timestamp ≡ milliseconds };
+
+    fn from(milliseconds: i64) -> Timestamp {
+        Timestamp(milliseconds)
+    }
+}

@@ -1,0 +1,151 @@
+//! Values one after another, with no header.
+
+ghost use Rattle.std.specs.Prelude.{◌≡◌, IfOk, IfErr};
+ghost use Rattle.std.specs.Borrow.{sem};
+ghost use Rattle.std.specs.Iterator.{IsFinite};
+ghost use Rattle.std.specs.Iterator.Runs.{WholeRun};
+ghost use Rattle.amqp_data.specs.Items.{transparent_items};
+ghost use Rattle.amqp_data.specs.Iterates.{Hands, Shows, Lets};
+ghost use Rattle.amqp_data.specs.Lends.{lends_vec, lends_items};
+
+use crate::Error;
+use std::alloc::Global;
+use std::{slice, vec};
+
+/// Elements that are written one after another, with no header of their own.
+///
+/// A message of several sections is one. It is written at the root, or directly inside another at the root, and nowhere else.
+///
+/// # Encoding
+/// Each element in its own form.
+///
+/// # Example
+/// `true`, `false` and `true` are written `414241`.
+#[derive(Debug, PartialEq, Eq, PartialOrd, Ord, Hash, Drop)]
+pub struct TransparentVec<T>(Vec<T>);
+
+impl<T> TransparentVec<T> {
+    /// A transparent vector of these elements.
+    ///
+    /// # Memory
+    /// Takes none.
+    pub fn new(items: Vec<T>) -> TransparentVec<T>
+        ensures { transparent_items result ≡ items.items }
+    {
+        TransparentVec(items)
+    }
+
+    /// Gives the elements up.
+    pub fn into_inner(self) -> Vec<T>
+        ensures { result.items ≡ transparent_items self }
+    {
+        self.0
+    }
+
+    /// The elements.
+    pub fn as_slice(&self) -> &[T]
+        ensures { result.now ≡ transparent_items self.now }
+    {
+        self.0.as_slice()
+    }
+
+    /// The elements, to add to, take from or change.
+    pub fn as_mut(&mut self) -> &mut Vec<T>
+        ensures* writes_back { sem 𝓛 (lends_vec T.row self.entry result) }
+        ensures items { result.now.items ≡ transparent_items self.old }
+    {
+        &mut self.0
+    }
+
+    /// The elements in order, as references.
+    pub fn iter(&self) -> slice::Iter<'_, T>
+        ensures { Shows (transparent_items self.now) result }
+    {
+        self.0.iter()
+    }
+
+    /// The elements in order, as references to write by.
+    pub fn iter_mut(&mut self) -> slice::IterMut<'_, T>
+        ensures* writes_back { sem 𝓛 (lends_items T.row self.entry result) }
+        ensures items { Lets (transparent_items self.old) result }
+    {
+        self.0.iter_mut()
+    }
+
+    /// A transparent vector of what an iterator gives, which ends.
+    ///
+    /// # Errors
+    /// `OutOfMemory` where the elements find no room. What was gathered is dropped then.
+    ///
+    /// # Memory
+    /// Takes `alloc`.
+    pub fn try_collect<I: Iterator<Item = T>>(
+        alloc: Global,
+        iter: I,
+    ) -> Result<TransparentVec<T>, Error>
+    where
+        T: Drop,
+        requires can { I.can_next iter }
+        requires ends { IsFinite (I.remaining iter) }
+        ensures items { IfOk result (λ v. WholeRun I.next_gives iter (λ p. transparent_items v ≡ p.items)) }
+        ensures memory { IfErr result (λ e. e ≡ Error.OutOfMemory) }
+    {
+        let items: Vec<T> = iter.collect(alloc)?;
+        Ok(TransparentVec(items))
+    }
+}
+
+impl<T> From<Vec<T>> for TransparentVec<T> {
+    ghost from_gives = { λ items vector. transparent_items vector ≡ items.items };
+
+    fn from(items: Vec<T>) -> TransparentVec<T> {
+        TransparentVec(items)
+    }
+}
+
+impl<T> From<TransparentVec<T>> for Vec<T> {
+    ghost from_gives = { λ vector items. items.items ≡ transparent_items vector };
+
+    fn from(vector: TransparentVec<T>) -> Vec<T> {
+        vector.0
+    }
+}
+
+impl<T: Drop> IntoIterator for TransparentVec<T> {
+    type Item = T;
+
+    type IntoIter = vec::IntoIter<T, Global>;
+
+    ghost into_iter_gives = { λ vector iter. Hands (transparent_items vector) iter };
+
+    fn into_iter(self) -> vec::IntoIter<T, Global> {
+        self.0.into_iter()
+    }
+}
+
+impl<'a, T> IntoIterator for &'a TransparentVec<T> {
+    type Item = &'a T;
+
+    type IntoIter = slice::Iter<'a, T>;
+
+    ghost into_iter_gives = { λ vector iter. Shows (transparent_items vector.now) iter };
+
+    fn into_iter(self) -> slice::Iter<'a, T> {
+        self.iter()
+    }
+}
+
+impl<'a, T> IntoIterator for &'a mut TransparentVec<T> {
+    type Item = &'a mut T;
+
+    type IntoIter = slice::IterMut<'a, T>;
+
+    ghost into_iter_gives = { λ vector iter. Lets (transparent_items vector.now) iter };
+
+    fn into_iter(self) -> slice::IterMut<'a, T>
+        ensures* writes_back { sem 𝓛 (lends_items T.row self.entry result) }
+        ensures into_iter_gives { Lets (transparent_items self.old) result }
+    {
+        self.iter_mut()
+    }
+}

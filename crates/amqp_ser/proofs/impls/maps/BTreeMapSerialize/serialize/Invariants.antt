@@ -1,0 +1,13 @@
+use Rattle.std.proofs.Common.{◌≡◌, false}
+use Rattle.amqp_ser.proofs.Entries.{FedUpTo}
+use Rattle.amqp_ser.specs.declared.kind.Kind.TheVariants.{Map}
+use Rattle.amqp_ser.proofs.impls.maps.BTreeMapSerialize.serialize.Given as goal
+
+-- the map was fed the entries before those that are left
+abbrev pub invariant-loop-key : goal.invariant-loop-key
+invariant-loop-key g l =
+    record {
+      same : l.map.serializer.ghost_name ≡ l.initial.map.serializer.ghost_name;
+      no_key : l.map.pending ≡ false;
+      fed : FedUpTo (g.S.Serializer.has l.fn.serializer Map l.map.serializer.now l.map.held) g.K.Serialize.tree g.V.Serialize.tree l.key-iterator l.self.entries;
+    }

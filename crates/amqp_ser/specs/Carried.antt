@@ -1,0 +1,16 @@
+-- The trees of types that hold others (AMQP 1.0 part 1, sections 1.6.1 and 1.6.24).
+use Rattle.std.specs.Prelude.{List, Option, Some, None, map}
+use Rattle.amqp_ser.specs.Tree.{Tree, scalar, null}
+use Rattle.amqp_ser.specs.Compounds.{whole}
+use Rattle.amqp_ser.specs.Marked.{marked}
+use Rattle.amqp_ser.specs.declared.kind.Kind.TheVariants as kind
+use Rattle.amqp_ser.specs.declared.mark.Mark.TheVariants as mark
+
+-- no value is null; a value that is there has its own tree
+abbrev pub optional : {T : Type 0} → (T → Option Tree) → Option T → Option Tree
+optional f None = Some (scalar null)
+optional f (Some x) = f x
+
+-- the array of the items
+abbrev pub array_of : {T : Type 0} → (T → Option Tree) → List T → Option Tree
+array_of f items = marked mark.Array (whole kind.List (map f items))

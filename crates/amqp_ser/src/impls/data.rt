@@ -1,0 +1,110 @@
+//! The types of AMQP data. Where Rust's data model has no kind for one, a mark makes it of the kind that is nearest.
+
+ghost use Rattle.std.specs.Prelude.{Some};
+ghost use Rattle.amqp_ser.specs.Carried.{array_of};
+ghost use Rattle.amqp_ser.specs.Tree.{scalar, float, double, decimal32, decimal64, decimal128, timestamp, uuid, binary, symbol};
+ghost use Rattle.amqp_data.specs.Fixed.{dec32_bytes, dec64_bytes, dec128_bytes, f32_bits, f64_bits, milliseconds_of, uuid_bytes};
+ghost use Rattle.amqp_data.specs.Items.{array_items, byte_buf_bytes};
+ghost use Rattle.amqp_data.specs.Text.{symbol_ref_text, symbol_text};
+
+use crate::mark::Mark;
+use crate::serialize::Serialize;
+use crate::serializer::Serializer;
+use amqp_data::{
+    Array, ByteBuf, Dec32, Dec64, Dec128, F32Bits, F64Bits, Symbol, SymbolRef, Timestamp, Uuid,
+};
+
+impl Serialize for F32Bits {
+    ghost tree = { λ v. Some (scalar (float (f32_bits v))) };
+
+    fn serialize<S: Serializer>(&self, serializer: &mut S) -> Result<S::Ok, S::Error> {
+        serializer.serialize_f32(*self)
+    }
+}
+
+impl Serialize for F64Bits {
+    ghost tree = { λ v. Some (scalar (double (f64_bits v))) };
+
+    fn serialize<S: Serializer>(&self, serializer: &mut S) -> Result<S::Ok, S::Error> {
+        serializer.serialize_f64(*self)
+    }
+}
+
+impl Serialize for Dec32 {
+    ghost tree = { λ v. Some (scalar (decimal32 (dec32_bytes v))) };
+
+    fn serialize<S: Serializer>(&self, serializer: &mut S) -> Result<S::Ok, S::Error> {
+        serializer.mark(Mark::Decimal32);
+        serializer.serialize_bytes(self.as_inner())
+    }
+}
+
+impl Serialize for Dec64 {
+    ghost tree = { λ v. Some (scalar (decimal64 (dec64_bytes v))) };
+
+    fn serialize<S: Serializer>(&self, serializer: &mut S) -> Result<S::Ok, S::Error> {
+        serializer.mark(Mark::Decimal64);
+        serializer.serialize_bytes(self.as_inner())
+    }
+}
+
+impl Serialize for Dec128 {
+    ghost tree = { λ v. Some (scalar (decimal128 (dec128_bytes v))) };
+
+    fn serialize<S: Serializer>(&self, serializer: &mut S) -> Result<S::Ok, S::Error> {
+        serializer.mark(Mark::Decimal128);
+        serializer.serialize_bytes(self.as_inner())
+    }
+}
+
+impl Serialize for Timestamp {
+    ghost tree = { λ v. Some (scalar (timestamp (milliseconds_of v))) };
+
+    fn serialize<S: Serializer>(&self, serializer: &mut S) -> Result<S::Ok, S::Error> {
+        serializer.mark(Mark::Timestamp);
+        serializer.serialize_i64(self.milliseconds())
+    }
+}
+
+impl Serialize for Uuid {
+    ghost tree = { λ v. Some (scalar (uuid (uuid_bytes v))) };
+
+    fn serialize<S: Serializer>(&self, serializer: &mut S) -> Result<S::Ok, S::Error> {
+        serializer.mark(Mark::Uuid);
+        serializer.serialize_bytes(self.as_inner())
+    }
+}
+
+impl Serialize for ByteBuf {
+    ghost tree = { λ v. Some (scalar (binary (byte_buf_bytes v))) };
+
+    fn serialize<S: Serializer>(&self, serializer: &mut S) -> Result<S::Ok, S::Error> {
+        serializer.serialize_bytes(self.as_inner().as_slice())
+    }
+}
+
+impl Serialize for Symbol {
+    ghost tree = { λ v. Some (scalar (symbol (symbol_text v))) };
+
+    fn serialize<S: Serializer>(&self, serializer: &mut S) -> Result<S::Ok, S::Error> {
+        SymbolRef::from(self.as_inner().as_str()).serialize(serializer)
+    }
+}
+
+impl Serialize for SymbolRef<'_> {
+    ghost tree = { λ v. Some (scalar (symbol (symbol_ref_text v))) };
+
+    fn serialize<S: Serializer>(&self, serializer: &mut S) -> Result<S::Ok, S::Error> {
+        serializer.mark(Mark::Symbol);
+        serializer.serialize_str(self.as_inner())
+    }
+}
+
+impl<T: Serialize> Serialize for Array<T> {
+    ghost tree = { λ v. array_of T.tree (array_items v) };
+
+    fn serialize<S: Serializer>(&self, serializer: &mut S) -> Result<S::Ok, S::Error> {
+        serializer.mark(Mark::Array);
+        self.as_inner().serialize(serializer)
+    }
+}

@@ -1,0 +1,95 @@
+//! Null, truth values, numbers and characters.
+
+ghost use Rattle.std.specs.Prelude.{Some};
+ghost use Rattle.amqp_ser.specs.Tree.{scalar, null, bool, ubyte, ushort, uint, ulong, byte, short, int, long, char};
+
+use crate::serialize::Serialize;
+use crate::serializer::Serializer;
+
+impl Serialize for () {
+    ghost tree = { λ _. Some (scalar null) };
+
+    fn serialize<S: Serializer>(&self, serializer: &mut S) -> Result<S::Ok, S::Error> {
+        serializer.serialize_unit()
+    }
+}
+
+impl Serialize for bool {
+    ghost tree = { λ v. Some (scalar (bool v)) };
+
+    fn serialize<S: Serializer>(&self, serializer: &mut S) -> Result<S::Ok, S::Error> {
+        serializer.serialize_bool(*self)
+    }
+}
+
+impl Serialize for i8 {
+    ghost tree = { λ v. Some (scalar (byte v)) };
+
+    fn serialize<S: Serializer>(&self, serializer: &mut S) -> Result<S::Ok, S::Error> {
+        serializer.serialize_i8(*self)
+    }
+}
+
+impl Serialize for i16 {
+    ghost tree = { λ v. Some (scalar (short v)) };
+
+    fn serialize<S: Serializer>(&self, serializer: &mut S) -> Result<S::Ok, S::Error> {
+        serializer.serialize_i16(*self)
+    }
+}
+
+impl Serialize for i32 {
+    ghost tree = { λ v. Some (scalar (int v)) };
+
+    fn serialize<S: Serializer>(&self, serializer: &mut S) -> Result<S::Ok, S::Error> {
+        serializer.serialize_i32(*self)
+    }
+}
+
+impl Serialize for i64 {
+    ghost tree = { λ v. Some (scalar (long v)) };
+
+    fn serialize<S: Serializer>(&self, serializer: &mut S) -> Result<S::Ok, S::Error> {
+        serializer.serialize_i64(*self)
+    }
+}
+
+impl Serialize for u8 {
+    ghost tree = { λ v. Some (scalar (ubyte v)) };
+
+    fn serialize<S: Serializer>(&self, serializer: &mut S) -> Result<S::Ok, S::Error> {
+        serializer.serialize_u8(*self)
+    }
+}
+
+impl Serialize for u16 {
+    ghost tree = { λ v. Some (scalar (ushort v)) };
+
+    fn serialize<S: Serializer>(&self, serializer: &mut S) -> Result<S::Ok, S::Error> {
+        serializer.serialize_u16(*self)
+    }
+}
+
+impl Serialize for u32 {
+    ghost tree = { λ v. Some (scalar (uint v)) };
+
+    fn serialize<S: Serializer>(&self, serializer: &mut S) -> Result<S::Ok, S::Error> {
+        serializer.serialize_u32(*self)
+    }
+}
+
+impl Serialize for u64 {
+    ghost tree = { λ v. Some (scalar (ulong v)) };
+
+    fn serialize<S: Serializer>(&self, serializer: &mut S) -> Result<S::Ok, S::Error> {
+        serializer.serialize_u64(*self)
+    }
+}
+
+impl Serialize for char {
+    ghost tree = { λ v. Some (scalar (char v)) };
+
+    fn serialize<S: Serializer>(&self, serializer: &mut S) -> Result<S::Ok, S::Error> {
+        serializer.serialize_char(*self)
+    }
+}
