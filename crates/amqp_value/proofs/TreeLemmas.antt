@@ -1,0 +1,93 @@
+-- The trees of the values that hold others, and of the parts that they are made of.
+use Rattle.std.proofs.Common.{◌≡◌, Bool, true, false, true≢false, if◌then◌else◌, List, [], ◌∷◌, ◌++◌, Some, Vec, Global, map, refl, sym, ap, ◌∙◌, rules}
+use Rattle.amqp_data.specs.Items.{array_items}
+use Rattle.amqp_data.specs.Pairs.{entries_of, insert_pair}
+use Rattle.amqp_data.specs.declared.array.Array as array
+use Rattle.amqp_data.specs.declared.ordered_map.OrderedMap as ordered_map
+use Rattle.amqp_ser.specs.Tree as tree
+use Rattle.amqp_ser.specs.Tree.{Tree, Trees, Pairs, trees_of, more, pair}
+use Rattle.amqp_ser.specs.Compounds.{all_trees, before, before_pairs, in_pairs, as_map, as_kind, whole, parts_of}
+use Rattle.amqp_ser.specs.Marked.{marked}
+use Rattle.amqp_ser.specs.declared.kind.Kind.TheVariants as kind
+use Rattle.amqp_ser.specs.declared.mark.Mark.TheVariants as mark
+use Rattle.amqp_value.specs.Image.{insert_tree}
+use Rattle.amqp_value.specs.TreeOf.{tree_of, all_of, pairs_of, pairs_trees}
+use Rattle.amqp_value.specs.declared.value.Value.{Value, the_lemmas}
+use Rattle.amqp_value.specs.declared.value.Value.TheVariants.{List as ListValue, Map as MapValue, Array as ArrayValue}
+use Rattle.amqp_ser.proofs.Joins.{join}
+use Rattle.amqp_value.proofs.ImageLemmas.{joined}
+use Rattle.amqp_value.proofs.Sameness.{equal, equal-is_same}
+
+pub tree_of-List : (v : Vec Value Global) → tree_of (ListValue v) ≡ tree.list (all_of v.items)
+tree_of-List v = search (rules, the_lemmas)
+
+pub tree_of-Map : (m : ordered_map.OrderedMap Value Value) → tree_of (MapValue m) ≡ tree.map (pairs_trees (entries_of m))
+tree_of-Map m = search (rules, the_lemmas)
+
+pub tree_of-Array : (a : array.Array Value) → tree_of (ArrayValue a) ≡ tree.array (all_of (array_items a))
+tree_of-Array a = search (rules, the_lemmas)
+
+-- values before others, and entries before others
+pub all_of-append : (vs ws : List Value) → all_of (vs ++ ws) ≡ join (all_of vs) (all_of ws)
+all_of-append [] ws = refl
+all_of-append (v ∷ vs) ws = ap (more (tree_of v)) (all_of-append vs ws)
+
+pub pairs_trees-append : (es fs : List (Value × Value)) → pairs_trees (es ++ fs) ≡ joined (pairs_trees es) (pairs_trees fs)
+pairs_trees-append [] fs = refl
+pairs_trees-append (e ∷ es) fs = ap (pair (tree_of e.0) (tree_of e.1)) (pairs_trees-append es fs)
+
+-- parts that all have trees
+pub all_trees-Some : {X : Type 0} (f : X → Tree) (xs : List X) → all_trees (map (λ x. Some (f x)) xs) ≡ Some (trees_of (map f xs))
+all_trees-Some f [] = refl
+all_trees-Some f (x ∷ xs) = ap (before (Some (f x))) (all_trees-Some f xs)
+
+-- make a list
+pub whole-List : {X : Type 0} (f : X → Tree) (xs : List X) → whole kind.List (map (λ x. Some (f x)) xs) ≡ Some (tree.list (trees_of (map f xs)))
+unfolding whole
+whole-List f xs = ap (as_kind kind.List) (all_trees-Some f xs)
+
+-- keys and values in turn
+abbrev in_turn : List (Tree × Tree) → List Tree
+in_turn [] = []
+in_turn (e ∷ es) = e.0 ∷ e.1 ∷ in_turn es
+
+module _ {K V : Type 0} (f : K → Tree) (g : V → Tree) where
+  abbrev both : K × V → Tree × Tree
+  both e = (f e.0, g e.1)
+
+  parts_of-Some : (es : List (K × V)) → all_trees (parts_of (λ k. Some (f k)) (λ v. Some (g v)) es) ≡ Some (trees_of (in_turn (map both es)))
+  parts_of-Some [] = refl
+  parts_of-Some (e ∷ es) = ap (λ ts. before (Some (f e.0)) (before (Some (g e.1)) ts)) (parts_of-Some es)
+
+  in_pairs-in_turn : (es : List (Tree × Tree)) → in_pairs (trees_of (in_turn es)) ≡ Some (pairs_of es)
+  in_pairs-in_turn [] = refl
+  in_pairs-in_turn (e ∷ es) = ap (before_pairs e.0 e.1) (in_pairs-in_turn es)
+
+  -- make a map
+  pub whole-Map : (es : List (K × V)) → whole kind.Map (parts_of (λ k. Some (f k)) (λ v. Some (g v)) es) ≡ Some (tree.map (pairs_of (map both es)))
+  unfolding whole
+  whole-Map es = ap (as_kind kind.Map) (parts_of-Some es) ∙ ap as_map (in_pairs-in_turn (map both es))
+
+-- what containers of values are serialized as, is what they are as values
+pub list-tree : (v : Vec Value Global) → whole kind.List (map (λ x. Some (tree_of x)) v.items) ≡ Some (tree_of (ListValue v))
+list-tree v = whole-List tree_of v.items ∙ ap Some (sym (tree_of-List v))
+
+pub map-tree : (m : ordered_map.OrderedMap Value Value)
+    → whole kind.Map (parts_of (λ k. Some (tree_of k)) (λ v. Some (tree_of v)) (entries_of m)) ≡ Some (tree_of (MapValue m))
+map-tree m = whole-Map tree_of tree_of (entries_of m) ∙ ap Some (sym (tree_of-Map m))
+
+pub array-tree : (a : array.Array Value) → marked mark.Array (whole kind.List (map (λ x. Some (tree_of x)) (array_items a))) ≡ Some (tree_of (ArrayValue a))
+array-tree a = ap (marked mark.Array) (whole-List tree_of (array_items a)) ∙ ap Some (sym (tree_of-Array a))
+
+module _ (k v : Value) (e : Value × Value) (es : List (Value × Value)) (rest : pairs_trees (insert_pair equal es k v) ≡ insert_tree (pairs_trees es) (tree_of k) (tree_of v)) where
+  present_or_not : (b c : Bool) → b ≡ c → pairs_trees (if b then (e.0, v) ∷ es else e ∷ insert_pair equal es k v)
+      ≡ (if c then pair (tree_of e.0) (tree_of v) (pairs_trees es) else pair (tree_of e.0) (tree_of e.1) (insert_tree (pairs_trees es) (tree_of k) (tree_of v)))
+  present_or_not true true is = refl
+  present_or_not true false is = absurd (true≢false is)
+  present_or_not false true is = absurd (true≢false (sym is))
+  present_or_not false false is = ap (pair (tree_of e.0) (tree_of e.1)) rest
+
+-- a pair that is inserted among others, as a tree is
+pub pairs_trees-insert : (es : List (Value × Value)) (k v : Value) → pairs_trees (insert_pair equal es k v) ≡ insert_tree (pairs_trees es) (tree_of k) (tree_of v)
+pairs_trees-insert [] k v = refl
+pairs_trees-insert (e ∷ es) k v = present_or_not k v e es (pairs_trees-insert es k v) _ _ (equal-is_same k e.0)

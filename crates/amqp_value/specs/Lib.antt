@@ -1,0 +1,5 @@
+pub mod Image
+pub mod Plain
+pub mod AsMap
+pub mod TreeOf
+pub mod Text
