@@ -1,5 +1,5 @@
 -- The format codes (AMQP 1.0 part 1, section 1.6).
-use Rattle.std.specs.Prelude.{◌≡◌, ◌≢◌, ℕ, Ok, Result, IfOk, IfErr}
+use Rattle.std.specs.Prelude.{◌≡◌, ℕ, Ok, Result, IfOk, IfErr}
 use Rattle.amqp_data.specs.declared.error.Error.{Error}
 use Rattle.amqp_data.specs.declared.error.Error.TheVariants.{InvalidFormatCode}
 use Rattle.amqp_data.specs.declared.format_code.EncodingCodes.{EncodingCodes}

@@ -4,7 +4,7 @@ ghost use Rattle.std.specs.Prelude.{◌≡◌, ◌==◌, ◌<◌, ◌^◌, [], l
 ghost use Rattle.std.specs.Iterator.{YieldsFirstBy, item_count};
 ghost use Rattle.std.specs.Map.{keys_of, lookup};
 ghost use Rattle.std.specs.Option.{option_copied};
-ghost use Rattle.amqp_data.specs.Iterates.{Hands};
+ghost use Rattle.amqp_data.specs.Iterates.{GivesItems};
 ghost use Rattle.amqp_data.specs.Pairs.{entries_of, entries_left, insert_pair, AreDistinct};
 
 use crate::Error;
@@ -177,7 +177,7 @@ impl<K: Drop, V: Drop> IntoIterator for OrderedMap<K, V> {
 
     type IntoIter = vec::IntoIter<(K, V), Global>;
 
-    ghost into_iter_gives = { λ map iter. Hands (entries_of map) iter };
+    ghost into_iter_gives = { λ map iter. GivesItems (entries_of map) iter };
 
     fn into_iter(self) -> vec::IntoIter<(K, V), Global> {
         self.entries.into_iter()

@@ -47,6 +47,6 @@ impl From<i64> for Timestamp {
     ghost from_gives = { λ milliseconds timestamp. milliseconds_of timestamp ≡ milliseconds };
 
     fn from(milliseconds: i64) -> Timestamp {
-        Timestamp(milliseconds)
+        Timestamp::from_milliseconds(milliseconds)
     }
 }

@@ -5,7 +5,7 @@ ghost use Rattle.std.specs.Borrow.{sem};
 ghost use Rattle.std.specs.Iterator.{IsFinite};
 ghost use Rattle.std.specs.Iterator.Runs.{WholeRun};
 ghost use Rattle.amqp_data.specs.Items.{transparent_items};
-ghost use Rattle.amqp_data.specs.Iterates.{Hands, Shows, Lets};
+ghost use Rattle.amqp_data.specs.Iterates.{GivesItems, GivesRefs, GivesMutRefs};
 ghost use Rattle.amqp_data.specs.Lends.{lends_vec, lends_items};
 
 use crate::Error;
@@ -59,7 +59,7 @@ impl<T> TransparentVec<T> {
 
     /// The elements in order, as references.
     pub fn iter(&self) -> slice::Iter<'_, T>
-        ensures { Shows (transparent_items self.now) result }
+        ensures { GivesRefs (transparent_items self.now) result }
     {
         self.0.iter()
     }
@@ -67,7 +67,7 @@ impl<T> TransparentVec<T> {
     /// The elements in order, as references to write by.
     pub fn iter_mut(&mut self) -> slice::IterMut<'_, T>
         ensures* writes_back { sem 𝓛 (lends_items T.row self.entry result) }
-        ensures items { Lets (transparent_items self.old) result }
+        ensures items { GivesMutRefs (transparent_items self.old) result }
     {
         self.0.iter_mut()
     }
@@ -116,7 +116,7 @@ impl<T: Drop> IntoIterator for TransparentVec<T> {
 
     type IntoIter = vec::IntoIter<T, Global>;
 
-    ghost into_iter_gives = { λ vector iter. Hands (transparent_items vector) iter };
+    ghost into_iter_gives = { λ vector iter. GivesItems (transparent_items vector) iter };
 
     fn into_iter(self) -> vec::IntoIter<T, Global> {
         self.0.into_iter()
@@ -128,7 +128,7 @@ impl<'a, T> IntoIterator for &'a TransparentVec<T> {
 
     type IntoIter = slice::Iter<'a, T>;
 
-    ghost into_iter_gives = { λ vector iter. Shows (transparent_items vector.now) iter };
+    ghost into_iter_gives = { λ vector iter. GivesRefs (transparent_items vector.now) iter };
 
     fn into_iter(self) -> slice::Iter<'a, T> {
         self.iter()
@@ -140,11 +140,11 @@ impl<'a, T> IntoIterator for &'a mut TransparentVec<T> {
 
     type IntoIter = slice::IterMut<'a, T>;
 
-    ghost into_iter_gives = { λ vector iter. Lets (transparent_items vector.now) iter };
+    ghost into_iter_gives = { λ vector iter. GivesMutRefs (transparent_items vector.now) iter };
 
     fn into_iter(self) -> slice::IterMut<'a, T>
         ensures* writes_back { sem 𝓛 (lends_items T.row self.entry result) }
-        ensures into_iter_gives { Lets (transparent_items self.old) result }
+        ensures into_iter_gives { GivesMutRefs (transparent_items self.old) result }
     {
         self.iter_mut()
     }

@@ -92,7 +92,8 @@ pub trait Serializer {
     fn undo_part(&mut self, held: &mut Self::Open)
         ensures back { (start : Self) (ps : List (Option Tree)) (p : Option Tree) →
             has start Kind.Map self.old held.old (ps ++ (p ∷ [])) → paired ps ≡ true → has start Kind.Map self.new held.new ps }
-        ensures refusals { (start : Self) (t : Option Tree) (e : Self.Error) →
+        ensures refusals { (start : Self) (ps : List (Option Tree)) (p t : Option Tree) (e : Self.Error) →
+            has start Kind.Map self.old held.old (ps ++ (p ∷ [])) → paired ps ≡ true →
             permits start t (Err e) self.old → permits start t (Err e) self.new };
 
     /// The refusal of parts that make no tree.

@@ -13,6 +13,7 @@ use Rattle.amqp_ser.specs.declared.kind.Kind.{Kind}
 use Rattle.amqp_ser.specs.declared.kind.Kind.TheVariants as kinds
 use Rattle.amqp_ser.proofs.Bools.{nat_eq-refl, both, left_false, right_false, one_false, left_true, right_true, le_false, le_true, not_le, is_le}
 use Rattle.amqp_ser.proofs.Joins.{join, joined, all_trees-append, kind_none, alike-join, within-join, inside-join, each-join, count-join}
+use Rattle.amqp_ser.proofs.Last.{last_off, paired-last}
 use Rattle.amqp_ser.proofs.Pairing.{Pairing, pairing, even}
 use Rattle.amqp_size.specs.Place.{outer, meant, shape_of, is_array, element, next, suits, form}
 use Rattle.amqp_size.specs.Counted.{at_place, refused, Counted, Holds, Fed, Back, content, counts, one_in, inner_of, first_place}
@@ -65,25 +66,6 @@ more_one true (more v ts) t h s =
     both (same_con (con v) (con v)) (each_con (con v) (join ts (more t no_trees))) mine
     (each-join (con v) ts (more t no_trees) ∙ both (each_con (con v) ts) (same_con (con v) (con t) && true) others (both (same_con (con v) (con t)) true new refl))
 
-snoc_nil : (p : Option Tree) (qs : List (Option Tree)) (q : Option Tree) → p ∷ [] ≡ qs ++ (q ∷ []) → [] ≡ qs
-snoc_nil p [] q e = refl
-snoc_nil p (x ∷ []) q e = cc
-snoc_nil p (x ∷ (y ∷ qs)) q e = cc
-
-nil_snoc : (A : Type 0) (qs : List (Option Tree)) (q : Option Tree) → [] ≡ qs ++ (q ∷ []) → A
-nil_snoc A [] q e = cc
-nil_snoc A (x ∷ qs) q e = cc
-
--- lists with one part more are equal where they were
-snoc_left : (ps qs : List (Option Tree)) (p q : Option Tree) → ps ++ (p ∷ []) ≡ qs ++ (q ∷ []) → ps ≡ qs
-snoc_left [] qs p q e = snoc_nil p qs q e
-snoc_left (x ∷ ps) [] p q e = nil_snoc (x ∷ ps ≡ []) ps p (cc)
-snoc_left (x ∷ ps) (y ∷ qs) p q e =
-    let tails : ps ++ (p ∷ []) ≡ qs ++ (q ∷ []) = cc in
-    let r = snoc_left ps qs p q tails in
-    let heads : x ≡ y = cc in
-    cc
-
 -- a part that was taken
 pub taken_part : (start : SizeSerializer) (kind : Kind) (held new : Open) (ps : List (Option Tree)) (h : Holds start kind held ps) (t : Tree) (size : ℕ) (after : Under) →
     Counted held.inner t size after →
@@ -108,7 +90,7 @@ taken_part start kind held new ps h t size after k a b c d e few f was =
       arrays = c ∙ h.arrays ∙ ap is_array (sym b);
       back = λ odd qs q e. record {
         us = ts;
-        trees = ap all_trees (sym (snoc_left ps qs (Some t) q e)) ∙ h.trees;
+        trees = ap all_trees (sym (last_off ps qs (Some t) q e)) ∙ h.trees;
         sum = was ∙ h.fed.sum ∙ sym (ap (λ x. length (content x ts)) c);
       };
       fed = record {
@@ -142,10 +124,6 @@ end_taken start kind held new ps h (Some t) size after inner r q a b c few (Err 
       (over_part start kind held ps h t size inner r.len (q ∙ ap outer r.place) m.1.1 rest),
 )
 
-paired_more : (ps : List (Option Tree)) (p : Option Tree) → paired (ps ++ (p ∷ [])) ≡ not (paired ps)
-paired_more [] p = refl
-paired_more (x ∷ ps) p = ap not (paired_more ps p)
-
 no_array : (u : Under) → is_array (shape_of u kinds.Map) ≡ false
 no_array (under.Plain p) = refl
 no_array (under.Array p) = refl
@@ -168,7 +146,7 @@ one_less us ts (Some t) e a w i =
 pub undone : (start : SizeSerializer) (held new : Open) (ps : List (Option Tree)) (p : Option Tree) → Holds start kinds.Map held (ps ++ (p ∷ [])) → paired ps ≡ true →
     new.place ≡ held.place → new.shape ≡ held.shape → new.array ≡ held.array → new.sum ≡ held.before → new.count ≡ held.count → new.inner ≡ held.inner → Holds start kinds.Map new ps
 undone start held new ps p h even a b c d e f =
-    let odd : paired (ps ++ (p ∷ [])) ≡ false = paired_more ps p ∙ ap not even in
+    let odd : paired (ps ++ (p ∷ [])) ≡ false = paired-last ps p ∙ ap not even in
     let was = h.back odd ps p refl in
     let plain : held.array ≡ false = h.arrays ∙ ap is_array h.shape ∙ no_array start.place in
     let now : new.array ≡ false = c ∙ plain in

@@ -4,6 +4,7 @@
 //! gives. `SizeSerializer` is the serializer behind it. The widths of all headers stand in this crate alone.
 #![tactic(auto)]
 
+mod compounds;
 mod form;
 mod open_compound;
 mod place;
@@ -12,6 +13,10 @@ mod serializer;
 mod tests;
 pub mod width;
 
+pub use compounds::{
+    MapSerializer, SeqSerializer, StructSerializer, StructVariantSerializer, TupleSerializer,
+    TupleStructSerializer, VariantSerializer,
+};
 pub use form::Form;
 pub use open_compound::Open;
 pub use place::{Place, ScalarMark, Shape, Under};

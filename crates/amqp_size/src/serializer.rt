@@ -17,6 +17,9 @@ use amqp_ser::{Fixed, Kind, Mark, Serialize, Serializer};
 
 /// Counts the bytes of values; it is fresh after each call, refused ones too.
 ///
+/// # Example
+/// One serializer counts the array of the ubytes 1 and 2 as 6, and then their list as 7.
+///
 /// # Memory
 /// Takes none.
 #[derive(Debug, Drop)]
@@ -101,6 +104,17 @@ impl SizeSerializer {
     {
         self.place = Under::Plain(self.place.outer());
         Err(Error::InvalidValue)
+    }
+}
+
+impl Default for SizeSerializer {
+    ghost use Rattle.amqp_size.specs.declared.place.Under.TheVariants.{Plain};
+    ghost use Rattle.amqp_size.specs.declared.place.Place.TheVariants.{Root};
+
+    ghost is_default = { λ s. s.place ≡ Plain Root };
+
+    fn default() -> SizeSerializer {
+        SizeSerializer::new()
     }
 }
 

@@ -1,9 +1,11 @@
 //! Rows that no contract states: lengths from the encoding tables, worked by hand.
 
+ghost use Rattle.amqp_ser.specs.Permitted.{IsSizeOf};
+
 use super::width::{array_len, list_len, map_len, text_len};
 use super::{SizeSerializer, serialized_size};
-use amqp_data::Error;
-use amqp_ser::{Mark, Serializer};
+use amqp_data::{Array, Error};
+use amqp_ser::{Mark, Serialize, Serializer};
 use std::test::Fail;
 
 #[test]
@@ -105,5 +107,23 @@ fn an_array_passes_over_an_element_of_another_kind(rt: HostRuntime) -> Result<()
     let mut serializer = SizeSerializer::new();
     assert_eq!(rt; mixed_array(&mut serializer, &list), Ok(14));
     assert_eq!(rt; serializer.serialize_str("b"), Ok(3), "fresh afterwards");
+    Ok(())
+}
+
+/// The length of the second value, by a serializer that has counted, or refused, the first.
+fn counted_after<A: Serialize, B: Serialize>(first: &A, second: &B) -> Result<usize, Error>
+    ensures { IsSizeOf (B.tree second.now) result }
+{
+    let mut serializer = SizeSerializer::default();
+    let _ = first.serialize(&mut serializer);
+    second.serialize(&mut serializer)
+}
+
+#[test]
+fn one_serializer_counts_two_values(rt: HostRuntime) -> Result<(), Fail> {
+    let array = Array::from(vec![in rt.alloc(); 1u8, 2u8]?);
+    let list = vec![in rt.alloc(); 1u8, 2u8]?;
+    assert_eq!(rt; serialized_size(&array), Ok(6));
+    assert_eq!(rt; counted_after(&array, &list), Ok(7));
     Ok(())
 }

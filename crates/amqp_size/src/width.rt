@@ -15,7 +15,7 @@ pub const LONGEST: usize = 4294967291;
 pub const MOST: usize = 4294967295;
 
 /// The length of an uint by itself.
-pub(crate) fn uint_width(n: u32) -> usize
+pub fn uint_width(n: u32) -> usize
     ensures { result ≡ uint_width n }
 {
     if n == 0 {
@@ -44,7 +44,7 @@ pub(crate) fn map_width(n: usize) -> usize
 }
 
 /// The length of a list whose body has n bytes.
-pub(crate) fn list_width(n: usize) -> usize
+pub fn list_width(n: usize) -> usize
     requires { n ≤ 4294967291 }
     ensures { result ≡ list_width n }
 {

@@ -1,0 +1,118 @@
+-- The headers that are made of what was counted.
+use Rattle.std.proofs.Common.{◌≡◌, ℕ, ◌+◌, ◌≤◌, List, [], ◌∷◌, ◌++◌, Option, Some, None, Bool, true, false, ◌&&◌, length, refl, ap, sym, ◌∙◌, subst, arith, length-append, append_assoc}
+use Rattle.std.proofs.lemmas.List.{set_at}
+use Rattle.amqp_ser.specs.Tree.{Tree, Trees, Pairs, uint, list, array, map, variant, no_trees, more, count}
+use Rattle.amqp_ser.specs.Limits.{fits, is_count}
+use Rattle.amqp_ser.specs.Scalars.{scalar_form}
+use Rattle.amqp_ser.specs.Encoding.{con, enc, enc_each}
+use Rattle.amqp_ser.specs.Compounds.{all_trees, as_kind, as_map, as_variant, in_pairs, only}
+use Rattle.amqp_ser.specs.declared.kind.Kind.{Kind}
+use Rattle.amqp_ser.specs.declared.kind.Kind.TheVariants as kinds
+use Rattle.amqp_ser.proofs.Bools.{left_true, is_le}
+use Rattle.amqp_size.specs.Place.{meant, shape_of, is_array, con_of, element}
+use Rattle.amqp_size.specs.Counted.{content, inner_of, first_place, counts, Holds}
+use Rattle.amqp_size.specs.Width.{uint_width, list_width}
+use Rattle.amqp_size.specs.declared.place.Shape.{Shape}
+use Rattle.amqp_size.specs.declared.place.Shape.TheVariants as shape
+use Rattle.amqp_size.specs.declared.place.Under.{Under}
+use Rattle.amqp_size.specs.declared.place.Under.TheVariants as under
+use Rattle.amqp_size.specs.declared.serializer.SizeSerializer.{SizeSerializer}
+use Rattle.amqp_size.specs.declared.open_compound.Open.{Open}
+use Rattle.amqp_size.proofs.Lengths.{length-uint, length-list_form, length-variant}
+use Rattle.amqp_size.proofs.Whole.{refused_shape}
+use Rattle.amqp_wire.specs.Entries.{header, heads, places, made, made_fits, first_constructor}
+use Rattle.amqp_wire.specs.Heads.{small_heads}
+use Rattle.amqp_wire.specs.Listed.{fills}
+use Rattle.amqp_wire.specs.Solid.{solid, solid_each}
+use Rattle.amqp_wire.specs.declared.table.Header.{Header}
+use Rattle.amqp_wire.proofs.Few.{few}
+use Rattle.amqp_wire.proofs.Split.{pairs_are}
+
+pub made_places : (s : Shape) (h : Header) → length (made s h) ≡ places s
+made_places shape.List h = refl
+made_places shape.Map h = refl
+made_places (shape.Fields i) h = refl
+made_places (shape.Only i) h = refl
+made_places shape.Array h = refl
+made_places shape.Refused h = refl
+
+con_element : (o : Option ℕ) → con_of (element o) ≡ o
+con_element None = refl
+con_element (Some c) = refl
+
+con_first : (ts : Trees) → con_of (first_place ts) ≡ first_constructor ts
+con_first no_trees = refl
+con_first (more t ts) = con_element (con t)
+
+-- what was counted makes the headers
+pub made_right : (s : Shape) (ts : Trees) (n m : ℕ) (c : Option ℕ) → n ≡ length (content (is_array s) ts) → m ≡ count ts → c ≡ con_of (inner_of (is_array s) ts) → made s (header n m c) ≡ heads s ts
+made_right shape.List ts n m c a b d = ap (λ x. header x m c ∷ []) a ∙ ap (λ x. header (length (enc_each ts)) x c ∷ []) b ∙ ap (λ x. header (length (enc_each ts)) (count ts) x ∷ []) d
+made_right shape.Map ts n m c a b d = ap (λ x. header x m c ∷ []) a ∙ ap (λ x. header (length (enc_each ts)) x c ∷ []) b ∙ ap (λ x. header (length (enc_each ts)) (count ts) x ∷ []) d
+made_right (shape.Fields i) ts n m c a b d =
+    let size : list_width n ≡ length (enc (list ts)) = ap list_width a ∙ sym (length-list_form (count ts) (enc_each ts)) in
+    let outer = length (scalar_form (uint i) ++ enc (list ts)) in
+    ap (λ x. header x 2 None ∷ header n m c ∷ []) (sym (length-variant i (list ts) (list_width n) size))
+      ∙ ap (λ x. header outer 2 None ∷ header x m c ∷ []) a ∙ ap (λ x. header outer 2 None ∷ header (length (enc_each ts)) x c ∷ []) b ∙ ap (λ x. header outer 2 None ∷ header (length (enc_each ts)) (count ts) x ∷ []) d
+made_right (shape.Only i) ts n m c a b d =
+    let u = length-uint i in
+    let l : uint_width i + n ≡ length (scalar_form (uint i) ++ enc_each ts) = simp length-append (omega arith) in
+    ap (λ x. header x 2 None ∷ []) l
+made_right shape.Array ts n m c a b d =
+    ap (λ x. header x m c ∷ []) a ∙ ap (λ x. header (length (content true ts)) x c ∷ []) b ∙ ap (λ x. header (length (content true ts)) (count ts) x ∷ []) (d ∙ con_first ts)
+made_right shape.Refused ts n m c a b d = refl
+
+-- they have room in four bytes
+pub made_small : (s : Shape) (ts : Trees) (n m : ℕ) (c : Option ℕ) → made s (header n m c) ≡ heads s ts → small_heads s (heads s ts) → made_fits s n
+made_small s ts n m c e h = go s (subst (small_heads s) (sym e) h)
+  where
+    go : (k : Shape) → small_heads k (made k (header n m c)) → made_fits k n
+    go shape.List h = omega arith
+    go shape.Map h = omega arith
+    go (shape.Fields i) h = let a = h.0 in omega arith
+    go (shape.Only i) h = omega arith
+    go shape.Array h = omega arith
+    go shape.Refused h = absurd h
+
+pub fills_are : (new hs pre post : List Header) (at : ℕ) → length new ≡ length hs → at ≡ length pre → fills new at (pre ++ (hs ++ post)) ≡ pre ++ (new ++ post)
+fills_are [] [] pre post at a b = refl
+fills_are [] (h ∷ hs) pre post at a b = absurd (omega arith)
+fills_are (n ∷ new) [] pre post at a b = absurd (omega arith)
+fills_are (n ∷ new) (h ∷ hs) pre post at a b =
+    ap (fills new (at + 1)) (set_at pre h (hs ++ post) n at (sym b) ∙ sym (append_assoc pre (n ∷ []) (hs ++ post)))
+      ∙ fills_are new hs (pre ++ (n ∷ [])) post (at + 1) (omega arith) (simp length-append (omega arith)) ∙ append_assoc pre (n ∷ []) (new ++ post)
+
+solid_map : (ts : Trees) (t : Tree) (o : Option Pairs) → in_pairs ts ≡ o → as_map o ≡ Some t → solid_each ts ≡ true → solid t ≡ true
+solid_map ts t None e h s = cc
+solid_map ts t (Some prs) e h s =
+    let r = pairs_are ts prs e in
+    let q : map prs ≡ t = cc in
+    subst (λ x. solid x ≡ true) q (r.solid_too ∙ s)
+
+solid_only : (i : ℕ) (ts : Trees) (t : Tree) → as_variant i (only ts) ≡ Some t → solid_each ts ≡ true → solid t ≡ true
+solid_only i no_trees t h s = cc
+solid_only i (more u no_trees) t h s = let q : variant i u ≡ t = cc in subst (λ x. solid x ≡ true) q (left_true (solid u) true s)
+solid_only i (more u (more v ts)) t h s = cc
+
+is_not : (o : Option Tree) (t : Tree) → o ≡ None → o ≡ Some t → ⊥
+is_not o t a b = let no : None ≡ Some t = sym a ∙ b in cc
+
+-- a compound of solid parts is solid
+pub solid_whole : (u : Under) (k : Kind) (ts : Trees) (t : Tree) → meant u (as_kind k (Some ts)) ≡ Some t → solid_each ts ≡ true → solid t ≡ true
+solid_whole (under.Plain p) kinds.List ts t h s = let q : list ts ≡ t = cc in subst (λ x. solid x ≡ true) q s
+solid_whole (under.Plain p) kinds.Map ts t h s = solid_map ts t (in_pairs ts) refl h s
+solid_whole (under.Plain p) (kinds.Fields i) ts t h s = let q : variant i (list ts) ≡ t = cc in subst (λ x. solid x ≡ true) q s
+solid_whole (under.Plain p) (kinds.Only i) ts t h s = solid_only i ts t h s
+solid_whole (under.Array p) kinds.List ts t h s = let q : array ts ≡ t = cc in subst (λ x. solid x ≡ true) q s
+solid_whole (under.Array p) kinds.Map ts t h s = absurd (is_not _ t (refused_shape (under.Array p) kinds.Map (Some ts) refl) h)
+solid_whole (under.Array p) (kinds.Fields i) ts t h s = absurd (is_not _ t (refused_shape (under.Array p) (kinds.Fields i) (Some ts) refl) h)
+solid_whole (under.Array p) (kinds.Only i) ts t h s = absurd (is_not _ t (refused_shape (under.Array p) (kinds.Only i) (Some ts) refl) h)
+solid_whole (under.Scalar m p) k ts t h s = absurd (is_not _ t (refused_shape (under.Scalar m p) k (Some ts) refl) h)
+solid_whole (under.Nothing p) k ts t h s = absurd (is_not _ t (refused_shape (under.Nothing p) k (Some ts) refl) h)
+
+-- the parts of a compound have a count of four bytes
+pub few_parts : (start : SizeSerializer) (kind : Kind) (held : Open) (ps : List (Option Tree)) (h : Holds start kind held ps) → solid_each h.ts ≡ true → count h.ts ≤ 4294967295
+few_parts start kind held ps h s = go held.array h.fed.sum h.fed.counted
+  where
+    go : (a : Bool) → held.sum ≡ length (content a h.ts) → held.count ≡ counts a h.ts → count h.ts ≤ 4294967295
+    go false e c = let l = few h.ts s in let m = is_le held.sum 4294967291 h.fed.fits_sum in omega arith
+    go true e c = let m = is_le held.count 4294967295 h.fed.few in omega arith

@@ -1,0 +1,18 @@
+use Rattle.amqp_size.specs.Place.{outer, meant}
+use Rattle.amqp_wire.specs.Heads.{in_array}
+use Rattle.amqp_wire.specs.declared.output.Output.{Output}
+use Rattle.amqp_wire.specs.declared.writer.Writing.{Writing}
+use Rattle.amqp_wire.proofs.Parts.{part_undone, still_refused}
+use Rattle.amqp_wire.proofs.writer.WriterSerializer.undo_part.Goals as goal
+
+pub returns-clause-back : goal.returns-clause-back
+returns-clause-back c = λ start ps p h even.
+    let n = c.restore.ensures in
+    (part_undone start c.args.self.now.output c.restore.new.self c.args.held.now ps p h.0 even n.table n.capacity n.taken n.out, h.1)
+
+pub returns-clause-refusals : goal.returns-clause-refusals
+returns-clause-refusals c = λ start ps p t e h even r.
+    let n = c.restore.ensures in
+    let out : Output = c.restore.new.self in
+    let back = part_undone start c.args.self.now.output out c.args.held.now ps p h.0 even n.table n.capacity n.taken n.out in
+    (back.kept, (r.1.0, still_refused (in_array (outer start.place)) start.output c.args.self.now.output out (meant start.place t) e r.1.1))

@@ -1,0 +1,6 @@
+pub mod Entries
+pub mod Solid
+pub mod Heads
+pub mod Written
+pub mod Listed
+pub mod Answer

@@ -1,0 +1,111 @@
+-- What the second walk may answer: where the table and the room are a tree's, its bytes.
+use Rattle.std.specs.Prelude.{◌≡◌, ℕ, ◌+◌, ◌<◌, ◌≤◌, List, [], ◌∷◌, ◌++◌, Option, Some, None, Bool, true, false, Result, Ok, Err, length, drop}
+use Rattle.std.specs.Vec.{vec_capacity}
+use Rattle.amqp_data.specs.declared.error.Error.{Error}
+use Rattle.amqp_ser.specs.Tree.{Tree, Trees}
+use Rattle.amqp_ser.specs.Writable.{within, within_each}
+use Rattle.amqp_ser.specs.Compounds.{all_trees, paired}
+use Rattle.amqp_ser.specs.declared.kind.Kind.{Kind}
+use Rattle.amqp_ser.proofs.Joins.{join}
+use Rattle.amqp_size.specs.Place.{outer, meant, shape_of, inner_place}
+use Rattle.amqp_size.specs.declared.place.Under.TheVariants.{Plain}
+use Rattle.amqp_size.specs.declared.place.Shape.{Shape}
+use Rattle.amqp_size.specs.declared.place.Shape.TheVariants.{Refused}
+use Rattle.amqp_wire.specs.Entries.{entries, entries_each, heads}
+use Rattle.amqp_wire.specs.Heads.{in_array, bytes_at, opening, after_opening, small_heads}
+use Rattle.amqp_wire.specs.Solid.{solid, solid_each}
+use Rattle.amqp_wire.specs.declared.table.Header.{Header}
+use Rattle.amqp_wire.specs.declared.output.Output.{Output}
+use Rattle.amqp_wire.specs.declared.writer.Writer.{Writer}
+use Rattle.amqp_wire.specs.declared.writer.Writing.{Writing}
+
+-- it goes on from there
+abbrev pub Extends : {X : Type 0} → List X → List X → Type 0
+Extends {X} a b = (rest : List X) × (b ≡ a ++ rest)
+
+-- what stays through every call
+pub record Kept (s after : Output) : Type 0 where
+  pub table : after.table ≡ s.table
+  pub capacity : vec_capacity s.out ≤ vec_capacity after.out
+  pub grown : Extends s.out.items after.out.items
+
+-- these bytes are written, or there was no room
+abbrev pub puts : Output → List ℕ → Result (Unit {0}) Error → Output → Type 0
+puts s bytes (Ok u) after = after.out.items ≡ s.out.items ++ bytes
+puts s bytes (Err e) after = vec_capacity s.out < length s.out.items + length bytes
+
+-- the next header was taken
+abbrev pub nexts : Output → Option Header → Output → Type 0
+nexts s None after = length s.table.items ≤ s.taken
+nexts s (Some h) after = (drop s.taken s.table.items ≡ h ∷ drop after.taken after.table.items) × (after.taken ≡ s.taken + 1)
+
+-- so many headers were taken and these bytes written, or there was no room
+abbrev pub leads : Output → ℕ → List ℕ → Result (Unit {0}) Error → Output → Type 0
+leads s n bytes (Ok u) after = (after.out.items ≡ s.out.items ++ bytes) × (after.taken ≡ s.taken + n)
+leads s n bytes (Err e) after = vec_capacity s.out < length s.out.items + length bytes
+
+abbrev pub opens : Bool → Shape → Output → List Header → Result (Unit {0}) Error → Output → Type 0
+opens a shape s hs r after = leads s (length hs) (opening a shape hs) r after
+
+-- the table and the room are this tree's
+pub record Meets (a : Bool) (s : Output) (t : Tree) : Type 0 where
+  pub within_it : within t ≡ true
+  pub solid_it : solid t ≡ true
+  pub rest : List Header
+  pub listed : drop s.taken s.table.items ≡ entries t ++ rest
+  pub room : length s.out.items + length (bytes_at a t) ≤ vec_capacity s.out
+
+pub record Wrote (a : Bool) (s : Output) (t : Tree) (after : Output) : Type 0 where
+  pub out : after.out.items ≡ s.out.items ++ bytes_at a t
+  pub taken : after.taken ≡ s.taken + length (entries t)
+
+abbrev pub writes_tree : Bool → Output → Option Tree → Result (Unit {0}) Error → Output → Type 0
+writes_tree a s None (Ok u) after = ⊥
+writes_tree a s None (Err e) after = Unit {0}
+writes_tree a s (Some t) (Ok u) after = Meets a s t → Wrote a s t after
+writes_tree a s (Some t) (Err e) after = Meets a s t → ⊥
+
+abbrev pub writer_permits : Writer → Option Tree → Result (Unit {0}) Error → Writer → Type 0
+writer_permits s o r after = Kept s.output after.output × ((after.place ≡ Plain (outer s.place)) × writes_tree (in_array (outer s.place)) s.output (meant s.place o) r after.output)
+
+-- the table and the room are those of a compound of these parts
+pub record Room (a : Bool) (shape : Shape) (s : Output) (ts : Trees) : Type 0 where
+  pub within_parts : within_each ts ≡ true
+  pub solid_parts : solid_each ts ≡ true
+  pub small : small_heads shape (heads shape ts)
+  pub rest : List Header
+  pub listed : drop s.taken s.table.items ≡ heads shape ts ++ (entries_each ts ++ rest)
+  pub room : length s.out.items + (length (opening a shape (heads shape ts)) + length (after_opening shape ts)) ≤ vec_capacity s.out
+
+-- the parts so far, of all the parts, are written
+pub record Met (a : Bool) (shape : Shape) (start s : Output) (held : Writing) (ts us : Trees) : Type 0 where
+  pub opened : held.refused ≡ false
+  pub out : s.out.items ≡ start.out.items ++ (opening a shape (heads shape (join ts us)) ++ after_opening shape ts)
+  pub taken : s.taken ≡ start.taken + length (heads shape (join ts us)) + length (entries_each ts)
+
+-- where the output stood before the last part
+pub record Back (start : Writer) (kind : Kind) (s : Output) (held : Writing) (qs : List (Option Tree)) : Type 0 where
+  pub old : Output
+  pub since : Kept start.output old
+  pub until : Kept old s
+  pub taken : held.last.taken ≡ old.taken
+  pub len : held.last.len ≡ length old.out.items
+  pub ts : Trees
+  pub trees : all_trees qs ≡ Some ts
+  pub met : (us : Trees) → Room (in_array (outer start.place)) (shape_of start.place kind) start.output (join ts us) → Met (in_array (outer start.place)) (shape_of start.place kind) start.output old held ts us
+
+pub record Written (start : Writer) (kind : Kind) (s : Output) (held : Writing) (ps : List (Option Tree)) : Type 0 where
+  pub ts : Trees
+  pub trees : all_trees ps ≡ Some ts
+  pub kept : Kept start.output s
+  pub place : held.place ≡ outer start.place
+  pub inner : held.inner ≡ inner_place (shape_of start.place kind)
+  pub none_refused : shape_of start.place kind ≡ Refused → held.refused ≡ true
+  pub met : (us : Trees) → Room (in_array (outer start.place)) (shape_of start.place kind) start.output (join ts us) → Met (in_array (outer start.place)) (shape_of start.place kind) start.output s held ts us
+  pub back : paired ps ≡ false → (qs : List (Option Tree)) (q : Option Tree) → ps ≡ qs ++ (q ∷ []) → Back start kind s held qs
+
+abbrev pub writer_has : Writer → Kind → Writer → Writing → List (Option Tree) → Type 0
+writer_has start kind s held ps = Written start kind s.output held ps × (s.place ≡ Plain held.place)
+
+abbrev pub writer_awaits : Writer → Kind → Writer → Writing → List (Option Tree) → Type 0
+writer_awaits start kind s held ps = (Written start kind s.output held ps × (s.place ≡ Plain held.inner)) × ((held.part.taken ≡ s.output.taken) × (held.part.len ≡ length s.output.out.items))

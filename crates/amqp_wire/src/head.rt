@@ -1,0 +1,160 @@
+//! What is written before a compound's parts.
+
+ghost use Rattle.std.specs.Prelude.{◌≡◌, ◌+◌, ◌<◌, ◌≤◌, ◌++◌, ◌∷◌, List, length, drop, MatchResult, IfOk, is_err, true, false};
+ghost use Rattle.std.specs.Vec.{vec_capacity};
+ghost use Rattle.amqp_ser.specs.Tree.{Trees, uint};
+
+use crate::output::Output;
+use crate::table::Header;
+use amqp_data::Error;
+use amqp_ser::Fixed;
+use amqp_size::Shape;
+
+/// The codes of a header.
+#[derive(Clone, Copy, Debug)]
+pub enum Style {
+    /// Those of lists.
+    List,
+    /// Those of maps.
+    Map,
+    /// Those of arrays.
+    Array,
+}
+
+impl Output {
+    ghost use Rattle.amqp_wire.specs.Entries.{heads};
+    ghost use Rattle.amqp_wire.specs.Heads.{head, whole_head, counted_head, small};
+    ghost use Rattle.amqp_wire.specs.Written.{Kept, puts, leads, opens, Room};
+    ghost use Rattle.amqp_ser.specs.Scalars.{scalar_form};
+    ghost use Rattle.amqp_ser.specs.Encoding.{code_list};
+    ghost use Rattle.std.specs.Int.{w32, to_be_bytes};
+
+    /// Writes a size and a count, in one byte each where both have room there.
+    fn put_counted(&mut self, short: u8, long: u8, header: Header) -> Result<(), Error>
+        ensures kept { Kept self.old self.new }
+        ensures taken { self.new.taken ≡ self.old.taken }
+        ensures written { small header → puts self.old (counted_head short long header.len header.count) result self.new }
+    {
+        if header.len <= 254 && header.count <= 255 {
+            return self.put(&[short, header.len as u8 + 1, header.count as u8]);
+        }
+        let [a, b, c, d] = header.len.wrapping_add(4).to_be_bytes();
+        let [e, f, g, h] = header.count.to_be_bytes();
+        self.put(&[long, a, b, c, d, e, f, g, h])
+    }
+
+    /// Writes a header by itself.
+    fn put_whole_head(&mut self, style: Style, header: Header) -> Result<(), Error>
+        ensures kept { Kept self.old self.new }
+        ensures taken { self.new.taken ≡ self.old.taken }
+        ensures written { small header → puts self.old (whole_head style header.len header.count) result self.new }
+    {
+        match style {
+            Style::List => {
+                if header.len == 0 {
+                    return self.put(&[0x45]);
+                }
+                self.put_counted(0xc0, 0xd0, header)
+            }
+            Style::Map => self.put_counted(0xc1, 0xd1, header),
+            Style::Array => self.put_counted(0xe0, 0xf0, header),
+        }
+    }
+
+    /// Writes a header.
+    fn put_head(&mut self, in_array: bool, style: Style, header: Header) -> Result<(), Error>
+        ensures kept { Kept self.old self.new }
+        ensures taken { self.new.taken ≡ self.old.taken }
+        ensures written { small header → puts self.old (head in_array style header) result self.new }
+    {
+        if in_array {
+            let [a, b, c, d] = header.len.wrapping_add(4).to_be_bytes();
+            let [e, f, g, h] = header.count.to_be_bytes();
+            self.put(&[a, b, c, d, e, f, g, h])
+        } else {
+            self.put_whole_head(style, header)
+        }
+    }
+
+    /// Takes the next header and writes it, and gives its constructor.
+    fn put_next(&mut self, in_array: bool, style: Style) -> Result<Option<u8>, Error>
+        ensures kept { Kept self.old self.new }
+        ensures written { (h : Header) (rest : List Header) → drop self.old.taken self.old.table.items ≡ h ∷ rest → small h →
+            MatchResult result
+            (λ c. (c ≡ h.constructor) × ((self.new.taken ≡ self.old.taken + 1) × ((drop self.new.taken self.new.table.items ≡ rest) × (self.new.out.items ≡ self.old.out.items ++ head in_array style h))))
+            (λ _. vec_capacity self.old.out < length self.old.out.items + length (head in_array style h)) }
+    {
+        match self.next() {
+            None => Err(Error::InvalidValue),
+            Some(header) => {
+                self.put_head(in_array, style, header)?;
+                Ok(header.constructor)
+            }
+        }
+    }
+
+    /// Opens a list or a map.
+    fn open_plain(&mut self, in_array: bool, style: Style) -> Result<(), Error>
+        ensures kept { Kept self.old self.new }
+        ensures opened { (h : Header) (rest : List Header) → drop self.old.taken self.old.table.items ≡ h ∷ rest → small h →
+            leads self.old 1 (head in_array style h) result self.new }
+    {
+        match self.put_next(in_array, style) {
+            Ok(_) => Ok(()),
+            Err(e) => Err(e),
+        }
+    }
+
+    /// Opens a variant of one value.
+    fn open_only(&mut self, in_array: bool, index: u32) -> Result<(), Error>
+        ensures kept { Kept self.old self.new }
+        ensures opened { (h : Header) (rest : List Header) → drop self.old.taken self.old.table.items ≡ h ∷ rest → small h →
+            leads self.old 1 (head in_array Style.Map h ++ scalar_form (uint index)) result self.new × IfOk result (λ _. drop self.new.taken self.new.table.items ≡ rest) }
+    {
+        match self.put_next(in_array, Style::Map) {
+            Ok(_) => self.put_fixed(false, Fixed::Uint(index)),
+            Err(e) => Err(e),
+        }
+    }
+
+    /// Opens a variant of fields.
+    fn open_fields(&mut self, in_array: bool, index: u32) -> Result<(), Error>
+        ensures kept { Kept self.old self.new }
+        ensures opened { (h g : Header) (rest : List Header) → drop self.old.taken self.old.table.items ≡ h ∷ (g ∷ rest) → small h → small g →
+            leads self.old 2 ((head in_array Style.Map h ++ scalar_form (uint index)) ++ head false Style.List g) result self.new }
+    {
+        match self.open_only(in_array, index) {
+            Ok(()) => self.open_plain(false, Style::List),
+            Err(e) => Err(e),
+        }
+    }
+
+    /// Opens an array.
+    fn open_array(&mut self, in_array: bool) -> Result<(), Error>
+        ensures kept { Kept self.old self.new }
+        ensures opened { (h : Header) (rest : List Header) → drop self.old.taken self.old.table.items ≡ h ∷ rest → small h →
+            leads self.old 1 (head in_array Style.Array h ++ code_list h.constructor) result self.new }
+    {
+        match self.put_next(in_array, Style::Array) {
+            Ok(Some(code)) => self.put(&[code]),
+            Ok(None) => Ok(()),
+            Err(e) => Err(e),
+        }
+    }
+
+    /// Opens a compound: writes what stands before its parts.
+    pub fn open(&mut self, in_array: bool, shape: Shape) -> Result<(), Error>
+        ensures kept { Kept self.old self.new }
+        ensures opened { (ts : Trees) → Room in_array shape self.old ts → opens in_array shape self.old (heads shape ts) result self.new }
+        ensures none { shape ≡ Shape.Refused → is_err result ≡ true }
+    {
+        match shape {
+            Shape::Refused => Err(Error::InvalidValue),
+            Shape::List => self.open_plain(in_array, Style::List),
+            Shape::Map => self.open_plain(in_array, Style::Map),
+            Shape::Only(index) => self.open_only(in_array, index),
+            Shape::Fields(index) => self.open_fields(in_array, index),
+            Shape::Array => self.open_array(in_array),
+        }
+    }
+}

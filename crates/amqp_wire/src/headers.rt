@@ -1,0 +1,188 @@
+//! The first walk: the length of a value's bytes, and what stands before each compound.
+
+ghost use Rattle.std.specs.Prelude.{◌≡◌, ◌++◌, ◌∷◌, [], List, Option, Result, Ok, Err, MatchResult, true, false, ℕ};
+ghost use Rattle.amqp_ser.specs.Tree.{Tree};
+
+use crate::table::{Header, Table};
+use amqp_data::Error;
+use amqp_ser::{Fixed, Kind, Mark, Serializer};
+use amqp_size::{Open, SizeSerializer};
+use std::alloc::Global;
+
+/// Counts the bytes of values, and lists the headers of their compounds.
+///
+/// # Memory
+/// Takes some for each compound, and none for a scalar.
+#[derive(Drop)]
+pub struct Headers {
+    size: SizeSerializer,
+    table: Table,
+}
+
+/// A compound whose parts are still counted.
+#[derive(Drop)]
+pub struct Counting {
+    size: Open,
+    /// Where its headers stand in the table.
+    at: usize,
+    /// It has no place there.
+    missed: bool,
+    /// How long the table was before the part that is next or under way.
+    before: usize,
+    /// How long it was before the last part that was taken.
+    last: usize,
+    /// How many parts were taken.
+    parts: u32,
+}
+
+impl Headers {
+    ghost use Rattle.amqp_size.specs.declared.place.Under.TheVariants.{Plain};
+    ghost use Rattle.amqp_size.specs.declared.place.Place.TheVariants.{Root};
+
+    /// A first walk that has met nothing.
+    pub fn new(alloc: Global) -> Headers
+        ensures table { result.table.headers.items ≡ [] }
+        ensures place { result.size.place ≡ Plain Root }
+    {
+        Headers {
+            size: SizeSerializer::new(),
+            table: Table::new(alloc),
+        }
+    }
+
+    /// Whether a growth was ever refused.
+    pub fn is_refused(&self) -> bool
+        ensures { result ≡ self.now.table.refused }
+    {
+        self.table.is_refused()
+    }
+
+    /// The headers.
+    pub fn into_headers(self) -> Vec<Header>
+        ensures { result ≡ self.table.headers }
+    {
+        let Headers { size: _, table } = self;
+        table.into_headers()
+    }
+}
+
+impl Counting {
+    ghost use Rattle.amqp_wire.specs.Listed.{answered};
+
+    /// The answer on a part, or the refusal of the compound's place.
+    fn answer(&self, part: Result<usize, Error>) -> Result<usize, Error>
+        ensures { answered self.now part result }
+    {
+        if self.missed {
+            return Err(Error::OutOfMemory);
+        }
+        part
+    }
+}
+
+impl Serializer for Headers {
+    ghost use Rattle.amqp_wire.specs.Listed.{headers_permits, headers_has, headers_awaits};
+    ghost use Rattle.amqp_ser.specs.Compounds.{whole};
+    ghost use Rattle.amqp_ser.specs.declared.kind.Kind.{Kind};
+
+    type Ok = usize;
+
+    type Error = Error;
+
+    type Open = Counting;
+
+    ghost permits = { headers_permits };
+
+    ghost has = { headers_has };
+
+    ghost awaits = { headers_awaits };
+
+    fn serialize_fixed(&mut self, fixed: Fixed) -> Result<usize, Error> {
+        self.size.serialize_fixed(fixed)
+    }
+
+    fn serialize_str(&mut self, v: &str) -> Result<usize, Error> {
+        self.size.serialize_str(v)
+    }
+
+    fn serialize_bytes(&mut self, v: &[u8]) -> Result<usize, Error> {
+        self.size.serialize_bytes(v)
+    }
+
+    fn mark(&mut self, mark: Mark) {
+        self.size.mark(mark);
+    }
+
+    fn begin(&mut self, kind: Kind) -> Counting {
+        let at = self.table.len();
+        let size = self.size.begin(kind);
+        let missed = self.table.open(size.shape());
+        Counting {
+            size,
+            at,
+            missed,
+            before: at,
+            last: at,
+            parts: 0,
+        }
+    }
+
+    fn begin_part(&mut self, held: &mut Counting) {
+        held.before = self.table.len();
+        self.size.begin_part(&mut held.size);
+    }
+
+    fn end_part(&mut self, held: &mut Counting, part: Result<usize, Error>) -> Result<(), Error>
+        ensures { (start : Headers) (kind : Kind) (before : Headers) (ps : List (Option Tree)) (p : Option Tree) → headers_awaits start kind before held.old ps → headers_permits before p part self.old →
+            MatchResult result
+            (λ _. headers_has start kind self.new held.new (ps ++ (p ∷ [])))
+            (λ e. headers_has start kind self.new held.new ps × ((rest : List (Option Tree)) →
+            headers_permits start (whole kind (ps ++ (p ∷ rest))) (Err e) self.new)) }
+    {
+        let answer = held.answer(part);
+        match self.size.end_part(&mut held.size, answer) {
+            Ok(()) => {
+                held.last = held.before;
+                held.parts = held.parts.saturating_add(1);
+                Ok(())
+            }
+            Err(e) => {
+                self.table.cut(held.before);
+                Err(e)
+            }
+        }
+    }
+
+    fn undo_part(&mut self, held: &mut Counting) {
+        self.size.undo_part(&mut held.size);
+        self.table.cut(held.last);
+        held.parts = held.parts.saturating_sub(1);
+    }
+
+    fn misuse(&mut self, held: &mut Counting) -> Error {
+        self.size.misuse(&mut held.size)
+    }
+
+    fn end(&mut self, held: Counting) -> Result<usize, Error> {
+        let Counting {
+            size,
+            at,
+            missed,
+            before: _,
+            last: _,
+            parts,
+        } = held;
+        if missed {
+            return Err(Error::OutOfMemory);
+        }
+        let shape = size.shape();
+        let header = Header {
+            len: size.sum() as u32,
+            count: parts,
+            constructor: size.constructor(),
+        };
+        let len = self.size.end(size)?;
+        self.table.fill(at, shape, header);
+        Ok(len)
+    }
+}

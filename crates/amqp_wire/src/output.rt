@@ -1,0 +1,209 @@
+//! Bytes in room that stands ready.
+
+ghost use Rattle.std.specs.Prelude.{◌≡◌, ◌≤◌, ◌++◌, ◌∷◌, [], length, take, drop};
+ghost use Rattle.std.specs.Vec.{vec_capacity};
+
+use crate::table::Header;
+use amqp_data::Error;
+use amqp_ser::Fixed;
+use amqp_size::Form;
+
+/// How far an output has come.
+#[derive(Clone, Copy, Debug)]
+pub struct Position {
+    /// How many headers were taken.
+    pub taken: usize,
+    /// How many bytes were written.
+    pub len: usize,
+}
+
+/// Headers to take, and bytes in room that stands ready.
+#[derive(Drop)]
+pub struct Output {
+    table: Vec<Header>,
+    taken: usize,
+    out: Vec<u8>,
+}
+
+impl Output {
+    ghost use Rattle.amqp_wire.specs.Heads.{pick, text_head};
+    ghost use Rattle.amqp_wire.specs.Written.{Kept, puts, nexts};
+    ghost use Rattle.amqp_ser.specs.Fixed.{fixed_scalar};
+    ghost use Rattle.amqp_ser.specs.Scalars.{scalar_form, scalar_payload};
+    ghost use Rattle.amqp_size.specs.Width.{text_at};
+    ghost use Rattle.amqp_size.specs.Form.{form_bytes, form_payload};
+
+    /// An output with no byte yet.
+    pub fn new(table: Vec<Header>, out: Vec<u8>) -> Output
+        ensures table { result.table ≡ table }
+        ensures taken { result.taken ≡ 0 }
+        ensures out { result.out ≡ out }
+    {
+        Output {
+            table,
+            taken: 0,
+            out,
+        }
+    }
+
+    /// The bytes.
+    pub fn into_bytes(self) -> Vec<u8>
+        ensures { result ≡ self.out }
+    {
+        let Output {
+            table: _,
+            taken: _,
+            out,
+        } = self;
+        out
+    }
+
+    /// How far it has come.
+    pub fn position(&self) -> Position
+        ensures taken { result.taken ≡ self.now.taken }
+        ensures len { result.len ≡ length self.now.out.items }
+    {
+        Position {
+            taken: self.taken,
+            len: self.out.len(),
+        }
+    }
+
+    /// Goes back to where it was.
+    pub fn restore(&mut self, position: Position)
+        ensures table { self.new.table ≡ self.old.table }
+        ensures taken { self.new.taken ≡ position.taken }
+        ensures capacity { vec_capacity self.new.out ≡ vec_capacity self.old.out }
+        ensures out { self.new.out.items ≡ take position.len self.old.out.items }
+    {
+        self.taken = position.taken;
+        self.out.truncate(position.len);
+    }
+
+    /// Takes the next header.
+    pub fn next(&mut self) -> Option<Header>
+        ensures table { self.new.table ≡ self.old.table }
+        ensures out { self.new.out ≡ self.old.out }
+        ensures next { nexts self.old result self.new }
+    {
+        if self.taken >= self.table.len() {
+            return None;
+        }
+        let header = self.table[self.taken];
+        self.taken += 1;
+        Some(header)
+    }
+
+    /// Writes bytes, where there is room.
+    pub fn put(&mut self, bytes: &[u8]) -> Result<(), Error>
+        ensures kept { Kept self.old self.new }
+        ensures taken { self.new.taken ≡ self.old.taken }
+        ensures written { puts self.old bytes.now result self.new }
+    {
+        if bytes.len() > self.out.capacity() - self.out.len() {
+            return Err(Error::TooLong);
+        }
+        match self.out.extend_from_slice(bytes) {
+            Ok(()) => Ok(()),
+            Err(_) => Err(Error::TooLong),
+        }
+    }
+
+    /// Writes a form by itself.
+    fn put_form(&mut self, form: Form) -> Result<(), Error>
+        requires { form.width ≤ 8 }
+        ensures kept { Kept self.old self.new }
+        ensures taken { self.new.taken ≡ self.old.taken }
+        ensures written { puts self.old (form_bytes form) result self.new }
+    {
+        let [a, b, c, d, e, f, g, h] = form.bits.to_be_bytes();
+        match form.width {
+            0 => self.put(&[form.code]),
+            1 => self.put(&[form.code, h]),
+            2 => self.put(&[form.code, g, h]),
+            4 => self.put(&[form.code, e, f, g, h]),
+            8 => self.put(&[form.code, a, b, c, d, e, f, g, h]),
+            _ => {
+                self.put(&[form.code])?;
+                self.put_payload(form)
+            }
+        }
+    }
+
+    /// Writes the bytes after a form's code.
+    fn put_payload(&mut self, form: Form) -> Result<(), Error>
+        requires { form.width ≤ 8 }
+        ensures kept { Kept self.old self.new }
+        ensures taken { self.new.taken ≡ self.old.taken }
+        ensures written { puts self.old (form_payload form) result self.new }
+    {
+        let bytes = form.bits.to_be_bytes();
+        self.put(&bytes[8 - form.width..])
+    }
+
+    /// Writes a value of fixed width.
+    pub fn put_fixed(&mut self, in_array: bool, fixed: Fixed) -> Result<(), Error>
+        ensures kept { Kept self.old self.new }
+        ensures taken { self.new.taken ≡ self.old.taken }
+        ensures written { puts self.old (pick in_array (scalar_form (fixed_scalar fixed)) (scalar_payload (fixed_scalar fixed))) result self.new }
+    {
+        if in_array {
+            self.put_payload(Form::in_array(fixed))
+        } else {
+            self.put_form(Form::ordinary(fixed))
+        }
+    }
+
+    /// Writes the length of a text or a binary, with the code of a length of one byte or that of four.
+    fn put_length(
+        &mut self,
+        in_array: bool,
+        short: u8,
+        long: u8,
+        n: usize,
+    ) -> Result<(), Error>
+        requires { n ≤ 4294967291 }
+        ensures kept { Kept self.old self.new }
+        ensures taken { self.new.taken ≡ self.old.taken }
+        ensures written { puts self.old (text_head in_array short long n) result self.new }
+    {
+        let [a, b, c, d] = (n as u32).to_be_bytes();
+        if in_array {
+            return self.put(&[a, b, c, d]);
+        }
+        if n <= 254 {
+            self.put(&[short, d])
+        } else {
+            self.put(&[long, a, b, c, d])
+        }
+    }
+
+    /// Writes a text or a binary, with the code of a length of one byte or that of four.
+    pub fn put_text(
+        &mut self,
+        in_array: bool,
+        short: u8,
+        long: u8,
+        bytes: &[u8],
+    ) -> Result<(), Error>
+        requires { length bytes.now ≤ 4294967291 }
+        ensures kept { Kept self.old self.new }
+        ensures taken { self.new.taken ≡ self.old.taken }
+        ensures written { puts self.old (text_at in_array short long bytes.now) result self.new }
+    {
+        self.put_length(in_array, short, long, bytes.len())?;
+        self.put(bytes)
+    }
+
+    /// Writes bytes after their code, or alone in an array.
+    pub fn put_exact(&mut self, in_array: bool, code: u8, bytes: &[u8]) -> Result<(), Error>
+        ensures kept { Kept self.old self.new }
+        ensures taken { self.new.taken ≡ self.old.taken }
+        ensures written { puts self.old (pick in_array (code ∷ bytes.now) bytes.now) result self.new }
+    {
+        if !in_array {
+            self.put(&[code])?;
+        }
+        self.put(bytes)
+    }
+}

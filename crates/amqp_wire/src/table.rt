@@ -1,0 +1,158 @@
+//! The headers of compounds, in the order of their opening.
+
+ghost use Rattle.std.specs.Prelude.{◌≡◌, ◌+◌, ◌≤◌, ◌++◌, ◌∷◌, [], length, take, slice_set};
+
+use amqp_size::Shape;
+use amqp_size::width::{list_width, uint_width};
+use std::alloc::Global;
+
+/// What stands before a compound's parts: a length, a count, and an array's constructor.
+#[derive(Clone, Copy, Debug)]
+pub struct Header {
+    /// The length of the body, or of an array's content.
+    pub len: u32,
+    /// How many parts there are.
+    pub count: u32,
+    /// The constructor of an array's elements, if there is one.
+    pub constructor: Option<u8>,
+}
+
+/// A table of headers.
+///
+/// # Memory
+/// None before the first header.
+#[derive(Drop)]
+pub struct Table {
+    headers: Vec<Header>,
+    /// A growth was refused, whatever came of it later.
+    refused: bool,
+}
+
+/// A number that has four bytes, where it has.
+fn narrow(n: usize) -> u32
+    ensures { n ≤ 4294967295 → result ≡ n }
+{
+    n.min(u32::MAX as usize) as u32
+}
+
+impl Table {
+    ghost use Rattle.amqp_wire.specs.Entries.{places, made, made_fits};
+    ghost use Rattle.amqp_wire.specs.Listed.{appended, fills};
+
+    /// A table of no headers.
+    pub fn new(alloc: Global) -> Table
+        ensures { result.headers.items ≡ [] }
+    {
+        Table {
+            headers: Vec::new(alloc),
+            refused: false,
+        }
+    }
+
+    /// Whether a growth was ever refused.
+    pub fn is_refused(&self) -> bool
+        ensures { result ≡ self.now.refused }
+    {
+        self.refused
+    }
+
+    /// How many headers there are.
+    pub fn len(&self) -> usize
+        ensures { result ≡ length self.now.headers.items }
+    {
+        self.headers.len()
+    }
+
+    /// The headers.
+    pub fn into_headers(self) -> Vec<Header>
+        ensures { result ≡ self.headers }
+    {
+        let Table {
+            headers,
+            refused: _,
+        } = self;
+        headers
+    }
+
+    /// Keeps the first headers alone.
+    pub fn cut(&mut self, len: usize)
+        ensures { self.new.headers.items ≡ take len self.old.headers.items }
+    {
+        self.headers.truncate(len);
+    }
+
+    /// Takes a place at the end, and says whether its growth was refused.
+    fn append(&mut self) -> bool
+        ensures { appended 1 self.old.headers.items result self.new.headers.items }
+    {
+        let header = Header {
+            len: 0,
+            count: 0,
+            constructor: None,
+        };
+        match self.headers.push(header) {
+            Ok(()) => false,
+            Err(_) => {
+                self.refused = true;
+                true
+            }
+        }
+    }
+
+    /// Takes the places of a compound, and says whether a growth was refused.
+    pub fn open(&mut self, shape: Shape) -> bool
+        ensures { appended (places shape) self.old.headers.items result self.new.headers.items }
+    {
+        match shape {
+            Shape::Refused => false,
+            Shape::Fields(_) => {
+                if self.append() {
+                    return true;
+                }
+                self.append()
+            }
+            _ => self.append(),
+        }
+    }
+
+    /// Writes a header into its place.
+    fn put(&mut self, at: usize, header: Header)
+        ensures put { at + 1 ≤ length self.old.headers.items → self.new.headers.items ≡ slice_set self.old.headers.items at header }
+        ensures same_length { length self.new.headers.items ≡ length self.old.headers.items }
+    {
+        if at < self.headers.len() {
+            self.headers[at] = header;
+        }
+    }
+
+    /// Writes the headers of a compound into its places, from the header of its parts.
+    pub fn fill(&mut self, at: usize, shape: Shape, header: Header)
+        requires { header.len ≤ 4294967291 }
+        ensures { made_fits shape header.len → at + places shape ≤ length self.old.headers.items →
+            self.new.headers.items ≡ fills (made shape header) at self.old.headers.items }
+    {
+        match shape {
+            Shape::Refused => {}
+            Shape::Only(index) => self.put(
+                at,
+                Header {
+                    len: narrow(uint_width(index) + header.len as usize),
+                    count: 2,
+                    constructor: None,
+                },
+            ),
+            Shape::Fields(index) => {
+                self.put(
+                    at,
+                    Header {
+                        len: narrow(uint_width(index) + list_width(header.len as usize)),
+                        count: 2,
+                        constructor: None,
+                    },
+                );
+                self.put(at.saturating_add(1), header);
+            }
+            _ => self.put(at, header),
+        }
+    }
+}

@@ -1,0 +1,40 @@
+//! A value's bytes.
+
+ghost use Rattle.amqp_ser.specs.Permitted.{AreBytesOf};
+ghost use Rattle.amqp_wire.specs.Answer.{contents};
+
+use crate::headers::Headers;
+use crate::writer::Writer;
+use amqp_data::Error;
+use amqp_ser::Serialize;
+use std::alloc::Global;
+
+/// The value's bytes, exactly where its tree can be written.
+///
+/// # Encoding
+/// The shortest form of each value that this profile writes; in an array the form of its constructor (AMQP 1.0 part 1,
+/// sections 1.2 to 1.6).
+///
+/// # Errors
+/// `OutOfMemory` where a growth was refused. `TooLong` only where a limit is passed, `InvalidValue` only where the tree
+/// cannot be written for another cause; one of them where the value has no tree.
+///
+/// # Memory
+/// Takes `alloc`: once for the bytes, and for a table of 12 bytes a compound; for a scalar there is no table.
+///
+/// # Example
+/// The list of the strings `a` and `bc`: `c00802a10161a1026263`.
+pub fn to_vec<T: Serialize>(alloc: Global, value: &T) -> Result<Vec<u8>, Error>
+    ensures { AreBytesOf (T.tree value.now) (contents result) }
+{
+    let mut headers = Headers::new(alloc);
+    let answer = value.serialize(&mut headers);
+    if headers.is_refused() {
+        return Err(Error::OutOfMemory);
+    }
+    let len = answer?;
+    let out = Vec::with_capacity(alloc, len)?;
+    let mut writer = Writer::new(headers.into_headers(), out);
+    value.serialize(&mut writer)?;
+    Ok(writer.into_bytes())
+}

@@ -1,0 +1,220 @@
+//! The second walk: the bytes, into room that stands ready.
+
+ghost use Rattle.std.specs.Prelude.{◌≡◌, ◌++◌, ◌∷◌, [], List, Option, Some, None, Result, Ok, Err, MatchResult, true, false};
+ghost use Rattle.amqp_ser.specs.Tree.{Tree};
+ghost use Rattle.amqp_wire.specs.Heads.{in_array};
+
+use crate::output::{Output, Position};
+use crate::table::Header;
+use amqp_data::Error;
+use amqp_ser::{Fixed, Kind, Mark, Serializer};
+use amqp_size::width::LONGEST;
+use amqp_size::{Place, ScalarMark, Under};
+
+/// Writes values into room that stands ready, with the headers of a table.
+///
+/// # Memory
+/// Takes none.
+#[derive(Drop)]
+pub struct Writer {
+    place: Under,
+    output: Output,
+}
+
+/// A compound whose parts are still written.
+#[derive(Drop)]
+pub struct Writing {
+    place: Place,
+    inner: Place,
+    /// Where the output stood before the part that is next or under way.
+    part: Position,
+    /// Where it stood before the last part that was taken.
+    last: Position,
+    /// The compound could not be opened.
+    refused: bool,
+}
+
+fn in_array(place: Place) -> bool
+    ensures { result ≡ in_array place }
+{
+    matches!(place, Place::First | Place::Element(_))
+}
+
+impl Writer {
+    ghost use Rattle.amqp_wire.specs.Heads.{pick};
+    ghost use Rattle.amqp_wire.specs.Written.{Kept, puts};
+    ghost use Rattle.amqp_size.specs.Place.{outer};
+    ghost use Rattle.amqp_size.specs.declared.place.Under.TheVariants.{Plain};
+    ghost use Rattle.amqp_size.specs.declared.place.Place.TheVariants.{Root};
+
+    /// A writer at the root.
+    pub fn new(table: Vec<Header>, out: Vec<u8>) -> Writer
+        ensures table { result.output.table ≡ table }
+        ensures taken { result.output.taken ≡ 0 }
+        ensures out { result.output.out ≡ out }
+        ensures place { result.place ≡ Plain Root }
+    {
+        Writer {
+            place: Under::Plain(Place::Root),
+            output: Output::new(table, out),
+        }
+    }
+
+    /// The bytes.
+    pub fn into_bytes(self) -> Vec<u8>
+        ensures { result ≡ self.output.out }
+    {
+        let Writer { place: _, output } = self;
+        output.into_bytes()
+    }
+
+    /// Writes bytes of one length after their code.
+    fn exact(&mut self, place: Place, code: u8, bytes: &[u8]) -> Result<(), Error>
+        ensures kept { Kept self.old.output self.new.output }
+        ensures taken { self.new.output.taken ≡ self.old.output.taken }
+        ensures written { puts self.old.output (pick (in_array place) (code ∷ bytes.now) bytes.now) result self.new.output }
+        ensures place { self.new.place ≡ Plain place }
+    {
+        self.place = Under::Plain(place);
+        self.output.put_exact(in_array(place), code, bytes)
+    }
+
+    /// Refuses a value that its marker does not take.
+    fn refuse(&mut self) -> Result<(), Error>
+        ensures output { self.new.output ≡ self.old.output }
+        ensures place { self.new.place ≡ Plain (outer self.old.place) }
+        ensures refused { result ≡ Err Error.InvalidValue }
+    {
+        self.place = Under::Plain(self.place.outer());
+        Err(Error::InvalidValue)
+    }
+}
+
+impl Serializer for Writer {
+    ghost use Rattle.amqp_wire.specs.Written.{writer_permits, writer_has, writer_awaits};
+    ghost use Rattle.amqp_ser.specs.Compounds.{whole};
+    ghost use Rattle.amqp_ser.specs.declared.kind.Kind.{Kind};
+
+    type Ok = ();
+
+    type Error = Error;
+
+    type Open = Writing;
+
+    ghost permits = { writer_permits };
+
+    ghost has = { writer_has };
+
+    ghost awaits = { writer_awaits };
+
+    fn serialize_fixed(&mut self, fixed: Fixed) -> Result<(), Error> {
+        match self.place {
+            Under::Plain(place) => self.output.put_fixed(in_array(place), fixed),
+            Under::Scalar(ScalarMark::Timestamp, place) => match fixed {
+                Fixed::Long(v) => { self.exact(place, 0x83, &v.to_be_bytes()) }
+                _ => self.refuse(),
+            },
+            _ => self.refuse(),
+        }
+    }
+
+    fn serialize_str(&mut self, v: &str) -> Result<(), Error> {
+        if v.len() > LONGEST {
+            return self.refuse();
+        }
+        match self.place {
+            Under::Plain(place) => self
+                .output
+                .put_text(in_array(place), 0xa1, 0xb1, v.as_bytes()),
+            Under::Scalar(ScalarMark::Symbol, place) => {
+                self.place = Under::Plain(place);
+                self.output
+                    .put_text(in_array(place), 0xa3, 0xb3, v.as_bytes())
+            }
+            _ => self.refuse(),
+        }
+    }
+
+    fn serialize_bytes(&mut self, v: &[u8]) -> Result<(), Error> {
+        if v.len() > LONGEST {
+            return self.refuse();
+        }
+        match self.place {
+            Under::Plain(place) => self.output.put_text(in_array(place), 0xa0, 0xb0, v),
+            Under::Scalar(ScalarMark::Decimal32, place) if v.len() == 4 => self.exact(
+                place, 0x74, v,
+            ),
+            Under::Scalar(ScalarMark::Decimal64, place) if v.len() == 8 => self.exact(
+                place, 0x84, v,
+            ),
+            Under::Scalar(ScalarMark::Decimal128, place) if v.len() == 16 => self.exact(
+                place, 0x94, v,
+            ),
+            Under::Scalar(ScalarMark::Uuid, place) if v.len() == 16 => self.exact(place, 0x98, v),
+            _ => self.refuse(),
+        }
+    }
+
+    fn mark(&mut self, mark: Mark) {
+        self.place = self.place.marked(mark);
+    }
+
+    fn begin(&mut self, kind: Kind) -> Writing {
+        let place = self.place.outer();
+        let shape = self.place.shape(kind);
+        self.place = Under::Plain(place);
+        let refused = self.output.open(in_array(place), shape).is_err();
+        let position = self.output.position();
+        Writing {
+            place,
+            inner: shape.inner(),
+            part: position,
+            last: position,
+            refused,
+        }
+    }
+
+    fn begin_part(&mut self, held: &mut Writing) {
+        held.part = self.output.position();
+        self.place = Under::Plain(held.inner);
+    }
+
+    fn end_part(&mut self, held: &mut Writing, part: Result<(), Error>) -> Result<(), Error>
+        ensures { (start : Writer) (kind : Kind) (before : Writer) (ps : List (Option Tree)) (p : Option Tree) → writer_awaits start kind before held.old ps → writer_permits before p part self.old →
+            MatchResult result
+            (λ _. writer_has start kind self.new held.new (ps ++ (p ∷ [])))
+            (λ e. writer_has start kind self.new held.new ps × ((rest : List (Option Tree)) →
+            writer_permits start (whole kind (ps ++ (p ∷ rest))) (Err e) self.new)) }
+    {
+        self.place = Under::Plain(held.place);
+        if held.refused {
+            self.output.restore(held.part);
+            return Err(Error::InvalidValue);
+        }
+        match part {
+            Ok(()) => {
+                held.last = held.part;
+                Ok(())
+            }
+            Err(e) => {
+                self.output.restore(held.part);
+                Err(e)
+            }
+        }
+    }
+
+    fn undo_part(&mut self, held: &mut Writing) {
+        self.output.restore(held.last);
+    }
+
+    fn misuse(&mut self, _held: &mut Writing) -> Error {
+        Error::InvalidValue
+    }
+
+    fn end(&mut self, held: Writing) -> Result<(), Error> {
+        if held.refused {
+            return Err(Error::InvalidValue);
+        }
+        Ok(())
+    }
+}

@@ -1,0 +1,13 @@
+//! A serializer and a type as a user of the crates would write them: `NodeCounter` counts the nodes of any value's
+//! tree, and `Reading` has three fields.
+//!
+//! Both stand on the public contracts of `amqp_ser` alone.
+#![tactic(auto)]
+
+mod counter;
+mod reading;
+#[cfg(test)]
+mod tests;
+
+pub use counter::{Counting, NodeCounter, count_nodes};
+pub use reading::Reading;

@@ -1,0 +1,31 @@
+//! A type of one's own: a list of its three fields.
+
+ghost use Rattle.std.specs.Prelude.{[], ◌∷◌, Some, string_bytes};
+ghost use Rattle.amqp_ser.specs.Tree.{scalar, string, uint, int};
+ghost use Rattle.amqp_ser.specs.Compounds.{whole};
+ghost use Rattle.amqp_ser.specs.declared.kind.Kind.TheVariants.{List};
+
+use amqp_ser::{Serialize, Serializer};
+
+/// What a thermometer reads.
+#[derive(Debug, Drop)]
+pub struct Reading {
+    /// The thermometer's name.
+    pub sensor: String,
+    /// Seconds since the thermometer was switched on.
+    pub seconds: u32,
+    /// Hundredths of a degree.
+    pub degrees: i32,
+}
+
+impl Serialize for Reading {
+    ghost tree = { λ r. whole List (Some (scalar (string (string_bytes r.sensor))) ∷ Some (scalar (uint r.seconds)) ∷ Some (scalar (int r.degrees)) ∷ []) };
+
+    fn serialize<S: Serializer>(&self, serializer: &mut S) -> Result<S::Ok, S::Error> {
+        let mut fields = serializer.serialize_tuple(3)?;
+        fields.serialize_element(&self.sensor)?;
+        fields.serialize_element(&self.seconds)?;
+        fields.serialize_element(&self.degrees)?;
+        fields.end()
+    }
+}
