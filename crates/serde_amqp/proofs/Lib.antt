@@ -2,3 +2,5 @@ pub mod Written
 pub mod Stopped
 pub mod Runs
 pub mod Decided
+pub mod LineLemmas
+pub mod StringLemmas

@@ -11,10 +11,10 @@ use Rattle.amqp_data.specs.declared.error.Error.{Error}
 use Rattle.amqp_data.specs.declared.error.Error.TheVariants.{OutOfMemory, TooLong, InvalidValue, InvalidFormatCode, UnexpectedEof, Io, Message}
 use Rattle.amqp_frame.specs.Cut.{IsCut}
 use Rattle.amqp_frame.specs.Frame.{IsFrame, HasFrame, HasBroken}
-use Rattle.amqp_frame.specs.Reader.{last_count, Failed}
+use Rattle.amqp_frame.specs.Reader.{Failed}
 use Rattle.serde_amqp.specs.Writer.{TakesFront}
 use Rattle.serde_amqp.specs.CutLines.{cut_line, cut_lines}
-use Rattle.serde_amqp.specs.CutRun.{Prints, PrintsFront, PrintsMost, IsCutShort, CutRefuses}
+use Rattle.serde_amqp.specs.CutRun.{Prints, PrintsFront, IsCutShort, CutRefuses}
 use Rattle.serde_amqp.specs.CutSteps.{PrintsNext, StopsInLine, StepRefuses}
 
 -- so many frames were taken, and their lines were put

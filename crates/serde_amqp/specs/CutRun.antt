@@ -7,7 +7,7 @@ use Rattle.amqp_data.specs.declared.error.Error.TheVariants.{OutOfMemory, TooLon
 use Rattle.amqp_frame.specs.Cut.{IsCut}
 use Rattle.amqp_frame.specs.Frame.{IsFrame, IsBeginning, HasBroken}
 use Rattle.serde_amqp.specs.Writer.{TakesFront}
-use Rattle.serde_amqp.specs.CutLines.{cut_line, cut_lines}
+use Rattle.serde_amqp.specs.CutLines.{cut_lines}
 
 -- the lines of all frames of the cut were put, and P holds of its rest
 abbrev pub Prints : List ℕ → Option (List ℕ) → Option (List ℕ) → (List ℕ → Type 0) → Type 0

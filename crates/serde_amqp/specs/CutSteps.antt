@@ -3,7 +3,7 @@ use Rattle.std.specs.Prelude.{◌≡◌, ℕ, ◌⊎◌, List, ◌++◌, Option}
 use Rattle.std.specs.Io.KnownBytes.{Keeps, Consumes, Appends}
 use Rattle.amqp_data.specs.declared.error.Error.{Error}
 use Rattle.amqp_data.specs.declared.error.Error.TheVariants.{OutOfMemory, TooLong, InvalidValue, InvalidFormatCode, UnexpectedEof, Io, Message}
-use Rattle.amqp_frame.specs.Frame.{IsFrame, IsBeginning, HasFrame, HasBroken}
+use Rattle.amqp_frame.specs.Frame.{IsFrame, HasFrame, HasBroken}
 use Rattle.serde_amqp.specs.Writer.{TakesFront}
 use Rattle.serde_amqp.specs.CutLines.{cut_line}
 use Rattle.serde_amqp.specs.CutRun.{IsCutShort}

@@ -3,3 +3,5 @@ pub mod Hexadecimal
 pub mod CutLines
 pub mod CutRun
 pub mod CutSteps
+pub mod Lines
+pub mod LinesRun

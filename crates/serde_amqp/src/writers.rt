@@ -50,7 +50,8 @@ impl VecWriter {
     pub fn into_inner(self) -> Vec<u8>
         ensures bytes { ⟦<VecWriter as Write>⟧.written self ≡ Some result.items }
     {
-        self.bytes
+        let VecWriter { bytes } = self;
+        bytes
     }
 }
 

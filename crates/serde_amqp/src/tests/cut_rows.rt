@@ -16,6 +16,7 @@ fn cut<R: Read>(alloc: Global, reader: &mut R) -> (Result<(), Error>, Vec<u8>) {
 }
 
 const EOF: Result<(), Error> = Err(Error::UnexpectedEof);
+
 const CODE: Result<(), Error> = Err(Error::InvalidFormatCode);
 
 // Inputs, the answer on each, and what is printed.

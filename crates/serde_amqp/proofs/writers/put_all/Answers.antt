@@ -1,4 +1,4 @@
-use Rattle.std.proofs.Common.{length, length-drop, arith}
+use Rattle.std.proofs.Common.{length-drop, arith}
 use Rattle.serde_amqp.proofs.Written.{rest-is, writes-more}
 use Rattle.serde_amqp.proofs.writers.put_all.Goals as goal
 
