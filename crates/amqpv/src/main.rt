@@ -10,13 +10,13 @@ use std::{env, io};
 
 fn main(rt: HostRuntime) -> io::Result<ExitCode> {
     let mut words = env::args(&rt)?.skip(1);
-    let cut = match (words.next(), words.next()) {
-        (None, _) => false,
-        (Some(word), None) if word.as_str() == "cut" => true,
-        _ => {
-            eprintln!(rt; "usage: amqpv [cut]")?;
-            return Ok(ExitCode::from(2));
-        }
+    let cut = match words.next() {
+        None => Some(false),
+        Some(word) => (word.as_str() == "cut" && words.next().is_none()).then_some(true),
+    };
+    let Some(cut) = cut else {
+        eprintln!(rt; "usage: amqpv [cut]")?;
+        return Ok(ExitCode::from(2));
     };
     let Err(error) = run(&rt, cut) else {
         return Ok(ExitCode::SUCCESS);
