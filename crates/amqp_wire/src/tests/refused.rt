@@ -40,7 +40,10 @@ fn a_refused_element_leaves_no_header_and_no_byte(rt: HostRuntime) -> Result<(),
     assert_eq!(rt; table.len(), 2, "of the list and of the list of b");
     let mut writer = Writer::new(table, Vec::with_capacity(rt.alloc(), 12)?);
     assert_eq!(rt; passes_over(&mut writer), Ok(()));
-    assert_eq!(rt; writer.into_bytes().as_slice(), b"\xc0\x0a\x02\xa1\x01a\xc0\x04\x01\xa1\x01b".as_slice());
+    assert_eq!(rt;
+        writer.into_bytes().as_slice(),
+        b"\xc0\x0a\x02\xa1\x01a\xc0\x04\x01\xa1\x01b".as_slice()
+    );
     Ok(())
 }
 
@@ -63,7 +66,10 @@ fn a_refused_value_takes_its_key_back(rt: HostRuntime) -> Result<(), Fail> {
     assert_eq!(rt; table.len(), 2, "of the map and of its first key");
     let mut writer = Writer::new(table, Vec::with_capacity(rt.alloc(), 16)?);
     assert_eq!(rt; passes_over_an_entry(&mut writer), Ok(()));
-    assert_eq!(rt; writer.into_bytes().as_slice(), b"\xc1\x0e\x04\xc0\x04\x01\xa1\x01a\x50\x01\xa1\x01b\x50\x02".as_slice());
+    assert_eq!(rt;
+        writer.into_bytes().as_slice(),
+        b"\xc1\x0e\x04\xc0\x04\x01\xa1\x01a\x50\x01\xa1\x01b\x50\x02".as_slice()
+    );
     Ok(())
 }
 
