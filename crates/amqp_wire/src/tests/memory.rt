@@ -6,10 +6,12 @@ ghost use Rattle.amqp_ser.specs.Compounds.{whole};
 ghost use Rattle.amqp_ser.specs.declared.kind.Kind.TheVariants.{List};
 
 use super::to_vec;
+use crate::table::Header;
 use amqp_data::Error;
 use amqp_ser::{Serialize, Serializer};
 use std::alloc::Global;
 use std::cell::Cell;
+use std::mem::size_of;
 
 /// Whether the answer is the value's bytes or want of memory.
 fn writes_or_lacks<T: Serialize>(alloc: Global, value: &T, bytes: &[u8]) -> bool {
@@ -17,6 +19,11 @@ fn writes_or_lacks<T: Serialize>(alloc: Global, value: &T, bytes: &[u8]) -> bool
         Ok(written) => written.as_slice() == bytes,
         Err(e) => e == Error::OutOfMemory,
     }
+}
+
+#[test]
+fn a_header_has_twelve_bytes(rt: HostRuntime) {
+    assert_eq!(rt; size_of::<Header>(), 12);
 }
 
 #[test]

@@ -1,4 +1,4 @@
-use Rattle.std.proofs.Common.{◌≡◌, ◌+◌, ◌++◌, ◌∷◌, [], refl, subst, ap, sym, ◌∙◌, take, arith}
+use Rattle.std.proofs.Common.{◌≡◌, ◌++◌, ◌∷◌, [], refl, subst, ap, ◌∙◌, take, arith}
 use Rattle.amqp_size.specs.Place.{meant}
 use Rattle.amqp_wire.specs.Listed.{listed}
 use Rattle.amqp_wire.specs.declared.headers.Headers.{Headers}
