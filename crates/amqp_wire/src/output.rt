@@ -155,13 +155,7 @@ impl Output {
     }
 
     /// Writes the length of a text or a binary, with the code of a length of one byte or that of four.
-    fn put_length(
-        &mut self,
-        in_array: bool,
-        short: u8,
-        long: u8,
-        n: usize,
-    ) -> Result<(), Error>
+    fn put_length(&mut self, in_array: bool, short: u8, long: u8, n: usize) -> Result<(), Error>
         requires { n ≤ 4294967291 }
         ensures kept { Kept self.old self.new }
         ensures taken { self.new.taken ≡ self.old.taken }

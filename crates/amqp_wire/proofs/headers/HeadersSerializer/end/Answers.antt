@@ -1,4 +1,4 @@
-use Rattle.std.proofs.Common.{◌≡◌, ◌+◌, ◌≤◌, length, refl, subst, ap, sym}
+use Rattle.std.proofs.Common.{◌≡◌, ◌+◌, ◌≤◌, length, refl, subst}
 use Rattle.amqp_ser.specs.Compounds.{whole}
 use Rattle.amqp_size.specs.Place.{meant}
 use Rattle.amqp_size.specs.Counted.{size_permits}

@@ -1,4 +1,4 @@
-use Rattle.std.proofs.Common.{◌⊎◌, inl, inr, refl, ap, ◌∙◌}
+use Rattle.std.proofs.Common.{inl, inr, refl, ap, ◌∙◌}
 use Rattle.amqp_size.specs.declared.place.Under.TheVariants.{Plain}
 use Rattle.amqp_wire.specs.declared.headers.Counting.{Counting}
 use Rattle.amqp_wire.proofs.Listing.{table_undone}
