@@ -81,6 +81,7 @@ impl Counting {
 }
 
 impl Serializer for Headers {
+    ghost use Rattle.amqp_data.specs.declared.error.Error.TheVariants.{InvalidValue};
     ghost use Rattle.amqp_wire.specs.Listed.{headers_permits, headers_has, headers_awaits};
     ghost use Rattle.amqp_ser.specs.Compounds.{whole};
     ghost use Rattle.amqp_ser.specs.declared.kind.Kind.{Kind};
@@ -96,6 +97,8 @@ impl Serializer for Headers {
     ghost has = { headers_has };
 
     ghost awaits = { headers_awaits };
+
+    ghost is_misuse = { λ e. e ≡ InvalidValue };
 
     fn serialize_fixed(&mut self, fixed: Fixed) -> Result<usize, Error> {
         self.size.serialize_fixed(fixed)

@@ -91,6 +91,7 @@ impl Writer {
 }
 
 impl Serializer for Writer {
+    ghost use Rattle.amqp_data.specs.declared.error.Error.TheVariants.{InvalidValue};
     ghost use Rattle.amqp_wire.specs.Written.{writer_permits, writer_has, writer_awaits};
     ghost use Rattle.amqp_ser.specs.Compounds.{whole};
     ghost use Rattle.amqp_ser.specs.declared.kind.Kind.{Kind};
@@ -106,6 +107,8 @@ impl Serializer for Writer {
     ghost has = { writer_has };
 
     ghost awaits = { writer_awaits };
+
+    ghost is_misuse = { λ e. e ≡ InvalidValue };
 
     fn serialize_fixed(&mut self, fixed: Fixed) -> Result<(), Error> {
         match self.place {
