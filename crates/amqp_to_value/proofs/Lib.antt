@@ -1,0 +1,3 @@
+pub mod FedLemmas
+pub mod MapLemmas
+pub mod HoldsLemmas

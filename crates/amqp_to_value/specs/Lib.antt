@@ -1,0 +1,4 @@
+pub mod Permitted
+pub mod Under
+pub mod Fed
+pub mod Holds

@@ -1,0 +1,24 @@
+-- The answers that may be given on a tree, or on none: an untyped value whose tree is the image.
+use Rattle.std.specs.Prelude.{◌≡◌, Option, Some, None, Result, Ok, Err}
+use Rattle.amqp_data.specs.declared.error.Error.{Error}
+use Rattle.amqp_data.specs.declared.error.Error.TheVariants as error
+use Rattle.amqp_ser.specs.Tree.{Tree}
+use Rattle.amqp_value.specs.Image.{image}
+use Rattle.amqp_value.specs.TreeOf.{tree_of}
+use Rattle.amqp_value.specs.declared.value.Value.{Value}
+
+-- the value stands for the tree
+abbrev pub StandsFor : Value → Option Tree → Type 0
+StandsFor v None = ⊥
+StandsFor v (Some t) = tree_of v ≡ image t
+
+-- want of memory on any tree, invalid on none alone, and no other refusal
+abbrev pub refuses : Error → Option Tree → Type 0
+refuses error.OutOfMemory t = Unit {0}
+refuses error.InvalidValue None = Unit {0}
+refuses e t = ⊥
+
+-- on a tree its image, want of memory aside; on none a refusal
+abbrev pub IsImageOf : Option Tree → Result Value Error → Type 0
+IsImageOf t (Ok v) = StandsFor v t
+IsImageOf t (Err e) = refuses e t

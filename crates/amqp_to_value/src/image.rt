@@ -1,0 +1,52 @@
+//! The value that a value stands for.
+
+ghost use Rattle.std.specs.Prelude.{Option, Result};
+ghost use Rattle.amqp_ser.specs.Tree.{Tree};
+ghost use Rattle.amqp_to_value.specs.Permitted.{IsImageOf};
+
+use crate::serializer::Serializer;
+use amqp_data::Error;
+use amqp_ser::Serialize;
+use amqp_value::Value;
+use std::alloc::Global;
+
+/// The untyped value whose tree is the image of the value's tree.
+///
+/// Each kind of tree is its variant. A variant of an enum is the map of one pair, from its index as an uint to its
+/// payload. The pairs of a map are inserted in order: a present key keeps its place and takes the new value.
+///
+/// # Errors
+/// `OutOfMemory` where a growth of memory is refused; `InvalidValue` only where the value has no tree, and then one of
+/// the two.
+///
+/// # Memory
+/// Takes `alloc`.
+///
+/// # Example
+/// The vector of the strings `a` and `bc` gives the list of the two, which is written `c00802a10161a1026263`.
+pub fn to_value<T: Serialize>(alloc: Global, value: &T) -> Result<Value, Error>
+    ensures { IsImageOf (T.tree value.now) result }
+{
+    let mut serializer = Serializer::new(alloc);
+    value.serialize(&mut serializer)
+}
+
+/// A type into which whatever has a tree can be turned.
+pub trait TryFromSerializable: Sized {
+    ghost use Rattle.amqp_data.specs.declared.error.Error.{Error};
+
+    /// What may be answered on a tree, or on none.
+    ghost gives: { Option Tree → Result Self Error → Type 0 };
+
+    /// Turns the value into this type.
+    fn try_from_serializable<T: Serialize>(alloc: Global, value: &T) -> Result<Self, Error>
+        ensures { gives (T.tree value.now) result };
+}
+
+impl TryFromSerializable for Value {
+    ghost gives = { IsImageOf };
+
+    fn try_from_serializable<T: Serialize>(alloc: Global, value: &T) -> Result<Value, Error> {
+        to_value(alloc, value)
+    }
+}

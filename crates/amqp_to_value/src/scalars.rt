@@ -1,0 +1,71 @@
+//! The values of scalars.
+
+ghost use Rattle.std.specs.Prelude.{◌≡◌, Some, MatchResult};
+ghost use Rattle.amqp_ser.specs.Tree.{scalar, binary, string};
+ghost use Rattle.amqp_ser.specs.Fixed.{fixed_scalar};
+ghost use Rattle.amqp_value.specs.TreeOf.{tree_of};
+ghost use Rattle.amqp_to_value.specs.Permitted.{IsImageOf};
+ghost use Rattle.amqp_to_value.specs.Under.{meant};
+
+use crate::under::Under;
+use amqp_data::{ByteBuf, Dec32, Dec64, Dec128, Error, F32Bits, F64Bits, Symbol, Timestamp, Uuid};
+use amqp_ser::{Fixed, Mark};
+use amqp_value::Value;
+use std::alloc::Global;
+
+/// The value of a scalar of fixed width.
+pub fn fixed_value(fixed: Fixed) -> Value
+    ensures { tree_of result ≡ scalar (fixed_scalar fixed) }
+{
+    match fixed {
+        Fixed::Null => Value::Null,
+        Fixed::Bool(v) => Value::Bool(v),
+        Fixed::Ubyte(v) => Value::Ubyte(v),
+        Fixed::Ushort(v) => Value::Ushort(v),
+        Fixed::Uint(v) => Value::Uint(v),
+        Fixed::Ulong(v) => Value::Ulong(v),
+        Fixed::Byte(v) => Value::Byte(v),
+        Fixed::Short(v) => Value::Short(v),
+        Fixed::Int(v) => Value::Int(v),
+        Fixed::Long(v) => Value::Long(v),
+        Fixed::Float(v) => Value::Float(F32Bits::from(v)),
+        Fixed::Double(v) => Value::Double(F64Bits::from(v)),
+        Fixed::Char(v) => Value::Char(v),
+    }
+}
+
+/// The value of a scalar of fixed width under a marker.
+pub fn marked_fixed(under: Under, fixed: Fixed) -> Result<Value, Error>
+    ensures { IsImageOf (meant under (Some (scalar (fixed_scalar fixed)))) result }
+{
+    match (under, fixed) {
+        (Under::Mark(Mark::Other), fixed) => Ok(fixed_value(fixed)),
+        (Under::Mark(Mark::Timestamp), Fixed::Long(v)) => Ok(Value::Timestamp(Timestamp::from(v))),
+        _ => Err(Error::InvalidValue),
+    }
+}
+
+/// The value of a text under a marker.
+pub fn marked_text(alloc: Global, under: Under, text: &str) -> Result<Value, Error>
+    ensures { IsImageOf (meant under (Some (scalar (string text.now)))) result }
+{
+    match under {
+        Under::Mark(Mark::Other) => Ok(Value::String(String::from_str(alloc, text)?)),
+        Under::Mark(Mark::Symbol) => Ok(Value::Symbol(Symbol::try_from_str(alloc, text)?)),
+        _ => Err(Error::InvalidValue),
+    }
+}
+
+/// The value of a binary under a marker.
+pub fn marked_bytes(alloc: Global, under: Under, bytes: &[u8]) -> Result<Value, Error>
+    ensures { IsImageOf (meant under (Some (scalar (binary bytes.now)))) result }
+{
+    match under {
+        Under::Mark(Mark::Other) => Ok(Value::Binary(ByteBuf::from(bytes.to_vec(alloc)?))),
+        Under::Mark(Mark::Decimal32) => Ok(Value::Decimal32(Dec32::try_from(bytes)?)),
+        Under::Mark(Mark::Decimal64) => Ok(Value::Decimal64(Dec64::try_from(bytes)?)),
+        Under::Mark(Mark::Decimal128) => Ok(Value::Decimal128(Dec128::try_from(bytes)?)),
+        Under::Mark(Mark::Uuid) => Ok(Value::Uuid(Uuid::try_from(bytes)?)),
+        _ => Err(Error::InvalidValue),
+    }
+}
