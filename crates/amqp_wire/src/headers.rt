@@ -42,6 +42,7 @@ impl Headers {
     /// A first walk that has met nothing.
     pub fn new(alloc: Global) -> Headers
         ensures table { result.table.headers.items ≡ [] }
+        ensures refused { result.table.refused ≡ false }
         ensures place { result.size.place ≡ Plain Root }
     {
         Headers {
