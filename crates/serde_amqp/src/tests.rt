@@ -4,6 +4,7 @@ mod compounds;
 mod cut_rows;
 mod line_rows;
 mod memory;
+mod refusals;
 mod rows;
 mod streams;
 mod value_rows;

@@ -1,7 +1,5 @@
 //! Worked rows: a value's length, bytes and image, by the encoding tables (AMQP 1.0 part 1, section 1.6).
 
-ghost use Rattle.std.specs.Prelude.{◌≤◌};
-
 use crate::{Error, Value, serialized_size, to_value, to_vec};
 use amqp_data::{
     ByteBuf, Dec32, Dec64, Dec128, F32Bits, F64Bits, Symbol, SymbolRef, Timestamp, Uuid,
@@ -11,9 +9,7 @@ use std::alloc::{AllocError, Global};
 use std::process::Abort;
 use std::test::Fail;
 
-fn digit(character: u8) -> u8
-    ensures { result ≤ 15 }
-{
+fn digit(character: u8) -> u8 {
     match character {
         b'0'..=b'9' => character - b'0',
         b'a'..=b'f' => character - b'a' + 10,
@@ -29,7 +25,7 @@ pub fn decoded(alloc: Global, hexadecimal: &str) -> Result<Vec<u8>, AllocError> 
         match high {
             None => high = Some(digit(*character)),
             Some(first) => {
-                bytes.push(first * 16 + digit(*character))?;
+                bytes.push(first.wrapping_mul(16).wrapping_add(digit(*character)))?;
                 high = None;
             }
         }
