@@ -56,6 +56,7 @@ pub fn run_cut<R: Read, W: Write>(
 {
     laws::one_case();
     laws::one_cut();
+    laws::some_byte();
     print_frames(alloc, reader, writer)
 }
 
