@@ -53,6 +53,13 @@ run-ends some_byte (Some s) None w v u n p over kept = absurd p.3
 run-ends some_byte (Some s) (Some x) w v u n (frames, size, each, read, put) over kept =
     (frames, [], record { whole = read ∙ ap (λ l. concat frames ++ l) over; each = each; over = none-in-nothing some_byte }, Appends-kept w v u _ put kept, refl)
 
+-- all was taken then
+pub run-reads : (a b c w v : Option (List ℕ)) (n : ℕ) → Progress a b w v n → IsAtEnd b → Keeps b c → IfSome a (λ _. IsAtEnd c)
+run-reads None b c w v n p over kept = tt
+run-reads (Some s) None c w v n p over kept = absurd p.3
+run-reads (Some s) (Some x) None w v n p over kept = absurd kept
+run-reads (Some s) (Some x) (Some y) w v n p over kept = kept ∙ over
+
 -- a step refused, over a string that has a cut
 module _ (some_cut : (s : List ℕ) → (frames : List (List ℕ)) × (rest : List ℕ) × IsCut s frames rest) where
   stops-between : (s t : List ℕ) (w v u : Option (List ℕ)) (n : ℕ) → Progress (Some s) (Some t) w v n → Keeps v u → PrintsFront s w u

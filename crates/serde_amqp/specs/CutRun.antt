@@ -1,5 +1,5 @@
 -- What a run over the frames of a byte string puts, and why it refuses (AMQP 1.0 part 1, section 1.2).
-use Rattle.std.specs.Prelude.{◌≡◌, ◌≢◌, ℕ, ◌-◌, ◌^◌, ◌⊎◌, ◌↔◌, List, [], ◌++◌, length, Option, Result, IsOk, IsErrOf}
+use Rattle.std.specs.Prelude.{◌≡◌, ◌≢◌, ℕ, ◌-◌, ◌^◌, ◌≤◌, ◌⊎◌, ◌↔◌, List, [], ◌++◌, length, Option, Result, IsOk, IsErrOf}
 use Rattle.std.specs.List.{AllByRecursion, concat}
 use Rattle.std.specs.Io.KnownBytes.{Appends}
 use Rattle.amqp_data.specs.declared.error.Error.{Error}
@@ -37,9 +37,9 @@ CutRefuses s old new Io = PrintsFront s old new
 CutRefuses s old new InvalidValue = ⊥
 CutRefuses s old new (Message words) = ⊥
 
--- want of memory, failures and too many frames aside, the rest of the cut decides the answer
+-- want of memory and failures aside, and on fewer than 2 ^ 64 bytes, the rest of the cut decides the answer
 abbrev pub CutDecidedBy : {T : Type 0} → List ℕ → Result T Error → Type 0
 CutDecidedBy s r =
     (frames : List (List ℕ)) (rest : List ℕ) → IsCut s frames rest
-    → IsErrOf r OutOfMemory ⊎ (IsErrOf r Io ⊎ (IsErrOf r TooLong ⊎ ((IsOk r ↔ (rest ≡ []))
+    → IsErrOf r OutOfMemory ⊎ (IsErrOf r Io ⊎ ((IsErrOf r TooLong × (2 ^ 64 ≤ length s)) ⊎ ((IsOk r ↔ (rest ≡ []))
     × (IsErrOf r InvalidFormatCode ↔ HasBroken rest) × (IsErrOf r UnexpectedEof ↔ IsCutShort rest))))

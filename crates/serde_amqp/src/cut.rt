@@ -41,7 +41,8 @@ pub fn run_cut<R: Read, W: Write>(
     reader: &mut R,
     writer: &mut W,
 ) -> Result<(), Error>
-    // What was put.
+    // What was read and put.
+    ensures read { OnOk result (IfSome (R.left reader.old) (λ _. IsAtEnd (R.left reader.new))) }
     ensures ok { OnOk result (IfSome (R.left reader.old) (λ s.
         Prints s (W.written writer.old) (W.written writer.new) (λ rest. rest ≡ []))) }
     ensures refused { IfErr result (λ e. IfSome (R.left reader.old) (λ s.
@@ -50,9 +51,12 @@ pub fn run_cut<R: Read, W: Write>(
     ensures exact { IfSome (R.left reader.old) (λ s. CutDecidedBy s result) }
     ensures io { IsErrOf result Error.Io → Failed (R.failures reader.old) (R.failures reader.new)
         ⊎ Failed (W.failures writer.old) (W.failures writer.new) }
+    ensures reads { R.failures reader.old ≤ R.failures reader.new }
+    ensures writes { W.failures writer.old ≤ W.failures writer.new }
 {
     laws::one_case();
     laws::one_cut();
+    laws::some_byte();
     print_frames(alloc, reader, writer)
 }
 
@@ -62,12 +66,15 @@ fn print_frames<R: Read, W: Write>(
     reader: &mut R,
     writer: &mut W,
 ) -> Result<(), Error>
+    ensures read { OnOk result (IfSome (R.left reader.old) (λ _. IsAtEnd (R.left reader.new))) }
     ensures ok { OnOk result (IfSome (R.left reader.old) (λ s.
         Prints s (W.written writer.old) (W.written writer.new) (λ rest. rest ≡ []))) }
     ensures refused { IfErr result (λ e. IfSome (R.left reader.old) (λ s.
         CutRefuses s (W.written writer.old) (W.written writer.new) e)) }
     ensures io { IsErrOf result Error.Io → Failed (R.failures reader.old) (R.failures reader.new)
         ⊎ Failed (W.failures writer.old) (W.failures writer.new) }
+    ensures reads { R.failures reader.old ≤ R.failures reader.new }
+    ensures writes { W.failures writer.old ≤ W.failures writer.new }
 {
     laws::some_byte();
     laws::some_cut();
@@ -88,6 +95,7 @@ fn print_next<R: Read, W: Write>(
     ensures more { result ≡ Ok true → PrintsNext (R.left reader.old) (R.left reader.new)
         (W.written writer.old) (W.written writer.new) }
     ensures done { result ≡ Ok false → IsAtEnd (R.left reader.old)
+        × Keeps (R.left reader.old) (R.left reader.new)
         × Keeps (W.written writer.old) (W.written writer.new) }
     ensures refused { IfErr result (λ e. IfSome (R.left reader.old) (λ s.
         StepRefuses s (W.written writer.old) (W.written writer.new) e)) }
@@ -109,7 +117,8 @@ fn print_next<R: Read, W: Write>(
 // Ends a run that took as many frames as it may.
 fn finish<R: Read, W: Write>(reader: &mut R, writer: &mut W) -> Result<(), Error>
     ensures done { OnOk result (IsAtEnd (R.left reader.old)) }
-    ensures kept { Keeps (W.written writer.old) (W.written writer.new) }
+    ensures left { Keeps (R.left reader.old) (R.left reader.new) }
+    ensures written { Keeps (W.written writer.old) (W.written writer.new) }
     ensures more { IsErrOf result Error.TooLong → IfSome (R.left reader.old) (λ s. s ≢ []) }
     ensures others { IfErr result (λ e. (e ≡ Error.TooLong) ⊎ (e ≡ Error.Io)) }
     ensures io { IsErrOf result Error.Io → Failed (R.failures reader.old) (R.failures reader.new)

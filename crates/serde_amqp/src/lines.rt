@@ -1,6 +1,6 @@
 //! The length, the bytes and the text of the lines of the input.
 
-ghost use Rattle.std.specs.Prelude.{◌≡◌, ◌⊎◌, true, false, IfOk, OnOk, IfErr, IfSome, IsErrOf, IsOkUnless, IsUtf8};
+ghost use Rattle.std.specs.Prelude.{◌≡◌, ◌≤◌, ◌⊎◌, true, false, IfOk, OnOk, IfErr, IfSome, IsErrOf, IsOkUnless, IsUtf8};
 ghost use Rattle.std.specs.Io.KnownBytes.{Appends, IsAtEnd};
 ghost use Rattle.amqp_frame.specs.Reader.{Failed};
 ghost use Rattle.amqp_ser.specs.Writable.{writable};
@@ -59,6 +59,8 @@ pub fn run_lines<R: Read, W: Write>(
     ensures exact { IfSome (R.left reader.old) (λ s. LinesDecidedBy s result) }
     ensures io { IsErrOf result Error.Io → Failed (R.failures reader.old) (R.failures reader.new)
         ⊎ Failed (W.failures writer.old) (W.failures writer.new) }
+    ensures reads { R.failures reader.old ≤ R.failures reader.new }
+    ensures writes { W.failures writer.old ≤ W.failures writer.new }
 {
     let input = read_to_end(alloc, reader)?;
     let report = report_on(alloc, &input)?;
