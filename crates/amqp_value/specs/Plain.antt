@@ -1,4 +1,4 @@
--- Plain trees: those that have the same bytes as their image.
+-- Plain trees, which have the same bytes as their image.
 use Rattle.std.specs.Prelude.{◌≡◌, false}
 use Rattle.amqp_ser.specs.Tree.{Tree, Trees, Pairs, scalar, list, array, map, described, variant, lazy, transparent, no_trees, more, no_pairs, pair}
 use Rattle.amqp_ser.specs.Same.{same_tree}

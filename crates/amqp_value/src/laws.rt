@@ -59,6 +59,8 @@ pub fn image_is_written_as_the_same_bytes()
     ensures bytes { (t : Tree) → IsPlain t → enc (image t) ≡ enc t }
     ensures constructor { (t : Tree) → IsPlain t → con (image t) ≡ con t }
     ensures limits { (t : Tree) → IsPlain t → within (image t) ≡ within t }
+    ensures constructors { (t : Tree) → IsPlain t → alike (image t) ≡ alike t }
+    ensures places { (t : Tree) → IsPlain t → placed (image t) ≡ placed t }
 {}
 
 /// A value whose maps have distinct keys, at every depth, is its own image.
