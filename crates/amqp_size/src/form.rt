@@ -23,6 +23,7 @@ pub struct Form {
 impl Form {
     ghost use Rattle.amqp_size.specs.Form.{form_bytes, form_payload};
 
+    #[inline(always)]
     fn new(code: u8, width: usize, bits: u64) -> Form
         ensures code { result.code ≡ code }
         ensures width { result.width ≡ width }
@@ -32,6 +33,7 @@ impl Form {
     }
 
     /// The form by itself, the shortest that there is.
+    #[inline(always)]
     pub fn ordinary(fixed: Fixed) -> Form
         ensures bytes { form_bytes result ≡ scalar_form (fixed_scalar fixed) }
         ensures few { result.width ≤ 8 }
@@ -58,6 +60,7 @@ impl Form {
     }
 
     /// The constructor and the payload of an array's element.
+    #[inline(always)]
     pub fn in_array(fixed: Fixed) -> Form
         ensures code { result.code ≡ scalar_code (fixed_scalar fixed) }
         ensures payload { form_payload result ≡ scalar_payload (fixed_scalar fixed) }

@@ -20,6 +20,7 @@ pub struct SerializeMap<'a, S: Serializer> {
 }
 
 impl<S: Serializer> Drop for SerializeMap<'_, S> {
+    #[inline(always)]
     fn drop(self)
         ensures { self.exit.0.now ≡ self.entry.serializer.now }
     {
@@ -32,6 +33,7 @@ impl<S: Serializer> Drop for SerializeMap<'_, S> {
 }
 
 impl<'a, S: Serializer> SerializeMap<'a, S> {
+    #[inline(always)]
     pub(crate) fn new(serializer: &'a mut S, held: S::Open) -> SerializeMap<'a, S>
         ensures same_reference { result.serializer.ghost_name ≡ serializer.entry.ghost_name }
         ensures now { result.serializer.now ≡ serializer.old }
@@ -46,6 +48,7 @@ impl<'a, S: Serializer> SerializeMap<'a, S> {
     }
 
     /// The serializer behind the map.
+    #[inline(always)]
     pub fn as_mut(&mut self) -> &mut S
         ensures { result.now ≡ self.old.serializer.now }
     {
@@ -56,6 +59,7 @@ impl<'a, S: Serializer> SerializeMap<'a, S> {
     ///
     /// # Errors
     /// The serializer's refusal of the key, or of a second key while one is pending; the map is then as it was.
+    #[inline(always)]
     pub fn serialize_key<T: Serialize>(&mut self, key: &T) -> Result<(), S::Error>
         ensures same { self.new.serializer.ghost_name ≡ self.old.serializer.ghost_name }
         ensures pending { MatchResult result (λ _. (self.old.pending ≡ false) × (self.new.pending ≡ true)) (λ _. self.new.pending ≡ self.old.pending) }
@@ -81,6 +85,7 @@ impl<'a, S: Serializer> SerializeMap<'a, S> {
     /// # Errors
     /// The serializer's refusal of the value, after which the key is still pending, or of a value without a key; the
     /// map is then as it was.
+    #[inline(always)]
     pub fn serialize_value<T: Serialize>(&mut self, value: &T) -> Result<(), S::Error>
         ensures same { self.new.serializer.ghost_name ≡ self.old.serializer.ghost_name }
         ensures pending { MatchResult result (λ _. (self.old.pending ≡ true) × (self.new.pending ≡ false)) (λ _. self.new.pending ≡ self.old.pending) }
@@ -106,6 +111,7 @@ impl<'a, S: Serializer> SerializeMap<'a, S> {
     /// # Errors
     /// The serializer's refusal of the key or of the value, or of an entry while a key is pending; the map is then as
     /// it was.
+    #[inline(always)]
     pub fn serialize_entry<K: Serialize, V: Serialize>(
         &mut self,
         key: &K,
@@ -132,6 +138,7 @@ impl<'a, S: Serializer> SerializeMap<'a, S> {
     ///
     /// # Errors
     /// The serializer's refusal of that tree, or of a map whose last key has no value.
+    #[inline(always)]
     pub fn end(self) -> Result<S::Ok, S::Error>
         ensures ended { (start : S) (ps : List (Option Tree)) → S.has start Kind.Map self.entry.serializer.now self.entry.held ps →
             not self.entry.pending ≡ paired ps → S.permits start (whole Kind.Map ps) result self.exit.0.now }
