@@ -1,7 +1,7 @@
 //! The calls that take memory, with what they must answer.
 
 use crate::again::Again;
-use amqp_data::{Array, Error, OrderedMap, Symbol, TransparentVec};
+use amqp_data::{Array, Error, OrderedMap, Symbol};
 use amqp_frame::{LazyValue, SliceReader};
 use amqp_to_value::to_value;
 use amqp_value::Value;
@@ -11,7 +11,7 @@ use std::alloc::Global;
 /// Makes each call once.
 pub fn all(rt: &(impl Print + AllocGlobal)) -> Result<(), Error> {
     let alloc = rt.alloc();
-    report(rt, "names and vectors", names(alloc)?);
+    report(rt, "names", names(alloc)?);
     report(rt, "maps", maps(alloc)?);
     report(rt, "bytes", bytes(alloc)?);
     report(rt, "a refused element fed again", fed_again(alloc)?);
@@ -30,8 +30,7 @@ fn report(rt: &impl Print, name: &str, right: bool) {
 
 fn names(alloc: Global) -> Result<bool, Error> {
     let symbol = Symbol::try_from_str(alloc, "amqp")?;
-    let numbers = TransparentVec::try_collect(alloc, [1u8, 2, 3].iter().copied())?;
-    Ok(symbol.as_inner().len() == 4 && numbers.as_slice() == [1u8, 2, 3].as_slice())
+    Ok(symbol.as_inner().as_str() == "amqp")
 }
 
 fn maps(alloc: Global) -> Result<bool, Error> {
@@ -60,7 +59,7 @@ fn bytes(alloc: Global) -> Result<bool, Error> {
 
 fn fed_again(alloc: Global) -> Result<bool, Error> {
     let inner = vec![in alloc; "a"]?;
-    let bytes = to_vec(alloc, &Again(&inner))?;
+    let bytes = to_vec(alloc, &Again(inner))?;
     Ok(bytes.as_slice() == [0xc0, 7, 1, 0xc0, 4, 1, 0xa1, 1, b'a'].as_slice())
 }
 

@@ -46,7 +46,7 @@ map_form n body = counted 0xc1 0xd1 n body
 abbrev pub array_form : ℕ → List ℕ → List ℕ
 array_form n content = if is_short (length content) && nat_le n 255 then 0xe0 ∷ (length content + 1) ∷ n ∷ content else 0xf0 ∷ wide n content
 
--- a descriptor is an ordinary symbol or ulong (section 1.3)
+-- a descriptor is an ordinary symbol or ulong (section 1.5)
 abbrev pub descriptor_form : Descriptor → List ℕ
 descriptor_form (name bs) = scalar_form (symbol bs)
 descriptor_form (code n) = scalar_form (ulong n)

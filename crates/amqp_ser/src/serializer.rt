@@ -20,7 +20,7 @@ use amqp_data::{F32Bits, F64Bits};
 
 /// Turns data trees into answers of one kind, as their length, their bytes or an untyped value.
 ///
-/// An author writes the eleven required methods; the methods that values call, named as serde names them,
+/// An author writes the ten required methods; the methods that values call, named as serde names them,
 /// stand on these and are the same for every serializer.
 ///
 /// # Implementer notes
@@ -48,6 +48,9 @@ pub trait Serializer {
 
     /// The same, and the serializer is ready for the next part.
     ghost awaits: { Self → Kind → Self → Self.Open → List (Option Tree) → Type 0 };
+
+    /// The refusal of a misuse, as of a value without a key.
+    ghost is_misuse: { Self.Error → Type 0 };
 
     /// Answers on null or a scalar of fixed width.
     fn serialize_fixed(&mut self, fixed: Fixed) -> Result<Self::Ok, Self::Error>
@@ -96,10 +99,11 @@ pub trait Serializer {
             has start Kind.Map self.old held.old (ps ++ (p ∷ [])) → paired ps ≡ true →
             permits start t (Err e) self.old → permits start t (Err e) self.new };
 
-    /// The refusal of parts that make no tree.
+    /// The refusal of parts that make no tree; the compound is as it was.
     fn misuse(&mut self, held: &mut Self::Open) -> Self::Error
-        ensures { (start : Self) (kind : Kind) (ps : List (Option Tree)) → has start kind self.old held.old ps →
-            has start kind self.new held.new ps × permits start None (Err result) self.new };
+        ensures kept { (start : Self) (kind : Kind) (ps : List (Option Tree)) → has start kind self.old held.old ps →
+            has start kind self.new held.new ps × permits start None (Err result) self.new }
+        ensures invalid { is_misuse result };
 
     /// Ends the compound.
     fn end(&mut self, held: Self::Open) -> Result<Self::Ok, Self::Error>

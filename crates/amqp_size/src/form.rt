@@ -9,7 +9,7 @@ use amqp_ser::Fixed;
 /// A code and the lowest bytes of a number after it, the highest first.
 ///
 /// # Encoding
-/// AMQP 1.0 part 1, sections 1.2.1 and 1.2.2: the code's high four bits tell the width.
+/// AMQP 1.0 part 1, section 1.2.1: the code's high four bits tell the width.
 #[derive(Clone, Copy, Debug)]
 pub struct Form {
     /// The format code, or the constructor in an array.

@@ -124,6 +124,7 @@ impl Default for SizeSerializer {
 }
 
 impl Serializer for SizeSerializer {
+    ghost use Rattle.amqp_data.specs.declared.error.Error.TheVariants.{InvalidValue};
     ghost use Rattle.amqp_size.specs.Place.{outer, meant};
     ghost use Rattle.amqp_size.specs.Counted.{size_permits, size_has, size_awaits};
     ghost use Rattle.amqp_ser.specs.Compounds.{whole};
@@ -141,6 +142,8 @@ impl Serializer for SizeSerializer {
     ghost has = { size_has };
 
     ghost awaits = { size_awaits };
+
+    ghost is_misuse = { λ e. e ≡ InvalidValue };
 
     #[inline(always)]
     fn serialize_fixed(&mut self, fixed: Fixed) -> Result<usize, Error> {

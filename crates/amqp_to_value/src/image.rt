@@ -10,7 +10,7 @@ use amqp_ser::Serialize;
 use amqp_value::Value;
 use std::alloc::Global;
 
-/// The untyped value whose tree is the image of the value's tree.
+/// The untyped value that stands for the value: its tree is the image of the value's tree.
 ///
 /// Each kind of tree is its variant. A variant of an enum is the map of one pair, from its index as an uint to its
 /// payload. The pairs of a map are inserted in order: a present key keeps its place and takes the new value.
@@ -38,11 +38,18 @@ pub trait TryFromSerializable: Sized {
     /// What may be answered on a tree, or on none.
     ghost gives: { Option Tree → Result Self Error → Type 0 };
 
-    /// Turns the value into this type.
+    /// Turns the value into this type, as the type permits on the value's tree.
+    ///
+    /// # Errors
+    /// `OutOfMemory` where a growth of memory is refused, and what else the type says.
+    ///
+    /// # Memory
+    /// Takes `alloc`.
     fn try_from_serializable<T: Serialize>(alloc: Global, value: &T) -> Result<Self, Error>
         ensures { gives (T.tree value.now) result };
 }
 
+/// As `to_value`.
 impl TryFromSerializable for Value {
     ghost gives = { IsImageOf };
 

@@ -7,6 +7,7 @@
 
 mod gathered;
 mod image;
+pub mod laws;
 mod open;
 mod scalars;
 mod serializer;

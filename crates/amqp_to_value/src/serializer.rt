@@ -68,6 +68,7 @@ impl Serializer {
 }
 
 impl amqp_ser::Serializer for Serializer {
+    ghost use Rattle.amqp_data.specs.declared.error.Error.TheVariants.{InvalidValue};
     ghost use Rattle.amqp_ser.specs.Compounds.{whole};
     ghost use Rattle.amqp_ser.specs.declared.kind.Kind.{Kind};
     ghost use Rattle.amqp_to_value.specs.Holds.{value_permits, value_has};
@@ -83,6 +84,8 @@ impl amqp_ser::Serializer for Serializer {
     ghost has = { value_has };
 
     ghost awaits = { value_has };
+
+    ghost is_misuse = { λ e. e ≡ InvalidValue };
 
     fn serialize_fixed(&mut self, fixed: Fixed) -> Result<Value, Error> {
         let under = self.take_under();

@@ -1,5 +1,5 @@
 -- The table after each part.
-use Rattle.std.proofs.Common.{◌≡◌, ℕ, ◌+◌, ◌-◌, ◌≤◌, ◌⊎◌, inl, inr, List, [], ◌∷◌, ◌++◌, Option, Some, None, Bool, true, false, Result, Ok, Err, length, refl, ap, sym, ◌∙◌, subst, arith, append_assoc, append-nil, length-append, take}
+use Rattle.std.proofs.Common.{◌≡◌, ℕ, ◌+◌, ◌-◌, ◌≤◌, inl, inr, List, [], ◌∷◌, ◌++◌, Option, Some, None, true, false, Result, Ok, Err, length, refl, ap, sym, ◌∙◌, subst, arith, append_assoc, append-nil, length-append, take}
 use Rattle.std.specs.Prelude.{IfErr}
 use Rattle.amqp_data.specs.declared.error.Error.{Error}
 use Rattle.amqp_data.specs.declared.error.Error.TheVariants.{OutOfMemory}
@@ -15,7 +15,7 @@ use Rattle.amqp_size.specs.declared.place.Under.TheVariants.{Plain}
 use Rattle.amqp_size.specs.declared.serializer.SizeSerializer.{SizeSerializer}
 use Rattle.amqp_size.specs.declared.open_compound.Open.{Open}
 use Rattle.amqp_wire.specs.Entries.{header, entries, entries_each, heads, places, made, made_fits}
-use Rattle.amqp_wire.specs.Listed.{headers_permits, counts_tree, listed, lists_parts, Before, Tabled, answered, fills}
+use Rattle.amqp_wire.specs.Listed.{counts_tree, listed, Tabled, answered, fills}
 use Rattle.amqp_wire.specs.Solid.{solid, solid_each}
 use Rattle.amqp_wire.specs.Written.{Extends}
 use Rattle.amqp_wire.specs.declared.table.Header.{Header}

@@ -1,15 +1,14 @@
 -- The headers that are made of what was counted.
-use Rattle.std.proofs.Common.{◌≡◌, ℕ, ◌+◌, ◌≤◌, List, [], ◌∷◌, ◌++◌, Option, Some, None, Bool, true, false, ◌&&◌, length, refl, ap, sym, ◌∙◌, subst, arith, length-append, append_assoc}
+use Rattle.std.proofs.Common.{◌≡◌, ℕ, ◌+◌, ◌≤◌, List, [], ◌∷◌, ◌++◌, Option, Some, None, Bool, true, false, length, refl, ap, sym, ◌∙◌, subst, arith, length-append, append_assoc}
 use Rattle.std.proofs.lemmas.List.{set_at}
 use Rattle.amqp_ser.specs.Tree.{Tree, Trees, Pairs, uint, list, array, map, variant, no_trees, more, count}
-use Rattle.amqp_ser.specs.Limits.{fits, is_count}
 use Rattle.amqp_ser.specs.Scalars.{scalar_form}
 use Rattle.amqp_ser.specs.Encoding.{con, enc, enc_each}
-use Rattle.amqp_ser.specs.Compounds.{all_trees, as_kind, as_map, as_variant, in_pairs, only}
+use Rattle.amqp_ser.specs.Compounds.{as_kind, as_map, as_variant, in_pairs, only}
 use Rattle.amqp_ser.specs.declared.kind.Kind.{Kind}
 use Rattle.amqp_ser.specs.declared.kind.Kind.TheVariants as kinds
 use Rattle.amqp_ser.proofs.Bools.{left_true, is_le}
-use Rattle.amqp_size.specs.Place.{meant, shape_of, is_array, con_of, element}
+use Rattle.amqp_size.specs.Place.{meant, is_array, con_of, element}
 use Rattle.amqp_size.specs.Counted.{content, inner_of, first_place, counts, Holds}
 use Rattle.amqp_size.specs.Width.{uint_width, list_width}
 use Rattle.amqp_size.specs.declared.place.Shape.{Shape}

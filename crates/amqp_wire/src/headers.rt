@@ -43,6 +43,7 @@ impl Headers {
     #[inline(always)]
     pub fn new(alloc: Global) -> Headers
         ensures table { result.table.headers.items ≡ [] }
+        ensures refused { result.table.refused ≡ false }
         ensures place { result.size.place ≡ Plain Root }
     {
         Headers {
@@ -85,6 +86,7 @@ impl Counting {
 }
 
 impl Serializer for Headers {
+    ghost use Rattle.amqp_data.specs.declared.error.Error.TheVariants.{InvalidValue};
     ghost use Rattle.amqp_wire.specs.Listed.{headers_permits, headers_has, headers_awaits};
     ghost use Rattle.amqp_ser.specs.Compounds.{whole};
     ghost use Rattle.amqp_ser.specs.declared.kind.Kind.{Kind};
@@ -100,6 +102,8 @@ impl Serializer for Headers {
     ghost has = { headers_has };
 
     ghost awaits = { headers_awaits };
+
+    ghost is_misuse = { λ e. e ≡ InvalidValue };
 
     #[inline(always)]
     fn serialize_fixed(&mut self, fixed: Fixed) -> Result<usize, Error> {

@@ -1,6 +1,6 @@
 //! The headers of compounds, in the order of their opening.
 
-ghost use Rattle.std.specs.Prelude.{◌≡◌, ◌+◌, ◌≤◌, ◌++◌, ◌∷◌, [], length, take, slice_set};
+ghost use Rattle.std.specs.Prelude.{◌≡◌, ◌+◌, ◌≤◌, ◌++◌, ◌∷◌, ◌||◌, [], false, length, take, slice_set};
 
 use amqp_size::Shape;
 use amqp_size::width::{list_width, uint_width};
@@ -43,7 +43,8 @@ impl Table {
     /// A table of no headers.
     #[inline(always)]
     pub fn new(alloc: Global) -> Table
-        ensures { result.headers.items ≡ [] }
+        ensures empty { result.headers.items ≡ [] }
+        ensures refused { result.refused ≡ false }
     {
         Table {
             headers: Vec::new(alloc),
@@ -82,7 +83,8 @@ impl Table {
     /// Keeps the first headers alone.
     #[inline(always)]
     pub fn cut(&mut self, len: usize)
-        ensures { self.new.headers.items ≡ take len self.old.headers.items }
+        ensures cut { self.new.headers.items ≡ take len self.old.headers.items }
+        ensures refused { self.new.refused ≡ self.old.refused }
     {
         self.headers.truncate(len);
     }
@@ -90,7 +92,8 @@ impl Table {
     /// Takes a place at the end, and says whether its growth was refused.
     #[inline(always)]
     fn append(&mut self) -> bool
-        ensures { appended 1 self.old.headers.items result self.new.headers.items }
+        ensures appended { appended 1 self.old.headers.items result self.new.headers.items }
+        ensures refused { self.new.refused ≡ (self.old.refused || result) }
     {
         let header = Header {
             len: 0,
@@ -109,7 +112,8 @@ impl Table {
     /// Takes the places of a compound, and says whether a growth was refused.
     #[inline(always)]
     pub fn open(&mut self, shape: Shape) -> bool
-        ensures { appended (places shape) self.old.headers.items result self.new.headers.items }
+        ensures appended { appended (places shape) self.old.headers.items result self.new.headers.items }
+        ensures refused { self.new.refused ≡ (self.old.refused || result) }
     {
         match shape {
             Shape::Refused => false,
@@ -128,6 +132,7 @@ impl Table {
     fn put(&mut self, at: usize, header: Header)
         ensures put { at + 1 ≤ length self.old.headers.items → self.new.headers.items ≡ slice_set self.old.headers.items at header }
         ensures same_length { length self.new.headers.items ≡ length self.old.headers.items }
+        ensures refused { self.new.refused ≡ self.old.refused }
     {
         if at < self.headers.len() {
             self.headers[at] = header;
@@ -138,8 +143,9 @@ impl Table {
     #[inline(always)]
     pub fn fill(&mut self, at: usize, shape: Shape, header: Header)
         requires { header.len ≤ 4294967291 }
-        ensures { made_fits shape header.len → at + places shape ≤ length self.old.headers.items →
+        ensures filled { made_fits shape header.len → at + places shape ≤ length self.old.headers.items →
             self.new.headers.items ≡ fills (made shape header) at self.old.headers.items }
+        ensures refused { self.new.refused ≡ self.old.refused }
     {
         match shape {
             Shape::Refused => {}

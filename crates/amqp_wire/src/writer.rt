@@ -96,6 +96,7 @@ impl Writer {
 }
 
 impl Serializer for Writer {
+    ghost use Rattle.amqp_data.specs.declared.error.Error.TheVariants.{InvalidValue};
     ghost use Rattle.amqp_wire.specs.Written.{writer_permits, writer_has, writer_awaits};
     ghost use Rattle.amqp_ser.specs.Compounds.{whole};
     ghost use Rattle.amqp_ser.specs.declared.kind.Kind.{Kind};
@@ -111,6 +112,8 @@ impl Serializer for Writer {
     ghost has = { writer_has };
 
     ghost awaits = { writer_awaits };
+
+    ghost is_misuse = { λ e. e ≡ InvalidValue };
 
     #[inline(always)]
     fn serialize_fixed(&mut self, fixed: Fixed) -> Result<(), Error> {

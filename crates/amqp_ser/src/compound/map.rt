@@ -70,6 +70,7 @@ impl<'a, S: Serializer> SerializeMap<'a, S> {
             S.permits start (whole Kind.Map (ps ++ (T.tree key.now ∷ rest))) (Err e) self.new.serializer.now)) }
         ensures misuse { self.old.pending ≡ true → (start : S) (ps : List (Option Tree)) → S.has start Kind.Map self.old.serializer.now self.old.held ps →
             IfErr result (λ e. S.has start Kind.Map self.new.serializer.now self.new.held ps × S.permits start None (Err e) self.new.serializer.now) }
+        ensures invalid { self.old.pending ≡ true → IfErr result S.is_misuse }
     {
         if self.pending {
             return Err(self.serializer.misuse(&mut self.held));
@@ -95,6 +96,7 @@ impl<'a, S: Serializer> SerializeMap<'a, S> {
             S.permits start (whole Kind.Map (ps ++ (T.tree value.now ∷ rest))) (Err e) self.new.serializer.now)) }
         ensures misuse { self.old.pending ≡ false → (start : S) (ps : List (Option Tree)) → S.has start Kind.Map self.old.serializer.now self.old.held ps →
             IfErr result (λ e. S.has start Kind.Map self.new.serializer.now self.new.held ps × S.permits start None (Err e) self.new.serializer.now) }
+        ensures invalid { self.old.pending ≡ false → IfErr result S.is_misuse }
     {
         if !self.pending {
             return Err(self.serializer.misuse(&mut self.held));
@@ -124,6 +126,7 @@ impl<'a, S: Serializer> SerializeMap<'a, S> {
             S.permits start (whole Kind.Map (ps ++ (K.tree key.now ∷ (V.tree value.now ∷ rest)))) (Err e) self.new.serializer.now)) }
         ensures misuse { self.old.pending ≡ true → IsErr result × ((start : S) (ps : List (Option Tree)) → S.has start Kind.Map self.old.serializer.now self.old.held ps →
             IfErr result (λ e. S.has start Kind.Map self.new.serializer.now self.new.held ps × S.permits start None (Err e) self.new.serializer.now)) }
+        ensures invalid { self.old.pending ≡ true → IfErr result S.is_misuse }
     {
         if self.pending {
             return Err(self.serializer.misuse(&mut self.held));
@@ -137,8 +140,9 @@ impl<'a, S: Serializer> SerializeMap<'a, S> {
     /// The serializer's refusal of that tree, or of a map whose last key has no value.
     #[inline(always)]
     pub fn end(self) -> Result<S::Ok, S::Error>
-        ensures { (start : S) (ps : List (Option Tree)) → S.has start Kind.Map self.entry.serializer.now self.entry.held ps →
+        ensures ended { (start : S) (ps : List (Option Tree)) → S.has start Kind.Map self.entry.serializer.now self.entry.held ps →
             not self.entry.pending ≡ paired ps → S.permits start (whole Kind.Map ps) result self.exit.0.now }
+        ensures invalid { self.entry.pending ≡ true → IsErr result × IfErr result S.is_misuse }
     {
         let SerializeMap {
             serializer,

@@ -69,6 +69,7 @@ impl<'a, S: Serializer> SerializeTupleStruct<'a, S> {
             S.permits start (whole Kind.List (ps ++ (T.tree value.now ∷ rest))) (Err e) self.new.serializer.now)) }
         ensures misuse { self.old.described ≡ true → IsErr result × ((start : S) (ps : List (Option Tree)) → S.has start Kind.List self.old.serializer.now self.old.held ps →
             IfErr result (λ e. S.has start Kind.List self.new.serializer.now self.new.held ps × S.permits start None (Err e) self.new.serializer.now)) }
+        ensures invalid { self.old.described ≡ true → IfErr result S.is_misuse }
     {
         if self.described {
             return Err(self.serializer.misuse(&mut self.held));
@@ -86,6 +87,7 @@ impl<'a, S: Serializer> SerializeTupleStruct<'a, S> {
             S.permits start (whole Kind.List ps) result self.exit.0.now }
         ensures misuse { self.entry.described ≡ true → IsErr result × ((start : S) (ps : List (Option Tree)) → S.has start Kind.List self.entry.serializer.now self.entry.held ps →
             S.permits start None result self.exit.0.now) }
+        ensures invalid { self.entry.described ≡ true → IfErr result S.is_misuse }
     {
         let SerializeTupleStruct {
             serializer,
@@ -164,6 +166,8 @@ impl<'a, S: Serializer> SerializeStruct<'a, S> {
             IfErr result (λ e. S.has start Kind.List self.new.serializer.now self.new.held ps × S.permits start None (Err e) self.new.serializer.now)) }
         ensures descriptor { is_descriptor key.now ≡ true → IsErr result × ((start : S) (ps : List (Option Tree)) → S.has start Kind.List self.old.serializer.now self.old.held ps →
             IfErr result (λ e. S.has start Kind.List self.new.serializer.now self.new.held ps × S.permits start None (Err e) self.new.serializer.now)) }
+        ensures invalid { self.old.described ≡ true → IfErr result S.is_misuse }
+        ensures invalid_descriptor { is_descriptor key.now ≡ true → IfErr result S.is_misuse }
     {
         if self.described {
             return Err(self.serializer.misuse(&mut self.held));
@@ -184,6 +188,7 @@ impl<'a, S: Serializer> SerializeStruct<'a, S> {
             S.permits start (whole Kind.List ps) result self.exit.0.now }
         ensures misuse { self.entry.described ≡ true → IsErr result × ((start : S) (ps : List (Option Tree)) → S.has start Kind.List self.entry.serializer.now self.entry.held ps →
             S.permits start None result self.exit.0.now) }
+        ensures invalid { self.entry.described ≡ true → IfErr result S.is_misuse }
     {
         let SerializeStruct {
             serializer,

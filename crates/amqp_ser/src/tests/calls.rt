@@ -34,6 +34,8 @@ impl Serializer for Calls {
 
     ghost awaits = { λ _ _ _ _ _. Unit {0} };
 
+    ghost is_misuse = { λ _. Unit {0} };
+
     fn serialize_fixed(&mut self, fixed: Fixed) -> Result<(), Refused> {
         self.note(match fixed {
             Fixed::Null => "null",

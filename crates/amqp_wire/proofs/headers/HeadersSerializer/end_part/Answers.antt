@@ -1,4 +1,4 @@
-use Rattle.std.proofs.Common.{◌≡◌, ◌+◌, ◌++◌, ◌∷◌, [], refl, subst, ap, sym, ◌∙◌, take, arith}
+use Rattle.std.proofs.Common.{◌≡◌, ◌++◌, ◌∷◌, [], refl, subst, ap, ◌∙◌, take, arith}
 use Rattle.amqp_size.specs.Place.{meant}
 use Rattle.amqp_wire.specs.Listed.{listed}
 use Rattle.amqp_wire.specs.declared.headers.Headers.{Headers}
@@ -27,7 +27,7 @@ returns-in-Err c = λ start kind before ps p w r.
     let cut : Headers = record { size = c.end_part.new.self; table = c.cut.new.self } in
     let new : Counting = record { size = c.end_part.new.held; at = old.at; missed = old.missed; before = old.before; last = old.last; parts = old.parts } in
     let same : cut.table.headers.items ≡ before.table.headers.items =
-    c.cut.ensures ∙ ap (take old.before) r.0.1 ∙ take_front before.table.headers.items r.0.0 old.before w.1 in
+    c.cut.ensures.cut ∙ ap (take old.before) r.0.1 ∙ take_front before.table.headers.items r.0.0 old.before w.1 in
     let back = table_back start kind before.table.headers.items cut.table.headers.items old new ps w.0.1 same refl refl refl refl in
     let refused = refusal_of_part start before c.args.self.now cut kind old new ps p c.args.part c.answer-answer.result c.end_part.result c.in-Err.e w.0.0.0 c.answer-answer.ensures r.1
     (c.in-Err.ensures.step start.size kind before.size ps p w.0.0) c.end_part.ensures.refused c.in-Err.is in

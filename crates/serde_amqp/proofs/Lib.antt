@@ -1,0 +1,6 @@
+pub mod Written
+pub mod Stopped
+pub mod Runs
+pub mod Decided
+pub mod LineLemmas
+pub mod StringLemmas

@@ -1,0 +1,52 @@
+-- Why one step of a run stopped.
+use Rattle.std.proofs.Common.{◌≡◌, ◌≢◌, ℕ, ◌⊎◌, inl, inr, true, false, is_some, slice_get, List, [], Option, None, Some, Err, IfSome, sym, ap, ◌∙◌, subst}
+use Rattle.std.specs.Io.KnownBytes.{Keeps, Consumes}
+use Rattle.std.proofs.lemmas.Bool.{false≢true}
+use Rattle.std.proofs.KnownBytes.{Keeps-refl}
+use Rattle.amqp_data.specs.declared.error.Error.{Error}
+use Rattle.amqp_data.specs.declared.error.Error.TheVariants.{OutOfMemory, TooLong, InvalidValue, InvalidFormatCode, UnexpectedEof, Io, Message}
+use Rattle.amqp_frame.specs.Frame.{IsFrame, HasFrame}
+use Rattle.amqp_frame.specs.Taking.{TakesBeginning, TakesBroken, Refuses, DecidedBy}
+use Rattle.serde_amqp.specs.Writer.{TakesFront}
+use Rattle.serde_amqp.specs.CutLines.{cut_line}
+use Rattle.serde_amqp.specs.CutSteps.{StopsInLine, StepRefuses}
+
+no-frame : (T : Type 0) (s : List ℕ) (e : Error) → e ≢ OutOfMemory → e ≢ Io → DecidedBy {T = T} s (Err e) → ¬ HasFrame s
+no-frame T s e not_memory not_io (inl m) h = absurd (not_memory cc)
+no-frame T s e not_memory not_io (inr (inl m)) h = absurd (not_io cc)
+no-frame T s e not_memory not_io (inr (inr d)) h = false≢true (d.0.1 h)
+
+some-byte : (s : List ℕ) (o : Option ℕ) → is_some o ≡ true → o ≡ slice_get s 0 → s ≢ []
+some-byte s o some first none =
+    let gone : o ≡ None = first ∙ ap (λ l. slice_get l 0) none in
+    let no : false ≡ true = sym (ap is_some gone) ∙ some in
+    false≢true no
+
+frame-refused-at : (T : Type 0) (s : List ℕ) (c : Option (List ℕ)) (f g : ℕ) (w : Option (List ℕ)) (e : Error) → s ≢ [] → DecidedBy {T = T} s (Err e) → Refuses (Some s) c f g (TakesBeginning (Some s) c) (TakesBroken (Some s) c) e → StepRefuses s w w e
+frame-refused-at T s c f g w OutOfMemory some d h = inl (Keeps-refl w)
+frame-refused-at T s None f g w InvalidFormatCode some d h = absurd h.2
+frame-refused-at T s (Some x) f g w InvalidFormatCode some d h =
+    ((h.0, x, h.1, h.2), no-frame T s InvalidFormatCode (λ k. cc) (λ k. cc) d, Keeps-refl w)
+frame-refused-at T s c f g w UnexpectedEof some d h =
+    ((some, h.0), no-frame T s UnexpectedEof (λ k. cc) (λ k. cc) d, Keeps-refl w)
+frame-refused-at T s c f g w Io some d h = inl (Keeps-refl w)
+frame-refused-at T s c f g w TooLong some d h = h
+frame-refused-at T s c f g w InvalidValue some d h = h
+frame-refused-at T s c f g w (Message words) some d h = h
+
+-- no frame came after a byte was seen
+pub frame-refused : (T : Type 0) (a b c : Option (List ℕ)) (f g : ℕ) (w : Option (List ℕ)) (o : Option ℕ) (e : Error) → is_some o ≡ true → IfSome a (λ s. o ≡ slice_get s 0) → Keeps a b → IfSome b (λ s. DecidedBy {T = T} s (Err e)) → Refuses b c f g (TakesBeginning b c) (TakesBroken b c) e → IfSome a (λ s. StepRefuses s w w e)
+frame-refused T None b c f g w o e some first kept d h = tt
+frame-refused T (Some s) None c f g w o e some first kept d h = absurd kept
+frame-refused T (Some s) (Some t) c f g w o e some first kept d h =
+    let P : List ℕ → Type 0 = λ l. StepRefuses l w w e in
+    subst P kept (frame-refused-at T t c f g w e (λ none. some-byte s o some first (sym kept ∙ none)) d h)
+
+-- the line of a frame was not put whole
+pub put-refused : (a b c w v : Option (List ℕ)) (frame line : List ℕ) (e : Error) → Keeps a b → IsFrame frame → Consumes b c frame → line ≡ cut_line frame → TakesFront w v line → (e ≡ OutOfMemory) ⊎ (e ≡ Io) → IfSome a (λ s. StepRefuses s w v e)
+put-refused None b c w v frame line e kept h t is put why = tt
+put-refused (Some s) None c w v frame line e kept h t is put why = absurd kept
+put-refused (Some s) (Some x) None w v frame line e kept h t is put why = absurd t
+put-refused (Some s) (Some x) (Some y) w v frame line e kept h t is put why =
+    let stops : StopsInLine s w v = inr (frame, y, h, sym kept ∙ t, rw is at put) in
+    elim why [ inl m ↦ rw m stops | inr m ↦ rw m stops ]

@@ -1,0 +1,15 @@
+-- One write after another.
+use Rattle.std.proofs.Common.{◌≡◌, ℕ, ◌+◌, ◌-◌, List, ◌++◌, Option, length, take, drop, sym, ap, ◌∙◌, subst, arith, take_all, length-drop}
+use Rattle.std.proofs.Math.Seq.{take-add}
+use Rattle.std.specs.Io.KnownBytes.{Appends}
+use Rattle.std.proofs.KnownBytes.{Appends-trans}
+
+-- what follows the first n bytes, taken by its length
+pub rest-is : (bs : List ℕ) (n : ℕ) → take (length bs - n) (drop n bs) ≡ drop n bs
+rest-is bs n = take_all _ _ (omega (arith, length-drop n bs))
+
+-- n bytes more of a slice, after its first `at`
+pub writes-more : (a b c : Option (List ℕ)) (bytes : List ℕ) (at n : ℕ) → Appends a b (take at bytes) → Appends b c (take n (take (length bytes - at) (drop at bytes))) → Appends a c (take (at + n) bytes)
+writes-more a b c bytes at n was now =
+    let joined : take at bytes ++ take n (take (length bytes - at) (drop at bytes)) ≡ take (at + n) bytes = ap (λ l. take at bytes ++ take n l) (rest-is bytes at) ∙ sym (take-add at n bytes) in
+    subst (Appends a c) joined (Appends-trans a b c _ _ was now)

@@ -1,0 +1,149 @@
+//! A line for each frame of the input.
+
+ghost use Rattle.std.specs.Prelude.{◌≡◌, ◌≢◌, ◌≤◌, ◌⊎◌, true, false, [], IfOk, OnOk, IfErr, IfSome, IsErrOf, IsOkUnless, Ok};
+ghost use Rattle.std.specs.Io.KnownBytes.{Keeps, IsAtEnd};
+ghost use Rattle.amqp_frame.specs.Reader.{Failed};
+ghost use Rattle.serde_amqp.specs.CutLines.{cut_line};
+ghost use Rattle.serde_amqp.specs.CutRun.{Prints, CutRefuses, CutDecidedBy};
+ghost use Rattle.serde_amqp.specs.CutSteps.{PrintsNext, StepRefuses};
+
+use crate::hexadecimal::push_hexadecimal;
+use crate::write::Write;
+use amqp_data::Error;
+use amqp_frame::{LazyValue, Read, laws};
+use std::alloc::Global;
+
+/// Prints a line for each frame of the input, as it is taken, up to the input's end.
+///
+/// The line is the frame's length in decimal, a space, its bytes in lower-case hexadecimal, and 0A.
+///
+/// # Encoding
+///
+/// AMQP 1.0 part 1, sections 1.2 to 1.2.4, as [`LazyValue::from_reader`] cuts frames off.
+///
+/// # Errors
+///
+/// [`Error::InvalidFormatCode`] where a refused code stands where a frame was to begin, and
+/// [`Error::UnexpectedEof`] where the input ends inside a frame; the lines of the frames before were put
+/// then. [`Error::Io`] where a read or a write failed, and [`Error::OutOfMemory`]; a beginning of the
+/// lines was put then. [`Error::TooLong`] where another byte follows `u64::MAX` frames, whose lines were
+/// put.
+///
+/// # Memory
+///
+/// Takes `alloc`, for one frame and its line at a time.
+///
+/// # Example
+///
+/// For `500140` it prints `2 5001` and `1 40`.
+pub fn run_cut<R: Read, W: Write>(
+    alloc: Global,
+    reader: &mut R,
+    writer: &mut W,
+) -> Result<(), Error>
+    // What was read and put.
+    ensures read { OnOk result (IfSome (R.left reader.old) (λ _. IsAtEnd (R.left reader.new))) }
+    ensures ok { OnOk result (IfSome (R.left reader.old) (λ s.
+        Prints s (W.written writer.old) (W.written writer.new) (λ rest. rest ≡ []))) }
+    ensures refused { IfErr result (λ e. IfSome (R.left reader.old) (λ s.
+        CutRefuses s (W.written writer.old) (W.written writer.new) e)) }
+    // When each answer comes.
+    ensures exact { IfSome (R.left reader.old) (λ s. CutDecidedBy s result) }
+    ensures io { IsErrOf result Error.Io → Failed (R.failures reader.old) (R.failures reader.new)
+        ⊎ Failed (W.failures writer.old) (W.failures writer.new) }
+    ensures reads { R.failures reader.old ≤ R.failures reader.new }
+    ensures writes { W.failures writer.old ≤ W.failures writer.new }
+{
+    laws::one_case();
+    laws::one_cut();
+    laws::some_byte();
+    print_frames(alloc, reader, writer)
+}
+
+// Prints a line for each frame.
+fn print_frames<R: Read, W: Write>(
+    alloc: Global,
+    reader: &mut R,
+    writer: &mut W,
+) -> Result<(), Error>
+    ensures read { OnOk result (IfSome (R.left reader.old) (λ _. IsAtEnd (R.left reader.new))) }
+    ensures ok { OnOk result (IfSome (R.left reader.old) (λ s.
+        Prints s (W.written writer.old) (W.written writer.new) (λ rest. rest ≡ []))) }
+    ensures refused { IfErr result (λ e. IfSome (R.left reader.old) (λ s.
+        CutRefuses s (W.written writer.old) (W.written writer.new) e)) }
+    ensures io { IsErrOf result Error.Io → Failed (R.failures reader.old) (R.failures reader.new)
+        ⊎ Failed (W.failures writer.old) (W.failures writer.new) }
+    ensures reads { R.failures reader.old ≤ R.failures reader.new }
+    ensures writes { W.failures writer.old ≤ W.failures writer.new }
+{
+    laws::some_byte();
+    laws::some_cut();
+    for _frame in 0..u64::MAX {
+        if !print_next(alloc, reader, writer)? {
+            return Ok(());
+        }
+    }
+    finish(reader, writer)
+}
+
+// Takes the next frame and prints its line; false where there is none.
+fn print_next<R: Read, W: Write>(
+    alloc: Global,
+    reader: &mut R,
+    writer: &mut W,
+) -> Result<bool, Error>
+    ensures more { result ≡ Ok true → PrintsNext (R.left reader.old) (R.left reader.new)
+        (W.written writer.old) (W.written writer.new) }
+    ensures done { result ≡ Ok false → IsAtEnd (R.left reader.old)
+        × Keeps (R.left reader.old) (R.left reader.new)
+        × Keeps (W.written writer.old) (W.written writer.new) }
+    ensures refused { IfErr result (λ e. IfSome (R.left reader.old) (λ s.
+        StepRefuses s (W.written writer.old) (W.written writer.new) e)) }
+    ensures io { IsErrOf result Error.Io → Failed (R.failures reader.old) (R.failures reader.new)
+        ⊎ Failed (W.failures writer.old) (W.failures writer.new) }
+    ensures reads { R.failures reader.old ≤ R.failures reader.new }
+    ensures writes { W.failures writer.old ≤ W.failures writer.new }
+{
+    if reader.peek()?.is_none() {
+        writer.flush()?;
+        return Ok(false);
+    }
+    let frame = LazyValue::from_reader(alloc, reader)?;
+    let line = line_of(alloc, frame.as_slice())?;
+    writer.put(&line)?;
+    Ok(true)
+}
+
+// Ends a run that took as many frames as it may.
+fn finish<R: Read, W: Write>(reader: &mut R, writer: &mut W) -> Result<(), Error>
+    ensures done { OnOk result (IsAtEnd (R.left reader.old)) }
+    ensures left { Keeps (R.left reader.old) (R.left reader.new) }
+    ensures written { Keeps (W.written writer.old) (W.written writer.new) }
+    ensures more { IsErrOf result Error.TooLong → IfSome (R.left reader.old) (λ s. s ≢ []) }
+    ensures others { IfErr result (λ e. (e ≡ Error.TooLong) ⊎ (e ≡ Error.Io)) }
+    ensures io { IsErrOf result Error.Io → Failed (R.failures reader.old) (R.failures reader.new)
+        ⊎ Failed (W.failures writer.old) (W.failures writer.new) }
+    ensures reads { R.failures reader.old ≤ R.failures reader.new }
+    ensures writes { W.failures writer.old ≤ W.failures writer.new }
+{
+    if reader.peek()?.is_none() {
+        writer.flush()
+    } else {
+        Err(Error::TooLong)
+    }
+}
+
+// The line of a frame.
+#[tactic(auto, unfolding(crate::specs::CutLines::cut_line))]
+fn line_of(alloc: Global, frame: &[u8]) -> Result<Vec<u8>, Error>
+    ensures ok { IfOk result (λ line. line.items ≡ cut_line frame.now) }
+    ensures memory { IsOkUnless result Error.OutOfMemory }
+{
+    let length = frame.len().to_string(alloc)?;
+    let mut line = Vec::new(alloc);
+    line.extend_from_slice(length.as_bytes())?;
+    line.push(b' ')?;
+    push_hexadecimal(&mut line, frame)?;
+    line.push(b'\n')?;
+    Ok(line)
+}

@@ -1,0 +1,3 @@
+//! Vectors that are written with no header.
+
+pub use amqp_data::TransparentVec;

@@ -1,0 +1,3 @@
+//! Format codes by name (AMQP 1.0 part 1, section 1.6).
+
+pub use amqp_data::EncodingCodes;

@@ -1,0 +1,39 @@
+//! AMQP 1.0 data: values, their bytes and lengths, and frames.
+//!
+//! One `Serialize` gives three things: the length of a value's bytes ([`serialized_size`], without memory),
+//! the bytes ([`to_vec`]) and the untyped [`Value`] ([`to_value`]). [`lazy::LazyValue`] cuts the frame of one
+//! value off any reader, with no look at what it holds.
+//!
+//! This crate is the top of the workspace. Its modules hand out what the crates below have, under the names
+//! of the Rust crate `serde_amqp`. It adds [`Write`], the counterpart of [`read::Read`], and the program's
+//! two runs over any reader and writer, whose output is a function of the bytes read.
+#![tactic(auto)]
+
+mod cut;
+pub mod described;
+pub mod descriptor;
+pub mod extensions;
+pub mod format_code;
+mod hexadecimal;
+mod input;
+pub mod lazy;
+mod lines;
+pub mod primitives;
+pub mod read;
+pub mod ser;
+pub mod size_ser;
+#[cfg(test)]
+mod tests;
+pub mod value;
+mod write;
+mod writers;
+
+pub use amqp_data::Error;
+pub use amqp_size::serialized_size;
+pub use amqp_to_value::to_value;
+pub use amqp_value::Value;
+pub use amqp_wire::to_vec;
+pub use cut::run_cut;
+pub use lines::run_lines;
+pub use write::Write;
+pub use writers::{IoWriter, VecWriter};

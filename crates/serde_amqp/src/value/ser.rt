@@ -1,0 +1,6 @@
+//! The serializer that makes an untyped value.
+
+pub use amqp_to_value::{
+    MapSerializer, SeqSerializer, Serializer, StructVariantSerializer, TupleSerializer,
+    VariantSerializer,
+};

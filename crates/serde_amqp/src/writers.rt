@@ -1,0 +1,143 @@
+//! Writers into memory, and into what `std` writes to.
+
+ghost use Rattle.std.specs.Prelude.{◌≡◌, ◌<◌, ◌+◌, [], Some, OnOk, OnErr, IsOkUnless};
+ghost use Rattle.std.specs.Io.KnownBytes.{Appends};
+ghost use Rattle.amqp_frame.specs.Reader.{last_count};
+ghost use Rattle.serde_amqp.specs.Writer.{TakesFront};
+
+use crate::write::Write;
+use amqp_data::Error;
+use std::alloc::Global;
+use std::io;
+
+/// The bytes taken, in memory; no call answers [`Error::Io`].
+#[derive(Drop)]
+pub struct VecWriter {
+    bytes: Vec<u8>,
+}
+
+impl VecWriter {
+    /// Writes into memory, with no byte taken yet.
+    ///
+    /// # Memory
+    ///
+    /// Takes `alloc`, for the bytes to come.
+    pub fn new(alloc: Global) -> VecWriter
+        ensures written { ⟦<VecWriter as Write>⟧.written result ≡ Some [] }
+        ensures failures { ⟦<VecWriter as Write>⟧.failures result ≡ 0 }
+    {
+        VecWriter {
+            bytes: Vec::new(alloc),
+        }
+    }
+
+    /// The bytes taken.
+    ///
+    /// # Memory
+    ///
+    /// Takes none.
+    pub fn as_slice(&self) -> &[u8]
+        ensures bytes { ⟦<VecWriter as Write>⟧.written self.now ≡ Some result.now }
+    {
+        self.bytes.as_slice()
+    }
+
+    /// The bytes taken, handed out.
+    ///
+    /// # Memory
+    ///
+    /// Takes none.
+    pub fn into_inner(self) -> Vec<u8>
+        ensures bytes { ⟦<VecWriter as Write>⟧.written self ≡ Some result.items }
+    {
+        let VecWriter { bytes } = self;
+        bytes
+    }
+}
+
+impl Write for VecWriter {
+    ghost written = { λ w. Some w.bytes.items };
+
+    ghost failures = { λ _. 0 };
+
+    fn put(&mut self, bytes: &[u8]) -> Result<(), Error> {
+        self.bytes.extend_from_slice(bytes)?;
+        Ok(())
+    }
+
+    fn flush(&mut self) -> Result<(), Error> {
+        Ok(())
+    }
+}
+
+/// The bytes go to a `std` writer.
+///
+/// Each failed write counts one failure, and so does one that takes no bytes; no write is tried again.
+#[derive(Drop)]
+pub struct IoWriter<W> {
+    inner: W,
+    failures: u64,
+}
+
+impl<W: io::Write> IoWriter<W> {
+    /// Writes to `inner`, with no failure counted yet.
+    ///
+    /// # Memory
+    ///
+    /// Takes none.
+    pub fn new(inner: W) -> IoWriter<W>
+        ensures written { ⟦<IoWriter<W> as Write>⟧.written result ≡ W.contents inner }
+        ensures failures { ⟦<IoWriter<W> as Write>⟧.failures result ≡ 0 }
+    {
+        IoWriter { inner, failures: 0 }
+    }
+}
+
+impl<W: io::Write> Write for IoWriter<W> {
+    ghost written = { λ w. W.contents w.inner };
+
+    ghost failures = { λ w. w.failures };
+
+    fn put(&mut self, bytes: &[u8]) -> Result<(), Error> {
+        if self.failures == u64::MAX {
+            return Err(Error::Io);
+        }
+        put_all(&mut self.inner, bytes, &mut self.failures)
+    }
+
+    fn flush(&mut self) -> Result<(), Error> {
+        if self.failures == u64::MAX {
+            return Err(Error::Io);
+        }
+        match self.inner.flush() {
+            Ok(()) => Ok(()),
+            Err(_) => {
+                self.failures += 1;
+                Err(Error::Io)
+            }
+        }
+    }
+}
+
+// Writes until all bytes are taken.
+fn put_all<W: io::Write>(inner: &mut W, bytes: &[u8], failures: &mut u64) -> Result<(), Error>
+    requires { failures.old < last_count }
+    ensures ok { OnOk result (Appends (W.contents inner.old) (W.contents inner.new) bytes.now) }
+    ensures front { OnErr result
+        (TakesFront (W.contents inner.old) (W.contents inner.new) bytes.now) }
+    ensures io { IsOkUnless result Error.Io }
+    ensures same { OnOk result (failures.new ≡ failures.old) }
+    ensures count { OnErr result (failures.new ≡ failures.old + 1) }
+{
+    let mut at = 0;
+    while at < bytes.len() {
+        match inner.write(&bytes[at..]) {
+            Ok(count) if count > 0 => at += count,
+            _ => {
+                *failures += 1;
+                return Err(Error::Io);
+            }
+        }
+    }
+    Ok(())
+}
