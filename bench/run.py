@@ -37,9 +37,10 @@ def library(folder):
     return os.path.join(folder, 'libamqp.a')
 
 
+# The processor that `rt lib` builds for is x86-64-v2 too.
 def driver(folder, made, name, more):
     out = os.path.join(folder, name)
-    run(['rustc', '-O', '--edition', '2024', os.path.join(HERE, 'driver.rs'), '-o', out, '-C', 'link-arg=' + made] + more)
+    run(['rustc', '-O', '--edition', '2024', os.path.join(HERE, 'driver.rs'), '-o', out, '-C', 'target-cpu=x86-64-v2', '-C', 'link-arg=' + made] + more)
     return out
 
 
