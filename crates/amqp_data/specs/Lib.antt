@@ -1,3 +1,4 @@
+pub mod Compares
 pub mod Fixed
 pub mod FormatCode
 pub mod Items

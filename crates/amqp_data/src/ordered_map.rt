@@ -1,7 +1,9 @@
 //! Maps (AMQP 1.0 part 1, section 1.6.23), in the order in which their keys were first inserted.
 
-ghost use Rattle.std.specs.Prelude.{◌≡◌, ◌==◌, ◌<◌, ◌^◌, [], length, position, IsOk, IfOk, IfErr, OnOk, OnErr, IsSome};
-ghost use Rattle.std.specs.Iterator.{YieldsFirstBy, item_count};
+ghost use Rattle.std.specs.Prelude.{◌≡◌, ◌==◌, ◌<◌, ◌^◌, [], length, position};
+ghost use Rattle.std.specs.Prelude.{IsOk, IfOk, IfErr, OnOk, OnErr, IsSome, IfSome};
+ghost use Rattle.std.specs.Iterator.{UpTo, YieldsFirstBy, item_count};
+ghost use Rattle.std.specs.Iterator.SizeHint.{IsWithinCount};
 ghost use Rattle.std.specs.Map.{keys_of, lookup};
 ghost use Rattle.std.specs.Option.{option_copied};
 ghost use Rattle.amqp_data.specs.Iterates.{GivesItems};
@@ -17,7 +19,8 @@ use std::{mem, vec};
 /// No two keys are equal: each call that adds a key keeps it so.
 ///
 /// # Encoding
-/// `c1` with a size and a count of one byte, `d1` with four each, then each key and its value. The count is twice the pairs.
+/// `c1` with a size and a count of one byte, `d1` with four each, then each key and its value. The count is
+/// twice the number of pairs.
 ///
 /// # Example
 /// A map of no pairs is written `c10100`.
@@ -95,7 +98,8 @@ impl<K: Hash + Eq, V> OrderedMap<K, V> {
 
     /// Gives the key this value, and hands out the value that it had.
     ///
-    /// A present key keeps its place, and the key that was passed is dropped. A new key goes last. The keys are searched in order.
+    /// A present key keeps its place, and the key that was passed is dropped. A new key goes last. The keys are
+    /// searched in order.
     ///
     /// # Errors
     /// `OutOfMemory` where a new key finds no room. Nothing is changed then, and the pair is dropped.
@@ -116,7 +120,8 @@ impl<K: Hash + Eq, V> OrderedMap<K, V> {
         ensures unchanged { OnErr result (entries_of self.new ≡ entries_of self.old) }
 
         // What holds either way.
-        ensures distinct { AreDistinct K.eq (keys_of (entries_of self.old)) → AreDistinct K.eq (keys_of (entries_of self.new)) }
+        ensures distinct { AreDistinct K.eq (keys_of (entries_of self.old))
+            → AreDistinct K.eq (keys_of (entries_of self.new)) }
     {
         match self.find(&key) {
             Some(at) => Ok(Some(mem::replace(&mut self.entries[at].1, value))),
@@ -154,7 +159,11 @@ impl<'a, K, V> Iterator for Iter<'a, K, V> {
         Some((&entry.0, &entry.1))
     }
 
-    fn size_hint(&self) -> (usize, Option<usize>) {
+    fn size_hint(&self) -> (usize, Option<usize>)
+        ensures lower { IsWithinCount result.0 (item_count entries_left self.now) }
+        ensures upper { IfSome result.1 (UpTo (item_count entries_left self.now)) }
+        ensures exact { result ≡ (length (entries_left self.now), Some (length (entries_left self.now))) }
+    {
         let len = self.rest.len();
         (len, Some(len))
     }

@@ -14,7 +14,8 @@ use std::{slice, vec};
 
 /// Elements that are written one after another, with no header of their own.
 ///
-/// A message of several sections is one. It is written at the root, or directly inside another at the root, and nowhere else.
+/// A message of several sections is one. It is written at the root, or directly inside another at the root, and
+/// nowhere else.
 ///
 /// # Encoding
 /// Each element in its own form.
@@ -87,7 +88,7 @@ impl<T> TransparentVec<T> {
         T: Drop,
         requires can { I.can_next iter }
         requires ends { IsFinite (I.remaining iter) }
-        ensures items { IfOk result (λ v. WholeRun I.next_gives iter (λ p. transparent_items v ≡ p.items)) }
+        ensures items { IfOk result (λ vector. WholeRun I.next_gives iter (λ run. transparent_items vector ≡ run.items)) }
         ensures memory { IfErr result (λ e. e ≡ Error.OutOfMemory) }
     {
         let items: Vec<T> = iter.collect(alloc)?;

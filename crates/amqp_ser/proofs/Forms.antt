@@ -1,10 +1,10 @@
 -- The ordinary form of a tree beside its payload in an array.
-use Rattle.std.proofs.Common.{◌≡◌, ℕ, ◌+◌, ◌<◌, ◌≤◌, ◌^◌, ◌*◌, List, [], ◌∷◌, ◌++◌, ◌&&◌, ◌⊎◌, inl, inr, Option, Some, None, Bool, true, false, length, nat_le, nat_eq, nat_lt, refl, ap, subst, arith, length-append, if◌then◌else◌}
-use Rattle.amqp_ser.specs.Tree.{Scalar, null, bool, ubyte, ushort, uint, ulong, byte, short, int, long, float, double, decimal32, decimal64, decimal128, char, timestamp, uuid, binary, string, symbol, Tree, Trees, Pairs, scalar, list, array, map, described, variant, lazy, transparent, count, pair_count}
+use Rattle.std.proofs.Common.{◌≡◌, ℕ, ◌*◌, List, [], ◌∷◌, ◌++◌, ◌&&◌, inl, inr, Some, Bool, true, false, length, nat_le, nat_eq, nat_lt, refl, subst, arith, if◌then◌else◌}
+use Rattle.amqp_ser.specs.Tree.{Scalar, null, bool, ubyte, ushort, uint, ulong, byte, short, int, long, float, double, decimal32, decimal64, decimal128, char, timestamp, uuid, binary, string, symbol, Tree, scalar, list, array, map, described, variant, lazy, transparent, count, pair_count}
 use Rattle.amqp_ser.specs.Limits.{is_short}
-use Rattle.amqp_ser.specs.Scalars.{scalar_code, scalar_payload, scalar_form, is_small, sized}
+use Rattle.amqp_ser.specs.Scalars.{scalar_code, scalar_payload, scalar_form, is_small}
 use Rattle.amqp_ser.specs.Forms.{IsForm, has_one_form}
-use Rattle.amqp_ser.specs.Encoding.{con, enc, payload, enc_each, enc_pairs, payload_each, first_con, wide, counted, list_form, map_form, array_form}
+use Rattle.amqp_ser.specs.Encoding.{con, enc, payload, enc_each, enc_pairs, payload_each, first_con, wide, counted, list_form, array_form}
 
 if_form : (b : Bool) (c : ℕ) (p xs ys : List ℕ) → IsForm c p xs → IsForm c p ys → IsForm c p (if b then xs else ys)
 if_form true c p xs ys f g = f

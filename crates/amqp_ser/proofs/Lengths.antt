@@ -1,11 +1,11 @@
 -- The lengths of trees within their limits.
-use Rattle.std.proofs.Common.{◌≡◌, ℕ, ◌+◌, ◌*◌, ◌<◌, ◌≤◌, ◌^◌, List, [], ◌∷◌, ◌++◌, ◌&&◌, Bool, true, false, length, nat_le, nat_eq, nat_lt, arith, length-append, if◌then◌else◌}
-use Rattle.amqp_ser.specs.Tree.{Scalar, null, bool, ubyte, ushort, uint, ulong, byte, short, int, long, float, double, decimal32, decimal64, decimal128, char, timestamp, uuid, binary, string, symbol, Tree, Trees, Pairs, scalar, list, array, map, described, variant, lazy, transparent, count, pair_count}
-use Rattle.amqp_ser.specs.Limits.{fits, is_count, is_length, is_short}
+use Rattle.std.proofs.Common.{◌≡◌, ℕ, ◌+◌, ◌*◌, ◌<◌, ◌≤◌, ◌^◌, List, [], ◌∷◌, ◌++◌, ◌&&◌, Bool, true, false, length, nat_le, nat_eq, nat_lt, arith, if◌then◌else◌}
+use Rattle.amqp_ser.specs.Tree.{Scalar, null, bool, ubyte, ushort, uint, ulong, byte, short, int, long, float, double, decimal32, decimal64, decimal128, char, timestamp, uuid, binary, string, symbol, Tree, scalar, list, array, map, described, variant, lazy, transparent, count, pair_count}
+use Rattle.amqp_ser.specs.Limits.{fits, is_short}
 use Rattle.amqp_ser.specs.Ranged.{IsRanged, IsRangedScalar}
 use Rattle.amqp_ser.specs.Scalars.{scalar_form, is_small, sized}
-use Rattle.amqp_ser.specs.Encoding.{enc, enc_each, enc_pairs, payload_each, first_con, wide, counted, list_form, map_form, array_form}
-use Rattle.amqp_ser.specs.Writable.{within, within_each, within_pairs, scalar_fits, descriptor_fits}
+use Rattle.amqp_ser.specs.Encoding.{enc, enc_each, enc_pairs, payload_each, first_con, counted, list_form, array_form}
+use Rattle.amqp_ser.specs.Writable.{within, scalar_fits}
 use Rattle.amqp_ser.proofs.Bools.{is_le, left_true}
 
 if_length : (b : Bool) (n : ℕ) (xs ys : List ℕ) → length xs ≤ n → length ys ≤ n → length (if b then xs else ys) ≤ n

@@ -1,6 +1,6 @@
 -- Maps of keys and values in turn.
 use Rattle.std.proofs.Common.{◌≡◌, List, [], ◌∷◌, Option, Some, None, true, false, not, refl, Bool}
-use Rattle.amqp_ser.specs.Tree.{Tree, Trees, Pairs, no_trees, more}
+use Rattle.amqp_ser.specs.Tree.{Tree, Trees, Pairs, no_trees}
 use Rattle.amqp_ser.specs.Compounds.{all_trees, before, before_pairs, in_pairs, as_map, as_kind, whole, paired}
 use Rattle.amqp_ser.specs.declared.kind.Kind.TheVariants.{Map}
 

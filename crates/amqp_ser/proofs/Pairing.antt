@@ -3,7 +3,7 @@ use Rattle.amqp_ser.specs.Tree.{Tree, Trees, Pairs, no_trees, more, no_pairs, pa
 use Rattle.amqp_ser.specs.Compounds.{all_trees, before, in_pairs, before_pairs, paired}
 use Rattle.amqp_ser.specs.Encoding.{enc, enc_each, enc_pairs}
 use Rattle.amqp_ser.specs.Writable.{alike, alike_each, alike_pairs, within, within_each, within_pairs, inside, inside_each, inside_pairs}
-use Rattle.std.proofs.Common.{◌≡◌, ℕ, ◌+◌, List, [], ◌∷◌, ◌++◌, Option, Some, None, Bool, true, false, not, ◌&&◌, length, refl, ap, sym, ◌∙◌, subst}
+use Rattle.std.proofs.Common.{◌≡◌, List, [], ◌∷◌, ◌++◌, Option, Some, None, Bool, true, false, not, ◌&&◌, refl, ap, sym, ◌∙◌, subst}
 
 pub record Pairing (ts : Trees) : Type 0 where
   pub pairs : Pairs

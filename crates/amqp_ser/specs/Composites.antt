@@ -1,4 +1,4 @@
--- Described composites: a descriptor before a body (AMQP 1.0 part 1, sections 1.3 and 1.4).
+-- Described composites: a descriptor before a body (AMQP 1.0 part 1, sections 1.1.2, 1.4 and 1.5).
 use Rattle.std.specs.Prelude.{Option, Some, None}
 use Rattle.amqp_ser.specs.Tree.{Scalar, ulong, symbol, Descriptor, name, code, Tree, scalar, described}
 

@@ -1,7 +1,7 @@
 -- The bytes of a tree (AMQP 1.0 part 1, sections 1.2 and 1.6.22 to 1.6.24), by recursion on it.
 use Rattle.std.specs.Prelude.{ℕ, List, [], ◌∷◌, ◌++◌, Option, Some, None, ◌&&◌, nat_le, length, ◌+◌, ◌*◌, if◌then◌else◌}
 use Rattle.std.specs.Int.{w32, to_be_bytes}
-use Rattle.amqp_ser.specs.Tree.{Scalar, uint, ulong, symbol, Descriptor, name, code, Tree, Trees, Pairs, scalar, list, array, map, described, variant, lazy, transparent, no_trees, more, no_pairs, pair, count, pair_count}
+use Rattle.amqp_ser.specs.Tree.{uint, ulong, symbol, Descriptor, name, code, Tree, Trees, Pairs, scalar, list, array, map, described, variant, lazy, transparent, no_trees, more, no_pairs, pair, count, pair_count}
 use Rattle.amqp_ser.specs.Limits.{is_short}
 use Rattle.amqp_ser.specs.Scalars.{scalar_code, scalar_payload, scalar_form}
 
@@ -46,7 +46,7 @@ map_form n body = counted 0xc1 0xd1 n body
 abbrev pub array_form : ℕ → List ℕ → List ℕ
 array_form n content = if is_short (length content) && nat_le n 255 then 0xe0 ∷ (length content + 1) ∷ n ∷ content else 0xf0 ∷ wide n content
 
--- a descriptor is an ordinary symbol or ulong (section 1.3)
+-- a descriptor is an ordinary symbol or ulong (section 1.5)
 abbrev pub descriptor_form : Descriptor → List ℕ
 descriptor_form (name bs) = scalar_form (symbol bs)
 descriptor_form (code n) = scalar_form (ulong n)

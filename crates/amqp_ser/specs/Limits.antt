@@ -1,5 +1,5 @@
 -- The limits of lengths and counts (AMQP 1.0 part 1, section 1.2: widths of one and of four bytes).
-use Rattle.std.specs.Prelude.{ℕ, Bool, ◌&&◌, nat_le}
+use Rattle.std.specs.Prelude.{ℕ, Bool, nat_le}
 
 -- a text or a body that has its length in one byte
 abbrev pub is_short : ℕ → Bool

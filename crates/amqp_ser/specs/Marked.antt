@@ -1,6 +1,6 @@
 -- The trees that a newtype's marker name makes of the tree inside it, and the names of described structs.
-use Rattle.std.specs.Prelude.{ℕ, List, Option, Some, None, Bool, true, false, ◌||◌, nat_eq, length, bytes_eq, codes, if◌then◌else◌}
-use Rattle.amqp_ser.specs.Tree.{Scalar, long, binary, string, symbol, timestamp, decimal32, decimal64, decimal128, uuid, Tree, scalar, list, array, transparent}
+use Rattle.std.specs.Prelude.{ℕ, List, Option, Some, None, Bool, ◌||◌, nat_eq, length, bytes_eq, codes, if◌then◌else◌}
+use Rattle.amqp_ser.specs.Tree.{Scalar, long, binary, string, symbol, timestamp, decimal32, decimal64, decimal128, uuid, Tree, scalar, list, array}
 use Rattle.amqp_ser.specs.declared.mark.Mark.{Mark}
 use Rattle.amqp_ser.specs.declared.mark.Mark.TheVariants as mark
 

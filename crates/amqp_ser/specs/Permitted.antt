@@ -1,5 +1,5 @@
 -- The answers that may be given on a tree, or on none: its length and its bytes.
-use Rattle.std.specs.Prelude.{◌≡◌, ℕ, List, Bool, true, false, ◌&&◌, Option, Some, None, Result, Ok, Err, length}
+use Rattle.std.specs.Prelude.{◌≡◌, ℕ, List, true, false, ◌&&◌, Option, Some, None, Result, Ok, Err, length}
 use Rattle.amqp_data.specs.declared.error.Error.{Error}
 use Rattle.amqp_data.specs.declared.error.Error.TheVariants as error
 use Rattle.amqp_ser.specs.Tree.{Tree}

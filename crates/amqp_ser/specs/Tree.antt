@@ -25,7 +25,7 @@ pub data Scalar : Type 0 where
   string : List ℕ → Scalar
   symbol : List ℕ → Scalar
 
--- what tells the type of a described value: a symbol or a number (section 1.3)
+-- what tells the type of a described value: a symbol or a number (sections 1.1.2 and 1.5)
 pub data Descriptor : Type 0 where
   name : List ℕ → Descriptor
   code : ℕ → Descriptor

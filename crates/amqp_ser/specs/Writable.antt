@@ -1,9 +1,9 @@
 -- Which trees can be written: within the limits, with arrays of one constructor, and transparent trees at the root alone.
-use Rattle.std.specs.Prelude.{ℕ, List, ◌++◌, Option, Some, None, Bool, true, false, ◌&&◌, nat_eq, length}
-use Rattle.amqp_ser.specs.Tree.{Scalar, null, bool, binary, string, symbol, uint, Descriptor, name, code, Tree, Trees, Pairs, scalar, list, array, map, described, variant, lazy, transparent, no_trees, more, no_pairs, pair, count}
+use Rattle.std.specs.Prelude.{ℕ, ◌++◌, Option, Some, None, Bool, true, false, ◌&&◌, nat_eq, length}
+use Rattle.amqp_ser.specs.Tree.{Scalar, binary, string, symbol, uint, Descriptor, name, code, Tree, Trees, Pairs, scalar, list, array, map, described, variant, lazy, transparent, no_trees, more, no_pairs, pair, count}
 use Rattle.amqp_ser.specs.Limits.{fits, is_count, is_length}
 use Rattle.amqp_ser.specs.Scalars.{scalar_form}
-use Rattle.amqp_ser.specs.Encoding.{enc, enc_each, enc_pairs, payload_each, first_con, descriptor_form, con}
+use Rattle.amqp_ser.specs.Encoding.{enc, enc_each, enc_pairs, payload_each, first_con, con}
 
 -- a text or a binary fits
 abbrev pub scalar_fits : Scalar → Bool

@@ -5,7 +5,7 @@ ghost use Rattle.std.specs.Prelude.{◌≡◌};
 /// A value of fixed width, as a serializer is given it: null and the scalars but for texts, binaries and what markers make.
 ///
 /// # Encoding
-/// AMQP 1.0 part 1, sections 1.6.1 to 1.6.16, of the categories empty and fixed width (sections 1.2.1 and 1.2.2).
+/// AMQP 1.0 part 1, sections 1.6.1 to 1.6.16, of fixed width (section 1.2.1).
 #[derive(Clone, Copy)]
 pub enum Fixed {
     /// No value.

@@ -13,6 +13,8 @@ pub mod laws;
 mod mark;
 mod serialize;
 mod serializer;
+#[cfg(test)]
+mod tests;
 
 pub use compound::{
     SerializeMap, SerializeSeq, SerializeStruct, SerializeStructVariant, SerializeTuple,

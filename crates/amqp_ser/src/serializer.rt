@@ -20,7 +20,7 @@ use amqp_data::{F32Bits, F64Bits};
 
 /// Turns data trees into answers of one kind, as their length, their bytes or an untyped value.
 ///
-/// An author writes the eleven required methods; the methods that values call, named as serde names them,
+/// An author writes the ten required methods; the methods that values call, named as serde names them,
 /// stand on these and are the same for every serializer.
 ///
 /// # Implementer notes
@@ -48,6 +48,9 @@ pub trait Serializer {
 
     /// The same, and the serializer is ready for the next part.
     ghost awaits: { Self → Kind → Self → Self.Open → List (Option Tree) → Type 0 };
+
+    /// The refusal of a misuse, as of a value without a key.
+    ghost is_misuse: { Self.Error → Type 0 };
 
     /// Answers on null or a scalar of fixed width.
     fn serialize_fixed(&mut self, fixed: Fixed) -> Result<Self::Ok, Self::Error>
@@ -96,10 +99,11 @@ pub trait Serializer {
             has start Kind.Map self.old held.old (ps ++ (p ∷ [])) → paired ps ≡ true →
             permits start t (Err e) self.old → permits start t (Err e) self.new };
 
-    /// The refusal of parts that make no tree.
+    /// The refusal of parts that make no tree; the compound is as it was.
     fn misuse(&mut self, held: &mut Self::Open) -> Self::Error
-        ensures { (start : Self) (kind : Kind) (ps : List (Option Tree)) → has start kind self.old held.old ps →
-            has start kind self.new held.new ps × permits start None (Err result) self.new };
+        ensures kept { (start : Self) (kind : Kind) (ps : List (Option Tree)) → has start kind self.old held.old ps →
+            has start kind self.new held.new ps × permits start None (Err result) self.new }
+        ensures invalid { is_misuse result };
 
     /// Ends the compound.
     fn end(&mut self, held: Self::Open) -> Result<Self::Ok, Self::Error>
@@ -107,6 +111,7 @@ pub trait Serializer {
             complete kind ps ≡ true → permits start (whole kind ps) result self.new };
 
     /// Whether texts for people are wanted: never.
+    #[inline(always)]
     final fn is_human_readable(&self) -> bool
         ensures { result ≡ false }
     {
@@ -114,6 +119,7 @@ pub trait Serializer {
     }
 
     /// Answers on a truth value.
+    #[inline(always)]
     final fn serialize_bool(&mut self, v: bool) -> Result<Self::Ok, Self::Error>
         ensures { Self.permits self.old (Some (scalar (bool v))) result self.new }
     {
@@ -121,6 +127,7 @@ pub trait Serializer {
     }
 
     /// Answers on a byte.
+    #[inline(always)]
     final fn serialize_i8(&mut self, v: i8) -> Result<Self::Ok, Self::Error>
         ensures { Self.permits self.old (Some (scalar (byte v))) result self.new }
     {
@@ -128,6 +135,7 @@ pub trait Serializer {
     }
 
     /// Answers on a short.
+    #[inline(always)]
     final fn serialize_i16(&mut self, v: i16) -> Result<Self::Ok, Self::Error>
         ensures { Self.permits self.old (Some (scalar (short v))) result self.new }
     {
@@ -135,6 +143,7 @@ pub trait Serializer {
     }
 
     /// Answers on an int.
+    #[inline(always)]
     final fn serialize_i32(&mut self, v: i32) -> Result<Self::Ok, Self::Error>
         ensures { Self.permits self.old (Some (scalar (int v))) result self.new }
     {
@@ -142,6 +151,7 @@ pub trait Serializer {
     }
 
     /// Answers on a long.
+    #[inline(always)]
     final fn serialize_i64(&mut self, v: i64) -> Result<Self::Ok, Self::Error>
         ensures { Self.permits self.old (Some (scalar (long v))) result self.new }
     {
@@ -149,6 +159,7 @@ pub trait Serializer {
     }
 
     /// Answers on an ubyte.
+    #[inline(always)]
     final fn serialize_u8(&mut self, v: u8) -> Result<Self::Ok, Self::Error>
         ensures { Self.permits self.old (Some (scalar (ubyte v))) result self.new }
     {
@@ -156,6 +167,7 @@ pub trait Serializer {
     }
 
     /// Answers on an ushort.
+    #[inline(always)]
     final fn serialize_u16(&mut self, v: u16) -> Result<Self::Ok, Self::Error>
         ensures { Self.permits self.old (Some (scalar (ushort v))) result self.new }
     {
@@ -163,6 +175,7 @@ pub trait Serializer {
     }
 
     /// Answers on an uint.
+    #[inline(always)]
     final fn serialize_u32(&mut self, v: u32) -> Result<Self::Ok, Self::Error>
         ensures { Self.permits self.old (Some (scalar (uint v))) result self.new }
     {
@@ -170,6 +183,7 @@ pub trait Serializer {
     }
 
     /// Answers on an ulong.
+    #[inline(always)]
     final fn serialize_u64(&mut self, v: u64) -> Result<Self::Ok, Self::Error>
         ensures { Self.permits self.old (Some (scalar (ulong v))) result self.new }
     {
@@ -177,6 +191,7 @@ pub trait Serializer {
     }
 
     /// Answers on a float, given by its bits.
+    #[inline(always)]
     final fn serialize_f32(&mut self, v: F32Bits) -> Result<Self::Ok, Self::Error>
         ensures { Self.permits self.old (Some (scalar (float (f32_bits v)))) result self.new }
     {
@@ -184,6 +199,7 @@ pub trait Serializer {
     }
 
     /// Answers on a double, given by its bits.
+    #[inline(always)]
     final fn serialize_f64(&mut self, v: F64Bits) -> Result<Self::Ok, Self::Error>
         ensures { Self.permits self.old (Some (scalar (double (f64_bits v)))) result self.new }
     {
@@ -191,6 +207,7 @@ pub trait Serializer {
     }
 
     /// Answers on a character.
+    #[inline(always)]
     final fn serialize_char(&mut self, v: char) -> Result<Self::Ok, Self::Error>
         ensures { Self.permits self.old (Some (scalar (char v))) result self.new }
     {
@@ -198,6 +215,7 @@ pub trait Serializer {
     }
 
     /// Answers on no value, as null.
+    #[inline(always)]
     final fn serialize_none(&mut self) -> Result<Self::Ok, Self::Error>
         ensures { Self.permits self.old (Some (scalar null)) result self.new }
     {
@@ -205,6 +223,7 @@ pub trait Serializer {
     }
 
     /// Answers on the unit, as null.
+    #[inline(always)]
     final fn serialize_unit(&mut self) -> Result<Self::Ok, Self::Error>
         ensures { Self.permits self.old (Some (scalar null)) result self.new }
     {
@@ -212,6 +231,7 @@ pub trait Serializer {
     }
 
     /// Answers on a struct without fields, as null.
+    #[inline(always)]
     final fn serialize_unit_struct(&mut self, _name: &'static str) -> Result<Self::Ok, Self::Error>
         ensures { Self.permits self.old (Some (scalar null)) result self.new }
     {
@@ -219,6 +239,7 @@ pub trait Serializer {
     }
 
     /// Answers on a variant without a value, as the uint of its index.
+    #[inline(always)]
     final fn serialize_unit_variant(
         &mut self,
         _name: &'static str,
@@ -231,6 +252,7 @@ pub trait Serializer {
     }
 
     /// Answers on a value that is there, as on the value itself.
+    #[inline(always)]
     final fn serialize_some<T: Serialize>(&mut self, v: &T) -> Result<Self::Ok, Self::Error>
     where
         Self: Sized,
@@ -240,6 +262,7 @@ pub trait Serializer {
     }
 
     /// Answers on a newtype, as its name marks the tree inside it.
+    #[inline(always)]
     final fn serialize_newtype_struct<T: Serialize>(
         &mut self,
         name: &'static str,
@@ -255,6 +278,7 @@ pub trait Serializer {
     }
 
     /// Opens a list. The length is a hint: it is not checked and reserves nothing.
+    #[inline(always)]
     final fn serialize_seq(
         &mut self,
         _len: Option<usize>,
@@ -270,6 +294,7 @@ pub trait Serializer {
     }
 
     /// Opens a tuple, a list of its elements.
+    #[inline(always)]
     final fn serialize_tuple(
         &mut self,
         _len: usize,
@@ -285,6 +310,7 @@ pub trait Serializer {
     }
 
     /// Opens a tuple struct, a list of its fields. One with the name of a described struct has no tree.
+    #[inline(always)]
     final fn serialize_tuple_struct(
         &mut self,
         name: &'static str,
@@ -303,6 +329,7 @@ pub trait Serializer {
     }
 
     /// Opens a struct, a list of its fields. One with the name of a described struct has no tree.
+    #[inline(always)]
     final fn serialize_struct(
         &mut self,
         name: &'static str,
@@ -321,6 +348,7 @@ pub trait Serializer {
     }
 
     /// Opens a map.
+    #[inline(always)]
     final fn serialize_map(
         &mut self,
         _len: Option<usize>,
@@ -337,6 +365,7 @@ pub trait Serializer {
     }
 
     /// Answers on a variant of one value. The names of an enum and its variants are not written.
+    #[inline(always)]
     final fn serialize_newtype_variant<T: Serialize>(
         &mut self,
         name: &'static str,
@@ -354,6 +383,7 @@ pub trait Serializer {
     }
 
     /// Opens a variant of fields that have no names.
+    #[inline(always)]
     final fn serialize_tuple_variant(
         &mut self,
         _name: &'static str,
@@ -373,6 +403,7 @@ pub trait Serializer {
     }
 
     /// Opens a variant of named fields.
+    #[inline(always)]
     final fn serialize_struct_variant(
         &mut self,
         _name: &'static str,

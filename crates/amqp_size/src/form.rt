@@ -9,7 +9,7 @@ use amqp_ser::Fixed;
 /// A code and the lowest bytes of a number after it, the highest first.
 ///
 /// # Encoding
-/// AMQP 1.0 part 1, sections 1.2.1 and 1.2.2: the code's high four bits tell the width.
+/// AMQP 1.0 part 1, section 1.2.1: the code's high four bits tell the width.
 #[derive(Clone, Copy, Debug)]
 pub struct Form {
     /// The format code, or the constructor in an array.
@@ -23,6 +23,7 @@ pub struct Form {
 impl Form {
     ghost use Rattle.amqp_size.specs.Form.{form_bytes, form_payload};
 
+    #[inline(always)]
     fn new(code: u8, width: usize, bits: u64) -> Form
         ensures code { result.code ≡ code }
         ensures width { result.width ≡ width }
@@ -32,6 +33,7 @@ impl Form {
     }
 
     /// The form by itself, the shortest that there is.
+    #[inline(always)]
     pub fn ordinary(fixed: Fixed) -> Form
         ensures bytes { form_bytes result ≡ scalar_form (fixed_scalar fixed) }
         ensures few { result.width ≤ 8 }
@@ -58,6 +60,7 @@ impl Form {
     }
 
     /// The constructor and the payload of an array's element.
+    #[inline(always)]
     pub fn in_array(fixed: Fixed) -> Form
         ensures code { result.code ≡ scalar_code (fixed_scalar fixed) }
         ensures payload { form_payload result ≡ scalar_payload (fixed_scalar fixed) }

@@ -25,6 +25,7 @@ impl Open {
     ghost use Rattle.amqp_size.specs.Place.{con_of, is_array, inner_place};
 
     /// A compound of this shape at this place, with no part yet.
+    #[inline(always)]
     pub(crate) fn new(place: Place, shape: Shape) -> Open
         ensures place { result.place ≡ place }
         ensures shape { result.shape ≡ shape }
@@ -45,6 +46,7 @@ impl Open {
     }
 
     /// How many bytes the parts have.
+    #[inline(always)]
     pub fn sum(&self) -> usize
         ensures sum { result ≡ self.now.sum }
         ensures small { result ≤ 4294967291 }
@@ -53,6 +55,7 @@ impl Open {
     }
 
     /// What was opened.
+    #[inline(always)]
     pub fn shape(&self) -> Shape
         ensures { result ≡ self.now.shape }
     {
@@ -60,6 +63,7 @@ impl Open {
     }
 
     /// The constructor of an array's elements, once there is one.
+    #[inline(always)]
     pub fn constructor(&self) -> Option<u8>
         ensures { result ≡ con_of self.now.inner }
     {
@@ -67,6 +71,7 @@ impl Open {
     }
 
     /// Where the compound stands.
+    #[inline(always)]
     pub(crate) fn place(&self) -> Place
         ensures { result ≡ self.now.place }
     {
@@ -74,6 +79,7 @@ impl Open {
     }
 
     /// Where the next part stands.
+    #[inline(always)]
     pub(crate) fn inner(&self) -> Place
         ensures { result ≡ self.now.inner }
     {
@@ -81,6 +87,7 @@ impl Open {
     }
 
     /// How many elements an array has.
+    #[inline(always)]
     pub(crate) fn count(&self) -> usize
         ensures { result ≡ self.now.count }
     {
@@ -88,6 +95,7 @@ impl Open {
     }
 
     /// Takes the last part back.
+    #[inline(always)]
     pub(crate) fn undo(&mut self)
         ensures sum { self.new.sum ≡ self.old.before }
         ensures place { self.new.place ≡ self.old.place }
@@ -100,6 +108,7 @@ impl Open {
     }
 
     /// Counts a part of this size, after which the next part stands there.
+    #[inline(always)]
     pub(crate) fn take(&mut self, size: usize, inner: Place) -> Result<(), Error>
         ensures kept { MatchResult result
             (λ _. (self.new.sum ≡ size + opens self.old.inner inner + self.old.sum) × ((self.new.count ≡ if self.old.array then self.old.count + 1 else self.old.count) × (self.new.inner ≡ inner)))

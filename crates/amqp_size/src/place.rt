@@ -68,7 +68,21 @@ pub enum Shape {
 }
 
 impl Place {
+    /// The place itself, read part by part: a compiler then keeps it in registers.
+    #[inline(always)]
+    fn parts(self) -> Place
+        ensures { result ≡ self }
+    {
+        match self {
+            Place::Root => Place::Root,
+            Place::Inside => Place::Inside,
+            Place::First => Place::First,
+            Place::Element(code) => Place::Element(code),
+        }
+    }
+
     /// The constructor of an array's elements, once there is one.
+    #[inline(always)]
     pub fn constructor(self) -> Option<u8>
         ensures { result ≡ con_of self }
     {
@@ -81,6 +95,7 @@ impl Place {
 
 impl Shape {
     /// Whether it is an array.
+    #[inline(always)]
     pub fn is_array(self) -> bool
         ensures { result ≡ is_array self }
     {
@@ -88,6 +103,7 @@ impl Shape {
     }
 
     /// The place of its first part.
+    #[inline(always)]
     pub fn inner(self) -> Place
         ensures { result ≡ inner_place self }
     {
@@ -100,18 +116,20 @@ impl Shape {
 
 impl Under {
     /// The place itself.
+    #[inline(always)]
     pub fn outer(self) -> Place
         ensures { result ≡ outer self }
     {
         match self {
-            Under::Plain(place) => place,
-            Under::Array(place) => place,
-            Under::Scalar(_, place) => place,
-            Under::Nothing(place) => place,
+            Under::Plain(place) => place.parts(),
+            Under::Array(place) => place.parts(),
+            Under::Scalar(_, place) => place.parts(),
+            Under::Nothing(place) => place.parts(),
         }
     }
 
     /// What is opened there.
+    #[inline(always)]
     pub fn shape(self, kind: Kind) -> Shape
         ensures { result ≡ shape_of self kind }
     {
@@ -131,6 +149,7 @@ impl Under {
     }
 
     /// The place under one marker more.
+    #[inline(always)]
     pub fn marked(self, mark: Mark) -> Under
         ensures meant { (t : Option Tree) → meant result t ≡ meant self (marked mark t) }
         ensures outer { outer result ≡ outer self }
@@ -149,6 +168,7 @@ impl Under {
         }
     }
 
+    #[inline(always)]
     fn under_array(self) -> Under
         ensures meant { (t : Option Tree) → meant result t ≡ meant self (marked Mark.Array t) }
         ensures outer { outer result ≡ outer self }
@@ -159,6 +179,7 @@ impl Under {
         }
     }
 
+    #[inline(always)]
     fn under_scalar(self, mark: ScalarMark) -> Under
         ensures meant { (t : Option Tree) → meant result t ≡ meant self (marked (the_mark mark) t) }
         ensures outer { outer result ≡ outer self }

@@ -33,6 +33,7 @@ impl SizeSerializer {
     ghost use Rattle.amqp_ser.specs.Permitted.{refuses_none};
 
     /// A serializer at the root.
+    #[inline(always)]
     pub fn new() -> SizeSerializer
         ensures { result.place ≡ Under.Plain Place.Root }
     {
@@ -42,6 +43,7 @@ impl SizeSerializer {
     }
 
     /// The answer on a writable tree with this constructor and these lengths, at a place.
+    #[inline(always)]
     fn accept(
         &mut self,
         place: Place,
@@ -71,6 +73,7 @@ impl SizeSerializer {
     }
 
     /// The answer on a text or a binary with this constructor and length.
+    #[inline(always)]
     fn text(&mut self, place: Place, code: u8, n: usize) -> Result<usize, Error>
         ensures { (t : Tree) → con t ≡ Some code → alike t ≡ true → inside t ≡ true → placed t ≡ true → within t ≡ fits n →
             length (enc t) ≡ text_width n → length (payload t) ≡ n + 4 → at_place place (Some t) result self.new.place }
@@ -83,6 +86,7 @@ impl SizeSerializer {
     }
 
     /// The answer on a variant whose payload has this length.
+    #[inline(always)]
     fn variant(&mut self, place: Place, index: u32, size: usize) -> Result<usize, Error>
         ensures { (t v : Tree) → con t ≡ Some 0xd1 → alike t ≡ true → inside t ≡ true → placed t ≡ true → within v ≡ true →
             within t ≡ (fits (uint_width index + size) && within v) → length (enc t) ≡ map_width (uint_width index + size) →
@@ -98,6 +102,7 @@ impl SizeSerializer {
     }
 
     /// Refuses a value that its marker does not take.
+    #[inline(always)]
     fn refuse(&mut self) -> Result<usize, Error>
         ensures place { self.new.place ≡ Under.Plain (outer self.old.place) }
         ensures refused { result ≡ Err Error.InvalidValue }
@@ -119,6 +124,7 @@ impl Default for SizeSerializer {
 }
 
 impl Serializer for SizeSerializer {
+    ghost use Rattle.amqp_data.specs.declared.error.Error.TheVariants.{InvalidValue};
     ghost use Rattle.amqp_size.specs.Place.{outer, meant};
     ghost use Rattle.amqp_size.specs.Counted.{size_permits, size_has, size_awaits};
     ghost use Rattle.amqp_ser.specs.Compounds.{whole};
@@ -137,6 +143,9 @@ impl Serializer for SizeSerializer {
 
     ghost awaits = { size_awaits };
 
+    ghost is_misuse = { λ e. e ≡ InvalidValue };
+
+    #[inline(always)]
     fn serialize_fixed(&mut self, fixed: Fixed) -> Result<usize, Error> {
         match self.place {
             Under::Plain(place) => {
@@ -152,6 +161,7 @@ impl Serializer for SizeSerializer {
         }
     }
 
+    #[inline(always)]
     fn serialize_str(&mut self, v: &str) -> Result<usize, Error> {
         match self.place {
             Under::Plain(place) => self.text(place, 0xb1, v.len()),
@@ -160,6 +170,7 @@ impl Serializer for SizeSerializer {
         }
     }
 
+    #[inline(always)]
     fn serialize_bytes(&mut self, v: &[u8]) -> Result<usize, Error> {
         match self.place {
             Under::Plain(place) => self.text(place, 0xb0, v.len()),
@@ -179,6 +190,7 @@ impl Serializer for SizeSerializer {
         }
     }
 
+    #[inline(always)]
     fn mark(&mut self, mark: Mark)
         ensures step { (t : Option Tree) (r : Result ℕ Error) (after : SizeSerializer) → size_permits self.new t r after → size_permits self.old (marked mark t) r after }
         ensures meant { (t : Option Tree) → meant self.new.place t ≡ meant self.old.place (marked mark t) }
@@ -187,6 +199,7 @@ impl Serializer for SizeSerializer {
         self.place = self.place.marked(mark);
     }
 
+    #[inline(always)]
     fn begin(&mut self, kind: Kind) -> Open {
         let place = self.place.outer();
         let shape = self.place.shape(kind);
@@ -194,10 +207,12 @@ impl Serializer for SizeSerializer {
         Open::new(place, shape)
     }
 
+    #[inline(always)]
     fn begin_part(&mut self, held: &mut Open) {
         self.place = Under::Plain(held.inner());
     }
 
+    #[inline(always)]
     fn end_part(&mut self, held: &mut Open, part: Result<usize, Error>) -> Result<(), Error>
         ensures step { (start : SizeSerializer) (kind : Kind) (before : SizeSerializer) (ps : List (Option Tree)) (p : Option Tree) → size_awaits start kind before held.old ps → size_permits before p part self.old →
             MatchResult result
@@ -212,15 +227,18 @@ impl Serializer for SizeSerializer {
         held.take(size, inner)
     }
 
+    #[inline(always)]
     fn undo_part(&mut self, held: &mut Open) {
         held.undo();
     }
 
+    #[inline(always)]
     fn misuse(&mut self, _held: &mut Open) -> Error {
         Error::InvalidValue
     }
 
     #[tactic(auto, unfolding(amqp_ser::specs::Compounds::whole))]
+    #[inline(always)]
     fn end(&mut self, held: Open) -> Result<usize, Error> {
         let place = held.place();
         let sum = held.sum();

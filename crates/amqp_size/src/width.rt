@@ -15,6 +15,7 @@ pub const LONGEST: usize = 4294967291;
 pub const MOST: usize = 4294967295;
 
 /// The length of an uint by itself.
+#[inline(always)]
 pub fn uint_width(n: u32) -> usize
     ensures { result ≡ uint_width n }
 {
@@ -28,6 +29,7 @@ pub fn uint_width(n: u32) -> usize
 }
 
 /// The length of a text or a binary of n bytes.
+#[inline(always)]
 pub(crate) fn text_width(n: usize) -> usize
     requires { n ≤ 4294967291 }
     ensures { result ≡ text_width n }
@@ -36,6 +38,7 @@ pub(crate) fn text_width(n: usize) -> usize
 }
 
 /// The length of a map whose body has n bytes.
+#[inline(always)]
 pub(crate) fn map_width(n: usize) -> usize
     requires { n ≤ 4294967291 }
     ensures { result ≡ map_width n }
@@ -44,6 +47,7 @@ pub(crate) fn map_width(n: usize) -> usize
 }
 
 /// The length of a list whose body has n bytes.
+#[inline(always)]
 pub fn list_width(n: usize) -> usize
     requires { n ≤ 4294967291 }
     ensures { result ≡ list_width n }
@@ -52,6 +56,7 @@ pub fn list_width(n: usize) -> usize
 }
 
 /// The length of an array of this content and this many elements.
+#[inline(always)]
 pub(crate) fn array_width(n: usize, count: usize) -> usize
     requires { n ≤ 4294967291 }
     ensures { result ≡ array_width n count }
@@ -73,6 +78,7 @@ pub(crate) fn array_width(n: usize, count: usize) -> usize
 ///
 /// # Example
 /// 254 bytes have the length 256, 255 bytes 260; in an array none have 4.
+#[inline(always)]
 pub fn text_len(text: usize, in_array: bool) -> Result<usize, Error>
     ensures limit { MatchResult result (λ _. fits text ≡ true) (λ e. (fits text ≡ false) × (e ≡ Error.TooLong)) }
     ensures length { IfOk result (λ len. (c8 c32 : ℕ) (bs : List ℕ) → length bs ≡ text → length (text_at in_array c8 c32 bs) ≡ len) }
@@ -96,6 +102,7 @@ pub fn text_len(text: usize, in_array: bool) -> Result<usize, Error>
 ///
 /// # Example
 /// No bytes have the length 1, 254 bytes 257, 255 bytes 264; in an array no bytes have 8.
+#[inline(always)]
 pub fn list_len(elements: usize, in_array: bool) -> Result<usize, Error>
     ensures limit { MatchResult result (λ _. fits elements ≡ true) (λ e. (fits elements ≡ false) × (e ≡ Error.TooLong)) }
     ensures length { IfOk result (λ len. (m : ℕ) (body : List ℕ) → length body ≡ elements → length (list_at in_array m body) ≡ len) }
@@ -119,6 +126,7 @@ pub fn list_len(elements: usize, in_array: bool) -> Result<usize, Error>
 ///
 /// # Example
 /// No bytes have the length 3, 254 bytes 257, 255 bytes 264; in an array no bytes have 8.
+#[inline(always)]
 pub fn map_len(entries: usize, in_array: bool) -> Result<usize, Error>
     ensures limit { MatchResult result (λ _. fits entries ≡ true) (λ e. (fits entries ≡ false) × (e ≡ Error.TooLong)) }
     ensures length { IfOk result (λ len. (m : ℕ) (body : List ℕ) → length body ≡ entries → length (map_at in_array m body) ≡ len) }
@@ -143,6 +151,7 @@ pub fn map_len(entries: usize, in_array: bool) -> Result<usize, Error>
 ///
 /// # Example
 /// One byte and 255 elements have the length 4, one byte and 256 elements 10; in an array no element has 8.
+#[inline(always)]
 pub fn array_len(content: usize, count: usize, in_array: bool) -> Result<usize, Error>
     ensures limit { MatchResult result (λ _. (fits content && is_count count) ≡ true) (λ e. ((fits content && is_count count) ≡ false) × (e ≡ Error.TooLong)) }
     ensures length { IfOk result (λ len. (body : List ℕ) → length body ≡ content → length (array_at in_array count body) ≡ len) }

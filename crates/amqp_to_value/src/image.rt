@@ -10,16 +10,20 @@ use amqp_ser::Serialize;
 use amqp_value::Value;
 use std::alloc::Global;
 
-/// The untyped value whose tree is the image of the value's tree.
+/// The untyped value that stands for the value: its tree is the image of the value's tree.
+///
+/// Each kind of tree is its variant. A variant of an enum is the map of one pair, from its index as an uint to its
+/// payload. The pairs of a map are inserted in order: a present key keeps its place and takes the new value.
 ///
 /// # Errors
-/// `InvalidValue` exactly where the value has no tree, `OutOfMemory` where a growth of memory is refused.
+/// `OutOfMemory` where a growth of memory is refused; `InvalidValue` only where the value has no tree, and then one of
+/// the two.
 ///
 /// # Memory
 /// Takes `alloc`.
 ///
 /// # Example
-/// The strings `a` and `bc` in a vector give the list of the two.
+/// The vector of the strings `a` and `bc` gives the list of the two, which is written `c00802a10161a1026263`.
 pub fn to_value<T: Serialize>(alloc: Global, value: &T) -> Result<Value, Error>
     ensures { IsImageOf (T.tree value.now) result }
 {
@@ -34,11 +38,18 @@ pub trait TryFromSerializable: Sized {
     /// What may be answered on a tree, or on none.
     ghost gives: { Option Tree → Result Self Error → Type 0 };
 
-    /// Turns the value into this type.
+    /// Turns the value into this type, as the type permits on the value's tree.
+    ///
+    /// # Errors
+    /// `OutOfMemory` where a growth of memory is refused, and what else the type says.
+    ///
+    /// # Memory
+    /// Takes `alloc`.
     fn try_from_serializable<T: Serialize>(alloc: Global, value: &T) -> Result<Self, Error>
         ensures { gives (T.tree value.now) result };
 }
 
+/// As `to_value`.
 impl TryFromSerializable for Value {
     ghost gives = { IsImageOf };
 

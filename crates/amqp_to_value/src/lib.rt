@@ -7,13 +7,16 @@
 
 mod gathered;
 mod image;
+pub mod laws;
 mod open;
 mod scalars;
 mod serializer;
+#[cfg(test)]
+mod tests;
 mod under;
 
 pub use image::{TryFromSerializable, to_value};
 pub use serializer::{
-    MapSerializer, SeqSerializer, Serializer, StructVariantSerializer, TupleSerializer,
-    VariantSerializer,
+    MapSerializer, SeqSerializer, Serializer, StructSerializer, StructVariantSerializer,
+    TupleSerializer, TupleStructSerializer, VariantSerializer,
 };

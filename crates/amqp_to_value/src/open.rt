@@ -70,9 +70,8 @@ impl Open {
         ensures makes { (o : Option Trees) → made self.new o ≡ made self.old o }
         ensures back { (ts : Trees) (ps : Pairs) (t : Tree) → in_pairs ts ≡ Some ps → TakesPairs self.old → Fed self.old (then ts t) → Fed self.new ts }
     {
-        match self {
-            Open::Map(pairs) => pairs.undo(),
-            _ => {}
+        if let Open::Map(pairs) = self {
+            pairs.undo();
         }
     }
 
@@ -105,10 +104,9 @@ fn gather(items: &mut Vec<Value>, value: Value) -> Result<(), Error>
 }
 
 // The one value, where there is one and no more.
-fn only(items: Vec<Value>) -> Option<Value>
+fn only(mut items: Vec<Value>) -> Option<Value>
     ensures { MatchOption result ((v : Value) → items.items ≡ v ∷ [] → ⊥) (λ v. items.items ≡ v ∷ []) }
 {
-    let mut items = items;
     let last = items.pop()?;
     if items.is_empty() { Some(last) } else { None }
 }

@@ -9,8 +9,8 @@ use crate::scalars::{marked_bytes, marked_fixed, marked_text};
 use crate::under::Under;
 use amqp_data::Error;
 use amqp_ser::{
-    Fixed, Kind, Mark, SerializeMap, SerializeSeq, SerializeStructVariant, SerializeTuple,
-    SerializeTupleVariant,
+    Fixed, Kind, Mark, SerializeMap, SerializeSeq, SerializeStruct, SerializeStructVariant,
+    SerializeTuple, SerializeTupleStruct, SerializeTupleVariant,
 };
 use amqp_value::Value;
 use std::alloc::Global;
@@ -31,6 +31,12 @@ pub type TupleSerializer<'a> = SerializeTuple<'a, Serializer>;
 
 /// A map whose keys and values are still gathered.
 pub type MapSerializer<'a> = SerializeMap<'a, Serializer>;
+
+/// A tuple struct whose fields are still gathered.
+pub type TupleStructSerializer<'a> = SerializeTupleStruct<'a, Serializer>;
+
+/// A struct whose fields are still gathered.
+pub type StructSerializer<'a> = SerializeStruct<'a, Serializer>;
 
 /// A tuple variant whose fields are still gathered.
 pub type VariantSerializer<'a> = SerializeTupleVariant<'a, Serializer>;
@@ -62,6 +68,7 @@ impl Serializer {
 }
 
 impl amqp_ser::Serializer for Serializer {
+    ghost use Rattle.amqp_data.specs.declared.error.Error.TheVariants.{InvalidValue};
     ghost use Rattle.amqp_ser.specs.Compounds.{whole};
     ghost use Rattle.amqp_ser.specs.declared.kind.Kind.{Kind};
     ghost use Rattle.amqp_to_value.specs.Holds.{value_permits, value_has};
@@ -77,6 +84,8 @@ impl amqp_ser::Serializer for Serializer {
     ghost has = { value_has };
 
     ghost awaits = { value_has };
+
+    ghost is_misuse = { λ e. e ≡ InvalidValue };
 
     fn serialize_fixed(&mut self, fixed: Fixed) -> Result<Value, Error> {
         let under = self.take_under();

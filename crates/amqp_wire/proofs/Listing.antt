@@ -1,5 +1,5 @@
 -- The table after each part.
-use Rattle.std.proofs.Common.{◌≡◌, ℕ, ◌+◌, ◌-◌, ◌≤◌, ◌⊎◌, inl, inr, List, [], ◌∷◌, ◌++◌, Option, Some, None, Bool, true, false, Result, Ok, Err, length, refl, ap, sym, ◌∙◌, subst, arith, append_assoc, append-nil, length-append, take}
+use Rattle.std.proofs.Common.{◌≡◌, ℕ, ◌+◌, ◌-◌, ◌≤◌, inl, inr, List, [], ◌∷◌, ◌++◌, Option, Some, None, true, false, Result, Ok, Err, length, refl, ap, sym, ◌∙◌, subst, arith, append_assoc, append-nil, length-append, take}
 use Rattle.std.specs.Prelude.{IfErr}
 use Rattle.amqp_data.specs.declared.error.Error.{Error}
 use Rattle.amqp_data.specs.declared.error.Error.TheVariants.{OutOfMemory}
@@ -15,7 +15,7 @@ use Rattle.amqp_size.specs.declared.place.Under.TheVariants.{Plain}
 use Rattle.amqp_size.specs.declared.serializer.SizeSerializer.{SizeSerializer}
 use Rattle.amqp_size.specs.declared.open_compound.Open.{Open}
 use Rattle.amqp_wire.specs.Entries.{header, entries, entries_each, heads, places, made, made_fits}
-use Rattle.amqp_wire.specs.Listed.{headers_permits, counts_tree, listed, lists_parts, Before, Tabled, answered, fills}
+use Rattle.amqp_wire.specs.Listed.{counts_tree, listed, Tabled, answered, fills}
 use Rattle.amqp_wire.specs.Solid.{solid, solid_each}
 use Rattle.amqp_wire.specs.Written.{Extends}
 use Rattle.amqp_wire.specs.declared.table.Header.{Header}
@@ -56,8 +56,8 @@ part_listed start kind table after held new ps (Some t) ts e h l m at last small
     let each : entries_each all ≡ entries_each ts ++ entries t = entries-join ts (more t no_trees) ∙ ap (λ es. entries_each ts ++ es) (append-nil (entries t)) in
     let q = h.listed m ts e in
     let grown : after ≡ start.table.headers.items ++ (q.0 ++ entries_each all) =
-      l.0 ∙ ap (λ x. x ++ entries t) q.1.1 ∙ append_assoc start.table.headers.items (q.0 ++ entries_each ts) (entries t)
-        ∙ ap (λ x. start.table.headers.items ++ x) (append_assoc q.0 (entries_each ts) (entries t) ∙ ap (λ x. q.0 ++ x) (sym each)) in
+    l.0 ∙ ap (λ x. x ++ entries t) q.1.1 ∙ append_assoc start.table.headers.items (q.0 ++ entries_each ts) (entries t)
+    ∙ ap (λ x. start.table.headers.items ++ x) (append_assoc q.0 (entries_each ts) (entries t) ∙ ap (λ x. q.0 ++ x) (sym each)) in
     let solids : solid_each all ≡ true = solid-join ts (more t no_trees) ∙ both (solid_each ts) (solid_each (more t no_trees)) (h.solid_parts ts e) (both (solid t) true l.1 refl) in
     let n : count all ≡ count ts + 1 = let j = count-join ts (more t no_trees) in omega arith in
     let counted : new.parts ≡ count all = let c = h.counted ts e in let s = small all are solids in let p = parts (omega arith) in omega arith in
@@ -68,11 +68,14 @@ part_listed start kind table after held new ps (Some t) ts e h l m at last small
       solid_parts = λ us f. subst (λ x. solid_each x ≡ true) (same_trees (ps ++ (Some t ∷ [])) all us are f) solids;
       listed = λ _ us f. (q.0, (q.1.0, grown ∙ ap (λ w. start.table.headers.items ++ (q.0 ++ entries_each w)) (same_trees (ps ++ (Some t ∷ [])) all us are f)));
       back = λ odd qs r f.
-        let same : ps ≡ qs = same_front ps qs (Some t) r f in
-        record {
-          old = table; since = h.extends; until = (entries t, l.0); len = last;
-          listed = λ _ us g. h.listed m us (ap all_trees same ∙ g);
-        };
+          let same : ps ≡ qs = same_front ps qs (Some t) r f in
+          record {
+            old = table;
+            since = h.extends;
+            until = (entries t, l.0);
+            len = last;
+            listed = λ _ us g. h.listed m us (ap all_trees same ∙ g);
+          };
     }
 
 -- the same compound over a table that was cut back
@@ -86,11 +89,14 @@ table_back start kind table cut held new ps h same at missed last parts =
       solid_parts = h.solid_parts;
       listed = λ m ts e. let q = h.listed (sym missed ∙ m) ts e in (q.0, (q.1.0, same ∙ q.1.1));
       back = λ odd qs r f.
-        let b = h.back odd qs r f in
-        record {
-          old = b.old; since = b.since; until = subst (λ x. Extends b.old x) (sym same) b.until; len = last ∙ b.len;
-          listed = λ m. b.listed (sym missed ∙ m);
-        };
+          let b = h.back odd qs r f in
+          record {
+            old = b.old;
+            since = b.since;
+            until = subst (λ x. Extends b.old x) (sym same) b.until;
+            len = last ∙ b.len;
+            listed = λ m. b.listed (sym missed ∙ m);
+          };
     }
 
 -- the trees without the last part
@@ -147,13 +153,13 @@ all_listed start kind table after held ps n m len c h k miss a b d f p =
     let right : made sh (header n m c) ≡ heads sh h.ts = made_right sh h.ts n m c sum (b ∙ k.counted h.ts h.trees) (d ∙ ap con_of h.fed.inner ∙ ap (λ w. con_of (inner_of w h.ts)) arrays) in
     let is : meant start.size.place (as_kind kind (Some h.ts)) ≡ meant start.size.place (whole kind ps) = ap (meant start.size.place) (sym (whole_of kind ps h.ts h.trees)) in
     let room : held.at + places held.size.shape ≤ length table =
-      let l : length table ≡ length start.table.headers.items + (length q.0 + length (entries_each h.ts)) = ap length q.1.1 ∙ simp length-append in
-      let at = k.at in let z : places held.size.shape ≡ length q.0 = ap places h.shape ∙ sym q.1.0 in omega arith in
+    let l : length table ≡ length start.table.headers.items + (length q.0 + length (entries_each h.ts)) = ap length q.1.1 ∙ simp length-append in
+    let at = k.at in let z : places held.size.shape ≡ length q.0 = ap places h.shape ∙ sym q.1.0 in omega arith in
     whole_listed start after kind ps h.ts len (meant start.size.place (whole kind ps)) is (k.solid_parts h.ts h.trees) p (λ fit.
-      let fitting : made_fits held.size.shape n = subst (λ w. made_fits w n) (sym h.shape) (subst (λ w. made_fits sh w) (sym sum) fit) in
-      f fitting room ∙ ap (λ w. fills (made w (header n m c)) held.at table) h.shape ∙ ap (fills (made sh (header n m c)) held.at) q.1.1
-        ∙ fills_are (made sh (header n m c)) q.0 start.table.headers.items (entries_each h.ts) held.at (made_places sh (header n m c) ∙ sym q.1.0) k.at
-        ∙ ap (λ w. start.table.headers.items ++ (w ++ entries_each h.ts)) right)
+    let fitting : made_fits held.size.shape n = subst (λ w. made_fits w n) (sym h.shape) (subst (λ w. made_fits sh w) (sym sum) fit) in
+    f fitting room ∙ ap (λ w. fills (made w (header n m c)) held.at table) h.shape ∙ ap (fills (made sh (header n m c)) held.at) q.1.1
+    ∙ fills_are (made sh (header n m c)) q.0 start.table.headers.items (entries_each h.ts) held.at (made_places sh (header n m c) ∙ sym q.1.0) k.at
+    ∙ ap (λ w. start.table.headers.items ++ (w ++ entries_each h.ts)) right)
 
 pub record Took (before self : Headers) (held : Counting) (p : Option Tree) (answer : Result ℕ Error) : Type 0 where
   pub present : held.missed ≡ false
@@ -178,8 +184,9 @@ refusal_of_part start before self after kind held new ps p part (Ok n) res e h a
     let s = f (subst (λ x. counts_tree before p x self) a.0 l).0 in
     (s.0, λ rest. inr (s.1 rest))
 refusal_of_part start before self after kind held new ps p part (Err x) res e h a l f k q = elim a [
-    inl m ↦ none m
-  | inr b ↦ elim (subst (λ y. counts_tree before p y self) b l) [ inl m ↦ none m.0 | inr s ↦ let t = f s in (t.0, λ rest. inr (t.1 rest)) ] ]
+  | inl m ↦ none m
+  | inr b ↦ elim (subst (λ y. counts_tree before p y self) b l) [ inl m ↦ none m.0 | inr s ↦ let t = f s in (t.0, λ rest. inr (t.1 rest)) ]
+]
   where
     none : x ≡ OutOfMemory → size_has start.size kind after.size new.size ps × ((rest : List (Option Tree)) → counts_tree start (whole kind (ps ++ (p ∷ rest))) (Err e) after)
     none m =

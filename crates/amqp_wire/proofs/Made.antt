@@ -1,15 +1,14 @@
 -- The headers that are made of what was counted.
-use Rattle.std.proofs.Common.{◌≡◌, ℕ, ◌+◌, ◌≤◌, List, [], ◌∷◌, ◌++◌, Option, Some, None, Bool, true, false, ◌&&◌, length, refl, ap, sym, ◌∙◌, subst, arith, length-append, append_assoc}
+use Rattle.std.proofs.Common.{◌≡◌, ℕ, ◌+◌, ◌≤◌, List, [], ◌∷◌, ◌++◌, Option, Some, None, Bool, true, false, length, refl, ap, sym, ◌∙◌, subst, arith, length-append, append_assoc}
 use Rattle.std.proofs.lemmas.List.{set_at}
 use Rattle.amqp_ser.specs.Tree.{Tree, Trees, Pairs, uint, list, array, map, variant, no_trees, more, count}
-use Rattle.amqp_ser.specs.Limits.{fits, is_count}
 use Rattle.amqp_ser.specs.Scalars.{scalar_form}
 use Rattle.amqp_ser.specs.Encoding.{con, enc, enc_each}
-use Rattle.amqp_ser.specs.Compounds.{all_trees, as_kind, as_map, as_variant, in_pairs, only}
+use Rattle.amqp_ser.specs.Compounds.{as_kind, as_map, as_variant, in_pairs, only}
 use Rattle.amqp_ser.specs.declared.kind.Kind.{Kind}
 use Rattle.amqp_ser.specs.declared.kind.Kind.TheVariants as kinds
 use Rattle.amqp_ser.proofs.Bools.{left_true, is_le}
-use Rattle.amqp_size.specs.Place.{meant, shape_of, is_array, con_of, element}
+use Rattle.amqp_size.specs.Place.{meant, is_array, con_of, element}
 use Rattle.amqp_size.specs.Counted.{content, inner_of, first_place, counts, Holds}
 use Rattle.amqp_size.specs.Width.{uint_width, list_width}
 use Rattle.amqp_size.specs.declared.place.Shape.{Shape}
@@ -52,7 +51,7 @@ made_right (shape.Fields i) ts n m c a b d =
     let size : list_width n ≡ length (enc (list ts)) = ap list_width a ∙ sym (length-list_form (count ts) (enc_each ts)) in
     let outer = length (scalar_form (uint i) ++ enc (list ts)) in
     ap (λ x. header x 2 None ∷ header n m c ∷ []) (sym (length-variant i (list ts) (list_width n) size))
-      ∙ ap (λ x. header outer 2 None ∷ header x m c ∷ []) a ∙ ap (λ x. header outer 2 None ∷ header (length (enc_each ts)) x c ∷ []) b ∙ ap (λ x. header outer 2 None ∷ header (length (enc_each ts)) (count ts) x ∷ []) d
+    ∙ ap (λ x. header outer 2 None ∷ header x m c ∷ []) a ∙ ap (λ x. header outer 2 None ∷ header (length (enc_each ts)) x c ∷ []) b ∙ ap (λ x. header outer 2 None ∷ header (length (enc_each ts)) (count ts) x ∷ []) d
 made_right (shape.Only i) ts n m c a b d =
     let u = length-uint i in
     let l : uint_width i + n ≡ length (scalar_form (uint i) ++ enc_each ts) = simp length-append (omega arith) in
@@ -79,7 +78,7 @@ fills_are [] (h ∷ hs) pre post at a b = absurd (omega arith)
 fills_are (n ∷ new) [] pre post at a b = absurd (omega arith)
 fills_are (n ∷ new) (h ∷ hs) pre post at a b =
     ap (fills new (at + 1)) (set_at pre h (hs ++ post) n at (sym b) ∙ sym (append_assoc pre (n ∷ []) (hs ++ post)))
-      ∙ fills_are new hs (pre ++ (n ∷ [])) post (at + 1) (omega arith) (simp length-append (omega arith)) ∙ append_assoc pre (n ∷ []) (new ++ post)
+    ∙ fills_are new hs (pre ++ (n ∷ [])) post (at + 1) (omega arith) (simp length-append (omega arith)) ∙ append_assoc pre (n ∷ []) (new ++ post)
 
 solid_map : (ts : Trees) (t : Tree) (o : Option Pairs) → in_pairs ts ≡ o → as_map o ≡ Some t → solid_each ts ≡ true → solid t ≡ true
 solid_map ts t None e h s = cc

@@ -1,7 +1,6 @@
 -- Heads written one after another.
-use Rattle.std.proofs.Common.{◌≡◌, ℕ, Bool, false, ◌+◌, ◌<◌, ◌≤◌, List, ◌∷◌, ◌++◌, Option, Result, Ok, Err, length, ap, sym, ◌∙◌, subst, arith, append_assoc, length-append, drop}
+use Rattle.std.proofs.Common.{◌≡◌, ℕ, Bool, false, ◌+◌, ◌<◌, List, ◌∷◌, ◌++◌, Result, Ok, Err, length, ap, sym, ◌∙◌, subst, arith, append_assoc, length-append, drop}
 use Rattle.std.specs.Prelude.{IfOk}
-use Rattle.std.specs.Vec.{vec_capacity}
 use Rattle.amqp_data.specs.declared.error.Error.{Error}
 use Rattle.amqp_ser.specs.Tree.{Trees, uint}
 use Rattle.amqp_ser.specs.Scalars.{scalar_form}

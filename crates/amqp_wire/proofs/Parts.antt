@@ -1,9 +1,8 @@
 -- The bytes after each part.
-use Rattle.std.proofs.Common.{◌≡◌, ℕ, ◌+◌, ◌≤◌, List, [], ◌∷◌, ◌++◌, Option, Some, None, Bool, true, false, not, ◌&&◌, Result, Ok, Err, length, refl, ap, sym, ◌∙◌, subst, arith, append_assoc, append-nil, length-append, drop, take, is_err}
+use Rattle.std.proofs.Common.{◌≡◌, ℕ, ◌+◌, List, [], ◌∷◌, ◌++◌, Option, Some, None, Bool, true, false, not, ◌&&◌, Result, Ok, Err, length, refl, ap, sym, ◌∙◌, subst, arith, append_assoc, append-nil, length-append, drop, take, is_err}
 use Rattle.std.specs.Vec.{vec_capacity}
 use Rattle.amqp_data.specs.declared.error.Error.{Error}
 use Rattle.amqp_ser.specs.Tree.{Tree, Trees, list, array, map, variant, no_trees, more}
-use Rattle.amqp_ser.specs.Encoding.{enc, payload}
 use Rattle.amqp_ser.specs.Writable.{within, within_each}
 use Rattle.amqp_ser.specs.Compounds.{all_trees, before, as_kind, as_map, as_variant, only, whole, complete, paired}
 use Rattle.amqp_ser.specs.declared.kind.Kind.{Kind}
@@ -11,16 +10,15 @@ use Rattle.amqp_ser.specs.declared.kind.Kind.TheVariants as kinds
 use Rattle.amqp_ser.proofs.Bools.{left_true, right_true, and_assoc}
 use Rattle.amqp_ser.proofs.Joins.{join, joined, all_trees-append, within-join, enc_each-join, payload_each-join}
 use Rattle.amqp_ser.proofs.Pairing.{pairing, paired-even}
-use Rattle.amqp_size.specs.Place.{outer, meant, shape_of, inner_place, the_mark}
-use Rattle.amqp_size.specs.declared.place.Place.{Place}
+use Rattle.amqp_size.specs.Place.{outer, meant, shape_of, inner_place}
 use Rattle.amqp_size.specs.declared.place.Shape.{Shape}
 use Rattle.amqp_size.specs.declared.place.Shape.TheVariants as shape
 use Rattle.amqp_size.specs.declared.place.Under.{Under}
 use Rattle.amqp_size.specs.declared.place.Under.TheVariants as under
 use Rattle.amqp_wire.specs.Entries.{entries, entries_each, heads}
-use Rattle.amqp_wire.specs.Heads.{in_array, bytes_at, opening, after_opening, small_heads}
+use Rattle.amqp_wire.specs.Heads.{in_array, bytes_at, opening, after_opening}
 use Rattle.amqp_wire.specs.Solid.{solid, solid_each}
-use Rattle.amqp_wire.specs.Written.{Extends, Kept, Meets, Wrote, writes_tree, writer_permits, Met, Back, Written, Room, opens}
+use Rattle.amqp_wire.specs.Written.{Kept, Meets, Wrote, writes_tree, writer_permits, Met, Written, Room, opens}
 use Rattle.amqp_wire.specs.declared.output.Output.{Output}
 use Rattle.amqp_wire.specs.declared.writer.Writer.{Writer}
 use Rattle.amqp_wire.specs.declared.writer.Writing.{Writing}

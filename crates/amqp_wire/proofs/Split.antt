@@ -1,6 +1,6 @@
 -- A compound's headers and those of its parts.
-use Rattle.std.proofs.Common.{◌≡◌, ℕ, ◌+◌, ◌*◌, List, [], ◌∷◌, ◌++◌, Option, Some, None, Bool, true, false, ◌&&◌, length, refl, ap, sym, ◌∙◌, subst, arith, append_assoc, append-nil}
-use Rattle.amqp_ser.specs.Tree.{Tree, Trees, Pairs, uint, scalar, list, array, map, variant, no_trees, more, no_pairs, pair, count, pair_count}
+use Rattle.std.proofs.Common.{◌≡◌, ℕ, ◌*◌, [], ◌∷◌, ◌++◌, Option, Some, None, ◌&&◌, length, refl, ap, sym, ◌∙◌, subst, arith, append_assoc, append-nil}
+use Rattle.amqp_ser.specs.Tree.{Tree, Trees, Pairs, uint, list, array, map, variant, no_trees, more, no_pairs, pair, count, pair_count}
 use Rattle.amqp_ser.specs.Scalars.{scalar_form}
 use Rattle.amqp_ser.specs.Encoding.{enc, enc_each, enc_pairs}
 use Rattle.amqp_ser.specs.Writable.{within, within_each, within_pairs}

@@ -1,5 +1,5 @@
 -- The table of a tree: the headers of its compounds, in the order of their opening (AMQP 1.0 part 1, section 1.2).
-use Rattle.std.specs.Prelude.{◌≡◌, ℕ, List, [], ◌∷◌, ◌++◌, ◌+◌, ◌*◌, ◌≤◌, length, Option, Some, None, true}
+use Rattle.std.specs.Prelude.{ℕ, List, [], ◌∷◌, ◌++◌, ◌+◌, ◌*◌, ◌≤◌, length, Option, None}
 use Rattle.amqp_ser.specs.Tree.{Tree, Trees, Pairs, uint, scalar, list, array, map, described, variant, lazy, transparent, no_trees, more, no_pairs, pair, count, pair_count}
 use Rattle.amqp_ser.specs.Scalars.{scalar_form}
 use Rattle.amqp_ser.specs.Encoding.{enc, enc_each, enc_pairs, payload_each, first_con, con}

@@ -30,6 +30,7 @@ impl Output {
     ghost use Rattle.std.specs.Int.{w32, to_be_bytes};
 
     /// Writes a size and a count, in one byte each where both have room there.
+    #[inline(never)]
     fn put_counted(&mut self, short: u8, long: u8, header: Header) -> Result<(), Error>
         ensures kept { Kept self.old self.new }
         ensures taken { self.new.taken ≡ self.old.taken }
@@ -44,6 +45,7 @@ impl Output {
     }
 
     /// Writes a header by itself.
+    #[inline(always)]
     fn put_whole_head(&mut self, style: Style, header: Header) -> Result<(), Error>
         ensures kept { Kept self.old self.new }
         ensures taken { self.new.taken ≡ self.old.taken }
@@ -62,6 +64,7 @@ impl Output {
     }
 
     /// Writes a header.
+    #[inline(always)]
     fn put_head(&mut self, in_array: bool, style: Style, header: Header) -> Result<(), Error>
         ensures kept { Kept self.old self.new }
         ensures taken { self.new.taken ≡ self.old.taken }
@@ -77,6 +80,7 @@ impl Output {
     }
 
     /// Takes the next header and writes it, and gives its constructor.
+    #[inline(always)]
     fn put_next(&mut self, in_array: bool, style: Style) -> Result<Option<u8>, Error>
         ensures kept { Kept self.old self.new }
         ensures written { (h : Header) (rest : List Header) → drop self.old.taken self.old.table.items ≡ h ∷ rest → small h →
@@ -94,6 +98,7 @@ impl Output {
     }
 
     /// Opens a list or a map.
+    #[inline(always)]
     fn open_plain(&mut self, in_array: bool, style: Style) -> Result<(), Error>
         ensures kept { Kept self.old self.new }
         ensures opened { (h : Header) (rest : List Header) → drop self.old.taken self.old.table.items ≡ h ∷ rest → small h →
@@ -130,6 +135,7 @@ impl Output {
     }
 
     /// Opens an array.
+    #[inline(always)]
     fn open_array(&mut self, in_array: bool) -> Result<(), Error>
         ensures kept { Kept self.old self.new }
         ensures opened { (h : Header) (rest : List Header) → drop self.old.taken self.old.table.items ≡ h ∷ rest → small h →
@@ -143,6 +149,7 @@ impl Output {
     }
 
     /// Opens a compound: writes what stands before its parts.
+    #[inline(always)]
     pub fn open(&mut self, in_array: bool, shape: Shape) -> Result<(), Error>
         ensures kept { Kept self.old self.new }
         ensures opened { (ts : Trees) → Room in_array shape self.old ts → opens in_array shape self.old (heads shape ts) result self.new }

@@ -40,8 +40,10 @@ impl Headers {
     ghost use Rattle.amqp_size.specs.declared.place.Place.TheVariants.{Root};
 
     /// A first walk that has met nothing.
+    #[inline(always)]
     pub fn new(alloc: Global) -> Headers
         ensures table { result.table.headers.items ≡ [] }
+        ensures refused { result.table.refused ≡ false }
         ensures place { result.size.place ≡ Plain Root }
     {
         Headers {
@@ -51,6 +53,7 @@ impl Headers {
     }
 
     /// Whether a growth was ever refused.
+    #[inline(always)]
     pub fn is_refused(&self) -> bool
         ensures { result ≡ self.now.table.refused }
     {
@@ -58,6 +61,7 @@ impl Headers {
     }
 
     /// The headers.
+    #[inline(always)]
     pub fn into_headers(self) -> Vec<Header>
         ensures { result ≡ self.table.headers }
     {
@@ -70,6 +74,7 @@ impl Counting {
     ghost use Rattle.amqp_wire.specs.Listed.{answered};
 
     /// The answer on a part, or the refusal of the compound's place.
+    #[inline(always)]
     fn answer(&self, part: Result<usize, Error>) -> Result<usize, Error>
         ensures { answered self.now part result }
     {
@@ -81,6 +86,7 @@ impl Counting {
 }
 
 impl Serializer for Headers {
+    ghost use Rattle.amqp_data.specs.declared.error.Error.TheVariants.{InvalidValue};
     ghost use Rattle.amqp_wire.specs.Listed.{headers_permits, headers_has, headers_awaits};
     ghost use Rattle.amqp_ser.specs.Compounds.{whole};
     ghost use Rattle.amqp_ser.specs.declared.kind.Kind.{Kind};
@@ -97,22 +103,29 @@ impl Serializer for Headers {
 
     ghost awaits = { headers_awaits };
 
+    ghost is_misuse = { λ e. e ≡ InvalidValue };
+
+    #[inline(always)]
     fn serialize_fixed(&mut self, fixed: Fixed) -> Result<usize, Error> {
         self.size.serialize_fixed(fixed)
     }
 
+    #[inline(always)]
     fn serialize_str(&mut self, v: &str) -> Result<usize, Error> {
         self.size.serialize_str(v)
     }
 
+    #[inline(always)]
     fn serialize_bytes(&mut self, v: &[u8]) -> Result<usize, Error> {
         self.size.serialize_bytes(v)
     }
 
+    #[inline(always)]
     fn mark(&mut self, mark: Mark) {
         self.size.mark(mark);
     }
 
+    #[inline(always)]
     fn begin(&mut self, kind: Kind) -> Counting {
         let at = self.table.len();
         let size = self.size.begin(kind);
@@ -127,11 +140,13 @@ impl Serializer for Headers {
         }
     }
 
+    #[inline(always)]
     fn begin_part(&mut self, held: &mut Counting) {
         held.before = self.table.len();
         self.size.begin_part(&mut held.size);
     }
 
+    #[inline(always)]
     fn end_part(&mut self, held: &mut Counting, part: Result<usize, Error>) -> Result<(), Error>
         ensures { (start : Headers) (kind : Kind) (before : Headers) (ps : List (Option Tree)) (p : Option Tree) → headers_awaits start kind before held.old ps → headers_permits before p part self.old →
             MatchResult result
@@ -153,16 +168,19 @@ impl Serializer for Headers {
         }
     }
 
+    #[inline(always)]
     fn undo_part(&mut self, held: &mut Counting) {
         self.size.undo_part(&mut held.size);
         self.table.cut(held.last);
         held.parts = held.parts.saturating_sub(1);
     }
 
+    #[inline(always)]
     fn misuse(&mut self, held: &mut Counting) -> Error {
         self.size.misuse(&mut held.size)
     }
 
+    #[inline(always)]
     fn end(&mut self, held: Counting) -> Result<usize, Error> {
         let Counting {
             size,

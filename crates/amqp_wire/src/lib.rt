@@ -9,6 +9,8 @@ mod head;
 mod headers;
 mod output;
 mod table;
+#[cfg(test)]
+mod tests;
 mod walks;
 mod writer;
 

@@ -34,6 +34,7 @@ impl Output {
     ghost use Rattle.amqp_size.specs.Form.{form_bytes, form_payload};
 
     /// An output with no byte yet.
+    #[inline(always)]
     pub fn new(table: Vec<Header>, out: Vec<u8>) -> Output
         ensures table { result.table ≡ table }
         ensures taken { result.taken ≡ 0 }
@@ -47,6 +48,7 @@ impl Output {
     }
 
     /// The bytes.
+    #[inline(always)]
     pub fn into_bytes(self) -> Vec<u8>
         ensures { result ≡ self.out }
     {
@@ -59,6 +61,7 @@ impl Output {
     }
 
     /// How far it has come.
+    #[inline(always)]
     pub fn position(&self) -> Position
         ensures taken { result.taken ≡ self.now.taken }
         ensures len { result.len ≡ length self.now.out.items }
@@ -70,6 +73,7 @@ impl Output {
     }
 
     /// Goes back to where it was.
+    #[inline(always)]
     pub fn restore(&mut self, position: Position)
         ensures table { self.new.table ≡ self.old.table }
         ensures taken { self.new.taken ≡ position.taken }
@@ -81,6 +85,7 @@ impl Output {
     }
 
     /// Takes the next header.
+    #[inline(always)]
     pub fn next(&mut self) -> Option<Header>
         ensures table { self.new.table ≡ self.old.table }
         ensures out { self.new.out ≡ self.old.out }
@@ -95,6 +100,7 @@ impl Output {
     }
 
     /// Writes bytes, where there is room.
+    #[inline(always)]
     pub fn put(&mut self, bytes: &[u8]) -> Result<(), Error>
         ensures kept { Kept self.old self.new }
         ensures taken { self.new.taken ≡ self.old.taken }
@@ -109,7 +115,24 @@ impl Output {
         }
     }
 
+    /// Writes a few bytes one by one, where there is room.
+    #[inline(always)]
+    pub fn put_few(&mut self, bytes: &[u8]) -> Result<(), Error>
+        ensures kept { Kept self.old self.new }
+        ensures taken { self.new.taken ≡ self.old.taken }
+        ensures written { puts self.old bytes.now result self.new }
+    {
+        if bytes.len() > self.out.capacity() - self.out.len() {
+            return Err(Error::TooLong);
+        }
+        for byte in bytes {
+            self.out.push_reserved(*byte);
+        }
+        Ok(())
+    }
+
     /// Writes a form by itself.
+    #[inline(always)]
     fn put_form(&mut self, form: Form) -> Result<(), Error>
         requires { form.width ≤ 8 }
         ensures kept { Kept self.old self.new }
@@ -118,19 +141,20 @@ impl Output {
     {
         let [a, b, c, d, e, f, g, h] = form.bits.to_be_bytes();
         match form.width {
-            0 => self.put(&[form.code]),
-            1 => self.put(&[form.code, h]),
-            2 => self.put(&[form.code, g, h]),
-            4 => self.put(&[form.code, e, f, g, h]),
-            8 => self.put(&[form.code, a, b, c, d, e, f, g, h]),
+            0 => self.put_few(&[form.code]),
+            1 => self.put_few(&[form.code, h]),
+            2 => self.put_few(&[form.code, g, h]),
+            4 => self.put_few(&[form.code, e, f, g, h]),
+            8 => self.put_few(&[form.code, a, b, c, d, e, f, g, h]),
             _ => {
-                self.put(&[form.code])?;
+                self.put_few(&[form.code])?;
                 self.put_payload(form)
             }
         }
     }
 
     /// Writes the bytes after a form's code.
+    #[inline(always)]
     fn put_payload(&mut self, form: Form) -> Result<(), Error>
         requires { form.width ≤ 8 }
         ensures kept { Kept self.old self.new }
@@ -142,6 +166,7 @@ impl Output {
     }
 
     /// Writes a value of fixed width.
+    #[inline(always)]
     pub fn put_fixed(&mut self, in_array: bool, fixed: Fixed) -> Result<(), Error>
         ensures kept { Kept self.old self.new }
         ensures taken { self.new.taken ≡ self.old.taken }
@@ -155,13 +180,8 @@ impl Output {
     }
 
     /// Writes the length of a text or a binary, with the code of a length of one byte or that of four.
-    fn put_length(
-        &mut self,
-        in_array: bool,
-        short: u8,
-        long: u8,
-        n: usize,
-    ) -> Result<(), Error>
+    #[inline(always)]
+    fn put_length(&mut self, in_array: bool, short: u8, long: u8, n: usize) -> Result<(), Error>
         requires { n ≤ 4294967291 }
         ensures kept { Kept self.old self.new }
         ensures taken { self.new.taken ≡ self.old.taken }
@@ -169,16 +189,17 @@ impl Output {
     {
         let [a, b, c, d] = (n as u32).to_be_bytes();
         if in_array {
-            return self.put(&[a, b, c, d]);
+            return self.put_few(&[a, b, c, d]);
         }
         if n <= 254 {
-            self.put(&[short, d])
+            self.put_few(&[short, d])
         } else {
-            self.put(&[long, a, b, c, d])
+            self.put_few(&[long, a, b, c, d])
         }
     }
 
     /// Writes a text or a binary, with the code of a length of one byte or that of four.
+    #[inline(always)]
     pub fn put_text(
         &mut self,
         in_array: bool,
@@ -196,13 +217,14 @@ impl Output {
     }
 
     /// Writes bytes after their code, or alone in an array.
+    #[inline(always)]
     pub fn put_exact(&mut self, in_array: bool, code: u8, bytes: &[u8]) -> Result<(), Error>
         ensures kept { Kept self.old self.new }
         ensures taken { self.new.taken ≡ self.old.taken }
         ensures written { puts self.old (pick in_array (code ∷ bytes.now) bytes.now) result self.new }
     {
         if !in_array {
-            self.put(&[code])?;
+            self.put_few(&[code])?;
         }
         self.put(bytes)
     }

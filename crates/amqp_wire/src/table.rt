@@ -1,6 +1,6 @@
 //! The headers of compounds, in the order of their opening.
 
-ghost use Rattle.std.specs.Prelude.{◌≡◌, ◌+◌, ◌≤◌, ◌++◌, ◌∷◌, [], length, take, slice_set};
+ghost use Rattle.std.specs.Prelude.{◌≡◌, ◌+◌, ◌≤◌, ◌++◌, ◌∷◌, ◌||◌, [], false, length, take, slice_set};
 
 use amqp_size::Shape;
 use amqp_size::width::{list_width, uint_width};
@@ -29,6 +29,7 @@ pub struct Table {
 }
 
 /// A number that has four bytes, where it has.
+#[inline(always)]
 fn narrow(n: usize) -> u32
     ensures { n ≤ 4294967295 → result ≡ n }
 {
@@ -40,8 +41,10 @@ impl Table {
     ghost use Rattle.amqp_wire.specs.Listed.{appended, fills};
 
     /// A table of no headers.
+    #[inline(always)]
     pub fn new(alloc: Global) -> Table
-        ensures { result.headers.items ≡ [] }
+        ensures empty { result.headers.items ≡ [] }
+        ensures refused { result.refused ≡ false }
     {
         Table {
             headers: Vec::new(alloc),
@@ -50,6 +53,7 @@ impl Table {
     }
 
     /// Whether a growth was ever refused.
+    #[inline(always)]
     pub fn is_refused(&self) -> bool
         ensures { result ≡ self.now.refused }
     {
@@ -57,6 +61,7 @@ impl Table {
     }
 
     /// How many headers there are.
+    #[inline(always)]
     pub fn len(&self) -> usize
         ensures { result ≡ length self.now.headers.items }
     {
@@ -64,6 +69,7 @@ impl Table {
     }
 
     /// The headers.
+    #[inline(always)]
     pub fn into_headers(self) -> Vec<Header>
         ensures { result ≡ self.headers }
     {
@@ -75,15 +81,19 @@ impl Table {
     }
 
     /// Keeps the first headers alone.
+    #[inline(always)]
     pub fn cut(&mut self, len: usize)
-        ensures { self.new.headers.items ≡ take len self.old.headers.items }
+        ensures cut { self.new.headers.items ≡ take len self.old.headers.items }
+        ensures refused { self.new.refused ≡ self.old.refused }
     {
         self.headers.truncate(len);
     }
 
     /// Takes a place at the end, and says whether its growth was refused.
+    #[inline(always)]
     fn append(&mut self) -> bool
-        ensures { appended 1 self.old.headers.items result self.new.headers.items }
+        ensures appended { appended 1 self.old.headers.items result self.new.headers.items }
+        ensures refused { self.new.refused ≡ (self.old.refused || result) }
     {
         let header = Header {
             len: 0,
@@ -100,8 +110,10 @@ impl Table {
     }
 
     /// Takes the places of a compound, and says whether a growth was refused.
+    #[inline(always)]
     pub fn open(&mut self, shape: Shape) -> bool
-        ensures { appended (places shape) self.old.headers.items result self.new.headers.items }
+        ensures appended { appended (places shape) self.old.headers.items result self.new.headers.items }
+        ensures refused { self.new.refused ≡ (self.old.refused || result) }
     {
         match shape {
             Shape::Refused => false,
@@ -116,9 +128,11 @@ impl Table {
     }
 
     /// Writes a header into its place.
+    #[inline(always)]
     fn put(&mut self, at: usize, header: Header)
         ensures put { at + 1 ≤ length self.old.headers.items → self.new.headers.items ≡ slice_set self.old.headers.items at header }
         ensures same_length { length self.new.headers.items ≡ length self.old.headers.items }
+        ensures refused { self.new.refused ≡ self.old.refused }
     {
         if at < self.headers.len() {
             self.headers[at] = header;
@@ -126,10 +140,12 @@ impl Table {
     }
 
     /// Writes the headers of a compound into its places, from the header of its parts.
+    #[inline(always)]
     pub fn fill(&mut self, at: usize, shape: Shape, header: Header)
         requires { header.len ≤ 4294967291 }
-        ensures { made_fits shape header.len → at + places shape ≤ length self.old.headers.items →
+        ensures filled { made_fits shape header.len → at + places shape ≤ length self.old.headers.items →
             self.new.headers.items ≡ fills (made shape header) at self.old.headers.items }
+        ensures refused { self.new.refused ≡ self.old.refused }
     {
         match shape {
             Shape::Refused => {}

@@ -34,6 +34,7 @@ pub struct Writing {
     refused: bool,
 }
 
+#[inline(always)]
 fn in_array(place: Place) -> bool
     ensures { result ≡ in_array place }
 {
@@ -48,6 +49,7 @@ impl Writer {
     ghost use Rattle.amqp_size.specs.declared.place.Place.TheVariants.{Root};
 
     /// A writer at the root.
+    #[inline(always)]
     pub fn new(table: Vec<Header>, out: Vec<u8>) -> Writer
         ensures table { result.output.table ≡ table }
         ensures taken { result.output.taken ≡ 0 }
@@ -61,6 +63,7 @@ impl Writer {
     }
 
     /// The bytes.
+    #[inline(always)]
     pub fn into_bytes(self) -> Vec<u8>
         ensures { result ≡ self.output.out }
     {
@@ -69,6 +72,7 @@ impl Writer {
     }
 
     /// Writes bytes of one length after their code.
+    #[inline(always)]
     fn exact(&mut self, place: Place, code: u8, bytes: &[u8]) -> Result<(), Error>
         ensures kept { Kept self.old.output self.new.output }
         ensures taken { self.new.output.taken ≡ self.old.output.taken }
@@ -80,6 +84,7 @@ impl Writer {
     }
 
     /// Refuses a value that its marker does not take.
+    #[inline(always)]
     fn refuse(&mut self) -> Result<(), Error>
         ensures output { self.new.output ≡ self.old.output }
         ensures place { self.new.place ≡ Plain (outer self.old.place) }
@@ -91,6 +96,7 @@ impl Writer {
 }
 
 impl Serializer for Writer {
+    ghost use Rattle.amqp_data.specs.declared.error.Error.TheVariants.{InvalidValue};
     ghost use Rattle.amqp_wire.specs.Written.{writer_permits, writer_has, writer_awaits};
     ghost use Rattle.amqp_ser.specs.Compounds.{whole};
     ghost use Rattle.amqp_ser.specs.declared.kind.Kind.{Kind};
@@ -107,6 +113,9 @@ impl Serializer for Writer {
 
     ghost awaits = { writer_awaits };
 
+    ghost is_misuse = { λ e. e ≡ InvalidValue };
+
+    #[inline(always)]
     fn serialize_fixed(&mut self, fixed: Fixed) -> Result<(), Error> {
         match self.place {
             Under::Plain(place) => self.output.put_fixed(in_array(place), fixed),
@@ -118,6 +127,7 @@ impl Serializer for Writer {
         }
     }
 
+    #[inline(always)]
     fn serialize_str(&mut self, v: &str) -> Result<(), Error> {
         if v.len() > LONGEST {
             return self.refuse();
@@ -135,6 +145,7 @@ impl Serializer for Writer {
         }
     }
 
+    #[inline(always)]
     fn serialize_bytes(&mut self, v: &[u8]) -> Result<(), Error> {
         if v.len() > LONGEST {
             return self.refuse();
@@ -155,10 +166,12 @@ impl Serializer for Writer {
         }
     }
 
+    #[inline(always)]
     fn mark(&mut self, mark: Mark) {
         self.place = self.place.marked(mark);
     }
 
+    #[inline(always)]
     fn begin(&mut self, kind: Kind) -> Writing {
         let place = self.place.outer();
         let shape = self.place.shape(kind);
@@ -174,11 +187,13 @@ impl Serializer for Writer {
         }
     }
 
+    #[inline(always)]
     fn begin_part(&mut self, held: &mut Writing) {
         held.part = self.output.position();
         self.place = Under::Plain(held.inner);
     }
 
+    #[inline(always)]
     fn end_part(&mut self, held: &mut Writing, part: Result<(), Error>) -> Result<(), Error>
         ensures { (start : Writer) (kind : Kind) (before : Writer) (ps : List (Option Tree)) (p : Option Tree) → writer_awaits start kind before held.old ps → writer_permits before p part self.old →
             MatchResult result
@@ -203,14 +218,17 @@ impl Serializer for Writer {
         }
     }
 
+    #[inline(always)]
     fn undo_part(&mut self, held: &mut Writing) {
         self.output.restore(held.last);
     }
 
+    #[inline(always)]
     fn misuse(&mut self, _held: &mut Writing) -> Error {
         Error::InvalidValue
     }
 
+    #[inline(always)]
     fn end(&mut self, held: Writing) -> Result<(), Error> {
         if held.refused {
             return Err(Error::InvalidValue);

@@ -20,6 +20,7 @@ pub struct Counting {
 }
 
 impl Serializer for NodeCounter {
+    ghost use Rattle.amqp_data.specs.declared.error.Error.TheVariants.{InvalidValue};
     ghost use Rattle.amqp_ser.specs.declared.kind.Kind.{Kind};
     ghost use Rattle.amqp_ser.specs.Compounds.{whole};
     ghost use Rattle.example_nodes.specs.Nodes.{Holds};
@@ -35,6 +36,8 @@ impl Serializer for NodeCounter {
     ghost has = { λ start kind s held ps. Holds kind held ps };
 
     ghost awaits = { λ start kind s held ps. Holds kind held ps };
+
+    ghost is_misuse = { λ e. e ≡ InvalidValue };
 
     fn serialize_fixed(&mut self, _fixed: Fixed) -> Result<u64, Error> {
         Ok(1)

@@ -9,6 +9,7 @@ use crate::serialize::Serialize;
 use crate::serializer::Serializer;
 
 /// Feeds a compound one part more, or leaves it as it was.
+#[inline(always)]
 pub fn feed_part<S: Serializer, T: Serialize>(
     serializer: &mut S,
     held: &mut S::Open,
@@ -26,6 +27,7 @@ pub fn feed_part<S: Serializer, T: Serialize>(
 }
 
 /// Feeds a map one entry more, or leaves it as it was.
+#[inline(always)]
 pub fn feed_entry<S: Serializer, K: Serialize, V: Serialize>(
     serializer: &mut S,
     held: &mut S::Open,

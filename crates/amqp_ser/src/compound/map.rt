@@ -20,6 +20,7 @@ pub struct SerializeMap<'a, S: Serializer> {
 }
 
 impl<S: Serializer> Drop for SerializeMap<'_, S> {
+    #[inline(always)]
     fn drop(self)
         ensures { self.exit.0.now ≡ self.entry.serializer.now }
     {
@@ -32,6 +33,7 @@ impl<S: Serializer> Drop for SerializeMap<'_, S> {
 }
 
 impl<'a, S: Serializer> SerializeMap<'a, S> {
+    #[inline(always)]
     pub(crate) fn new(serializer: &'a mut S, held: S::Open) -> SerializeMap<'a, S>
         ensures same_reference { result.serializer.ghost_name ≡ serializer.entry.ghost_name }
         ensures now { result.serializer.now ≡ serializer.old }
@@ -46,6 +48,7 @@ impl<'a, S: Serializer> SerializeMap<'a, S> {
     }
 
     /// The serializer behind the map.
+    #[inline(always)]
     pub fn as_mut(&mut self) -> &mut S
         ensures { result.now ≡ self.old.serializer.now }
     {
@@ -56,6 +59,7 @@ impl<'a, S: Serializer> SerializeMap<'a, S> {
     ///
     /// # Errors
     /// The serializer's refusal of the key, or of a second key while one is pending; the map is then as it was.
+    #[inline(always)]
     pub fn serialize_key<T: Serialize>(&mut self, key: &T) -> Result<(), S::Error>
         ensures same { self.new.serializer.ghost_name ≡ self.old.serializer.ghost_name }
         ensures pending { MatchResult result (λ _. (self.old.pending ≡ false) × (self.new.pending ≡ true)) (λ _. self.new.pending ≡ self.old.pending) }
@@ -66,6 +70,7 @@ impl<'a, S: Serializer> SerializeMap<'a, S> {
             S.permits start (whole Kind.Map (ps ++ (T.tree key.now ∷ rest))) (Err e) self.new.serializer.now)) }
         ensures misuse { self.old.pending ≡ true → (start : S) (ps : List (Option Tree)) → S.has start Kind.Map self.old.serializer.now self.old.held ps →
             IfErr result (λ e. S.has start Kind.Map self.new.serializer.now self.new.held ps × S.permits start None (Err e) self.new.serializer.now) }
+        ensures invalid { self.old.pending ≡ true → IfErr result S.is_misuse }
     {
         if self.pending {
             return Err(self.serializer.misuse(&mut self.held));
@@ -80,6 +85,7 @@ impl<'a, S: Serializer> SerializeMap<'a, S> {
     /// # Errors
     /// The serializer's refusal of the value, after which the key is still pending, or of a value without a key; the
     /// map is then as it was.
+    #[inline(always)]
     pub fn serialize_value<T: Serialize>(&mut self, value: &T) -> Result<(), S::Error>
         ensures same { self.new.serializer.ghost_name ≡ self.old.serializer.ghost_name }
         ensures pending { MatchResult result (λ _. (self.old.pending ≡ true) × (self.new.pending ≡ false)) (λ _. self.new.pending ≡ self.old.pending) }
@@ -90,6 +96,7 @@ impl<'a, S: Serializer> SerializeMap<'a, S> {
             S.permits start (whole Kind.Map (ps ++ (T.tree value.now ∷ rest))) (Err e) self.new.serializer.now)) }
         ensures misuse { self.old.pending ≡ false → (start : S) (ps : List (Option Tree)) → S.has start Kind.Map self.old.serializer.now self.old.held ps →
             IfErr result (λ e. S.has start Kind.Map self.new.serializer.now self.new.held ps × S.permits start None (Err e) self.new.serializer.now) }
+        ensures invalid { self.old.pending ≡ false → IfErr result S.is_misuse }
     {
         if !self.pending {
             return Err(self.serializer.misuse(&mut self.held));
@@ -104,6 +111,7 @@ impl<'a, S: Serializer> SerializeMap<'a, S> {
     /// # Errors
     /// The serializer's refusal of the key or of the value, or of an entry while a key is pending; the map is then as
     /// it was.
+    #[inline(always)]
     pub fn serialize_entry<K: Serialize, V: Serialize>(
         &mut self,
         key: &K,
@@ -118,6 +126,7 @@ impl<'a, S: Serializer> SerializeMap<'a, S> {
             S.permits start (whole Kind.Map (ps ++ (K.tree key.now ∷ (V.tree value.now ∷ rest)))) (Err e) self.new.serializer.now)) }
         ensures misuse { self.old.pending ≡ true → IsErr result × ((start : S) (ps : List (Option Tree)) → S.has start Kind.Map self.old.serializer.now self.old.held ps →
             IfErr result (λ e. S.has start Kind.Map self.new.serializer.now self.new.held ps × S.permits start None (Err e) self.new.serializer.now)) }
+        ensures invalid { self.old.pending ≡ true → IfErr result S.is_misuse }
     {
         if self.pending {
             return Err(self.serializer.misuse(&mut self.held));
@@ -129,9 +138,11 @@ impl<'a, S: Serializer> SerializeMap<'a, S> {
     ///
     /// # Errors
     /// The serializer's refusal of that tree, or of a map whose last key has no value.
+    #[inline(always)]
     pub fn end(self) -> Result<S::Ok, S::Error>
-        ensures { (start : S) (ps : List (Option Tree)) → S.has start Kind.Map self.entry.serializer.now self.entry.held ps →
+        ensures ended { (start : S) (ps : List (Option Tree)) → S.has start Kind.Map self.entry.serializer.now self.entry.held ps →
             not self.entry.pending ≡ paired ps → S.permits start (whole Kind.Map ps) result self.exit.0.now }
+        ensures invalid { self.entry.pending ≡ true → IsErr result × IfErr result S.is_misuse }
     {
         let SerializeMap {
             serializer,

@@ -19,6 +19,7 @@ pub struct SerializeSeq<'a, S: Serializer> {
 }
 
 impl<S: Serializer> Drop for SerializeSeq<'_, S> {
+    #[inline(always)]
     fn drop(self)
         ensures { self.exit.0.now ≡ self.entry.serializer.now }
     {
@@ -30,6 +31,7 @@ impl<S: Serializer> Drop for SerializeSeq<'_, S> {
 }
 
 impl<'a, S: Serializer> SerializeSeq<'a, S> {
+    #[inline(always)]
     pub(crate) fn new(serializer: &'a mut S, held: S::Open) -> SerializeSeq<'a, S>
         ensures same_reference { result.serializer.ghost_name ≡ serializer.entry.ghost_name }
         ensures now { result.serializer.now ≡ serializer.old }
@@ -39,6 +41,7 @@ impl<'a, S: Serializer> SerializeSeq<'a, S> {
     }
 
     /// The serializer behind the list.
+    #[inline(always)]
     pub fn as_mut(&mut self) -> &mut S
         ensures { result.now ≡ self.old.serializer.now }
     {
@@ -49,6 +52,7 @@ impl<'a, S: Serializer> SerializeSeq<'a, S> {
     ///
     /// # Errors
     /// The serializer's refusal of the element; the list is then as it was and may be fed on.
+    #[inline(always)]
     pub fn serialize_element<T: Serialize>(&mut self, value: &T) -> Result<(), S::Error>
         ensures same { self.new.serializer.ghost_name ≡ self.old.serializer.ghost_name }
         ensures step { (start : S) (ps : List (Option Tree)) → S.has start Kind.List self.old.serializer.now self.old.held ps →
@@ -64,6 +68,7 @@ impl<'a, S: Serializer> SerializeSeq<'a, S> {
     ///
     /// # Errors
     /// The serializer's refusal of that tree.
+    #[inline(always)]
     pub fn end(self) -> Result<S::Ok, S::Error>
         ensures { (start : S) (ps : List (Option Tree)) → S.has start Kind.List self.entry.serializer.now self.entry.held ps →
             S.permits start (whole Kind.List ps) result self.exit.0.now }
@@ -83,6 +88,7 @@ pub struct SerializeTuple<'a, S: Serializer> {
 }
 
 impl<S: Serializer> Drop for SerializeTuple<'_, S> {
+    #[inline(always)]
     fn drop(self)
         ensures { self.exit.0.now ≡ self.entry.serializer.now }
     {
@@ -94,6 +100,7 @@ impl<S: Serializer> Drop for SerializeTuple<'_, S> {
 }
 
 impl<'a, S: Serializer> SerializeTuple<'a, S> {
+    #[inline(always)]
     pub(crate) fn new(serializer: &'a mut S, held: S::Open) -> SerializeTuple<'a, S>
         ensures same_reference { result.serializer.ghost_name ≡ serializer.entry.ghost_name }
         ensures now { result.serializer.now ≡ serializer.old }
@@ -106,6 +113,7 @@ impl<'a, S: Serializer> SerializeTuple<'a, S> {
     ///
     /// # Errors
     /// The serializer's refusal of the element; the tuple is then as it was and may be fed on.
+    #[inline(always)]
     pub fn serialize_element<T: Serialize>(&mut self, value: &T) -> Result<(), S::Error>
         ensures same { self.new.serializer.ghost_name ≡ self.old.serializer.ghost_name }
         ensures step { (start : S) (ps : List (Option Tree)) → S.has start Kind.List self.old.serializer.now self.old.held ps →
@@ -121,6 +129,7 @@ impl<'a, S: Serializer> SerializeTuple<'a, S> {
     ///
     /// # Errors
     /// The serializer's refusal of that tree.
+    #[inline(always)]
     pub fn end(self) -> Result<S::Ok, S::Error>
         ensures { (start : S) (ps : List (Option Tree)) → S.has start Kind.List self.entry.serializer.now self.entry.held ps →
             S.permits start (whole Kind.List ps) result self.exit.0.now }

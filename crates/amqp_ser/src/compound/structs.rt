@@ -22,6 +22,7 @@ pub struct SerializeTupleStruct<'a, S: Serializer> {
 }
 
 impl<S: Serializer> Drop for SerializeTupleStruct<'_, S> {
+    #[inline(always)]
     fn drop(self)
         ensures { self.exit.0.now ≡ self.entry.serializer.now }
     {
@@ -34,6 +35,7 @@ impl<S: Serializer> Drop for SerializeTupleStruct<'_, S> {
 }
 
 impl<'a, S: Serializer> SerializeTupleStruct<'a, S> {
+    #[inline(always)]
     pub(crate) fn new(
         serializer: &'a mut S,
         held: S::Open,
@@ -56,6 +58,7 @@ impl<'a, S: Serializer> SerializeTupleStruct<'a, S> {
     /// # Errors
     /// The serializer's refusal of the field, or of any field of a described struct; the struct is then as it was and
     /// may be fed on.
+    #[inline(always)]
     pub fn serialize_field<T: Serialize>(&mut self, value: &T) -> Result<(), S::Error>
         ensures same { self.new.serializer.ghost_name ≡ self.old.serializer.ghost_name }
         ensures described { self.new.described ≡ self.old.described }
@@ -66,6 +69,7 @@ impl<'a, S: Serializer> SerializeTupleStruct<'a, S> {
             S.permits start (whole Kind.List (ps ++ (T.tree value.now ∷ rest))) (Err e) self.new.serializer.now)) }
         ensures misuse { self.old.described ≡ true → IsErr result × ((start : S) (ps : List (Option Tree)) → S.has start Kind.List self.old.serializer.now self.old.held ps →
             IfErr result (λ e. S.has start Kind.List self.new.serializer.now self.new.held ps × S.permits start None (Err e) self.new.serializer.now)) }
+        ensures invalid { self.old.described ≡ true → IfErr result S.is_misuse }
     {
         if self.described {
             return Err(self.serializer.misuse(&mut self.held));
@@ -77,11 +81,13 @@ impl<'a, S: Serializer> SerializeTupleStruct<'a, S> {
     ///
     /// # Errors
     /// The serializer's refusal of that tree, or of a described struct.
+    #[inline(always)]
     pub fn end(self) -> Result<S::Ok, S::Error>
         ensures ended { self.entry.described ≡ false → (start : S) (ps : List (Option Tree)) → S.has start Kind.List self.entry.serializer.now self.entry.held ps →
             S.permits start (whole Kind.List ps) result self.exit.0.now }
         ensures misuse { self.entry.described ≡ true → IsErr result × ((start : S) (ps : List (Option Tree)) → S.has start Kind.List self.entry.serializer.now self.entry.held ps →
             S.permits start None result self.exit.0.now) }
+        ensures invalid { self.entry.described ≡ true → IfErr result S.is_misuse }
     {
         let SerializeTupleStruct {
             serializer,
@@ -107,6 +113,7 @@ pub struct SerializeStruct<'a, S: Serializer> {
 }
 
 impl<S: Serializer> Drop for SerializeStruct<'_, S> {
+    #[inline(always)]
     fn drop(self)
         ensures { self.exit.0.now ≡ self.entry.serializer.now }
     {
@@ -119,6 +126,7 @@ impl<S: Serializer> Drop for SerializeStruct<'_, S> {
 }
 
 impl<'a, S: Serializer> SerializeStruct<'a, S> {
+    #[inline(always)]
     pub(crate) fn new(
         serializer: &'a mut S,
         held: S::Open,
@@ -141,6 +149,7 @@ impl<'a, S: Serializer> SerializeStruct<'a, S> {
     /// # Errors
     /// The serializer's refusal of the field, of any field of a described struct, or of a descriptor; the struct is
     /// then as it was and may be fed on.
+    #[inline(always)]
     pub fn serialize_field<T: Serialize>(
         &mut self,
         key: &'static str,
@@ -157,6 +166,8 @@ impl<'a, S: Serializer> SerializeStruct<'a, S> {
             IfErr result (λ e. S.has start Kind.List self.new.serializer.now self.new.held ps × S.permits start None (Err e) self.new.serializer.now)) }
         ensures descriptor { is_descriptor key.now ≡ true → IsErr result × ((start : S) (ps : List (Option Tree)) → S.has start Kind.List self.old.serializer.now self.old.held ps →
             IfErr result (λ e. S.has start Kind.List self.new.serializer.now self.new.held ps × S.permits start None (Err e) self.new.serializer.now)) }
+        ensures invalid { self.old.described ≡ true → IfErr result S.is_misuse }
+        ensures invalid_descriptor { is_descriptor key.now ≡ true → IfErr result S.is_misuse }
     {
         if self.described {
             return Err(self.serializer.misuse(&mut self.held));
@@ -171,11 +182,13 @@ impl<'a, S: Serializer> SerializeStruct<'a, S> {
     ///
     /// # Errors
     /// The serializer's refusal of that tree, or of a described struct.
+    #[inline(always)]
     pub fn end(self) -> Result<S::Ok, S::Error>
         ensures ended { self.entry.described ≡ false → (start : S) (ps : List (Option Tree)) → S.has start Kind.List self.entry.serializer.now self.entry.held ps →
             S.permits start (whole Kind.List ps) result self.exit.0.now }
         ensures misuse { self.entry.described ≡ true → IsErr result × ((start : S) (ps : List (Option Tree)) → S.has start Kind.List self.entry.serializer.now self.entry.held ps →
             S.permits start None result self.exit.0.now) }
+        ensures invalid { self.entry.described ≡ true → IfErr result S.is_misuse }
     {
         let SerializeStruct {
             serializer,

@@ -20,6 +20,7 @@ pub struct SerializeTupleVariant<'a, S: Serializer> {
 }
 
 impl<S: Serializer> Drop for SerializeTupleVariant<'_, S> {
+    #[inline(always)]
     fn drop(self)
         ensures { self.exit.0.now ≡ self.entry.serializer.now }
     {
@@ -32,6 +33,7 @@ impl<S: Serializer> Drop for SerializeTupleVariant<'_, S> {
 }
 
 impl<'a, S: Serializer> SerializeTupleVariant<'a, S> {
+    #[inline(always)]
     pub(crate) fn new(
         serializer: &'a mut S,
         held: S::Open,
@@ -53,6 +55,7 @@ impl<'a, S: Serializer> SerializeTupleVariant<'a, S> {
     ///
     /// # Errors
     /// The serializer's refusal of the field; the variant is then as it was and may be fed on.
+    #[inline(always)]
     pub fn serialize_field<T: Serialize>(&mut self, value: &T) -> Result<(), S::Error>
         ensures same { self.new.serializer.ghost_name ≡ self.old.serializer.ghost_name }
         ensures index { self.new.index ≡ self.old.index }
@@ -69,6 +72,7 @@ impl<'a, S: Serializer> SerializeTupleVariant<'a, S> {
     ///
     /// # Errors
     /// The serializer's refusal of that tree.
+    #[inline(always)]
     pub fn end(self) -> Result<S::Ok, S::Error>
         ensures { (start : S) (ps : List (Option Tree)) → S.has start (Kind.Fields self.entry.index) self.entry.serializer.now self.entry.held ps →
             S.permits start (whole (Kind.Fields self.entry.index) ps) result self.exit.0.now }
@@ -93,6 +97,7 @@ pub struct SerializeStructVariant<'a, S: Serializer> {
 }
 
 impl<S: Serializer> Drop for SerializeStructVariant<'_, S> {
+    #[inline(always)]
     fn drop(self)
         ensures { self.exit.0.now ≡ self.entry.serializer.now }
     {
@@ -105,6 +110,7 @@ impl<S: Serializer> Drop for SerializeStructVariant<'_, S> {
 }
 
 impl<'a, S: Serializer> SerializeStructVariant<'a, S> {
+    #[inline(always)]
     pub(crate) fn new(
         serializer: &'a mut S,
         held: S::Open,
@@ -126,6 +132,7 @@ impl<'a, S: Serializer> SerializeStructVariant<'a, S> {
     ///
     /// # Errors
     /// The serializer's refusal of the field; the variant is then as it was and may be fed on.
+    #[inline(always)]
     pub fn serialize_field<T: Serialize>(
         &mut self,
         _key: &'static str,
@@ -146,6 +153,7 @@ impl<'a, S: Serializer> SerializeStructVariant<'a, S> {
     ///
     /// # Errors
     /// The serializer's refusal of that tree.
+    #[inline(always)]
     pub fn end(self) -> Result<S::Ok, S::Error>
         ensures { (start : S) (ps : List (Option Tree)) → S.has start (Kind.Fields self.entry.index) self.entry.serializer.now self.entry.held ps →
             S.permits start (whole (Kind.Fields self.entry.index) ps) result self.exit.0.now }

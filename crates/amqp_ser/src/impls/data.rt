@@ -17,6 +17,7 @@ use amqp_data::{
 impl Serialize for F32Bits {
     ghost tree = { λ v. Some (scalar (float (f32_bits v))) };
 
+    #[inline(always)]
     fn serialize<S: Serializer>(&self, serializer: &mut S) -> Result<S::Ok, S::Error> {
         serializer.serialize_f32(*self)
     }
@@ -25,6 +26,7 @@ impl Serialize for F32Bits {
 impl Serialize for F64Bits {
     ghost tree = { λ v. Some (scalar (double (f64_bits v))) };
 
+    #[inline(always)]
     fn serialize<S: Serializer>(&self, serializer: &mut S) -> Result<S::Ok, S::Error> {
         serializer.serialize_f64(*self)
     }
@@ -33,6 +35,7 @@ impl Serialize for F64Bits {
 impl Serialize for Dec32 {
     ghost tree = { λ v. Some (scalar (decimal32 (dec32_bytes v))) };
 
+    #[inline(always)]
     fn serialize<S: Serializer>(&self, serializer: &mut S) -> Result<S::Ok, S::Error> {
         serializer.mark(Mark::Decimal32);
         serializer.serialize_bytes(self.as_inner())
@@ -42,6 +45,7 @@ impl Serialize for Dec32 {
 impl Serialize for Dec64 {
     ghost tree = { λ v. Some (scalar (decimal64 (dec64_bytes v))) };
 
+    #[inline(always)]
     fn serialize<S: Serializer>(&self, serializer: &mut S) -> Result<S::Ok, S::Error> {
         serializer.mark(Mark::Decimal64);
         serializer.serialize_bytes(self.as_inner())
@@ -51,6 +55,7 @@ impl Serialize for Dec64 {
 impl Serialize for Dec128 {
     ghost tree = { λ v. Some (scalar (decimal128 (dec128_bytes v))) };
 
+    #[inline(always)]
     fn serialize<S: Serializer>(&self, serializer: &mut S) -> Result<S::Ok, S::Error> {
         serializer.mark(Mark::Decimal128);
         serializer.serialize_bytes(self.as_inner())
@@ -60,6 +65,7 @@ impl Serialize for Dec128 {
 impl Serialize for Timestamp {
     ghost tree = { λ v. Some (scalar (timestamp (milliseconds_of v))) };
 
+    #[inline(always)]
     fn serialize<S: Serializer>(&self, serializer: &mut S) -> Result<S::Ok, S::Error> {
         serializer.mark(Mark::Timestamp);
         serializer.serialize_i64(self.milliseconds())
@@ -69,6 +75,7 @@ impl Serialize for Timestamp {
 impl Serialize for Uuid {
     ghost tree = { λ v. Some (scalar (uuid (uuid_bytes v))) };
 
+    #[inline(always)]
     fn serialize<S: Serializer>(&self, serializer: &mut S) -> Result<S::Ok, S::Error> {
         serializer.mark(Mark::Uuid);
         serializer.serialize_bytes(self.as_inner())
@@ -78,6 +85,7 @@ impl Serialize for Uuid {
 impl Serialize for ByteBuf {
     ghost tree = { λ v. Some (scalar (binary (byte_buf_bytes v))) };
 
+    #[inline(always)]
     fn serialize<S: Serializer>(&self, serializer: &mut S) -> Result<S::Ok, S::Error> {
         serializer.serialize_bytes(self.as_inner().as_slice())
     }
@@ -86,6 +94,7 @@ impl Serialize for ByteBuf {
 impl Serialize for Symbol {
     ghost tree = { λ v. Some (scalar (symbol (symbol_text v))) };
 
+    #[inline(always)]
     fn serialize<S: Serializer>(&self, serializer: &mut S) -> Result<S::Ok, S::Error> {
         SymbolRef::from(self.as_inner().as_str()).serialize(serializer)
     }
@@ -94,6 +103,7 @@ impl Serialize for Symbol {
 impl Serialize for SymbolRef<'_> {
     ghost tree = { λ v. Some (scalar (symbol (symbol_ref_text v))) };
 
+    #[inline(always)]
     fn serialize<S: Serializer>(&self, serializer: &mut S) -> Result<S::Ok, S::Error> {
         serializer.mark(Mark::Symbol);
         serializer.serialize_str(self.as_inner())
@@ -103,6 +113,7 @@ impl Serialize for SymbolRef<'_> {
 impl<T: Serialize> Serialize for Array<T> {
     ghost tree = { λ v. array_of T.tree (array_items v) };
 
+    #[inline(always)]
     fn serialize<S: Serializer>(&self, serializer: &mut S) -> Result<S::Ok, S::Error> {
         serializer.mark(Mark::Array);
         self.as_inner().serialize(serializer)

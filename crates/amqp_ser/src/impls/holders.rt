@@ -11,6 +11,7 @@ use crate::serializer::Serializer;
 impl<T: Serialize> Serialize for &T {
     ghost tree = { λ r. T.tree r.now };
 
+    #[inline(always)]
     fn serialize<S: Serializer>(&self, serializer: &mut S) -> Result<S::Ok, S::Error> {
         Serialize::serialize(*self, serializer)
     }
@@ -19,6 +20,7 @@ impl<T: Serialize> Serialize for &T {
 impl<T: Serialize> Serialize for Box<T> {
     ghost tree = { λ b. T.tree b.value };
 
+    #[inline(always)]
     fn serialize<S: Serializer>(&self, serializer: &mut S) -> Result<S::Ok, S::Error> {
         (**self).serialize(serializer)
     }
@@ -27,6 +29,7 @@ impl<T: Serialize> Serialize for Box<T> {
 impl<T: Serialize> Serialize for Option<T> {
     ghost tree = { optional T.tree };
 
+    #[inline(always)]
     fn serialize<S: Serializer>(&self, serializer: &mut S) -> Result<S::Ok, S::Error> {
         match self {
             Some(value) => serializer.serialize_some(value),
@@ -38,6 +41,7 @@ impl<T: Serialize> Serialize for Option<T> {
 impl<T: Serialize> Serialize for Vec<T> {
     ghost tree = { λ v. whole List (map T.tree v.items) };
 
+    #[inline(always)]
     fn serialize<S: Serializer>(&self, serializer: &mut S) -> Result<S::Ok, S::Error> {
         serialize_items(self.as_slice(), serializer)
     }
@@ -46,12 +50,14 @@ impl<T: Serialize> Serialize for Vec<T> {
 impl<T: Serialize, const N: usize> Serialize for [T; N] {
     ghost tree = { λ a. whole List (map T.tree a) };
 
+    #[inline(always)]
     fn serialize<S: Serializer>(&self, serializer: &mut S) -> Result<S::Ok, S::Error> {
         serialize_items(self.as_slice(), serializer)
     }
 }
 
 // Answers on the list of the items.
+#[inline(always)]
 fn serialize_items<T: Serialize, S: Serializer>(
     items: &[T],
     serializer: &mut S,

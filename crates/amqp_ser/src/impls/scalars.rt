@@ -9,6 +9,7 @@ use crate::serializer::Serializer;
 impl Serialize for () {
     ghost tree = { λ _. Some (scalar null) };
 
+    #[inline(always)]
     fn serialize<S: Serializer>(&self, serializer: &mut S) -> Result<S::Ok, S::Error> {
         serializer.serialize_unit()
     }
@@ -17,6 +18,7 @@ impl Serialize for () {
 impl Serialize for bool {
     ghost tree = { λ v. Some (scalar (bool v)) };
 
+    #[inline(always)]
     fn serialize<S: Serializer>(&self, serializer: &mut S) -> Result<S::Ok, S::Error> {
         serializer.serialize_bool(*self)
     }
@@ -25,6 +27,7 @@ impl Serialize for bool {
 impl Serialize for i8 {
     ghost tree = { λ v. Some (scalar (byte v)) };
 
+    #[inline(always)]
     fn serialize<S: Serializer>(&self, serializer: &mut S) -> Result<S::Ok, S::Error> {
         serializer.serialize_i8(*self)
     }
@@ -33,6 +36,7 @@ impl Serialize for i8 {
 impl Serialize for i16 {
     ghost tree = { λ v. Some (scalar (short v)) };
 
+    #[inline(always)]
     fn serialize<S: Serializer>(&self, serializer: &mut S) -> Result<S::Ok, S::Error> {
         serializer.serialize_i16(*self)
     }
@@ -41,6 +45,7 @@ impl Serialize for i16 {
 impl Serialize for i32 {
     ghost tree = { λ v. Some (scalar (int v)) };
 
+    #[inline(always)]
     fn serialize<S: Serializer>(&self, serializer: &mut S) -> Result<S::Ok, S::Error> {
         serializer.serialize_i32(*self)
     }
@@ -49,6 +54,7 @@ impl Serialize for i32 {
 impl Serialize for i64 {
     ghost tree = { λ v. Some (scalar (long v)) };
 
+    #[inline(always)]
     fn serialize<S: Serializer>(&self, serializer: &mut S) -> Result<S::Ok, S::Error> {
         serializer.serialize_i64(*self)
     }
@@ -57,6 +63,7 @@ impl Serialize for i64 {
 impl Serialize for u8 {
     ghost tree = { λ v. Some (scalar (ubyte v)) };
 
+    #[inline(always)]
     fn serialize<S: Serializer>(&self, serializer: &mut S) -> Result<S::Ok, S::Error> {
         serializer.serialize_u8(*self)
     }
@@ -65,6 +72,7 @@ impl Serialize for u8 {
 impl Serialize for u16 {
     ghost tree = { λ v. Some (scalar (ushort v)) };
 
+    #[inline(always)]
     fn serialize<S: Serializer>(&self, serializer: &mut S) -> Result<S::Ok, S::Error> {
         serializer.serialize_u16(*self)
     }
@@ -73,6 +81,7 @@ impl Serialize for u16 {
 impl Serialize for u32 {
     ghost tree = { λ v. Some (scalar (uint v)) };
 
+    #[inline(always)]
     fn serialize<S: Serializer>(&self, serializer: &mut S) -> Result<S::Ok, S::Error> {
         serializer.serialize_u32(*self)
     }
@@ -81,6 +90,7 @@ impl Serialize for u32 {
 impl Serialize for u64 {
     ghost tree = { λ v. Some (scalar (ulong v)) };
 
+    #[inline(always)]
     fn serialize<S: Serializer>(&self, serializer: &mut S) -> Result<S::Ok, S::Error> {
         serializer.serialize_u64(*self)
     }
@@ -89,6 +99,7 @@ impl Serialize for u64 {
 impl Serialize for char {
     ghost tree = { λ v. Some (scalar (char v)) };
 
+    #[inline(always)]
     fn serialize<S: Serializer>(&self, serializer: &mut S) -> Result<S::Ok, S::Error> {
         serializer.serialize_char(*self)
     }

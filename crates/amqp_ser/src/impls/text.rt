@@ -9,6 +9,7 @@ use crate::serializer::Serializer;
 impl Serialize for &str {
     ghost tree = { λ s. Some (scalar (string s.now)) };
 
+    #[inline(always)]
     fn serialize<S: Serializer>(&self, serializer: &mut S) -> Result<S::Ok, S::Error> {
         serializer.serialize_str(*self)
     }
@@ -17,6 +18,7 @@ impl Serialize for &str {
 impl Serialize for String {
     ghost tree = { λ s. Some (scalar (string (string_bytes s))) };
 
+    #[inline(always)]
     fn serialize<S: Serializer>(&self, serializer: &mut S) -> Result<S::Ok, S::Error> {
         serializer.serialize_str(self.as_str())
     }

@@ -1,5 +1,4 @@
-use Rattle.std.proofs.Common.{rules, ◌≡◌, ◌++◌, ◌∷◌, refl, map, take, drop, ap, subst, ◌+◌}
-use Rattle.std.proofs.lemmas.List.{take_more, map_more, take_all}
+use Rattle.std.proofs.Common.{rules, ◌≡◌, ◌++◌, ◌∷◌, map, take, drop, ap, ◌+◌}
 use Rattle.amqp_ser.proofs.Feeding.{map-at, moved}
 use Rattle.amqp_ser.specs.Compounds.{whole}
 use Rattle.amqp_ser.specs.declared.kind.Kind.TheVariants.{List}

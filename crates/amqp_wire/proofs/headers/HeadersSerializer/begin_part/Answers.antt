@@ -1,4 +1,4 @@
-use Rattle.std.proofs.Common.{refl, arith}
+use Rattle.std.proofs.Common.{refl}
 use Rattle.amqp_wire.specs.declared.headers.Counting.{Counting}
 use Rattle.amqp_wire.proofs.Listing.{table_back}
 use Rattle.amqp_wire.proofs.headers.HeadersSerializer.begin_part.Goals as goal

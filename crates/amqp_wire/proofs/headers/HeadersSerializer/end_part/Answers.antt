@@ -1,4 +1,4 @@
-use Rattle.std.proofs.Common.{◌≡◌, ◌+◌, ◌++◌, ◌∷◌, [], refl, subst, ap, sym, ◌∙◌, take, arith}
+use Rattle.std.proofs.Common.{◌≡◌, ◌++◌, ◌∷◌, [], refl, subst, ap, ◌∙◌, take, arith}
 use Rattle.amqp_size.specs.Place.{meant}
 use Rattle.amqp_wire.specs.Listed.{listed}
 use Rattle.amqp_wire.specs.declared.headers.Headers.{Headers}
@@ -12,12 +12,14 @@ returns-in-Ok c = λ start kind before ps p w r.
     let old : Counting = c.args.held.now in
     let new : Counting = record { size = c.end_part.new.held; at = old.at; missed = old.missed; before = old.before; last = old.before; parts = c.saturating_add-held.result } in
     let t : Took before c.args.self.now old p c.answer-answer.result =
-      took before c.args.self.now old p c.args.part c.answer-answer.result c.end_part.result c.in-Ok.field-0 _ c.answer-answer.ensures r.1 c.in-Ok.is c.end_part.ensures.refused in
+    took before c.args.self.now old p c.args.part c.answer-answer.result c.end_part.result c.in-Ok.field-0 _ c.answer-answer.ensures r.1 c.in-Ok.is c.end_part.ensures.refused in
     let part = subst (λ u. listed (meant u p) before.table.headers.items c.args.self.now.table.headers.items) w.0.0.1 t.part in
     let step = c.in-Ok.ensures.step start.size kind before.size ps p w.0.0 t.permits in
-    let was = w.0.1.counted w.0.0.0.ts w.0.0.0.trees in
-    (step, part_listed start kind before.table.headers.items c.args.self.now.table.headers.items old new ps p w.0.0.0.ts w.0.0.0.trees w.0.1 part t.present refl w.1
-      (few_fed start.size kind c.end_part.new.held (ps ++ (p ∷ [])) step.0) (λ fit. omega (arith, c.saturating_add-held.ensures)))
+    let was = w.0.1.counted w.0.0.0.ts w.0.0.0.trees in (
+      step,
+      part_listed start kind before.table.headers.items c.args.self.now.table.headers.items old new ps p w.0.0.0.ts w.0.0.0.trees w.0.1 part t.present refl w.1
+          (few_fed start.size kind c.end_part.new.held (ps ++ (p ∷ [])) step.0) (λ fit. omega (arith, c.saturating_add-held.ensures)),
+    )
 
 pub returns-in-Err : goal.returns-in-Err
 returns-in-Err c = λ start kind before ps p w r.
@@ -25,8 +27,8 @@ returns-in-Err c = λ start kind before ps p w r.
     let cut : Headers = record { size = c.end_part.new.self; table = c.cut.new.self } in
     let new : Counting = record { size = c.end_part.new.held; at = old.at; missed = old.missed; before = old.before; last = old.last; parts = old.parts } in
     let same : cut.table.headers.items ≡ before.table.headers.items =
-      c.cut.ensures ∙ ap (take old.before) r.0.1 ∙ take_front before.table.headers.items r.0.0 old.before w.1 in
+    c.cut.ensures.cut ∙ ap (take old.before) r.0.1 ∙ take_front before.table.headers.items r.0.0 old.before w.1 in
     let back = table_back start kind before.table.headers.items cut.table.headers.items old new ps w.0.1 same refl refl refl refl in
     let refused = refusal_of_part start before c.args.self.now cut kind old new ps p c.args.part c.answer-answer.result c.end_part.result c.in-Err.e w.0.0.0 c.answer-answer.ensures r.1
-      (c.in-Err.ensures.step start.size kind before.size ps p w.0.0) c.end_part.ensures.refused c.in-Err.is in
+    (c.in-Err.ensures.step start.size kind before.size ps p w.0.0) c.end_part.ensures.refused c.in-Err.is in
     ((refused.0, back), λ rest. (back.extends, refused.1 rest))

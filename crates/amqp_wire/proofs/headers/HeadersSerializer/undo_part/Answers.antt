@@ -1,4 +1,4 @@
-use Rattle.std.proofs.Common.{◌⊎◌, inl, inr, refl, ap, ◌∙◌}
+use Rattle.std.proofs.Common.{inl, inr, refl, ap, ◌∙◌}
 use Rattle.amqp_size.specs.declared.place.Under.TheVariants.{Plain}
 use Rattle.amqp_wire.specs.declared.headers.Counting.{Counting}
 use Rattle.amqp_wire.proofs.Listing.{table_undone}
@@ -9,12 +9,12 @@ returns-clause-back c = λ start ps p h even.
     let old : Counting = c.args.held.now in
     let new : Counting = record { size = c.undo_part.new.held; at = old.at; missed = old.missed; before = old.before; last = old.last; parts = c.saturating_sub-held.result } in
     let s = c.undo_part.ensures.back start.size ps p h.0 even in
-    (s, table_undone start c.args.self.now.table.headers.items c.cut.new.self.headers.items old new ps p s.0.ts h.0.0.ts s.0.trees h.0.0.trees h.1 even c.cut.ensures refl refl c.saturating_sub-held.ensures)
+    (s, table_undone start c.args.self.now.table.headers.items c.cut.new.self.headers.items old new ps p s.0.ts h.0.0.ts s.0.trees h.0.0.trees h.1 even c.cut.ensures.cut refl refl c.saturating_sub-held.ensures)
 
 pub returns-clause-refusals : goal.returns-clause-refusals
 returns-clause-refusals c = λ start ps p t e h even r.
     let old : Counting = c.args.held.now in
     let new : Counting = record { size = c.undo_part.new.held; at = old.at; missed = old.missed; before = old.before; last = old.last; parts = c.saturating_sub-held.result } in
     let s = c.undo_part.ensures.back start.size ps p h.0 even in
-    let back = table_undone start c.args.self.now.table.headers.items c.cut.new.self.headers.items old new ps p s.0.ts h.0.0.ts s.0.trees h.0.0.trees h.1 even c.cut.ensures refl refl c.saturating_sub-held.ensures in
+    let back = table_undone start c.args.self.now.table.headers.items c.cut.new.self.headers.items old new ps p s.0.ts h.0.0.ts s.0.trees h.0.0.trees h.1 even c.cut.ensures.cut refl refl c.saturating_sub-held.ensures in
     (back.extends, elim r.1 [ inl m ↦ inl (m.0, s.1 ∙ ap Plain s.0.place) | inr k ↦ inr (c.undo_part.ensures.refusals start.size ps p t e h.0 even k) ])

@@ -1,4 +1,4 @@
-use Rattle.std.proofs.Common.{◌≡◌, refl, subst, sym, ap, ◌∙◌, Bool, is_err, true}
+use Rattle.std.proofs.Common.{◌≡◌, refl, subst, ap, ◌∙◌, Bool, is_err, true}
 use Rattle.amqp_ser.specs.Tree.{Trees}
 use Rattle.amqp_size.specs.Place.{outer, shape_of, inner_place}
 use Rattle.amqp_size.specs.declared.place.Place.{Place}

@@ -1,7 +1,6 @@
 use Rattle.amqp_size.specs.Place.{outer, meant}
 use Rattle.amqp_wire.specs.Heads.{in_array}
 use Rattle.amqp_wire.specs.declared.output.Output.{Output}
-use Rattle.amqp_wire.specs.declared.writer.Writing.{Writing}
 use Rattle.amqp_wire.proofs.Parts.{part_undone, still_refused}
 use Rattle.amqp_wire.proofs.writer.WriterSerializer.undo_part.Goals as goal
 

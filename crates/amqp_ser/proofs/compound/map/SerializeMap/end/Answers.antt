@@ -5,8 +5,8 @@ use Rattle.amqp_ser.specs.declared.kind.Kind.TheVariants.{Map}
 use Rattle.amqp_ser.proofs.compound.map.SerializeMap.end.Goals as goal
 
 -- a map with a pending key has an odd number of parts
-pub returns-then-pending : goal.returns-then-pending
-returns-then-pending g c = λ start ps h e.
+pub returns-then-pending-clause-ended : goal.returns-then-pending-clause-ended
+returns-then-pending-clause-ended g c = λ start ps h e.
     let odd : paired ps ≡ false = sym e ∙ ap not c.if-pending.true in
-    let refused = (c.misuse.ensures start Map ps h).1 in
+    let refused = (c.misuse.ensures.kept start Map ps h).1 in
     subst (λ t. g.S.Serializer.permits start t (Err c.misuse.result) c.misuse.new.self) (sym (odd_map ps odd)) refused

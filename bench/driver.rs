@@ -1,0 +1,293 @@
+//! Runs the encoders on the shapes: `plain.rs` and the project, which is linked as a static library.
+//!
+//!     driver list                          each contender, shape and operation that answers, with the answer of one run
+//!     driver run WHO SHAPE OP TIMES        one call, to be counted from outside
+//!     driver count WHO SHAPE OP            allocations and bytes asked for by one run (where built with --cfg count)
+//!     driver time                          the least ns of one run
+//!
+//! Operations: 0 the size, 1 the bytes in a fresh vector, 2 the hash (FNV-1a) of the bytes, 3 an untyped value.
+
+mod plain;
+
+use plain::{Array, Blob, Error, Serialize, Serializer};
+use std::hint::black_box;
+
+const SHAPES: [&str; 7] = [
+    "14 fields", "1,000 ints", "1,000 rows of 10", "chain of 256", "blob of 64 KiB", "1,000 strings", "array of 10,000",
+];
+
+#[derive(Clone, Copy, PartialEq)]
+enum Who {
+    Table,
+    Buffers,
+    Project,
+}
+
+const WHO: [(&str, Who); 3] = [("table", Who::Table), ("buffers", Who::Buffers), ("project", Who::Project)];
+
+unsafe extern "C" {
+    fn amqp_shape(shape: u32, op: u32, times: u64) -> u64;
+    fn amqp_bench(work: u32, op: u32, data: *const u8, len: usize, times: u64) -> u64;
+}
+
+struct Attach {
+    name: String,
+    handle: u32,
+    role: bool,
+    sender_settles: Option<u8>,
+    receiver_settles: Option<u8>,
+    source: Option<String>,
+    target: Option<String>,
+    unsettled: Option<u32>,
+    incomplete: bool,
+    delivery_count: u32,
+    longest_message: u64,
+    offered: Option<String>,
+    desired: Option<String>,
+    properties: Option<u32>,
+}
+
+impl Serialize for Attach {
+    fn serialize<S: Serializer>(&self, serializer: S) -> Result<S::Ok, Error> {
+        let mut fields = serializer.serialize_struct("Attach", 14)?;
+        fields.serialize_field("name", &self.name)?;
+        fields.serialize_field("handle", &self.handle)?;
+        fields.serialize_field("role", &self.role)?;
+        fields.serialize_field("snd-settle-mode", &self.sender_settles)?;
+        fields.serialize_field("rcv-settle-mode", &self.receiver_settles)?;
+        fields.serialize_field("source", &self.source)?;
+        fields.serialize_field("target", &self.target)?;
+        fields.serialize_field("unsettled", &self.unsettled)?;
+        fields.serialize_field("incomplete-unsettled", &self.incomplete)?;
+        fields.serialize_field("initial-delivery-count", &self.delivery_count)?;
+        fields.serialize_field("max-message-size", &self.longest_message)?;
+        fields.serialize_field("offered-capabilities", &self.offered)?;
+        fields.serialize_field("desired-capabilities", &self.desired)?;
+        fields.serialize_field("properties", &self.properties)?;
+        fields.end()
+    }
+}
+
+enum Chain {
+    End,
+    Link(Box<Chain>),
+}
+
+impl Serialize for Chain {
+    fn serialize<S: Serializer>(&self, serializer: S) -> Result<S::Ok, Error> {
+        use plain::SerializeSeq;
+        match self {
+            Chain::End => serializer.serialize_seq(None)?.end(),
+            Chain::Link(next) => {
+                let mut seq = serializer.serialize_seq(None)?;
+                seq.serialize_element(&**next)?;
+                seq.end()
+            }
+        }
+    }
+}
+
+fn attach() -> Attach {
+    Attach {
+        name: "sender-7f3a9c21-queue-orders".into(),
+        handle: 3,
+        role: false,
+        sender_settles: Some(2),
+        receiver_settles: None,
+        source: Some("client/orders/outgoing".into()),
+        target: Some("broker/queues/orders/incoming".into()),
+        unsettled: None,
+        incomplete: false,
+        delivery_count: 70000,
+        longest_message: 1048576,
+        offered: Some("DELAYED_DELIVERY".into()),
+        desired: None,
+        properties: None,
+    }
+}
+
+fn ints(first: i32, count: i32) -> Vec<i32> {
+    (0..count).map(|i| (first + i) % 500 - 200).collect()
+}
+
+/// The lines of work 0 and the bytes of work 1.
+fn data(work: usize) -> Vec<u8> {
+    match work {
+        0 => {
+            let words: Vec<String> = (0..1000).map(|i| format!("{}{}", &"a short string"[..i * 7 % 15], i)).collect();
+            words.join("\n").into_bytes()
+        }
+        _ => (0..10000u32).flat_map(|i| (i * 2654435 % 1000003).to_be_bytes()).collect(),
+    }
+}
+
+fn hash(bytes: &[u8]) -> u64 {
+    bytes.iter().fold(0xcbf29ce484222325, |h, b| (h ^ *b as u64).wrapping_mul(0x100000001b3))
+}
+
+fn repeat<T: Serialize>(who: Who, v: &T, op: u32, times: u64) -> u64 {
+    let encode = |v: &T| if who == Who::Table { plain::table(v) } else { plain::buffers(v) };
+    match op {
+        0 if who == Who::Table => (0..times).map(|_| plain::size(black_box(v)).unwrap() as u64).sum(),
+        1 => (0..times).map(|_| black_box(encode(black_box(v)).unwrap()).len() as u64).sum(),
+        2 => hash(&encode(v).unwrap()),
+        _ => 0,
+    }
+}
+
+fn answer(who: Who, shape: usize, op: u32, times: u64) -> u64 {
+    if who == Who::Project {
+        return match shape {
+            0..=4 => unsafe { amqp_shape(shape as u32, op, times) },
+            _ => {
+                let data = data(shape - 5);
+                unsafe { amqp_bench(shape as u32 - 5, op, data.as_ptr(), data.len(), times) }
+            }
+        };
+    }
+    match shape {
+        0 => repeat(who, &attach(), op, times),
+        1 => repeat(who, &ints(0, 1000), op, times),
+        2 => repeat(who, &(0..1000).map(|i| ints(i, 10)).collect::<Vec<_>>(), op, times),
+        3 => repeat(who, &(0..255).fold(Chain::End, |c, _| Chain::Link(Box::new(c))), op, times),
+        4 => repeat(who, &Blob(vec![0x5a; 65536]), op, times),
+        5 => {
+            let text = String::from_utf8(data(0)).unwrap();
+            repeat(who, &text.split('\n').map(String::from).collect::<Vec<_>>(), op, times)
+        }
+        _ => {
+            let numbers = data(1).chunks(4).map(|c| u32::from_be_bytes(c.try_into().unwrap())).collect();
+            repeat(who, &Array(numbers), op, times)
+        }
+    }
+}
+
+#[cfg(count)]
+mod heap {
+    //! Stands between every call of the C library's heap and the heap (the linker's --wrap).
+    use std::sync::atomic::{AtomicU64, Ordering::Relaxed};
+
+    pub static CALLS: AtomicU64 = AtomicU64::new(0);
+    pub static BYTES: AtomicU64 = AtomicU64::new(0);
+
+    unsafe extern "C" {
+        fn __real_malloc(n: usize) -> *mut u8;
+        fn __real_realloc(p: *mut u8, n: usize) -> *mut u8;
+    }
+
+    fn note(n: usize) {
+        CALLS.fetch_add(1, Relaxed);
+        BYTES.fetch_add(n as u64, Relaxed);
+    }
+
+    #[unsafe(no_mangle)]
+    unsafe extern "C" fn __wrap_malloc(n: usize) -> *mut u8 {
+        note(n);
+        unsafe { __real_malloc(n) }
+    }
+
+    #[unsafe(no_mangle)]
+    unsafe extern "C" fn __wrap_realloc(p: *mut u8, n: usize) -> *mut u8 {
+        note(n);
+        unsafe { __real_realloc(p, n) }
+    }
+
+    pub fn so_far() -> (u64, u64) {
+        (CALLS.load(Relaxed), BYTES.load(Relaxed))
+    }
+}
+
+#[cfg(not(count))]
+mod heap {
+    pub fn so_far() -> (u64, u64) {
+        (0, 0)
+    }
+}
+
+fn count(who: Who, shape: usize, op: u32) -> (u64, u64) {
+    let runs = |times| {
+        let before = heap::so_far();
+        black_box(answer(who, shape, op, times));
+        let after = heap::so_far();
+        (after.0 - before.0, after.1 - before.1)
+    };
+    runs(1);
+    let (one, three) = (runs(1), runs(3));
+    ((three.0 - one.0) / 2, (three.1 - one.1) / 2)
+}
+
+#[repr(C)]
+struct Timespec {
+    seconds: i64,
+    nanoseconds: i64,
+}
+
+unsafe extern "C" {
+    fn clock_gettime(clock: i32, at: *mut Timespec) -> i32;
+}
+
+/// Seconds of this process, since others may work on the machine.
+fn now() -> f64 {
+    let mut at = Timespec { seconds: 0, nanoseconds: 0 };
+    unsafe { clock_gettime(2, &mut at) };
+    at.seconds as f64 + at.nanoseconds as f64 * 1e-9
+}
+
+fn burst(who: Who, shape: usize, op: u32, times: u64) -> f64 {
+    let start = now();
+    black_box(answer(who, shape, op, times));
+    now() - start
+}
+
+/// The least of many short bursts in turn: what building the value takes is in a burst of n and in one of 2 n.
+fn time(rows: &[(usize, Who, usize, u32)]) {
+    let mut least = Vec::new();
+    for (_, who, shape, op) in rows {
+        let mut n = 4;
+        while burst(*who, *shape, *op, n) < 0.004 && n < 1 << 22 {
+            n *= 2;
+        }
+        least.push((n, f64::MAX, f64::MAX));
+    }
+    for _ in 0..40 {
+        for (at, (_, who, shape, op)) in rows.iter().enumerate() {
+            let (n, once, twice) = &mut least[at];
+            *once = once.min(burst(*who, *shape, *op, *n));
+            *twice = twice.min(burst(*who, *shape, *op, 2 * *n));
+        }
+    }
+    for ((name, _, shape, op), (n, once, twice)) in rows.iter().zip(least) {
+        println!("{} {shape} {op} {:.2}", WHO[*name].0, (twice - once) / n as f64 * 1e9);
+    }
+}
+
+fn main() {
+    let words: Vec<String> = std::env::args().collect();
+    let number = |i: usize| words[i].parse::<u64>().unwrap();
+    let who = |i: usize| WHO.iter().find(|w| w.0 == words[i]).unwrap().1;
+    match words[1].as_str() {
+        "run" => println!("{}", answer(who(2), number(3) as usize, number(4) as u32, number(5))),
+        "count" => {
+            let (calls, bytes) = count(who(2), number(3) as usize, number(4) as u32);
+            println!("{calls} {bytes}");
+        }
+        command => {
+            let mut rows = Vec::new();
+            for shape in 0..SHAPES.len() {
+                for (name, (_, who)) in WHO.iter().enumerate() {
+                    for op in 0..4 {
+                        let found = answer(*who, shape, op, 1);
+                        if found != 0 && command == "list" {
+                            println!("{} {shape} {op} {found} {}", WHO[name].0, SHAPES[shape]);
+                        } else if found != 0 && op != 2 {
+                            rows.push((name, *who, shape, op));
+                        }
+                    }
+                }
+            }
+            if command == "time" {
+                time(&rows);
+            }
+        }
+    }
+}

@@ -1,0 +1,54 @@
+//! The functions for C.
+
+ghost use Rattle.std.specs.Prelude.{◌≡◌, ◌≤◌};
+
+use crate::attach::Attach;
+use crate::chain::Chain;
+use crate::inputs::{blob, ints, lines, numbers, rows};
+use crate::repeat::repeat;
+use amqp_data::Error;
+use amqp_ser::Serialize;
+use std::alloc::Global;
+
+/// The answer on what could be built; 0 where it could not.
+fn answer<T: Serialize + Drop>(alloc: Global, built: Result<T, Error>, op: u32, times: u64) -> u64
+    ensures { 4 ≤ op → result ≡ 0 }
+{
+    match built {
+        Ok(value) => repeat(alloc, &value, op, times),
+        Err(_) => 0,
+    }
+}
+
+/// Answers on a value made of the data: work 0 is the list of the text's lines, work 1 the array of the numbers of
+/// four bytes each; any other is 0.
+///
+/// The operations are those of `repeat`: 0 sizes, 1 bytes, 2 a hash of the bytes, 3 untyped values.
+#[unsafe(no_mangle)]
+pub extern "C" fn amqp_bench(alloc: Global, work: u32, op: u32, data: &[u8], times: u64) -> u64
+    ensures works { 2 ≤ work → result ≡ 0 }
+    ensures operations { 4 ≤ op → result ≡ 0 }
+{
+    match work {
+        0 => answer(alloc, lines(alloc, data), op, times),
+        1 => answer(alloc, numbers(alloc, data), op, times),
+        _ => 0,
+    }
+}
+
+/// Answers on a value made by a rule: 0 is a list of fourteen fields, 1 a list of 1,000 ints, 2 1,000 rows of ten
+/// ints, 3 a chain of 256 lists, 4 a binary of 65,536 bytes; any other is 0. The operations are those of `amqp_bench`.
+#[unsafe(no_mangle)]
+pub extern "C" fn amqp_shape(alloc: Global, shape: u32, op: u32, times: u64) -> u64
+    ensures shapes { 5 ≤ shape → result ≡ 0 }
+    ensures operations { 4 ≤ op → result ≡ 0 }
+{
+    match shape {
+        0 => answer(alloc, Attach::example(alloc), op, times),
+        1 => answer(alloc, ints(alloc, 0, 1000), op, times),
+        2 => answer(alloc, rows(alloc, 1000), op, times),
+        3 => answer(alloc, Chain::of_links(alloc, 255), op, times),
+        4 => answer(alloc, blob(alloc, 65536), op, times),
+        _ => 0,
+    }
+}

@@ -1,0 +1,88 @@
+//! One answer, many times.
+//!
+//! Each round is a call of its own, so that a compiler does not see that all are the same.
+
+ghost use Rattle.std.specs.Prelude.{◌≡◌, ◌≤◌};
+
+use crate::hash::hash_of;
+use amqp_ser::Serialize;
+use amqp_size::serialized_size;
+use amqp_to_value::to_value;
+use amqp_wire::to_vec;
+use std::alloc::Global;
+
+/// Adds the size of a value to a sum, and tells whether it has one.
+#[inline(never)]
+fn add_size<T: Serialize>(value: &T, sum: &mut u64) -> bool {
+    match serialized_size(value) {
+        Ok(size) => {
+            *sum = sum.wrapping_add(size as u64);
+            true
+        }
+        Err(_) => false,
+    }
+}
+
+/// Writes a value, adds how many bytes that were, and tells whether it was written.
+#[inline(never)]
+fn add_bytes<T: Serialize>(alloc: Global, value: &T, sum: &mut u64) -> bool {
+    match to_vec(alloc, value) {
+        Ok(bytes) => {
+            *sum = sum.wrapping_add(bytes.len() as u64);
+            true
+        }
+        Err(_) => false,
+    }
+}
+
+/// Makes the untyped value, adds one, and tells whether it was made.
+#[inline(never)]
+fn add_value<T: Serialize>(alloc: Global, value: &T, sum: &mut u64) -> bool {
+    match to_value(alloc, value) {
+        Ok(_) => {
+            *sum = sum.wrapping_add(1);
+            true
+        }
+        Err(_) => false,
+    }
+}
+
+/// The hash of a value's bytes; 0 where they cannot be written.
+fn hash_of_bytes<T: Serialize>(alloc: Global, value: &T) -> u64 {
+    match to_vec(alloc, value) {
+        Ok(bytes) => hash_of(bytes.as_slice()),
+        Err(_) => 0,
+    }
+}
+
+/// One round of an operation.
+fn round<T: Serialize>(alloc: Global, value: &T, op: u32, sum: &mut u64) -> bool {
+    match op {
+        0 => add_size(value, sum),
+        1 => add_bytes(alloc, value, sum),
+        _ => add_value(alloc, value, sum),
+    }
+}
+
+/// What an operation answers on a value: 0 the sum of this many sizes, 1 the sum of this many written lengths, 2 the
+/// hash of the bytes, 3 how many untyped values were made; 0 where a round is refused, and for any other operation.
+///
+/// # Memory
+/// Takes `alloc`, and gives it back after each round.
+pub fn repeat<T: Serialize>(alloc: Global, value: &T, op: u32, times: u64) -> u64
+    ensures { 4 ≤ op → result ≡ 0 }
+{
+    if op == 2 {
+        return hash_of_bytes(alloc, value);
+    }
+    if op > 3 {
+        return 0;
+    }
+    let mut sum: u64 = 0;
+    for _ in 0..times {
+        if !round(alloc, value, op, &mut sum) {
+            return 0;
+        }
+    }
+    sum
+}

@@ -1,0 +1,59 @@
+//! Answers that no clause states, worked by hand or by another program.
+
+use crate::exports::{amqp_bench, amqp_shape};
+use crate::hash::hash_of;
+
+#[test]
+fn hashes_of_worked_texts(rt: HostRuntime) {
+    for (text, hash) in [
+        ("", 0xcbf29ce484222325),
+        ("a", 0xaf63dc4c8601ec8c),
+        ("foobar", 0x85944171f73967e8),
+    ] {
+        assert_eq!(rt; hash_of(text.as_bytes()), hash, "of {text}");
+    }
+}
+
+#[test]
+fn sizes_are_summed(rt: HostRuntime) {
+    let alloc = rt.alloc();
+    assert_eq!(rt; amqp_bench(alloc, 0, 0, b"a\nbc", 3), 30);
+    assert_eq!(rt; amqp_bench(alloc, 1, 0, b"\0\0\0\x01\0\0\0\x02", 2), 24);
+}
+
+#[test]
+fn sizes_of_the_shapes(rt: HostRuntime) {
+    for (shape, size) in [(3, 1786), (4, 65541)] {
+        assert_eq!(rt;
+            amqp_shape(rt.alloc(), shape, 0, 1),
+            size,
+            "of shape {shape}"
+        );
+    }
+}
+
+#[test]
+fn bytes_have_the_hash_of_worked_bytes(rt: HostRuntime) {
+    let alloc = rt.alloc();
+    let strings = hash_of(b"\xc0\x08\x02\xa1\x01a\xa1\x02bc");
+    assert_eq!(rt; amqp_bench(alloc, 0, 2, b"a\nbc", 1), strings);
+    let numbers = hash_of(b"\xe0\x0a\x02\x70\0\0\0\x01\0\0\0\x02");
+    assert_eq!(rt;
+        amqp_bench(alloc, 1, 2, b"\0\0\0\x01\0\0\0\x02", 1),
+        numbers
+    );
+}
+
+#[test]
+fn each_shape_is_written_and_made(rt: HostRuntime) {
+    for shape in [0, 1, 2, 3, 4] {
+        let size = amqp_shape(rt.alloc(), shape, 0, 1);
+        assert!(rt; size > 0);
+        assert_eq!(rt;
+            amqp_shape(rt.alloc(), shape, 1, 2),
+            size.wrapping_mul(2),
+            "shape {shape}"
+        );
+        assert_eq!(rt; amqp_shape(rt.alloc(), shape, 3, 2), 2, "shape {shape}");
+    }
+}

@@ -1,0 +1,24 @@
+//! A value that feeds an element again where it was refused.
+
+ghost use Rattle.std.specs.Prelude.{[], ◌∷◌};
+ghost use Rattle.amqp_ser.specs.Compounds.{whole};
+ghost use Rattle.amqp_ser.specs.declared.kind.Kind.TheVariants.{List};
+
+use amqp_ser::{Serialize, Serializer};
+
+/// A list of one element, which is fed a second time where it was refused.
+#[derive(Drop)]
+pub struct Again<T>(pub T);
+
+impl<T: Serialize> Serialize for Again<T> {
+    ghost tree = { λ v. whole List (T.tree v.0 ∷ []) };
+
+    fn serialize<S: Serializer>(&self, serializer: &mut S) -> Result<S::Ok, S::Error> {
+        let mut list = serializer.serialize_seq(None)?;
+        match list.serialize_element(&self.0) {
+            Ok(()) => {}
+            Err(_) => list.serialize_element(&self.0)?,
+        }
+        list.end()
+    }
+}

@@ -1,0 +1,78 @@
+//! The calls that take memory, with what they must answer.
+
+use crate::again::Again;
+use amqp_data::{Array, Error, OrderedMap, Symbol};
+use amqp_frame::{LazyValue, SliceReader};
+use amqp_to_value::to_value;
+use amqp_value::Value;
+use amqp_wire::to_vec;
+use std::alloc::Global;
+
+/// Makes each call once.
+pub fn all(rt: &(impl Print + AllocGlobal)) -> Result<(), Error> {
+    let alloc = rt.alloc();
+    report(rt, "names", names(alloc)?);
+    report(rt, "maps", maps(alloc)?);
+    report(rt, "bytes", bytes(alloc)?);
+    report(rt, "a refused element fed again", fed_again(alloc)?);
+    report(rt, "images", images(alloc)?);
+    report(rt, "frames", frames(alloc)?);
+    Ok(())
+}
+
+fn report(rt: &impl Print, name: &str, right: bool) {
+    let _ = if right {
+        rt.println(name)
+    } else {
+        rt.println("wrong")
+    };
+}
+
+fn names(alloc: Global) -> Result<bool, Error> {
+    let symbol = Symbol::try_from_str(alloc, "amqp")?;
+    Ok(symbol.as_inner().as_str() == "amqp")
+}
+
+fn maps(alloc: Global) -> Result<bool, Error> {
+    let mut map = OrderedMap::new(alloc);
+    let first = map.insert(1u8, true)?;
+    let second = map.insert(2u8, false)?;
+    let third = map.insert(1u8, false)?;
+    Ok(first.is_none() && second.is_none() && third == Some(true) && map.len() == 2)
+}
+
+/// Lists within a list, an array of arrays and a map: more compounds than the table first has room for.
+fn nested(alloc: Global) -> Result<Value, Error> {
+    let mut lists = Vec::new(alloc);
+    for number in 0u8..12 {
+        let inner = Array::from(vec![in alloc; Value::Ubyte(number)]?);
+        lists.push(Value::Array(inner))?;
+    }
+    Ok(Value::List(lists))
+}
+
+fn bytes(alloc: Global) -> Result<bool, Error> {
+    let value = nested(alloc)?;
+    let bytes = to_vec(alloc, &value)?;
+    Ok(bytes.starts_with(&[0xc0, 61, 12, 0xe0, 3, 1, 0x50, 0, 0xe0, 3, 1, 0x50, 1]))
+}
+
+fn fed_again(alloc: Global) -> Result<bool, Error> {
+    let inner = vec![in alloc; "a"]?;
+    let bytes = to_vec(alloc, &Again(inner))?;
+    Ok(bytes.as_slice() == [0xc0, 7, 1, 0xc0, 4, 1, 0xa1, 1, b'a'].as_slice())
+}
+
+fn images(alloc: Global) -> Result<bool, Error> {
+    let value = nested(alloc)?;
+    let mut map = OrderedMap::new(alloc);
+    drop(map.insert(Symbol::try_from_str(alloc, "k")?, value)?);
+    let image = to_value(alloc, &map)?;
+    Ok(to_value(alloc, &image)? == image)
+}
+
+fn frames(alloc: Global) -> Result<bool, Error> {
+    let mut reader = SliceReader::new(&[0, 0xa1, 1, b'a', 0x45, 0x40]);
+    let frame = LazyValue::from_reader(alloc, &mut reader)?;
+    Ok(frame.try_into_vec(alloc)?.as_slice() == [0, 0xa1, 1, b'a', 0x45].as_slice())
+}

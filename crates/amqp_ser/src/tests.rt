@@ -1,0 +1,126 @@
+//! Which calls of a serializer each type makes: a run of what the proofs speak of, each generic impl at one type.
+
+mod calls;
+mod samples;
+
+use self::calls::calls_of;
+use self::samples::{Described, Inner, Name, NoName, Pair, Reading, WithDescriptor};
+use amqp_data::{Array, ByteBuf, Dec32, F64Bits, OrderedMap, Symbol, SymbolRef, Timestamp, Uuid};
+use std::collections::BTreeMap;
+use std::test::Fail;
+
+#[test]
+fn scalars_are_handed_over_by_kind(rt: HostRuntime) -> Result<(), Fail> {
+    let alloc = rt.alloc();
+    assert_eq!(rt; calls_of(alloc, &()).as_str(), "null");
+    assert_eq!(rt;
+        calls_of(alloc, &(true, 1u8, 1u16)).as_str(),
+        "[ bool, ubyte, ushort, ]"
+    );
+    assert_eq!(rt;
+        calls_of(alloc, &(1u32, 1u64, 1i8, 1i16)).as_str(),
+        "[ uint, ulong, byte, short, ]"
+    );
+    assert_eq!(rt;
+        calls_of(alloc, &(1i32, 1i64, 'a')).as_str(),
+        "[ int, long, char, ]"
+    );
+    assert_eq!(rt;
+        calls_of(alloc, &("a", F64Bits::from(1))).as_str(),
+        "[ a, double, ]"
+    );
+    assert_eq!(rt;
+        calls_of(alloc, &Timestamp::from(13)).as_str(),
+        "timestamp long"
+    );
+    assert_eq!(rt;
+        calls_of(alloc, &SymbolRef::from("amqp")).as_str(),
+        "symbol amqp"
+    );
+    assert_eq!(rt;
+        calls_of(alloc, &Symbol::try_from_str(alloc, "amqp")?).as_str(),
+        "symbol amqp"
+    );
+    assert_eq!(rt;
+        calls_of(alloc, &(Dec32::from([0; 4]), Uuid::from([0; 16]))).as_str(),
+        "[ decimal32 binary, uuid binary, ]"
+    );
+    assert_eq!(rt;
+        calls_of(alloc, &ByteBuf::from([1].to_vec(alloc)?)).as_str(),
+        "binary"
+    );
+    Ok(())
+}
+
+#[test]
+fn holders_hand_over_what_they_hold(rt: HostRuntime) -> Result<(), Fail> {
+    let alloc = rt.alloc();
+    assert_eq!(rt; calls_of(alloc, &Some(3i32)).as_str(), "int");
+    assert_eq!(rt; calls_of(alloc, &None::<i32>).as_str(), "null");
+    assert_eq!(rt; calls_of(alloc, &Box::new(alloc, 3i32)?).as_str(), "int");
+    assert_eq!(rt; calls_of(alloc, &[0i32; 0]).as_str(), "[ ]");
+    assert_eq!(rt; calls_of(alloc, &(1i32,)).as_str(), "[ int, ]");
+    let items = [1u8, 2].to_vec(alloc)?;
+    assert_eq!(rt; calls_of(alloc, &items).as_str(), "[ ubyte, ubyte, ]");
+    assert_eq!(rt;
+        calls_of(alloc, &Array::from(items)).as_str(),
+        "array [ ubyte, ubyte, ]"
+    );
+    Ok(())
+}
+
+#[test]
+fn maps_keep_their_order(rt: HostRuntime) -> Result<(), Fail> {
+    let alloc = rt.alloc();
+    let mut sorted = BTreeMap::new(alloc);
+    drop(sorted.insert("b", 1u8)?);
+    drop(sorted.insert("a", 2u8)?);
+    assert_eq!(rt;
+        calls_of(alloc, &sorted).as_str(),
+        "{ a, ubyte, b, ubyte, }"
+    );
+    let mut ordered = OrderedMap::new(alloc);
+    drop(ordered.insert("b", 1u8)?);
+    drop(ordered.insert("a", 2u8)?);
+    assert_eq!(rt;
+        calls_of(alloc, &ordered).as_str(),
+        "{ b, ubyte, a, ubyte, }"
+    );
+    Ok(())
+}
+
+#[test]
+fn a_refused_value_takes_its_key_back(rt: HostRuntime) -> Result<(), Fail> {
+    let alloc = rt.alloc();
+    let mut ordered = OrderedMap::new(alloc);
+    drop(ordered.insert("a", ByteBuf::from(Vec::new(alloc)))?);
+    assert_eq!(rt; calls_of(alloc, &ordered).as_str(), "{ a, refused, undone,");
+    Ok(())
+}
+
+#[test]
+fn names_ask_for_kinds(rt: HostRuntime) -> Result<(), Fail> {
+    let alloc = rt.alloc();
+    let reading = Reading {
+        place: Symbol::try_from_str(alloc, "roof")?,
+        at: Timestamp::from(13),
+        value: None,
+    };
+    assert_eq!(rt;
+        calls_of(alloc, &reading).as_str(),
+        "[ symbol roof, timestamp long, null, ]"
+    );
+    assert_eq!(rt;
+        calls_of(alloc, &Pair(1, true)).as_str(),
+        "[ ubyte, bool, ]"
+    );
+    assert_eq!(rt; calls_of(alloc, &Name("amqp")).as_str(), "symbol amqp");
+    assert_eq!(rt; calls_of(alloc, &Inner(3)).as_str(), "int");
+    assert_eq!(rt; calls_of(alloc, &NoName(1)).as_str(), "symbol ubyte");
+    assert_eq!(rt;
+        calls_of(alloc, &WithDescriptor(1, true)).as_str(),
+        "[ misuse,"
+    );
+    assert_eq!(rt; calls_of(alloc, &Described(1)).as_str(), "[ misuse,");
+    Ok(())
+}

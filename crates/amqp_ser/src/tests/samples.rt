@@ -1,0 +1,106 @@
+//! Types of a user's own, with a tree and without one.
+
+ghost use Rattle.std.specs.Prelude.{◌∷◌, [], Some, None};
+ghost use Rattle.amqp_ser.specs.Carried.{optional};
+ghost use Rattle.amqp_ser.specs.Compounds.{whole};
+ghost use Rattle.amqp_ser.specs.Tree.{scalar, symbol, timestamp, ubyte, bool, int};
+ghost use Rattle.amqp_ser.specs.declared.kind.Kind.TheVariants as kind;
+ghost use Rattle.amqp_data.specs.Text.{symbol_text};
+ghost use Rattle.amqp_data.specs.Fixed.{milliseconds_of};
+
+use crate::{Serialize, Serializer};
+use amqp_data::{Symbol, Timestamp, markers};
+
+/// A struct of three fields: a list of them.
+#[derive(Drop)]
+pub struct Reading {
+    pub place: Symbol,
+    pub at: Timestamp,
+    pub value: Option<u8>,
+}
+
+impl Serialize for Reading {
+    ghost tree = { λ r. whole kind.List (Some (scalar (symbol (symbol_text r.place))) ∷ Some (scalar (timestamp (milliseconds_of r.at))) ∷ optional (λ n. Some (scalar (ubyte n))) r.value ∷ []) };
+
+    fn serialize<S: Serializer>(&self, serializer: &mut S) -> Result<S::Ok, S::Error> {
+        let mut fields = serializer.serialize_struct("Reading", 3)?;
+        fields.serialize_field("place", &self.place)?;
+        fields.serialize_field("at", &self.at)?;
+        fields.serialize_field("value", &self.value)?;
+        fields.end()
+    }
+}
+
+/// A tuple struct: a list of its fields.
+pub struct Pair(pub u8, pub bool);
+
+impl Serialize for Pair {
+    ghost tree = { λ p. whole kind.List (Some (scalar (ubyte p.0)) ∷ Some (scalar (bool p.1)) ∷ []) };
+
+    fn serialize<S: Serializer>(&self, serializer: &mut S) -> Result<S::Ok, S::Error> {
+        let mut fields = serializer.serialize_tuple_struct("Pair", 2)?;
+        fields.serialize_field(&self.0)?;
+        fields.serialize_field(&self.1)?;
+        fields.end()
+    }
+}
+
+/// A newtype that asks for a symbol.
+pub struct Name<'a>(pub &'a str);
+
+impl Serialize for Name<'_> {
+    ghost tree = { λ n. Some (scalar (symbol n.0.now)) };
+
+    fn serialize<S: Serializer>(&self, serializer: &mut S) -> Result<S::Ok, S::Error> {
+        serializer.serialize_newtype_struct(markers::SYMBOL, &self.0)
+    }
+}
+
+/// A newtype that no marker names.
+pub struct Inner(pub i32);
+
+impl Serialize for Inner {
+    ghost tree = { λ n. Some (scalar (int n.0)) };
+
+    fn serialize<S: Serializer>(&self, serializer: &mut S) -> Result<S::Ok, S::Error> {
+        serializer.serialize_newtype_struct("Inner", &self.0)
+    }
+}
+
+/// A newtype that asks for a symbol over a number: it has no tree.
+pub struct NoName(pub u8);
+
+impl Serialize for NoName {
+    ghost tree = { λ _. None };
+
+    fn serialize<S: Serializer>(&self, serializer: &mut S) -> Result<S::Ok, S::Error> {
+        serializer.serialize_newtype_struct(markers::SYMBOL, &self.0)
+    }
+}
+
+/// A struct with a descriptor: it has no tree.
+pub struct WithDescriptor(pub u64, pub bool);
+
+impl Serialize for WithDescriptor {
+    ghost tree = { λ _. None };
+
+    fn serialize<S: Serializer>(&self, serializer: &mut S) -> Result<S::Ok, S::Error> {
+        let mut fields = serializer.serialize_struct("WithDescriptor", 2)?;
+        fields.serialize_field(markers::DESCRIPTOR, &self.0)?;
+        fields.serialize_field("value", &self.1)?;
+        fields.end()
+    }
+}
+
+/// A described list: it has no tree.
+pub struct Described(pub u64);
+
+impl Serialize for Described {
+    ghost tree = { λ _. None };
+
+    fn serialize<S: Serializer>(&self, serializer: &mut S) -> Result<S::Ok, S::Error> {
+        let mut fields = serializer.serialize_tuple_struct(markers::DESCRIBED_LIST, 1)?;
+        fields.serialize_field(&self.0)?;
+        fields.end()
+    }
+}

@@ -1,0 +1,39 @@
+//! What a value keeps of the tree that it stands for.
+//!
+//! A law is a function that does nothing: its clause is the law. A caller's proof learns it by a call.
+
+ghost use Rattle.std.specs.Prelude.{◌≡◌, Some, true};
+ghost use Rattle.amqp_ser.specs.Encoding.{enc};
+ghost use Rattle.amqp_ser.specs.Tree.{Tree};
+ghost use Rattle.amqp_ser.specs.Writable.{writable};
+ghost use Rattle.amqp_value.specs.AsMap.{read_as_map};
+ghost use Rattle.amqp_value.specs.Plain.{IsPlain};
+ghost use Rattle.amqp_value.specs.TreeOf.{tree_of};
+ghost use Rattle.amqp_to_value.specs.Permitted.{StandsFor};
+
+use amqp_value::Value;
+
+/// A value that stands for a plain tree has that tree, each variant read as its map.
+///
+/// # Memory
+/// Takes none.
+pub fn plain_trees_come_back()
+    ensures { (t : Tree) (v : Value) → IsPlain t → StandsFor v (Some t) → tree_of v ≡ read_as_map t }
+{}
+
+/// A value that stands for a plain tree is written as the same bytes, or refused too.
+///
+/// # Memory
+/// Takes none.
+pub fn plain_trees_keep_their_bytes()
+    ensures writable { (t : Tree) (v : Value) → IsPlain t → StandsFor v (Some t) → writable (tree_of v) ≡ writable t }
+    ensures bytes { (t : Tree) (v : Value) → IsPlain t → StandsFor v (Some t) → enc (tree_of v) ≡ enc t }
+{}
+
+/// A value that stands for another, whose maps have distinct keys at every depth, is equal to it.
+///
+/// # Memory
+/// Takes none.
+pub fn values_come_back_equal()
+    ensures { (a b : Value) → IsPlain (tree_of a) → StandsFor b (Some (tree_of a)) → ⟦<Value as PartialEq>⟧.eq b a ≡ true }
+{}

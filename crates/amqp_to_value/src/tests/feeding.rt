@@ -1,0 +1,95 @@
+use crate::Serializer;
+use amqp_data::{Error, OrderedMap};
+use amqp_value::Value;
+use std::alloc::Global;
+use std::test::Fail;
+
+// Feeds keys and values in turn.
+fn feed_map<S: amqp_ser::Serializer>(
+    serializer: &mut S,
+    pairs: &[(&str, u8)],
+) -> Result<S::Ok, S::Error> {
+    let mut map = serializer.serialize_map(None)?;
+    for (key, value) in pairs {
+        map.serialize_key(key)?;
+        map.serialize_value(value)?;
+    }
+    map.end()
+}
+
+// Feeds a value without a key, and twice a key while one is pending. Answers with the map and whether all was refused.
+fn misuse_map<S: amqp_ser::Serializer>(serializer: &mut S) -> Result<(S::Ok, bool), S::Error> {
+    let mut map = serializer.serialize_map(None)?;
+    let value = map.serialize_value(&9u8).is_err();
+    map.serialize_key(&"a")?;
+    let key = map.serialize_key(&"b").is_err();
+    let entry = map.serialize_entry(&"b", &2u8).is_err();
+    map.serialize_value(&1u8)?;
+    Ok((map.end()?, value && key && entry))
+}
+
+fn end_with_a_key<S: amqp_ser::Serializer>(serializer: &mut S) -> Result<S::Ok, S::Error> {
+    let mut map = serializer.serialize_map(None)?;
+    map.serialize_key(&"a")?;
+    map.end()
+}
+
+fn feed_variant<S: amqp_ser::Serializer>(serializer: &mut S) -> Result<S::Ok, S::Error> {
+    let mut variant = serializer.serialize_tuple_variant("E", 4, "V", 2)?;
+    variant.serialize_field(&1u8)?;
+    variant.serialize_field(&2u8)?;
+    variant.end()
+}
+
+fn map_of(alloc: Global, pairs: &[(&str, u8)]) -> Result<Value, Fail> {
+    let mut map = OrderedMap::new(alloc);
+    for (key, value) in pairs {
+        let key = Value::String(String::from_str(alloc, *key)?);
+        drop(map.insert(key, Value::Ubyte(*value))?);
+    }
+    Ok(Value::Map(map))
+}
+
+fn one_pair(alloc: Global, index: u32, payload: Value) -> Result<Value, Fail> {
+    let mut map = OrderedMap::new(alloc);
+    drop(map.insert(Value::Uint(index), payload)?);
+    Ok(Value::Map(map))
+}
+
+#[test]
+fn a_present_key_keeps_its_place(rt: HostRuntime) -> Result<(), Fail> {
+    let mut serializer = Serializer::new(rt.alloc());
+    assert_eq!(rt; feed_map(&mut serializer, &[])?, map_of(rt.alloc(), &[])?);
+    assert_eq!(rt;
+        feed_map(&mut serializer, &[("a", 1), ("b", 2), ("a", 3)])?,
+        map_of(rt.alloc(), &[("a", 3), ("b", 2)])?
+    );
+    Ok(())
+}
+
+#[test]
+fn misuse_leaves_a_map_as_it_was(rt: HostRuntime) -> Result<(), Fail> {
+    let mut serializer = Serializer::new(rt.alloc());
+    let (map, refused) = misuse_map(&mut serializer)?;
+    assert!(rt; refused);
+    assert_eq!(rt; map, map_of(rt.alloc(), &[("a", 1)])?);
+    assert_eq!(rt; end_with_a_key(&mut serializer), Err(Error::InvalidValue));
+    Ok(())
+}
+
+#[test]
+fn variants_are_maps_of_one_pair(rt: HostRuntime) -> Result<(), Fail> {
+    let mut serializer = Serializer::new(rt.alloc());
+    assert_eq!(rt;
+        amqp_ser::Serializer::serialize_newtype_variant(&mut serializer, "E", 3, "V", &2u8)?,
+        one_pair(rt.alloc(), 3, Value::Ubyte(2))?
+    );
+    let mut fields = Vec::new(rt.alloc());
+    fields.push(Value::Ubyte(1))?;
+    fields.push(Value::Ubyte(2))?;
+    assert_eq!(rt;
+        feed_variant(&mut serializer)?,
+        one_pair(rt.alloc(), 4, Value::List(fields))?
+    );
+    Ok(())
+}

@@ -1,0 +1,13 @@
+use Rattle.std.proofs.Common.{◌≡◌, ◌++◌, take}
+use Rattle.std.specs.Vec.{vec_capacity}
+use Rattle.amqp_wire.proofs.output.Output.put_few.Given as goal
+
+-- the bytes before this one are written
+abbrev pub invariant-loop-byte : goal.invariant-loop-byte
+invariant-loop-byte l =
+    record {
+      written : l.self.out.items ≡ l.initial.self.out.items ++ take l.byte-index l.bytes;
+      capacity : vec_capacity l.self.out ≡ vec_capacity l.initial.self.out;
+      table : l.self.table ≡ l.initial.self.table;
+      taken : l.self.taken ≡ l.initial.self.taken;
+    }
