@@ -30,7 +30,7 @@ impl Output {
     ghost use Rattle.std.specs.Int.{w32, to_be_bytes};
 
     /// Writes a size and a count, in one byte each where both have room there.
-    #[inline(never)]
+    #[inline(always)]
     fn put_counted(&mut self, short: u8, long: u8, header: Header) -> Result<(), Error>
         ensures kept { Kept self.old self.new }
         ensures taken { self.new.taken ≡ self.old.taken }
@@ -64,7 +64,7 @@ impl Output {
     }
 
     /// Writes a header.
-    #[inline(always)]
+    #[inline(never)]
     fn put_head(&mut self, in_array: bool, style: Style, header: Header) -> Result<(), Error>
         ensures kept { Kept self.old self.new }
         ensures taken { self.new.taken ≡ self.old.taken }
