@@ -1,5 +1,5 @@
 -- The rest of the cut decides what a run answers.
-use Rattle.std.proofs.Common.{◌≡◌, ◌≢◌, ℕ, ◌^◌, ◌≤◌, ◌<◌, ◌⊎◌, inl, inr, ◌↔◌, List, [], ◌∷◌, ◌++◌, Option, None, Some, Result, Ok, Err, IsOk, IsErrOf, IfSome, IfErr, OnOk, length, length-append, refl, ap, subst, arith}
+use Rattle.std.proofs.Common.{◌≡◌, ◌≢◌, ℕ, ◌^◌, ◌≤◌, ◌<◌, inl, inr, ◌↔◌, List, [], ◌∷◌, Option, None, Some, Result, Ok, Err, IsOk, IsErrOf, IfSome, IfErr, OnOk, length, length-append, refl, ap, subst, arith}
 use Rattle.std.proofs.lemmas.Bool.{false≢true}
 use Rattle.std.specs.List.{AllByRecursion, concat}
 use Rattle.amqp_data.specs.declared.error.Error.{Error}

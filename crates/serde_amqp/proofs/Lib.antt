@@ -4,3 +4,4 @@ pub mod Runs
 pub mod Decided
 pub mod LineLemmas
 pub mod StringLemmas
+pub mod PartLemmas

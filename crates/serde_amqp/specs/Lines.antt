@@ -1,8 +1,8 @@
 -- What is printed for the lines of a text: the length, the bytes and the text of the list of them
 -- (AMQP 1.0 part 1, sections 1.6.20 and 1.6.22).
-use Rattle.std.specs.Prelude.{ℕ, List, [], ◌∷◌, ◌++◌, codes, length, map, ◌==◌, if◌then◌else◌}
+use Rattle.std.specs.Prelude.{◌≡◌, ◌≢◌, ◌⊎◌, ℕ, List, [], ◌∷◌, ◌++◌, codes, length, map, ◌==◌, if◌then◌else◌}
 use Rattle.std.specs.Borrow.{Bor}
-use Rattle.std.specs.List.{slice_split}
+use Rattle.std.specs.List.{AllByRecursion, flat_map, slice_split}
 use Rattle.std.specs.Fmt.{decimal}
 use Rattle.amqp_ser.specs.Tree.{string, Tree, scalar, list, trees_of}
 use Rattle.amqp_ser.specs.Encoding.{enc}
@@ -44,3 +44,16 @@ report t = three_lines (length (enc t)) (enc t) (text_of (image t))
 -- what is printed for the lines of a text
 abbrev pub lines_out : List ℕ → List ℕ
 lines_out s = report (lines_tree s)
+
+-- texts with 0A after each
+abbrev pub ended : List (List ℕ) → List ℕ
+ended lines = flat_map (λ line. line ++ 10 ∷ []) lines
+
+-- the last of some texts is there, and is not empty
+abbrev pub EndsFull : List (List ℕ) → Type 0
+EndsFull lines = (front : List (List ℕ)) × (last : List ℕ) × (lines ≡ front ++ last ∷ []) × (last ≢ [])
+
+-- these are the lines of s: without 0A, and with 0A after each they are s, which may leave out the last one
+pub record AreLines (s : List ℕ) (lines : List (List ℕ)) : Type 0 where
+  pub within : AllByRecursion (λ line. AllByRecursion (λ b. b ≢ 10) line) lines
+  pub text : (ended lines ≡ s) ⊎ ((ended lines ≡ s ++ 10 ∷ []) × EndsFull lines)

@@ -16,6 +16,7 @@ pub mod extensions;
 pub mod format_code;
 mod hexadecimal;
 mod input;
+pub mod laws;
 pub mod lazy;
 mod lines;
 pub mod primitives;

@@ -109,6 +109,13 @@ impl<'a, S: Serializer> SerializeTuple<'a, S> {
         SerializeTuple { serializer, held }
     }
 
+    /// The serializer behind the tuple.
+    pub fn as_mut(&mut self) -> &mut S
+        ensures { result.now ≡ self.old.serializer.now }
+    {
+        &mut *self.serializer
+    }
+
     /// Feeds one element more.
     ///
     /// # Errors

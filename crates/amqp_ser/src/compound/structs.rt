@@ -53,6 +53,13 @@ impl<'a, S: Serializer> SerializeTupleStruct<'a, S> {
         }
     }
 
+    /// The serializer behind the struct.
+    pub fn as_mut(&mut self) -> &mut S
+        ensures { result.now ≡ self.old.serializer.now }
+    {
+        &mut *self.serializer
+    }
+
     /// Feeds one field more.
     ///
     /// # Errors
@@ -142,6 +149,13 @@ impl<'a, S: Serializer> SerializeStruct<'a, S> {
             held,
             described,
         }
+    }
+
+    /// The serializer behind the struct.
+    pub fn as_mut(&mut self) -> &mut S
+        ensures { result.now ≡ self.old.serializer.now }
+    {
+        &mut *self.serializer
     }
 
     /// Feeds one field more.

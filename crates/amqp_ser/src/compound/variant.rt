@@ -51,6 +51,13 @@ impl<'a, S: Serializer> SerializeTupleVariant<'a, S> {
         }
     }
 
+    /// The serializer behind the variant.
+    pub fn as_mut(&mut self) -> &mut S
+        ensures { result.now ≡ self.old.serializer.now }
+    {
+        &mut *self.serializer
+    }
+
     /// Feeds one field more.
     ///
     /// # Errors
@@ -126,6 +133,13 @@ impl<'a, S: Serializer> SerializeStructVariant<'a, S> {
             held,
             index,
         }
+    }
+
+    /// The serializer behind the variant.
+    pub fn as_mut(&mut self) -> &mut S
+        ensures { result.now ≡ self.old.serializer.now }
+    {
+        &mut *self.serializer
     }
 
     /// Feeds one field more.

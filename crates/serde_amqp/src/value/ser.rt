@@ -1,6 +1,6 @@
 //! The serializer that makes an untyped value.
 
 pub use amqp_to_value::{
-    MapSerializer, SeqSerializer, Serializer, StructVariantSerializer, TupleSerializer,
-    VariantSerializer,
+    MapSerializer, SeqSerializer, Serializer, StructSerializer, StructVariantSerializer,
+    TupleSerializer, TupleStructSerializer, VariantSerializer,
 };
