@@ -12,8 +12,9 @@ mod plain;
 use plain::{Array, Blob, Error, Serialize, Serializer};
 use std::hint::black_box;
 
-const SHAPES: [&str; 7] = [
+const SHAPES: [&str; 9] = [
     "14 fields", "1,000 ints", "1,000 rows of 10", "chain of 256", "blob of 64 KiB", "1,000 strings", "array of 10,000",
+    "map of 1,000 keys", "map of 10,000 keys",
 ];
 
 #[derive(Clone, Copy, PartialEq)]
@@ -139,10 +140,11 @@ fn answer(who: Who, shape: usize, op: u32, times: u64) -> u64 {
     if who == Who::Project {
         return match shape {
             0..=4 => unsafe { amqp_shape(shape as u32, op, times) },
-            _ => {
+            5 | 6 => {
                 let data = data(shape - 5);
                 unsafe { amqp_bench(shape as u32 - 5, op, data.as_ptr(), data.len(), times) }
             }
+            _ => unsafe { amqp_shape(shape as u32 - 2, op, times) },
         };
     }
     match shape {
@@ -155,10 +157,11 @@ fn answer(who: Who, shape: usize, op: u32, times: u64) -> u64 {
             let text = String::from_utf8(data(0)).unwrap();
             repeat(who, &text.split('\n').map(String::from).collect::<Vec<_>>(), op, times)
         }
-        _ => {
+        6 => {
             let numbers = data(1).chunks(4).map(|c| u32::from_be_bytes(c.try_into().unwrap())).collect();
             repeat(who, &Array(numbers), op, times)
         }
+        _ => 0,
     }
 }
 

@@ -4,7 +4,7 @@ ghost use Rattle.std.specs.Prelude.{◌≡◌, ◌≤◌};
 
 use crate::attach::Attach;
 use crate::chain::Chain;
-use crate::inputs::{blob, ints, lines, numbers, rows};
+use crate::inputs::{blob, ints, lines, numbered, numbers, rows};
 use crate::repeat::repeat;
 use amqp_data::Error;
 use amqp_ser::Serialize;
@@ -37,10 +37,11 @@ pub extern "C" fn amqp_bench(alloc: Global, work: u32, op: u32, data: &[u8], tim
 }
 
 /// Answers on a value made by a rule: 0 is a list of fourteen fields, 1 a list of 1,000 ints, 2 1,000 rows of ten
-/// ints, 3 a chain of 256 lists, 4 a binary of 65,536 bytes; any other is 0. The operations are those of `amqp_bench`.
+/// ints, 3 a chain of 256 lists, 4 a binary of 65,536 bytes, 5 and 6 maps of 1,000 and 10,000 keys; any other is 0. The
+/// operations are those of `amqp_bench`.
 #[unsafe(no_mangle)]
 pub extern "C" fn amqp_shape(alloc: Global, shape: u32, op: u32, times: u64) -> u64
-    ensures shapes { 5 ≤ shape → result ≡ 0 }
+    ensures shapes { 7 ≤ shape → result ≡ 0 }
     ensures operations { 4 ≤ op → result ≡ 0 }
 {
     match shape {
@@ -49,6 +50,8 @@ pub extern "C" fn amqp_shape(alloc: Global, shape: u32, op: u32, times: u64) -> 
         2 => answer(alloc, rows(alloc, 1000), op, times),
         3 => answer(alloc, Chain::of_links(alloc, 255), op, times),
         4 => answer(alloc, blob(alloc, 65536), op, times),
+        5 => answer(alloc, numbered(alloc, 1000), op, times),
+        6 => answer(alloc, numbered(alloc, 10000), op, times),
         _ => 0,
     }
 }

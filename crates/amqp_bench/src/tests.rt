@@ -46,7 +46,7 @@ fn bytes_have_the_hash_of_worked_bytes(rt: HostRuntime) {
 
 #[test]
 fn each_shape_is_written_and_made(rt: HostRuntime) {
-    for shape in [0, 1, 2, 3, 4] {
+    for shape in [0, 1, 2, 3, 4, 5, 6] {
         let size = amqp_shape(rt.alloc(), shape, 0, 1);
         assert!(rt; size > 0);
         assert_eq!(rt;
