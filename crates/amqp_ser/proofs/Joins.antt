@@ -64,3 +64,4 @@ kind_none kind.List = refl
 kind_none kind.Map = refl
 kind_none (kind.Fields i) = refl
 kind_none (kind.Only i) = refl
+kind_none kind.Bare = refl

@@ -39,13 +39,15 @@ abbrev pub as_variant : ℕ → Option Tree → Option Tree
 as_variant i None = None
 as_variant i (Some t) = Some (variant i t)
 
--- a list of its elements, a map of its keys and values, the variant of a list of fields, the variant of one value
+-- a list of its elements, a map of its keys and values, the variant of a list of fields, the variant of one value,
+-- and one value that stands for itself
 abbrev pub as_kind : Kind → Option Trees → Option Tree
 as_kind k None = None
 as_kind kind.List (Some ts) = Some (list ts)
 as_kind kind.Map (Some ts) = as_map (in_pairs ts)
 as_kind (kind.Fields i) (Some ts) = Some (variant i (list ts))
 as_kind (kind.Only i) (Some ts) = as_variant i (only ts)
+as_kind kind.Bare (Some ts) = only ts
 
 -- the tree of a compound of these parts
 unfoldable pub whole : Kind → List (Option Tree) → Option Tree
@@ -64,6 +66,9 @@ complete (kind.Fields i) ps = true
 complete (kind.Only i) [] = false
 complete (kind.Only i) (p ∷ []) = true
 complete (kind.Only i) (p ∷ (q ∷ ps)) = false
+complete kind.Bare [] = false
+complete kind.Bare (p ∷ []) = true
+complete kind.Bare (p ∷ (q ∷ ps)) = false
 
 -- the parts of a map: keys and values in turn
 abbrev pub parts_of : {K V : Type 0} → (K → Option Tree) → (V → Option Tree) → List (K × V) → List (Option Tree)

@@ -1,6 +1,6 @@
 -- The trees that a newtype's marker name makes of the tree inside it, and the names of described structs.
 use Rattle.std.specs.Prelude.{ℕ, List, Option, Some, None, Bool, ◌||◌, nat_eq, length, bytes_eq, codes, if◌then◌else◌}
-use Rattle.amqp_ser.specs.Tree.{Scalar, long, binary, string, symbol, timestamp, decimal32, decimal64, decimal128, uuid, Tree, scalar, list, array}
+use Rattle.amqp_ser.specs.Tree.{Scalar, long, binary, string, symbol, timestamp, decimal32, decimal64, decimal128, uuid, Tree, scalar, list, array, transparent}
 use Rattle.amqp_ser.specs.declared.mark.Mark.{Mark}
 use Rattle.amqp_ser.specs.declared.mark.Mark.TheVariants as mark
 
@@ -42,10 +42,11 @@ marked_scalar mark.Uuid (binary bs) = of_length 16 bs (uuid bs)
 marked_scalar mark.Other s = Some (scalar s)
 marked_scalar m s = None
 
--- an array is marked on a list; transparent vectors and lazy values have no tree yet
+-- an array and a transparent vector are marked on a list; lazy values have no tree yet
 abbrev pub marked_tree : Mark → Tree → Option Tree
 marked_tree m (scalar s) = marked_scalar m s
 marked_tree mark.Array (list ts) = Some (array ts)
+marked_tree mark.Transparent (list ts) = Some (transparent ts)
 marked_tree mark.Other t = Some t
 marked_tree m t = None
 

@@ -11,4 +11,6 @@ pub enum Kind {
     Fields(u32),
     /// The variant of this index whose payload is its one value.
     Only(u32),
+    /// One value, that stands for itself.
+    Bare,
 }

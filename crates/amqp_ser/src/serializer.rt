@@ -1,9 +1,10 @@
 //! The law of a serializer, and the methods by which values are handed to it.
 
-ghost use Rattle.std.specs.Prelude.{◌≡◌, ◌++◌, ◌∷◌, [], List, Option, Some, None, Result, Ok, Err, MatchResult, IfOk, IsOk, true, false};
+ghost use Rattle.std.specs.Prelude.{◌≡◌, ◌++◌, ◌∷◌, [], List, Option, Some, None, Result, Ok, Err, MatchResult, IfOk, IfErr, IsOk, IsErr, true, false};
 ghost use Rattle.amqp_ser.specs.Tree.{Tree, Scalar, scalar, null, bool, ubyte, ushort, uint, ulong, byte, short, int, long, float, double, char, string, binary};
 ghost use Rattle.amqp_ser.specs.Fixed.{fixed_scalar};
 ghost use Rattle.amqp_ser.specs.Compounds.{whole, complete, paired};
+ghost use Rattle.amqp_ser.specs.Composites.{as_described, descriptor_of};
 ghost use Rattle.amqp_ser.specs.Marked.{is_described, marked, mark_of};
 ghost use Rattle.amqp_data.specs.Fixed.{f32_bits, f64_bits};
 
@@ -20,7 +21,7 @@ use amqp_data::{F32Bits, F64Bits};
 
 /// Turns data trees into answers of one kind, as their length, their bytes or an untyped value.
 ///
-/// An author writes the ten required methods; the methods that values call, named as serde names them,
+/// An author writes the twelve required methods; the methods that values call, named as serde names them,
 /// stand on these and are the same for every serializer.
 ///
 /// # Implementer notes
@@ -49,6 +50,9 @@ pub trait Serializer {
     /// The same, and the serializer is ready for the next part.
     ghost awaits: { Self → Kind → Self → Self.Open → List (Option Tree) → Type 0 };
 
+    /// A bare compound, opened by the first serializer, is ready for the descriptor of its one value.
+    ghost awaits_descriptor: { Self → Self → Self.Open → Type 0 };
+
     /// The refusal of a misuse, as of a value without a key.
     ghost is_misuse: { Self.Error → Type 0 };
 
@@ -73,23 +77,27 @@ pub trait Serializer {
     fn begin(&mut self, kind: Kind) -> Self::Open
         ensures { has self.old kind self.new result [] };
 
-    /// Makes ready for the next part.
+    /// Makes ready for the next part. The first of a bare compound stands where the compound was opened: any call may
+    /// come there.
     fn begin_part(&mut self, held: &mut Self::Open)
-        ensures { (start : Self) (kind : Kind) (ps : List (Option Tree)) →
-            has start kind self.old held.old ps → awaits start kind self.new held.new ps };
+        ensures ready { (start : Self) (kind : Kind) (ps : List (Option Tree)) →
+            has start kind self.old held.old ps → awaits start kind self.new held.new ps }
+        ensures bare { (start : Self) → has start Kind.Bare self.old held.old [] →
+            (t : Option Tree) (r : Result Self.Ok Self.Error) (after : Self) → permits self.new t r after → permits start t r after };
 
-    /// Takes the answer on a part: the compound has it, or is as it was.
+    /// Takes the answer on a part: the compound has it, or is as it was. A refused part is never taken.
     fn end_part(
         &mut self,
         held: &mut Self::Open,
         part: Result<Self::Ok, Self::Error>,
     ) -> Result<(), Self::Error>
-        ensures { (start : Self) (kind : Kind) (before : Self) (ps : List (Option Tree)) (p : Option Tree) →
+        ensures step { (start : Self) (kind : Kind) (before : Self) (ps : List (Option Tree)) (p : Option Tree) →
             awaits start kind before held.old ps → permits before p part self.old →
             MatchResult result
             (λ _. has start kind self.new held.new (ps ++ (p ∷ [])))
             (λ e. has start kind self.new held.new ps × ((rest : List (Option Tree)) →
-            permits start (whole kind (ps ++ (p ∷ rest))) (Err e) self.new)) };
+            permits start (whole kind (ps ++ (p ∷ rest))) (Err e) self.new)) }
+        ensures refused { IfErr part (λ _. IsErr result) };
 
     /// Takes the last part back: a key whose value was refused.
     fn undo_part(&mut self, held: &mut Self::Open)
@@ -104,6 +112,24 @@ pub trait Serializer {
         ensures kept { (start : Self) (kind : Kind) (ps : List (Option Tree)) → has start kind self.old held.old ps →
             has start kind self.new held.new ps × permits start None (Err result) self.new }
         ensures invalid { is_misuse result };
+
+    /// Makes ready for a descriptor, before the one value of a bare compound.
+    fn begin_descriptor(&mut self, held: &mut Self::Open)
+        ensures { (start : Self) → has start Kind.Bare self.old held.old [] → awaits_descriptor start self.new held.new };
+
+    /// Takes the answer on a descriptor: the value to come is described by it, or the compound is as it was.
+    fn end_descriptor(
+        &mut self,
+        held: &mut Self::Open,
+        part: Result<Self::Ok, Self::Error>,
+    ) -> Result<(), Self::Error>
+        ensures { (start before : Self) (d : Option Tree) →
+            awaits_descriptor start before held.old → permits before d part self.old →
+            MatchResult result
+            (λ _. (mid : Self) × (has mid Kind.Bare self.new held.new [] × ((t : Option Tree) (r : Result Self.Ok Self.Error) (after : Self) →
+            permits mid t r after → permits start (as_described (descriptor_of d) t) r after)))
+            (λ e. has start Kind.Bare self.new held.new [] × ((t : Option Tree) →
+            permits start (as_described (descriptor_of d) t) (Err e) self.new)) };
 
     /// Ends the compound.
     fn end(&mut self, held: Self::Open) -> Result<Self::Ok, Self::Error>
