@@ -62,6 +62,21 @@ pub fn feed_descriptor<S: Serializer, T: Serialize>(
     serializer.end_descriptor(held, part)
 }
 
+/// Answers on a described value, as on a struct named `DESCRIBED_BASIC` of a descriptor and one field.
+#[inline(always)]
+pub fn serialize_described<S: Serializer, D: Serialize, T: Serialize>(
+    serializer: &mut S,
+    descriptor: &D,
+    value: &T,
+) -> Result<S::Ok, S::Error>
+    ensures { S.permits serializer.old (as_described (descriptor_of (D.tree descriptor.now)) (T.tree value.now)) result serializer.new }
+{
+    let mut held = serializer.begin(Kind::Bare);
+    feed_descriptor(&mut *serializer, &mut held, descriptor)?;
+    feed_part(&mut *serializer, &mut held, value)?;
+    serializer.end(held)
+}
+
 /// Feeds an open body one field more, or leaves it as it was.
 #[inline(always)]
 pub fn feed_field<S: Serializer, T: Serialize>(
