@@ -19,5 +19,5 @@ pub use compounds::{
 };
 pub use form::Form;
 pub use open_compound::Open;
-pub use place::{Place, ScalarMark, Shape, Under};
+pub use place::{Base, Place, ScalarMark, Shape, Under};
 pub use serializer::{SizeSerializer, serialized_size};

@@ -1,16 +1,18 @@
 //! The serializer that counts, and the length of a value's bytes.
 
-ghost use Rattle.std.specs.Prelude.{◌≡◌, ◌+◌, ◌≤◌, ◌++◌, ◌∷◌, ◌&&◌, [], List, Option, Some, None, Result, Ok, Err, MatchResult, IfErr, true, false, length, ℕ};
-ghost use Rattle.amqp_ser.specs.Tree.{Tree};
-ghost use Rattle.amqp_ser.specs.Limits.{fits};
-ghost use Rattle.amqp_ser.specs.Encoding.{enc, payload, con};
-ghost use Rattle.amqp_ser.specs.Writable.{alike, within, inside, placed};
+ghost use Rattle.std.specs.Prelude.{◌≡◌, ◌+◌, ◌≤◌, ◌++◌, ◌∷◌, ◌&&◌, ◌⊎◌, [], List, Option, Some, None, Result, Ok, Err, MatchResult, IfErr, IsErr, is_some, true, false, length, ℕ};
+ghost use Rattle.amqp_ser.specs.Tree.{Tree, Trees, transparent};
+ghost use Rattle.amqp_ser.specs.Limits.{fits, is_length};
+ghost use Rattle.amqp_ser.specs.Composites.{descriptor_of};
+ghost use Rattle.amqp_ser.specs.Encoding.{enc, enc_each, payload, con};
+ghost use Rattle.amqp_ser.specs.Writable.{alike, alike_each, within, within_each, inside, placed, placed_each};
 ghost use Rattle.amqp_ser.specs.Permitted.{IsSizeOf};
 ghost use Rattle.amqp_size.specs.Width.{uint_width, text_width, map_width};
+ghost use Rattle.amqp_size.specs.Place.{takes_described};
 
 use crate::form::Form;
 use crate::open_compound::Open;
-use crate::place::{Place, ScalarMark, Shape, Under};
+use crate::place::{Base, Place, ScalarMark, Shape, Under};
 use crate::width::{LONGEST, array_width, list_width, map_width, text_width, uint_width};
 use amqp_data::Error;
 use amqp_ser::{Fixed, Kind, Mark, Serialize, Serializer};
@@ -27,8 +29,38 @@ pub struct SizeSerializer {
     place: Under,
 }
 
+/// The answer on a descriptor with this constructor and length: only a ulong or a symbol is one.
+#[inline(always)]
+fn descriptor(code: u8, ordinary: usize) -> Result<usize, Error>
+    ensures { (t : Tree) → con t ≡ Some code → MatchResult result
+        (λ n. (is_some (descriptor_of (Some t)) ≡ true) × (n ≡ ordinary))
+        (λ e. (is_some (descriptor_of (Some t)) ≡ false) × (e ≡ Error.InvalidValue)) }
+{
+    if code == 0x80 || code == 0xb3 {
+        Ok(ordinary)
+    } else {
+        Err(Error::InvalidValue)
+    }
+}
+
+/// The answer on the value after descriptors, with them.
+#[inline(always)]
+fn described(head: usize, base: Base, ordinary: usize) -> Result<usize, Error>
+    ensures { MatchResult result
+        (λ n. (takes_described base ≡ true) × ((is_length (head + ordinary) ≡ true) × (n ≡ head + ordinary)))
+        (λ e. ((e ≡ Error.TooLong) × (is_length (head + ordinary) ≡ false)) ⊎ ((e ≡ Error.InvalidValue) × (takes_described base ≡ false))) }
+{
+    if !base.takes_described() {
+        return Err(Error::InvalidValue);
+    }
+    match head.checked_add(ordinary) {
+        Some(whole) => Ok(whole),
+        None => Err(Error::TooLong),
+    }
+}
+
 impl SizeSerializer {
-    ghost use Rattle.amqp_size.specs.Place.{outer};
+    ghost use Rattle.amqp_size.specs.Place.{outer, rest};
     ghost use Rattle.amqp_size.specs.Counted.{at_place};
     ghost use Rattle.amqp_ser.specs.Permitted.{refuses_none};
 
@@ -54,7 +86,7 @@ impl SizeSerializer {
         ensures { (t : Tree) → con t ≡ Some code → within t ≡ true → alike t ≡ true → inside t ≡ true → placed t ≡ true →
             length (enc t) ≡ ordinary → length (payload t) ≡ wide → at_place place (Some t) result self.new.place }
     {
-        self.place = Under::Plain(place);
+        self.place = Under::Plain(place.rest());
         match place {
             Place::Root => Ok(ordinary),
             Place::Inside => Ok(ordinary),
@@ -69,6 +101,8 @@ impl SizeSerializer {
                     Err(Error::InvalidValue)
                 }
             }
+            Place::Descriptor => descriptor(code, ordinary),
+            Place::Value(head, base) => described(head, base, ordinary),
         }
     }
 
@@ -79,7 +113,7 @@ impl SizeSerializer {
             length (enc t) ≡ text_width n → length (payload t) ≡ n + 4 → at_place place (Some t) result self.new.place }
     {
         if n > LONGEST {
-            self.place = Under::Plain(place);
+            self.place = Under::Plain(place.rest());
             return Err(Error::TooLong);
         }
         self.accept(place, code, text_width(n), n + 4)
@@ -94,20 +128,33 @@ impl SizeSerializer {
     {
         let head = uint_width(index);
         if size > LONGEST - head {
-            self.place = Under::Plain(place);
+            self.place = Under::Plain(place.rest());
             return Err(Error::TooLong);
         }
         let body = head + size;
         self.accept(place, 0xd1, map_width(body), body + 8)
     }
 
+    /// The answer on a transparent vector whose elements have this length: it stands at the root alone.
+    #[inline(always)]
+    fn transparent(&mut self, place: Place, sum: usize) -> Result<usize, Error>
+        ensures { (ts : Trees) → within_each ts ≡ true → alike_each ts ≡ true → placed_each ts ≡ true → sum ≡ length (enc_each ts) →
+            at_place place (Some (transparent ts)) result self.new.place }
+    {
+        self.place = Under::Plain(place.rest());
+        if let Place::Root = place {
+            return Ok(sum);
+        }
+        Err(Error::InvalidValue)
+    }
+
     /// Refuses a value that its marker does not take.
     #[inline(always)]
     fn refuse(&mut self) -> Result<usize, Error>
-        ensures place { self.new.place ≡ Under.Plain (outer self.old.place) }
+        ensures place { self.new.place ≡ Under.Plain (rest (outer self.old.place)) }
         ensures refused { result ≡ Err Error.InvalidValue }
     {
-        self.place = Under::Plain(self.place.outer());
+        self.place = Under::Plain(self.place.outer().rest());
         Err(Error::InvalidValue)
     }
 }
@@ -125,8 +172,8 @@ impl Default for SizeSerializer {
 
 impl Serializer for SizeSerializer {
     ghost use Rattle.amqp_data.specs.declared.error.Error.TheVariants.{InvalidValue};
-    ghost use Rattle.amqp_size.specs.Place.{outer, meant};
-    ghost use Rattle.amqp_size.specs.Counted.{size_permits, size_has, size_awaits};
+    ghost use Rattle.amqp_size.specs.Place.{outer, meant, rest};
+    ghost use Rattle.amqp_size.specs.Counted.{size_permits, size_has, size_awaits, size_awaits_descriptor};
     ghost use Rattle.amqp_ser.specs.Compounds.{whole};
     ghost use Rattle.amqp_ser.specs.Marked.{marked};
     ghost use Rattle.amqp_ser.specs.declared.kind.Kind.{Kind};
@@ -142,6 +189,8 @@ impl Serializer for SizeSerializer {
     ghost has = { size_has };
 
     ghost awaits = { size_awaits };
+
+    ghost awaits_descriptor = { size_awaits_descriptor };
 
     ghost is_misuse = { λ e. e ≡ InvalidValue };
 
@@ -201,15 +250,19 @@ impl Serializer for SizeSerializer {
 
     #[inline(always)]
     fn begin(&mut self, kind: Kind) -> Open {
-        let place = self.place.outer();
-        let shape = self.place.shape(kind);
-        self.place = Under::Plain(place);
-        Open::new(place, shape)
+        let under = self.place;
+        self.place = Under::Plain(under.outer().rest());
+        Open::new(under, under.shape(kind))
     }
 
     #[inline(always)]
-    fn begin_part(&mut self, held: &mut Open) {
-        self.place = Under::Plain(held.inner());
+    fn begin_part(&mut self, held: &mut Open)
+        ensures ready { (start : SizeSerializer) (kind : Kind) (ps : List (Option Tree)) → size_has start kind self.old held.old ps → size_awaits start kind self.new held.new ps }
+        ensures bare { (start : SizeSerializer) → size_has start Kind.Bare self.old held.old [] → (t : Option Tree) (r : Result ℕ Error) (after : SizeSerializer) → size_permits self.new t r after → size_permits start t r after }
+        ensures place { self.new.place ≡ held.old.inner }
+        ensures kept { held.new ≡ held.old }
+    {
+        self.place = held.inner();
     }
 
     #[inline(always)]
@@ -219,12 +272,29 @@ impl Serializer for SizeSerializer {
             (λ _. size_has start kind self.new held.new (ps ++ (p ∷ [])))
             (λ e. size_has start kind self.new held.new ps × ((rest : List (Option Tree)) →
             size_permits start (whole kind (ps ++ (p ∷ rest))) (Err e) self.new)) }
-        ensures refused { IfErr part (λ e. (result ≡ Err e) × ((held.new ≡ held.old) × (self.new.place ≡ Under.Plain held.old.place))) }
+        ensures refused { IfErr part (λ _. IsErr result) }
+        ensures same { IfErr part (λ e. (result ≡ Err e) × ((held.new ≡ held.old) × (self.new.place ≡ Under.Plain (rest held.old.place)))) }
     {
         let inner = self.place.outer();
-        self.place = Under::Plain(held.place());
+        self.place = Under::Plain(held.place().rest());
         let size = part?;
         held.take(size, inner)
+    }
+
+    #[inline(always)]
+    fn begin_descriptor(&mut self, held: &mut Open)
+        ensures ready { (start : SizeSerializer) → size_has start Kind.Bare self.old held.old [] → size_awaits_descriptor start self.new held.new }
+        ensures place { self.new.place ≡ Under.Plain Place.Descriptor }
+        ensures kept { held.new ≡ held.old }
+    {
+        self.place = Under::Plain(Place::Descriptor);
+    }
+
+    #[inline(always)]
+    fn end_descriptor(&mut self, held: &mut Open, part: Result<usize, Error>) -> Result<(), Error> {
+        self.place = Under::Plain(held.place().rest());
+        let size = part?;
+        held.describe(size)
     }
 
     #[inline(always)]
@@ -248,8 +318,13 @@ impl Serializer for SizeSerializer {
             Shape::Fields(index) => self.variant(place, index, list_width(sum)),
             Shape::Only(index) => self.variant(place, index, sum),
             Shape::Array => self.accept(place, 0xf0, array_width(sum, held.count()), sum + 8),
+            Shape::Transparent => self.transparent(place, sum),
+            Shape::Bare => {
+                self.place = held.inner();
+                Ok(sum)
+            }
             Shape::Refused => {
-                self.place = Under::Plain(place);
+                self.place = Under::Plain(place.rest());
                 Err(Error::InvalidValue)
             }
         }
