@@ -15,7 +15,7 @@ use Rattle.amqp_size.specs.declared.place.Place.{Place}
 use Rattle.amqp_size.specs.declared.place.Place.TheVariants.{Root, Inside, First, Element, Descriptor}
 use Rattle.amqp_size.specs.declared.place.Under.{Under}
 use Rattle.amqp_size.specs.declared.place.Under.TheVariants.{Plain}
-use Rattle.amqp_size.specs.declared.place.Shape.TheVariants as shape
+use Rattle.amqp_size.specs.declared.place.Shape.TheVariants as shapes
 use Rattle.amqp_size.specs.declared.serializer.SizeSerializer.{SizeSerializer}
 use Rattle.amqp_size.specs.declared.open_compound.Open.{Open}
 
@@ -99,8 +99,8 @@ pub record HoldsTransparent (start : SizeSerializer) (kind : Kind) (held : Open)
   pub trees : all_trees ps ≡ Some ts
   pub kind_is : kind ≡ kinds.List
   pub place : held.place ≡ outer start.place
-  pub shape : held.shape ≡ shape.Transparent
-  pub shaped : shape_of start.place kind ≡ shape.Transparent
+  pub shape : held.shape ≡ shapes.Transparent
+  pub shaped : shape_of start.place kind ≡ shapes.Transparent
   pub sum : held.sum ≡ length (enc_each ts)
   pub inner : held.inner ≡ Plain Root
   pub alike_parts : alike_each ts ≡ true
@@ -117,7 +117,7 @@ bare_parts start held (p ∷ (q ∷ ps)) = ⊥
 pub record HoldsBare (start : SizeSerializer) (kind : Kind) (held : Open) (ps : List (Option Tree)) : Type 0 where
   pub kind_is : kind ≡ kinds.Bare
   pub place : rest held.place ≡ rest (outer start.place)
-  pub shape : held.shape ≡ shape.Bare
+  pub shape : held.shape ≡ shapes.Bare
   pub parts : bare_parts start held ps
 
 -- an open compound, of the parts that it was fed

@@ -2,6 +2,8 @@
 
 ghost use Rattle.std.specs.Prelude.{◌≡◌, ◌<◌, ◌+◌, ◌≤◌, Some, true, false, MatchResult, IfOk, IfErr, if◌then◌else◌};
 
+ghost use Rattle.amqp_size.specs.Place.{limit_of};
+
 use crate::place::{Place, Shape, Under};
 use crate::width::{LONGEST, MOST};
 use amqp_data::Error;
@@ -21,7 +23,7 @@ pub struct Open {
 
 impl Open {
     ghost use Rattle.amqp_size.specs.Take.{opens, opens_in, over, undescribed};
-    ghost use Rattle.amqp_size.specs.Place.{outer, con_of, is_array, is_gathered, inner_under, limit_of, described_under};
+    ghost use Rattle.amqp_size.specs.Place.{outer, con_of, is_array, is_gathered, inner_under, described_under};
 
     /// A compound of this shape, opened there, with no part yet.
     #[inline(always)]
@@ -124,8 +126,8 @@ impl Open {
     /// Counts bytes, and a part that stands where the last one did.
     #[inline(always)]
     fn add(&mut self, size: usize, limit: usize) -> Result<(), Error>
-        requires { self.old.sum ≤ limit }
-        requires { limit ≤ limit_of self.old.shape }
+        requires enough { self.old.sum ≤ limit }
+        requires allowed { limit ≤ limit_of self.old.shape }
         ensures kept { MatchResult result
             (λ _. (self.new.sum ≡ size + self.old.sum) × (self.new.before ≡ self.old.sum))
             (λ e. (self.new ≡ self.old) × ((e ≡ Error.TooLong) × (limit < size + self.old.sum))) }

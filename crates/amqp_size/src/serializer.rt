@@ -3,7 +3,7 @@
 ghost use Rattle.std.specs.Prelude.{◌≡◌, ◌+◌, ◌≤◌, ◌++◌, ◌∷◌, ◌&&◌, ◌⊎◌, [], List, Option, Some, None, Result, Ok, Err, MatchResult, IfErr, IsErr, is_some, true, false, length, ℕ};
 ghost use Rattle.amqp_ser.specs.Tree.{Tree, Trees, transparent};
 ghost use Rattle.amqp_ser.specs.Limits.{fits, is_length};
-ghost use Rattle.amqp_ser.specs.Composites.{descriptor_of};
+ghost use Rattle.amqp_ser.specs.Composites.{as_described, descriptor_of};
 ghost use Rattle.amqp_ser.specs.Encoding.{enc, enc_each, payload, con};
 ghost use Rattle.amqp_ser.specs.Writable.{alike, alike_each, within, within_each, inside, placed, placed_each};
 ghost use Rattle.amqp_ser.specs.Permitted.{IsSizeOf};
@@ -142,10 +142,10 @@ impl SizeSerializer {
             at_place place (Some (transparent ts)) result self.new.place }
     {
         self.place = Under::Plain(place.rest());
-        if let Place::Root = place {
-            return Ok(sum);
+        match place {
+            Place::Root => Ok(sum),
+            _ => Err(Error::InvalidValue),
         }
-        Err(Error::InvalidValue)
     }
 
     /// Refuses a value that its marker does not take.
@@ -291,7 +291,14 @@ impl Serializer for SizeSerializer {
     }
 
     #[inline(always)]
-    fn end_descriptor(&mut self, held: &mut Open, part: Result<usize, Error>) -> Result<(), Error> {
+    fn end_descriptor(&mut self, held: &mut Open, part: Result<usize, Error>) -> Result<(), Error>
+        ensures { (start before : SizeSerializer) (d : Option Tree) → size_awaits_descriptor start before held.old → size_permits before d part self.old →
+            MatchResult result
+            (λ _. (mid : SizeSerializer) × (size_has mid Kind.Bare self.new held.new [] × ((t : Option Tree) (r : Result ℕ Error) (after : SizeSerializer) →
+            size_permits mid t r after → size_permits start (as_described (descriptor_of d) t) r after)))
+            (λ e. size_has start Kind.Bare self.new held.new [] × ((t : Option Tree) →
+            size_permits start (as_described (descriptor_of d) t) (Err e) self.new)) }
+    {
         self.place = Under::Plain(held.place().rest());
         let size = part?;
         held.describe(size)
