@@ -7,15 +7,39 @@ use Rattle.amqp_ser.specs.Compounds.{all_trees, before, as_kind, only, whole}
 use Rattle.amqp_ser.specs.Permitted.{refuses_none}
 use Rattle.amqp_ser.specs.declared.kind.Kind.{Kind}
 use Rattle.amqp_ser.specs.declared.kind.Kind.TheVariants as kinds
-use Rattle.amqp_size.specs.Place.{outer, meant, rest, next}
+use Rattle.amqp_size.specs.Place.{outer, meant, rest, shape_of}
 use Rattle.amqp_size.specs.Counted.{at_place, Counted, HoldsBare}
 use Rattle.amqp_size.specs.declared.place.Place.{Place}
 use Rattle.amqp_size.specs.declared.place.Under.{Under}
 use Rattle.amqp_size.specs.declared.place.Under.TheVariants as under
+use Rattle.amqp_size.specs.declared.place.Shape.TheVariants as shapes
 use Rattle.amqp_size.specs.declared.serializer.SizeSerializer.{SizeSerializer}
 use Rattle.amqp_size.specs.declared.open_compound.Open.{Open}
 use Rattle.amqp_size.proofs.Places.{meant_none, refusal}
 use Rattle.amqp_size.proofs.Whole.{stands_none}
+
+pub bare_kind : (u : Under) (k : Kind) → shape_of u k ≡ shapes.Bare → k ≡ kinds.Bare
+bare_kind u kinds.Bare h = refl
+bare_kind (under.Plain p) kinds.List h = cc
+bare_kind (under.Plain p) kinds.Map h = cc
+bare_kind (under.Plain p) (kinds.Fields i) h = cc
+bare_kind (under.Plain p) (kinds.Only i) h = cc
+bare_kind (under.Array p) kinds.List h = cc
+bare_kind (under.Array p) kinds.Map h = cc
+bare_kind (under.Array p) (kinds.Fields i) h = cc
+bare_kind (under.Array p) (kinds.Only i) h = cc
+bare_kind (under.Transparent p) kinds.List h = cc
+bare_kind (under.Transparent p) kinds.Map h = cc
+bare_kind (under.Transparent p) (kinds.Fields i) h = cc
+bare_kind (under.Transparent p) (kinds.Only i) h = cc
+bare_kind (under.Scalar m p) kinds.List h = cc
+bare_kind (under.Scalar m p) kinds.Map h = cc
+bare_kind (under.Scalar m p) (kinds.Fields i) h = cc
+bare_kind (under.Scalar m p) (kinds.Only i) h = cc
+bare_kind (under.Nothing p) kinds.List h = cc
+bare_kind (under.Nothing p) kinds.Map h = cc
+bare_kind (under.Nothing p) (kinds.Fields i) h = cc
+bare_kind (under.Nothing p) (kinds.Only i) h = cc
 
 -- one part is the whole, and more have none
 pub whole_one : (p : Option Tree) → whole kinds.Bare (p ∷ []) ≡ p

@@ -9,11 +9,12 @@ use Rattle.amqp_ser.specs.declared.kind.Kind.TheVariants as kinds
 use Rattle.amqp_size.specs.Place.{outer, meant, rest, is_array, is_gathered}
 use Rattle.amqp_size.specs.Counted.{at_place, Counted, Holds, HoldsTransparent, HoldsBare, Holding}
 use Rattle.amqp_size.specs.Take.{opens_in, over}
+use Rattle.amqp_size.specs.declared.place.Place.{Place}
 use Rattle.amqp_size.specs.declared.place.Place.TheVariants.{Root}
 use Rattle.amqp_size.specs.declared.place.Under.{Under}
 use Rattle.amqp_size.specs.declared.place.Under.TheVariants as under
 use Rattle.amqp_size.specs.declared.place.Shape.{Shape}
-use Rattle.amqp_size.specs.declared.place.Shape.TheVariants as shape
+use Rattle.amqp_size.specs.declared.place.Shape.TheVariants as shapes
 use Rattle.amqp_size.specs.declared.serializer.SizeSerializer.{SizeSerializer}
 use Rattle.amqp_size.specs.declared.open_compound.Open.{Open}
 use Rattle.amqp_size.proofs.Refusing.{refused_part}
@@ -30,7 +31,7 @@ at_rest start kind held ps (inr (inr h)) = h.place
 not_gathered : (s t : Shape) → s ≡ t → is_gathered t ≡ false → is_gathered s ≡ true → ⊥
 not_gathered s t q f g = let e = sym (ap is_gathered q) ∙ g in cc
 
-not_bare : shape.Transparent ≡ shape.Bare → ⊥
+not_bare : shapes.Transparent ≡ shapes.Bare → ⊥
 not_bare q = cc
 
 no_list : kinds.Bare ≡ kinds.List → ⊥
@@ -39,23 +40,31 @@ no_list q = cc
 -- the relation of each shape
 pub gathered_of : (start : SizeSerializer) (kind : Kind) (held : Open) (ps : List (Option Tree)) → Holding start kind held ps → is_gathered held.shape ≡ true → Holds start kind held ps
 gathered_of start kind held ps (inl h) g = h
-gathered_of start kind held ps (inr (inl h)) g = absurd (not_gathered held.shape shape.Transparent h.shape refl g)
-gathered_of start kind held ps (inr (inr h)) g = absurd (not_gathered held.shape shape.Bare h.shape refl g)
+gathered_of start kind held ps (inr (inl h)) g = absurd (not_gathered held.shape shapes.Transparent h.shape refl g)
+gathered_of start kind held ps (inr (inr h)) g = absurd (not_gathered held.shape shapes.Bare h.shape refl g)
 
-pub transparent_of : (start : SizeSerializer) (kind : Kind) (held : Open) (ps : List (Option Tree)) → Holding start kind held ps → held.shape ≡ shape.Transparent → HoldsTransparent start kind held ps
-transparent_of start kind held ps (inl h) s = absurd (not_gathered held.shape shape.Transparent s refl h.gathered)
+pub transparent_of : (start : SizeSerializer) (kind : Kind) (held : Open) (ps : List (Option Tree)) → Holding start kind held ps → held.shape ≡ shapes.Transparent → HoldsTransparent start kind held ps
+transparent_of start kind held ps (inl h) s = absurd (not_gathered held.shape shapes.Transparent s refl h.gathered)
 transparent_of start kind held ps (inr (inl h)) s = h
 transparent_of start kind held ps (inr (inr h)) s = absurd (not_bare (sym s ∙ h.shape))
 
-pub bare_shape : (start : SizeSerializer) (kind : Kind) (held : Open) (ps : List (Option Tree)) → Holding start kind held ps → held.shape ≡ shape.Bare → HoldsBare start kind held ps
-bare_shape start kind held ps (inl h) s = absurd (not_gathered held.shape shape.Bare s refl h.gathered)
+pub bare_shape : (start : SizeSerializer) (kind : Kind) (held : Open) (ps : List (Option Tree)) → Holding start kind held ps → held.shape ≡ shapes.Bare → HoldsBare start kind held ps
+bare_shape start kind held ps (inl h) s = absurd (not_gathered held.shape shapes.Bare s refl h.gathered)
 bare_shape start kind held ps (inr (inl h)) s = absurd (not_bare (sym h.shape ∙ s))
 bare_shape start kind held ps (inr (inr h)) s = h
 
 pub bare_of : (start : SizeSerializer) (held : Open) (ps : List (Option Tree)) → Holding start kinds.Bare held ps → HoldsBare start kinds.Bare held ps
-bare_of start held ps (inl h) = absurd (not_gathered held.shape shape.Bare h.shape refl h.gathered)
+bare_of start held ps (inl h) = absurd (not_gathered held.shape shapes.Bare h.shape refl h.gathered)
 bare_of start held ps (inr (inl h)) = absurd (no_list h.kind_is)
 bare_of start held ps (inr (inr h)) = h
+
+no_maps : (kinds.Map ≡ kinds.List → ⊥) × (kinds.Map ≡ kinds.Bare → ⊥)
+no_maps = (λ q. cc, λ q. cc)
+
+pub map_of : (start : SizeSerializer) (held : Open) (ps : List (Option Tree)) → Holding start kinds.Map held ps → Holds start kinds.Map held ps
+map_of start held ps (inl h) = h
+map_of start held ps (inr (inl h)) = absurd (no_maps.0 h.kind_is)
+map_of start held ps (inr (inr h)) = absurd (no_maps.1 h.kind_is)
 
 -- a refused part
 pub refused_any : (start : SizeSerializer) (kind : Kind) (held : Open) (ps : List (Option Tree)) → Holding start kind held ps → (p : Option Tree) (e : Error) (after : Under) →
@@ -68,24 +77,24 @@ refused_any start kind held ps (inr (inl h)) p e after r others =
 refused_any start kind held ps (inr (inr h)) p e after r others = refused_bare start kind held ps h p e after r others
 
 -- what is known of a part's counting
-pub record Taking (held new : Open) (size : ℕ) (after : Under) (res : Result (Unit {0}) Error) : Type 0 where
+pub record Taking (held new : Open) (size : ℕ) (inner : Place) (res : Result (Unit {0}) Error) : Type 0 where
   pub place : new.place ≡ held.place
   pub shape : new.shape ≡ held.shape
   pub few : held.count ≤ 4294967295 → new.count ≤ 4294967295
   pub kept : IfErr res (λ _. new ≡ held)
   pub before : is_gathered held.shape ≡ true → IfOk res (λ _. new.before ≡ held.sum)
   pub gathered : is_gathered held.shape ≡ true → MatchResult res
-      (λ _. (new.sum ≡ size + opens_in (is_array held.shape) (outer held.inner) (outer after) + held.sum) × ((new.count ≡ if is_array held.shape then held.count + 1 else held.count) × (new.inner ≡ if is_array held.shape then under.Plain (outer after) else held.inner)))
-      (λ e. (e ≡ error.TooLong) × over (is_array held.shape) held.count (size + opens_in (is_array held.shape) (outer held.inner) (outer after) + held.sum))
-  pub transparent : held.shape ≡ package.Rattle-amqp_size-specs.declared.place.Shape.TheVariants.Transparent → MatchResult res
+      (λ _. (new.sum ≡ size + opens_in (is_array held.shape) (outer held.inner) inner + held.sum) × ((new.count ≡ if is_array held.shape then held.count + 1 else held.count) × (new.inner ≡ if is_array held.shape then under.Plain inner else held.inner)))
+      (λ e. (e ≡ error.TooLong) × over (is_array held.shape) held.count (size + opens_in (is_array held.shape) (outer held.inner) inner + held.sum))
+  pub transparent : held.shape ≡ shapes.Transparent → MatchResult res
       (λ _. (new.sum ≡ size + held.sum) × (new.inner ≡ held.inner))
       (λ e. (e ≡ error.TooLong) × (18446744073709551615 < size + held.sum))
-  pub bare : held.shape ≡ package.Rattle-amqp_size-specs.declared.place.Shape.TheVariants.Bare → MatchResult res
-      (λ _. (held.count ≡ 0) × ((new.count ≡ 1) × ((new.sum ≡ size) × (new.inner ≡ under.Plain (outer after)))))
+  pub bare : held.shape ≡ shapes.Bare → MatchResult res
+      (λ _. (held.count ≡ 0) × ((new.count ≡ 1) × ((new.sum ≡ size) × (new.inner ≡ under.Plain inner))))
       (λ e. (e ≡ error.InvalidValue) × (1 ≤ held.count))
 
 taken_joined : (start : SizeSerializer) (kind : Kind) (held new : Open) (ps : List (Option Tree)) → HoldsTransparent start kind held ps → (p : Option Tree) (size : ℕ) (after : Under) → at_place Root p (Ok size) after →
-    (res : Result (Unit {0}) Error) → Taking held new size after res →
+    (res : Result (Unit {0}) Error) → Taking held new size (outer after) res →
     MatchResult res (λ _. Holding start kind new (ps ++ (p ∷ [])))
     (λ e. (others : List (Option Tree)) → at_place (outer start.place) (meant start.place (whole kind (ps ++ (p ∷ others)))) (Err e) (under.Plain (rest held.place)))
 taken_joined start kind held new ps h None size after r res k = absurd r
@@ -98,7 +107,7 @@ taken_joined start kind held new ps h (Some t) size after r (Err e) k = λ other
     (over_transparent start kind held ps h t size r.len m.1 others)
 
 taken_one : (start : SizeSerializer) (kind : Kind) (held new : Open) (ps : List (Option Tree)) → HoldsBare start kind held ps → (p : Option Tree) (size : ℕ) (after : Under) → at_place (outer held.inner) (meant held.inner p) (Ok size) after →
-    (res : Result (Unit {0}) Error) → Taking held new size after res →
+    (res : Result (Unit {0}) Error) → Taking held new size (outer after) res →
     MatchResult res (λ _. Holding start kind new (ps ++ (p ∷ [])))
     (λ e. (others : List (Option Tree)) → at_place (outer start.place) (meant start.place (whole kind (ps ++ (p ∷ others)))) (Err e) (under.Plain (rest held.place)))
 taken_one start kind held new ps h p size after r (Ok u) k =
@@ -119,7 +128,7 @@ gathers start kind held new ps p (Err e) m = m
 
 -- a part that was counted
 pub taken_any : (start : SizeSerializer) (kind : Kind) (held new : Open) (ps : List (Option Tree)) → Holding start kind held ps → (p : Option Tree) (size : ℕ) (after : Under) →
-    at_place (outer held.inner) (meant held.inner p) (Ok size) after → (res : Result (Unit {0}) Error) → Taking held new size after res →
+    at_place (outer held.inner) (meant held.inner p) (Ok size) after → (res : Result (Unit {0}) Error) → Taking held new size (outer after) res →
     MatchResult res (λ _. Holding start kind new (ps ++ (p ∷ [])))
     (λ e. (others : List (Option Tree)) → at_place (outer start.place) (meant start.place (whole kind (ps ++ (p ∷ others)))) (Err e) (under.Plain (rest held.place)))
 taken_any start kind held new ps (inl h) p size after r res k =

@@ -1,4 +1,5 @@
 pub mod Bare
+pub mod Described
 pub mod Fixed
 pub mod Holding
 pub mod Joined
