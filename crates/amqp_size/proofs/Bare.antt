@@ -1,15 +1,14 @@
 -- An open bare compound.
-use Rattle.std.proofs.Common.{◌≡◌, ℕ, ◌≤◌, List, [], ◌∷◌, ◌++◌, Option, Some, None, Result, Ok, Err, refl, ap, sym, ◌∙◌, subst, arith}
+use Rattle.std.proofs.Common.{◌≡◌, ℕ, ◌≤◌, List, [], ◌∷◌, ◌++◌, Option, Some, None, Ok, Err, refl, ap, sym, ◌∙◌, subst, arith}
 use Rattle.amqp_data.specs.declared.error.Error.{Error}
 use Rattle.amqp_data.specs.declared.error.Error.TheVariants as error
 use Rattle.amqp_ser.specs.Tree.{Tree, Trees}
-use Rattle.amqp_ser.specs.Compounds.{all_trees, before, as_kind, only, whole}
+use Rattle.amqp_ser.specs.Compounds.{all_trees, before, as_kind, whole}
 use Rattle.amqp_ser.specs.Permitted.{refuses_none}
 use Rattle.amqp_ser.specs.declared.kind.Kind.{Kind}
 use Rattle.amqp_ser.specs.declared.kind.Kind.TheVariants as kinds
 use Rattle.amqp_size.specs.Place.{outer, meant, rest, shape_of}
-use Rattle.amqp_size.specs.Counted.{at_place, Counted, HoldsBare}
-use Rattle.amqp_size.specs.declared.place.Place.{Place}
+use Rattle.amqp_size.specs.Counted.{at_place, HoldsBare}
 use Rattle.amqp_size.specs.declared.place.Under.{Under}
 use Rattle.amqp_size.specs.declared.place.Under.TheVariants as under
 use Rattle.amqp_size.specs.declared.place.Shape.TheVariants as shapes

@@ -1,5 +1,5 @@
 -- What places ask of a tree, and what a refusal there means.
-use Rattle.std.proofs.Common.{◌≡◌, ℕ, ◌+◌, Option, Some, None, Bool, true, false, ◌&&◌, Result, Ok, Err, length, refl, ap, sym, ◌∙◌, is_some}
+use Rattle.std.proofs.Common.{◌≡◌, ℕ, ◌+◌, Option, Some, None, Bool, true, false, Err, length, refl, ◌∙◌, is_some}
 use Rattle.amqp_data.specs.declared.error.Error.{Error}
 use Rattle.amqp_data.specs.declared.error.Error.TheVariants as error
 use Rattle.amqp_ser.specs.Tree.{Tree, Trees, scalar, list, array, map, described, variant, lazy, transparent, no_trees, more}
@@ -9,7 +9,7 @@ use Rattle.amqp_ser.specs.Writable.{same_con, within, inside, placed}
 use Rattle.amqp_ser.specs.Composites.{descriptor_of}
 use Rattle.amqp_ser.specs.Permitted.{refuses_none}
 use Rattle.amqp_ser.proofs.Bools.{right_false}
-use Rattle.amqp_size.specs.Place.{outer, meant, rest, suits, element, form, extent, within_at, takes_described, is_gathered, limit_of}
+use Rattle.amqp_size.specs.Place.{meant, rest, suits, element, form, extent, within_at, takes_described, is_gathered, limit_of}
 use Rattle.amqp_size.specs.Counted.{at_place, refused, inner_of}
 use Rattle.amqp_size.specs.declared.place.Place.{Place}
 use Rattle.amqp_size.specs.declared.place.Place.TheVariants.{Root, Inside, First, Element, Descriptor, Value}

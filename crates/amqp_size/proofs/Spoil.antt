@@ -1,30 +1,27 @@
 -- Parts that spoil every whole that they are in.
-use Rattle.std.proofs.Common.{◌≡◌, ℕ, ◌+◌, ◌<◌, ◌≤◌, List, [], ◌∷◌, ◌++◌, Option, Some, None, Bool, true, false, not, ◌&&◌, Result, Ok, Err, MatchResult, IfOk, length, refl, ap, sym, ◌∙◌, subst, arith, length-append, nat_le, if◌then◌else◌, ◌⊎◌, inl, inr, is_some}
+use Rattle.std.proofs.Common.{◌≡◌, ℕ, ◌+◌, ◌<◌, List, [], ◌∷◌, ◌++◌, Option, Some, None, Bool, true, false, not, ◌&&◌, Err, length, refl, ap, sym, ◌∙◌, subst, arith, length-append, inl, inr}
 use Rattle.amqp_data.specs.declared.error.Error.{Error}
 use Rattle.amqp_data.specs.declared.error.Error.TheVariants as error
-use Rattle.amqp_ser.specs.Tree.{uint, Tree, Trees, Pairs, list, array, map, variant, no_trees, more, count}
+use Rattle.amqp_ser.specs.Tree.{uint, Tree, Trees, list, array, map, variant, no_trees, more}
 use Rattle.amqp_ser.specs.Limits.{fits, is_count}
 use Rattle.amqp_ser.specs.Scalars.{scalar_form}
-use Rattle.amqp_ser.specs.Encoding.{enc, enc_each, con}
-use Rattle.amqp_ser.specs.Writable.{same_con, each_con, one_con, alike, alike_each, alike_pairs, within, within_each, within_pairs, inside, inside_each, inside_pairs, placed}
-use Rattle.amqp_ser.specs.Compounds.{all_trees, before, as_kind, as_map, as_variant, in_pairs, only, whole, paired}
+use Rattle.amqp_ser.specs.Encoding.{enc, enc_each}
+use Rattle.amqp_ser.specs.Writable.{one_con, alike, alike_each, alike_pairs, within, within_each, within_pairs, inside, inside_each, inside_pairs, placed}
+use Rattle.amqp_ser.specs.Compounds.{all_trees, before, as_kind, as_map, as_variant, in_pairs, only, whole}
 use Rattle.amqp_ser.specs.Permitted.{refuses_none}
 use Rattle.amqp_ser.specs.declared.kind.Kind.{Kind}
 use Rattle.amqp_ser.specs.declared.kind.Kind.TheVariants as kinds
-use Rattle.amqp_ser.proofs.Bools.{nat_eq-refl, both, and_assoc, left_false, right_false, one_false, left_true, right_true, le_false, le_true, not_le, is_le}
-use Rattle.amqp_ser.proofs.Joins.{join, joined, all_trees-append, kind_none, alike-join, within-join, inside-join, each-join, count-join}
-use Rattle.amqp_ser.proofs.Pairing.{Pairing, pairing, even}
-use Rattle.amqp_size.specs.Place.{outer, meant, rest, shape_of, is_array, is_gathered, element, next, suits, form}
-use Rattle.amqp_size.specs.Counted.{at_place, refused, Counted, Holds, Fed, Back, content, counts, one_in, inner_of, first_place}
-use Rattle.amqp_size.specs.Take.{opens, over}
+use Rattle.amqp_ser.proofs.Bools.{and_assoc, left_false, right_false, one_false, le_false, not_le}
+use Rattle.amqp_ser.proofs.Joins.{join, joined, all_trees-append, kind_none}
+use Rattle.amqp_ser.proofs.Pairing.{pairing, even}
+use Rattle.amqp_size.specs.Place.{outer, meant, rest, shape_of, is_array, is_gathered, suits}
+use Rattle.amqp_size.specs.Counted.{at_place, Holds, content, counts, one_in}
 use Rattle.amqp_size.specs.declared.place.Place.{Place}
-use Rattle.amqp_size.specs.declared.place.Place.TheVariants.{Root, Inside, First, Element}
 use Rattle.amqp_size.specs.declared.place.Under.{Under}
 use Rattle.amqp_size.specs.declared.place.Under.TheVariants as under
 use Rattle.amqp_size.specs.declared.place.Shape.TheVariants as shape
 use Rattle.amqp_size.specs.declared.serializer.SizeSerializer.{SizeSerializer}
 use Rattle.amqp_size.specs.declared.open_compound.Open.{Open}
-use Rattle.amqp_size.proofs.Joined.{content-join, rest_of, some_con}
 use Rattle.amqp_size.proofs.Places.{long_at, not_inside, meant_none}
 use Rattle.amqp_size.proofs.Whole.{stands_none, refused_shape}
 

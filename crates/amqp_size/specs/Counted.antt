@@ -4,15 +4,15 @@ use Rattle.amqp_data.specs.declared.error.Error.{Error}
 use Rattle.amqp_data.specs.declared.error.Error.TheVariants as error
 use Rattle.amqp_ser.specs.Tree.{Tree, Trees, no_trees, more, count}
 use Rattle.amqp_ser.specs.Limits.{fits, is_count}
-use Rattle.amqp_ser.specs.Encoding.{enc, payload, enc_each, payload_each, first_con, con}
-use Rattle.amqp_ser.specs.Writable.{within, within_each, alike, alike_each, inside_each, one_con, placed_each}
+use Rattle.amqp_ser.specs.Encoding.{enc_each, payload_each, first_con, con}
+use Rattle.amqp_ser.specs.Writable.{within_each, alike, alike_each, inside_each, one_con, placed_each}
 use Rattle.amqp_ser.specs.Compounds.{all_trees, paired}
 use Rattle.amqp_ser.specs.Permitted.{refuses_none}
 use Rattle.amqp_ser.specs.declared.kind.Kind.{Kind}
 use Rattle.amqp_ser.specs.declared.kind.Kind.TheVariants as kinds
 use Rattle.amqp_size.specs.Place.{outer, meant, rest, suits, element, next, extent, within_at, shape_of, is_array, is_gathered}
 use Rattle.amqp_size.specs.declared.place.Place.{Place}
-use Rattle.amqp_size.specs.declared.place.Place.TheVariants.{Root, Inside, First, Element, Descriptor}
+use Rattle.amqp_size.specs.declared.place.Place.TheVariants.{Root, Inside, First, Descriptor}
 use Rattle.amqp_size.specs.declared.place.Under.{Under}
 use Rattle.amqp_size.specs.declared.place.Under.TheVariants.{Plain}
 use Rattle.amqp_size.specs.declared.place.Shape.TheVariants as shapes

@@ -1,7 +1,6 @@
 //! A compound whose parts are still counted.
 
 ghost use Rattle.std.specs.Prelude.{◌≡◌, ◌<◌, ◌+◌, ◌≤◌, Some, true, false, MatchResult, IfOk, IfErr, if◌then◌else◌};
-
 ghost use Rattle.amqp_size.specs.Place.{limit_of};
 
 use crate::place::{Place, Shape, Under};

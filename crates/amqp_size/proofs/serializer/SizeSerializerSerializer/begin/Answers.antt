@@ -1,8 +1,7 @@
-use Rattle.std.proofs.Common.{◌≡◌, ℕ, [], Bool, true, false, length, refl, sym, ◌∙◌, ap, subst, inl, inr}
+use Rattle.std.proofs.Common.{◌≡◌, [], Bool, true, false, length, refl, sym, ◌∙◌, ap, inl, inr}
 use Rattle.amqp_ser.specs.Tree.{no_trees}
 use Rattle.amqp_ser.specs.Limits.{fits, is_count}
 use Rattle.amqp_ser.specs.declared.kind.Kind.{Kind}
-use Rattle.amqp_ser.specs.declared.kind.Kind.TheVariants as kinds
 use Rattle.amqp_size.specs.Place.{outer, rest, shape_of, is_array, is_gathered, inner_under}
 use Rattle.amqp_size.specs.Counted.{content, counts, one_in, inner_of, Holding, Holds}
 use Rattle.amqp_size.specs.declared.open_compound.Open.{Open}
@@ -89,6 +88,7 @@ pub returns : goal.returns
 returns c =
     let e = c.new.ensures in
     let start = c.args.self.now in
-    let shape = c.shape.ensures in
-    (opened start c.args.kind c.new.result e.place (e.shape ∙ shape) (e.inner ∙ ap (λ s. inner_under s start.place) shape) e.sum e.count (shape_of start.place c.args.kind) refl,
-    ap Plain (c.rest.ensures ∙ ap rest (c.outer.ensures ∙ sym e.place)))
+    let shape = c.shape.ensures in (
+      opened start c.args.kind c.new.result e.place (e.shape ∙ shape) (e.inner ∙ ap (λ s. inner_under s start.place) shape) e.sum e.count (shape_of start.place c.args.kind) refl,
+      ap Plain (c.rest.ensures ∙ ap rest (c.outer.ensures ∙ sym e.place)),
+    )

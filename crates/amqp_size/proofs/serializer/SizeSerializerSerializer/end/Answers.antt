@@ -1,4 +1,4 @@
-use Rattle.std.proofs.Common.{◌≡◌, sym, refl, ◌∙◌, ap, arith, ◌&&◌, ◌++◌, subst, length}
+use Rattle.std.proofs.Common.{sym, refl, ◌∙◌, ap, arith, ◌&&◌, ◌++◌}
 use Rattle.amqp_ser.specs.Tree.{uint, map, variant, list}
 use Rattle.amqp_ser.specs.Limits.{fits}
 use Rattle.amqp_ser.specs.Scalars.{scalar_form}

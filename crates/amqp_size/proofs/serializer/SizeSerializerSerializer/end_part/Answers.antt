@@ -5,7 +5,6 @@ use Rattle.amqp_ser.specs.Compounds.{whole}
 use Rattle.amqp_ser.specs.declared.kind.Kind.{Kind}
 use Rattle.amqp_size.specs.Place.{outer, meant, rest}
 use Rattle.amqp_size.specs.Counted.{at_place, Holding}
-use Rattle.amqp_size.specs.declared.place.Place.{Place}
 use Rattle.amqp_size.specs.declared.place.Under.{Under}
 use Rattle.amqp_size.specs.declared.place.Under.TheVariants.{Plain}
 use Rattle.amqp_size.specs.declared.open_compound.Open.{Open}

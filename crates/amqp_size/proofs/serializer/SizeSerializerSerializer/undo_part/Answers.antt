@@ -1,5 +1,5 @@
-use Rattle.std.proofs.Common.{◌≡◌, ap, sym, ◌∙◌, inl}
-use Rattle.amqp_size.specs.Place.{rest, is_gathered}
+use Rattle.std.proofs.Common.{ap, sym, ◌∙◌, inl}
+use Rattle.amqp_size.specs.Place.{rest}
 use Rattle.amqp_size.specs.declared.place.Under.TheVariants.{Plain}
 use Rattle.amqp_size.proofs.Holding.{map_of}
 use Rattle.amqp_size.proofs.Part.{undone}
