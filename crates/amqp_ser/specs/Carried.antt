@@ -1,5 +1,9 @@
--- The trees of types that hold others (AMQP 1.0 part 1, sections 1.6.1 and 1.6.24).
+-- The trees of types that hold others (AMQP 1.0 part 1, sections 1.2, 1.6.1 and 1.6.24).
 use Rattle.std.specs.Prelude.{List, Option, Some, None, map}
+use Rattle.amqp_data.specs.Text.{symbol_text}
+use Rattle.amqp_data.specs.declared.descriptor.Descriptor.{Descriptor}
+use Rattle.amqp_data.specs.declared.descriptor.Descriptor.TheVariants as descriptor
+use Rattle.amqp_ser.specs.Tree as tree
 use Rattle.amqp_ser.specs.Tree.{Tree, scalar, null}
 use Rattle.amqp_ser.specs.Compounds.{whole}
 use Rattle.amqp_ser.specs.Marked.{marked}
@@ -14,3 +18,12 @@ optional f (Some x) = f x
 -- the array of the items
 abbrev pub array_of : {T : Type 0} → (T → Option Tree) → List T → Option Tree
 array_of f items = marked mark.Array (whole kind.List (map f items))
+
+-- the items one after another
+abbrev pub transparent_of : {T : Type 0} → (T → Option Tree) → List T → Option Tree
+transparent_of f items = marked mark.Transparent (whole kind.List (map f items))
+
+-- the name or the code of a descriptor
+abbrev pub descriptor_content : Descriptor → tree.Descriptor
+descriptor_content (descriptor.Name s) = tree.name (symbol_text s)
+descriptor_content (descriptor.Code n) = tree.code n

@@ -6,6 +6,7 @@ pub mod Writable
 pub mod Marked
 pub mod Compounds
 pub mod Composites
+pub mod Structs
 pub mod Ranged
 pub mod Permitted
 pub mod Same

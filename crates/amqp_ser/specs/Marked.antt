@@ -1,5 +1,5 @@
--- The trees that a newtype's marker name makes of the tree inside it, and the names of described structs.
-use Rattle.std.specs.Prelude.{ℕ, List, Option, Some, None, Bool, ◌||◌, nat_eq, length, bytes_eq, codes, if◌then◌else◌}
+-- The trees that a newtype's marker name makes of the tree inside it, and the names that stand for themselves.
+use Rattle.std.specs.Prelude.{ℕ, List, Option, Some, None, Bool, nat_eq, length, bytes_eq, codes, if◌then◌else◌}
 use Rattle.amqp_ser.specs.Tree.{Scalar, long, binary, string, symbol, timestamp, decimal32, decimal64, decimal128, uuid, Tree, scalar, list, array, transparent}
 use Rattle.amqp_ser.specs.declared.mark.Mark.{Mark}
 use Rattle.amqp_ser.specs.declared.mark.Mark.TheVariants as mark
@@ -19,13 +19,13 @@ mark_of n =
     else if bytes_eq n (codes "__LAZY_VALUE") then mark.Lazy
     else mark.Other
 
--- the name of a described struct
-abbrev pub is_described : List ℕ → Bool
-is_described n = bytes_eq n (codes "__DESCRIBED_BASIC") || (bytes_eq n (codes "__DESCRIBED_LIST") || bytes_eq n (codes "__DESCRIBED_MAP"))
-
 -- the key of the field that is a struct's descriptor
 abbrev pub is_descriptor : List ℕ → Bool
 is_descriptor n = bytes_eq n (codes "__DESCRIPTOR")
+
+-- the name of an enum whose newtype variants are written bare
+abbrev pub is_value : List ℕ → Bool
+is_value n = bytes_eq n (codes "__VALUE")
 
 -- a scalar, if its content has this length
 abbrev pub of_length : ℕ → List ℕ → Scalar → Option Tree

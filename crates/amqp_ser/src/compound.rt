@@ -7,9 +7,11 @@ pub(crate) mod feed;
 mod map;
 mod sequence;
 mod structs;
+mod tuple_struct;
 mod variant;
 
 pub use map::SerializeMap;
 pub use sequence::{SerializeSeq, SerializeTuple};
-pub use structs::{SerializeStruct, SerializeTupleStruct};
+pub use structs::SerializeStruct;
+pub use tuple_struct::SerializeTupleStruct;
 pub use variant::{SerializeStructVariant, SerializeTupleVariant};

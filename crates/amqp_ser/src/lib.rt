@@ -5,6 +5,7 @@
 //! has the traits, the compounds and the trees of Rust's own types; it writes no byte.
 #![tactic(auto)]
 
+mod body;
 mod compound;
 mod fixed;
 mod impls;
@@ -16,12 +17,13 @@ mod serializer;
 #[cfg(test)]
 mod tests;
 
+pub use body::Body;
 pub use compound::{
     SerializeMap, SerializeSeq, SerializeStruct, SerializeStructVariant, SerializeTuple,
     SerializeTupleStruct, SerializeTupleVariant,
 };
 pub use fixed::Fixed;
 pub use kind::Kind;
-pub use mark::{Mark, is_described_name, is_descriptor_key, mark_named};
+pub use mark::{Mark, mark_named};
 pub use serialize::Serialize;
 pub use serializer::Serializer;

@@ -1,8 +1,10 @@
 //! What the name of a newtype or of a struct asks for.
 
 ghost use Rattle.std.specs.Prelude.{◌≡◌};
-ghost use Rattle.amqp_ser.specs.Marked.{is_described, is_descriptor, mark_of};
+ghost use Rattle.amqp_ser.specs.Marked.{is_descriptor, is_value, mark_of};
+ghost use Rattle.amqp_ser.specs.Structs.{is_basic_name, is_tagged, struct_body};
 
+use crate::body::Body;
 use amqp_data::markers;
 
 /// What the name of a newtype makes of the tree inside it.
@@ -62,19 +64,53 @@ pub fn mark_named(name: &str) -> Mark
     }
 }
 
-/// Whether a struct of this name is a described value: the one place where the names of described structs are compared.
+/// What the fields of a struct of this name are together.
 ///
 /// # Memory
 /// Takes none.
-pub fn is_described_name(name: &str) -> bool
-    ensures { result ≡ is_described name.now }
+pub fn struct_body(name: &str) -> Body
+    ensures { result ≡ struct_body name.now }
 {
-    name == markers::DESCRIBED_BASIC
-        || name == markers::DESCRIBED_LIST
-        || name == markers::DESCRIBED_MAP
+    if is_basic_name(name) {
+        Body::Bare
+    } else if name == markers::DESCRIBED_MAP {
+        Body::Map
+    } else {
+        Body::List
+    }
 }
 
-/// Whether a field of this key is its struct's descriptor.
+/// Whether a tuple struct of this name has one field alone after its descriptor.
+///
+/// # Memory
+/// Takes none.
+pub fn is_basic_name(name: &str) -> bool
+    ensures { result ≡ is_basic_name name.now }
+{
+    name == markers::DESCRIBED_BASIC
+}
+
+/// Whether the first field of a tuple struct of this name is its descriptor.
+///
+/// # Memory
+/// Takes none.
+pub fn is_tagged(name: &str) -> bool
+    ensures { result ≡ is_tagged name.now }
+{
+    is_basic_name(name) || name == markers::DESCRIBED_LIST
+}
+
+/// Whether the newtype variants of an enum of this name are written bare.
+///
+/// # Memory
+/// Takes none.
+pub fn is_value_name(name: &str) -> bool
+    ensures { result ≡ is_value name.now }
+{
+    name == markers::VALUE
+}
+
+/// Whether a field of this key is its struct's descriptor, or an enum of this name has no variant with a value.
 ///
 /// # Memory
 /// Takes none.

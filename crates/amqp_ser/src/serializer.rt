@@ -1,11 +1,12 @@
 //! The law of a serializer, and the methods by which values are handed to it.
 
-ghost use Rattle.std.specs.Prelude.{◌≡◌, ◌++◌, ◌∷◌, [], List, Option, Some, None, Result, Ok, Err, MatchResult, IfOk, IfErr, IsOk, IsErr, true, false};
+ghost use Rattle.std.specs.Prelude.{◌≡◌, ◌++◌, ◌∷◌, [], List, Option, Some, None, Result, Ok, Err, MatchResult, IfOk, IfErr, IsOk, IsErr, not, true, false};
 ghost use Rattle.amqp_ser.specs.Tree.{Tree, Scalar, scalar, null, bool, ubyte, ushort, uint, ulong, byte, short, int, long, float, double, char, string, binary};
 ghost use Rattle.amqp_ser.specs.Fixed.{fixed_scalar};
 ghost use Rattle.amqp_ser.specs.Compounds.{whole, complete, paired};
 ghost use Rattle.amqp_ser.specs.Composites.{as_described, descriptor_of};
-ghost use Rattle.amqp_ser.specs.Marked.{is_described, marked, mark_of};
+ghost use Rattle.amqp_ser.specs.Marked.{is_descriptor, is_value, marked, mark_of};
+ghost use Rattle.amqp_ser.specs.Structs.{Stands, struct_body, is_basic_name, is_tagged, named_variant};
 ghost use Rattle.amqp_data.specs.Fixed.{f32_bits, f64_bits};
 
 use crate::compound::feed::feed_part;
@@ -15,7 +16,9 @@ use crate::compound::{
 };
 use crate::fixed::Fixed;
 use crate::kind::Kind;
-use crate::mark::{Mark, is_described_name, mark_named};
+use crate::mark::{
+    Mark, is_basic_name, is_descriptor_key, is_tagged, is_value_name, mark_named, struct_body,
+};
 use crate::serialize::Serialize;
 use amqp_data::{F32Bits, F64Bits};
 
@@ -335,7 +338,7 @@ pub trait Serializer {
         Ok(SerializeTuple::new(self, held))
     }
 
-    /// Opens a tuple struct, a list of its fields. One with the name of a described struct has no tree.
+    /// Opens a tuple struct: a list of its fields, of which the first is the descriptor where the name asks for one.
     #[inline(always)]
     final fn serialize_tuple_struct(
         &mut self,
@@ -344,17 +347,23 @@ pub trait Serializer {
     ) -> Result<SerializeTupleStruct<'_, Self>, Self::Error>
     where
         Self: Sized,
-        ensures opened { IfOk result (λ fields. Self.has self.old Kind.List fields.serializer.now fields.held []) }
-        ensures described { IfOk result (λ fields. fields.described ≡ is_described name.now) }
+        ensures opened { is_tagged name.now ≡ false → IfOk result (λ fields. Stands Self.permits Self.has self.old None Kind.List fields.serializer.now fields.held []) }
+        ensures bare { is_tagged name.now ≡ true → IfOk result (λ fields. Stands Self.permits Self.has self.old None Kind.Bare fields.serializer.now fields.held []) }
+        ensures body { IfOk result (λ fields. fields.bare ≡ is_basic_name name.now) }
+        ensures awaits { IfOk result (λ fields. (fields.awaits ≡ is_tagged name.now) × (fields.opened ≡ not (is_tagged name.now))) }
         ensures same_reference { IfOk result (λ fields. fields.serializer.ghost_name ≡ self.entry.ghost_name) }
         ensures succeeds { IsOk result }
     {
-        let described = is_described_name(name);
+        let bare = is_basic_name(name);
+        if is_tagged(name) {
+            let held = self.begin(Kind::Bare);
+            return Ok(SerializeTupleStruct::new(self, held, bare, true));
+        }
         let held = self.begin(Kind::List);
-        Ok(SerializeTupleStruct::new(self, held, described))
+        Ok(SerializeTupleStruct::new(self, held, bare, false))
     }
 
-    /// Opens a struct, a list of its fields. One with the name of a described struct has no tree.
+    /// Opens a struct: a list of its fields, a map from their names or the one field itself, as its name says.
     #[inline(always)]
     final fn serialize_struct(
         &mut self,
@@ -363,14 +372,14 @@ pub trait Serializer {
     ) -> Result<SerializeStruct<'_, Self>, Self::Error>
     where
         Self: Sized,
-        ensures opened { IfOk result (λ fields. Self.has self.old Kind.List fields.serializer.now fields.held []) }
-        ensures described { IfOk result (λ fields. fields.described ≡ is_described name.now) }
+        ensures opened { IfOk result (λ fields. Stands Self.permits Self.has self.old None Kind.Bare fields.serializer.now fields.held []) }
+        ensures body { IfOk result (λ fields. fields.body ≡ struct_body name.now) }
+        ensures empty { IfOk result (λ fields. (fields.described ≡ false) × (fields.opened ≡ false)) }
         ensures same_reference { IfOk result (λ fields. fields.serializer.ghost_name ≡ self.entry.ghost_name) }
         ensures succeeds { IsOk result }
     {
-        let described = is_described_name(name);
-        let held = self.begin(Kind::List);
-        Ok(SerializeStruct::new(self, held, described))
+        let held = self.begin(Kind::Bare);
+        Ok(SerializeStruct::new(self, held, struct_body(name)))
     }
 
     /// Opens a map.
@@ -390,7 +399,8 @@ pub trait Serializer {
         Ok(SerializeMap::new(self, held))
     }
 
-    /// Answers on a variant of one value. The names of an enum and its variants are not written.
+    /// Answers on a variant of one value; in the enum named `VALUE` it is the value itself, and in that named
+    /// `DESCRIPTOR` a misuse. Other names of an enum and its variants are not written.
     #[inline(always)]
     final fn serialize_newtype_variant<T: Serialize>(
         &mut self,
@@ -401,9 +411,16 @@ pub trait Serializer {
     ) -> Result<Self::Ok, Self::Error>
     where
         Self: Sized,
-        ensures { Self.permits self.old (whole (Kind.Only index) (T.tree v.now ∷ [])) result self.new }
+        ensures answered { Self.permits self.old (named_variant name.now index (T.tree v.now)) result self.new }
+        ensures invalid { is_value name.now ≡ false → is_descriptor name.now ≡ true → IsErr result × IfErr result Self.is_misuse }
     {
+        if is_value_name(name) {
+            return v.serialize(self);
+        }
         let mut held = self.begin(Kind::Only(index));
+        if is_descriptor_key(name) {
+            return Err(self.misuse(&mut held));
+        }
         feed_part(self, &mut held, v)?;
         self.end(held)
     }

@@ -1,122 +1,31 @@
-//! Structs: lists of their fields.
+//! Structs: a descriptor, if there is one, and a body of fields.
 
-ghost use Rattle.std.specs.Prelude.{◌≡◌, ◌++◌, ◌∷◌, [], List, Option, None, Err, MatchResult, IfErr, IsErr, true, false};
+ghost use Rattle.std.specs.Prelude.{◌≡◌, ◌++◌, ◌||◌, [], List, Option, Some, None, Err, Result, MatchResult, IfOk, IfErr, IsErr, not, true, false};
 ghost use Rattle.amqp_ser.specs.Tree.{Tree};
-ghost use Rattle.amqp_ser.specs.Compounds.{whole};
+ghost use Rattle.amqp_ser.specs.Compounds.{whole, complete, paired};
+ghost use Rattle.amqp_ser.specs.Composites.{as_described, descriptor_of};
 ghost use Rattle.amqp_ser.specs.Marked.{is_descriptor};
+ghost use Rattle.amqp_ser.specs.Structs.{Stands, body_kind, open_kind, field_parts, fronted, is_misplaced};
 
-use super::feed::feed_part;
+use crate::body::{Body, end_fields, feed_descriptor, feed_field, feed_first};
 use crate::kind::Kind;
 use crate::mark::is_descriptor_key;
 use crate::serialize::Serialize;
 use crate::serializer::Serializer;
 
-/// A tuple struct whose fields are still fed: a list. One with the name of a described struct has no tree.
+/// A struct whose fields are still fed: a list of them, a map from their names, or the one field itself, as the
+/// struct's name says. A first field of the descriptor's key makes it described.
 ///
 /// # Encoding
-/// AMQP 1.0 part 1, section 1.6.22.
-pub struct SerializeTupleStruct<'a, S: Serializer> {
-    serializer: &'a mut S,
-    held: S::Open,
-    described: bool,
-}
-
-impl<S: Serializer> Drop for SerializeTupleStruct<'_, S> {
-    #[inline(always)]
-    fn drop(self)
-        ensures { self.exit.0.now ≡ self.entry.serializer.now }
-    {
-        let SerializeTupleStruct {
-            serializer: _,
-            held: _,
-            described: _,
-        } = self;
-    }
-}
-
-impl<'a, S: Serializer> SerializeTupleStruct<'a, S> {
-    #[inline(always)]
-    pub(crate) fn new(
-        serializer: &'a mut S,
-        held: S::Open,
-        described: bool,
-    ) -> SerializeTupleStruct<'a, S>
-        ensures same_reference { result.serializer.ghost_name ≡ serializer.entry.ghost_name }
-        ensures now { result.serializer.now ≡ serializer.old }
-        ensures held { result.held ≡ held }
-        ensures described { result.described ≡ described }
-    {
-        SerializeTupleStruct {
-            serializer,
-            held,
-            described,
-        }
-    }
-
-    /// The serializer behind the struct.
-    pub fn as_mut(&mut self) -> &mut S
-        ensures { result.now ≡ self.old.serializer.now }
-    {
-        &mut *self.serializer
-    }
-
-    /// Feeds one field more.
-    ///
-    /// # Errors
-    /// The serializer's refusal of the field, or of any field of a described struct; the struct is then as it was and
-    /// may be fed on.
-    #[inline(always)]
-    pub fn serialize_field<T: Serialize>(&mut self, value: &T) -> Result<(), S::Error>
-        ensures same { self.new.serializer.ghost_name ≡ self.old.serializer.ghost_name }
-        ensures described { self.new.described ≡ self.old.described }
-        ensures step { self.old.described ≡ false → (start : S) (ps : List (Option Tree)) → S.has start Kind.List self.old.serializer.now self.old.held ps →
-            MatchResult result
-            (λ _. S.has start Kind.List self.new.serializer.now self.new.held (ps ++ (T.tree value.now ∷ [])))
-            (λ e. S.has start Kind.List self.new.serializer.now self.new.held ps × ((rest : List (Option Tree)) →
-            S.permits start (whole Kind.List (ps ++ (T.tree value.now ∷ rest))) (Err e) self.new.serializer.now)) }
-        ensures misuse { self.old.described ≡ true → IsErr result × ((start : S) (ps : List (Option Tree)) → S.has start Kind.List self.old.serializer.now self.old.held ps →
-            IfErr result (λ e. S.has start Kind.List self.new.serializer.now self.new.held ps × S.permits start None (Err e) self.new.serializer.now)) }
-        ensures invalid { self.old.described ≡ true → IfErr result S.is_misuse }
-    {
-        if self.described {
-            return Err(self.serializer.misuse(&mut self.held));
-        }
-        feed_part(&mut *self.serializer, &mut self.held, value)
-    }
-
-    /// Ends the struct, with the serializer's answer on the tree of its fields.
-    ///
-    /// # Errors
-    /// The serializer's refusal of that tree, or of a described struct.
-    #[inline(always)]
-    pub fn end(self) -> Result<S::Ok, S::Error>
-        ensures ended { self.entry.described ≡ false → (start : S) (ps : List (Option Tree)) → S.has start Kind.List self.entry.serializer.now self.entry.held ps →
-            S.permits start (whole Kind.List ps) result self.exit.0.now }
-        ensures misuse { self.entry.described ≡ true → IsErr result × ((start : S) (ps : List (Option Tree)) → S.has start Kind.List self.entry.serializer.now self.entry.held ps →
-            S.permits start None result self.exit.0.now) }
-        ensures invalid { self.entry.described ≡ true → IfErr result S.is_misuse }
-    {
-        let SerializeTupleStruct {
-            serializer,
-            mut held,
-            described,
-        } = self;
-        if described {
-            return Err(serializer.misuse(&mut held));
-        }
-        serializer.end(held)
-    }
-}
-
-/// A struct whose fields are still fed: a list; the names of the fields are not written. One with the name of a
-/// described struct has no tree, and neither has one with a descriptor.
-///
-/// # Encoding
-/// AMQP 1.0 part 1, section 1.6.22.
+/// `00`, the descriptor and the body (AMQP 1.0 part 1, section 1.2), or the body alone (sections 1.6.22 and 1.6.23).
 pub struct SerializeStruct<'a, S: Serializer> {
     serializer: &'a mut S,
     held: S::Open,
+    body: Body,
+    /// The descriptor was taken.
     described: bool,
+    /// A field was taken.
+    opened: bool,
 }
 
 impl<S: Serializer> Drop for SerializeStruct<'_, S> {
@@ -127,27 +36,29 @@ impl<S: Serializer> Drop for SerializeStruct<'_, S> {
         let SerializeStruct {
             serializer: _,
             held: _,
+            body: _,
             described: _,
+            opened: _,
         } = self;
     }
 }
 
 impl<'a, S: Serializer> SerializeStruct<'a, S> {
     #[inline(always)]
-    pub(crate) fn new(
-        serializer: &'a mut S,
-        held: S::Open,
-        described: bool,
-    ) -> SerializeStruct<'a, S>
+    pub(crate) fn new(serializer: &'a mut S, held: S::Open, body: Body) -> SerializeStruct<'a, S>
         ensures same_reference { result.serializer.ghost_name ≡ serializer.entry.ghost_name }
         ensures now { result.serializer.now ≡ serializer.old }
         ensures held { result.held ≡ held }
-        ensures described { result.described ≡ described }
+        ensures body { result.body ≡ body }
+        ensures described { result.described ≡ false }
+        ensures opened { result.opened ≡ false }
     {
         SerializeStruct {
             serializer,
             held,
-            described,
+            body,
+            described: false,
+            opened: false,
         }
     }
 
@@ -158,11 +69,23 @@ impl<'a, S: Serializer> SerializeStruct<'a, S> {
         &mut *self.serializer
     }
 
-    /// Feeds one field more.
+    /// Whether a descriptor comes twice or late, or a second field where there is one alone.
+    #[inline(always)]
+    fn is_misplaced(&self, descriptor: bool) -> bool
+        ensures { result ≡ is_misplaced self.now.body self.now.described self.now.opened descriptor }
+    {
+        if descriptor {
+            self.described || self.opened
+        } else {
+            self.opened && matches!(self.body, Body::Bare)
+        }
+    }
+
+    /// Feeds one field more, or the descriptor.
     ///
     /// # Errors
-    /// The serializer's refusal of the field, of any field of a described struct, or of a descriptor; the struct is
-    /// then as it was and may be fed on.
+    /// The serializer's refusal of the field, of a descriptor that is no ulong and no symbol, of a second or late
+    /// descriptor, or of a second field where there is one alone; the struct is then as it was and may be fed on.
     #[inline(always)]
     pub fn serialize_field<T: Serialize>(
         &mut self,
@@ -170,48 +93,71 @@ impl<'a, S: Serializer> SerializeStruct<'a, S> {
         value: &T,
     ) -> Result<(), S::Error>
         ensures same { self.new.serializer.ghost_name ≡ self.old.serializer.ghost_name }
-        ensures described { self.new.described ≡ self.old.described }
-        ensures step { self.old.described ≡ false → is_descriptor key.now ≡ false → (start : S) (ps : List (Option Tree)) → S.has start Kind.List self.old.serializer.now self.old.held ps →
+        ensures body { self.new.body ≡ self.old.body }
+        ensures as_it_was { IfErr result (λ _. (self.new.described ≡ self.old.described) × (self.new.opened ≡ self.old.opened)) }
+        ensures described { IfOk result (λ _. self.new.described ≡ (is_descriptor key.now || self.old.described)) }
+        ensures opened { IfOk result (λ _. self.new.opened ≡ (not (is_descriptor key.now) || self.old.opened)) }
+        ensures descriptor { is_descriptor key.now ≡ true → self.old.described ≡ false → self.old.opened ≡ false → (start : S) →
+            Stands S.permits S.has start None Kind.Bare self.old.serializer.now self.old.held [] →
             MatchResult result
-            (λ _. S.has start Kind.List self.new.serializer.now self.new.held (ps ++ (T.tree value.now ∷ [])))
-            (λ e. S.has start Kind.List self.new.serializer.now self.new.held ps × ((rest : List (Option Tree)) →
-            S.permits start (whole Kind.List (ps ++ (T.tree value.now ∷ rest))) (Err e) self.new.serializer.now)) }
-        ensures misuse { self.old.described ≡ true → IsErr result × ((start : S) (ps : List (Option Tree)) → S.has start Kind.List self.old.serializer.now self.old.held ps →
-            IfErr result (λ e. S.has start Kind.List self.new.serializer.now self.new.held ps × S.permits start None (Err e) self.new.serializer.now)) }
-        ensures descriptor { is_descriptor key.now ≡ true → IsErr result × ((start : S) (ps : List (Option Tree)) → S.has start Kind.List self.old.serializer.now self.old.held ps →
-            IfErr result (λ e. S.has start Kind.List self.new.serializer.now self.new.held ps × S.permits start None (Err e) self.new.serializer.now)) }
-        ensures invalid { self.old.described ≡ true → IfErr result S.is_misuse }
-        ensures invalid_descriptor { is_descriptor key.now ≡ true → IfErr result S.is_misuse }
+            (λ _. Stands S.permits S.has start (Some (T.tree value.now)) Kind.Bare self.new.serializer.now self.new.held [])
+            (λ e. Stands S.permits S.has start None Kind.Bare self.new.serializer.now self.new.held [] × ((t : Option Tree) →
+            S.permits start (as_described (descriptor_of (T.tree value.now)) t) (Err e) self.new.serializer.now)) }
+        ensures first { is_descriptor key.now ≡ false → self.old.opened ≡ false → (start : S) (front : Option (Option Tree)) →
+            Stands S.permits S.has start front Kind.Bare self.old.serializer.now self.old.held [] →
+            MatchResult result
+            (λ _. Stands S.permits S.has start front (body_kind self.old.body) self.new.serializer.now self.new.held (field_parts self.old.body key.now (T.tree value.now)))
+            (λ e. Stands S.permits S.has start front Kind.Bare self.new.serializer.now self.new.held [] × ((rest : List (Option Tree)) →
+            S.permits start (fronted front (whole (body_kind self.old.body) (field_parts self.old.body key.now (T.tree value.now) ++ rest))) (Err e) self.new.serializer.now)) }
+        ensures more { is_descriptor key.now ≡ false → self.old.opened ≡ true → (self.old.body ≡ Body.Bare → ⊥) → (start : S) (front : Option (Option Tree)) (ps : List (Option Tree)) →
+            Stands S.permits S.has start front (body_kind self.old.body) self.old.serializer.now self.old.held ps → (self.old.body ≡ Body.Map → paired ps ≡ true) →
+            MatchResult result
+            (λ _. Stands S.permits S.has start front (body_kind self.old.body) self.new.serializer.now self.new.held (ps ++ field_parts self.old.body key.now (T.tree value.now)))
+            (λ e. Stands S.permits S.has start front (body_kind self.old.body) self.new.serializer.now self.new.held ps × ((rest : List (Option Tree)) →
+            S.permits start (fronted front (whole (body_kind self.old.body) (ps ++ (field_parts self.old.body key.now (T.tree value.now) ++ rest)))) (Err e) self.new.serializer.now)) }
+        ensures misuse { is_misplaced self.old.body self.old.described self.old.opened (is_descriptor key.now) ≡ true → IsErr result × ((start : S) (front : Option (Option Tree)) (ps : List (Option Tree)) →
+            Stands S.permits S.has start front (open_kind self.old.opened self.old.body) self.old.serializer.now self.old.held ps →
+            IfErr result (λ e. Stands S.permits S.has start front (open_kind self.old.opened self.old.body) self.new.serializer.now self.new.held ps × S.permits start None (Err e) self.new.serializer.now)) }
+        ensures invalid { is_misplaced self.old.body self.old.described self.old.opened (is_descriptor key.now) ≡ true → IfErr result S.is_misuse }
     {
-        if self.described {
+        let descriptor = is_descriptor_key(key);
+        if self.is_misplaced(descriptor) {
             return Err(self.serializer.misuse(&mut self.held));
         }
-        if is_descriptor_key(key) {
-            return Err(self.serializer.misuse(&mut self.held));
+        if descriptor {
+            feed_descriptor(&mut *self.serializer, &mut self.held, value)?;
+            self.described = true;
+            return Ok(());
         }
-        feed_part(&mut *self.serializer, &mut self.held, value)
+        if self.opened {
+            return feed_field(&mut *self.serializer, &mut self.held, self.body, key, value);
+        }
+        feed_first(&mut *self.serializer, &mut self.held, self.body, key, value)?;
+        self.opened = true;
+        Ok(())
     }
 
     /// Ends the struct, with the serializer's answer on the tree of its fields.
     ///
     /// # Errors
-    /// The serializer's refusal of that tree, or of a described struct.
+    /// The serializer's refusal of that tree, or of no field where there is one alone.
     #[inline(always)]
     pub fn end(self) -> Result<S::Ok, S::Error>
-        ensures ended { self.entry.described ≡ false → (start : S) (ps : List (Option Tree)) → S.has start Kind.List self.entry.serializer.now self.entry.held ps →
-            S.permits start (whole Kind.List ps) result self.exit.0.now }
-        ensures misuse { self.entry.described ≡ true → IsErr result × ((start : S) (ps : List (Option Tree)) → S.has start Kind.List self.entry.serializer.now self.entry.held ps →
-            S.permits start None result self.exit.0.now) }
-        ensures invalid { self.entry.described ≡ true → IfErr result S.is_misuse }
+        ensures ended { self.entry.opened ≡ true → (start : S) (front : Option (Option Tree)) (ps : List (Option Tree)) →
+            Stands S.permits S.has start front (body_kind self.entry.body) self.entry.serializer.now self.entry.held ps → complete (body_kind self.entry.body) ps ≡ true →
+            S.permits start (fronted front (whole (body_kind self.entry.body) ps)) result self.exit.0.now }
+        ensures empty { self.entry.opened ≡ false → (start : S) (front : Option (Option Tree)) →
+            Stands S.permits S.has start front Kind.Bare self.entry.serializer.now self.entry.held [] →
+            S.permits start (fronted front (whole (body_kind self.entry.body) [])) result self.exit.0.now }
+        ensures invalid { self.entry.opened ≡ false → self.entry.body ≡ Body.Bare → IsErr result × IfErr result S.is_misuse }
     {
         let SerializeStruct {
             serializer,
-            mut held,
-            described,
+            held,
+            body,
+            described: _,
+            opened,
         } = self;
-        if described {
-            return Err(serializer.misuse(&mut held));
-        }
-        serializer.end(held)
+        end_fields(serializer, held, body, opened)
     }
 }

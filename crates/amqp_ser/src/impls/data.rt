@@ -1,17 +1,21 @@
 //! The types of AMQP data. Where Rust's data model has no kind for one, a mark makes it of the kind that is nearest.
 
 ghost use Rattle.std.specs.Prelude.{Some};
-ghost use Rattle.amqp_ser.specs.Carried.{array_of};
+ghost use Rattle.amqp_ser.specs.Carried.{array_of, descriptor_content, transparent_of};
+ghost use Rattle.amqp_ser.specs.Composites.{as_described};
 ghost use Rattle.amqp_ser.specs.Tree.{scalar, float, double, decimal32, decimal64, decimal128, timestamp, uuid, binary, symbol};
 ghost use Rattle.amqp_data.specs.Fixed.{dec32_bytes, dec64_bytes, dec128_bytes, f32_bits, f64_bits, milliseconds_of, uuid_bytes};
-ghost use Rattle.amqp_data.specs.Items.{array_items, byte_buf_bytes};
+ghost use Rattle.amqp_data.specs.Items.{array_items, byte_buf_bytes, transparent_items};
 ghost use Rattle.amqp_data.specs.Text.{symbol_ref_text, symbol_text};
 
+use super::holders::serialize_items;
+use crate::body::serialize_described;
 use crate::mark::Mark;
 use crate::serialize::Serialize;
 use crate::serializer::Serializer;
 use amqp_data::{
-    Array, ByteBuf, Dec32, Dec64, Dec128, F32Bits, F64Bits, Symbol, SymbolRef, Timestamp, Uuid,
+    Array, ByteBuf, Dec32, Dec64, Dec128, Described, Descriptor, F32Bits, F64Bits, Symbol,
+    SymbolRef, Timestamp, TransparentVec, Uuid,
 };
 
 impl Serialize for F32Bits {
@@ -117,5 +121,27 @@ impl<T: Serialize> Serialize for Array<T> {
     fn serialize<S: Serializer>(&self, serializer: &mut S) -> Result<S::Ok, S::Error> {
         serializer.mark(Mark::Array);
         self.as_inner().serialize(serializer)
+    }
+}
+
+impl<T: Serialize> Serialize for TransparentVec<T> {
+    ghost tree = { λ v. transparent_of T.tree (transparent_items v) };
+
+    #[inline(always)]
+    fn serialize<S: Serializer>(&self, serializer: &mut S) -> Result<S::Ok, S::Error> {
+        serializer.mark(Mark::Transparent);
+        serialize_items(self.as_slice(), serializer)
+    }
+}
+
+impl<T: Serialize> Serialize for Described<T> {
+    ghost tree = { λ v. as_described (Some (descriptor_content v.descriptor)) (T.tree v.value) };
+
+    #[inline(always)]
+    fn serialize<S: Serializer>(&self, serializer: &mut S) -> Result<S::Ok, S::Error> {
+        match &self.descriptor {
+            Descriptor::Name(name) => serialize_described(serializer, name, &self.value),
+            Descriptor::Code(code) => serialize_described(serializer, code, &self.value),
+        }
     }
 }

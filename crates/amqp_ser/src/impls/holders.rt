@@ -56,9 +56,9 @@ impl<T: Serialize, const N: usize> Serialize for [T; N] {
     }
 }
 
-// Answers on the list of the items.
+/// Answers on the list of the items.
 #[inline(always)]
-fn serialize_items<T: Serialize, S: Serializer>(
+pub fn serialize_items<T: Serialize, S: Serializer>(
     items: &[T],
     serializer: &mut S,
 ) -> Result<S::Ok, S::Error>
