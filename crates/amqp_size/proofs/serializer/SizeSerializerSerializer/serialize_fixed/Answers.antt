@@ -1,4 +1,4 @@
-use Rattle.std.proofs.Common.{◌≡◌, Some, refl, ap, sym, subst}
+use Rattle.std.proofs.Common.{Some, refl, ap, sym, subst}
 use Rattle.amqp_ser.specs.Tree.{scalar}
 use Rattle.amqp_ser.specs.Fixed.{fixed_scalar}
 use Rattle.amqp_size.specs.Place.{outer, meant}
