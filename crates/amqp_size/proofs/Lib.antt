@@ -7,6 +7,7 @@ pub mod Lengths
 pub mod Part
 pub mod Places
 pub mod Refusing
+pub mod Root
 pub mod Spoil
 pub mod Transparent
 pub mod Whole

@@ -4,6 +4,7 @@
 //! gives. `SizeSerializer` is the serializer behind it. The widths of all headers stand in this crate alone.
 #![tactic(auto)]
 
+mod accept;
 mod compounds;
 mod form;
 mod open_compound;
@@ -11,6 +12,7 @@ mod place;
 mod serializer;
 #[cfg(test)]
 mod tests;
+mod under;
 pub mod width;
 
 pub use compounds::{

@@ -1,19 +1,14 @@
 //! The serializer that counts, and the length of a value's bytes.
 
 ghost use Rattle.std.specs.Prelude.{◌≡◌, ◌+◌, ◌≤◌, ◌++◌, ◌∷◌, ◌&&◌, ◌⊎◌, [], List, Option, Some, None, Result, Ok, Err, MatchResult, IfOk, IfErr, IsErr, is_some, true, false, length, ℕ};
-ghost use Rattle.amqp_ser.specs.Tree.{Tree, Trees, transparent};
-ghost use Rattle.amqp_ser.specs.Limits.{fits, is_length};
+ghost use Rattle.amqp_ser.specs.Tree.{Tree};
 ghost use Rattle.amqp_ser.specs.Composites.{as_described, descriptor_of};
-ghost use Rattle.amqp_ser.specs.Encoding.{enc, enc_each, payload, con};
-ghost use Rattle.amqp_ser.specs.Writable.{alike, alike_each, within, within_each, inside, placed, placed_each};
 ghost use Rattle.amqp_ser.specs.Permitted.{IsSizeOf};
-ghost use Rattle.amqp_size.specs.Width.{uint_width, text_width, map_width};
-ghost use Rattle.amqp_size.specs.Place.{takes_described};
 
 use crate::form::Form;
 use crate::open_compound::Open;
-use crate::place::{Base, Place, ScalarMark, Shape, Under};
-use crate::width::{LONGEST, array_width, list_width, map_width, text_width, uint_width};
+use crate::place::{Place, ScalarMark, Shape, Under};
+use crate::width::{array_width, list_width, map_width};
 use amqp_data::Error;
 use amqp_ser::{Fixed, Kind, Mark, Serialize, Serializer};
 
@@ -26,44 +21,10 @@ use amqp_ser::{Fixed, Kind, Mark, Serialize, Serializer};
 /// Takes none.
 #[derive(Debug, Drop)]
 pub struct SizeSerializer {
-    place: Under,
-}
-
-/// The answer on a descriptor with this constructor and length: only a ulong or a symbol is one.
-#[inline(always)]
-fn descriptor(code: u8, ordinary: usize) -> Result<usize, Error>
-    ensures { (t : Tree) → con t ≡ Some code → MatchResult result
-        (λ n. (is_some (descriptor_of (Some t)) ≡ true) × (n ≡ ordinary))
-        (λ e. (is_some (descriptor_of (Some t)) ≡ false) × (e ≡ Error.InvalidValue)) }
-{
-    if code == 0x80 || code == 0xb3 {
-        Ok(ordinary)
-    } else {
-        Err(Error::InvalidValue)
-    }
-}
-
-/// The answer on the value after descriptors, with them.
-#[inline(always)]
-fn described(head: usize, base: Base, ordinary: usize) -> Result<usize, Error>
-    ensures { MatchResult result
-        (λ n. (takes_described base ≡ true) × ((is_length (head + ordinary) ≡ true) × (n ≡ head + ordinary)))
-        (λ e. ((e ≡ Error.TooLong) × (is_length (head + ordinary) ≡ false)) ⊎ ((e ≡ Error.InvalidValue) × (takes_described base ≡ false))) }
-{
-    if !base.takes_described() {
-        return Err(Error::InvalidValue);
-    }
-    match head.checked_add(ordinary) {
-        Some(whole) => Ok(whole),
-        None => Err(Error::TooLong),
-    }
+    pub(crate) place: Under,
 }
 
 impl SizeSerializer {
-    ghost use Rattle.amqp_size.specs.Place.{outer, rest};
-    ghost use Rattle.amqp_size.specs.Counted.{at_place};
-    ghost use Rattle.amqp_ser.specs.Permitted.{refuses_none};
-
     /// A serializer at the root.
     #[inline(always)]
     pub fn new() -> SizeSerializer
@@ -72,90 +33,6 @@ impl SizeSerializer {
         SizeSerializer {
             place: Under::Plain(Place::Root),
         }
-    }
-
-    /// The answer on a writable tree with this constructor and these lengths, at a place.
-    #[inline(always)]
-    fn accept(
-        &mut self,
-        place: Place,
-        code: u8,
-        ordinary: usize,
-        wide: usize,
-    ) -> Result<usize, Error>
-        ensures { (t : Tree) → con t ≡ Some code → within t ≡ true → alike t ≡ true → inside t ≡ true → placed t ≡ true →
-            length (enc t) ≡ ordinary → length (payload t) ≡ wide → at_place place (Some t) result self.new.place }
-    {
-        self.place = Under::Plain(place.rest());
-        match place {
-            Place::Root => Ok(ordinary),
-            Place::Inside => Ok(ordinary),
-            Place::First => {
-                self.place = Under::Plain(Place::Element(code));
-                Ok(wide)
-            }
-            Place::Element(c) => {
-                if c == code {
-                    Ok(wide)
-                } else {
-                    Err(Error::InvalidValue)
-                }
-            }
-            Place::Descriptor => descriptor(code, ordinary),
-            Place::Value(head, base) => described(head, base, ordinary),
-        }
-    }
-
-    /// The answer on a text or a binary with this constructor and length.
-    #[inline(always)]
-    fn text(&mut self, place: Place, code: u8, n: usize) -> Result<usize, Error>
-        ensures { (t : Tree) → con t ≡ Some code → alike t ≡ true → inside t ≡ true → placed t ≡ true → within t ≡ fits n →
-            length (enc t) ≡ text_width n → length (payload t) ≡ n + 4 → at_place place (Some t) result self.new.place }
-    {
-        if n > LONGEST {
-            self.place = Under::Plain(place.rest());
-            return Err(Error::TooLong);
-        }
-        self.accept(place, code, text_width(n), n + 4)
-    }
-
-    /// The answer on a variant whose payload has this length.
-    #[inline(always)]
-    fn variant(&mut self, place: Place, index: u32, size: usize) -> Result<usize, Error>
-        ensures { (t v : Tree) → con t ≡ Some 0xd1 → alike t ≡ true → inside t ≡ true → placed t ≡ true → within v ≡ true →
-            within t ≡ (fits (uint_width index + size) && within v) → length (enc t) ≡ map_width (uint_width index + size) →
-            length (payload t) ≡ uint_width index + size + 8 → at_place place (Some t) result self.new.place }
-    {
-        let head = uint_width(index);
-        if size > LONGEST - head {
-            self.place = Under::Plain(place.rest());
-            return Err(Error::TooLong);
-        }
-        let body = head + size;
-        self.accept(place, 0xd1, map_width(body), body + 8)
-    }
-
-    /// The answer on a transparent vector whose elements have this length: it stands at the root alone.
-    #[inline(always)]
-    fn transparent(&mut self, place: Place, sum: usize) -> Result<usize, Error>
-        ensures { (ts : Trees) → within_each ts ≡ true → alike_each ts ≡ true → placed_each ts ≡ true → sum ≡ length (enc_each ts) →
-            at_place place (Some (transparent ts)) result self.new.place }
-    {
-        self.place = Under::Plain(place.rest());
-        match place {
-            Place::Root => Ok(sum),
-            _ => Err(Error::InvalidValue),
-        }
-    }
-
-    /// Refuses a value that its marker does not take.
-    #[inline(always)]
-    fn refuse(&mut self) -> Result<usize, Error>
-        ensures place { self.new.place ≡ Under.Plain (rest (outer self.old.place)) }
-        ensures refused { result ≡ Err Error.InvalidValue }
-    {
-        self.place = Under::Plain(self.place.outer().rest());
-        Err(Error::InvalidValue)
     }
 }
 
@@ -302,8 +179,8 @@ impl Serializer for SizeSerializer {
         ensures same { IfErr part (λ e. (result ≡ Err e) × ((held.new ≡ held.old) × (self.new.place ≡ Under.Plain (rest held.old.place)))) }
     {
         self.place = Under::Plain(held.place().rest());
-        let size = part?;
-        held.describe(size)
+        let descriptor = part?;
+        held.describe(descriptor)
     }
 
     #[inline(always)]

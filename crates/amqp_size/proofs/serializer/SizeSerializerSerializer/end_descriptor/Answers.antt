@@ -51,8 +51,8 @@ pub returns-clause-step : goal.returns-clause-step
 returns-clause-step c = λ start before d w r.
     let held = c.args.held.now in
     let after = c.args.self.now.place in
-    let n = c.in_ok-size.size in
+    let n = c.in_ok-descriptor.descriptor in
     let here = subst (λ u. at_place (outer u) (meant u d) c.args.part after) w.1 r in
-    let counted = counted_descriptor d n after (subst (λ p. at_place place.Descriptor d p after) c.in_ok-size.was here) in
+    let counted = counted_descriptor d n after (subst (λ p. at_place place.Descriptor d p after) c.in_ok-descriptor.was here) in
     let t = c.describe.ensures in
     known start _ held c.describe.new.self n counted.0 d c.describe.result w.0 (ap Plain (c.rest.ensures ∙ ap rest c.place.ensures)) counted.1.0 counted.1.1.0 counted.1.1.1 t.place t.shape t.count t.kept
