@@ -133,6 +133,7 @@ impl Feed for MarkedBasic {
     }
 }
 
+#[derive(Drop)]
 struct Misplaced(TransparentVec<bool>);
 
 impl Feed for Misplaced {
@@ -147,6 +148,7 @@ impl Feed for Misplaced {
     }
 }
 
+#[derive(Drop)]
 struct MisplacedValue(TransparentVec<bool>);
 
 impl Feed for MisplacedValue {
