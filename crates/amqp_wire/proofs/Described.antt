@@ -6,6 +6,7 @@ use Rattle.amqp_data.specs.declared.error.Error.TheVariants.{OutOfMemory}
 use Rattle.amqp_ser.specs.Tree.{Tree, Descriptor, scalar, list, array, map, described, variant, lazy, transparent}
 use Rattle.amqp_ser.specs.Composites.{as_described, descriptor_of}
 use Rattle.amqp_ser.specs.declared.kind.Kind.TheVariants as kinds
+use Rattle.amqp_ser.proofs.Bools.{both}
 use Rattle.amqp_size.specs.Place.{outer, meant, rest, described_place, described_under, plainly}
 use Rattle.amqp_size.specs.Counted.{at_place, size_permits, size_has, HoldsBare}
 use Rattle.amqp_size.specs.declared.place.Place.{Place}
@@ -18,12 +19,14 @@ use Rattle.amqp_size.specs.declared.open_compound.Open.{Open}
 use Rattle.amqp_wire.specs.Entries.{entries}
 use Rattle.amqp_wire.specs.Listed.{listed, counts_tree, headers_permits, headers_has}
 use Rattle.amqp_wire.specs.declared.table.Header.{Header}
+use Rattle.amqp_wire.specs.Solid.{is_opaque, solid}
 use Rattle.amqp_wire.specs.Written.{Extends}
 use Rattle.amqp_wire.specs.declared.headers.Headers.{Headers}
 use Rattle.amqp_wire.specs.declared.headers.Counting.{Counting}
 use Rattle.amqp_size.proofs.Described.{described_rest}
 use Rattle.amqp_wire.proofs.Few.{no_false}
 use Rattle.amqp_wire.proofs.Held.{held_bare}
+use Rattle.amqp_wire.proofs.Made.{suits_placed, inside_opaque}
 use Rattle.amqp_wire.proofs.Tabling.{lone_open}
 
 pub descriptor_entries : (t : Tree) → is_some (descriptor_of (Some t)) ≡ true → entries t ≡ []
@@ -54,22 +57,22 @@ plain_place (place.Element c) v n h = (place.Value (n + 1) (base.Element c), cc)
 plain_place place.Descriptor v n h = let no : None ≡ Some v = h in cc
 plain_place (place.Value k b) v n h = (place.Value (k + (n + 1)) b, cc)
 
-of_value : (x : Descriptor) (t : Option Tree) (b a : List Header) → listed t b a → listed (as_described (Some x) t) b a
-of_value x None b a h = absurd h
-of_value x (Some t) b a h = h
+of_value : (p : Place) (x : Descriptor) (t : Option Tree) (m : ℕ) (after : Under) (b a : List Header) → at_place p (as_described (Some x) t) (Ok m) after → listed t b a → listed (as_described (Some x) t) b a
+of_value p x None m after b a k h = absurd h
+of_value p x (Some t) m after b a k h = (h.0, both (is_opaque t) (solid t) (inside_opaque t (suits_placed p (described x t) k.suited)) h.1)
 
 none_listed : (v : Under) (p : Place) (t : Option Tree) (b a : List Header) → Some (under.Nothing p) ≡ Some v → listed (meant v t) b a → ⊥
 none_listed v p t b a e h = let q : under.Nothing p ≡ v = cc in subst (λ w. listed (meant w t) b a) (sym q) h
 
 -- a described value has the headers of the value
-pub described_listed : (u v : Under) (n : ℕ) (x : Descriptor) (t : Option Tree) (b a : List Header) → described_under u n ≡ Some v → listed (meant v t) b a → listed (meant u (as_described (Some x) t)) b a
-described_listed (under.Plain p) v n x t b a e h =
+pub described_listed : (u v : Under) (n : ℕ) (x : Descriptor) (t : Option Tree) (l : ℕ) (after : Under) (b a : List Header) → described_under u n ≡ Some v → at_place (outer u) (meant u (as_described (Some x) t)) (Ok l) after → listed (meant v t) b a → listed (meant u (as_described (Some x) t)) b a
+described_listed (under.Plain p) v n x t l after b a e k h =
     let q = plain_place p v n e in
-    of_value x t b a (subst (λ w. listed (meant w t) b a) (sym q.1) h)
-described_listed (under.Array p) v n x t b a e h = absurd (none_listed v p t b a e h)
-described_listed (under.Transparent p) v n x t b a e h = absurd (none_listed v p t b a e h)
-described_listed (under.Scalar m p) v n x t b a e h = absurd (none_listed v p t b a e h)
-described_listed (under.Nothing p) v n x t b a e h = absurd (none_listed v p t b a e h)
+    of_value p x t l after b a k (subst (λ w. listed (meant w t) b a) (sym q.1) h)
+described_listed (under.Array p) v n x t l after b a e k h = absurd (none_listed v p t b a e h)
+described_listed (under.Transparent p) v n x t l after b a e k h = absurd (none_listed v p t b a e h)
+described_listed (under.Scalar m p) v n x t l after b a e k h = absurd (none_listed v p t b a e h)
+described_listed (under.Nothing p) v n x t l after b a e k h = absurd (none_listed v p t b a e h)
 
 -- the value to come is described
 pub described_value : (start before self after : Headers) (held new : Counting) (d : Option Tree) (part : Result ℕ Error) (res : Result (Unit {0}) Error) (u : Unit {0}) (X : Error → Type 0) →
@@ -92,12 +95,17 @@ described_value start before self after held new d (Ok n) res u X h at same l ta
         (t : Option Tree) → ((r : Result ℕ Error) (a : SizeSerializer) → size_permits mid t r a → size_permits start.size (as_described (descriptor_of d) t) r a) →
         (r : Result ℕ Error) (a : Headers) → headers_permits (record { size = mid; table = self.table }) t r a → headers_permits start (as_described (descriptor_of d) t) r a
     lift x o mid e b t g (Ok v) a p =
-        let there = subst (λ y. listed (meant mid.place t) y a.table.headers.items) b p.1.1 in
-        (subst (λ y. Extends y a.table.headers.items) b p.0, (g (Ok v) a.size p.1.0,
-          subst (λ y. listed (meant start.size.place (as_described y t)) start.table.headers.items a.table.headers.items) (sym o) (described_listed start.size.place mid.place n x t start.table.headers.items a.table.headers.items e there)))
-    lift x o mid e b t g (Err v) a p =
-        (subst (λ y. Extends y a.table.headers.items) b p.0,
-          elim p.1 [ inl y ↦ inl (y.0, y.1 ∙ ap under.Plain (sym (described_rest start.size.place mid.place n e))) | inr z ↦ inr (g (Err v) a.size z) ])
+        let there = subst (λ y. listed (meant mid.place t) y a.table.headers.items) b p.1.1 in (
+          subst (λ y. Extends y a.table.headers.items) b p.0,
+          (
+            g (Ok v) a.size p.1.0,
+            subst (λ y. listed (meant start.size.place (as_described y t)) start.table.headers.items a.table.headers.items) (sym o) (described_listed start.size.place mid.place n x t v a.size.place start.table.headers.items a.table.headers.items e (subst (λ y. at_place (outer start.size.place) (meant start.size.place (as_described y t)) (Ok v) a.size.place) o (g (Ok v) a.size p.1.0)) there),
+          ),
+        )
+    lift x o mid e b t g (Err v) a p = (
+      subst (λ y. Extends y a.table.headers.items) b p.0,
+      elim p.1 [ inl y ↦ inl (y.0, y.1 ∙ ap under.Plain (sym (described_rest start.size.place mid.place n e))) | inr z ↦ inr (g (Err v) a.size z) ],
+    )
 
 -- the refusal of a descriptor is one of the described value
 pub refusal_of_descriptor : (start before self after : Headers) (held new : Open) (d : Option Tree) (part : Result ℕ Error) (res : Result (Unit {0}) Error) (e : Error) →

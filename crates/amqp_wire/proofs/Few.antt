@@ -7,6 +7,7 @@ use Rattle.amqp_ser.specs.Scalars.{scalar_form, sized, signed_bytes, is_small}
 use Rattle.amqp_ser.specs.Encoding.{enc, enc_each, enc_pairs, payload_each, first_con, counted, list_form, wide}
 use Rattle.amqp_ser.specs.Writable.{inside, inside_each}
 use Rattle.amqp_ser.proofs.Bools.{left_true, right_true, is_le}
+use Rattle.amqp_size.specs.declared.place.Place.TheVariants.{Root}
 use Rattle.amqp_wire.specs.Solid.{solid, solid_each}
 
 pub no_false : false ≡ true → ⊥
@@ -62,9 +63,9 @@ one_byte (variant n t) i h = counted_some 0xc1 0xd1 2 (scalar_form (uint n) ++ e
 one_byte (lazy bs) i h = is_le 1 (length bs) h
 one_byte (transparent ts) i h = absurd (no_false i)
 
-pub few : (ts : Trees) → inside_each ts ≡ true → solid_each false ts ≡ true → count ts ≤ length (enc_each ts)
+pub few : (ts : Trees) → inside_each ts ≡ true → solid_each Root ts ≡ true → count ts ≤ length (enc_each ts)
 few no_trees i h = omega arith
 few (more t ts) i h =
-    let one = one_byte t (left_true (inside t) (inside_each ts) i) (left_true (solid t) (solid_each false ts) h) in
-    let rest = few ts (right_true (inside t) (inside_each ts) i) (right_true (solid t) (solid_each false ts) h) in
+    let one = one_byte t (left_true (inside t) (inside_each ts) i) (left_true (solid t) (solid_each Root ts) h) in
+    let rest = few ts (right_true (inside t) (inside_each ts) i) (right_true (solid t) (solid_each Root ts) h) in
     simp length-append (omega arith)

@@ -11,6 +11,7 @@ use Rattle.amqp_ser.proofs.Bools.{left_true, both, is_le}
 use Rattle.amqp_ser.proofs.Joins.{join, joined, all_trees-append, count-join}
 use Rattle.amqp_size.specs.Place.{outer, meant, rest, shape_of, is_array, con_of}
 use Rattle.amqp_size.specs.Counted.{size_permits, size_has, at_place, Holds, HoldsTransparent, Holding, content, inner_of}
+use Rattle.amqp_size.specs.declared.place.Place.TheVariants.{Root}
 use Rattle.amqp_size.specs.declared.place.Shape.{Shape}
 use Rattle.amqp_size.specs.declared.place.Under.TheVariants.{Plain}
 use Rattle.amqp_size.specs.declared.serializer.SizeSerializer.{SizeSerializer}
@@ -38,10 +39,10 @@ same_trees : (ps : List (Option Tree)) (ts us : Trees) → all_trees ps ≡ Some
 same_trees ps ts us a b = let e : Some ts ≡ Some us = sym a ∙ b in cc
 
 -- a compound has parts of a count of four bytes
-pub few_fed : (start : SizeSerializer) (kind : Kind) (held : Open) (ps : List (Option Tree)) → Holds start kind held ps → (ts : Trees) → all_trees ps ≡ Some ts → solid_each false ts ≡ true → count ts ≤ 4294967295
+pub few_fed : (start : SizeSerializer) (kind : Kind) (held : Open) (ps : List (Option Tree)) → Holds start kind held ps → (ts : Trees) → all_trees ps ≡ Some ts → solid_each Root ts ≡ true → count ts ≤ 4294967295
 few_fed start kind held ps h ts e s =
     let same = same_trees ps ts h.ts e h.trees in
-    let l = few_parts start kind held ps h (ap (solid_each false) (sym same) ∙ s) in
+    let l = few_parts start kind held ps h (ap (solid_each Root) (sym same) ∙ s) in
     let n = ap count same in omega arith
 
 -- a table with a tree's headers at its end
@@ -62,14 +63,14 @@ part_listed start kind table after held new ps (Some t) ts e h l m at last parts
     let grown : after ≡ start.table.headers.items ++ (q.0 ++ entries_each all) =
     l.0 ∙ ap (λ x. x ++ entries t) q.1.1 ∙ append_assoc start.table.headers.items (q.0 ++ entries_each ts) (entries t)
     ∙ ap (λ x. start.table.headers.items ++ x) (append_assoc q.0 (entries_each ts) (entries t) ∙ ap (λ x. q.0 ++ x) (sym each)) in
-    let solids : solid_each false all ≡ true = solid-join false ts (more t no_trees) ∙ both (solid_each false ts) (solid_each false (more t no_trees)) (h.solid_parts ts e) (both (solid t) true l.1 refl) in
+    let solids : solid_each Root all ≡ true = solid-join Root ts (more t no_trees) ∙ both (solid_each Root ts) (solid_each Root (more t no_trees)) (h.solid_parts ts e) (both (solid t) true l.1 refl) in
     let n : count all ≡ count ts + 1 = let j = count-join ts (more t no_trees) in omega arith in
     let counted : count all ≤ 4294967295 → new.parts ≡ count all = λ fit. let c = h.counted ts e (omega arith) in let p = parts (omega arith) in omega arith in
     record {
       at = at ∙ h.at;
       extends = extends-more start.table.headers.items table after h.extends (entries t, l.0);
       counted = λ us f. subst (λ x. count x ≤ 4294967295 → new.parts ≡ count x) (same_trees (ps ++ (Some t ∷ [])) all us are f) counted;
-      solid_parts = λ us f. subst (λ x. solid_each false x ≡ true) (same_trees (ps ++ (Some t ∷ [])) all us are f) solids;
+      solid_parts = λ us f. subst (λ x. solid_each Root x ≡ true) (same_trees (ps ++ (Some t ∷ [])) all us are f) solids;
       listed = λ _ us f. (q.0, (q.1.0, grown ∙ ap (λ w. start.table.headers.items ++ (q.0 ++ entries_each w)) (same_trees (ps ++ (Some t ∷ [])) all us are f)));
       back = λ odd qs r f.
           let same : ps ≡ qs = same_front ps qs (Some t) r f in
@@ -119,19 +120,19 @@ table_undone start table cut held new ps p us ts a d h few even c at missed part
     let same : cut ≡ b.old = c ∙ ap (take held.last) b.until.1 ∙ take_front b.old b.until.0 held.last b.len in
     let f = front_trees ps p us ts a d in
     let n : count ts ≡ count us + 1 = let j = count-join us (more f.0 no_trees) in let k = ap count f.1 in omega arith in
-    let solids : solid_each false us ≡ true = left_true (solid_each false us) (solid_each false (more f.0 no_trees)) (sym (solid-join false us (more f.0 no_trees)) ∙ ap (solid_each false) f.1 ∙ h.solid_parts ts d) in
+    let solids : solid_each Root us ≡ true = left_true (solid_each Root us) (solid_each Root (more f.0 no_trees)) (sym (solid-join Root us (more f.0 no_trees)) ∙ ap (solid_each Root) f.1 ∙ h.solid_parts ts d) in
     let counted : new.parts ≡ count us = let k = h.counted ts d few in omega arith in
     record {
       at = at ∙ h.at;
       extends = subst (λ x. Extends start.table.headers.items x) (sym same) b.since;
       counted = λ ws e fit. counted ∙ ap count (same_trees ps us ws a e);
-      solid_parts = λ ws e. subst (λ x. solid_each false x ≡ true) (same_trees ps us ws a e) solids;
+      solid_parts = λ ws e. subst (λ x. solid_each Root x ≡ true) (same_trees ps us ws a e) solids;
       listed = λ m ws e. let q = b.listed (sym missed ∙ m) ws e in (q.0, (q.1.0, same ∙ q.1.1));
       back = λ odd qs r e. let no : true ≡ false = sym even ∙ odd in cc;
     }
 
 -- an answer on the whole, with the table of the whole
-whole_listed : (start after : Headers) (kind : Kind) (ts : Trees) (n m len : ℕ) (c : Option ℕ) (o : Option Tree) → is_bare kind ≡ false → meant start.size.place (as_kind kind (Some ts)) ≡ o → solid_each false ts ≡ true →
+whole_listed : (start after : Headers) (kind : Kind) (ts : Trees) (n m len : ℕ) (c : Option ℕ) (o : Option Tree) → is_bare kind ≡ false → meant start.size.place (as_kind kind (Some ts)) ≡ o → solid_each Root ts ≡ true →
     made (shape_of start.size.place kind) (header n m c) ≡ heads (shape_of start.size.place kind) ts → at_place (outer start.size.place) o (Ok len) after.size.place →
     (made_fits (shape_of start.size.place kind) n → after.table.headers.items ≡ start.table.headers.items ++ (heads (shape_of start.size.place kind) ts ++ entries_each ts)) →
     listed o start.table.headers.items after.table.headers.items
@@ -140,11 +141,11 @@ whole_listed start after kind ts n m len c (Some x) bare w s right h f =
     let u = start.size.place in
     let sh = shape_of u kind in
     let solids = solid_whole u kind ts x bare w s (suits_placed (outer u) x h.suited) h.alike_it in
-    let small = (spelled false u kind ts x bare w (within_there (outer u) x h.within_it) solids).small in
+    let small = (spelled Root u kind ts x bare w (within_there (outer u) x h.within_it) solids).small in
     (f (made_small sh ts n m c right small) ∙ ap (λ es. start.table.headers.items ++ es) (sym (split u kind ts x bare w)), solids)
 
 -- what was counted makes the headers of the compound
-counted_right : (start : Headers) (kind : Kind) (held : Counting) (ps : List (Option Tree)) (ts : Trees) (n m : ℕ) (c : Option ℕ) → is_bare kind ≡ false → Holding start.size kind held.size ps → all_trees ps ≡ Some ts → solid_each false ts ≡ true →
+counted_right : (start : Headers) (kind : Kind) (held : Counting) (ps : List (Option Tree)) (ts : Trees) (n m : ℕ) (c : Option ℕ) → is_bare kind ≡ false → Holding start.size kind held.size ps → all_trees ps ≡ Some ts → solid_each Root ts ≡ true →
     (held.size.sum ≤ 4294967291 → n ≡ held.size.sum) → (count ts ≤ 4294967295 → m ≡ count ts) → c ≡ con_of (outer held.size.inner) → made (shape_of start.size.place kind) (header n m c) ≡ heads (shape_of start.size.place kind) ts
 counted_right start kind held ps ts n m c bare h e s a b d = elim h [ inl w ↦ gathered w | inr w ↦ elim w [ inl v ↦ transparent v | inr v ↦ absurd (never_bare kind v.kind_is bare) ] ]
   where

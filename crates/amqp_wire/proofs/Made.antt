@@ -27,7 +27,7 @@ use Rattle.amqp_size.proofs.Whole.{refused_shape}
 use Rattle.amqp_wire.specs.Entries.{header, heads, places, made, made_fits, first_constructor}
 use Rattle.amqp_wire.specs.Heads.{small_heads}
 use Rattle.amqp_wire.specs.Listed.{fills}
-use Rattle.amqp_wire.specs.Solid.{dense, elemental, solid, solid_each, solid_pairs}
+use Rattle.amqp_wire.specs.Solid.{dense, is_opaque, solid, solid_each, solid_pairs}
 use Rattle.amqp_wire.specs.Standing.{is_bare}
 use Rattle.amqp_wire.specs.declared.table.Header.{Header}
 use Rattle.amqp_wire.proofs.Few.{few, no_false}
@@ -129,21 +129,39 @@ within_there (place.Element c) t h = h
 within_there place.Descriptor t h = h
 within_there (place.Value n b) t h = right_true (is_length (n + length (enc t))) (within t) h
 
-solid_list : (ts : Trees) → inside_each ts ≡ true → solid_each false ts ≡ true → solid (list ts) ≡ true
-solid_list ts i s = both (dense (count ts) (enc_each ts)) (solid_each false ts) (le_true (count ts) (length (enc_each ts)) (few ts i s)) s
+pub inside_opaque : (t : Tree) → inside t ≡ true → is_opaque t ≡ true
+inside_opaque (scalar s) h = refl
+inside_opaque (list ts) h = refl
+inside_opaque (array ts) h = refl
+inside_opaque (map ps) h = refl
+inside_opaque (described d t) h = refl
+inside_opaque (variant i t) h = refl
+inside_opaque (lazy bs) h = refl
+inside_opaque (transparent ts) h = absurd (no_false h)
 
-solid_map : (ts : Trees) (t : Tree) (o : Option Pairs) → in_pairs ts ≡ o → as_map o ≡ Some t → solid_each false ts ≡ true → placed t ≡ true → solid t ≡ true
+solid_inside : (ts : Trees) → inside_each ts ≡ true → solid_each place.Root ts ≡ true → solid_each place.Inside ts ≡ true
+solid_inside no_trees i s = refl
+solid_inside (more t ts) i s =
+    both (is_opaque t && solid t) (solid_each place.Inside ts) (both (is_opaque t) (solid t) (inside_opaque t (left_true (inside t) (inside_each ts) i)) (left_true (solid t) (solid_each place.Root ts) s))
+    (solid_inside ts (right_true (inside t) (inside_each ts) i) (right_true (solid t) (solid_each place.Root ts) s))
+
+solid_list : (ts : Trees) → inside_each ts ≡ true → solid_each place.Root ts ≡ true → solid (list ts) ≡ true
+solid_list ts i s = both (dense (count ts) (enc_each ts)) (solid_each place.Inside ts) (le_true (count ts) (length (enc_each ts)) (few ts i s)) (solid_inside ts i s)
+
+solid_map : (ts : Trees) (t : Tree) (o : Option Pairs) → in_pairs ts ≡ o → as_map o ≡ Some t → solid_each place.Root ts ≡ true → placed t ≡ true → solid t ≡ true
 solid_map ts t None e h s = cc
 solid_map ts t (Some prs) e h s =
     let r = pairs_are ts prs e in
     let q : map prs ≡ t = cc in
     subst (λ x. placed x ≡ true → solid x ≡ true) q (λ i.
     let thick = le_true (count ts) (length (enc_each ts)) (few ts (sym r.inside_too ∙ i) s) in
-    both (dense (pair_count prs * 2) (enc_pairs prs)) (solid_pairs prs) (ap (dense (pair_count prs * 2)) r.bytes ∙ ap (λ n. dense n (enc_each ts)) r.counted ∙ thick) (r.solid_too ∙ s))
+    both (dense (pair_count prs * 2) (enc_pairs prs)) (solid_pairs prs) (ap (dense (pair_count prs * 2)) r.bytes ∙ ap (λ n. dense n (enc_each ts)) r.counted ∙ thick) (r.solid_too ∙ solid_inside ts (sym r.inside_too ∙ i) s))
 
-solid_only : (i : ℕ) (ts : Trees) (t : Tree) → as_variant i (only ts) ≡ Some t → solid_each false ts ≡ true → solid t ≡ true
+solid_only : (i : ℕ) (ts : Trees) (t : Tree) → as_variant i (only ts) ≡ Some t → solid_each place.Root ts ≡ true → placed t ≡ true → solid t ≡ true
 solid_only i no_trees t h s = cc
-solid_only i (more u no_trees) t h s = let q : variant i u ≡ t = cc in subst (λ x. solid x ≡ true) q (left_true (solid u) true s)
+solid_only i (more u no_trees) t h s =
+    let q : variant i u ≡ t = cc in
+    subst (λ x. placed x ≡ true → solid x ≡ true) q (λ p. both (is_opaque u) (solid u) (inside_opaque u p) (left_true (solid u) true s))
 solid_only i (more u (more v ts)) t h s = cc
 
 same_some : (c d : Option ℕ) → same_con c d ≡ true → is_some d ≡ true
@@ -151,13 +169,13 @@ same_some None d h = absurd (no_false h)
 same_some (Some c) None h = absurd (no_false h)
 same_some (Some c) (Some d) h = refl
 
-elements : (c : Option ℕ) (ts : Trees) → each_con c ts ≡ true → solid_each false ts ≡ true → solid_each true ts ≡ true
+elements : (c : Option ℕ) (ts : Trees) → each_con c ts ≡ true → solid_each place.Root ts ≡ true → solid_each place.First ts ≡ true
 elements c no_trees e s = refl
 elements c (more t ts) e s =
-    both (elemental true t && solid t) (solid_each true ts) (both (is_some (con t)) (solid t) (same_some c (con t) (left_true (same_con c (con t)) (each_con c ts) e)) (left_true (solid t) (solid_each false ts) s))
-        (elements c ts (right_true (same_con c (con t)) (each_con c ts) e) (right_true (solid t) (solid_each false ts) s))
+    both (is_some (con t) && solid t) (solid_each place.First ts) (both (is_some (con t)) (solid t) (same_some c (con t) (left_true (same_con c (con t)) (each_con c ts) e)) (left_true (solid t) (solid_each place.Root ts) s))
+    (elements c ts (right_true (same_con c (con t)) (each_con c ts) e) (right_true (solid t) (solid_each place.Root ts) s))
 
-solid_array : (ts : Trees) → one_con ts ≡ true → solid_each false ts ≡ true → solid_each true ts ≡ true
+solid_array : (ts : Trees) → one_con ts ≡ true → solid_each place.Root ts ≡ true → solid_each place.First ts ≡ true
 solid_array no_trees e s = refl
 solid_array (more t ts) e s = elements (con t) (more t ts) e s
 
@@ -165,12 +183,12 @@ is_not : (o : Option Tree) (t : Tree) → o ≡ None → o ≡ Some t → ⊥
 is_not o t a b = let no : None ≡ Some t = sym a ∙ b in cc
 
 -- a compound of solid parts is solid where it can stand
-pub solid_whole : (u : Under) (k : Kind) (ts : Trees) (t : Tree) → is_bare k ≡ false → meant u (as_kind k (Some ts)) ≡ Some t → solid_each false ts ≡ true → placed t ≡ true → alike t ≡ true → solid t ≡ true
+pub solid_whole : (u : Under) (k : Kind) (ts : Trees) (t : Tree) → is_bare k ≡ false → meant u (as_kind k (Some ts)) ≡ Some t → solid_each place.Root ts ≡ true → placed t ≡ true → alike t ≡ true → solid t ≡ true
 solid_whole u kinds.Bare ts t b h s = cc
 solid_whole (under.Plain p) kinds.List ts t b h s = let q : list ts ≡ t = cc in subst (λ x. placed x ≡ true → alike x ≡ true → solid x ≡ true) q (λ i a. solid_list ts i s)
 solid_whole (under.Plain p) kinds.Map ts t b h s = λ i a. solid_map ts t (in_pairs ts) refl h s i
 solid_whole (under.Plain p) (kinds.Fields i) ts t b h s = let q : variant i (list ts) ≡ t = cc in subst (λ x. placed x ≡ true → alike x ≡ true → solid x ≡ true) q (λ i a. solid_list ts i s)
-solid_whole (under.Plain p) (kinds.Only i) ts t b h s = λ i a. solid_only _ ts t h s
+solid_whole (under.Plain p) (kinds.Only i) ts t b h s = λ i a. solid_only _ ts t h s i
 solid_whole (under.Array p) kinds.List ts t b h s = let q : array ts ≡ t = cc in subst (λ x. placed x ≡ true → alike x ≡ true → solid x ≡ true) q (λ i a. solid_array ts (left_true (one_con ts) (alike_each ts) a) s)
 solid_whole (under.Transparent p) kinds.List ts t b h s = let q : transparent ts ≡ t = cc in subst (λ x. placed x ≡ true → alike x ≡ true → solid x ≡ true) q (λ i a. s)
 solid_whole (under.Array p) kinds.Map ts t b h s = absurd (is_not _ t (refused_shape (under.Array p) kinds.Map (Some ts) refl) h)
@@ -186,7 +204,7 @@ solid_whole (under.Scalar m p) (kinds.Only i) ts t b h s = absurd (is_not _ t (r
 solid_whole (under.Nothing p) k ts t b h s = absurd (is_not _ t refl h)
 
 -- the parts of a compound have a count of four bytes
-pub few_parts : (start : SizeSerializer) (kind : Kind) (held : Open) (ps : List (Option Tree)) (h : Holds start kind held ps) → solid_each false h.ts ≡ true → count h.ts ≤ 4294967295
+pub few_parts : (start : SizeSerializer) (kind : Kind) (held : Open) (ps : List (Option Tree)) (h : Holds start kind held ps) → solid_each place.Root h.ts ≡ true → count h.ts ≤ 4294967295
 few_parts start kind held ps h s = go (is_array held.shape) h.fed.sum h.fed.counted
   where
     go : (a : Bool) → held.sum ≡ length (content a h.ts) → held.count ≡ counts a h.ts → count h.ts ≤ 4294967295

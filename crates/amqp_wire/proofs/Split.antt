@@ -9,12 +9,13 @@ use Rattle.amqp_ser.specs.declared.kind.Kind.{Kind}
 use Rattle.amqp_ser.specs.declared.kind.Kind.TheVariants as kinds
 use Rattle.amqp_ser.proofs.Joins.{join}
 use Rattle.amqp_size.specs.Place.{meant, shape_of}
+use Rattle.amqp_size.specs.declared.place.Place.TheVariants.{Inside}
 use Rattle.amqp_size.specs.declared.place.Under.{Under}
 use Rattle.amqp_size.specs.declared.place.Under.TheVariants as under
 use Rattle.amqp_size.specs.declared.place.Shape.TheVariants as shape
 use Rattle.amqp_size.proofs.Whole.{refused_shape}
 use Rattle.amqp_wire.specs.Entries.{header, entries, entries_each, entries_pairs, heads}
-use Rattle.amqp_wire.specs.Solid.{solid, solid_each, solid_pairs}
+use Rattle.amqp_wire.specs.Solid.{is_opaque, solid, solid_each, solid_pairs}
 use Rattle.amqp_wire.specs.Standing.{is_bare}
 
 -- keys and values in turn, as trees and as pairs
@@ -23,7 +24,7 @@ pub record Paired (ts : Trees) (prs : Pairs) : Type 0 where
   pub counted : pair_count prs * 2 ≡ count ts
   pub entered : entries_pairs prs ≡ entries_each ts
   pub within_too : within_pairs prs ≡ within_each ts
-  pub solid_too : solid_pairs prs ≡ solid_each false ts
+  pub solid_too : solid_pairs prs ≡ solid_each Inside ts
   pub inside_too : inside_pairs prs ≡ inside_each ts
 
 one_pair : (k v : Tree) (ts : Trees) (prs : Pairs) (o : Option Pairs) → ((qs : Pairs) → o ≡ Some qs → Paired ts qs) → before_pairs k v o ≡ Some prs → Paired (more k (more v ts)) prs
@@ -37,7 +38,7 @@ one_pair k v ts prs (Some qs) f w =
       counted = omega arith;
       entered = ap (λ es. entries k ++ (entries v ++ es)) r.entered;
       within_too = ap (λ b. within k && (within v && b)) r.within_too;
-      solid_too = ap (λ b. solid k && (solid v && b)) r.solid_too;
+      solid_too = ap (λ b. (is_opaque k && solid k) && ((is_opaque v && solid v) && b)) r.solid_too;
       inside_too = ap (λ b. inside k && (inside v && b)) r.inside_too;
     })
 

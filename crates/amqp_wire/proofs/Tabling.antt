@@ -7,6 +7,7 @@ use Rattle.amqp_ser.specs.declared.kind.Kind.{Kind}
 use Rattle.amqp_ser.specs.declared.kind.Kind.TheVariants as kinds
 use Rattle.amqp_size.specs.Place.{outer, meant, rest, shape_of, con_of}
 use Rattle.amqp_size.specs.Counted.{at_place, size_permits, HoldsBare, Holding, bare_parts}
+use Rattle.amqp_size.specs.declared.place.Place.TheVariants.{Root}
 use Rattle.amqp_size.specs.declared.place.Shape.{Shape}
 use Rattle.amqp_size.specs.declared.place.Shape.TheVariants as shape
 use Rattle.amqp_size.specs.declared.place.Under.{Under}
@@ -48,7 +49,7 @@ table_open start kind table held a at parts =
       at = at;
       extends = appended_extends (places (shape_of start.size.place kind)) b held.missed table a;
       counted = λ ts e fit. let q : no_trees ≡ ts = cc in subst (λ x. held.parts ≡ count x) q parts;
-      solid_parts = λ ts e. let q : no_trees ≡ ts = cc in subst (λ x. solid_each false x ≡ true) q refl;
+      solid_parts = λ ts e. let q : no_trees ≡ ts = cc in subst (λ x. solid_each Root x ≡ true) q refl;
       listed = λ m ts e.
           let w = appended_listed (places (shape_of start.size.place kind)) b held.missed table a m in
           let q : no_trees ≡ ts = cc in
@@ -97,16 +98,20 @@ whole_tabled true start kind table after held ps n m len c k h t miss done a b d
     let is = bare_kind kind k in
     let l = lone_whole start table ps t (subst (λ x. complete x ps ≡ true) is done) in
     subst (λ x. listed (meant start.size.place (whole x ps)) start.table.headers.items after.table.headers.items) (sym is)
-        (subst (λ x. listed (meant start.size.place (whole kinds.Bare ps)) start.table.headers.items x) (sym (none (ap places w.shape))) l)
+    (subst (λ x. listed (meant start.size.place (whole kinds.Bare ps)) start.table.headers.items x) (sym (none (ap places w.shape))) l)
 whole_tabled false start kind table after held ps n m len c k h t miss done a b d f none p =
     all_listed start kind table after held ps n m len c k h t miss a b d f p
 
 -- the same answers where the serializer stands at the same place over the same table
 pub permits_same : (start s : Headers) (o : Option Tree) (r : Result ℕ Error) (after : Headers) → s.size.place ≡ start.size.place → s.table.headers.items ≡ start.table.headers.items → headers_permits s o r after → headers_permits start o r after
-permits_same start s o (Ok n) after e f h =
-    (subst (λ x. Extends x after.table.headers.items) f h.0,
-      (subst (λ u. at_place (outer u) (meant u o) (Ok n) after.size.place) e h.1.0,
-        subst (λ u. listed (meant u o) start.table.headers.items after.table.headers.items) e (subst (λ x. listed (meant s.size.place o) x after.table.headers.items) f h.1.1)))
-permits_same start s o (Err x) after e f h =
-    (subst (λ x. Extends x after.table.headers.items) f h.0,
-      elim h.1 [ inl m ↦ inl (m.0, m.1 ∙ ap (λ u. Plain (rest (outer u))) e) | inr w ↦ inr (subst (λ u. at_place (outer u) (meant u o) (Err x) after.size.place) e w) ])
+permits_same start s o (Ok n) after e f h = (
+  subst (λ x. Extends x after.table.headers.items) f h.0,
+  (
+    subst (λ u. at_place (outer u) (meant u o) (Ok n) after.size.place) e h.1.0,
+    subst (λ u. listed (meant u o) start.table.headers.items after.table.headers.items) e (subst (λ x. listed (meant s.size.place o) x after.table.headers.items) f h.1.1),
+  ),
+)
+permits_same start s o (Err x) after e f h = (
+  subst (λ x. Extends x after.table.headers.items) f h.0,
+  elim h.1 [ inl m ↦ inl (m.0, m.1 ∙ ap (λ u. Plain (rest (outer u))) e) | inr w ↦ inr (subst (λ u. at_place (outer u) (meant u o) (Err x) after.size.place) e w) ],
+)

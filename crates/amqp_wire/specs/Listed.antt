@@ -7,6 +7,7 @@ use Rattle.amqp_ser.specs.Compounds.{all_trees, paired}
 use Rattle.amqp_ser.specs.declared.kind.Kind.{Kind}
 use Rattle.amqp_size.specs.Place.{outer, meant, rest, shape_of}
 use Rattle.amqp_size.specs.Counted.{size_permits, size_has, size_awaits, size_awaits_descriptor}
+use Rattle.amqp_size.specs.declared.place.Place.TheVariants.{Root}
 use Rattle.amqp_size.specs.declared.place.Under.TheVariants.{Plain}
 use Rattle.amqp_wire.specs.Entries.{entries, entries_each, places}
 use Rattle.amqp_wire.specs.Solid.{solid, solid_each}
@@ -56,7 +57,7 @@ pub record Tabled (start : Headers) (kind : Kind) (table : List Header) (held : 
   pub at : held.at ≡ length start.table.headers.items
   pub extends : Extends start.table.headers.items table
   pub counted : (ts : Trees) → all_trees ps ≡ Some ts → count ts ≤ 4294967295 → held.parts ≡ count ts
-  pub solid_parts : (ts : Trees) → all_trees ps ≡ Some ts → solid_each false ts ≡ true
+  pub solid_parts : (ts : Trees) → all_trees ps ≡ Some ts → solid_each Root ts ≡ true
   pub listed : lists_parts start kind held table ps
   pub back : paired ps ≡ false → (qs : List (Option Tree)) (q : Option Tree) → ps ≡ qs ++ (q ∷ []) → Before start kind table held qs
 

@@ -28,13 +28,25 @@ abbrev pub at_descriptor : Place → Bool
 at_descriptor places.Descriptor = true
 at_descriptor p = false
 
--- no compound is a descriptor
+-- no transparent vector stands but at the root
+abbrev pub inside_shape : Shape → Shape
+inside_shape shape.Transparent = shape.Refused
+inside_shape s = s
+
+-- and no compound is a descriptor
 abbrev pub shape_at : Place → Shape → Shape
+shape_at places.Root s = s
 shape_at places.Descriptor s = shape.Refused
-shape_at p s = s
+shape_at p s = inside_shape s
 
 abbrev pub opened_as : Under → Kind → Shape
 opened_as u k = shape_at (outer u) (shape_of u k)
+
+-- where the parts of such a compound stand
+abbrev pub part_place : Shape → Place
+part_place shape.Array = places.First
+part_place shape.Transparent = places.Root
+part_place s = places.Inside
 
 -- a described value may stand there
 abbrev pub stands_described : Place → Bool

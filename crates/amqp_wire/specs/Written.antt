@@ -7,7 +7,8 @@ use Rattle.amqp_ser.specs.Writable.{within, within_each}
 use Rattle.amqp_ser.specs.Compounds.{all_trees, paired}
 use Rattle.amqp_ser.specs.declared.kind.Kind.{Kind}
 use Rattle.amqp_ser.proofs.Joins.{join}
-use Rattle.amqp_size.specs.Place.{outer, is_array, inner_under}
+use Rattle.amqp_size.specs.Place.{outer, inner_under}
+use Rattle.amqp_size.specs.declared.place.Place.{Place}
 use Rattle.amqp_size.specs.declared.place.Place.TheVariants as places
 use Rattle.amqp_size.specs.declared.place.Under.TheVariants.{Plain, Nothing}
 use Rattle.amqp_size.specs.declared.place.Shape.{Shape}
@@ -15,7 +16,7 @@ use Rattle.amqp_size.specs.declared.place.Shape.TheVariants.{Refused}
 use Rattle.amqp_wire.specs.Entries.{entries, entries_each, heads}
 use Rattle.amqp_wire.specs.Heads.{in_array, bytes_at, opening, after_opening, small_heads}
 use Rattle.amqp_wire.specs.Solid.{solid_at, solid_each}
-use Rattle.amqp_wire.specs.Standing.{taken_as, opened_as, takes_described, is_bare}
+use Rattle.amqp_wire.specs.Standing.{taken_as, opened_as, part_place, takes_described, is_bare}
 use Rattle.amqp_wire.specs.declared.table.Header.{Header}
 use Rattle.amqp_wire.specs.declared.output.Output.{Output}
 use Rattle.amqp_wire.specs.declared.writer.Writer.{Writer}
@@ -50,30 +51,30 @@ abbrev pub opens : Bool → Shape → Output → List Header → Result (Unit {0
 opens a shape s hs r after = leads s (length hs) (opening a shape hs) r after
 
 -- the table and the room are this tree's
-pub record Meets (a : Bool) (s : Output) (t : Tree) : Type 0 where
+pub record Meets (p : Place) (s : Output) (t : Tree) : Type 0 where
   pub within_it : within t ≡ true
-  pub solid_it : solid_at a t ≡ true
+  pub solid_it : solid_at p t ≡ true
   pub rest : List Header
   pub listed : drop s.taken s.table.items ≡ entries t ++ rest
-  pub room : length s.out.items + length (bytes_at a t) ≤ vec_capacity s.out
+  pub room : length s.out.items + length (bytes_at (in_array p) t) ≤ vec_capacity s.out
 
-pub record Wrote (a : Bool) (s : Output) (t : Tree) (after : Output) : Type 0 where
-  pub out : after.out.items ≡ s.out.items ++ bytes_at a t
+pub record Wrote (p : Place) (s : Output) (t : Tree) (after : Output) : Type 0 where
+  pub out : after.out.items ≡ s.out.items ++ bytes_at (in_array p) t
   pub taken : after.taken ≡ s.taken + length (entries t)
 
-abbrev pub writes_tree : Bool → Output → Option Tree → Result (Unit {0}) Error → Output → Type 0
-writes_tree a s None (Ok u) after = ⊥
-writes_tree a s None (Err e) after = Unit {0}
-writes_tree a s (Some t) (Ok u) after = Meets a s t → Wrote a s t after
-writes_tree a s (Some t) (Err e) after = Meets a s t → ⊥
+abbrev pub writes_tree : Place → Output → Option Tree → Result (Unit {0}) Error → Output → Type 0
+writes_tree p s None (Ok u) after = ⊥
+writes_tree p s None (Err e) after = Unit {0}
+writes_tree p s (Some t) (Ok u) after = Meets p s t → Wrote p s t after
+writes_tree p s (Some t) (Err e) after = Meets p s t → ⊥
 
 abbrev pub writer_permits : Writer → Option Tree → Result (Unit {0}) Error → Writer → Type 0
-writer_permits s o r after = Kept s.output after.output × ((after.place ≡ Plain (outer s.place)) × writes_tree (in_array (outer s.place)) s.output (taken_as s.place o) r after.output)
+writer_permits s o r after = Kept s.output after.output × ((after.place ≡ Plain (outer s.place)) × writes_tree (outer s.place) s.output (taken_as s.place o) r after.output)
 
 -- the table and the room are those of a compound of these parts
 pub record Room (a : Bool) (shape : Shape) (s : Output) (ts : Trees) : Type 0 where
   pub within_parts : within_each ts ≡ true
-  pub solid_parts : solid_each (is_array shape) ts ≡ true
+  pub solid_parts : solid_each (part_place shape) ts ≡ true
   pub small : small_heads shape (heads shape ts)
   pub rest : List Header
   pub listed : drop s.taken s.table.items ≡ heads shape ts ++ (entries_each ts ++ rest)
@@ -117,7 +118,7 @@ pub record Alone (start : Writer) (s : Output) (held : Writing) (ps : List (Opti
   pub inner : held.inner ≡ start.place
   pub opened : held.refused ≡ false
   pub none : ps ≡ [] → Same start.output s
-  pub one : (p : Option Tree) → ps ≡ p ∷ [] → writes_tree (in_array (outer start.place)) start.output (taken_as start.place p) (Ok tt) s
+  pub one : (p : Option Tree) → ps ≡ p ∷ [] → writes_tree (outer start.place) start.output (taken_as start.place p) (Ok tt) s
 
 abbrev pub written_as : Bool → Writer → Kind → Output → Writing → List (Option Tree) → Type 0
 written_as true start kind s held ps = Alone start s held ps
@@ -135,7 +136,7 @@ writer_awaits start kind s held ps = (written_as (is_bare kind) start kind s.out
 
 -- no described value can be written there
 abbrev pub bars_described : Writer → Type 0
-bars_described start = (d : Descriptor) (t x : Tree) → taken_as start.place (Some (described d t)) ≡ Some x → Meets (in_array (outer start.place)) start.output x → ⊥
+bars_described start = (d : Descriptor) (t x : Tree) → taken_as start.place (Some (described d t)) ≡ Some x → Meets (outer start.place) start.output x → ⊥
 
 -- the code of described values is written, or no descriptor is taken
 abbrev pub headed : Writer → Writer → Type 0

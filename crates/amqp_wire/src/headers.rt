@@ -189,7 +189,11 @@ impl Serializer for Headers {
     }
 
     #[inline(always)]
-    fn end_descriptor(&mut self, held: &mut Counting, part: Result<usize, Error>) -> Result<(), Error>
+    fn end_descriptor(
+        &mut self,
+        held: &mut Counting,
+        part: Result<usize, Error>,
+    ) -> Result<(), Error>
         ensures { (start before : Headers) (d : Option Tree) → headers_awaits_descriptor start before held.old → headers_permits before d part self.old →
             MatchResult result
             (λ _. (mid : Headers) × (headers_has mid Kind.Bare self.new held.new [] × ((t : Option Tree) (r : Result ℕ Error) (after : Headers) →

@@ -1,5 +1,6 @@
 //! What no contract states: bytes from the encoding tables, worked by hand, and what is left of a refusal.
 
+mod described;
 mod feeding;
 mod memory;
 mod refused;

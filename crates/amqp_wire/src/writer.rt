@@ -67,18 +67,25 @@ fn is_descriptor(fixed: Fixed) -> bool
 fn takes_described(under: Under) -> bool
     ensures { result ≡ takes_described under }
 {
-    matches!(under, Under::Plain(Place::Root | Place::Inside | Place::Value(_, _)))
+    matches!(
+        under,
+        Under::Plain(Place::Root | Place::Inside | Place::Value(_, _))
+    )
 }
 
-/// What is opened there: no compound is a descriptor.
+/// What is opened there: a transparent vector at the root alone, and no compound as a descriptor.
 #[inline(always)]
 fn opened_as(under: Under, kind: Kind) -> Shape
     ensures { result ≡ opened_as under kind }
 {
-    if at_descriptor(under.outer()) {
-        return Shape::Refused;
+    match under.outer() {
+        Place::Root => under.shape(kind),
+        Place::Descriptor => Shape::Refused,
+        _ => match under.shape(kind) {
+            Shape::Transparent => Shape::Refused,
+            shape => shape,
+        },
     }
-    under.shape(kind)
 }
 
 impl Writer {
@@ -203,7 +210,9 @@ impl Serializer for Writer {
             return self.refuse();
         }
         match self.place {
-            Under::Plain(place) if !at_descriptor(place) => self.output.put_text(in_array(place), 0xa0, 0xb0, v),
+            Under::Plain(place) if !at_descriptor(place) => self
+                .output
+                .put_text(in_array(place), 0xa0, 0xb0, v),
             Under::Scalar(ScalarMark::Decimal32, place) if v.len() == 4 => self.exact(
                 place, 0x74, v,
             ),

@@ -7,7 +7,6 @@ use amqp_data::{Error, TransparentVec, markers};
 use amqp_ser::{Mark, Serializer};
 use amqp_size::SizeSerializer;
 use std::alloc::Global;
-use std::test::Fail;
 
 /// What is fed to each serializer in turn.
 trait Feed {
@@ -134,21 +133,6 @@ impl Feed for MarkedBasic {
 }
 
 #[derive(Drop)]
-struct Misplaced(TransparentVec<bool>);
-
-impl Feed for Misplaced {
-    fn feed<S: Serializer>(&self, serializer: &mut S) -> Result<S::Ok, S::Error> {
-        let mut list = serializer.serialize_seq(None)?;
-        list.serialize_element(&true)?;
-        if list.serialize_element(&self.0).is_ok() {
-            list.serialize_element(&"taken")?;
-        }
-        list.serialize_element(&false)?;
-        list.end()
-    }
-}
-
-#[derive(Drop)]
 struct MisplacedValue(TransparentVec<bool>);
 
 impl Feed for MisplacedValue {
@@ -194,17 +178,8 @@ fn basic_structs_have_one_value(rt: HostRuntime) {
 }
 
 #[test]
-fn misplaced_vectors_are_passed_over(rt: HostRuntime) -> Result<(), Fail> {
+fn a_misplaced_vector_leaves_its_key_pending(rt: HostRuntime) {
     let a = rt.alloc();
-    let vector = TransparentVec::from(vec![in a; true]?);
-    assert!(rt;
-        is(a, &Misplaced(vector), b"\xc0\x03\x02\x41\x42"),
-        "in a list"
-    );
     let none = TransparentVec::from(Vec::new(a));
-    assert!(rt;
-        is(a, &MisplacedValue(none), b"\xc1\x06\x02\xa1\x01a\x50\x01"),
-        "in a map"
-    );
-    Ok(())
+    assert!(rt; is(a, &MisplacedValue(none), b"\xc1\x06\x02\xa1\x01a\x50\x01"));
 }
