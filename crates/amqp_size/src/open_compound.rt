@@ -44,6 +44,7 @@ impl Open {
     }
 
     /// How many bytes the parts have.
+    #[inline(always)]
     pub fn sum(&self) -> usize
         ensures sum { result ≡ self.now.sum }
         ensures small { result ≤ limit_of self.now.shape }
@@ -52,6 +53,7 @@ impl Open {
     }
 
     /// What was opened.
+    #[inline(always)]
     pub fn shape(&self) -> Shape
         ensures { result ≡ self.now.shape }
     {
@@ -59,6 +61,7 @@ impl Open {
     }
 
     /// The constructor of an array's elements, once there is one.
+    #[inline(always)]
     pub fn constructor(&self) -> Option<u8>
         ensures { result ≡ con_of (outer self.now.inner) }
     {
@@ -66,6 +69,7 @@ impl Open {
     }
 
     /// Where the compound stands.
+    #[inline(always)]
     pub(crate) fn place(&self) -> Place
         ensures { result ≡ self.now.place }
     {
@@ -73,6 +77,7 @@ impl Open {
     }
 
     /// Where the next part stands; of a bare compound that was fed, what comes after it.
+    #[inline(always)]
     pub(crate) fn inner(&self) -> Under
         ensures { result ≡ self.now.inner }
     {
@@ -80,6 +85,7 @@ impl Open {
     }
 
     /// How many elements an array has.
+    #[inline(always)]
     pub(crate) fn count(&self) -> usize
         ensures { result ≡ self.now.count }
     {
@@ -87,6 +93,7 @@ impl Open {
     }
 
     /// Takes the last part back.
+    #[inline(always)]
     pub(crate) fn undo(&mut self)
         ensures sum { self.new.sum ≡ self.old.before }
         ensures place { self.new.place ≡ self.old.place }
@@ -98,6 +105,7 @@ impl Open {
     }
 
     /// Counts a part of this size, after which the next part stands there.
+    #[inline(always)]
     pub(crate) fn take(&mut self, size: usize, inner: Place) -> Result<(), Error>
         ensures gathered { is_gathered self.old.shape ≡ true → MatchResult result
             (λ _. (self.new.sum ≡ size + opens_in (is_array self.old.shape) (outer self.old.inner) inner + self.old.sum) × ((self.new.count ≡ if is_array self.old.shape then self.old.count + 1 else self.old.count) × (self.new.inner ≡ if is_array self.old.shape then Under.Plain inner else self.old.inner)))

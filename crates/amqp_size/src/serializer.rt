@@ -1,6 +1,6 @@
 //! The serializer that counts, and the length of a value's bytes.
 
-ghost use Rattle.std.specs.Prelude.{◌≡◌, ◌+◌, ◌≤◌, ◌++◌, ◌∷◌, ◌&&◌, ◌⊎◌, [], List, Option, Some, None, Result, Ok, Err, MatchResult, IfErr, IsErr, is_some, true, false, length, ℕ};
+ghost use Rattle.std.specs.Prelude.{◌≡◌, ◌+◌, ◌≤◌, ◌++◌, ◌∷◌, ◌&&◌, ◌⊎◌, [], List, Option, Some, None, Result, Ok, Err, MatchResult, IfOk, IfErr, IsErr, is_some, true, false, length, ℕ};
 ghost use Rattle.amqp_ser.specs.Tree.{Tree};
 ghost use Rattle.amqp_ser.specs.Composites.{as_described, descriptor_of};
 ghost use Rattle.amqp_ser.specs.Permitted.{IsSizeOf};
@@ -49,7 +49,7 @@ impl Default for SizeSerializer {
 
 impl Serializer for SizeSerializer {
     ghost use Rattle.amqp_data.specs.declared.error.Error.TheVariants.{InvalidValue};
-    ghost use Rattle.amqp_size.specs.Place.{outer, meant, rest};
+    ghost use Rattle.amqp_size.specs.Place.{outer, meant, rest, described_under};
     ghost use Rattle.amqp_size.specs.Counted.{size_permits, size_has, size_awaits, size_awaits_descriptor};
     ghost use Rattle.amqp_ser.specs.Compounds.{whole};
     ghost use Rattle.amqp_ser.specs.Marked.{marked};
@@ -169,12 +169,14 @@ impl Serializer for SizeSerializer {
 
     #[inline(always)]
     fn end_descriptor(&mut self, held: &mut Open, part: Result<usize, Error>) -> Result<(), Error>
-        ensures { (start before : SizeSerializer) (d : Option Tree) → size_awaits_descriptor start before held.old → size_permits before d part self.old →
+        ensures step { (start before : SizeSerializer) (d : Option Tree) → size_awaits_descriptor start before held.old → size_permits before d part self.old →
             MatchResult result
             (λ _. (mid : SizeSerializer) × (size_has mid Kind.Bare self.new held.new [] × ((t : Option Tree) (r : Result ℕ Error) (after : SizeSerializer) →
             size_permits mid t r after → size_permits start (as_described (descriptor_of d) t) r after)))
             (λ e. size_has start Kind.Bare self.new held.new [] × ((t : Option Tree) →
             size_permits start (as_described (descriptor_of d) t) (Err e) self.new)) }
+        ensures described { IfOk part (λ n. IfOk result (λ _. described_under held.old.inner n ≡ Some held.new.inner)) }
+        ensures same { IfErr part (λ e. (result ≡ Err e) × ((held.new ≡ held.old) × (self.new.place ≡ Under.Plain (rest held.old.place)))) }
     {
         self.place = Under::Plain(held.place().rest());
         let descriptor = part?;

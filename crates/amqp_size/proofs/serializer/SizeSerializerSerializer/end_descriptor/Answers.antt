@@ -47,8 +47,8 @@ known start now held new n x d (Err e) h here o len fits a b c m =
           (subst (λ q. at_place (outer start.place) (meant start.place (as_described (Some x) t)) (Err e) q) at (described_refusal start.place n x e why len t)),
     )
 
-pub returns : goal.returns
-returns c = λ start before d w r.
+pub returns-clause-step : goal.returns-clause-step
+returns-clause-step c = λ start before d w r.
     let held = c.args.held.now in
     let after = c.args.self.now.place in
     let n = c.in_ok-descriptor.descriptor in
