@@ -15,7 +15,8 @@ use crate::width::{LONGEST, map_width, text_width, uint_width};
 use amqp_data::Error;
 
 /// The answer on a descriptor with this constructor and length: only a ulong or a symbol is one.
-#[inline(always)]
+#[cold]
+#[inline(never)]
 fn descriptor(code: u8, ordinary: usize) -> Result<usize, Error>
     ensures { (t : Tree) → con t ≡ Some code → MatchResult result
         (λ n. (is_some (descriptor_of (Some t)) ≡ true) × (n ≡ ordinary))
@@ -29,7 +30,8 @@ fn descriptor(code: u8, ordinary: usize) -> Result<usize, Error>
 }
 
 /// The answer on the value after descriptors, with them.
-#[inline(always)]
+#[cold]
+#[inline(never)]
 fn described(head: usize, base: Base, ordinary: usize) -> Result<usize, Error>
     ensures { MatchResult result
         (λ n. (takes_described base ≡ true) × ((is_length (head + ordinary) ≡ true) × (n ≡ head + ordinary)))
@@ -61,23 +63,35 @@ impl SizeSerializer {
         ensures { (t : Tree) → con t ≡ Some code → within t ≡ true → alike t ≡ true → inside t ≡ true → placed t ≡ true →
             length (enc t) ≡ ordinary → length (payload t) ≡ wide → at_place place (Some t) result self.new.place }
     {
-        self.place = Under::Plain(place.rest());
         match place {
-            Place::Root => Ok(ordinary),
-            Place::Inside => Ok(ordinary),
+            Place::Root => {
+                self.place = Under::Plain(Place::Root);
+                Ok(ordinary)
+            }
+            Place::Inside => {
+                self.place = Under::Plain(Place::Inside);
+                Ok(ordinary)
+            }
             Place::First => {
                 self.place = Under::Plain(Place::Element(code));
                 Ok(wide)
             }
             Place::Element(c) => {
+                self.place = Under::Plain(Place::Element(c));
                 if c == code {
                     Ok(wide)
                 } else {
                     Err(Error::InvalidValue)
                 }
             }
-            Place::Descriptor => descriptor(code, ordinary),
-            Place::Value(head, base) => described(head, base, ordinary),
+            Place::Descriptor => {
+                self.place = Under::Plain(Place::Descriptor);
+                descriptor(code, ordinary)
+            }
+            Place::Value(head, base) => {
+                self.place = Under::Plain(base.place());
+                described(head, base, ordinary)
+            }
         }
     }
 
@@ -129,7 +143,7 @@ impl SizeSerializer {
         ensures place { self.new.place ≡ Under.Plain (rest (outer self.old.place)) }
         ensures refused { result ≡ Err Error.InvalidValue }
     {
-        self.place = Under::Plain(self.place.outer().rest());
+        self.place = Under::Plain(self.place.rest());
         Err(Error::InvalidValue)
     }
 }
