@@ -7,7 +7,7 @@ ghost use Rattle.amqp_ser.specs.Composites.{descriptor_of};
 ghost use Rattle.amqp_ser.specs.Encoding.{enc, enc_each, payload, con};
 ghost use Rattle.amqp_ser.specs.Writable.{alike, alike_each, within, within_each, inside, placed, placed_each};
 ghost use Rattle.amqp_size.specs.Width.{uint_width, text_width, map_width};
-ghost use Rattle.amqp_size.specs.Place.{takes_described};
+ghost use Rattle.amqp_size.specs.Place.{outer, rest, takes_described};
 
 use crate::place::{Base, Place, Under};
 use crate::serializer::SizeSerializer;
@@ -46,8 +46,16 @@ fn described(head: usize, base: Base, ordinary: usize) -> Result<usize, Error>
     }
 }
 
+/// Where a serializer stands after a refusal.
+#[cold]
+#[inline(never)]
+fn at_rest(under: Under) -> Under
+    ensures { result ≡ Under.Plain (rest (outer under)) }
+{
+    Under::Plain(under.rest())
+}
+
 impl SizeSerializer {
-    ghost use Rattle.amqp_size.specs.Place.{outer, rest};
     ghost use Rattle.amqp_size.specs.Counted.{at_place};
     ghost use Rattle.amqp_ser.specs.Permitted.{refuses_none};
 
@@ -109,7 +117,7 @@ impl SizeSerializer {
     }
 
     /// The answer on a variant whose payload has this length.
-    #[inline(always)]
+    #[inline]
     pub(crate) fn variant(&mut self, place: Place, index: u32, size: usize) -> Result<usize, Error>
         ensures { (t v : Tree) → con t ≡ Some 0xd1 → alike t ≡ true → inside t ≡ true → placed t ≡ true → within v ≡ true →
             within t ≡ (fits (uint_width index + size) && within v) → length (enc t) ≡ map_width (uint_width index + size) →
@@ -143,7 +151,7 @@ impl SizeSerializer {
         ensures place { self.new.place ≡ Under.Plain (rest (outer self.old.place)) }
         ensures refused { result ≡ Err Error.InvalidValue }
     {
-        self.place = Under::Plain(self.place.rest());
+        self.place = at_rest(self.place);
         Err(Error::InvalidValue)
     }
 }
