@@ -87,23 +87,17 @@ second_bare start kind held [] h some p others = absurd (none h.parts.0 some)
 second_bare start kind held (v ∷ []) h some p others = no_whole start held kind (v ∷ (p ∷ others)) error.InvalidValue h.place h.kind_is (whole_two v p others) tt
 second_bare start kind held (v ∷ (w ∷ ps)) h some p others = absurd h.parts
 
--- what follows a tree that was counted is plain
-plain_after : (u : Under) (o : Option Tree) (n : ℕ) (after : Under) → at_place (outer u) o (Ok n) after → after ≡ under.Plain (outer after)
-plain_after u None n after r = absurd r
-plain_after u (Some t) n after r = r.place ∙ sym (ap (λ a. under.Plain (outer a)) r.place)
-
 -- the first value
 pub first_bare : (start : SizeSerializer) (kind : Kind) (held new : Open) (ps : List (Option Tree)) → HoldsBare start kind held ps → (p : Option Tree) (size : ℕ) (after : Under) →
-    at_place (outer held.inner) (meant held.inner p) (Ok size) after → held.count ≡ 0 → new.count ≡ 1 → new.sum ≡ size → new.inner ≡ under.Plain (outer after) → new.place ≡ held.place → new.shape ≡ held.shape →
+    at_place (outer held.inner) (meant held.inner p) (Ok size) after → held.count ≡ 0 → new.count ≡ 1 → new.sum ≡ size → new.inner ≡ after → new.place ≡ held.place → new.shape ≡ held.shape →
     HoldsBare start kind new (ps ++ (p ∷ []))
 first_bare start kind held new [] h p size after r none one sum inner a b =
     let here : at_place (outer start.place) (meant start.place p) (Ok size) after = subst (λ u. at_place (outer u) (meant u p) (Ok size) after) h.parts.1 r in
-    let next : new.inner ≡ after = inner ∙ sym (plain_after start.place (meant start.place p) size after here) in
     record {
       kind_is = h.kind_is;
       place = ap rest a ∙ h.place;
       shape = b ∙ h.shape;
-      parts = (one, subst (λ n. at_place (outer start.place) (meant start.place p) (Ok n) new.inner) (sym sum) (subst (λ i. at_place (outer start.place) (meant start.place p) (Ok size) i) (sym next) here));
+      parts = (one, subst (λ n. at_place (outer start.place) (meant start.place p) (Ok n) new.inner) (sym sum) (subst (λ i. at_place (outer start.place) (meant start.place p) (Ok size) i) (sym inner) here));
     }
 first_bare start kind held new (v ∷ []) h p size after r none one sum inner a b = absurd (some h.parts.0 none)
   where

@@ -77,24 +77,24 @@ refused_any start kind held ps (inr (inl h)) p e after r others =
 refused_any start kind held ps (inr (inr h)) p e after r others = refused_bare start kind held ps h p e after r others
 
 -- what is known of a part's counting
-pub record Taking (held new : Open) (size : ℕ) (inner : Place) (res : Result (Unit {0}) Error) : Type 0 where
+pub record Taking (held new : Open) (size : ℕ) (after : Under) (res : Result (Unit {0}) Error) : Type 0 where
   pub place : new.place ≡ held.place
   pub shape : new.shape ≡ held.shape
   pub few : held.count ≤ 4294967295 → new.count ≤ 4294967295
   pub kept : IfErr res (λ _. new ≡ held)
   pub before : is_gathered held.shape ≡ true → IfOk res (λ _. new.before ≡ held.sum)
   pub gathered : is_gathered held.shape ≡ true → MatchResult res
-      (λ _. (new.sum ≡ size + opens_in (is_array held.shape) (outer held.inner) inner + held.sum) × ((new.count ≡ if is_array held.shape then held.count + 1 else held.count) × (new.inner ≡ if is_array held.shape then under.Plain inner else held.inner)))
-      (λ e. (e ≡ error.TooLong) × over (is_array held.shape) held.count (size + opens_in (is_array held.shape) (outer held.inner) inner + held.sum))
+      (λ _. (new.sum ≡ size + opens_in (is_array held.shape) held.inner after + held.sum) × ((new.count ≡ if is_array held.shape then held.count + 1 else held.count) × (new.inner ≡ if is_array held.shape then after else held.inner)))
+      (λ e. (e ≡ error.TooLong) × over (is_array held.shape) held.count (size + opens_in (is_array held.shape) held.inner after + held.sum))
   pub transparent : held.shape ≡ shapes.Transparent → MatchResult res
       (λ _. (new.sum ≡ size + held.sum) × (new.inner ≡ held.inner))
       (λ e. (e ≡ error.TooLong) × (18446744073709551615 < size + held.sum))
   pub bare : held.shape ≡ shapes.Bare → MatchResult res
-      (λ _. (held.count ≡ 0) × ((new.count ≡ 1) × ((new.sum ≡ size) × (new.inner ≡ under.Plain inner))))
+      (λ _. (held.count ≡ 0) × ((new.count ≡ 1) × ((new.sum ≡ size) × (new.inner ≡ after))))
       (λ e. (e ≡ error.InvalidValue) × (1 ≤ held.count))
 
 taken_joined : (start : SizeSerializer) (kind : Kind) (held new : Open) (ps : List (Option Tree)) → HoldsTransparent start kind held ps → (p : Option Tree) (size : ℕ) (after : Under) → at_place Root p (Ok size) after →
-    (res : Result (Unit {0}) Error) → Taking held new size (outer after) res →
+    (res : Result (Unit {0}) Error) → Taking held new size after res →
     MatchResult res (λ _. Holding start kind new (ps ++ (p ∷ [])))
     (λ e. (others : List (Option Tree)) → at_place (outer start.place) (meant start.place (whole kind (ps ++ (p ∷ others)))) (Err e) (under.Plain (rest held.place)))
 taken_joined start kind held new ps h None size after r res k = absurd r
@@ -107,7 +107,7 @@ taken_joined start kind held new ps h (Some t) size after r (Err e) k = λ other
     (over_transparent start kind held ps h t size r.len m.1 others)
 
 taken_one : (start : SizeSerializer) (kind : Kind) (held new : Open) (ps : List (Option Tree)) → HoldsBare start kind held ps → (p : Option Tree) (size : ℕ) (after : Under) → at_place (outer held.inner) (meant held.inner p) (Ok size) after →
-    (res : Result (Unit {0}) Error) → Taking held new size (outer after) res →
+    (res : Result (Unit {0}) Error) → Taking held new size after res →
     MatchResult res (λ _. Holding start kind new (ps ++ (p ∷ [])))
     (λ e. (others : List (Option Tree)) → at_place (outer start.place) (meant start.place (whole kind (ps ++ (p ∷ others)))) (Err e) (under.Plain (rest held.place)))
 taken_one start kind held new ps h p size after r (Ok u) k =
@@ -128,7 +128,7 @@ gathers start kind held new ps p (Err e) m = m
 
 -- a part that was counted
 pub taken_any : (start : SizeSerializer) (kind : Kind) (held new : Open) (ps : List (Option Tree)) → Holding start kind held ps → (p : Option Tree) (size : ℕ) (after : Under) →
-    at_place (outer held.inner) (meant held.inner p) (Ok size) after → (res : Result (Unit {0}) Error) → Taking held new size (outer after) res →
+    at_place (outer held.inner) (meant held.inner p) (Ok size) after → (res : Result (Unit {0}) Error) → Taking held new size after res →
     MatchResult res (λ _. Holding start kind new (ps ++ (p ∷ [])))
     (λ e. (others : List (Option Tree)) → at_place (outer start.place) (meant start.place (whole kind (ps ++ (p ∷ others)))) (Err e) (under.Plain (rest held.place)))
 taken_any start kind held new ps (inl h) p size after r res k =

@@ -62,25 +62,25 @@ more_one true (more v ts) t h s =
     both (same_con (con v) (con v)) (each_con (con v) (join ts (more t no_trees))) mine
     (each-join (con v) ts (more t no_trees) ∙ both (each_con (con v) ts) (same_con (con v) (con t) && true) others (both (same_con (con v) (con t)) true new refl))
 
-opens_same : (arr : Bool) (ts : Trees) (q : Place) → opens_in arr (inner_of arr ts) q ≡ opens (inner_of arr ts) q
+opens_same : (arr : Bool) (ts : Trees) (q : Place) → opens_in arr (under.Plain (inner_of arr ts)) (under.Plain q) ≡ opens (inner_of arr ts) q
 opens_same false ts q = refl
 opens_same true ts q = refl
 
-new_inner : (arr : Bool) (ts : Trees) (t : Tree) (old : Under) (place : Place) → one_in arr ts ≡ true → old ≡ under.Plain (inner_of arr ts) → place ≡ next (inner_of arr ts) t →
-    (if arr then under.Plain place else old) ≡ under.Plain (inner_of arr (join ts (more t no_trees)))
-new_inner false ts t old place h e q = e
-new_inner true ts t old place h e q = ap under.Plain (q ∙ next_inner true ts t h)
+new_inner : (arr : Bool) (ts : Trees) (t : Tree) (old after : Under) → one_in arr ts ≡ true → old ≡ under.Plain (inner_of arr ts) → after ≡ under.Plain (next (inner_of arr ts) t) →
+    (if arr then after else old) ≡ under.Plain (inner_of arr (join ts (more t no_trees)))
+new_inner false ts t old after h e q = e
+new_inner true ts t old after h e q = q ∙ ap under.Plain (next_inner true ts t h)
 
 -- what is added to the sum
 added : (start : SizeSerializer) (kind : Kind) (held : Open) (ps : List (Option Tree)) (h : Holds start kind held ps) (t : Tree) (size : ℕ) (after : Under) → Counted (inner_of (is_array held.shape) h.ts) t size after →
-    size + opens_in (is_array held.shape) (outer held.inner) (outer after) + held.sum ≡
+    size + opens_in (is_array held.shape) held.inner after + held.sum ≡
     length (form (inner_of (is_array held.shape) h.ts) t) + opens (inner_of (is_array held.shape) h.ts) (next (inner_of (is_array held.shape) h.ts) t) + length (content (is_array held.shape) h.ts)
 added start kind held ps h t size after k =
     let arr = is_array held.shape in
     let i = inner_of arr h.ts in
     let len : size ≡ length (form i t) = k.len ∙ extent_inner arr h.ts t in
-    let opened : opens_in arr (outer held.inner) (outer after) ≡ opens i (next i t) =
-    ap (λ u. opens_in arr (outer u) (outer after)) h.fed.inner ∙ ap (λ u. opens_in arr i (outer u)) k.place ∙ opens_same arr h.ts (next i t) in
+    let opened : opens_in arr held.inner after ≡ opens i (next i t) =
+    ap (λ u. opens_in arr u after) h.fed.inner ∙ ap (λ u. opens_in arr (under.Plain i) u) k.place ∙ opens_same arr h.ts (next i t) in
     let sum = h.fed.sum in
     omega arith
 
@@ -88,15 +88,14 @@ added start kind held ps h t size after k =
 pub taken_part : (start : SizeSerializer) (kind : Kind) (held new : Open) (ps : List (Option Tree)) (h : Holds start kind held ps) (t : Tree) (size : ℕ) (after : Under) →
     Counted (inner_of (is_array held.shape) h.ts) t size after →
     new.place ≡ held.place → new.shape ≡ held.shape →
-    new.sum ≡ size + opens_in (is_array held.shape) (outer held.inner) (outer after) + held.sum → new.count ≡ (if is_array held.shape then held.count + 1 else held.count) → new.count ≤ 4294967295 →
-    new.inner ≡ (if is_array held.shape then under.Plain (outer after) else held.inner) → new.before ≡ held.sum →
+    new.sum ≡ size + opens_in (is_array held.shape) held.inner after + held.sum → new.count ≡ (if is_array held.shape then held.count + 1 else held.count) → new.count ≤ 4294967295 →
+    new.inner ≡ (if is_array held.shape then after else held.inner) → new.before ≡ held.sum →
     Holds start kind new (ps ++ (Some t ∷ []))
 taken_part start kind held new ps h t size after k a b d e few f was =
     let arr = is_array held.shape in
     let ts = h.ts in
     let us = join ts (more t no_trees) in
     let c : is_array new.shape ≡ arr = ap is_array b in
-    let place : outer after ≡ next (inner_of arr ts) t = ap outer k.place in
     let total = added start kind held ps h t size after k in
     let all = content-join arr ts t no_trees h.fed.one in
     let nought = nothing_after arr in
@@ -117,7 +116,7 @@ taken_part start kind held new ps h t size after k a b d e few f was =
         fits_sum = le_true new.sum 4294967291 (subst (λ m. new.sum ≤ m) (gathered_limit new.shape (ap is_gathered b ∙ h.gathered)) new.small);
         counted = e ∙ more_counted arr ts t held.count h.fed.counted ∙ sym (ap (λ x. counts x us) c);
         few = le_true new.count 4294967295 few;
-        inner = f ∙ new_inner arr ts t held.inner (outer after) h.fed.one h.fed.inner place ∙ sym (ap (λ x. under.Plain (inner_of x us)) c);
+        inner = f ∙ new_inner arr ts t held.inner after h.fed.one h.fed.inner k.place ∙ sym (ap (λ x. under.Plain (inner_of x us)) c);
         alike_parts = alike-join ts (more t no_trees) ∙ both (alike_each ts) (alike t && true) h.fed.alike_parts (both (alike t) true k.alike_it refl);
         within_parts = within-join ts (more t no_trees) ∙ both (within_each ts) (within t && true) h.fed.within_parts (both (within t) true (sym (within_inner arr ts t) ∙ k.within_it) refl);
         inside_parts = inside-join ts (more t no_trees) ∙ both (inside_each ts) (inside t && true) h.fed.inside_parts (both (inside t) true (suited_inside arr ts t h.fed.one k.suited) refl);
@@ -129,8 +128,8 @@ taken_part start kind held new ps h t size after k a b d e few f was =
 pub end_taken : (start : SizeSerializer) (kind : Kind) (held new : Open) (ps : List (Option Tree)) (h : Holds start kind held ps) (p : Option Tree) (size : ℕ) (after : Under) →
     at_place (inner_of (is_array held.shape) h.ts) p (Ok size) after → new.place ≡ held.place → new.shape ≡ held.shape → (held.count ≤ 4294967295 → new.count ≤ 4294967295) →
     (res : Result (Unit {0}) Error) → IfOk res (λ _. new.before ≡ held.sum) → IfErr res (λ _. new ≡ held) →
-    MatchResult res (λ _. (new.sum ≡ size + opens_in (is_array held.shape) (outer held.inner) (outer after) + held.sum) × ((new.count ≡ if is_array held.shape then held.count + 1 else held.count) × (new.inner ≡ if is_array held.shape then under.Plain (outer after) else held.inner)))
-    (λ e. (e ≡ error.TooLong) × over (is_array held.shape) held.count (size + opens_in (is_array held.shape) (outer held.inner) (outer after) + held.sum)) →
+    MatchResult res (λ _. (new.sum ≡ size + opens_in (is_array held.shape) held.inner after + held.sum) × ((new.count ≡ if is_array held.shape then held.count + 1 else held.count) × (new.inner ≡ if is_array held.shape then after else held.inner)))
+    (λ e. (e ≡ error.TooLong) × over (is_array held.shape) held.count (size + opens_in (is_array held.shape) held.inner after + held.sum)) →
     MatchResult res (λ _. Holds start kind new (ps ++ (p ∷ [])))
     (λ e. (others : List (Option Tree)) → at_place (outer start.place) (meant start.place (whole kind (ps ++ (p ∷ others)))) (Err e) (under.Plain (rest held.place)))
 end_taken start kind held new ps h None size after r a b few res was same m = absurd r

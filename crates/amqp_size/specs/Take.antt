@@ -13,10 +13,10 @@ abbrev pub opens : Place → Place → ℕ
 opens First (Element c) = 1
 opens p q = 0
 
--- the same, in an array or not
-abbrev pub opens_in : Bool → Place → Place → ℕ
-opens_in false p q = 0
-opens_in true p q = opens p q
+-- the same, in an array or not, where what comes next stands there
+abbrev pub opens_in : Bool → Under → Under → ℕ
+opens_in true (under.Plain p) (under.Plain q) = opens p q
+opens_in arr u v = 0
 
 -- a limit is passed by one part more
 abbrev pub over : Bool → ℕ → ℕ → Type 0

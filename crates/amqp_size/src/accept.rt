@@ -7,7 +7,7 @@ ghost use Rattle.amqp_ser.specs.Composites.{descriptor_of};
 ghost use Rattle.amqp_ser.specs.Encoding.{enc, enc_each, payload, con};
 ghost use Rattle.amqp_ser.specs.Writable.{alike, alike_each, within, within_each, inside, placed, placed_each};
 ghost use Rattle.amqp_size.specs.Width.{uint_width, text_width, map_width};
-ghost use Rattle.amqp_size.specs.Place.{takes_described};
+ghost use Rattle.amqp_size.specs.Place.{outer, rest, takes_described};
 
 use crate::place::{Base, Place, Under};
 use crate::serializer::SizeSerializer;
@@ -15,7 +15,8 @@ use crate::width::{LONGEST, map_width, text_width, uint_width};
 use amqp_data::Error;
 
 /// The answer on a descriptor with this constructor and length: only a ulong or a symbol is one.
-#[inline(always)]
+#[cold]
+#[inline(never)]
 fn descriptor(code: u8, ordinary: usize) -> Result<usize, Error>
     ensures { (t : Tree) → con t ≡ Some code → MatchResult result
         (λ n. (is_some (descriptor_of (Some t)) ≡ true) × (n ≡ ordinary))
@@ -29,7 +30,8 @@ fn descriptor(code: u8, ordinary: usize) -> Result<usize, Error>
 }
 
 /// The answer on the value after descriptors, with them.
-#[inline(always)]
+#[cold]
+#[inline(never)]
 fn described(head: usize, base: Base, ordinary: usize) -> Result<usize, Error>
     ensures { MatchResult result
         (λ n. (takes_described base ≡ true) × ((is_length (head + ordinary) ≡ true) × (n ≡ head + ordinary)))
@@ -44,8 +46,16 @@ fn described(head: usize, base: Base, ordinary: usize) -> Result<usize, Error>
     }
 }
 
+/// Where a serializer stands after a refusal.
+#[cold]
+#[inline(never)]
+fn at_rest(under: Under) -> Under
+    ensures { result ≡ Under.Plain (rest (outer under)) }
+{
+    Under::Plain(under.rest())
+}
+
 impl SizeSerializer {
-    ghost use Rattle.amqp_size.specs.Place.{outer, rest};
     ghost use Rattle.amqp_size.specs.Counted.{at_place};
     ghost use Rattle.amqp_ser.specs.Permitted.{refuses_none};
 
@@ -61,23 +71,35 @@ impl SizeSerializer {
         ensures { (t : Tree) → con t ≡ Some code → within t ≡ true → alike t ≡ true → inside t ≡ true → placed t ≡ true →
             length (enc t) ≡ ordinary → length (payload t) ≡ wide → at_place place (Some t) result self.new.place }
     {
-        self.place = Under::Plain(place.rest());
         match place {
-            Place::Root => Ok(ordinary),
-            Place::Inside => Ok(ordinary),
+            Place::Root => {
+                self.place = Under::Plain(Place::Root);
+                Ok(ordinary)
+            }
+            Place::Inside => {
+                self.place = Under::Plain(Place::Inside);
+                Ok(ordinary)
+            }
             Place::First => {
                 self.place = Under::Plain(Place::Element(code));
                 Ok(wide)
             }
             Place::Element(c) => {
+                self.place = Under::Plain(Place::Element(c));
                 if c == code {
                     Ok(wide)
                 } else {
                     Err(Error::InvalidValue)
                 }
             }
-            Place::Descriptor => descriptor(code, ordinary),
-            Place::Value(head, base) => described(head, base, ordinary),
+            Place::Descriptor => {
+                self.place = Under::Plain(Place::Descriptor);
+                descriptor(code, ordinary)
+            }
+            Place::Value(head, base) => {
+                self.place = Under::Plain(base.place());
+                described(head, base, ordinary)
+            }
         }
     }
 
@@ -95,7 +117,7 @@ impl SizeSerializer {
     }
 
     /// The answer on a variant whose payload has this length.
-    #[inline(always)]
+    #[inline]
     pub(crate) fn variant(&mut self, place: Place, index: u32, size: usize) -> Result<usize, Error>
         ensures { (t v : Tree) → con t ≡ Some 0xd1 → alike t ≡ true → inside t ≡ true → placed t ≡ true → within v ≡ true →
             within t ≡ (fits (uint_width index + size) && within v) → length (enc t) ≡ map_width (uint_width index + size) →
@@ -129,7 +151,7 @@ impl SizeSerializer {
         ensures place { self.new.place ≡ Under.Plain (rest (outer self.old.place)) }
         ensures refused { result ≡ Err Error.InvalidValue }
     {
-        self.place = Under::Plain(self.place.outer().rest());
+        self.place = at_rest(self.place);
         Err(Error::InvalidValue)
     }
 }

@@ -21,7 +21,7 @@ pub struct Open {
 }
 
 impl Open {
-    ghost use Rattle.amqp_size.specs.Take.{opens, opens_in, over, undescribed};
+    ghost use Rattle.amqp_size.specs.Take.{opens_in, over, undescribed};
     ghost use Rattle.amqp_size.specs.Place.{outer, con_of, is_array, is_gathered, inner_under, described_under};
 
     /// A compound of this shape, opened there, with no part yet.
@@ -44,6 +44,7 @@ impl Open {
     }
 
     /// How many bytes the parts have.
+    #[inline(always)]
     pub fn sum(&self) -> usize
         ensures sum { result ≡ self.now.sum }
         ensures small { result ≤ limit_of self.now.shape }
@@ -52,6 +53,7 @@ impl Open {
     }
 
     /// What was opened.
+    #[inline(always)]
     pub fn shape(&self) -> Shape
         ensures { result ≡ self.now.shape }
     {
@@ -59,6 +61,7 @@ impl Open {
     }
 
     /// The constructor of an array's elements, once there is one.
+    #[inline(always)]
     pub fn constructor(&self) -> Option<u8>
         ensures { result ≡ con_of (outer self.now.inner) }
     {
@@ -66,6 +69,7 @@ impl Open {
     }
 
     /// Where the compound stands.
+    #[inline(always)]
     pub(crate) fn place(&self) -> Place
         ensures { result ≡ self.now.place }
     {
@@ -73,6 +77,7 @@ impl Open {
     }
 
     /// Where the next part stands; of a bare compound that was fed, what comes after it.
+    #[inline(always)]
     pub(crate) fn inner(&self) -> Under
         ensures { result ≡ self.now.inner }
     {
@@ -80,6 +85,7 @@ impl Open {
     }
 
     /// How many elements an array has.
+    #[inline(always)]
     pub(crate) fn count(&self) -> usize
         ensures { result ≡ self.now.count }
     {
@@ -87,6 +93,7 @@ impl Open {
     }
 
     /// Takes the last part back.
+    #[inline(always)]
     pub(crate) fn undo(&mut self)
         ensures sum { self.new.sum ≡ self.old.before }
         ensures place { self.new.place ≡ self.old.place }
@@ -97,16 +104,17 @@ impl Open {
         self.sum = self.before;
     }
 
-    /// Counts a part of this size, after which the next part stands there.
-    pub(crate) fn take(&mut self, size: usize, inner: Place) -> Result<(), Error>
+    /// Counts a part of this size, after which the serializer stands there.
+    #[inline(always)]
+    pub(crate) fn take(&mut self, size: usize, after: Under) -> Result<(), Error>
         ensures gathered { is_gathered self.old.shape ≡ true → MatchResult result
-            (λ _. (self.new.sum ≡ size + opens_in (is_array self.old.shape) (outer self.old.inner) inner + self.old.sum) × ((self.new.count ≡ if is_array self.old.shape then self.old.count + 1 else self.old.count) × (self.new.inner ≡ if is_array self.old.shape then Under.Plain inner else self.old.inner)))
-            (λ e. (e ≡ Error.TooLong) × over (is_array self.old.shape) self.old.count (size + opens_in (is_array self.old.shape) (outer self.old.inner) inner + self.old.sum)) }
+            (λ _. (self.new.sum ≡ size + opens_in (is_array self.old.shape) self.old.inner after + self.old.sum) × ((self.new.count ≡ if is_array self.old.shape then self.old.count + 1 else self.old.count) × (self.new.inner ≡ if is_array self.old.shape then after else self.old.inner)))
+            (λ e. (e ≡ Error.TooLong) × over (is_array self.old.shape) self.old.count (size + opens_in (is_array self.old.shape) self.old.inner after + self.old.sum)) }
         ensures transparent { self.old.shape ≡ Shape.Transparent → MatchResult result
             (λ _. (self.new.sum ≡ size + self.old.sum) × (self.new.inner ≡ self.old.inner))
             (λ e. (e ≡ Error.TooLong) × (18446744073709551615 < size + self.old.sum)) }
         ensures bare { self.old.shape ≡ Shape.Bare → MatchResult result
-            (λ _. (self.old.count ≡ 0) × ((self.new.count ≡ 1) × ((self.new.sum ≡ size) × (self.new.inner ≡ Under.Plain inner))))
+            (λ _. (self.old.count ≡ 0) × ((self.new.count ≡ 1) × ((self.new.sum ≡ size) × (self.new.inner ≡ after))))
             (λ e. (e ≡ Error.InvalidValue) × (1 ≤ self.old.count)) }
         ensures before { is_gathered self.old.shape ≡ true → IfOk result (λ _. self.new.before ≡ self.old.sum) }
         ensures kept { IfErr result (λ _. self.new ≡ self.old) }
@@ -115,9 +123,9 @@ impl Open {
         ensures shape { self.new.shape ≡ self.old.shape }
     {
         match self.shape {
-            Shape::Array => self.take_element(size, inner),
+            Shape::Array => self.take_element(size, after),
             Shape::Transparent => self.add(size, usize::MAX),
-            Shape::Bare => self.take_value(size, inner),
+            Shape::Bare => self.take_value(size, after),
             _ => self.add(size, LONGEST),
         }
     }
@@ -145,18 +153,18 @@ impl Open {
 
     /// Counts an element of an array, and the constructor before the first.
     #[inline(always)]
-    fn take_element(&mut self, size: usize, inner: Place) -> Result<(), Error>
+    fn take_element(&mut self, size: usize, after: Under) -> Result<(), Error>
         requires { self.old.shape ≡ Shape.Array }
         ensures kept { MatchResult result
-            (λ _. (self.new.sum ≡ size + opens (outer self.old.inner) inner + self.old.sum) × ((self.new.count ≡ self.old.count + 1) × (self.new.inner ≡ Under.Plain inner)))
-            (λ e. (self.new ≡ self.old) × ((e ≡ Error.TooLong) × over true self.old.count (size + opens (outer self.old.inner) inner + self.old.sum))) }
+            (λ _. (self.new.sum ≡ size + opens_in true self.old.inner after + self.old.sum) × ((self.new.count ≡ self.old.count + 1) × (self.new.inner ≡ after)))
+            (λ e. (self.new ≡ self.old) × ((e ≡ Error.TooLong) × over true self.old.count (size + opens_in true self.old.inner after + self.old.sum))) }
         ensures before { IfOk result (λ _. self.new.before ≡ self.old.sum) }
         ensures few { self.old.count ≤ 4294967295 → self.new.count ≤ 4294967295 }
         ensures place { self.new.place ≡ self.old.place }
         ensures shape { self.new.shape ≡ self.old.shape }
     {
-        let opened = match (self.inner.outer(), inner) {
-            (Place::First, Place::Element(_)) => 1,
+        let opened = match (self.inner, after) {
+            (Under::Plain(Place::First), Under::Plain(Place::Element(_))) => 1,
             _ => 0,
         };
         let most = LONGEST - self.sum;
@@ -169,16 +177,16 @@ impl Open {
         self.count += 1;
         self.before = self.sum;
         self.sum = self.sum + size + opened;
-        self.inner = Under::Plain(inner);
+        self.inner = after;
         Ok(())
     }
 
     /// Keeps the one value of a bare compound, and what comes after it.
     #[inline(always)]
-    fn take_value(&mut self, size: usize, inner: Place) -> Result<(), Error>
+    fn take_value(&mut self, size: usize, after: Under) -> Result<(), Error>
         requires { self.old.shape ≡ Shape.Bare }
         ensures kept { MatchResult result
-            (λ _. (self.old.count ≡ 0) × ((self.new.count ≡ 1) × ((self.new.sum ≡ size) × (self.new.inner ≡ Under.Plain inner))))
+            (λ _. (self.old.count ≡ 0) × ((self.new.count ≡ 1) × ((self.new.sum ≡ size) × (self.new.inner ≡ after))))
             (λ e. (self.new ≡ self.old) × ((e ≡ Error.InvalidValue) × (1 ≤ self.old.count))) }
         ensures place { self.new.place ≡ self.old.place }
         ensures shape { self.new.shape ≡ self.old.shape }
@@ -188,7 +196,7 @@ impl Open {
         }
         self.count = 1;
         self.sum = size;
-        self.inner = Under::Plain(inner);
+        self.inner = after;
         Ok(())
     }
 

@@ -128,7 +128,7 @@ impl Serializer for SizeSerializer {
     #[inline(always)]
     fn begin(&mut self, kind: Kind) -> Open {
         let under = self.place;
-        self.place = Under::Plain(under.outer().rest());
+        self.place = Under::Plain(under.rest());
         Open::new(under, under.shape(kind))
     }
 
@@ -152,10 +152,10 @@ impl Serializer for SizeSerializer {
         ensures refused { IfErr part (λ _. IsErr result) }
         ensures same { IfErr part (λ e. (result ≡ Err e) × ((held.new ≡ held.old) × (self.new.place ≡ Under.Plain (rest held.old.place)))) }
     {
-        let inner = self.place.outer();
+        let after = self.place;
         self.place = Under::Plain(held.place().rest());
         let size = part?;
-        held.take(size, inner)
+        held.take(size, after)
     }
 
     #[inline(always)]

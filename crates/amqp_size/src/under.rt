@@ -3,7 +3,7 @@
 ghost use Rattle.std.specs.Prelude.{◌≡◌, Option, Some, MatchResult};
 ghost use Rattle.amqp_ser.specs.Tree.{Tree};
 ghost use Rattle.amqp_ser.specs.Marked.{marked};
-ghost use Rattle.amqp_size.specs.Place.{outer, meant, shape_of, the_mark, described_under};
+ghost use Rattle.amqp_size.specs.Place.{outer, meant, rest, shape_of, the_mark, described_under};
 ghost use Rattle.amqp_size.specs.Take.{undescribed};
 
 use crate::place::{Place, ScalarMark, Shape, Under};
@@ -11,18 +11,33 @@ use amqp_data::Error;
 use amqp_ser::{Kind, Mark};
 
 impl Under {
+    #[inline(always)]
+    fn whole(self) -> Place
+        ensures { result ≡ outer self }
+    {
+        match self {
+            Under::Plain(place) => place,
+            Under::Array(place) => place,
+            Under::Transparent(place) => place,
+            Under::Scalar(_, place) => place,
+            Under::Nothing(place) => place,
+        }
+    }
+
     /// The place itself.
     #[inline(always)]
     pub fn outer(self) -> Place
         ensures { result ≡ outer self }
     {
-        match self {
-            Under::Plain(place) => place.parts(),
-            Under::Array(place) => place.parts(),
-            Under::Transparent(place) => place.parts(),
-            Under::Scalar(_, place) => place.parts(),
-            Under::Nothing(place) => place.parts(),
-        }
+        self.whole().parts()
+    }
+
+    /// Where a serializer stands after a refusal there.
+    #[inline(always)]
+    pub fn rest(self) -> Place
+        ensures { result ≡ rest (outer self) }
+    {
+        self.whole().rest()
     }
 
     /// What is opened there.

@@ -46,7 +46,7 @@ fn described_values(rt: HostRuntime) -> Result<(), Fail> {
         writes(
             rt.alloc(),
             &(coded(1, coded(0, "a")), 2u8),
-            b"\xc0\x0c\x02\x00\x53\x01\x00\x44\xa1\x01a\x50\x02"
+            b"\xc0\x0b\x02\x00\x53\x01\x00\x44\xa1\x01a\x50\x02"
         )
     );
     Ok(())

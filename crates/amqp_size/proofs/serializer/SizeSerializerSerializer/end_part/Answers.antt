@@ -44,7 +44,7 @@ returns-clause-step c = λ start kind before ps p w r.
     let here = subst (λ u. at_place (outer u) (meant u p) c.args.part after) w.1 r in
     let counted = subst (λ x. at_place (outer held.inner) (meant held.inner p) x after) c.in_ok-size.was here in
     let t = c.take.ensures in
-    let taking : Taking held c.take.new.self size c.outer-inner.result c.take.result = record {
+    let taking : Taking held c.take.new.self size after c.take.result = record {
       place = t.place;
       shape = t.shape;
       few = t.few;
@@ -55,4 +55,4 @@ returns-clause-step c = λ start kind before ps p w r.
       bare = t.bare;
     } in
     known start kind held c.take.new.self ps p c.take.result _ w.0 (ap Plain (c.rest.ensures ∙ ap rest c.place.ensures)) t.place t.kept
-    (taken_any start kind held c.take.new.self ps w.0 p size after counted c.take.result (subst (λ q. Taking held c.take.new.self size q c.take.result) c.outer-inner.ensures taking))
+    (taken_any start kind held c.take.new.self ps w.0 p size after counted c.take.result taking)
