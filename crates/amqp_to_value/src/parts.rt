@@ -44,7 +44,10 @@ impl Parts {
         match (under, kind) {
             (Under::Mark(Mark::Other), Kind::List) => Parts::List(Vec::new(alloc)),
             (Under::Mark(Mark::Other), Kind::Map) => Parts::Map(Gathered::new(alloc)),
-            (Under::Mark(Mark::Other), Kind::Fields(index)) => Parts::Fields(index, Vec::new(alloc)),
+            (Under::Mark(Mark::Other), Kind::Fields(index)) => Parts::Fields(
+                index,
+                Vec::new(alloc),
+            ),
             (Under::Mark(Mark::Other), Kind::Only(index)) => Parts::Only(index, Vec::new(alloc)),
             (Under::Mark(Mark::Array), Kind::List) => Parts::Array(Vec::new(alloc)),
             (Under::Mark(Mark::Transparent), Kind::List) => Parts::Transparent(Vec::new(alloc)),
