@@ -1,9 +1,9 @@
 -- What an open compound holds after one part more, or one less.
-use Rattle.std.proofs.Common.{◌≡◌, List, [], ◌∷◌, ◌++◌, Option, Some, None, Result, Ok, Err, MatchResult, true, refl, ap, sym, ◌∙◌, subst}
+use Rattle.std.proofs.Common.{◌≡◌, List, [], ◌∷◌, ◌++◌, Option, Some, None, Result, Ok, Err, MatchResult, ok_or, true, true≢false, refl, ap, sym, ◌∙◌, subst}
 use Rattle.amqp_data.specs.declared.error.Error.{Error}
 use Rattle.amqp_data.specs.declared.error.Error.TheVariants as error
-use Rattle.amqp_ser.specs.Tree.{Tree, Trees, Pairs, null, scalar, list, array, map, described, variant, lazy, transparent, no_trees, more}
-use Rattle.amqp_ser.specs.Compounds.{all_trees, before, in_pairs, as_kind, whole, paired}
+use Rattle.amqp_ser.specs.Tree.{Descriptor, Tree, Trees, Pairs, null, scalar, list, array, map, described, variant, lazy, transparent, no_trees, more}
+use Rattle.amqp_ser.specs.Compounds.{all_trees, before, complete, in_pairs, as_kind, whole, paired}
 use Rattle.amqp_ser.specs.Marked.{marked, marked_tree}
 use Rattle.amqp_ser.specs.declared.kind.Kind.{Kind}
 use Rattle.amqp_ser.specs.declared.kind.Kind.TheVariants as kinds
@@ -16,11 +16,13 @@ use Rattle.amqp_value.specs.declared.value.Value.{Value}
 use Rattle.amqp_to_value.specs.Permitted.{refuses, StandsFor, IsImageOf}
 use Rattle.amqp_to_value.specs.Under.{meant}
 use Rattle.amqp_to_value.specs.Fed.{then, Fed, made, TakesPairs}
-use Rattle.amqp_to_value.specs.Holds.{Holds, IsFresh, value_permits, value_has}
+use Rattle.amqp_to_value.specs.Around.{described_by}
+use Rattle.amqp_to_value.specs.Holds.{Holds, HasParts, HasValue, IsKept, meant_by}
 use Rattle.amqp_to_value.specs.declared.under.Under.{Under}
 use Rattle.amqp_to_value.specs.declared.under.Under.TheVariants as under
-use Rattle.amqp_to_value.specs.declared.open.Open.{Open}
-use Rattle.amqp_to_value.specs.declared.open.Open.TheVariants as held
+use Rattle.amqp_to_value.specs.declared.open.Body.TheVariants as body
+use Rattle.amqp_to_value.specs.declared.parts.Parts.{Parts}
+use Rattle.amqp_to_value.specs.declared.parts.Parts.TheVariants as parts
 use Rattle.amqp_to_value.specs.declared.serializer.Serializer.{Serializer}
 use Rattle.amqp_to_value.proofs.FedLemmas.{join_then, all_trees-then}
 
@@ -41,11 +43,12 @@ other : (p : Option Tree) → marked mark.Other p ≡ p
 other None = refl
 other (Some t) = unmarked t
 
--- what is meant under no marker
-pub plain_answer : (s : Serializer) (p : Option Tree) (r : Result Value Error) → IsFresh s → IsImageOf (meant s.under p) r → IsImageOf p r
-plain_answer s p r fresh is = subst (λ o. IsImageOf o r) (ap (λ u. meant u p) fresh ∙ other p) is
+-- what is meant with nothing before it
+pub plain_answer : (s : Serializer) (ds : List Descriptor) (p : Option Tree) (r : Result Value Error) → IsKept ds s → IsImageOf (meant_by s p) r → IsImageOf p r
+plain_answer s ds p r kept is =
+    subst (λ o. IsImageOf o r) (ap (λ ds. described_by ds (meant s.under p)) kept.0.1 ∙ ap (λ u. meant u p) kept.0.0 ∙ other p) is
 
-meant_none : (u : Under) → meant u None ≡ None
+pub meant_none : (u : Under) → meant u None ≡ None
 meant_none (under.Mark m) = refl
 meant_none under.Nothing = refl
 
@@ -66,16 +69,16 @@ refused u kind ps None error.InvalidValue r rest = subst (refuses error.InvalidV
 refused u kind ps (Some t) error.InvalidValue r rest = absurd r
 refused u kind ps p e r rest = absurd r
 
-module _ (start : Serializer) (kind : Kind) (old new : Open) (ps : List (Option Tree)) (h : Holds start kind old ps) (makes : (o : Option Trees) → made new o ≡ made old o) where
+module _ (u : Under) (kind : Kind) (old new : Parts) (ps : List (Option Tree)) (h : Holds u kind old ps) (makes : (o : Option Trees) → made new o ≡ made old o) where
   -- the same parts
-  kept : Fed new h.ts → Holds start kind new ps
+  kept : Fed new h.ts → Holds u kind new ps
   kept fed = record { ts = h.ts; trees = h.trees; fed = fed; makes = λ o. h.makes o ∙ sym (makes o) }
 
   -- one part more, or want of memory
   pub part_taken : (p : Option Tree) (v : Value) → StandsFor v p → (r : Result (Unit {0}) Error)
       → ((ts : Trees) (t : Tree) → Fed old ts → tree_of v ≡ image t → MatchResult r (λ _. Fed new (then ts t)) (λ e. Fed new ts × (e ≡ error.OutOfMemory)))
-      → MatchResult r (λ _. Holds start kind new (ps ++ (p ∷ [])))
-      (λ e. Holds start kind new ps × ((rest : List (Option Tree)) → refuses e (meant start.under (whole kind (ps ++ (p ∷ rest))))))
+      → MatchResult r (λ _. Holds u kind new (ps ++ (p ∷ [])))
+      (λ e. Holds u kind new ps × ((rest : List (Option Tree)) → refuses e (meant u (whole kind (ps ++ (p ∷ rest))))))
   part_taken None v s r step = absurd s
   part_taken (Some t) v s (Ok u) step = record {
     ts = then h.ts t;
@@ -85,25 +88,17 @@ module _ (start : Serializer) (kind : Kind) (old new : Open) (ps : List (Option 
   }
   part_taken (Some t) v s (Err e) step =
       let after = step h.ts t h.fed s in
-      (kept after.0, λ rest. subst (λ x. refuses x (meant start.under (whole kind (ps ++ (Some t ∷ rest))))) (sym after.1) tt)
-
-  -- and the serializer is under no marker
-  pub part_answered : (p : Option Tree) (v : Value) → StandsFor v p → (r : Result (Unit {0}) Error)
-      → ((ts : Trees) (t : Tree) → Fed old ts → tree_of v ≡ image t → MatchResult r (λ _. Fed new (then ts t)) (λ e. Fed new ts × (e ≡ error.OutOfMemory)))
-      → (s : Serializer) → IsFresh s
-      → MatchResult r (λ _. value_has start kind s new (ps ++ (p ∷ [])))
-      (λ e. value_has start kind s new ps × ((rest : List (Option Tree)) → value_permits start (whole kind (ps ++ (p ∷ rest))) (Err e) s))
-  part_answered p v stands (Ok u) step s fresh = (part_taken p v stands (Ok u) step, fresh)
-  part_answered p v stands (Err e) step s fresh = let t = part_taken p v stands (Err e) step in ((t.0, fresh), λ rest. (t.1 rest, fresh))
+      (kept after.0, λ rest. subst (λ x. refuses x (meant u (whole kind (ps ++ (Some t ∷ rest))))) (sym after.1) tt)
 
 -- a compound of the kind map takes keys and values in turn
-takes_pairs : (u : Under) (o : Open) → ((ts : Option Trees) → meant u (as_kind kinds.Map ts) ≡ made o ts) → TakesPairs o
-takes_pairs u (held.Map g) m = tt
-takes_pairs u held.Refused m = tt
-takes_pairs u (held.List v) m = absurd (none-some _ (sym (meant_none u) ∙ m (Some (more (scalar null) no_trees))))
-takes_pairs u (held.Array v) m = absurd (none-some _ (sym (meant_none u) ∙ m (Some (more (scalar null) no_trees))))
-takes_pairs u (held.Fields i v) m = absurd (none-some _ (sym (meant_none u) ∙ m (Some (more (scalar null) no_trees))))
-takes_pairs u (held.Only i v) m = absurd (none-some _ (sym (meant_none u) ∙ m (Some (more (scalar null) no_trees))))
+takes_pairs : (u : Under) (o : Parts) → ((ts : Option Trees) → meant u (as_kind kinds.Map ts) ≡ made o ts) → TakesPairs o
+takes_pairs u (parts.Map g) m = tt
+takes_pairs u parts.Refused m = tt
+takes_pairs u (parts.List v) m = absurd (none-some _ (sym (meant_none u) ∙ m (Some (more (scalar null) no_trees))))
+takes_pairs u (parts.Array v) m = absurd (none-some _ (sym (meant_none u) ∙ m (Some (more (scalar null) no_trees))))
+takes_pairs u (parts.Transparent v) m = absurd (none-some _ (sym (meant_none u) ∙ m (Some (more (scalar null) no_trees))))
+takes_pairs u (parts.Fields i v) m = absurd (none-some _ (sym (meant_none u) ∙ m (Some (more (scalar null) no_trees))))
+takes_pairs u (parts.Only i v) m = absurd (none-some _ (sym (meant_none u) ∙ m (Some (more (scalar null) no_trees))))
 
 -- the last of the parts
 last_part : (o : Option Trees) (p : Option Tree) (ts : Trees) → joined o (before p (Some no_trees)) ≡ Some ts → (us : Trees) × (t : Tree) × (o ≡ Some us) × (ts ≡ then us t)
@@ -112,17 +107,41 @@ last_part (Some us) None ts h = cc
 last_part (Some us) (Some t) ts h = let e : join us (more t no_trees) ≡ ts = cc in (us, t, refl, sym e ∙ join_then us t)
 
 -- a key that is taken back
-pub undone : (start : Serializer) (old new : Open) (ps : List (Option Tree)) (p : Option Tree) → Holds start kinds.Map old (ps ++ (p ∷ [])) → paired ps ≡ true
+pub undone : (u : Under) (old new : Parts) (ps : List (Option Tree)) (p : Option Tree) → Holds u kinds.Map old (ps ++ (p ∷ [])) → paired ps ≡ true
     → ((o : Option Trees) → made new o ≡ made old o)
     → ((ts : Trees) (qs : Pairs) (t : Tree) → in_pairs ts ≡ Some qs → TakesPairs old → Fed old (then ts t) → Fed new ts)
-    → Holds start kinds.Map new ps
-undone start old new ps p h even makes back =
+    → Holds u kinds.Map new ps
+undone u old new ps p h even makes back =
     let last = last_part (all_trees ps) p h.ts (sym (all_trees-append ps (p ∷ [])) ∙ h.trees) in
     let us = last.0 in
     let pairs : Pairing us = pairing us (sym (paired-even ps us last.2) ∙ even) in
     record {
       ts = us;
       trees = last.2;
-      fed = back us pairs.pairs last.1 pairs.are (takes_pairs start.under old h.makes) (subst (Fed old) last.3 h.fed);
+      fed = back us pairs.pairs last.1 pairs.are (takes_pairs u old h.makes) (subst (Fed old) last.3 h.fed);
       makes = λ o. h.makes o ∙ sym (makes o);
     }
+
+-- the value of a bare compound
+bare_answer : (u : Under) (o : Option Value) (r : Result Value Error) (ps : List (Option Tree)) → HasValue u o ps → complete kinds.Bare ps ≡ true → r ≡ ok_or o error.InvalidValue
+    → IsImageOf (meant u (whole kinds.Bare ps)) r
+unfolding whole
+bare_answer u None r [] h c e = absurd (true≢false (sym c))
+bare_answer u None r (p ∷ ps) h c e = absurd h
+bare_answer u (Some v) r [] h c e = absurd h
+bare_answer u (Some v) r (None ∷ []) h c e = absurd (subst (StandsFor v) (meant_none u) h)
+bare_answer u (Some v) r (Some t ∷ []) h c e = subst (IsImageOf (meant u (Some t))) (sym e) h
+bare_answer u (Some v) r (p ∷ (q ∷ ps)) h c e = absurd h
+
+pub bare_value : (u w : Under) (k : Kind) (o : Option Value) (r : Result Value Error) (ps : List (Option Tree)) → HasParts u k (body.Bare w o) ps → complete k ps ≡ true
+    → r ≡ ok_or o error.InvalidValue → IsImageOf (meant u (whole k ps)) r
+bare_value u w k o r ps h c e =
+    subst (λ x. IsImageOf (meant u (whole x ps)) r) (sym h.0)
+    (bare_answer u o r ps h.2 (subst (λ x. complete x ps ≡ true) h.0 c) e)
+
+-- the value of a compound of parts
+pub parts_value : (u : Under) (k : Kind) (parts : Parts) (r : Result Value Error) (ps : List (Option Tree)) → Holds u k parts ps
+    → ((ts : Trees) → Fed parts ts → IsImageOf (made parts (Some ts)) r) → IsImageOf (meant u (whole k ps)) r
+unfolding whole
+parts_value u k parts r ps h gives =
+    subst (λ o. IsImageOf o r) (sym (h.makes (Some h.ts)) ∙ ap (λ o. meant u (as_kind k o)) (sym h.trees)) (gives h.ts h.fed)

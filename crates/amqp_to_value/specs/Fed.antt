@@ -1,15 +1,16 @@
 -- What a compound holds of the trees that it was fed.
-use Rattle.std.specs.Prelude.{◌≡◌, Option, Some, None, option_map}
+use Rattle.std.specs.Prelude.{◌≡◌, Bool, true, false, Option, Some, None, option_map}
 use Rattle.amqp_ser.specs.Tree.{Tree, Trees, Pairs, no_trees, more, no_pairs}
 use Rattle.amqp_ser.specs.Compounds.{as_kind}
 use Rattle.amqp_ser.specs.Marked.{marked}
+use Rattle.amqp_ser.specs.declared.kind.Kind.{Kind}
 use Rattle.amqp_ser.specs.declared.kind.Kind.TheVariants as kind
 use Rattle.amqp_ser.specs.declared.mark.Mark.TheVariants as mark
 use Rattle.amqp_value.specs.Image.{image, images, insert_tree}
 use Rattle.amqp_value.specs.TreeOf.{tree_of, all_of, pairs_trees}
 use Rattle.amqp_to_value.specs.declared.gathered.Gathered.{Gathered}
-use Rattle.amqp_to_value.specs.declared.open.Open.{Open}
-use Rattle.amqp_to_value.specs.declared.open.Open.TheVariants as held
+use Rattle.amqp_to_value.specs.declared.parts.Parts.{Parts}
+use Rattle.amqp_to_value.specs.declared.parts.Parts.TheVariants as held
 
 -- these trees and one more
 abbrev pub then : Trees → Tree → Trees
@@ -35,25 +36,32 @@ fed_onto (more k no_trees) done = (done, Some (image k))
 fed_onto (more k (more v ts)) done = fed_onto ts (insert_tree done (image k) (image v))
 
 -- the images of these trees are held, in order
-abbrev pub Fed : Open → Trees → Type 0
+abbrev pub Fed : Parts → Trees → Type 0
 Fed (held.List v) ts = all_of v.items ≡ images ts
 Fed (held.Array v) ts = all_of v.items ≡ images ts
+Fed (held.Transparent v) ts = all_of v.items ≡ images ts
 Fed (held.Map g) ts = held_pairs g ≡ fed_onto ts no_pairs
 Fed (held.Fields i v) ts = all_of v.items ≡ images ts
 Fed (held.Only i v) ts = all_of v.items ≡ images ts
 Fed held.Refused ts = Unit {0}
 
+-- one value that stands for itself
+abbrev pub is_bare : Kind → Bool
+is_bare kind.Bare = true
+is_bare k = false
+
 -- the tree that a compound makes of its parts
-abbrev pub made : Open → Option Trees → Option Tree
+abbrev pub made : Parts → Option Trees → Option Tree
 made (held.List v) ts = as_kind kind.List ts
 made (held.Array v) ts = marked mark.Array (as_kind kind.List ts)
+made (held.Transparent v) ts = marked mark.Transparent (as_kind kind.List ts)
 made (held.Map g) ts = as_kind kind.Map ts
 made (held.Fields i v) ts = as_kind (kind.Fields i) ts
 made (held.Only i v) ts = as_kind (kind.Only i) ts
 made held.Refused ts = None
 
 -- a compound of keys and values in turn
-abbrev pub TakesPairs : Open → Type 0
+abbrev pub TakesPairs : Parts → Type 0
 TakesPairs (held.Map g) = Unit {0}
 TakesPairs held.Refused = Unit {0}
 TakesPairs o = ⊥

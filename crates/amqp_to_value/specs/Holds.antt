@@ -1,31 +1,76 @@
 -- What the value serializer may answer, and what its compounds were fed.
-use Rattle.std.specs.Prelude.{◌≡◌, List, Option, Some, Result}
+use Rattle.std.specs.Prelude.{◌≡◌, ◌≤◌, false, List, [], ◌∷◌, ◌++◌, length, Option, Some, None, Result, Ok, Err}
 use Rattle.amqp_data.specs.declared.error.Error.{Error}
-use Rattle.amqp_ser.specs.Tree.{Tree, Trees}
+use Rattle.amqp_ser.specs.Tree.{Descriptor, Tree, Trees}
 use Rattle.amqp_ser.specs.Compounds.{all_trees, as_kind}
 use Rattle.amqp_ser.specs.declared.kind.Kind.{Kind}
+use Rattle.amqp_ser.specs.declared.kind.Kind.TheVariants as kind
 use Rattle.amqp_ser.specs.declared.mark.Mark.TheVariants as mark
 use Rattle.amqp_value.specs.declared.value.Value.{Value}
-use Rattle.amqp_to_value.specs.Permitted.{IsImageOf}
+use Rattle.amqp_to_value.specs.Around.{aside_of, described_by}
+use Rattle.amqp_to_value.specs.Permitted.{IsImageOf, StandsFor}
 use Rattle.amqp_to_value.specs.Under.{meant}
-use Rattle.amqp_to_value.specs.Fed.{Fed, made}
+use Rattle.amqp_to_value.specs.Fed.{Fed, is_bare, made}
+use Rattle.amqp_to_value.specs.declared.under.Under.{Under}
 use Rattle.amqp_to_value.specs.declared.under.Under.TheVariants as under
 use Rattle.amqp_to_value.specs.declared.open.Open.{Open}
+use Rattle.amqp_to_value.specs.declared.open.Body.{Body}
+use Rattle.amqp_to_value.specs.declared.open.Body.TheVariants as body
+use Rattle.amqp_to_value.specs.declared.parts.Parts.{Parts}
 use Rattle.amqp_to_value.specs.declared.serializer.Serializer.{Serializer}
 
--- under no marker
+-- under no marker, and after no descriptor
 abbrev pub IsFresh : Serializer → Type 0
-IsFresh s = s.under ≡ under.Mark mark.Other
+IsFresh s = (s.under ≡ under.Mark mark.Other) × (s.around.1 ≡ [])
+
+-- the tree that is meant: under its marker, after its descriptors
+abbrev pub meant_by : Serializer → Option Tree → Option Tree
+meant_by s t = described_by s.around.1 (meant s.under t)
+
+-- fresh, with these descriptors put aside, and with some that are needed no more
+abbrev pub IsKept : List Descriptor → Serializer → Type 0
+IsKept ds s = IsFresh s × (more : List Descriptor) × (s.around.0 ≡ ds ++ more)
+
+-- the descriptors that an answer leaves of those put aside and its own: a value uses up its own, and leaves their room
+abbrev pub Leaves : List Descriptor → List Descriptor → Result Value Error → Serializer → Type 0
+Leaves others own (Ok v) s = IsKept others s × (length (others ++ own) ≤ s.around.2)
+Leaves others own (Err e) s = IsKept (others ++ own) s
 
 abbrev pub value_permits : Serializer → Option Tree → Result Value Error → Serializer → Type 0
-value_permits s t r after = IsImageOf (meant s.under t) r × IsFresh after
+value_permits s t r after = IsImageOf (meant_by s t) r × Leaves s.around.0 s.around.1 r after
 
 -- an open compound, of the parts that it was fed
-pub record Holds (start : Serializer) (kind : Kind) (held : Open) (ps : List (Option Tree)) : Type 0 where
+pub record Holds (under : Under) (kind : Kind) (held : Parts) (ps : List (Option Tree)) : Type 0 where
   pub ts : Trees
   pub trees : all_trees ps ≡ Some ts
   pub fed : Fed held ts
-  pub makes : (o : Option Trees) → meant start.under (as_kind kind o) ≡ made held o
+  pub makes : (o : Option Trees) → meant under (as_kind kind o) ≡ made held o
+
+-- a bare compound has no value and no part, or the value of its one part
+abbrev pub HasValue : Under → Option Value → List (Option Tree) → Type 0
+HasValue u None [] = Unit {0}
+HasValue u None (p ∷ ps) = ⊥
+HasValue u (Some v) [] = ⊥
+HasValue u (Some v) (p ∷ []) = StandsFor v (meant u p)
+HasValue u (Some v) (p ∷ (q ∷ ps)) = ⊥
+
+-- a compound, opened under this, may have been fed these parts
+abbrev pub HasParts : Under → Kind → Body → List (Option Tree) → Type 0
+HasParts u k (body.Bare w v) ps = (k ≡ kind.Bare) × (w ≡ u) × HasValue u v ps
+HasParts u k (body.Parts parts) ps = (is_bare k ≡ false) × Holds u k parts ps
+
+-- what the compound stands in is put aside
+abbrev pub IsAside : Serializer → Serializer → Type 0
+IsAside start s = IsKept (start.around.0 ++ start.around.1) s
+
+-- before its value a bare compound has the serializer stand as at its opening
+abbrev pub IsReady : Serializer → Serializer → Body → Type 0
+IsReady start s (body.Bare u None) = (s.under ≡ start.under) × (s.around.0 ≡ start.around.0) × (s.around.1 ≡ start.around.1)
+IsReady start s (body.Bare u (Some v)) = IsAside start s
+IsReady start s (body.Parts parts) = IsAside start s
 
 abbrev pub value_has : Serializer → Kind → Serializer → Open → List (Option Tree) → Type 0
-value_has start kind s held ps = Holds start kind held ps × IsFresh s
+value_has start k s held ps = (held.aside ≡ aside_of start.around.0 start.around.1) × HasParts start.under k held.body ps × IsAside start s
+
+abbrev pub value_awaits : Serializer → Kind → Serializer → Open → List (Option Tree) → Type 0
+value_awaits start k s held ps = (held.aside ≡ aside_of start.around.0 start.around.1) × HasParts start.under k held.body ps × IsReady start s held.body

@@ -1,3 +1,4 @@
+pub mod Around
 pub mod Permitted
 pub mod Under
 pub mod Fed

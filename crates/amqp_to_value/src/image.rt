@@ -13,7 +13,8 @@ use std::alloc::Global;
 /// The untyped value that stands for the value: its tree is the image of the value's tree.
 ///
 /// Each kind of tree is its variant. A variant of an enum is the map of one pair, from its index as an uint to its
-/// payload. The pairs of a map are inserted in order: a present key keeps its place and takes the new value.
+/// payload, and a transparent vector is the list of its elements. The pairs of a map are inserted in order: a present
+/// key keeps its place and takes the new value.
 ///
 /// # Errors
 /// `OutOfMemory` where a growth of memory is refused; `InvalidValue` only where the value has no tree, and then one of

@@ -1,14 +1,16 @@
 //! The untyped value that a value stands for.
 //!
 //! `to_value` answers with the value whose tree is the image of what it is given. `Serializer` is the serializer behind
-//! it, and takes values piece by piece. The bytes of a value and of its image are the same, but for maps two of whose
-//! keys have one image.
+//! it, and takes values piece by piece. The bytes of a value and of its image are the same, but for transparent
+//! vectors, whose images are lists, and for maps two of whose keys have one image.
 #![tactic(auto)]
 
+mod around;
 mod gathered;
 mod image;
 pub mod laws;
 mod open;
+mod parts;
 mod scalars;
 mod serializer;
 #[cfg(test)]

@@ -1,123 +1,79 @@
-//! A compound whose parts are still gathered.
+//! A compound that is still fed.
 
-ghost use Rattle.std.specs.Prelude.{◌≡◌, ◌++◌, ◌∷◌, [], List, Option, Some, None, MatchResult, MatchOption};
-ghost use Rattle.amqp_ser.specs.Tree.{Tree, Trees, Pairs, no_trees};
-ghost use Rattle.amqp_ser.specs.Compounds.{as_kind, in_pairs};
-ghost use Rattle.amqp_value.specs.Image.{image, variant_map};
-ghost use Rattle.amqp_value.specs.TreeOf.{tree_of};
-ghost use Rattle.amqp_to_value.specs.Fed.{Fed, made, then, TakesPairs};
+ghost use Rattle.std.specs.Prelude.{◌≡◌, ◌++◌, ◌∷◌, [], List, Option, Some, true};
+ghost use Rattle.amqp_ser.specs.Composites.{as_described};
+ghost use Rattle.amqp_ser.specs.Compounds.{complete, paired, whole};
+ghost use Rattle.amqp_ser.specs.Tree.{Descriptor, Tree};
+ghost use Rattle.amqp_ser.specs.declared.kind.Kind.{Kind};
+ghost use Rattle.amqp_ser.specs.declared.kind.Kind.TheVariants as kind;
+ghost use Rattle.amqp_to_value.specs.Holds.{HasParts};
 ghost use Rattle.amqp_to_value.specs.Permitted.{IsImageOf};
 ghost use Rattle.amqp_to_value.specs.Under.{meant};
+ghost use Rattle.amqp_to_value.specs.declared.under.Under.{Under};
 
-use crate::gathered::Gathered;
+use crate::around::Aside;
+use crate::parts::Parts;
 use crate::under::Under;
-use amqp_data::{Array, Error, OrderedMap};
-use amqp_ser::{Kind, Mark};
+use amqp_data::Error;
+use amqp_ser::Kind;
 use amqp_value::Value;
 use std::alloc::Global;
 
-/// A compound, with the values of the parts that it was fed.
+/// A compound, and what it stands in.
 #[derive(Drop)]
-pub enum Open {
-    /// A list of these elements.
-    List(Vec<Value>),
-    /// An array of these elements.
-    Array(Vec<Value>),
-    /// A map.
-    Map(Gathered),
-    /// The variant of this index and the list of its fields.
-    Fields(u32, Vec<Value>),
-    /// The variant of this index and its one value.
-    Only(u32, Vec<Value>),
-    /// A compound that its marker does not take: it keeps nothing.
-    Refused,
+pub struct Open {
+    pub aside: Aside,
+    pub body: Body,
 }
 
-impl Open {
-    /// What a compound of this kind is under a marker.
-    pub fn new(alloc: Global, under: Under, kind: Kind) -> Open
-        ensures makes { (o : Option Trees) → meant under (as_kind kind o) ≡ made result o }
-        ensures empty { Fed result no_trees }
+/// What a compound is fed.
+#[derive(Drop)]
+pub enum Body {
+    /// One value, that stands for itself where the compound was opened, under this.
+    Bare(Under, Option<Value>),
+    /// Parts of which the compound is made.
+    Parts(Parts),
+}
+
+impl Body {
+    /// A compound of this kind under a marker, without parts.
+    pub fn new(alloc: Global, under: Under, kind: Kind) -> Body
+        ensures { HasParts under kind result [] }
     {
-        match (under, kind) {
-            (Under::Mark(Mark::Other), Kind::List) => Open::List(Vec::new(alloc)),
-            (Under::Mark(Mark::Other), Kind::Map) => Open::Map(Gathered::new(alloc)),
-            (Under::Mark(Mark::Other), Kind::Fields(index)) => Open::Fields(index, Vec::new(alloc)),
-            (Under::Mark(Mark::Other), Kind::Only(index)) => Open::Only(index, Vec::new(alloc)),
-            (Under::Mark(Mark::Array), Kind::List) => Open::Array(Vec::new(alloc)),
-            _ => Open::Refused,
+        match kind {
+            Kind::Bare => Body::Bare(under, None),
+            kind => Body::Parts(Parts::new(alloc, under, kind)),
         }
     }
 
-    /// Takes one part more.
-    pub fn take(&mut self, part: Value) -> Result<(), Error>
-        ensures makes { (o : Option Trees) → made self.new o ≡ made self.old o }
-        ensures step { (ts : Trees) (t : Tree) → Fed self.old ts → tree_of part ≡ image t →
-            MatchResult result (λ _. Fed self.new (then ts t)) (λ e. Fed self.new ts × (e ≡ Error.OutOfMemory)) }
+    /// The value to come is a described one.
+    pub fn describe(&mut self)
+        ensures { (under : Under) → HasParts under kind.Bare self.old [] →
+            (inner : Under) × HasParts inner kind.Bare self.new [] × ((d : Descriptor) (t : Option Tree) → as_described (Some d) (meant inner t) ≡ meant under (as_described (Some d) t)) }
     {
-        match self {
-            Open::List(items) => gather(items, part),
-            Open::Array(items) => gather(items, part),
-            Open::Map(pairs) => pairs.take(part),
-            Open::Fields(_, items) => gather(items, part),
-            Open::Only(_, items) => gather(items, part),
-            Open::Refused => Ok(()),
+        if let Body::Bare(under, _) = self {
+            *under = under.with_descriptor();
         }
     }
 
     /// Takes a map's pending key back.
     pub fn undo(&mut self)
-        ensures makes { (o : Option Trees) → made self.new o ≡ made self.old o }
-        ensures back { (ts : Trees) (ps : Pairs) (t : Tree) → in_pairs ts ≡ Some ps → TakesPairs self.old → Fed self.old (then ts t) → Fed self.new ts }
+        ensures { (under : Under) (ps : List (Option Tree)) (p : Option Tree) → HasParts under kind.Map self.old (ps ++ (p ∷ [])) → paired ps ≡ true →
+            HasParts under kind.Map self.new ps }
     {
-        if let Open::Map(pairs) = self {
-            pairs.undo();
+        if let Body::Parts(parts) = self {
+            parts.undo();
         }
     }
 
     /// The value of the compound.
     pub fn into_value(self, alloc: Global) -> Result<Value, Error>
-        ensures { (ts : Trees) → Fed self ts → IsImageOf (made self (Some ts)) result }
+        ensures { (under : Under) (kind : Kind) (ps : List (Option Tree)) → HasParts under kind self ps → complete kind ps ≡ true →
+            IsImageOf (meant under (whole kind ps)) result }
     {
         match self {
-            Open::List(items) => Ok(Value::List(items)),
-            Open::Array(items) => Ok(Value::Array(Array::from(items))),
-            Open::Map(pairs) => pairs.into_value(alloc),
-            Open::Fields(index, items) => variant(alloc, index, Value::List(items)),
-            Open::Only(index, items) => match only(items) {
-                Some(payload) => variant(alloc, index, payload),
-                None => Err(Error::InvalidValue),
-            },
-            Open::Refused => Err(Error::InvalidValue),
+            Body::Bare(_, value) => value.ok_or(Error::InvalidValue),
+            Body::Parts(parts) => parts.into_value(alloc),
         }
     }
-}
-
-// Puts a value last.
-fn gather(items: &mut Vec<Value>, value: Value) -> Result<(), Error>
-    ensures { MatchResult result
-        (λ _. items.new.items ≡ items.old.items ++ (value ∷ []))
-        (λ e. (items.new.items ≡ items.old.items) × (e ≡ Error.OutOfMemory)) }
-{
-    items.push(value)?;
-    Ok(())
-}
-
-// The one value, where there is one and no more.
-fn only(mut items: Vec<Value>) -> Option<Value>
-    ensures { MatchOption result ((v : Value) → items.items ≡ v ∷ [] → ⊥) (λ v. items.items ≡ v ∷ []) }
-{
-    let last = items.pop()?;
-    if items.is_empty() { Some(last) } else { None }
-}
-
-// The map of one pair that stands for a variant.
-fn variant(alloc: Global, index: u32, payload: Value) -> Result<Value, Error>
-    ensures { MatchResult result
-        (λ v. tree_of v ≡ variant_map index (tree_of payload))
-        (λ e. e ≡ Error.OutOfMemory) }
-{
-    let mut pairs = Vec::new(alloc);
-    pairs.push((Value::Uint(index), payload))?;
-    Ok(Value::Map(OrderedMap::from_distinct(pairs)))
 }

@@ -1,6 +1,8 @@
 //! The values of scalars.
 
-ghost use Rattle.std.specs.Prelude.{◌≡◌, Some, MatchResult};
+ghost use Rattle.std.specs.Prelude.{◌≡◌, Some, None, MatchResult};
+ghost use Rattle.amqp_ser.specs.Carried.{descriptor_content};
+ghost use Rattle.amqp_ser.specs.Composites.{descriptor_of};
 ghost use Rattle.amqp_ser.specs.Tree.{scalar, binary, string};
 ghost use Rattle.amqp_ser.specs.Fixed.{fixed_scalar};
 ghost use Rattle.amqp_value.specs.TreeOf.{tree_of};
@@ -8,7 +10,9 @@ ghost use Rattle.amqp_to_value.specs.Permitted.{IsImageOf};
 ghost use Rattle.amqp_to_value.specs.Under.{meant};
 
 use crate::under::Under;
-use amqp_data::{ByteBuf, Dec32, Dec64, Dec128, Error, F32Bits, F64Bits, Symbol, Timestamp, Uuid};
+use amqp_data::{
+    ByteBuf, Dec32, Dec64, Dec128, Descriptor, Error, F32Bits, F64Bits, Symbol, Timestamp, Uuid,
+};
 use amqp_ser::{Fixed, Mark};
 use amqp_value::Value;
 use std::alloc::Global;
@@ -66,6 +70,19 @@ pub fn marked_bytes(alloc: Global, under: Under, bytes: &[u8]) -> Result<Value, 
         Under::Mark(Mark::Decimal64) => Ok(Value::Decimal64(Dec64::try_from(bytes)?)),
         Under::Mark(Mark::Decimal128) => Ok(Value::Decimal128(Dec128::try_from(bytes)?)),
         Under::Mark(Mark::Uuid) => Ok(Value::Uuid(Uuid::try_from(bytes)?)),
+        _ => Err(Error::InvalidValue),
+    }
+}
+
+/// The descriptor that a value is: a name where it is a symbol, a code where it is a ulong.
+pub fn descriptor_from(value: Value) -> Result<Descriptor, Error>
+    ensures { MatchResult result
+        (λ d. descriptor_of (Some (tree_of value)) ≡ Some (descriptor_content d))
+        (λ e. (descriptor_of (Some (tree_of value)) ≡ None) × (e ≡ Error.InvalidValue)) }
+{
+    match value {
+        Value::Symbol(name) => Ok(Descriptor::Name(name)),
+        Value::Ulong(code) => Ok(Descriptor::Code(code)),
         _ => Err(Error::InvalidValue),
     }
 }

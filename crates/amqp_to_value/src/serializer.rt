@@ -1,11 +1,14 @@
 //! The serializer whose answers are untyped values.
 
-ghost use Rattle.std.specs.Prelude.{◌≡◌, ◌++◌, ◌∷◌, [], List, Option, Result, Err, MatchResult};
+ghost use Rattle.std.specs.Prelude.{◌≡◌, ◌++◌, ◌∷◌, [], List, Option, Result, Err, MatchResult, IfErr, IsErr};
 ghost use Rattle.amqp_ser.specs.Tree.{Tree};
-ghost use Rattle.amqp_to_value.specs.Holds.{IsFresh};
+ghost use Rattle.amqp_to_value.specs.Holds.{IsFresh, value_permits};
+ghost use Rattle.amqp_to_value.specs.Permitted.{IsImageOf};
+ghost use Rattle.amqp_to_value.specs.Under.{meant};
 
-use crate::open::Open;
-use crate::scalars::{marked_bytes, marked_fixed, marked_text};
+use crate::around::Around;
+use crate::open::{Body, Open};
+use crate::scalars::{descriptor_from, marked_bytes, marked_fixed, marked_text};
 use crate::under::Under;
 use amqp_data::Error;
 use amqp_ser::{
@@ -17,10 +20,14 @@ use std::alloc::Global;
 use std::mem;
 
 /// Makes untyped values; it is fresh after each call, refused ones too.
+///
+/// # Memory
+/// The descriptors of a refused value are let go when the compound around it goes on or ends, or with the serializer.
 #[derive(Drop)]
 pub struct Serializer {
     alloc: Global,
     under: Under,
+    around: Around,
 }
 
 /// A list whose elements are still gathered.
@@ -55,23 +62,40 @@ impl Serializer {
         Serializer {
             alloc,
             under: Under::Mark(Mark::Other),
+            around: Around::new(alloc),
         }
     }
 
     // What the next tree stands under, which is used up.
     fn take_under(&mut self) -> Under
         ensures under { result ≡ self.old.under }
-        ensures fresh { IsFresh self.new }
+        ensures none { self.new.under ≡ Under.Mark Mark.Other }
+        ensures around { self.new.around ≡ self.old.around }
     {
         mem::replace(&mut self.under, Under::Mark(Mark::Other))
+    }
+
+    // Answers with the value in all that it stands in; a refusal puts that aside.
+    fn finish(&mut self, answer: Result<Value, Error>) -> Result<Value, Error>
+        ensures { (start : Serializer) (t : Option Tree) → self.old.around.0 ≡ start.around.0 → self.old.around.1 ≡ start.around.1 →
+            self.old.under ≡ Under.Mark Mark.Other → IsImageOf (meant start.under t) answer → value_permits start t result self.new }
+    {
+        match answer {
+            Ok(value) => Ok(self.around.wrap(value)),
+            Err(e) => {
+                self.around.put_aside();
+                Err(e)
+            }
+        }
     }
 }
 
 impl amqp_ser::Serializer for Serializer {
     ghost use Rattle.amqp_data.specs.declared.error.Error.TheVariants.{InvalidValue};
+    ghost use Rattle.amqp_ser.specs.Composites.{as_described, descriptor_of};
     ghost use Rattle.amqp_ser.specs.Compounds.{whole};
     ghost use Rattle.amqp_ser.specs.declared.kind.Kind.{Kind};
-    ghost use Rattle.amqp_to_value.specs.Holds.{value_permits, value_has};
+    ghost use Rattle.amqp_to_value.specs.Holds.{value_permits, value_has, value_awaits};
 
     type Ok = Value;
 
@@ -83,23 +107,25 @@ impl amqp_ser::Serializer for Serializer {
 
     ghost has = { value_has };
 
-    ghost awaits = { value_has };
+    ghost awaits = { value_awaits };
+
+    ghost awaits_descriptor = { λ start s held. value_has start Kind.Bare s held [] };
 
     ghost is_misuse = { λ e. e ≡ InvalidValue };
 
     fn serialize_fixed(&mut self, fixed: Fixed) -> Result<Value, Error> {
         let under = self.take_under();
-        marked_fixed(under, fixed)
+        self.finish(marked_fixed(under, fixed))
     }
 
     fn serialize_str(&mut self, v: &str) -> Result<Value, Error> {
         let under = self.take_under();
-        marked_text(self.alloc, under, v)
+        self.finish(marked_text(self.alloc, under, v))
     }
 
     fn serialize_bytes(&mut self, v: &[u8]) -> Result<Value, Error> {
         let under = self.take_under();
-        marked_bytes(self.alloc, under, v)
+        self.finish(marked_bytes(self.alloc, under, v))
     }
 
     fn mark(&mut self, mark: Mark) {
@@ -108,32 +134,72 @@ impl amqp_ser::Serializer for Serializer {
 
     fn begin(&mut self, kind: Kind) -> Open {
         let under = self.take_under();
-        Open::new(self.alloc, under, kind)
+        let aside = self.around.put_aside();
+        Open {
+            aside,
+            body: Body::new(self.alloc, under, kind),
+        }
     }
 
-    fn begin_part(&mut self, _held: &mut Open) {}
+    fn begin_part(&mut self, held: &mut Open) {
+        if let Body::Bare(under, None) = &held.body {
+            self.under = *under;
+            self.around.take_back(held.aside);
+        }
+    }
 
     fn end_part(&mut self, held: &mut Open, part: Result<Value, Error>) -> Result<(), Error>
-        ensures { (start : Serializer) (kind : Kind) (before : Serializer) (ps : List (Option Tree)) (p : Option Tree) → value_has start kind before held.old ps → value_permits before p part self.old →
+        ensures step { (start : Serializer) (kind : Kind) (before : Serializer) (ps : List (Option Tree)) (p : Option Tree) → value_awaits start kind before held.old ps → value_permits before p part self.old →
             MatchResult result
             (λ _. value_has start kind self.new held.new (ps ++ (p ∷ [])))
             (λ e. value_has start kind self.new held.new ps × ((rest : List (Option Tree)) →
             value_permits start (whole kind (ps ++ (p ∷ rest))) (Err e) self.new)) }
+        ensures refused { IfErr part (λ _. IsErr result) }
     {
         let value = part?;
-        held.take(value)
+        match &mut held.body {
+            Body::Bare(_, first) => match first {
+                None => {
+                    *first = Some(self.around.unwrap(held.aside, value)?);
+                    Ok(())
+                }
+                Some(_) => Err(Error::InvalidValue),
+            },
+            Body::Parts(parts) => parts.take(value),
+        }
     }
 
     fn undo_part(&mut self, held: &mut Open) {
-        held.undo();
+        held.body.undo();
     }
 
     fn misuse(&mut self, _held: &mut Open) -> Error {
         Error::InvalidValue
     }
 
-    #[tactic(auto, unfolding(amqp_ser::specs::Compounds::whole))]
+    fn begin_descriptor(&mut self, _held: &mut Open) {}
+
+    fn end_descriptor(&mut self, held: &mut Open, part: Result<Value, Error>) -> Result<(), Error>
+        ensures { (start before : Serializer) (d : Option Tree) → value_has start Kind.Bare before held.old [] → value_permits before d part self.old →
+            MatchResult result
+            (λ _. (mid : Serializer) × (value_has mid Kind.Bare self.new held.new [] × ((t : Option Tree) (r : Result Value Error) (after : Serializer) →
+            value_permits mid t r after → value_permits start (as_described (descriptor_of d) t) r after)))
+            (λ e. value_has start Kind.Bare self.new held.new [] × ((t : Option Tree) →
+            value_permits start (as_described (descriptor_of d) t) (Err e) self.new)) }
+    {
+        let descriptor = descriptor_from(part?)?;
+        self.around.take_back(held.aside);
+        let described = self.around.describe(self.alloc, descriptor);
+        held.aside = self.around.put_aside();
+        described?;
+        held.body.describe();
+        Ok(())
+    }
+
     fn end(&mut self, held: Open) -> Result<Value, Error> {
-        held.into_value(self.alloc)
+        let Open { aside, body } = held;
+        let answer = body.into_value(self.alloc);
+        self.around.take_back(aside);
+        self.finish(answer)
     }
 }

@@ -1,7 +1,8 @@
 //! The markers that stand before a tree.
 
-ghost use Rattle.std.specs.Prelude.{◌≡◌, Option};
-ghost use Rattle.amqp_ser.specs.Tree.{Tree};
+ghost use Rattle.std.specs.Prelude.{◌≡◌, Option, Some};
+ghost use Rattle.amqp_ser.specs.Composites.{as_described};
+ghost use Rattle.amqp_ser.specs.Tree.{Descriptor, Tree};
 ghost use Rattle.amqp_ser.specs.Marked.{marked};
 ghost use Rattle.amqp_to_value.specs.Under.{meant};
 
@@ -25,6 +26,16 @@ impl Under {
             (under, Mark::Other) => under,
             (Under::Mark(Mark::Other), mark) => Under::Mark(mark),
             _ => Under::Nothing,
+        }
+    }
+
+    /// The same with a descriptor, inside: no marker is satisfied by a described value.
+    pub fn with_descriptor(self) -> Under
+        ensures { (d : Descriptor) (t : Option Tree) → as_described (Some d) (meant result t) ≡ meant self (as_described (Some d) t) }
+    {
+        match self {
+            Under::Mark(Mark::Other) => self,
+            Under::Mark(_) | Under::Nothing => Under::Nothing,
         }
     }
 }

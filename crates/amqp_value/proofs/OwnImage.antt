@@ -1,5 +1,6 @@
 -- The tree of a value has no variant, so a plain one is its own image.
 use Rattle.std.proofs.Common.{◌≡◌, List, [], ◌∷◌, map, refl, sym, ap, ◌∙◌, subst}
+use Rattle.amqp_ser.specs.Carried.{descriptor_content}
 use Rattle.amqp_ser.specs.Tree as tree
 use Rattle.amqp_ser.specs.Tree.{Tree, more, pair}
 use Rattle.amqp_value.specs.Image.{image}
@@ -36,6 +37,7 @@ abbrev layer : Value-F Such → Tree
 layer y = tree_step (map-Value Value Tree tree_of (map-Value Such Value plain y))
 
 core : (y : Value-F Such) → read_as_map (layer y) ≡ layer y
+core (Value-F.Described d) = ap (tree.described (descriptor_content d.value.descriptor)) d.value.value.1
 core (Value-F.List v) = ap tree.list (lists v.items)
 core (Value-F.Map m) = ap tree.map (entries m.entries.items)
 core (Value-F.Array a) = ap tree.array (lists a.0.items)

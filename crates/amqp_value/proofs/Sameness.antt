@@ -2,8 +2,12 @@
 use Rattle.std.proofs.Common.{◌≡◌, Bool, true, false, ◌&&◌, ◌==◌, List, [], ◌∷◌, map, string_bytes, refl, sym, ap, ◌∙◌, subst}
 use Rattle.std.specs.Ordering.{int_eq}
 use Rattle.std.specs.Cmp.Lexicographic.{pointwise}
+use Rattle.amqp_data.specs.contracts.descriptor.DescriptorPartialEq.TheImpl as descriptor_eq
+use Rattle.amqp_data.specs.declared.descriptor.Descriptor.{Descriptor}
+use Rattle.amqp_data.specs.declared.descriptor.Descriptor.TheVariants.{Name, Code}
+use Rattle.amqp_ser.specs.Carried.{descriptor_content}
 use Rattle.amqp_ser.specs.Tree.{Tree}
-use Rattle.amqp_ser.specs.Same.{same_tree, same_trees, same_pairs, same_bytes, same_bool}
+use Rattle.amqp_ser.specs.Same.{same_tree, same_trees, same_pairs, same_bytes, same_bool, same_descriptor}
 use Rattle.amqp_value.specs.TreeOf.{tree_of, tree_step, all_of, pairs_trees}
 use Rattle.amqp_value.specs.declared.value.Value.{Value, out-Value, roll-Value, out-roll-Value, roll-out-Value, ind-Value, map-Value, fold-roll-Value}
 use Rattle.amqp_value.specs.declared.value.Value.TheOpen.{Value-F}
@@ -21,11 +25,11 @@ equal a b = eq.ghosts.eq a b
 -- one level of it: one line for each variant
 abbrev level : Value-F Value → Value-F Value → Bool
 level x z = by false false (row.enum).parts (
-  λ a b. true,
+  λ a b. descriptor_eq.ghosts.eq a.0.value.descriptor b.0.value.descriptor && equal a.0.value.value b.0.value.value,
   (
-    λ a b. bool_eq.ghosts.eq a.0 b.0,
+    λ a b. true,
     (
-      λ a b. a.0 == b.0,
+      λ a b. bool_eq.ghosts.eq a.0 b.0,
       (
         λ a b. a.0 == b.0,
         (
@@ -33,7 +37,7 @@ level x z = by false false (row.enum).parts (
           (
             λ a b. a.0 == b.0,
             (
-              λ a b. int_eq a.0 b.0,
+              λ a b. a.0 == b.0,
               (
                 λ a b. int_eq a.0 b.0,
                 (
@@ -41,32 +45,35 @@ level x z = by false false (row.enum).parts (
                   (
                     λ a b. int_eq a.0 b.0,
                     (
-                      λ a b. a.0.0 == b.0.0,
+                      λ a b. int_eq a.0 b.0,
                       (
                         λ a b. a.0.0 == b.0.0,
                         (
-                          λ a b. same_bytes a.0.0 b.0.0,
+                          λ a b. a.0.0 == b.0.0,
                           (
                             λ a b. same_bytes a.0.0 b.0.0,
                             (
                               λ a b. same_bytes a.0.0 b.0.0,
                               (
-                                λ a b. a.0 == b.0,
+                                λ a b. same_bytes a.0.0 b.0.0,
                                 (
-                                  λ a b. int_eq a.0.0 b.0.0,
+                                  λ a b. a.0 == b.0,
                                   (
-                                    λ a b. same_bytes a.0.0 b.0.0,
+                                    λ a b. int_eq a.0.0 b.0.0,
                                     (
-                                      λ a b. same_bytes a.0.0.items b.0.0.items,
+                                      λ a b. same_bytes a.0.0 b.0.0,
                                       (
-                                        λ a b. same_bytes (string_bytes a.0) (string_bytes b.0),
+                                        λ a b. same_bytes a.0.0.items b.0.0.items,
                                         (
-                                          λ a b. same_bytes (string_bytes a.0.0) (string_bytes b.0.0),
+                                          λ a b. same_bytes (string_bytes a.0) (string_bytes b.0),
                                           (
-                                            λ a b. pointwise equal a.0.items b.0.items,
+                                            λ a b. same_bytes (string_bytes a.0.0) (string_bytes b.0.0),
                                             (
-                                              λ a b. pointwise (λ p q. equal p.0 q.0 && equal p.1 q.1) a.0.entries.items b.0.entries.items,
-                                              (λ a b. pointwise equal a.0.0.items b.0.0.items, tt),
+                                              λ a b. pointwise equal a.0.items b.0.items,
+                                              (
+                                                λ a b. pointwise (λ p q. equal p.0 q.0 && equal p.1 q.1) a.0.entries.items b.0.entries.items,
+                                                (λ a b. pointwise equal a.0.0.items b.0.0.items, tt),
+                                              ),
                                             ),
                                           ),
                                         ),
@@ -134,7 +141,14 @@ bools true false = refl
 bools false true = refl
 bools false false = refl
 
+descriptors : (a b : Descriptor) → descriptor_eq.ghosts.eq a b ≡ same_descriptor (descriptor_content a) (descriptor_content b)
+descriptors (Name s) (Name t) = refl
+descriptors (Name s) (Code n) = refl
+descriptors (Code m) (Name t) = refl
+descriptors (Code m) (Code n) = refl
+
 core : (y : Value-F Such) (z : Value-F Value) → level (map-Value Such Value plain y) z ≡ same_tree (layer (map-Value Such Value plain y)) (layer z)
+core (Value-F.Described d) (Value-F.Described e) = λ i. descriptors d.value.descriptor e.value.descriptor i && d.value.value.1 e.value.value i
 core Value-F.Null Value-F.Null = refl
 core (Value-F.Bool a) (Value-F.Bool b) = bools a b
 core (Value-F.Ubyte a) (Value-F.Ubyte b) = refl

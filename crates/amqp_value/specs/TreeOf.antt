@@ -4,6 +4,7 @@ use Rattle.amqp_data.specs.Fixed.{f32_bits, f64_bits, dec32_bytes, dec64_bytes, 
 use Rattle.amqp_data.specs.Items.{byte_buf_bytes, array_items}
 use Rattle.amqp_data.specs.Pairs.{entries_of}
 use Rattle.amqp_data.specs.Text.{symbol_text}
+use Rattle.amqp_ser.specs.Carried.{descriptor_content}
 use Rattle.amqp_ser.specs.Tree as tree
 use Rattle.amqp_ser.specs.Tree.{Tree, Trees, Pairs, trees_of, no_pairs, pair, scalar}
 use Rattle.amqp_value.specs.declared.value.Value.{Value, fold-Value}
@@ -16,6 +17,7 @@ pairs_of (p ∷ ps) = pair p.0 p.1 (pairs_of ps)
 
 -- one level, where each value inside is its tree
 abbrev pub tree_step : Value-F Tree → Tree
+tree_step (Value-F.Described d) = tree.described (descriptor_content d.value.descriptor) d.value.value
 tree_step Value-F.Null = scalar tree.null
 tree_step (Value-F.Bool b) = scalar (tree.bool b)
 tree_step (Value-F.Ubyte n) = scalar (tree.ubyte n)

@@ -11,6 +11,7 @@ impl Serialize for Value {
 
     fn serialize<S: Serializer>(&self, serializer: &mut S) -> Result<S::Ok, S::Error> {
         match self {
+            Value::Described(v) => v.serialize(serializer),
             Value::Null => serializer.serialize_unit(),
             Value::Bool(v) => v.serialize(serializer),
             Value::Ubyte(v) => v.serialize(serializer),

@@ -2,7 +2,8 @@
 
 use crate::{Value, laws};
 use amqp_data::{
-    Array, ByteBuf, Dec32, Dec64, Dec128, F32Bits, F64Bits, OrderedMap, Symbol, Timestamp, Uuid,
+    Array, ByteBuf, Dec32, Dec64, Dec128, Described, Descriptor, F32Bits, F64Bits, OrderedMap,
+    Symbol, Timestamp, Uuid,
 };
 use std::alloc::Global;
 use std::test::Fail;
@@ -26,9 +27,14 @@ fn list(alloc: Global, first: Value, second: Value) -> Result<Value, Fail> {
     Ok(Value::List(items))
 }
 
+fn described(alloc: Global, descriptor: Descriptor, value: Value) -> Result<Value, Fail> {
+    Ok(Value::Described(Box::new(alloc, Described { descriptor, value })?))
+}
+
 // One value of each variant, in the sequence of the standard.
 fn one_of_each(alloc: Global) -> Result<Vec<Value>, Fail> {
     let mut values = Vec::new(alloc);
+    values.push(described(alloc, Descriptor::Code(1), Value::Null)?)?;
     values.push(Value::Null)?;
     values.push(Value::Bool(true))?;
     values.push(Value::Ubyte(9))?;
@@ -99,7 +105,7 @@ fn lists_stand_in_brackets(rt: HostRuntime) -> Result<(), Fail> {
 #[test]
 fn variants_compare_in_the_sequence_of_the_standard(rt: HostRuntime) -> Result<(), Fail> {
     let values = one_of_each(rt.alloc())?;
-    assert_eq!(rt; values.len(), 24);
+    assert_eq!(rt; values.len(), 25);
     for (i, a) in values.iter().enumerate() {
         for (j, b) in values.iter().enumerate() {
             assert_eq!(rt; a == b, i == j, "{i} and {j}");

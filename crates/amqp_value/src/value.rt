@@ -4,7 +4,8 @@ ghost use Rattle.std.specs.Prelude.{◌≡◌};
 ghost use Rattle.amqp_value.specs.declared.value.Value.TheVariants.{Null};
 
 use amqp_data::{
-    Array, ByteBuf, Dec32, Dec64, Dec128, F32Bits, F64Bits, OrderedMap, Symbol, Timestamp, Uuid,
+    Array, ByteBuf, Dec32, Dec64, Dec128, Described, F32Bits, F64Bits, OrderedMap, Symbol,
+    Timestamp, Uuid,
 };
 
 /// A value of any type of AMQP data.
@@ -12,12 +13,14 @@ use amqp_data::{
 /// Equality, order and hash go by variant, in the sequence that follows, and then by content.
 ///
 /// # Encoding
-/// As its variant says; the code in an array stands last.
+/// As its variant says; the code in an array stands last. A described value is no array's element.
 ///
 /// # Example
 /// The list of the string `a` and null is written `c00502a1016140`.
 #[derive(Debug, PartialEq, Eq, PartialOrd, Ord, Hash, Drop)]
 pub enum Value {
+    /// A value and what it is: `00`, the descriptor and the value (sections 1.1.2 and 1.2).
+    Described(Box<Described<Value>>),
     /// No value: `40`, empty (section 1.6.1). The default.
     Null,
     /// A truth value: `41` and `42`, empty, or `56`, fixed width (section 1.6.2).

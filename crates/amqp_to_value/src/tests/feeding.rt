@@ -1,5 +1,6 @@
 use crate::Serializer;
-use amqp_data::{Error, OrderedMap};
+use amqp_data::{Described, Descriptor, Error, OrderedMap, markers};
+use amqp_ser::Kind;
 use amqp_value::Value;
 use std::alloc::Global;
 use std::test::Fail;
@@ -39,6 +40,43 @@ fn feed_variant<S: amqp_ser::Serializer>(serializer: &mut S) -> Result<S::Ok, S:
     variant.serialize_field(&1u8)?;
     variant.serialize_field(&2u8)?;
     variant.end()
+}
+
+// Feeds a descriptor that is none, the descriptor, two fields, and after the first refusal nothing.
+fn feed_described<S: amqp_ser::Serializer>(serializer: &mut S) -> Result<(S::Ok, bool), S::Error> {
+    let mut fields = serializer.serialize_struct(markers::DESCRIBED_BASIC, 2)?;
+    let descriptor = fields.serialize_field(markers::DESCRIPTOR, &1u32).is_err();
+    fields.serialize_field(markers::DESCRIPTOR, &1u64)?;
+    let again = fields.serialize_field(markers::DESCRIPTOR, &2u64).is_err();
+    fields.serialize_field("a", &4u8)?;
+    let second = fields.serialize_field("b", &5u8).is_err();
+    Ok((fields.end()?, descriptor && again && second))
+}
+
+// A bare compound in the place of a described value takes its one value, and refuses a second; then the value comes.
+fn refuse_late<S: amqp_ser::Serializer>(serializer: &mut S) -> Result<S::Ok, S::Error> {
+    let mut outer = serializer.begin(Kind::Bare);
+    serializer.begin_descriptor(&mut outer);
+    let code = serializer.serialize_u64(1);
+    serializer.end_descriptor(&mut outer, code)?;
+    serializer.begin_part(&mut outer);
+    let mut inner = serializer.begin(Kind::Bare);
+    for n in [2u8, 3] {
+        serializer.begin_part(&mut inner);
+        let part = serializer.serialize_u8(n);
+        if let Err(e) = serializer.end_part(&mut inner, part) {
+            drop(serializer.end_part(&mut outer, Err(e)).is_err());
+        }
+    }
+    serializer.begin_part(&mut outer);
+    let part = serializer.serialize_u8(4);
+    serializer.end_part(&mut outer, part)?;
+    serializer.end(outer)
+}
+
+fn coded(alloc: Global, code: u64, value: Value) -> Result<Value, Fail> {
+    let descriptor = Descriptor::Code(code);
+    Ok(Value::Described(Box::new(alloc, Described { descriptor, value })?))
 }
 
 fn map_of(alloc: Global, pairs: &[(&str, u8)]) -> Result<Value, Fail> {
@@ -90,6 +128,21 @@ fn variants_are_maps_of_one_pair(rt: HostRuntime) -> Result<(), Fail> {
     assert_eq!(rt;
         feed_variant(&mut serializer)?,
         one_pair(rt.alloc(), 4, Value::List(fields))?
+    );
+    Ok(())
+}
+
+#[test]
+fn refusals_leave_a_described_value_as_it_was(rt: HostRuntime) -> Result<(), Fail> {
+    let mut serializer = Serializer::new(rt.alloc());
+    let expected = coded(rt.alloc(), 1, Value::Ubyte(4))?;
+    let (value, refused) = feed_described(&mut serializer)?;
+    assert!(rt; refused);
+    assert_eq!(rt; value, expected);
+    assert_eq!(rt; refuse_late(&mut serializer)?, expected);
+    assert_eq!(rt;
+        amqp_ser::Serializer::serialize_unit(&mut serializer)?,
+        Value::Null
     );
     Ok(())
 }

@@ -1,7 +1,9 @@
 // Each test holds whichever growth is refused: run them by `rt try --test --fail-alloc N`.
 
 use crate::{Serializer, to_value};
-use amqp_data::{Array, ByteBuf, Error, OrderedMap, Symbol};
+use amqp_data::{
+    Array, ByteBuf, Described, Descriptor, Error, OrderedMap, Symbol, SymbolRef, markers,
+};
 use amqp_ser::Serializer as _;
 use amqp_value::Value;
 use std::alloc::Global;
@@ -37,6 +39,19 @@ fn feed_map<S: amqp_ser::Serializer>(
     map.end()
 }
 
+// Feeds a descriptor and a value, a refused one again.
+fn feed_described<S: amqp_ser::Serializer>(serializer: &mut S) -> Result<S::Ok, S::Error> {
+    let name = SymbolRef::from("a");
+    let mut fields = serializer.serialize_struct(markers::DESCRIBED_BASIC, 1)?;
+    if fields.serialize_field(markers::DESCRIPTOR, &name).is_err() {
+        fields.serialize_field(markers::DESCRIPTOR, &name)?;
+    }
+    if fields.serialize_field("b", &("c", "d")).is_err() {
+        fields.serialize_field("b", &("c", "d"))?;
+    }
+    fields.end()
+}
+
 fn is_text(value: &Value, text: &str) -> bool {
     match value {
         Value::String(s) => s.as_str() == text,
@@ -50,6 +65,9 @@ fn nested(alloc: Global) -> Result<Value, Error> {
     items.push(Value::String(String::from_str(alloc, "a")?))?;
     items.push(Value::Symbol(Symbol::try_from_str(alloc, "b")?))?;
     items.push(Value::Binary(ByteBuf::from([1, 2].to_vec(alloc)?)))?;
+    let descriptor = Descriptor::Name(Symbol::try_from_str(alloc, "c")?);
+    let value = Value::String(String::from_str(alloc, "d")?);
+    items.push(Value::Described(Box::new(alloc, Described { descriptor, value })?))?;
     let mut numbers = Vec::new(alloc);
     numbers.push(Value::Int(1))?;
     let mut map = OrderedMap::new(alloc);
@@ -111,4 +129,21 @@ fn a_refused_variant_leaves_the_serializer_fresh(rt: HostRuntime) {
         Err(e) => assert_eq!(rt; e, Error::OutOfMemory),
     }
     assert_eq!(rt; serializer.serialize_unit(), Ok(Value::Null));
+}
+
+#[test]
+fn a_refused_value_leaves_its_descriptor(rt: HostRuntime) {
+    match feed_described(&mut Serializer::new(rt.alloc())) {
+        Ok(Value::Described(described)) => {
+            match &described.descriptor {
+                Descriptor::Name(name) => assert_eq!(rt; name.as_inner().as_str(), "a"),
+                Descriptor::Code(_) => panic!(rt; "a code"),
+            }
+            match &described.value {
+                Value::List(items) => assert_eq!(rt; items.len(), 2),
+                _ => panic!(rt; "no list"),
+            }
+        }
+        _ => panic!(rt; "no described value"),
+    }
 }

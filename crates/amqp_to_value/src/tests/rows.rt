@@ -2,8 +2,8 @@ ghost use Rattle.amqp_ser.specs.Marked.{marked, mark_of};
 
 use crate::{TryFromSerializable, to_value};
 use amqp_data::{
-    Array, ByteBuf, Dec32, Dec64, Dec128, Error, F32Bits, F64Bits, OrderedMap, Symbol, SymbolRef,
-    Timestamp, Uuid, markers,
+    Array, ByteBuf, Dec32, Dec64, Dec128, Described, Descriptor, Error, F32Bits, F64Bits,
+    OrderedMap, Symbol, SymbolRef, Timestamp, TransparentVec, Uuid, markers,
 };
 use amqp_ser::{Serialize, Serializer};
 use amqp_value::Value;
@@ -37,6 +37,10 @@ fn list(alloc: Global, texts: &[&str]) -> Result<Value, Fail> {
         items.push(text(alloc, *item)?)?;
     }
     Ok(Value::List(items))
+}
+
+fn described(alloc: Global, descriptor: Descriptor, value: Value) -> Result<Value, Fail> {
+    Ok(Value::Described(Box::new(alloc, Described { descriptor, value })?))
 }
 
 // One value of each kind of scalar, and those at the ends of its range.
@@ -137,6 +141,8 @@ fn markers_take_what_they_name(rt: HostRuntime) -> Result<(), Fail> {
         markers::DECIMAL128,
         markers::UUID,
         markers::ARRAY,
+        markers::TRANSPARENT_VEC,
+        markers::LAZY_VALUE,
     ] {
         assert_eq!(rt;
             to_value(rt.alloc(), &Named { name, inner: 1u8 }),
@@ -170,6 +176,45 @@ fn markers_take_what_they_name(rt: HostRuntime) -> Result<(), Fail> {
             Err(Error::InvalidValue)
         );
     }
+    Ok(())
+}
+
+#[test]
+fn described_values_keep_their_descriptors(rt: HostRuntime) -> Result<(), Fail> {
+    let alloc = rt.alloc();
+    let one = Described {
+        descriptor: Descriptor::Code(1),
+        value: ("a", 2u8),
+    };
+    let inner = Value::List({
+        let mut items = Vec::new(alloc);
+        items.push(text(alloc, "a")?)?;
+        items.push(Value::Ubyte(2))?;
+        items
+    });
+    let image = described(alloc, Descriptor::Code(1), inner)?;
+    assert_eq!(rt; to_value(alloc, &one)?, image);
+    let name = Descriptor::Name(Symbol::try_from_str(alloc, "b")?);
+    let nested = described(alloc, name, image)?;
+    assert_eq!(rt; to_value(alloc, &nested)?, nested);
+    let marked = Named {
+        name: markers::SYMBOL,
+        inner: nested,
+    };
+    assert_eq!(rt; to_value(alloc, &marked), Err(Error::InvalidValue));
+    Ok(())
+}
+
+#[test]
+fn transparent_vectors_are_lists(rt: HostRuntime) -> Result<(), Fail> {
+    let alloc = rt.alloc();
+    let words = || Ok::<_, Fail>(TransparentVec::new(["a", "bc"].to_vec(alloc)?));
+    assert_eq!(rt; to_value(alloc, &words()?)?, list(alloc, &["a", "bc"])?);
+    let mut vectors = Vec::new(alloc);
+    vectors.push(words()?)?;
+    let mut lists = Vec::new(alloc);
+    lists.push(list(alloc, &["a", "bc"])?)?;
+    assert_eq!(rt; to_value(alloc, &vectors)?, Value::List(lists));
     Ok(())
 }
 

@@ -1,16 +1,49 @@
-use Rattle.std.proofs.Common.{◌≡◌, Err, subst, rules}
-use Rattle.amqp_to_value.specs.Permitted.{IsImageOf}
-use Rattle.amqp_to_value.proofs.HoldsLemmas.{plain_answer, refused, part_answered}
+use Rattle.std.proofs.Common.{◌≡◌, Ok, Err, ap, ◌∙◌, subst, rules}
+use Rattle.amqp_value.specs.Image.{image}
+use Rattle.amqp_to_value.specs.Holds.{HasParts, IsReady, value_permits}
+use Rattle.amqp_to_value.specs.declared.open.Body.TheVariants as body
+use Rattle.amqp_to_value.proofs.AnswerLemmas.{kept_on}
+use Rattle.amqp_to_value.proofs.HoldsLemmas.{part_taken, plain_answer}
+use Rattle.amqp_to_value.proofs.PartLemmas.{bare_taken, part_answered, part_refused, second_part, stands}
 use Rattle.amqp_to_value.proofs.serializer.SerializerSerializer.end_part.Goals as goal
 
-pub returns-in_err-value : goal.returns-in_err-value
-returns-in_err-value c = λ start kind before ps p h r.
+pub returns-in_err-value-clause-step : goal.returns-in_err-value-clause-step
+returns-in_err-value-clause-step c = λ start kind before ps p h r.
     let e = c.in_err-value.field-0.0 in
-    let refusal = subst (IsImageOf p) c.in_err-value.was (plain_answer before p c.args.part h.1 r.0) in
+    let refused = part_refused start before c.args.self.now kind c.args.held.now.body ps p e h.1 h.2 (subst (λ x. value_permits before p x c.args.self.now) c.in_err-value.was r) in
     let same : c.from_residual.result ≡ Err e = search rules in
-    rw same ((h.0, r.1), λ rest. (refused start.under kind ps p e refusal rest, r.1))
+    rw same ((h.0, h.1, refused.0), refused.1)
 
-pub returns : goal.returns
-returns c = λ start kind before ps p h r.
-    let value = subst (IsImageOf p) c.in_ok-value.was (plain_answer before p c.args.part h.1 r.0) in
-    part_answered start kind c.args.held.now c.take.new.self ps h.0 c.take.ensures.makes p c.in_ok-value.value value c.take.result c.take.ensures.step c.args.self.now r.1
+pub returns-in_err-unwrap-in-None-clause-step : goal.returns-in_err-unwrap-in-None-clause-step
+returns-in_err-unwrap-in-None-clause-step c = λ start kind before ps p h r.
+    let is = c.in-Bare.is ∙ ap (body.Bare c.in-Bare.field-0) c.in-None.is in
+    let s = stands start before c.args.self.now c.in-Bare.field-0 p c.in_ok-value.value (subst (IsReady start before) is h.2)
+    (subst (λ x. value_permits before p x c.args.self.now) c.in_ok-value.was r) in
+    absurd (c.in_err-unwrap-in-None.ensures start.around.0 start.around.1 s.later (image s.tree) s.others s.none h.0 s.room s.within)
+
+pub returns-in_ok-unwrap-in-None-clause-step : goal.returns-in_ok-unwrap-in-None-clause-step
+returns-in_ok-unwrap-in-None-clause-step c = λ start kind before ps p h r.
+    let is = c.in-Bare.is ∙ ap (body.Bare c.in-Bare.field-0) c.in-None.is in
+    let answer = subst (λ x. value_permits before p x c.args.self.now) c.in_ok-value.was r in
+    let s = stands start before c.args.self.now c.in-Bare.field-0 p c.in_ok-value.value (subst (IsReady start before) is h.2) answer in
+    let taken = bare_taken start (record { alloc = c.args.self.now.alloc; under = c.args.self.now.under; around = c.unwrap.new.self }) kind c.in-Bare.field-0
+    c.in_ok-unwrap-in-None.field-0 ps p s.tree (subst (λ b. HasParts start.under kind b ps) is h.1) s.means answer.1.0.0.0
+    (c.in_ok-unwrap-in-None.ensures start.around.0 start.around.1 s.later (image s.tree) s.others s.none h.0 s.room s.within) in
+    (h.0, taken.0, taken.1)
+
+pub returns-in-Some-clause-step : goal.returns-in-Some-clause-step
+returns-in-Some-clause-step c = λ start kind before ps p h r.
+    let is = c.in-Bare.is ∙ ap (body.Bare c.in-Bare.field-0) c.in-Some.is in
+    let has = subst (λ b. HasParts start.under kind b ps) is h.1 in
+    let second = second_part start before c.args.self.now kind c.in-Bare.field-0 _ c.in_ok-value.value ps p has (subst (IsReady start before) is h.2)
+    (subst (λ x. value_permits before p x c.args.self.now) c.in_ok-value.was r) in
+    ((h.0, subst (λ b. HasParts start.under kind b ps) c.in-Bare.is h.1, second.0), second.1)
+
+pub returns-in-Parts-clause-step : goal.returns-in-Parts-clause-step
+returns-in-Parts-clause-step c = λ start kind before ps p h r.
+    let has = subst (λ b. HasParts start.under kind b ps) c.in-Parts.is h.1 in
+    let ready = subst (IsReady start before) c.in-Parts.is h.2 in
+    let answer = subst (λ x. value_permits before p x c.args.self.now) c.in_ok-value.was r in
+    let kept = kept_on _ before c.args.self.now (Ok c.in_ok-value.value) ready answer.1 in
+    part_answered start c.args.self.now kind c.args.held.now.aside _ ps p _ h.0 has.0 kept
+    (part_taken start.under kind c.in-Parts.parts _ ps has.1 c.take.ensures.makes p c.in_ok-value.value (plain_answer before _ p (Ok c.in_ok-value.value) ready answer.0) c.take.result c.take.ensures.step)

@@ -4,7 +4,7 @@ use Rattle.amqp_to_value.specs.Permitted.{refuses}
 use Rattle.amqp_data.specs.declared.error.Error.TheVariants.{InvalidValue}
 use Rattle.std.proofs.Common.{sym}
 use Rattle.amqp_to_value.proofs.FedLemmas.{not_one}
-use Rattle.amqp_to_value.proofs.open.Open.into_value.Goals as goal
+use Rattle.amqp_to_value.proofs.parts.Parts.into_value.Goals as goal
 
 pub returns-in-None : goal.returns-in-None
 returns-in-None c = λ ts h. subst (λ o. refuses InvalidValue (made o (Some ts))) (sym c.in-Only.is)

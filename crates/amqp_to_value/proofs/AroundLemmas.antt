@@ -1,0 +1,164 @@
+-- Values after their descriptors.
+use Rattle.std.proofs.Common.{◌≡◌, Bool, true, false, true≢false, ℕ, ◌+◌, ◌≤◌, ◌<◌, List, [], ◌∷◌, ◌++◌, Option, Some, None, Result, Ok, Err, MatchResult, Box, Global, length, take, drop, refl, ap, sym, ◌∙◌, subst, append-nil, append_assoc, arith, rules}
+use Rattle.std.proofs.lemmas.List.{map-append, length-map, take-map, drop-map, take-append-drop, take-append-le, drop-append-le, length-append}
+use Rattle.std.proofs.Math.Seq.{take-append_seam, drop-append_seam, take-length, drop-length}
+use Rattle.amqp_data.specs.declared.described.Described.{Described}
+use Rattle.amqp_data.specs.declared.error.Error.{Error}
+use Rattle.amqp_data.specs.declared.error.Error.TheVariants as error
+use Rattle.amqp_ser.specs.Carried.{descriptor_content}
+use Rattle.amqp_ser.specs.Tree.{Descriptor, Tree, described}
+use Rattle.amqp_value.specs.Image.{image}
+use Rattle.amqp_value.specs.TreeOf.{tree_of, tree_step}
+use Rattle.amqp_value.specs.declared.value.Value.{Value, the_lemmas, out-Value, roll-Value, roll-out-Value, map-Value, fold-roll-Value}
+use Rattle.amqp_value.specs.declared.value.Value.TheOpen.{Value-F}
+use Rattle.amqp_value.specs.declared.value.Value.TheVariants.{Described as DescribedValue}
+use Rattle.amqp_to_value.specs.Around.{contents, described_in, described_by}
+use Rattle.amqp_to_value.specs.Permitted.{refuses, StandsFor}
+
+-- one descriptor more, the innermost
+pub described_in-last : (ds : List Descriptor) (d : Descriptor) (t : Tree) → described_in (ds ++ (d ∷ [])) t ≡ described_in ds (described d t)
+described_in-last [] d t = refl
+described_in-last (e ∷ ds) d t = ap (described e) (described_in-last ds d t)
+
+image-described_in : (ds : List Descriptor) (t : Tree) → image (described_in ds t) ≡ described_in ds (image t)
+image-described_in [] t = refl
+image-described_in (d ∷ ds) t = ap (described d) (image-described_in ds t)
+
+described_by-Some : (ds : List Descriptor) (t : Tree) → described_by ds (Some t) ≡ Some (described_in ds t)
+described_by-Some [] t = refl
+described_by-Some (d ∷ ds) t = rw (described_by-Some ds t) refl
+
+pub described_by-None : (ds : List Descriptor) → described_by ds None ≡ None
+described_by-None [] = refl
+described_by-None (d ∷ ds) = rw (described_by-None ds) refl
+
+-- a value in what it stands in
+pub stands_in : (ds : List Descriptor) (o : Option Tree) (v w : Value) → tree_of w ≡ described_in ds (tree_of v) → StandsFor v o → StandsFor w (described_by ds o)
+stands_in ds None v w is s = absurd s
+stands_in ds (Some t) v w is s = subst (StandsFor w) (sym (described_by-Some ds t)) (is ∙ ap (described_in ds) s ∙ sym (image-described_in ds t))
+
+-- and back
+pub stood : (ds : List Descriptor) (o : Option Tree) (v : Value) → StandsFor v (described_by ds o) → (t : Tree) × (o ≡ Some t) × (tree_of v ≡ described_in ds (image t))
+stood ds None v s = absurd (subst (StandsFor v) (described_by-None ds) s)
+stood ds (Some t) v s = (t, refl, subst (StandsFor v) (described_by-Some ds t) s ∙ image-described_in ds t)
+
+-- a refusal there
+pub refuses_in : (ds : List Descriptor) (o : Option Tree) (e : Error) → refuses e o → refuses e (described_by ds o)
+refuses_in ds o error.OutOfMemory r = tt
+refuses_in ds None error.InvalidValue r = subst (refuses error.InvalidValue) (sym (described_by-None ds)) tt
+refuses_in ds (Some t) error.InvalidValue r = absurd r
+refuses_in ds o e r = absurd r
+
+-- what is put aside stands before
+pub all_contents : (bs : List (Box (Described Value) Global)) (first : ℕ) → contents (take first bs) ++ contents (drop first bs) ≡ contents bs
+all_contents bs first = sym (map-append _ (take first bs) (drop first bs)) ∙ ap contents (take-append-drop first bs)
+
+pub seen-all : (bs : List (Box (Described Value) Global)) (n : ℕ) → n ≡ length bs → (contents (take n bs) ≡ contents bs) × (contents (drop n bs) ≡ [])
+seen-all bs n e = rw (e, take-length bs, drop-length bs) (refl, refl)
+
+-- the first of those that are put aside
+module _ (bs cs : List (Box (Described Value) Global)) (first : ℕ) (kept later : List Descriptor)
+    (before : contents (take first bs) ≡ kept ++ later) (none : contents (drop first bs) ≡ []) (front : cs ≡ take (length kept) bs) where
+  pub kept_contents : contents cs ≡ kept
+  kept_contents =
+      ap contents front ∙ sym (take-map _ (length kept) bs)
+      ∙ ap (take (length kept)) (sym (all_contents bs first) ∙ (λ i. before i ++ none i) ∙ append-nil _) ∙ take-append_seam kept later
+
+  pub kept_length : length cs ≡ length kept
+  kept_length = sym (length-map cs _) ∙ ap length kept_contents
+
+-- what is put aside is taken back
+pub taken_back : (cs : List (Box (Described Value) Global)) (others own : List Descriptor) (n : ℕ) → contents cs ≡ others ++ own → n ≡ length others
+    → (contents (take n cs) ≡ others) × (contents (drop n cs) ≡ own)
+taken_back cs others own n is e = (
+  sym (take-map _ n cs) ∙ (λ i. take (e i) (is i)) ∙ take-append_seam others own,
+  sym (drop-map _ n cs) ∙ (λ i. drop (e i) (is i)) ∙ drop-append_seam others own,
+)
+
+-- a value that was taken out of what is put aside again
+pub put_again : (r : Result Value Error) (cs ns : List (Box (Described Value) Global)) (others own : List Descriptor) (t : Tree) (n : ℕ) → contents cs ≡ others → n ≡ length ns
+    → MatchResult r (λ v. (tree_of v ≡ t) × (contents ns ≡ contents cs ++ own)) (λ _. ⊥)
+    → MatchResult r (λ v. (tree_of v ≡ t) × (contents (take n ns) ≡ others ++ own) × (contents (drop n ns) ≡ [])) (λ _. ⊥)
+put_again (Ok v) cs ns others own t n is e h = let all = seen-all ns n e in (h.0, all.0 ∙ h.1 ∙ ap (λ ds. ds ++ own) is, all.1)
+put_again (Err e) cs ns others own t n is e' h = h
+
+-- the last of those from the first on, and the others
+module _ (bs : List (Box (Described Value) Global)) (b : Box (Described Value) Global) (first : ℕ) (le : first ≤ length bs) where
+  pub take-front : take first (bs ++ (b ∷ [])) ≡ take first bs
+  take-front = take-append-le first bs (b ∷ []) le
+
+  contents-front : contents (drop first (bs ++ (b ∷ []))) ≡ contents (drop first bs) ++ (descriptor_content b.value.descriptor ∷ [])
+  contents-front = ap contents (drop-append-le first bs (b ∷ []) le) ∙ map-append _ (drop first bs) (b ∷ [])
+
+  pub described-front : (t : Tree) → described_in (contents (drop first (bs ++ (b ∷ [])))) t ≡ described_in (contents (drop first bs)) (described (descriptor_content b.value.descriptor) t)
+  described-front t = ap (λ ds. described_in ds t) contents-front ∙ described_in-last (contents (drop first bs)) (descriptor_content b.value.descriptor) t
+
+tree_of-Described : (b : Box (Described Value) Global) → tree_of (DescribedValue b) ≡ described (descriptor_content b.value.descriptor) (tree_of b.value.value)
+tree_of-Described b = search (rules, the_lemmas)
+
+-- a value that is put into the last of them
+pub wrapped : (front all initial : List (Box (Described Value) Global)) (b w : Box (Described Value) Global) (first : ℕ) (v : Value) (whole : Tree) → all ≡ front ++ (b ∷ []) → first < length all
+    → w.value.descriptor ≡ b.value.descriptor → w.value.value ≡ v
+    → (take first all ≡ take first initial) × (described_in (contents (drop first all)) (tree_of v) ≡ whole)
+    → (take first front ≡ take first initial) × (described_in (contents (drop first front)) (tree_of (DescribedValue w)) ≡ whole)
+wrapped front all initial b w first v whole is lt same inner h =
+    let count : length all ≡ length front + 1 = ap length is ∙ length-append front (b ∷ []) in
+    let le : first ≤ length front = omega arith in (
+      sym (take-front front b first le) ∙ ap (take first) (sym is) ∙ h.0,
+      ap (described_in (contents (drop first front))) (tree_of-Described w ∙ (λ i. described (descriptor_content (same i)) (tree_of (inner i))))
+          ∙ sym (described-front front b first le (tree_of v))
+          ∙ ap (λ bs. described_in (contents (drop first bs)) (tree_of v)) (sym is)
+          ∙ h.1,
+    )
+
+-- a described value, taken apart
+module _ (b : Box (Described Value) Global) (d : Descriptor) (t : Tree) (is : tree_of (DescribedValue b) ≡ described d t) where
+  abbrev head : Tree → Descriptor
+  head (described e u) = e
+  head u = d
+
+  abbrev body : Tree → Tree
+  body (described e u) = u
+  body u = u
+
+  peeled : (descriptor_content b.value.descriptor ≡ d) × (tree_of b.value.value ≡ t)
+  peeled = let e = sym (tree_of-Described b) ∙ is in (ap head e, ap body e)
+
+abbrev tagged : Tree → Bool
+tagged (described d t) = true
+tagged t = false
+
+abbrev NoBox : Value → Type 0
+NoBox v = (b : Box (Described Value) Global) → v ≡ DescribedValue b → ⊥
+
+untagged : (y : Value-F Value) → NoBox (roll-Value y) → tagged (tree_step (map-Value Value Tree tree_of y)) ≡ false
+untagged (Value-F.Described b) none = absurd (none b (search (rules, the_lemmas)))
+untagged _ none = refl
+
+-- a value that is not described has no described tree
+pub not_described : (v : Value) → NoBox v → (d : Descriptor) (t : Tree) → tree_of v ≡ described d t → ⊥
+not_described v none d t is =
+    let rolled = roll-out-Value v in
+    let no = untagged (out-Value v) (subst NoBox (sym rolled) none) in
+    true≢false (ap tagged (sym is ∙ ap tree_of (sym rolled) ∙ fold-roll-Value Tree tree_step (out-Value v)) ∙ no)
+
+-- one descriptor of the rest is put last
+pub unwrapped : (rest : List Descriptor) (old new : List (Box (Described Value) Global)) (b w : Box (Described Value) Global) (v : Value) (all : List Descriptor) (t : Tree) (at count len len' cap cap' : ℕ)
+    → length rest + at ≡ count → at < count → len + length rest ≤ cap → len' ≡ len + 1 → cap ≤ cap'
+    → contents old ++ rest ≡ all → new ≡ old ++ (w ∷ []) → w.value.descriptor ≡ b.value.descriptor → v ≡ b.value.value → tree_of (DescribedValue b) ≡ described_in rest t
+    → (x : List Descriptor) × (length x + (at + 1) ≡ count) × (len' + length x ≤ cap') × (contents new ++ x ≡ all) × (tree_of v ≡ described_in x t)
+unwrapped [] old new b w v all t at count len len' cap cap' n lt room grows more sum put same inner is = absurd (omega arith)
+unwrapped (d ∷ rest) old new b w v all t at count len len' cap cap' n lt room grows more sum put same inner is =
+    let p = peeled b d (described_in rest t) is in (
+      rest,
+      omega arith,
+      omega arith,
+      ap (λ bs. contents bs ++ rest) put ∙ ap (λ ds. ds ++ rest) (map-append _ old (w ∷ [])) ∙ append_assoc (contents old) _ rest
+          ∙ ap (λ e. contents old ++ (e ∷ rest)) (ap descriptor_content same ∙ p.0) ∙ sum,
+      ap tree_of inner ∙ p.1,
+    )
+
+-- the rest is not empty before the last
+pub more_rest : (rest : List Descriptor) (at count : ℕ) (t : Tree) → length rest + at ≡ count → at < count → (d : Descriptor) × (u : Tree) × (described_in rest t ≡ described d u)
+more_rest [] at count t n lt = absurd (omega arith)
+more_rest (d ∷ rest) at count t n lt = (d, described_in rest t, refl)

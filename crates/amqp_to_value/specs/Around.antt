@@ -1,0 +1,27 @@
+-- Descriptors before a value: what is described by them, and where they are put aside.
+use Rattle.std.specs.Prelude.{List, [], ◌∷◌, ◌++◌, Option, Some, Box, length, map}
+use Rattle.std.specs.Global.{Global}
+use Rattle.amqp_data.specs.declared.described.Described.{Described}
+use Rattle.amqp_ser.specs.Composites.{as_described}
+use Rattle.amqp_ser.specs.Tree.{Descriptor, Tree, described}
+use Rattle.amqp_ser.specs.Carried.{descriptor_content}
+use Rattle.amqp_value.specs.declared.value.Value.{Value}
+use Rattle.amqp_to_value.specs.declared.around.Aside.{Aside}
+
+-- the descriptors of the described values, in order
+abbrev pub contents : List (Box (Described Value) Global) → List Descriptor
+contents = map (λ b. descriptor_content b.value.descriptor)
+
+-- the tree after these descriptors, the outermost first
+abbrev pub described_in : List Descriptor → Tree → Tree
+described_in [] t = t
+described_in (d ∷ ds) t = described d (described_in ds t)
+
+-- the same of a tree or none
+abbrev pub described_by : List Descriptor → Option Tree → Option Tree
+described_by [] t = t
+described_by (d ∷ ds) t = as_described (Some d) (described_by ds t)
+
+-- where the second stand, after the first
+abbrev pub aside_of : List Descriptor → List Descriptor → Aside
+aside_of others own = record { first = length others; end = length (others ++ own) }

@@ -1,0 +1,131 @@
+//! The parts of a compound that is still fed.
+
+ghost use Rattle.std.specs.Prelude.{◌≡◌, false, ◌++◌, ◌∷◌, [], List, Option, Some, None, MatchResult, MatchOption};
+ghost use Rattle.amqp_ser.specs.Tree.{Tree, Trees, Pairs, no_trees};
+ghost use Rattle.amqp_ser.specs.Compounds.{as_kind, in_pairs};
+ghost use Rattle.amqp_value.specs.Image.{image, variant_map};
+ghost use Rattle.amqp_value.specs.TreeOf.{tree_of};
+ghost use Rattle.amqp_to_value.specs.Fed.{Fed, is_bare, made, then, TakesPairs};
+ghost use Rattle.amqp_to_value.specs.Permitted.{IsImageOf};
+ghost use Rattle.amqp_to_value.specs.Under.{meant};
+
+use crate::gathered::Gathered;
+use crate::under::Under;
+use amqp_data::{Array, Error, OrderedMap};
+use amqp_ser::{Kind, Mark};
+use amqp_value::Value;
+use std::alloc::Global;
+
+/// What a compound makes of its parts, with the values of those that it was fed.
+#[derive(Drop)]
+pub enum Parts {
+    /// A list of these elements.
+    List(Vec<Value>),
+    /// An array of these elements.
+    Array(Vec<Value>),
+    /// A list of these elements, that stand one after another.
+    Transparent(Vec<Value>),
+    /// A map.
+    Map(Gathered),
+    /// The variant of this index and the list of its fields.
+    Fields(u32, Vec<Value>),
+    /// The variant of this index and its one value.
+    Only(u32, Vec<Value>),
+    /// A compound that its marker does not take: it keeps nothing.
+    Refused,
+}
+
+impl Parts {
+    /// What a compound of this kind is under a marker. A bare one is none of these.
+    pub fn new(alloc: Global, under: Under, kind: Kind) -> Parts
+        ensures makes { is_bare kind ≡ false → (o : Option Trees) → meant under (as_kind kind o) ≡ made result o }
+        ensures empty { Fed result no_trees }
+    {
+        match (under, kind) {
+            (Under::Mark(Mark::Other), Kind::List) => Parts::List(Vec::new(alloc)),
+            (Under::Mark(Mark::Other), Kind::Map) => Parts::Map(Gathered::new(alloc)),
+            (Under::Mark(Mark::Other), Kind::Fields(index)) => Parts::Fields(
+                index,
+                Vec::new(alloc),
+            ),
+            (Under::Mark(Mark::Other), Kind::Only(index)) => Parts::Only(index, Vec::new(alloc)),
+            (Under::Mark(Mark::Array), Kind::List) => Parts::Array(Vec::new(alloc)),
+            (Under::Mark(Mark::Transparent), Kind::List) => Parts::Transparent(Vec::new(alloc)),
+            _ => Parts::Refused,
+        }
+    }
+
+    /// Takes one part more.
+    pub fn take(&mut self, part: Value) -> Result<(), Error>
+        ensures makes { (o : Option Trees) → made self.new o ≡ made self.old o }
+        ensures step { (ts : Trees) (t : Tree) → Fed self.old ts → tree_of part ≡ image t →
+            MatchResult result (λ _. Fed self.new (then ts t)) (λ e. Fed self.new ts × (e ≡ Error.OutOfMemory)) }
+    {
+        match self {
+            Parts::List(items) => gather(items, part),
+            Parts::Array(items) => gather(items, part),
+            Parts::Transparent(items) => gather(items, part),
+            Parts::Map(pairs) => pairs.take(part),
+            Parts::Fields(_, items) => gather(items, part),
+            Parts::Only(_, items) => gather(items, part),
+            Parts::Refused => Ok(()),
+        }
+    }
+
+    /// Takes a map's pending key back.
+    pub fn undo(&mut self)
+        ensures makes { (o : Option Trees) → made self.new o ≡ made self.old o }
+        ensures back { (ts : Trees) (ps : Pairs) (t : Tree) → in_pairs ts ≡ Some ps → TakesPairs self.old → Fed self.old (then ts t) → Fed self.new ts }
+    {
+        if let Parts::Map(pairs) = self {
+            pairs.undo();
+        }
+    }
+
+    /// The value of the compound.
+    pub fn into_value(self, alloc: Global) -> Result<Value, Error>
+        ensures { (ts : Trees) → Fed self ts → IsImageOf (made self (Some ts)) result }
+    {
+        match self {
+            Parts::List(items) => Ok(Value::List(items)),
+            Parts::Array(items) => Ok(Value::Array(Array::from(items))),
+            Parts::Transparent(items) => Ok(Value::List(items)),
+            Parts::Map(pairs) => pairs.into_value(alloc),
+            Parts::Fields(index, items) => variant(alloc, index, Value::List(items)),
+            Parts::Only(index, items) => match only(items) {
+                Some(payload) => variant(alloc, index, payload),
+                None => Err(Error::InvalidValue),
+            },
+            Parts::Refused => Err(Error::InvalidValue),
+        }
+    }
+}
+
+// Puts a value last.
+fn gather(items: &mut Vec<Value>, value: Value) -> Result<(), Error>
+    ensures { MatchResult result
+        (λ _. items.new.items ≡ items.old.items ++ (value ∷ []))
+        (λ e. (items.new.items ≡ items.old.items) × (e ≡ Error.OutOfMemory)) }
+{
+    items.push(value)?;
+    Ok(())
+}
+
+// The one value, where there is one and no more.
+fn only(mut items: Vec<Value>) -> Option<Value>
+    ensures { MatchOption result ((v : Value) → items.items ≡ v ∷ [] → ⊥) (λ v. items.items ≡ v ∷ []) }
+{
+    let last = items.pop()?;
+    if items.is_empty() { Some(last) } else { None }
+}
+
+// The map of one pair that stands for a variant.
+fn variant(alloc: Global, index: u32, payload: Value) -> Result<Value, Error>
+    ensures { MatchResult result
+        (λ v. tree_of v ≡ variant_map index (tree_of payload))
+        (λ e. e ≡ Error.OutOfMemory) }
+{
+    let mut pairs = Vec::new(alloc);
+    pairs.push((Value::Uint(index), payload))?;
+    Ok(Value::Map(OrderedMap::from_distinct(pairs)))
+}
