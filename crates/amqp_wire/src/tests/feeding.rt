@@ -1,10 +1,15 @@
 //! Structs and lists fed by hand, which pass over what is refused: their lengths and bytes.
 
+ghost use Rattle.std.specs.Prelude.{◌∷◌, [], Some};
+ghost use Rattle.amqp_ser.specs.Compounds.{whole};
+ghost use Rattle.amqp_ser.specs.Tree.{scalar, ubyte};
+ghost use Rattle.amqp_ser.specs.declared.kind.Kind.TheVariants.{List};
+
 use super::refused::NoTree;
 use crate::headers::Headers;
 use crate::writer::Writer;
 use amqp_data::{Error, TransparentVec, markers};
-use amqp_ser::{Mark, Serializer};
+use amqp_ser::{Mark, Serialize, Serializer};
 use amqp_size::SizeSerializer;
 use std::alloc::Global;
 
@@ -132,6 +137,56 @@ impl Feed for MarkedBasic {
     }
 }
 
+/// A struct of one field.
+#[derive(Drop)]
+struct Plain {
+    a: u8,
+}
+
+impl Serialize for Plain {
+    ghost tree = { λ p. whole List (Some (scalar (ubyte p.a)) ∷ []) };
+
+    fn serialize<S: Serializer>(&self, serializer: &mut S) -> Result<S::Ok, S::Error> {
+        let mut fields = serializer.serialize_struct("Plain", 1)?;
+        fields.serialize_field("a", &self.a)?;
+        fields.end()
+    }
+}
+
+struct MapComposite;
+
+impl Feed for MapComposite {
+    fn feed<S: Serializer>(&self, serializer: &mut S) -> Result<S::Ok, S::Error> {
+        let mut fields = serializer.serialize_struct(markers::DESCRIBED_MAP, 3)?;
+        fields.serialize_field(markers::DESCRIPTOR, &0x13u64)?;
+        fields.serialize_field("is_fool", &true)?;
+        fields.serialize_field("a", &9i32)?;
+        fields.end()
+    }
+}
+
+#[derive(Drop)]
+struct MapOfStruct(Plain);
+
+impl Feed for MapOfStruct {
+    fn feed<S: Serializer>(&self, serializer: &mut S) -> Result<S::Ok, S::Error> {
+        let mut fields = serializer.serialize_struct(markers::DESCRIBED_MAP, 2)?;
+        fields.serialize_field(markers::DESCRIPTOR, &0x13u64)?;
+        fields.serialize_field("p", &self.0)?;
+        fields.end()
+    }
+}
+
+struct MapNameOnTuple;
+
+impl Feed for MapNameOnTuple {
+    fn feed<S: Serializer>(&self, serializer: &mut S) -> Result<S::Ok, S::Error> {
+        let mut fields = serializer.serialize_tuple_struct(markers::DESCRIBED_MAP, 1)?;
+        fields.serialize_field(&true)?;
+        fields.end()
+    }
+}
+
 #[derive(Drop)]
 struct MisplacedValue(TransparentVec<bool>);
 
@@ -175,6 +230,17 @@ fn basic_structs_have_one_value(rt: HostRuntime) {
         is(a, &MarkedBasic, b"\xe0\x04\x02\x50\x01\x02"),
         "a marker works through"
     );
+}
+
+#[test]
+fn map_composites_write_their_names(rt: HostRuntime) {
+    let a = rt.alloc();
+    let two = b"\x00\x53\x13\xc1\x10\x04\xa1\x07is_fool\x41\xa1\x01a\x54\x09".as_slice();
+    assert!(rt; is(a, &MapComposite, two), "two fields");
+    let map = MapOfStruct(Plain { a: 1 });
+    let one = b"\x00\x53\x13\xc1\x09\x02\xa1\x01p\xc0\x03\x01\x50\x01".as_slice();
+    assert!(rt; is(a, &map, one), "a struct inside");
+    assert!(rt; is(a, &MapNameOnTuple, b"\xc0\x02\x01\x41"), "a list");
 }
 
 #[test]

@@ -14,6 +14,7 @@ use std::alloc::Global;
 use std::test::Fail;
 
 /// A list composite of two fields, code 0x13.
+#[derive(Drop)]
 struct Pair<A, B>(A, B);
 
 impl<A: Serialize, B: Serialize> Serialize for Pair<A, B> {
@@ -29,6 +30,7 @@ impl<A: Serialize, B: Serialize> Serialize for Pair<A, B> {
 }
 
 /// A list composite of one field, as a tuple struct, code 1.
+#[derive(Drop)]
 struct One<T>(T);
 
 impl<T: Serialize> Serialize for One<T> {
@@ -43,6 +45,7 @@ impl<T: Serialize> Serialize for One<T> {
 }
 
 /// A list composite without fields, code 1.
+#[derive(Drop)]
 struct Empty;
 
 impl Serialize for Empty {
@@ -56,6 +59,7 @@ impl Serialize for Empty {
 }
 
 /// A section of one value, code 1.
+#[derive(Drop)]
 struct Section<T>(T);
 
 impl<T: Serialize> Serialize for Section<T> {
@@ -70,6 +74,7 @@ impl<T: Serialize> Serialize for Section<T> {
 }
 
 /// A plain struct of one field.
+#[derive(Drop)]
 struct Plain {
     a: u8,
 }
@@ -85,6 +90,7 @@ impl Serialize for Plain {
 }
 
 /// A basic struct without a descriptor is its one field, under a marker too.
+#[derive(Drop)]
 struct Bare(u8);
 
 impl Serialize for Bare {

@@ -1,7 +1,6 @@
 //! Transparent vectors: elements one after another, at the root alone; and the enums that have names of their own.
 
-ghost use Rattle.std.specs.Prelude.{None};
-ghost use Rattle.amqp_ser.specs.Structs.{named_variant};
+ghost use Rattle.std.specs.Prelude.{None, Some};
 ghost use Rattle.amqp_ser.specs.Tree.{scalar, ubyte};
 
 use super::rows::{refused, row};
@@ -11,6 +10,7 @@ use amqp_ser::{Serialize, Serializer};
 use std::test::Fail;
 
 /// A variant of the enum named `VALUE`.
+#[derive(Drop)]
 struct Untagged(u8);
 
 impl Serialize for Untagged {
@@ -22,6 +22,7 @@ impl Serialize for Untagged {
 }
 
 /// A variant of the enum named `DESCRIPTOR`: it has no tree.
+#[derive(Drop)]
 struct Tag(u64);
 
 impl Serialize for Tag {

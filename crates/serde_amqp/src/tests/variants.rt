@@ -13,6 +13,7 @@ use std::alloc::Global;
 use std::test::Fail;
 
 /// A newtype variant, index 1.
+#[derive(Drop)]
 struct Newtype(u64);
 
 impl Serialize for Newtype {
@@ -24,6 +25,7 @@ impl Serialize for Newtype {
 }
 
 /// A tuple variant, index 1.
+#[derive(Drop)]
 struct Tuple(i32, &'static str);
 
 impl Serialize for Tuple {
@@ -38,6 +40,7 @@ impl Serialize for Tuple {
 }
 
 /// A struct variant, index 0.
+#[derive(Drop)]
 struct Struct(u32, bool);
 
 impl Serialize for Struct {
@@ -52,6 +55,7 @@ impl Serialize for Struct {
 }
 
 /// A unit variant, index 1.
+#[derive(Drop)]
 struct Unit;
 
 impl Serialize for Unit {
