@@ -1,5 +1,5 @@
 -- The bytes of a bare compound.
-use Rattle.std.proofs.Common.{◌≡◌, ℕ, ◌+◌, List, [], ◌∷◌, ◌++◌, Option, Some, None, Bool, true, false, Result, Ok, Err, length, refl, ap, sym, ◌∙◌, subst, arith, drop}
+use Rattle.std.proofs.Common.{◌≡◌, List, [], ◌∷◌, ◌++◌, Option, Some, None, true, false, Result, Ok, Err, length, refl, ap, sym, ◌∙◌, subst, arith, drop}
 use Rattle.amqp_data.specs.declared.error.Error.{Error}
 use Rattle.amqp_ser.specs.Tree.{Tree, Trees}
 use Rattle.amqp_ser.specs.Compounds.{all_trees, before, as_kind, whole, complete}
@@ -10,13 +10,13 @@ use Rattle.amqp_size.specs.declared.place.Under.TheVariants as under
 use Rattle.amqp_size.proofs.Bare.{whole_one}
 use Rattle.amqp_wire.specs.Heads.{in_array, bytes_at}
 use Rattle.amqp_wire.specs.Standing.{taken_as}
-use Rattle.amqp_wire.specs.Written.{Kept, Meets, Wrote, Same, writes_tree, writer_permits, Alone}
+use Rattle.amqp_wire.specs.Written.{Kept, Meets, Same, writes_tree, writer_permits, Alone}
 use Rattle.amqp_wire.specs.declared.output.Output.{Output}
 use Rattle.amqp_wire.specs.declared.writer.Writer.{Writer}
 use Rattle.amqp_wire.specs.declared.writer.Writing.{Writing}
 use Rattle.amqp_wire.proofs.Few.{no_false}
 use Rattle.amqp_wire.proofs.Lone.{not_empty, only_last}
-use Rattle.amqp_wire.proofs.Parts.{kept-more, kept-refl, still_refused}
+use Rattle.amqp_wire.proofs.Parts.{kept-more, still_refused}
 use Rattle.amqp_wire.proofs.Standing.{taken_none}
 
 -- the same table and room, where nothing was written since

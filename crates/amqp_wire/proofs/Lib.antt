@@ -14,3 +14,5 @@ pub mod Described
 pub mod Alone
 pub mod Writing
 pub mod Heading
+pub mod Headed
+pub mod Ends

@@ -25,7 +25,7 @@ use Rattle.amqp_wire.specs.Written.{Extends}
 use Rattle.amqp_wire.specs.declared.table.Header.{Header}
 use Rattle.amqp_wire.specs.declared.headers.Headers.{Headers}
 use Rattle.amqp_wire.specs.declared.headers.Counting.{Counting}
-use Rattle.amqp_wire.proofs.Held.{never_bare, held_trees, held_plain, held_shape, held_bare}
+use Rattle.amqp_wire.proofs.Held.{never_bare, held_trees, held_shape}
 use Rattle.amqp_wire.proofs.Lists.{extends-more, take_front, same_front}
 use Rattle.amqp_wire.proofs.Made.{made_places, made_right, made_small, fills_are, solid_whole, suits_placed, within_there, few_parts}
 use Rattle.amqp_wire.proofs.Parts.{solid-join, whole_of, even_front}

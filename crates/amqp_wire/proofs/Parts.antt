@@ -2,17 +2,15 @@
 use Rattle.std.proofs.Common.{◌≡◌, ℕ, ◌+◌, List, [], ◌∷◌, ◌++◌, Option, Some, None, Bool, true, false, not, ◌&&◌, Result, Ok, Err, length, refl, ap, sym, ◌∙◌, subst, arith, append_assoc, append-nil, length-append, drop, take, is_err}
 use Rattle.std.specs.Vec.{vec_capacity}
 use Rattle.amqp_data.specs.declared.error.Error.{Error}
-use Rattle.amqp_ser.specs.Tree.{Tree, Trees, list, array, map, variant, transparent, no_trees, more}
+use Rattle.amqp_ser.specs.Tree.{Tree, Trees, no_trees, more}
 use Rattle.amqp_ser.specs.Writable.{within, within_each}
-use Rattle.amqp_ser.specs.Compounds.{all_trees, before, as_kind, as_map, as_variant, only, whole, complete, paired}
+use Rattle.amqp_ser.specs.Compounds.{all_trees, before, as_kind, whole, paired}
 use Rattle.amqp_ser.specs.declared.kind.Kind.{Kind}
 use Rattle.amqp_ser.specs.declared.kind.Kind.TheVariants as kinds
 use Rattle.amqp_ser.proofs.Bools.{left_true, right_true, and_assoc}
 use Rattle.amqp_ser.proofs.Joins.{join, joined, all_trees-append, within-join, enc_each-join, payload_each-join}
-use Rattle.amqp_ser.proofs.Pairing.{pairing, paired-even}
-use Rattle.amqp_size.specs.Place.{outer, meant, shape_of, inner_under}
+use Rattle.amqp_size.specs.Place.{outer, shape_of, inner_under}
 use Rattle.amqp_size.specs.declared.place.Place.{Place}
-use Rattle.amqp_size.specs.declared.place.Place.TheVariants as place
 use Rattle.amqp_size.specs.declared.place.Shape.{Shape}
 use Rattle.amqp_size.specs.declared.place.Shape.TheVariants as shape
 use Rattle.amqp_size.specs.declared.place.Under.{Under}
@@ -20,7 +18,7 @@ use Rattle.amqp_size.specs.declared.place.Under.TheVariants as under
 use Rattle.amqp_wire.specs.Entries.{entries, entries_each, heads}
 use Rattle.amqp_wire.specs.Heads.{in_array, bytes_at, opening, after_opening}
 use Rattle.amqp_wire.specs.Solid.{solid_at, solid_each}
-use Rattle.amqp_wire.specs.Standing.{standing, taken_as, inside_shape, shape_at, opened_as, part_place, is_bare}
+use Rattle.amqp_wire.specs.Standing.{taken_as, opened_as, part_place, is_bare}
 use Rattle.amqp_wire.specs.Written.{Kept, Meets, Wrote, writes_tree, writer_permits, Met, Written, Room, opens}
 use Rattle.amqp_wire.specs.declared.output.Output.{Output}
 use Rattle.amqp_wire.specs.declared.writer.Writer.{Writer}
@@ -94,7 +92,7 @@ join-assoc : (ts us vs : Trees) → join (join ts us) vs ≡ join ts (join us vs
 join-assoc no_trees us vs = refl
 join-assoc (more t ts) us vs = ap (more t) (join-assoc ts us vs)
 
-join-none : (ts : Trees) → join ts no_trees ≡ ts
+pub join-none : (ts : Trees) → join ts no_trees ≡ ts
 join-none no_trees = refl
 join-none (more t ts) = ap (more t) (join-none ts)
 
@@ -128,7 +126,7 @@ met_more a kind start s after held new ts t k f g h us m =
       taken = let c = w.taken in let d = b.taken in omega arith;
     }
 
-room_of : (p : Place) (kind : Shape) (s : Output) (ts : Trees) (t : Tree) → entries t ≡ heads kind ts ++ entries_each ts → Spelled (in_array p) kind ts t → Meets p s t → Room (in_array p) kind s ts
+pub room_of : (p : Place) (kind : Shape) (s : Output) (ts : Trees) (t : Tree) → entries t ≡ heads kind ts ++ entries_each ts → Spelled (in_array p) kind ts t → Meets p s t → Room (in_array p) kind s ts
 room_of p kind s ts t e h m =
     let a = in_array p in
     let f : length (bytes_at a t) ≡ length (opening a kind (heads kind ts)) + length (after_opening kind ts) = ap length h.bytes ∙ length-append (opening a kind (heads kind ts)) (after_opening kind ts) in
@@ -143,7 +141,7 @@ room_of p kind s ts t e h m =
     }
 
 -- the table and the room of the whole are those of its parts
-room_for : (u : Under) (k : Kind) (s : Output) (ts : Trees) (t : Tree) → is_bare k ≡ false → taken_as u (as_kind k (Some ts)) ≡ Some t → Meets (outer u) s t → Room (in_array (outer u)) (opened_as u k) s ts
+pub room_for : (u : Under) (k : Kind) (s : Output) (ts : Trees) (t : Tree) → is_bare k ≡ false → taken_as u (as_kind k (Some ts)) ≡ Some t → Meets (outer u) s t → Room (in_array (outer u)) (opened_as u k) s ts
 room_for u k s ts t b q m =
     let c = compound_taken u k ts t b q m.solid_it in
     subst (λ w. Room (in_array (outer u)) w s ts) (sym c.1) (room_of (outer u) (shape_of u k) s ts t (split u k ts t b c.0) (spelled (outer u) u k ts t b c.0 m.within_it m.solid_it) m)
@@ -274,88 +272,6 @@ part_undone start s cut held ps p h even table cap taken out =
 pub still_refused : (a : Place) (s m after : Output) (o : Option Tree) (e : Error) → writes_tree a s o (Err e) m → writes_tree a s o (Err e) after
 still_refused a s m after None e h = tt
 still_refused a s m after (Some t) e h = h
-
-only_one : (i : ℕ) (ps : List (Option Tree)) (ts : Trees) → all_trees ps ≡ Some ts → complete (kinds.Only i) ps ≡ true → (t : Tree) × (as_variant i (only ts) ≡ Some t)
-only_one i [] ts h e = cc
-only_one i (None ∷ []) ts h e = cc
-only_one i (Some t ∷ []) ts h e = let q : more t no_trees ≡ ts = cc in (variant i t, ap (λ w. as_variant i (only w)) (sym q))
-only_one i (p ∷ (q ∷ ps)) ts h e = cc
-
-meant_tree : (u : Under) (k : Kind) (ps : List (Option Tree)) (ts : Trees) → is_bare k ≡ false → all_trees ps ≡ Some ts → complete k ps ≡ true → (shape_of u k ≡ shape.Refused → ⊥) → (t : Tree) × (meant u (as_kind k (Some ts)) ≡ Some t)
-meant_tree u kinds.Bare ps ts b h e n = cc
-meant_tree (under.Plain p) kinds.List ps ts b h e n = (list ts, refl)
-meant_tree (under.Plain p) kinds.Map ps ts b h e n = let r = pairing ts (sym (paired-even ps ts h) ∙ e) in (map r.pairs, ap as_map r.are)
-meant_tree (under.Plain p) (kinds.Fields i) ps ts b h e n = (variant i (list ts), refl)
-meant_tree (under.Plain p) (kinds.Only i) ps ts b h e n = only_one i ps ts h e
-meant_tree (under.Array p) kinds.List ps ts b h e n = (array ts, refl)
-meant_tree (under.Transparent p) kinds.List ps ts b h e n = (transparent ts, refl)
-meant_tree (under.Array p) kinds.Map ps ts b h e n = absurd (n refl)
-meant_tree (under.Array p) (kinds.Fields i) ps ts b h e n = absurd (n refl)
-meant_tree (under.Array p) (kinds.Only i) ps ts b h e n = absurd (n refl)
-meant_tree (under.Transparent p) kinds.Map ps ts b h e n = absurd (n refl)
-meant_tree (under.Transparent p) (kinds.Fields i) ps ts b h e n = absurd (n refl)
-meant_tree (under.Transparent p) (kinds.Only i) ps ts b h e n = absurd (n refl)
-meant_tree (under.Scalar m p) kinds.List ps ts b h e n = absurd (n refl)
-meant_tree (under.Scalar m p) kinds.Map ps ts b h e n = absurd (n refl)
-meant_tree (under.Scalar m p) (kinds.Fields i) ps ts b h e n = absurd (n refl)
-meant_tree (under.Scalar m p) (kinds.Only i) ps ts b h e n = absurd (n refl)
-meant_tree (under.Nothing p) kinds.List ps ts b h e n = absurd (n refl)
-meant_tree (under.Nothing p) kinds.Map ps ts b h e n = absurd (n refl)
-meant_tree (under.Nothing p) (kinds.Fields i) ps ts b h e n = absurd (n refl)
-meant_tree (under.Nothing p) (kinds.Only i) ps ts b h e n = absurd (n refl)
-
--- a compound that was opened has a tree
-has_tree : (u : Under) (k : Kind) (ps : List (Option Tree)) (ts : Trees) → is_bare k ≡ false → all_trees ps ≡ Some ts → complete k ps ≡ true → (opened_as u k ≡ shape.Refused → ⊥) → (t : Tree) × (taken_as u (as_kind k (Some ts)) ≡ Some t)
-has_tree u k ps ts b h e n = go (outer u) n
-  where
-    go : (p : Place) → (shape_at p (shape_of u k) ≡ shape.Refused → ⊥) → (t : Tree) × (standing p (meant u (as_kind k (Some ts))) ≡ Some t)
-    go place.Root m = meant_tree u k ps ts b h e m
-    go place.Inside m = meant_tree u k ps ts b h e (λ r. m (ap inside_shape r))
-    go place.First m = meant_tree u k ps ts b h e (λ r. m (ap inside_shape r))
-    go (place.Element c) m = meant_tree u k ps ts b h e (λ r. m (ap inside_shape r))
-    go place.Descriptor m = absurd (m refl)
-    go (place.Value w x) m = meant_tree u k ps ts b h e (λ r. m (ap inside_shape r))
-
--- the whole is written
-pub all_written : (start : Writer) (kind : Kind) (s : Writer) (held : Writing) (ps : List (Option Tree)) → is_bare kind ≡ false → Written start kind s.output held ps → s.place ≡ under.Plain held.place → complete kind ps ≡ true → held.refused ≡ false → writer_permits start (whole kind ps) (Ok tt) s
-all_written start kind s held ps bare h place done opened =
-    let p = outer start.place in
-    let a = in_array p in
-    let sh = opened_as start.place kind in
-    let t = has_tree start.place kind ps h.ts bare h.trees done (λ e. let no : true ≡ false = sym (h.none_refused e) ∙ opened in cc) in
-    let is : taken_as start.place (whole kind ps) ≡ Some t.0 = ap (taken_as start.place) (whole_of kind ps h.ts h.trees) ∙ t.1 in (
-      h.kept,
-      (
-        place ∙ ap under.Plain h.place,
-        subst (λ o. writes_tree p start.output o (Ok tt) s.output) (sym is) (λ m.
-            let c = compound_taken start.place kind h.ts t.0 bare t.1 m.solid_it in
-            let entered : entries t.0 ≡ heads sh h.ts ++ entries_each h.ts = subst (λ w. entries t.0 ≡ heads w h.ts ++ entries_each h.ts) (sym c.1) (split start.place kind h.ts t.0 bare c.0) in
-            let sp : Spelled a sh h.ts t.0 = subst (λ w. Spelled a w h.ts t.0) (sym c.1) (spelled p start.place kind h.ts t.0 bare c.0 m.within_it m.solid_it) in
-            let b = h.met no_trees (subst (λ w. Room a sh start.output w) (sym (join-none h.ts)) (room_of p sh start.output h.ts t.0 entered sp m)) in
-            let same = ap (λ w. length (heads sh w)) (join-none h.ts) in
-            let e : length (entries t.0) ≡ length (heads sh h.ts) + length (entries_each h.ts) = ap length entered ∙ length-append (heads sh h.ts) (entries_each h.ts) in
-            record {
-              out = b.out ∙ ap (λ w. start.output.out.items ++ (opening a sh (heads sh w) ++ after_opening sh h.ts)) (join-none h.ts) ∙ ap (λ x. start.output.out.items ++ x) (sym sp.bytes);
-              taken = let n = b.taken in omega arith;
-            }),
-      ),
-    )
-
--- a compound that could not be opened
-pub not_opened : (start : Writer) (kind : Kind) (s : Writer) (held : Writing) (ps : List (Option Tree)) (e : Error) → is_bare kind ≡ false → Written start kind s.output held ps → s.place ≡ under.Plain held.place → held.refused ≡ true → writer_permits start (whole kind ps) (Err e) s
-not_opened start kind s held ps e bare h place r =
-    let a = in_array (outer start.place) in
-    let sh = opened_as start.place kind in (
-      h.kept,
-      (
-        place ∙ ap under.Plain h.place,
-        subst (λ o. writes_tree (outer start.place) start.output (taken_as start.place o) (Err e) s.output) (sym (whole_of kind ps h.ts h.trees))
-            (never (outer start.place) start.output s.output (taken_as start.place (as_kind kind (Some h.ts))) e (λ x q m.
-            let w = room_for start.place kind start.output h.ts x bare q m in
-            let b = h.met no_trees (subst (λ v. Room a sh start.output v) (sym (join-none h.ts)) w) in
-            let no : true ≡ false = sym r ∙ b.opened in cc)),
-      ),
-    )
 
 -- a compound that was opened
 pub now_open : (start : Writer) (kind : Kind) (s : Output) (held : Writing) (r : Result (Unit {0}) Error) → Kept start.output s →

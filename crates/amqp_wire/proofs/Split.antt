@@ -1,5 +1,5 @@
 -- A compound's headers and those of its parts.
-use Rattle.std.proofs.Common.{◌≡◌, ℕ, Bool, true, false, ◌*◌, [], ◌∷◌, ◌++◌, Option, Some, None, ◌&&◌, length, refl, ap, sym, ◌∙◌, subst, arith, append_assoc, append-nil}
+use Rattle.std.proofs.Common.{◌≡◌, ℕ, false, ◌*◌, [], ◌∷◌, ◌++◌, Option, Some, None, ◌&&◌, length, refl, ap, sym, ◌∙◌, subst, arith, append_assoc, append-nil}
 use Rattle.amqp_ser.specs.Tree.{Tree, Trees, Pairs, uint, list, array, map, variant, transparent, no_trees, more, no_pairs, pair, count, pair_count}
 use Rattle.amqp_ser.specs.Scalars.{scalar_form}
 use Rattle.amqp_ser.specs.Encoding.{enc, enc_each, enc_pairs}

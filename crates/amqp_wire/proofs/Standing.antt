@@ -1,8 +1,8 @@
 -- Nothing but a descriptor is taken before a described value.
-use Rattle.std.proofs.Common.{◌≡◌, ℕ, Bool, true, false, List, Option, Some, None, is_some, refl, ap, sym, ◌∙◌, subst}
+use Rattle.std.proofs.Common.{◌≡◌, ℕ, true, false, Option, Some, None, is_some, refl, ap, sym, ◌∙◌}
 use Rattle.amqp_ser.specs.Tree.{Tree, Trees, Pairs, scalar, list, array, map, described, variant, lazy, transparent, Descriptor}
 use Rattle.amqp_ser.specs.Encoding.{con}
-use Rattle.amqp_ser.specs.Compounds.{all_trees, as_kind, as_map, as_variant, in_pairs, only, complete}
+use Rattle.amqp_ser.specs.Compounds.{as_kind, as_map, as_variant, in_pairs, only}
 use Rattle.amqp_ser.specs.Composites.{descriptor_of}
 use Rattle.amqp_ser.specs.declared.kind.Kind.{Kind}
 use Rattle.amqp_ser.specs.declared.kind.Kind.TheVariants as kinds

@@ -1,15 +1,14 @@
 -- The table of a compound of each kind, step by step.
-use Rattle.std.proofs.Common.{◌≡◌, ℕ, ◌+◌, ◌≤◌, inl, inr, List, [], ◌∷◌, ◌++◌, Option, Some, None, Bool, true, false, Result, Ok, Err, length, refl, ap, sym, ◌∙◌, subst, arith, append-nil}
+use Rattle.std.proofs.Common.{◌≡◌, ℕ, ◌+◌, ◌≤◌, inl, inr, List, [], ◌∷◌, ◌++◌, Option, Bool, true, false, Result, Ok, Err, length, refl, ap, sym, ◌∙◌, subst, append-nil}
 use Rattle.amqp_data.specs.declared.error.Error.{Error}
 use Rattle.amqp_ser.specs.Tree.{Tree, no_trees, count}
-use Rattle.amqp_ser.specs.Compounds.{all_trees, whole, complete}
+use Rattle.amqp_ser.specs.Compounds.{whole, complete}
 use Rattle.amqp_ser.specs.declared.kind.Kind.{Kind}
 use Rattle.amqp_ser.specs.declared.kind.Kind.TheVariants as kinds
 use Rattle.amqp_size.specs.Place.{outer, meant, rest, shape_of, con_of}
-use Rattle.amqp_size.specs.Counted.{at_place, size_permits, HoldsBare, Holding, bare_parts}
+use Rattle.amqp_size.specs.Counted.{at_place, size_permits, Holding, bare_parts}
 use Rattle.amqp_size.specs.declared.place.Place.TheVariants.{Root}
 use Rattle.amqp_size.specs.declared.place.Shape.{Shape}
-use Rattle.amqp_size.specs.declared.place.Shape.TheVariants as shape
 use Rattle.amqp_size.specs.declared.place.Under.{Under}
 use Rattle.amqp_size.specs.declared.place.Under.TheVariants.{Plain}
 use Rattle.amqp_wire.specs.Entries.{header, entries_each, places, made, made_fits}

@@ -1,7 +1,7 @@
 -- The bytes of a compound of each kind, step by step.
-use Rattle.std.proofs.Common.{◌≡◌, List, [], ◌∷◌, ◌++◌, Option, Some, None, Bool, true, false, Result, Ok, Err, is_err, length, refl, ap, sym, ◌∙◌, subst}
+use Rattle.std.proofs.Common.{◌≡◌, List, [], ◌∷◌, ◌++◌, Option, Some, None, Bool, true, false, Result, Ok, Err, length, refl, sym, ◌∙◌, subst}
 use Rattle.amqp_data.specs.declared.error.Error.{Error}
-use Rattle.amqp_ser.specs.Tree.{Tree, Trees}
+use Rattle.amqp_ser.specs.Tree.{Tree}
 use Rattle.amqp_ser.specs.Compounds.{whole, complete}
 use Rattle.amqp_ser.specs.declared.kind.Kind.{Kind}
 use Rattle.amqp_ser.specs.declared.kind.Kind.TheVariants as kinds
@@ -16,7 +16,8 @@ use Rattle.amqp_wire.specs.declared.writer.Writing.{Writing}
 use Rattle.amqp_wire.proofs.Alone.{alone_open, alone_more, alone_back, alone_refused, alone_written}
 use Rattle.amqp_wire.proofs.Few.{no_false}
 use Rattle.amqp_wire.proofs.Held.{bare_kind, other_kind}
-use Rattle.amqp_wire.proofs.Parts.{kept-refl, part_written, part_refused, part_back, all_written, not_opened}
+use Rattle.amqp_wire.proofs.Parts.{kept-refl, part_written, part_refused, part_back}
+use Rattle.amqp_wire.proofs.Ends.{all_written, not_opened}
 use Rattle.amqp_wire.proofs.Standing.{part_taken}
 
 -- a part is taken as it is

@@ -8,6 +8,7 @@
 mod head;
 mod headers;
 mod output;
+mod stance;
 mod table;
 #[cfg(test)]
 mod tests;

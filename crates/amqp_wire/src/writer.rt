@@ -1,19 +1,17 @@
 //! The second walk: the bytes, into room that stands ready.
 
-ghost use Rattle.std.specs.Prelude.{◌≡◌, ◌++◌, ◌∷◌, [], List, Option, Some, None, Result, Ok, Err, MatchResult, IfErr, IsErr, is_some, is_err, true, false};
+ghost use Rattle.std.specs.Prelude.{◌≡◌, ◌++◌, ◌∷◌, [], List, Option, Some, None, Result, Ok, Err, MatchResult, IfErr, IsErr, is_err, true, false};
 ghost use Rattle.amqp_ser.specs.Tree.{Tree};
-ghost use Rattle.amqp_ser.specs.Tree.{scalar};
-ghost use Rattle.amqp_ser.specs.Fixed.{fixed_scalar};
-ghost use Rattle.amqp_ser.specs.Composites.{descriptor_of};
 ghost use Rattle.amqp_wire.specs.Heads.{in_array};
-ghost use Rattle.amqp_wire.specs.Standing.{at_descriptor, takes_described, opened_as};
+ghost use Rattle.amqp_wire.specs.Standing.{at_descriptor};
 
 use crate::output::{Output, Position};
+use crate::stance::{at_descriptor, in_array, is_descriptor, opened_as, takes_described};
 use crate::table::Header;
 use amqp_data::Error;
 use amqp_ser::{Fixed, Kind, Mark, Serializer};
 use amqp_size::width::LONGEST;
-use amqp_size::{Place, ScalarMark, Shape, Under};
+use amqp_size::{Place, ScalarMark, Under};
 
 /// Writes values into room that stands ready, with the headers of a table.
 ///
@@ -37,55 +35,6 @@ pub struct Writing {
     last: Position,
     /// The compound could not be opened.
     refused: bool,
-}
-
-#[inline(always)]
-fn in_array(place: Place) -> bool
-    ensures { result ≡ in_array place }
-{
-    matches!(place, Place::First | Place::Element(_))
-}
-
-/// Whether only a descriptor is taken there.
-#[inline(always)]
-fn at_descriptor(place: Place) -> bool
-    ensures { result ≡ at_descriptor place }
-{
-    matches!(place, Place::Descriptor)
-}
-
-/// Whether a value of fixed width is a descriptor.
-#[inline(always)]
-fn is_descriptor(fixed: Fixed) -> bool
-    ensures { result ≡ is_some (descriptor_of (Some (scalar (fixed_scalar fixed)))) }
-{
-    matches!(fixed, Fixed::Ulong(_))
-}
-
-/// Whether a described value can be written there.
-#[inline(always)]
-fn takes_described(under: Under) -> bool
-    ensures { result ≡ takes_described under }
-{
-    matches!(
-        under,
-        Under::Plain(Place::Root | Place::Inside | Place::Value(_, _))
-    )
-}
-
-/// What is opened there: a transparent vector at the root alone, and no compound as a descriptor.
-#[inline(always)]
-fn opened_as(under: Under, kind: Kind) -> Shape
-    ensures { result ≡ opened_as under kind }
-{
-    match under.outer() {
-        Place::Root => under.shape(kind),
-        Place::Descriptor => Shape::Refused,
-        _ => match under.shape(kind) {
-            Shape::Transparent => Shape::Refused,
-            shape => shape,
-        },
-    }
 }
 
 impl Writer {
@@ -150,7 +99,7 @@ impl Serializer for Writer {
     ghost use Rattle.amqp_data.specs.declared.error.Error.TheVariants.{InvalidValue};
     ghost use Rattle.amqp_wire.specs.Written.{writer_permits, writer_has, writer_awaits, AwaitsDescriptor};
     ghost use Rattle.amqp_ser.specs.Compounds.{whole};
-    ghost use Rattle.amqp_ser.specs.Composites.{as_described};
+    ghost use Rattle.amqp_ser.specs.Composites.{as_described, descriptor_of};
     ghost use Rattle.amqp_ser.specs.declared.kind.Kind.{Kind};
 
     type Ok = ();

@@ -1,17 +1,15 @@
-use Rattle.std.proofs.Common.{◌≡◌, ◌+◌, ◌≤◌, length, inl, inr, refl, subst, ap, ◌∙◌}
+use Rattle.std.proofs.Common.{◌≡◌, ◌+◌, ◌≤◌, length, refl, subst}
 use Rattle.amqp_ser.specs.Compounds.{whole}
 use Rattle.amqp_size.specs.Place.{meant}
 use Rattle.amqp_size.specs.Counted.{size_permits}
 use Rattle.amqp_size.specs.declared.place.Shape.{Shape}
-use Rattle.amqp_size.specs.declared.place.Under.TheVariants.{Plain}
-use Rattle.amqp_size.proofs.Holding.{at_rest}
 use Rattle.amqp_wire.specs.Entries.{header, made, made_fits, places}
 use Rattle.amqp_wire.specs.Listed.{fills}
 use Rattle.amqp_wire.specs.Standing.{is_bare}
 use Rattle.amqp_wire.specs.declared.headers.Headers.{Headers}
 use Rattle.amqp_wire.specs.declared.headers.Counting.{Counting}
 use Rattle.amqp_wire.proofs.Listing.{listed_extends}
-use Rattle.amqp_wire.proofs.Tabling.{tabled_extends, whole_tabled}
+use Rattle.amqp_wire.proofs.Tabling.{whole_tabled}
 use Rattle.amqp_wire.proofs.headers.HeadersSerializer.end.Goals as goal
 
 pub returns : goal.returns

@@ -2,7 +2,7 @@ use Rattle.std.proofs.Common.{◌≡◌, refl, ap, ◌∙◌, take}
 use Rattle.amqp_wire.specs.declared.headers.Headers.{Headers}
 use Rattle.amqp_wire.specs.declared.headers.Counting.{Counting}
 use Rattle.amqp_wire.proofs.Described.{described_value, refusal_of_descriptor}
-use Rattle.amqp_wire.proofs.Lists.{take_front, extends-refl}
+use Rattle.amqp_wire.proofs.Lists.{take_front}
 use Rattle.amqp_wire.proofs.Tabling.{lone_open}
 use Rattle.amqp_wire.proofs.headers.HeadersSerializer.end_descriptor.Goals as goal
 

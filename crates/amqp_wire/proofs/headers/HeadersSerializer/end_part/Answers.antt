@@ -1,4 +1,4 @@
-use Rattle.std.proofs.Common.{◌≡◌, ◌++◌, ◌∷◌, [], refl, subst, ap, ◌∙◌, take, arith}
+use Rattle.std.proofs.Common.{◌≡◌, refl, ap, ◌∙◌, take, arith}
 use Rattle.amqp_wire.specs.Standing.{is_bare}
 use Rattle.amqp_wire.specs.declared.headers.Headers.{Headers}
 use Rattle.amqp_wire.specs.declared.headers.Counting.{Counting}

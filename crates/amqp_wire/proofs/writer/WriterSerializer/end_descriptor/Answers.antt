@@ -2,7 +2,7 @@ use Rattle.std.proofs.Common.{◌∙◌, refl}
 use Rattle.amqp_wire.specs.declared.output.Output.{Output}
 use Rattle.amqp_wire.specs.declared.writer.Writing.{Writing}
 use Rattle.amqp_wire.proofs.Alone.{alone_open}
-use Rattle.amqp_wire.proofs.Heading.{value_described, described_refused}
+use Rattle.amqp_wire.proofs.Headed.{value_described, described_refused}
 use Rattle.amqp_wire.proofs.Parts.{kept_back, kept-more}
 use Rattle.amqp_wire.proofs.writer.WriterSerializer.end_descriptor.Goals as goal
 
