@@ -208,10 +208,10 @@ fn described_values_keep_their_descriptors(rt: HostRuntime) -> Result<(), Fail> 
 #[test]
 fn transparent_vectors_are_lists(rt: HostRuntime) -> Result<(), Fail> {
     let alloc = rt.alloc();
-    let words = || Ok::<_, Fail>(TransparentVec::new(["a", "bc"].to_vec(alloc)?));
-    assert_eq!(rt; to_value(alloc, &words()?)?, list(alloc, &["a", "bc"])?);
+    let words = TransparentVec::new(["a", "bc"].to_vec(alloc)?);
+    assert_eq!(rt; to_value(alloc, &words)?, list(alloc, &["a", "bc"])?);
     let mut vectors = Vec::new(alloc);
-    vectors.push(words()?)?;
+    vectors.push(words)?;
     let mut lists = Vec::new(alloc);
     lists.push(list(alloc, &["a", "bc"])?)?;
     assert_eq!(rt; to_value(alloc, &vectors)?, Value::List(lists));
