@@ -1,7 +1,7 @@
-//! The calls that take memory, with what they must answer.
+//! The main calls that take memory, with what they must answer: all but the two runs and `try_collect`.
 
 use crate::again::Again;
-use amqp_data::{Array, Error, OrderedMap, Symbol};
+use amqp_data::{Array, Described, Descriptor, Error, OrderedMap, Symbol};
 use amqp_frame::{LazyValue, SliceReader};
 use amqp_to_value::to_value;
 use amqp_value::Value;
@@ -16,6 +16,7 @@ pub fn all(rt: &(impl Print + AllocGlobal)) -> Result<(), Error> {
     report(rt, "bytes", bytes(alloc)?);
     report(rt, "a refused element fed again", fed_again(alloc)?);
     report(rt, "images", images(alloc)?);
+    report(rt, "described values", described(alloc)?);
     report(rt, "frames", frames(alloc)?);
     Ok(())
 }
@@ -69,6 +70,21 @@ fn images(alloc: Global) -> Result<bool, Error> {
     drop(map.insert(Symbol::try_from_str(alloc, "k")?, value)?);
     let image = to_value(alloc, &map)?;
     Ok(to_value(alloc, &image)? == image)
+}
+
+fn described(alloc: Global) -> Result<bool, Error> {
+    let inner = Described {
+        descriptor: Descriptor::from(1u64),
+        value: true,
+    };
+    let value = Described {
+        descriptor: Descriptor::from(Symbol::try_from_str(alloc, "a:b")?),
+        value: inner,
+    };
+    let bytes = to_vec(alloc, &value)?;
+    let image = to_value(alloc, &value)?;
+    let again = to_vec(alloc, &image)?;
+    Ok(bytes == again && bytes.as_slice() == b"\x00\xa3\x03a:b\x00\x53\x01\x41".as_slice())
 }
 
 fn frames(alloc: Global) -> Result<bool, Error> {

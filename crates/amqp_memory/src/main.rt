@@ -1,4 +1,4 @@
-//! Makes each call that takes memory once, and prints what was done.
+//! Makes the main calls that take memory, each once, and prints what was done.
 //!
 //! It is run once for each request for memory, with that request refused: the call that asked must answer out of
 //! memory, and the program then ends with status 1. Any other answer shows, as other output or another text.

@@ -41,10 +41,15 @@ abbrev pub open_kind : Bool → Body → Kind
 open_kind false b = kind.Bare
 open_kind true b = body_kind b
 
+-- fields with names stand in a map, others in a list
+abbrev pub fields_kind : Bool → Kind
+fields_kind false = kind.List
+fields_kind true = kind.Map
+
 -- the parts that a field adds: in a map its name and its value
-abbrev pub field_parts : Body → List ℕ → Option Tree → List (Option Tree)
-field_parts body.Map key t = Some (scalar (string key)) ∷ (t ∷ [])
-field_parts b key t = t ∷ []
+abbrev pub field_parts : Bool → List ℕ → Option Tree → List (Option Tree)
+field_parts false key t = t ∷ []
+field_parts true key t = Some (scalar (string key)) ∷ (t ∷ [])
 
 -- a second or late descriptor, and a second field of a bare body
 abbrev pub is_misplaced : Body → Bool → Bool → Bool → Bool
@@ -62,7 +67,7 @@ abbrev pub named_variant : List ℕ → ℕ → Option Tree → Option Tree
 named_variant n i t = if is_value n then t else if is_descriptor n then None else whole (kind.Only i) (t ∷ [])
 
 -- a compound that stands after a descriptor, if there is one: what is answered there is an answer on the whole
-abbrev pub Stands : {S H R : Type 0} → (S → Option Tree → R → S → Type 0) → (S → Kind → S → H → List (Option Tree) → Type 0) →
+unfoldable pub Stands : {S H R : Type 0} → (S → Option Tree → R → S → Type 0) → (S → Kind → S → H → List (Option Tree) → Type 0) →
     S → Option (Option Tree) → Kind → S → H → List (Option Tree) → Type 0
 Stands {S} {H} {R} permits has start front k now held ps =
     (mid : S) × (has mid k now held ps × ((t : Option Tree) (r : R) (after : S) → permits mid t r after → permits start (fronted front t) r after))

@@ -2,9 +2,9 @@
 
 ghost use Rattle.std.specs.Prelude.{◌≡◌, ◌++◌, ◌∷◌, [], List, Option, Some, None, Err, MatchResult, IfErr, IsErr, true, false};
 ghost use Rattle.amqp_ser.specs.Tree.{Tree};
-ghost use Rattle.amqp_ser.specs.Compounds.{whole, complete, paired};
+ghost use Rattle.amqp_ser.specs.Compounds.{whole, paired};
 ghost use Rattle.amqp_ser.specs.Composites.{as_described, descriptor_of};
-ghost use Rattle.amqp_ser.specs.Structs.{Stands, bare_or_list, body_kind, field_parts};
+ghost use Rattle.amqp_ser.specs.Structs.{Stands, body_kind, fields_kind, field_parts};
 
 use crate::compound::feed::{feed_entry, feed_part};
 use crate::kind::Kind;
@@ -22,29 +22,8 @@ pub enum Body {
     Bare,
 }
 
-impl Body {
-    /// What is opened for the fields.
-    #[inline(always)]
-    fn kind(self) -> Kind
-        ensures { result ≡ body_kind self }
-    {
-        match self {
-            Body::List => Kind::List,
-            Body::Map => Kind::Map,
-            Body::Bare => Kind::Bare,
-        }
-    }
-}
-
-/// The body of a tuple struct: one field alone, or a list.
-#[inline(always)]
-pub fn bare_or_list(bare: bool) -> Body
-    ensures { result ≡ bare_or_list bare }
-{
-    if bare { Body::Bare } else { Body::List }
-}
-
 /// Feeds a descriptor before the one value of a bare compound, or leaves it as it was.
+#[tactic(auto, unfolding(crate::specs::Structs::Stands))]
 #[inline(always)]
 pub fn feed_descriptor<S: Serializer, T: Serialize>(
     serializer: &mut S,
@@ -62,7 +41,31 @@ pub fn feed_descriptor<S: Serializer, T: Serialize>(
     serializer.end_descriptor(held, part)
 }
 
+/// Feeds a bare compound its one value, or leaves it as it was.
+#[inline(always)]
+pub fn feed_alone<S: Serializer, T: Serialize>(
+    serializer: &mut S,
+    held: &mut S::Open,
+    value: &T,
+) -> Result<(), S::Error>
+    ensures { (start : S) → S.has start Kind.Bare serializer.old held.old [] →
+        MatchResult result
+        (λ _. S.has start Kind.Bare serializer.new held.new (T.tree value.now ∷ []))
+        (λ e. S.has start Kind.Bare serializer.new held.new [] × S.permits start (T.tree value.now) (Err e) serializer.new) }
+{
+    feed_part(serializer, held, value)
+}
+
+/// Ends a bare compound that has its one value.
+#[inline(always)]
+pub fn end_alone<S: Serializer>(serializer: &mut S, held: S::Open) -> Result<S::Ok, S::Error>
+    ensures { (start : S) (p : Option Tree) → S.has start Kind.Bare serializer.old held (p ∷ []) → S.permits start p result serializer.new }
+{
+    serializer.end(held)
+}
+
 /// Answers on a described value, as on a struct named `DESCRIBED_BASIC` of a descriptor and one field.
+#[tactic(auto, unfolding(crate::specs::Structs::Stands))]
 #[inline(always)]
 pub fn serialize_described<S: Serializer, D: Serialize, T: Serialize>(
     serializer: &mut S,
@@ -73,81 +76,88 @@ pub fn serialize_described<S: Serializer, D: Serialize, T: Serialize>(
 {
     let mut held = serializer.begin(Kind::Bare);
     feed_descriptor(&mut *serializer, &mut held, descriptor)?;
-    feed_part(&mut *serializer, &mut held, value)?;
-    serializer.end(held)
+    feed_alone(&mut *serializer, &mut held, value)?;
+    end_alone(serializer, held)
 }
 
-/// Feeds an open body one field more, or leaves it as it was.
+/// Fields with names stand in a map, others in a list.
 #[inline(always)]
-pub fn feed_field<S: Serializer, T: Serialize>(
+fn fields_kind(named: bool) -> Kind
+    ensures { result ≡ fields_kind named }
+{
+    if named { Kind::Map } else { Kind::List }
+}
+
+/// Feeds an open list or map its first field, or leaves it as it was.
+#[inline(always)]
+fn feed_field<S: Serializer, T: Serialize>(
     serializer: &mut S,
     held: &mut S::Open,
-    body: Body,
+    named: bool,
     key: &'static str,
     value: &T,
 ) -> Result<(), S::Error>
-    ensures { (start : S) (ps : List (Option Tree)) → S.has start (body_kind body) serializer.old held.old ps → (body ≡ Body.Map → paired ps ≡ true) →
+    ensures { (start : S) → S.has start (fields_kind named) serializer.old held.old [] →
         MatchResult result
-        (λ _. S.has start (body_kind body) serializer.new held.new (ps ++ field_parts body key.now (T.tree value.now)))
-        (λ e. S.has start (body_kind body) serializer.new held.new ps × ((rest : List (Option Tree)) →
-        S.permits start (whole (body_kind body) (ps ++ (field_parts body key.now (T.tree value.now) ++ rest))) (Err e) serializer.new)) }
+        (λ _. S.has start (fields_kind named) serializer.new held.new (field_parts named key.now (T.tree value.now)))
+        (λ e. S.has start (fields_kind named) serializer.new held.new [] × ((rest : List (Option Tree)) →
+        S.permits start (whole (fields_kind named) (field_parts named key.now (T.tree value.now) ++ rest)) (Err e) serializer.new)) }
 {
-    match body {
-        Body::Map => feed_entry(serializer, held, &key, value),
-        Body::List => feed_part(serializer, held, value),
-        Body::Bare => feed_part(serializer, held, value),
+    if named {
+        feed_entry(serializer, held, &key, value)
+    } else {
+        feed_part(serializer, held, value)
     }
 }
 
-/// Opens the body in place of a bare compound and feeds it its first field, or leaves the bare compound as it was.
+/// Opens a map or a list in place of a bare compound and feeds it its first field, or leaves the bare compound as it was.
+#[tactic(auto, unfolding(crate::specs::Structs::Stands))]
 #[inline(always)]
 pub fn feed_first<S: Serializer, T: Serialize>(
     serializer: &mut S,
     held: &mut S::Open,
-    body: Body,
+    named: bool,
     key: &'static str,
     value: &T,
 ) -> Result<(), S::Error>
     ensures { (start : S) → S.has start Kind.Bare serializer.old held.old [] →
         MatchResult result
-        (λ _. Stands S.permits S.has start None (body_kind body) serializer.new held.new (field_parts body key.now (T.tree value.now)))
+        (λ _. Stands S.permits S.has start None (fields_kind named) serializer.new held.new (field_parts named key.now (T.tree value.now)))
         (λ e. S.has start Kind.Bare serializer.new held.new [] × ((rest : List (Option Tree)) →
-        S.permits start (whole (body_kind body) (field_parts body key.now (T.tree value.now) ++ rest)) (Err e) serializer.new)) }
+        S.permits start (whole (fields_kind named) (field_parts named key.now (T.tree value.now) ++ rest)) (Err e) serializer.new)) }
 {
-    match body {
-        Body::Bare => feed_part(serializer, held, value),
-        body => {
-            serializer.begin_part(held);
-            let mut fields = serializer.begin(body.kind());
-            match feed_field(&mut *serializer, &mut fields, body, key, value) {
-                Ok(()) => {
-                    *held = fields;
-                    Ok(())
-                }
-                Err(e) => match serializer.end_part(held, Err(e)) {
-                    Err(e) => Err(e),
-                    Ok(()) => Err(serializer.misuse(held)),
-                },
-            }
+    serializer.begin_part(held);
+    let mut fields = serializer.begin(fields_kind(named));
+    match feed_field(&mut *serializer, &mut fields, named, key, value) {
+        Ok(()) => {
+            *held = fields;
+            Ok(())
         }
+        Err(e) => match serializer.end_part(held, Err(e)) {
+            Err(e) => Err(e),
+            Ok(()) => Err(serializer.misuse(held)),
+        },
     }
 }
 
-/// The same for a field without a name.
+/// Ends a bare compound without its value: as an empty list or map, or with a misuse.
 #[inline(always)]
-pub fn feed_unnamed<S: Serializer, T: Serialize>(
+fn end_empty<S: Serializer>(
     serializer: &mut S,
-    held: &mut S::Open,
-    bare: bool,
-    value: &T,
-) -> Result<(), S::Error>
-    ensures { (start : S) → S.has start Kind.Bare serializer.old held.old [] →
-        MatchResult result
-        (λ _. Stands S.permits S.has start None (body_kind (bare_or_list bare)) serializer.new held.new (T.tree value.now ∷ []))
-        (λ e. S.has start Kind.Bare serializer.new held.new [] × ((rest : List (Option Tree)) →
-        S.permits start (whole (body_kind (bare_or_list bare)) (T.tree value.now ∷ rest)) (Err e) serializer.new)) }
+    mut held: S::Open,
+    body: Body,
+) -> Result<S::Ok, S::Error>
+    ensures empty { (start : S) → S.has start Kind.Bare serializer.old held [] → S.permits start (whole (body_kind body) []) result serializer.new }
+    ensures invalid { body ≡ Body.Bare → IsErr result × IfErr result S.is_misuse }
 {
-    feed_first(serializer, held, bare_or_list(bare), "", value)
+    let kind = match body {
+        Body::Bare => return Err(serializer.misuse(&mut held)),
+        Body::List => Kind::List,
+        Body::Map => Kind::Map,
+    };
+    serializer.begin_part(&mut held);
+    let fields = serializer.begin(kind);
+    serializer.end(fields)
 }
 
 /// Ends a body, or the bare compound in its place where no field was taken.
@@ -158,22 +168,21 @@ pub fn end_fields<S: Serializer>(
     body: Body,
     opened: bool,
 ) -> Result<S::Ok, S::Error>
-    ensures ended { opened ≡ true → (start : S) (ps : List (Option Tree)) → S.has start (body_kind body) serializer.old held ps →
-        complete (body_kind body) ps ≡ true → S.permits start (whole (body_kind body) ps) result serializer.new }
-    ensures empty { opened ≡ false → (start : S) → S.has start Kind.Bare serializer.old held [] →
-        S.permits start (whole (body_kind body) []) result serializer.new }
+    ensures list { opened ≡ true → body ≡ Body.List → (start : S) (ps : List (Option Tree)) → S.has start Kind.List serializer.old held ps →
+        S.permits start (whole Kind.List ps) result serializer.new }
+    ensures map { opened ≡ true → body ≡ Body.Map → (start : S) (ps : List (Option Tree)) → S.has start Kind.Map serializer.old held ps → paired ps ≡ true →
+        S.permits start (whole Kind.Map ps) result serializer.new }
+    ensures alone { opened ≡ true → body ≡ Body.Bare → (start : S) (p : Option Tree) → S.has start Kind.Bare serializer.old held (p ∷ []) →
+        S.permits start p result serializer.new }
+    ensures empty { opened ≡ false → (start : S) → S.has start Kind.Bare serializer.old held [] → S.permits start (whole (body_kind body) []) result serializer.new }
     ensures invalid { opened ≡ false → body ≡ Body.Bare → IsErr result × IfErr result S.is_misuse }
 {
-    if opened {
-        return serializer.end(held);
+    if !opened {
+        return end_empty(serializer, held, body);
     }
-    let mut held = held;
     match body {
-        Body::Bare => Err(serializer.misuse(&mut held)),
-        body => {
-            serializer.begin_part(&mut held);
-            let fields = serializer.begin(body.kind());
-            serializer.end(fields)
-        }
+        Body::Bare => end_alone(serializer, held),
+        Body::List => serializer.end(held),
+        Body::Map => serializer.end(held),
     }
 }

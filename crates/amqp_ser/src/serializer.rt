@@ -339,6 +339,7 @@ pub trait Serializer {
     }
 
     /// Opens a tuple struct: a list of its fields, of which the first is the descriptor where the name asks for one.
+    #[tactic(auto, unfolding(crate::specs::Structs::Stands))]
     #[inline(always)]
     final fn serialize_tuple_struct(
         &mut self,
@@ -364,6 +365,7 @@ pub trait Serializer {
     }
 
     /// Opens a struct: a list of its fields, a map from their names or the one field itself, as its name says.
+    #[tactic(auto, unfolding(crate::specs::Structs::Stands))]
     #[inline(always)]
     final fn serialize_struct(
         &mut self,

@@ -1,11 +1,18 @@
 //! Which calls of a serializer each type makes: a run of what the proofs speak of, each generic impl at one type.
 
 mod calls;
+mod composites;
 mod samples;
 
-use self::calls::calls_of;
-use self::samples::{Described, Inner, Name, NoName, Pair, Reading, WithDescriptor};
-use amqp_data::{Array, ByteBuf, Dec32, F64Bits, OrderedMap, Symbol, SymbolRef, Timestamp, Uuid};
+use self::calls::{calls_of, new_calls};
+use self::composites::{
+    Body, Named, Opens, Properties, Tuple, bad_descriptor, two_descriptors,
+};
+use self::samples::{Inner, Name, NoName, Pair, Reading};
+use amqp_data::{
+    Array, ByteBuf, Dec32, Described, Descriptor, F64Bits, OrderedMap, Symbol, SymbolRef,
+    Timestamp, TransparentVec, Uuid, markers,
+};
 use std::collections::BTreeMap;
 use std::test::Fail;
 
@@ -108,7 +115,7 @@ fn names_ask_for_kinds(rt: HostRuntime) -> Result<(), Fail> {
     };
     assert_eq!(rt;
         calls_of(alloc, &reading).as_str(),
-        "[ symbol roof, timestamp long, null, ]"
+        "bare [ [ symbol roof, timestamp long, null, ]"
     );
     assert_eq!(rt;
         calls_of(alloc, &Pair(1, true)).as_str(),
@@ -117,10 +124,84 @@ fn names_ask_for_kinds(rt: HostRuntime) -> Result<(), Fail> {
     assert_eq!(rt; calls_of(alloc, &Name("amqp")).as_str(), "symbol amqp");
     assert_eq!(rt; calls_of(alloc, &Inner(3)).as_str(), "int");
     assert_eq!(rt; calls_of(alloc, &NoName(1)).as_str(), "symbol ubyte");
+    Ok(())
+}
+
+#[test]
+fn descriptors_come_before_bodies(rt: HostRuntime) -> Result<(), Fail> {
+    let alloc = rt.alloc();
+    let opens = Opens {
+        container: "c",
+        host: None,
+        frame_size: Some(512),
+    };
     assert_eq!(rt;
-        calls_of(alloc, &WithDescriptor(1, true)).as_str(),
-        "[ misuse,"
+        calls_of(alloc, &opens).as_str(),
+        "bare [ by ulong [ c, null, uint, ]"
     );
-    assert_eq!(rt; calls_of(alloc, &Described(1)).as_str(), "[ misuse,");
+    let properties = Properties {
+        is_fool: true,
+        a: 1,
+    };
+    assert_eq!(rt;
+        calls_of(alloc, &properties).as_str(),
+        "bare [ by ulong { is_fool, bool, a, ubyte, }"
+    );
+    assert_eq!(rt;
+        calls_of(alloc, &Body("a")).as_str(),
+        "bare [ by ulong a, ]"
+    );
+    assert_eq!(rt;
+        calls_of(alloc, &Tuple(1, true)).as_str(),
+        "bare [ by ulong [ bool, ]"
+    );
+    let value = Described {
+        descriptor: Descriptor::from(Symbol::try_from_str(alloc, "amqp:a")?),
+        value: 1u8,
+    };
+    assert_eq!(rt;
+        calls_of(alloc, &value).as_str(),
+        "bare [ by symbol amqp:a ubyte, ]"
+    );
+    let code = Described {
+        descriptor: Descriptor::from(1u64),
+        value: 1u8,
+    };
+    assert_eq!(rt; calls_of(alloc, &code).as_str(), "bare [ by ulong ubyte, ]");
+    Ok(())
+}
+
+#[test]
+fn enums_of_a_name_are_bare_or_refused(rt: HostRuntime) -> Result<(), Fail> {
+    let alloc = rt.alloc();
+    assert_eq!(rt;
+        calls_of(alloc, &Named("Name", 1)).as_str(),
+        "only [ ushort, ]"
+    );
+    assert_eq!(rt;
+        calls_of(alloc, &Named(markers::VALUE, 1)).as_str(),
+        "ushort"
+    );
+    assert_eq!(rt;
+        calls_of(alloc, &Named(markers::DESCRIPTOR, 1)).as_str(),
+        "only [ misuse,"
+    );
+    let items = TransparentVec::from([1u8, 2].to_vec(alloc)?);
+    assert_eq!(rt;
+        calls_of(alloc, &items).as_str(),
+        "transparent [ ubyte, ubyte, ]"
+    );
+    Ok(())
+}
+
+#[test]
+fn descriptors_come_once(rt: HostRuntime) -> Result<(), Fail> {
+    let alloc = rt.alloc();
+    let mut calls = new_calls(alloc);
+    drop(bad_descriptor(&mut calls));
+    assert_eq!(rt; calls.as_str(), "bare [ by no descriptor [ bool, ]");
+    let mut calls = new_calls(alloc);
+    drop(two_descriptors(&mut calls));
+    assert_eq!(rt; calls.as_str(), "bare [ by ulong misuse,");
     Ok(())
 }

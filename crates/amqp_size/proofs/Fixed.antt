@@ -1,5 +1,5 @@
 -- The lengths of values of fixed width.
-use Rattle.std.proofs.Common.{◌≡◌, ℕ, zero, suc, ◌+◌, List, ◌∷◌, length, true, refl, ap, sym, ◌∙◌, arith}
+use Rattle.std.proofs.Common.{◌≡◌, ℕ, zero, suc, ◌+◌, length, true, refl, ap, sym, ◌∙◌, arith}
 use Rattle.std.specs.Int.{bytes_high_first}
 use Rattle.amqp_ser.specs.Fixed.{fixed_scalar}
 use Rattle.amqp_ser.specs.Scalars.{scalar_form, scalar_payload}

@@ -1,5 +1,5 @@
 -- The bytes of parts after others.
-use Rattle.std.proofs.Common.{◌≡◌, ℕ, ◌+◌, List, Option, Some, None, Bool, true, false, length, refl, ap, sym, ◌∙◌, arith, length-append}
+use Rattle.std.proofs.Common.{◌≡◌, ℕ, ◌+◌, List, Option, Some, None, Bool, true, false, length, refl, ap, arith, length-append}
 use Rattle.amqp_ser.specs.Tree.{Tree, Trees, no_trees, more}
 use Rattle.amqp_ser.specs.Encoding.{enc_each, payload, payload_each, code_list, con}
 use Rattle.amqp_ser.specs.Writable.{same_con, each_con}

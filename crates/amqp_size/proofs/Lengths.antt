@@ -1,11 +1,11 @@
 -- The lengths of forms.
-use Rattle.std.proofs.Common.{◌≡◌, ℕ, ◌+◌, List, [], ◌∷◌, ◌++◌, Bool, true, false, length, refl, arith, length-append, nat_le, nat_eq, if◌then◌else◌}
+use Rattle.std.proofs.Common.{◌≡◌, ℕ, ◌+◌, List, [], ◌∷◌, ◌++◌, Bool, true, false, length, refl, arith, length-append, if◌then◌else◌}
 use Rattle.std.proofs.lemmas.Bool.Decides.{nat_tests}
 use Rattle.amqp_ser.specs.Tree.{Tree, uint}
 use Rattle.amqp_ser.specs.Limits.{is_short}
-use Rattle.amqp_ser.specs.Scalars.{scalar_form, sized}
-use Rattle.amqp_ser.specs.Encoding.{enc, counted, wide, list_form, array_form}
-use Rattle.amqp_size.specs.Width.{map_width, list_width, uint_width, text_width, array_width}
+use Rattle.amqp_ser.specs.Scalars.{scalar_form}
+use Rattle.amqp_ser.specs.Encoding.{enc, counted, wide, list_form}
+use Rattle.amqp_size.specs.Width.{map_width, list_width, uint_width}
 
 if_len : (t : Bool) (xs ys : List ℕ) (m n : ℕ) → length xs ≡ m → length ys ≡ n → length (if t then xs else ys) ≡ (if t then m else n)
 if_len true xs ys m n a b = a

@@ -1,7 +1,13 @@
+pub mod Bare
+pub mod Described
 pub mod Fixed
+pub mod Holding
 pub mod Joined
 pub mod Lengths
 pub mod Part
+pub mod Places
 pub mod Refusing
+pub mod Root
 pub mod Spoil
+pub mod Transparent
 pub mod Whole

@@ -1,31 +1,27 @@
 -- One part more.
-use Rattle.std.proofs.Common.{◌≡◌, ℕ, ◌+◌, ◌<◌, ◌≤◌, List, [], ◌∷◌, ◌++◌, Option, Some, None, Bool, true, false, not, ◌&&◌, Result, Ok, Err, MatchResult, IfOk, length, refl, ap, sym, ◌∙◌, subst, arith, length-append, nat_le, if◌then◌else◌, ◌⊎◌, inl, inr, is_some}
+use Rattle.std.proofs.Common.{◌≡◌, ℕ, ◌+◌, ◌≤◌, List, [], ◌∷◌, ◌++◌, Option, Some, None, Bool, true, false, not, ◌&&◌, Result, Ok, Err, MatchResult, IfOk, IfErr, length, refl, ap, sym, ◌∙◌, subst, arith, nat_le, if◌then◌else◌, is_some}
 use Rattle.amqp_data.specs.declared.error.Error.{Error}
 use Rattle.amqp_data.specs.declared.error.Error.TheVariants as error
-use Rattle.amqp_ser.specs.Tree.{uint, Tree, Trees, Pairs, list, array, map, variant, no_trees, more, count}
-use Rattle.amqp_ser.specs.Limits.{fits, is_count}
-use Rattle.amqp_ser.specs.Scalars.{scalar_form}
-use Rattle.amqp_ser.specs.Encoding.{enc, enc_each, con}
-use Rattle.amqp_ser.specs.Writable.{same_con, each_con, one_con, alike, alike_each, alike_pairs, within, within_each, within_pairs, inside, inside_each, inside_pairs, placed}
-use Rattle.amqp_ser.specs.Compounds.{all_trees, before, as_kind, as_map, as_variant, in_pairs, only, whole, paired}
-use Rattle.amqp_ser.specs.Permitted.{refuses_none}
+use Rattle.amqp_ser.specs.Tree.{Tree, Trees, no_trees, more}
+use Rattle.amqp_ser.specs.Encoding.{con}
+use Rattle.amqp_ser.specs.Writable.{same_con, each_con, alike, alike_each, within, within_each, inside, inside_each}
+use Rattle.amqp_ser.specs.Compounds.{all_trees, before, whole, paired}
 use Rattle.amqp_ser.specs.declared.kind.Kind.{Kind}
 use Rattle.amqp_ser.specs.declared.kind.Kind.TheVariants as kinds
-use Rattle.amqp_ser.proofs.Bools.{nat_eq-refl, both, left_false, right_false, one_false, left_true, right_true, le_false, le_true, not_le, is_le}
-use Rattle.amqp_ser.proofs.Joins.{join, joined, all_trees-append, kind_none, alike-join, within-join, inside-join, each-join, count-join}
+use Rattle.amqp_ser.proofs.Bools.{nat_eq-refl, both, left_true, right_true, le_true, is_le}
+use Rattle.amqp_ser.proofs.Joins.{join, joined, all_trees-append, alike-join, within-join, inside-join, each-join, count-join}
 use Rattle.amqp_ser.proofs.Last.{last_off, paired-last}
-use Rattle.amqp_ser.proofs.Pairing.{Pairing, pairing, even}
-use Rattle.amqp_size.specs.Place.{outer, meant, shape_of, is_array, element, next, suits, form}
-use Rattle.amqp_size.specs.Counted.{at_place, refused, Counted, Holds, Fed, Back, content, counts, one_in, inner_of, first_place}
-use Rattle.amqp_size.specs.Take.{opens, over}
+use Rattle.amqp_ser.proofs.Pairing.{even}
+use Rattle.amqp_size.specs.Place.{outer, meant, rest, shape_of, is_array, is_gathered, element, next, suits, form}
+use Rattle.amqp_size.specs.Counted.{at_place, Counted, Holds, content, counts, one_in, inner_of}
+use Rattle.amqp_size.specs.Take.{opens, opens_in, over}
 use Rattle.amqp_size.specs.declared.place.Place.{Place}
-use Rattle.amqp_size.specs.declared.place.Place.TheVariants.{Root, Inside, First, Element}
 use Rattle.amqp_size.specs.declared.place.Under.{Under}
 use Rattle.amqp_size.specs.declared.place.Under.TheVariants as under
 use Rattle.amqp_size.specs.declared.serializer.SizeSerializer.{SizeSerializer}
 use Rattle.amqp_size.specs.declared.open_compound.Open.{Open}
 use Rattle.amqp_size.proofs.Joined.{content-join, rest_of, some_con}
-use Rattle.amqp_size.proofs.Whole.{stands_none, refused_shape}
+use Rattle.amqp_size.proofs.Places.{within_inner, extent_inner, gathered_limit}
 use Rattle.amqp_size.proofs.Refusing.{over_part}
 
 more_counted : (arr : Bool) (ts : Trees) (t : Tree) (n : ℕ) → n ≡ counts arr ts → (if arr then n + 1 else n) ≡ counts arr (join ts (more t no_trees))
@@ -66,19 +62,41 @@ more_one true (more v ts) t h s =
     both (same_con (con v) (con v)) (each_con (con v) (join ts (more t no_trees))) mine
     (each-join (con v) ts (more t no_trees) ∙ both (each_con (con v) ts) (same_con (con v) (con t) && true) others (both (same_con (con v) (con t)) true new refl))
 
+opens_same : (arr : Bool) (ts : Trees) (q : Place) → opens_in arr (under.Plain (inner_of arr ts)) (under.Plain q) ≡ opens (inner_of arr ts) q
+opens_same false ts q = refl
+opens_same true ts q = refl
+
+new_inner : (arr : Bool) (ts : Trees) (t : Tree) (old after : Under) → one_in arr ts ≡ true → old ≡ under.Plain (inner_of arr ts) → after ≡ under.Plain (next (inner_of arr ts) t) →
+    (if arr then after else old) ≡ under.Plain (inner_of arr (join ts (more t no_trees)))
+new_inner false ts t old after h e q = e
+new_inner true ts t old after h e q = q ∙ ap under.Plain (next_inner true ts t h)
+
+-- what is added to the sum
+added : (start : SizeSerializer) (kind : Kind) (held : Open) (ps : List (Option Tree)) (h : Holds start kind held ps) (t : Tree) (size : ℕ) (after : Under) → Counted (inner_of (is_array held.shape) h.ts) t size after →
+    size + opens_in (is_array held.shape) held.inner after + held.sum ≡
+    length (form (inner_of (is_array held.shape) h.ts) t) + opens (inner_of (is_array held.shape) h.ts) (next (inner_of (is_array held.shape) h.ts) t) + length (content (is_array held.shape) h.ts)
+added start kind held ps h t size after k =
+    let arr = is_array held.shape in
+    let i = inner_of arr h.ts in
+    let len : size ≡ length (form i t) = k.len ∙ extent_inner arr h.ts t in
+    let opened : opens_in arr held.inner after ≡ opens i (next i t) =
+    ap (λ u. opens_in arr u after) h.fed.inner ∙ ap (λ u. opens_in arr (under.Plain i) u) k.place ∙ opens_same arr h.ts (next i t) in
+    let sum = h.fed.sum in
+    omega arith
+
 -- a part that was taken
 pub taken_part : (start : SizeSerializer) (kind : Kind) (held new : Open) (ps : List (Option Tree)) (h : Holds start kind held ps) (t : Tree) (size : ℕ) (after : Under) →
-    Counted held.inner t size after →
-    new.place ≡ held.place → new.shape ≡ held.shape → new.array ≡ held.array →
-    new.sum ≡ size + opens held.inner (outer after) + held.sum → new.count ≡ (if held.array then held.count + 1 else held.count) → new.count ≤ 4294967295 → new.inner ≡ outer after → new.before ≡ held.sum →
+    Counted (inner_of (is_array held.shape) h.ts) t size after →
+    new.place ≡ held.place → new.shape ≡ held.shape →
+    new.sum ≡ size + opens_in (is_array held.shape) held.inner after + held.sum → new.count ≡ (if is_array held.shape then held.count + 1 else held.count) → new.count ≤ 4294967295 →
+    new.inner ≡ (if is_array held.shape then after else held.inner) → new.before ≡ held.sum →
     Holds start kind new (ps ++ (Some t ∷ []))
-taken_part start kind held new ps h t size after k a b c d e few f was =
-    let arr = held.array in
+taken_part start kind held new ps h t size after k a b d e few f was =
+    let arr = is_array held.shape in
     let ts = h.ts in
     let us = join ts (more t no_trees) in
-    let place : outer after ≡ next (inner_of arr ts) t = ap outer k.place ∙ ap (λ w. next w t) h.fed.inner in
-    let total : size + opens held.inner (outer after) + held.sum ≡ length (form (inner_of arr ts) t) + opens (inner_of arr ts) (next (inner_of arr ts) t) + length (content arr ts) =
-    rw (k.len, place, h.fed.inner, h.fed.sum) refl in
+    let c : is_array new.shape ≡ arr = ap is_array b in
+    let total = added start kind held ps h t size after k in
     let all = content-join arr ts t no_trees h.fed.one in
     let nought = nothing_after arr in
     let sum : new.sum ≡ length (content arr us) = omega arith in
@@ -87,7 +105,7 @@ taken_part start kind held new ps h t size after k a b c d e few f was =
       trees = all_trees-append ps (Some t ∷ []) ∙ ap (λ o. joined o (Some (more t no_trees))) h.trees;
       place = a ∙ h.place;
       shape = b ∙ h.shape;
-      arrays = c ∙ h.arrays ∙ ap is_array (sym b);
+      gathered = ap is_gathered b ∙ h.gathered;
       back = λ odd qs q e. record {
         us = ts;
         trees = ap all_trees (sym (last_off ps qs (Some t) q e)) ∙ h.trees;
@@ -95,38 +113,36 @@ taken_part start kind held new ps h t size after k a b c d e few f was =
       };
       fed = record {
         sum = sum ∙ sym (ap (λ x. length (content x us)) c);
-        fits_sum = le_true new.sum 4294967291 new.small;
+        fits_sum = le_true new.sum 4294967291 (subst (λ m. new.sum ≤ m) (gathered_limit new.shape (ap is_gathered b ∙ h.gathered)) new.small);
         counted = e ∙ more_counted arr ts t held.count h.fed.counted ∙ sym (ap (λ x. counts x us) c);
         few = le_true new.count 4294967295 few;
-        inner = f ∙ place ∙ next_inner arr ts t h.fed.one ∙ sym (ap (λ x. inner_of x us) c);
+        inner = f ∙ new_inner arr ts t held.inner after h.fed.one h.fed.inner k.place ∙ sym (ap (λ x. under.Plain (inner_of x us)) c);
         alike_parts = alike-join ts (more t no_trees) ∙ both (alike_each ts) (alike t && true) h.fed.alike_parts (both (alike t) true k.alike_it refl);
-        within_parts = within-join ts (more t no_trees) ∙ both (within_each ts) (within t && true) h.fed.within_parts (both (within t) true k.within_it refl);
-        inside_parts = inside-join ts (more t no_trees) ∙ both (inside_each ts) (inside t && true) h.fed.inside_parts (both (inside t) true (suited_inside arr ts t h.fed.one (subst (λ w. suits w t ≡ true) h.fed.inner k.suited)) refl);
-        one = ap (λ x. one_in x us) c ∙ more_one arr ts t h.fed.one (subst (λ w. suits w t ≡ true) h.fed.inner k.suited);
+        within_parts = within-join ts (more t no_trees) ∙ both (within_each ts) (within t && true) h.fed.within_parts (both (within t) true (sym (within_inner arr ts t) ∙ k.within_it) refl);
+        inside_parts = inside-join ts (more t no_trees) ∙ both (inside_each ts) (inside t && true) h.fed.inside_parts (both (inside t) true (suited_inside arr ts t h.fed.one k.suited) refl);
+        one = ap (λ x. one_in x us) c ∙ more_one arr ts t h.fed.one k.suited;
       };
     }
 
 -- what is known after a part was counted, or passed a limit
-pub end_taken : (start : SizeSerializer) (kind : Kind) (held new : Open) (ps : List (Option Tree)) (h : Holds start kind held ps) (p : Option Tree) (size : ℕ) (after : Under) (inner : Place) →
-    at_place held.inner p (Ok size) after → inner ≡ outer after → new.place ≡ held.place → new.shape ≡ held.shape → new.array ≡ held.array → (held.count ≤ 4294967295 → new.count ≤ 4294967295) →
-    (res : Result (Unit {0}) Error) → IfOk res (λ _. new.before ≡ held.sum) →
-    MatchResult res (λ _. (new.sum ≡ size + opens held.inner inner + held.sum) × ((new.count ≡ if held.array then held.count + 1 else held.count) × (new.inner ≡ inner)))
-    (λ e. (new ≡ held) × ((e ≡ error.TooLong) × over held.array held.count (size + opens held.inner inner + held.sum))) →
-    MatchResult res (λ _. Holds start kind new (ps ++ (p ∷ [])) × (under.Plain held.place ≡ under.Plain new.place))
-    (λ e. (Holds start kind new ps × (under.Plain held.place ≡ under.Plain new.place)) ×
-    ((rest : List (Option Tree)) → at_place (outer start.place) (meant start.place (whole kind (ps ++ (p ∷ rest)))) (Err e) (under.Plain held.place)))
-end_taken start kind held new ps h None size after inner r q a b c few res was m = absurd r
-end_taken start kind held new ps h (Some t) size after inner r q a b c few (Ok u) was m =
-    (taken_part start kind held new ps h t size after r a b c (m.0 ∙ ap (λ w. size + opens held.inner w + held.sum) q) m.1.0 (few (is_le held.count 4294967295 h.fed.few)) (m.1.1 ∙ q) was, ap under.Plain (sym a))
-end_taken start kind held new ps h (Some t) size after inner r q a b c few (Err e) was m = (
-  subst (λ x. Holds start kind x ps × (under.Plain held.place ≡ under.Plain x.place)) (sym m.0) (h, refl),
-  λ rest. subst (λ x. at_place (outer start.place) (meant start.place (whole kind (ps ++ (Some t ∷ rest)))) (Err x) (under.Plain held.place)) (sym m.1.0)
-      (over_part start kind held ps h t size inner r.len (q ∙ ap outer r.place) m.1.1 rest),
-)
+pub end_taken : (start : SizeSerializer) (kind : Kind) (held new : Open) (ps : List (Option Tree)) (h : Holds start kind held ps) (p : Option Tree) (size : ℕ) (after : Under) →
+    at_place (inner_of (is_array held.shape) h.ts) p (Ok size) after → new.place ≡ held.place → new.shape ≡ held.shape → (held.count ≤ 4294967295 → new.count ≤ 4294967295) →
+    (res : Result (Unit {0}) Error) → IfOk res (λ _. new.before ≡ held.sum) → IfErr res (λ _. new ≡ held) →
+    MatchResult res (λ _. (new.sum ≡ size + opens_in (is_array held.shape) held.inner after + held.sum) × ((new.count ≡ if is_array held.shape then held.count + 1 else held.count) × (new.inner ≡ if is_array held.shape then after else held.inner)))
+    (λ e. (e ≡ error.TooLong) × over (is_array held.shape) held.count (size + opens_in (is_array held.shape) held.inner after + held.sum)) →
+    MatchResult res (λ _. Holds start kind new (ps ++ (p ∷ [])))
+    (λ e. (others : List (Option Tree)) → at_place (outer start.place) (meant start.place (whole kind (ps ++ (p ∷ others)))) (Err e) (under.Plain (rest held.place)))
+end_taken start kind held new ps h None size after r a b few res was same m = absurd r
+end_taken start kind held new ps h (Some t) size after r a b few (Ok u) was same m =
+    taken_part start kind held new ps h t size after r a b m.0 m.1.0 (few (is_le held.count 4294967295 h.fed.few)) m.1.1 was
+end_taken start kind held new ps h (Some t) size after r a b few (Err e) was same m = λ others.
+    subst (λ (x : Error). at_place (outer start.place) (meant start.place (whole kind (ps ++ (Some t ∷ others)))) (Err x) (under.Plain (rest held.place))) (sym m.0)
+    (over_part start kind held ps h t (subst (λ n. over (is_array held.shape) held.count n) (added start kind held ps h t size after r) m.1) others)
 
 no_array : (u : Under) → is_array (shape_of u kinds.Map) ≡ false
 no_array (under.Plain p) = refl
 no_array (under.Array p) = refl
+no_array (under.Transparent p) = refl
 no_array (under.Scalar m p) = refl
 no_array (under.Nothing p) = refl
 
@@ -144,12 +160,13 @@ one_less us ts (Some t) e a w i =
 
 -- the last part taken back
 pub undone : (start : SizeSerializer) (held new : Open) (ps : List (Option Tree)) (p : Option Tree) → Holds start kinds.Map held (ps ++ (p ∷ [])) → paired ps ≡ true →
-    new.place ≡ held.place → new.shape ≡ held.shape → new.array ≡ held.array → new.sum ≡ held.before → new.count ≡ held.count → new.inner ≡ held.inner → Holds start kinds.Map new ps
-undone start held new ps p h even a b c d e f =
+    new.place ≡ held.place → new.shape ≡ held.shape → new.sum ≡ held.before → new.count ≡ held.count → new.inner ≡ held.inner → Holds start kinds.Map new ps
+undone start held new ps p h even a b d e f =
     let odd : paired (ps ++ (p ∷ [])) ≡ false = paired-last ps p ∙ ap not even in
     let was = h.back odd ps p refl in
-    let plain : held.array ≡ false = h.arrays ∙ ap is_array h.shape ∙ no_array start.place in
-    let now : new.array ≡ false = c ∙ plain in
+    let plain : is_array held.shape ≡ false = ap is_array h.shape ∙ no_array start.place in
+    let c : is_array new.shape ≡ is_array held.shape = ap is_array b in
+    let now : is_array new.shape ≡ false = c ∙ plain in
     let trees : joined (Some was.us) (before p (Some no_trees)) ≡ Some h.ts = sym (ap (λ o. joined o (before p (Some no_trees))) was.trees) ∙ sym (all_trees-append ps (p ∷ [])) ∙ h.trees in
     let less = one_less was.us h.ts p trees h.fed.alike_parts h.fed.within_parts h.fed.inside_parts in
     record {
@@ -157,14 +174,14 @@ undone start held new ps p h even a b c d e f =
       trees = was.trees;
       place = a ∙ h.place;
       shape = b ∙ h.shape;
-      arrays = c ∙ h.arrays ∙ ap is_array (sym b);
+      gathered = ap is_gathered b ∙ h.gathered;
       back = λ odd_now. absurd (both_ways (sym even ∙ odd_now));
       fed = record {
         sum = d ∙ was.sum ∙ ap (λ x. length (content x was.us)) (sym c);
-        fits_sum = le_true new.sum 4294967291 new.small;
+        fits_sum = le_true new.sum 4294967291 (subst (λ m. new.sum ≤ m) (gathered_limit new.shape (ap is_gathered b ∙ h.gathered)) new.small);
         counted = e ∙ h.fed.counted ∙ ap (λ x. counts x h.ts) plain ∙ ap (λ x. counts x was.us) (sym now);
         few = ap (λ n. nat_le n 4294967295) e ∙ h.fed.few;
-        inner = f ∙ h.fed.inner ∙ ap (λ x. inner_of x h.ts) plain ∙ ap (λ x. inner_of x was.us) (sym now);
+        inner = f ∙ h.fed.inner ∙ ap (λ x. under.Plain (inner_of x h.ts)) plain ∙ ap (λ x. under.Plain (inner_of x was.us)) (sym now);
         alike_parts = less.0;
         within_parts = less.1.0;
         inside_parts = less.1.1;

@@ -1,30 +1,24 @@
 -- A part that is refused, and one that passes a limit.
-use Rattle.std.proofs.Common.{◌≡◌, ℕ, ◌+◌, ◌<◌, ◌≤◌, List, [], ◌∷◌, ◌++◌, Option, Some, None, Bool, true, false, not, ◌&&◌, Result, Ok, Err, MatchResult, IfOk, length, refl, ap, sym, ◌∙◌, subst, arith, length-append, nat_le, if◌then◌else◌, ◌⊎◌, inl, inr, is_some}
+use Rattle.std.proofs.Common.{◌≡◌, ℕ, ◌+◌, List, ◌∷◌, ◌++◌, Option, Some, None, Bool, true, false, ◌&&◌, Err, length, refl, ap, sym, ◌∙◌, subst, arith, ◌⊎◌, inl, inr, is_some}
 use Rattle.amqp_data.specs.declared.error.Error.{Error}
 use Rattle.amqp_data.specs.declared.error.Error.TheVariants as error
-use Rattle.amqp_ser.specs.Tree.{uint, Tree, Trees, Pairs, list, array, map, variant, no_trees, more, count}
+use Rattle.amqp_ser.specs.Tree.{Tree, Trees, no_trees, more, count}
 use Rattle.amqp_ser.specs.Limits.{fits, is_count}
-use Rattle.amqp_ser.specs.Scalars.{scalar_form}
-use Rattle.amqp_ser.specs.Encoding.{enc, enc_each, con}
-use Rattle.amqp_ser.specs.Writable.{same_con, each_con, one_con, alike, alike_each, alike_pairs, within, within_each, within_pairs, inside, inside_each, inside_pairs, placed}
-use Rattle.amqp_ser.specs.Compounds.{all_trees, before, as_kind, as_map, as_variant, in_pairs, only, whole, paired}
-use Rattle.amqp_ser.specs.Permitted.{refuses_none}
+use Rattle.amqp_ser.specs.Encoding.{con}
+use Rattle.amqp_ser.specs.Writable.{same_con, each_con, alike, alike_each, within, within_each, inside, inside_each}
+use Rattle.amqp_ser.specs.Compounds.{whole}
 use Rattle.amqp_ser.specs.declared.kind.Kind.{Kind}
-use Rattle.amqp_ser.specs.declared.kind.Kind.TheVariants as kinds
-use Rattle.amqp_ser.proofs.Bools.{nat_eq-refl, both, left_false, right_false, one_false, left_true, right_true, le_false, le_true, not_le, is_le}
-use Rattle.amqp_ser.proofs.Joins.{join, joined, all_trees-append, kind_none, alike-join, within-join, inside-join, each-join, count-join}
-use Rattle.amqp_ser.proofs.Pairing.{Pairing, pairing, even}
-use Rattle.amqp_size.specs.Place.{outer, meant, shape_of, is_array, element, next, suits, form}
-use Rattle.amqp_size.specs.Counted.{at_place, refused, Counted, Holds, Fed, Back, content, counts, one_in, inner_of, first_place}
+use Rattle.amqp_ser.proofs.Bools.{left_false, right_false, one_false, left_true, le_false}
+use Rattle.amqp_ser.proofs.Joins.{join, alike-join, within-join, inside-join, each-join, count-join}
+use Rattle.amqp_size.specs.Place.{outer, meant, rest, is_array, element, next, suits, form}
+use Rattle.amqp_size.specs.Counted.{at_place, refused, Holds, content, counts, one_in, inner_of}
 use Rattle.amqp_size.specs.Take.{opens, over}
-use Rattle.amqp_size.specs.declared.place.Place.{Place}
-use Rattle.amqp_size.specs.declared.place.Place.TheVariants.{Root, Inside, First, Element}
 use Rattle.amqp_size.specs.declared.place.Under.{Under}
 use Rattle.amqp_size.specs.declared.place.Under.TheVariants as under
 use Rattle.amqp_size.specs.declared.serializer.SizeSerializer.{SizeSerializer}
 use Rattle.amqp_size.specs.declared.open_compound.Open.{Open}
-use Rattle.amqp_size.proofs.Joined.{content-join, rest_of, some_con}
-use Rattle.amqp_size.proofs.Whole.{stands_none, refused_shape}
+use Rattle.amqp_size.proofs.Joined.{content-join, some_con}
+use Rattle.amqp_size.proofs.Places.{within_inner, refused-none}
 use Rattle.amqp_size.proofs.Spoil.{bad_in, with_rest}
 
 not_some : (o d : Option ℕ) → is_some o ≡ false → same_con o d ≡ false
@@ -54,7 +48,7 @@ not_suited true (more v ts) t us h s =
 -- a bad part makes bad parts
 part_bad : (arr : Bool) (ts : Trees) (t : Tree) (us : Trees) (e : Error) → one_in arr ts ≡ true → refused (inner_of arr ts) t e → bad_in arr (join ts (more t us)) e
 part_bad arr ts t us error.TooLong o h =
-    let w : within_each (join ts (more t us)) ≡ false = within-join ts (more t us) ∙ right_false (within_each ts) (within t && within_each us) (left_false (within t) (within_each us) h) in
+    let w : within_each (join ts (more t us)) ≡ false = within-join ts (more t us) ∙ right_false (within_each ts) (within t && within_each us) (left_false (within t) (within_each us) (sym (within_inner arr ts t) ∙ h)) in
     right_false (fits (length (content arr (join ts (more t us))))) _ (right_false (is_count (counts arr (join ts (more t us)))) _ w)
 part_bad arr ts t us error.InvalidValue o h =
     let all = join ts (more t us) in
@@ -79,39 +73,30 @@ over_bad arr ts t us n o m h = elim h [
       right_false (fits (length (content arr (join ts (more t us))))) _ (left_false (is_count (counts arr (join ts (more t us)))) (within_each (join ts (more t us))) few)
 ]
 
-refused-none : (p : Place) (t : Tree) (e : Error) → refused p t e → refuses_none e
-refused-none p t error.TooLong h = tt
-refused-none p t error.InvalidValue h = tt
-refused-none p t e h = absurd h
-
 -- a refused part
 pub refused_part : (start : SizeSerializer) (kind : Kind) (held : Open) (ps : List (Option Tree)) (h : Holds start kind held ps) (p : Option Tree) (e : Error) (after : Under) →
-    at_place held.inner p (Err e) after → (rest : List (Option Tree)) →
-    at_place (outer start.place) (meant start.place (whole kind (ps ++ (p ∷ rest)))) (Err e) (under.Plain held.place)
-refused_part start kind held ps h None e after r rest = with_rest start kind held ps h None e r.0 (λ t us q. absurd (none-some t q)) rest
+    at_place (inner_of (is_array held.shape) h.ts) p (Err e) after → (others : List (Option Tree)) →
+    at_place (outer start.place) (meant start.place (whole kind (ps ++ (p ∷ others)))) (Err e) (under.Plain (rest held.place))
+refused_part start kind held ps h None e after r others = with_rest start kind held ps h None e r.0 (λ t us q. absurd (none-some t q)) others
   where
     none-some : (t : Tree) → None ≡ Some t → ⊥
     none-some t q = cc
-refused_part start kind held ps h (Some t) e after r rest =
-    let inner : refused (inner_of held.array h.ts) t e = subst (λ w. refused w t e) h.fed.inner r.0 in
-    with_rest start kind held ps h (Some t) e (refused-none held.inner t e r.0)
-    (λ v us q. subst (λ x. bad_in held.array (join h.ts (more x us)) e) (same t v q) (part_bad held.array h.ts t us e h.fed.one inner)) rest
+refused_part start kind held ps h (Some t) e after r others =
+    with_rest start kind held ps h (Some t) e (refused-none (inner_of (is_array held.shape) h.ts) t e r.0)
+    (λ v us q. subst (λ x. bad_in (is_array held.shape) (join h.ts (more x us)) e) (same t v q) (part_bad (is_array held.shape) h.ts t us e h.fed.one r.0)) others
   where
     same : (t v : Tree) → Some t ≡ Some v → t ≡ v
     same t v q = cc
 
 -- a part that passes a limit
-pub over_part : (start : SizeSerializer) (kind : Kind) (held : Open) (ps : List (Option Tree)) (h : Holds start kind held ps) (t : Tree) (size : ℕ) (inner : Place) →
-    size ≡ length (form held.inner t) → inner ≡ next held.inner t → over held.array held.count (size + opens held.inner inner + held.sum) → (rest : List (Option Tree)) →
-    at_place (outer start.place) (meant start.place (whole kind (ps ++ (Some t ∷ rest)))) (Err error.TooLong) (under.Plain held.place)
-over_part start kind held ps h t size inner e f o rest =
-    let arr = held.array in
-    let ts = h.ts in
-    let total : size + opens held.inner inner + held.sum ≡ length (form (inner_of arr ts) t) + opens (inner_of arr ts) (next (inner_of arr ts) t) + length (content arr ts) =
-    rw (e, f, h.fed.inner, h.fed.sum) refl in
-    let past = subst (λ n. over arr held.count n) total o in
+pub over_part : (start : SizeSerializer) (kind : Kind) (held : Open) (ps : List (Option Tree)) (h : Holds start kind held ps) (t : Tree) →
+    over (is_array held.shape) held.count (length (form (inner_of (is_array held.shape) h.ts) t) + opens (inner_of (is_array held.shape) h.ts) (next (inner_of (is_array held.shape) h.ts) t) + length (content (is_array held.shape) h.ts)) →
+    (others : List (Option Tree)) →
+    at_place (outer start.place) (meant start.place (whole kind (ps ++ (Some t ∷ others)))) (Err error.TooLong) (under.Plain (rest held.place))
+over_part start kind held ps h t past others =
+    let arr = is_array held.shape in
     with_rest start kind held ps h (Some t) error.TooLong tt
-    (λ v us q. subst (λ x. bad_in arr (join ts (more x us)) error.TooLong) (same t v q) (over_bad arr ts t us held.count h.fed.one h.fed.counted past)) rest
+    (λ v us q. subst (λ x. bad_in arr (join h.ts (more x us)) error.TooLong) (same t v q) (over_bad arr h.ts t us held.count h.fed.one h.fed.counted past)) others
   where
     same : (t v : Tree) → Some t ≡ Some v → t ≡ v
     same t v q = cc

@@ -1,5 +1,5 @@
 -- The tree of a compound that has ended.
-use Rattle.std.proofs.Common.{◌≡◌, ℕ, ◌+◌, ◌*◌, List, ◌++◌, Option, Some, None, Bool, true, false, ◌&&◌, Result, length, refl, ap, sym, ◌∙◌, subst, arith}
+use Rattle.std.proofs.Common.{◌≡◌, ℕ, ◌+◌, ◌*◌, List, ◌++◌, Option, Some, None, true, false, Result, length, refl, ap, sym, ◌∙◌, subst, arith}
 use Rattle.amqp_data.specs.declared.error.Error.{Error}
 use Rattle.amqp_ser.specs.Tree.{uint, Tree, Trees, Pairs, list, map, variant, count, pair_count}
 use Rattle.amqp_ser.specs.Limits.{fits}
@@ -38,24 +38,54 @@ map_shape (under.Plain p) kinds.List h = cc
 map_shape (under.Plain p) kinds.Map h = (refl, refl)
 map_shape (under.Plain p) (kinds.Fields i) h = cc
 map_shape (under.Plain p) (kinds.Only i) h = cc
+map_shape (under.Plain p) kinds.Bare h = cc
 map_shape (under.Array p) kinds.List h = cc
 map_shape (under.Array p) kinds.Map h = cc
 map_shape (under.Array p) (kinds.Fields i) h = cc
 map_shape (under.Array p) (kinds.Only i) h = cc
-map_shape (under.Scalar m p) k h = cc
-map_shape (under.Nothing p) k h = cc
+map_shape (under.Array p) kinds.Bare h = cc
+map_shape (under.Transparent p) kinds.List h = cc
+map_shape (under.Transparent p) kinds.Map h = cc
+map_shape (under.Transparent p) (kinds.Fields i) h = cc
+map_shape (under.Transparent p) (kinds.Only i) h = cc
+map_shape (under.Transparent p) kinds.Bare h = cc
+map_shape (under.Scalar m p) kinds.List h = cc
+map_shape (under.Scalar m p) kinds.Map h = cc
+map_shape (under.Scalar m p) (kinds.Fields i) h = cc
+map_shape (under.Scalar m p) (kinds.Only i) h = cc
+map_shape (under.Scalar m p) kinds.Bare h = cc
+map_shape (under.Nothing p) kinds.List h = cc
+map_shape (under.Nothing p) kinds.Map h = cc
+map_shape (under.Nothing p) (kinds.Fields i) h = cc
+map_shape (under.Nothing p) (kinds.Only i) h = cc
+map_shape (under.Nothing p) kinds.Bare h = cc
 
 pub fields_shape : (i : ℕ) (u : Under) (k : Kind) → shape_of u k ≡ shape.Fields i → (u ≡ under.Plain (outer u)) × (k ≡ kinds.Fields i)
 fields_shape j (under.Plain p) kinds.List h = cc
 fields_shape j (under.Plain p) kinds.Map h = cc
 fields_shape j (under.Plain p) (kinds.Fields i) h = (refl, cc)
 fields_shape j (under.Plain p) (kinds.Only i) h = cc
+fields_shape j (under.Plain p) kinds.Bare h = cc
 fields_shape j (under.Array p) kinds.List h = cc
 fields_shape j (under.Array p) kinds.Map h = cc
 fields_shape j (under.Array p) (kinds.Fields i) h = cc
 fields_shape j (under.Array p) (kinds.Only i) h = cc
-fields_shape j (under.Scalar m p) k h = cc
-fields_shape j (under.Nothing p) k h = cc
+fields_shape j (under.Array p) kinds.Bare h = cc
+fields_shape j (under.Transparent p) kinds.List h = cc
+fields_shape j (under.Transparent p) kinds.Map h = cc
+fields_shape j (under.Transparent p) (kinds.Fields i) h = cc
+fields_shape j (under.Transparent p) (kinds.Only i) h = cc
+fields_shape j (under.Transparent p) kinds.Bare h = cc
+fields_shape j (under.Scalar m p) kinds.List h = cc
+fields_shape j (under.Scalar m p) kinds.Map h = cc
+fields_shape j (under.Scalar m p) (kinds.Fields i) h = cc
+fields_shape j (under.Scalar m p) (kinds.Only i) h = cc
+fields_shape j (under.Scalar m p) kinds.Bare h = cc
+fields_shape j (under.Nothing p) kinds.List h = cc
+fields_shape j (under.Nothing p) kinds.Map h = cc
+fields_shape j (under.Nothing p) (kinds.Fields i) h = cc
+fields_shape j (under.Nothing p) (kinds.Only i) h = cc
+fields_shape j (under.Nothing p) kinds.Bare h = cc
 
 no_scalar_list : (m : ScalarMark) (ts : Trees) → marked_tree (the_mark m) (list ts) ≡ None
 no_scalar_list scalar_mark.Symbol ts = refl
@@ -97,22 +127,32 @@ as_variant_scalar : (m : ScalarMark) (i : ℕ) (o : Option Tree) → marked (the
 as_variant_scalar m i None = refl
 as_variant_scalar m i (Some t) = no_scalar_variant m i t
 
--- no compound is a scalar
-no_scalar : (m : ScalarMark) (k : Kind) (o : Option Trees) → marked (the_mark m) (as_kind k o) ≡ None
-no_scalar m kinds.List None = refl
-no_scalar m kinds.Map None = refl
-no_scalar m (kinds.Fields i) None = refl
-no_scalar m (kinds.Only i) None = refl
-no_scalar m kinds.List (Some ts) = no_scalar_list m ts
-no_scalar m kinds.Map (Some ts) = as_map_scalar m (in_pairs ts)
-no_scalar m (kinds.Fields i) (Some ts) = no_scalar_variant m i (list ts)
-no_scalar m (kinds.Only i) (Some ts) = as_variant_scalar m i (only ts)
+no_transparent_map : (o : Option Pairs) → marked mark.Transparent (as_map o) ≡ None
+no_transparent_map None = refl
+no_transparent_map (Some ps) = refl
+
+no_transparent_variant : (i : ℕ) (o : Option Tree) → marked mark.Transparent (as_variant i o) ≡ None
+no_transparent_variant i None = refl
+no_transparent_variant i (Some t) = refl
+
+-- no compound is a scalar, but for a bare one
+no_scalar : (p : Place) (m : ScalarMark) (k : Kind) (o : Option Trees) → shape_of (under.Scalar m p) k ≡ shape.Refused → marked (the_mark m) (as_kind k o) ≡ None
+no_scalar p m kinds.List None h = refl
+no_scalar p m kinds.Map None h = refl
+no_scalar p m (kinds.Fields i) None h = refl
+no_scalar p m (kinds.Only i) None h = refl
+no_scalar p m kinds.List (Some ts) h = no_scalar_list m ts
+no_scalar p m kinds.Map (Some ts) h = as_map_scalar m (in_pairs ts)
+no_scalar p m (kinds.Fields i) (Some ts) h = no_scalar_variant m i (list ts)
+no_scalar p m (kinds.Only i) (Some ts) h = as_variant_scalar m i (only ts)
+no_scalar p m kinds.Bare o h = cc
 
 pub refused_shape : (u : Under) (k : Kind) (o : Option Trees) → shape_of u k ≡ shape.Refused → meant u (as_kind k o) ≡ None
 refused_shape (under.Plain p) kinds.List o h = cc
 refused_shape (under.Plain p) kinds.Map o h = cc
 refused_shape (under.Plain p) (kinds.Fields i) o h = cc
 refused_shape (under.Plain p) (kinds.Only i) o h = cc
+refused_shape (under.Plain p) kinds.Bare o h = cc
 refused_shape (under.Array p) kinds.List o h = cc
 refused_shape (under.Array p) kinds.Map None h = refl
 refused_shape (under.Array p) kinds.Map (Some ts) h = no_array_map (in_pairs ts)
@@ -120,7 +160,16 @@ refused_shape (under.Array p) (kinds.Fields i) None h = refl
 refused_shape (under.Array p) (kinds.Fields i) (Some ts) h = refl
 refused_shape (under.Array p) (kinds.Only i) None h = refl
 refused_shape (under.Array p) (kinds.Only i) (Some ts) h = no_array_variant i (only ts)
-refused_shape (under.Scalar m p) k o h = no_scalar m k o
+refused_shape (under.Array p) kinds.Bare o h = cc
+refused_shape (under.Transparent p) kinds.List o h = cc
+refused_shape (under.Transparent p) kinds.Map None h = refl
+refused_shape (under.Transparent p) kinds.Map (Some ts) h = no_transparent_map (in_pairs ts)
+refused_shape (under.Transparent p) (kinds.Fields i) None h = refl
+refused_shape (under.Transparent p) (kinds.Fields i) (Some ts) h = refl
+refused_shape (under.Transparent p) (kinds.Only i) None h = refl
+refused_shape (under.Transparent p) (kinds.Only i) (Some ts) h = no_transparent_variant i (only ts)
+refused_shape (under.Transparent p) kinds.Bare o h = cc
+refused_shape (under.Scalar m p) k o h = no_scalar p m k o h
 refused_shape (under.Nothing p) k o h = refl
 
 -- a map that has ended: its tree and its lengths
@@ -141,7 +190,7 @@ map_end start kind held ps h done s =
     let p : Pairing h.ts = pairing h.ts even in
     let tree : whole kind ps ≡ Some (map p.pairs) = ap (λ k. whole k ps) inv.1 ∙ ap (as_kind kinds.Map) h.trees ∙ ap as_map p.are in
     let plain : meant start.place (whole kind ps) ≡ whole kind ps = ap (λ u. meant u (whole kind ps)) inv.0 in
-    let none_array : held.array ≡ false = h.arrays ∙ ap is_array s in
+    let none_array : is_array held.shape ≡ false = ap is_array s in
     let sum : held.sum ≡ length (enc_pairs p.pairs) = h.fed.sum ∙ ap (λ b. length (content b h.ts)) none_array ∙ ap length (sym p.bytes) in
     record {
       pairs = p.pairs;
@@ -168,7 +217,7 @@ fields_end i start kind held ps size h s e =
     let inv = fields_shape i start.place kind (sym h.shape ∙ s) in
     let tree : whole kind ps ≡ Some (variant i (list h.ts)) = ap (λ k. whole k ps) inv.1 ∙ ap (as_kind (kinds.Fields i)) h.trees in
     let plain : meant start.place (whole kind ps) ≡ whole kind ps = ap (λ u. meant u (whole kind ps)) inv.0 in
-    let none_array : held.array ≡ false = h.arrays ∙ ap is_array s in
+    let none_array : is_array held.shape ≡ false = ap is_array s in
     let sum : held.sum ≡ length (enc_each h.ts) = h.fed.sum ∙ ap (λ b. length (content b h.ts)) none_array in
     let len : size ≡ length (enc (list h.ts)) = e ∙ ap list_width sum ∙ sym (length-list_form (count h.ts) (enc_each h.ts)) in
     record {

@@ -4,6 +4,7 @@
 //! gives. `SizeSerializer` is the serializer behind it. The widths of all headers stand in this crate alone.
 #![tactic(auto)]
 
+mod accept;
 mod compounds;
 mod form;
 mod open_compound;
@@ -11,6 +12,7 @@ mod place;
 mod serializer;
 #[cfg(test)]
 mod tests;
+mod under;
 pub mod width;
 
 pub use compounds::{
@@ -19,5 +21,5 @@ pub use compounds::{
 };
 pub use form::Form;
 pub use open_compound::Open;
-pub use place::{Place, ScalarMark, Shape, Under};
+pub use place::{Base, Place, ScalarMark, Shape, Under};
 pub use serializer::{SizeSerializer, serialized_size};

@@ -1,17 +1,14 @@
 //! The serializer that counts, and the length of a value's bytes.
 
-ghost use Rattle.std.specs.Prelude.{◌≡◌, ◌+◌, ◌≤◌, ◌++◌, ◌∷◌, ◌&&◌, [], List, Option, Some, None, Result, Ok, Err, MatchResult, IfErr, true, false, length, ℕ};
+ghost use Rattle.std.specs.Prelude.{◌≡◌, ◌+◌, ◌≤◌, ◌++◌, ◌∷◌, ◌&&◌, ◌⊎◌, [], List, Option, Some, None, Result, Ok, Err, MatchResult, IfOk, IfErr, IsErr, is_some, true, false, length, ℕ};
 ghost use Rattle.amqp_ser.specs.Tree.{Tree};
-ghost use Rattle.amqp_ser.specs.Limits.{fits};
-ghost use Rattle.amqp_ser.specs.Encoding.{enc, payload, con};
-ghost use Rattle.amqp_ser.specs.Writable.{alike, within, inside, placed};
+ghost use Rattle.amqp_ser.specs.Composites.{as_described, descriptor_of};
 ghost use Rattle.amqp_ser.specs.Permitted.{IsSizeOf};
-ghost use Rattle.amqp_size.specs.Width.{uint_width, text_width, map_width};
 
 use crate::form::Form;
 use crate::open_compound::Open;
 use crate::place::{Place, ScalarMark, Shape, Under};
-use crate::width::{LONGEST, array_width, list_width, map_width, text_width, uint_width};
+use crate::width::{array_width, list_width, map_width};
 use amqp_data::Error;
 use amqp_ser::{Fixed, Kind, Mark, Serialize, Serializer};
 
@@ -24,14 +21,10 @@ use amqp_ser::{Fixed, Kind, Mark, Serialize, Serializer};
 /// Takes none.
 #[derive(Debug, Drop)]
 pub struct SizeSerializer {
-    place: Under,
+    pub(crate) place: Under,
 }
 
 impl SizeSerializer {
-    ghost use Rattle.amqp_size.specs.Place.{outer};
-    ghost use Rattle.amqp_size.specs.Counted.{at_place};
-    ghost use Rattle.amqp_ser.specs.Permitted.{refuses_none};
-
     /// A serializer at the root.
     #[inline(always)]
     pub fn new() -> SizeSerializer
@@ -40,75 +33,6 @@ impl SizeSerializer {
         SizeSerializer {
             place: Under::Plain(Place::Root),
         }
-    }
-
-    /// The answer on a writable tree with this constructor and these lengths, at a place.
-    #[inline(always)]
-    fn accept(
-        &mut self,
-        place: Place,
-        code: u8,
-        ordinary: usize,
-        wide: usize,
-    ) -> Result<usize, Error>
-        ensures { (t : Tree) → con t ≡ Some code → within t ≡ true → alike t ≡ true → inside t ≡ true → placed t ≡ true →
-            length (enc t) ≡ ordinary → length (payload t) ≡ wide → at_place place (Some t) result self.new.place }
-    {
-        self.place = Under::Plain(place);
-        match place {
-            Place::Root => Ok(ordinary),
-            Place::Inside => Ok(ordinary),
-            Place::First => {
-                self.place = Under::Plain(Place::Element(code));
-                Ok(wide)
-            }
-            Place::Element(c) => {
-                if c == code {
-                    Ok(wide)
-                } else {
-                    Err(Error::InvalidValue)
-                }
-            }
-        }
-    }
-
-    /// The answer on a text or a binary with this constructor and length.
-    #[inline(always)]
-    fn text(&mut self, place: Place, code: u8, n: usize) -> Result<usize, Error>
-        ensures { (t : Tree) → con t ≡ Some code → alike t ≡ true → inside t ≡ true → placed t ≡ true → within t ≡ fits n →
-            length (enc t) ≡ text_width n → length (payload t) ≡ n + 4 → at_place place (Some t) result self.new.place }
-    {
-        if n > LONGEST {
-            self.place = Under::Plain(place);
-            return Err(Error::TooLong);
-        }
-        self.accept(place, code, text_width(n), n + 4)
-    }
-
-    /// The answer on a variant whose payload has this length.
-    #[inline(always)]
-    fn variant(&mut self, place: Place, index: u32, size: usize) -> Result<usize, Error>
-        ensures { (t v : Tree) → con t ≡ Some 0xd1 → alike t ≡ true → inside t ≡ true → placed t ≡ true → within v ≡ true →
-            within t ≡ (fits (uint_width index + size) && within v) → length (enc t) ≡ map_width (uint_width index + size) →
-            length (payload t) ≡ uint_width index + size + 8 → at_place place (Some t) result self.new.place }
-    {
-        let head = uint_width(index);
-        if size > LONGEST - head {
-            self.place = Under::Plain(place);
-            return Err(Error::TooLong);
-        }
-        let body = head + size;
-        self.accept(place, 0xd1, map_width(body), body + 8)
-    }
-
-    /// Refuses a value that its marker does not take.
-    #[inline(always)]
-    fn refuse(&mut self) -> Result<usize, Error>
-        ensures place { self.new.place ≡ Under.Plain (outer self.old.place) }
-        ensures refused { result ≡ Err Error.InvalidValue }
-    {
-        self.place = Under::Plain(self.place.outer());
-        Err(Error::InvalidValue)
     }
 }
 
@@ -125,8 +49,8 @@ impl Default for SizeSerializer {
 
 impl Serializer for SizeSerializer {
     ghost use Rattle.amqp_data.specs.declared.error.Error.TheVariants.{InvalidValue};
-    ghost use Rattle.amqp_size.specs.Place.{outer, meant};
-    ghost use Rattle.amqp_size.specs.Counted.{size_permits, size_has, size_awaits};
+    ghost use Rattle.amqp_size.specs.Place.{outer, meant, rest, described_under};
+    ghost use Rattle.amqp_size.specs.Counted.{size_permits, size_has, size_awaits, size_awaits_descriptor};
     ghost use Rattle.amqp_ser.specs.Compounds.{whole};
     ghost use Rattle.amqp_ser.specs.Marked.{marked};
     ghost use Rattle.amqp_ser.specs.declared.kind.Kind.{Kind};
@@ -143,11 +67,15 @@ impl Serializer for SizeSerializer {
 
     ghost awaits = { size_awaits };
 
+    ghost awaits_descriptor = { size_awaits_descriptor };
+
     ghost is_misuse = { λ e. e ≡ InvalidValue };
 
     #[inline(always)]
     fn serialize_fixed(&mut self, fixed: Fixed) -> Result<usize, Error> {
-        match self.place {
+        let under = self.place;
+        self.settle();
+        match under {
             Under::Plain(place) => {
                 let ordinary = Form::ordinary(fixed);
                 let wide = Form::in_array(fixed);
@@ -155,24 +83,28 @@ impl Serializer for SizeSerializer {
             }
             Under::Scalar(ScalarMark::Timestamp, place) => match fixed {
                 Fixed::Long(_) => self.accept(place, 0x83, 9, 8),
-                _ => self.refuse(),
+                _ => Err(Error::InvalidValue),
             },
-            _ => self.refuse(),
+            _ => Err(Error::InvalidValue),
         }
     }
 
     #[inline(always)]
     fn serialize_str(&mut self, v: &str) -> Result<usize, Error> {
-        match self.place {
+        let under = self.place;
+        self.settle();
+        match under {
             Under::Plain(place) => self.text(place, 0xb1, v.len()),
             Under::Scalar(ScalarMark::Symbol, place) => self.text(place, 0xb3, v.len()),
-            _ => self.refuse(),
+            _ => Err(Error::InvalidValue),
         }
     }
 
     #[inline(always)]
     fn serialize_bytes(&mut self, v: &[u8]) -> Result<usize, Error> {
-        match self.place {
+        let under = self.place;
+        self.settle();
+        match under {
             Under::Plain(place) => self.text(place, 0xb0, v.len()),
             Under::Scalar(ScalarMark::Decimal32, place) if v.len() == 4 => self.accept(
                 place, 0x74, 5, 4,
@@ -186,7 +118,7 @@ impl Serializer for SizeSerializer {
             Under::Scalar(ScalarMark::Uuid, place) if v.len() == 16 => self.accept(
                 place, 0x98, 17, 16,
             ),
-            _ => self.refuse(),
+            _ => Err(Error::InvalidValue),
         }
     }
 
@@ -201,15 +133,19 @@ impl Serializer for SizeSerializer {
 
     #[inline(always)]
     fn begin(&mut self, kind: Kind) -> Open {
-        let place = self.place.outer();
-        let shape = self.place.shape(kind);
-        self.place = Under::Plain(place);
-        Open::new(place, shape)
+        let under = self.place;
+        self.settle();
+        Open::new(under, under.shape(kind))
     }
 
     #[inline(always)]
-    fn begin_part(&mut self, held: &mut Open) {
-        self.place = Under::Plain(held.inner());
+    fn begin_part(&mut self, held: &mut Open)
+        ensures ready { (start : SizeSerializer) (kind : Kind) (ps : List (Option Tree)) → size_has start kind self.old held.old ps → size_awaits start kind self.new held.new ps }
+        ensures bare { (start : SizeSerializer) → size_has start Kind.Bare self.old held.old [] → (t : Option Tree) (r : Result ℕ Error) (after : SizeSerializer) → size_permits self.new t r after → size_permits start t r after }
+        ensures place { self.new.place ≡ held.old.inner }
+        ensures kept { held.new ≡ held.old }
+    {
+        self.place = held.inner();
     }
 
     #[inline(always)]
@@ -219,12 +155,38 @@ impl Serializer for SizeSerializer {
             (λ _. size_has start kind self.new held.new (ps ++ (p ∷ [])))
             (λ e. size_has start kind self.new held.new ps × ((rest : List (Option Tree)) →
             size_permits start (whole kind (ps ++ (p ∷ rest))) (Err e) self.new)) }
-        ensures refused { IfErr part (λ e. (result ≡ Err e) × ((held.new ≡ held.old) × (self.new.place ≡ Under.Plain held.old.place))) }
+        ensures refused { IfErr part (λ _. IsErr result) }
+        ensures same { IfErr part (λ e. (result ≡ Err e) × ((held.new ≡ held.old) × (self.new.place ≡ Under.Plain (rest held.old.place)))) }
     {
-        let inner = self.place.outer();
-        self.place = Under::Plain(held.place());
+        let after = self.place;
+        self.place = Under::Plain(held.place().rest());
         let size = part?;
-        held.take(size, inner)
+        held.take(size, after)
+    }
+
+    #[inline(always)]
+    fn begin_descriptor(&mut self, held: &mut Open)
+        ensures ready { (start : SizeSerializer) → size_has start Kind.Bare self.old held.old [] → size_awaits_descriptor start self.new held.new }
+        ensures place { self.new.place ≡ Under.Plain Place.Descriptor }
+        ensures kept { held.new ≡ held.old }
+    {
+        self.place = Under::Plain(Place::Descriptor);
+    }
+
+    #[inline(always)]
+    fn end_descriptor(&mut self, held: &mut Open, part: Result<usize, Error>) -> Result<(), Error>
+        ensures step { (start before : SizeSerializer) (d : Option Tree) → size_awaits_descriptor start before held.old → size_permits before d part self.old →
+            MatchResult result
+            (λ _. (mid : SizeSerializer) × (size_has mid Kind.Bare self.new held.new [] × ((t : Option Tree) (r : Result ℕ Error) (after : SizeSerializer) →
+            size_permits mid t r after → size_permits start (as_described (descriptor_of d) t) r after)))
+            (λ e. size_has start Kind.Bare self.new held.new [] × ((t : Option Tree) →
+            size_permits start (as_described (descriptor_of d) t) (Err e) self.new)) }
+        ensures described { IfOk part (λ n. IfOk result (λ _. described_under held.old.inner n ≡ Some held.new.inner)) }
+        ensures same { IfErr part (λ e. (result ≡ Err e) × ((held.new ≡ held.old) × (self.new.place ≡ Under.Plain (rest held.old.place)))) }
+    {
+        self.place = Under::Plain(held.place().rest());
+        let descriptor = part?;
+        held.describe(descriptor)
     }
 
     #[inline(always)]
@@ -248,10 +210,12 @@ impl Serializer for SizeSerializer {
             Shape::Fields(index) => self.variant(place, index, list_width(sum)),
             Shape::Only(index) => self.variant(place, index, sum),
             Shape::Array => self.accept(place, 0xf0, array_width(sum, held.count()), sum + 8),
-            Shape::Refused => {
-                self.place = Under::Plain(place);
-                Err(Error::InvalidValue)
+            Shape::Transparent => self.transparent(place, sum),
+            Shape::Bare => {
+                self.place = held.inner();
+                Ok(sum)
             }
+            Shape::Refused => Err(Error::InvalidValue),
         }
     }
 }

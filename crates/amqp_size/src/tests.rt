@@ -7,7 +7,7 @@ use super::width::{array_len, list_len, map_len, text_len};
 use super::{SizeSerializer, serialized_size};
 use amqp_data::markers::SYMBOL;
 use amqp_data::{Array, Error};
-use amqp_ser::{Mark, Serialize, Serializer};
+use amqp_ser::{Kind, Mark, Serialize, Serializer};
 use std::test::Fail;
 
 #[test]
@@ -150,6 +150,44 @@ fn compounds_pass_over_what_they_refuse(rt: HostRuntime) {
     assert_eq!(rt; interrupted_list(&mut serializer), Ok(7));
     assert_eq!(rt; two_keys(&mut serializer), Ok(8));
     assert_eq!(rt; key_alone(&mut serializer), Err(Error::InvalidValue));
+    assert_eq!(rt; serializer.serialize_str("b"), Ok(3), "fresh afterwards");
+}
+
+#[test]
+fn second_value_of_a_bare_compound(rt: HostRuntime) {
+    let mut serializer = SizeSerializer::new();
+    let mut held = serializer.begin(Kind::Bare);
+    serializer.begin_part(&mut held);
+    let first = serializer.serialize_u8(1);
+    assert_eq!(rt; serializer.end_part(&mut held, first), Ok(()));
+    serializer.begin_part(&mut held);
+    let second = serializer.serialize_u64(2);
+    assert_eq!(rt;
+        serializer.end_part(&mut held, second),
+        Err(Error::InvalidValue)
+    );
+    assert_eq!(rt; serializer.end(held), Ok(2), "the first value alone");
+    assert_eq!(rt; serializer.serialize_str("b"), Ok(3), "fresh afterwards");
+}
+
+#[test]
+fn descriptor_after_a_string(rt: HostRuntime) {
+    let mut serializer = SizeSerializer::new();
+    let mut held = serializer.begin(Kind::Bare);
+    serializer.begin_descriptor(&mut held);
+    let text = serializer.serialize_str("a");
+    assert_eq!(rt;
+        serializer.end_descriptor(&mut held, text),
+        Err(Error::InvalidValue)
+    );
+    serializer.begin_descriptor(&mut held);
+    let code = serializer.serialize_u64(0x24);
+    assert_eq!(rt; serializer.end_descriptor(&mut held, code), Ok(()));
+    serializer.begin_part(&mut held);
+    let list = serializer.begin(Kind::List);
+    let fields = serializer.end(list);
+    assert_eq!(rt; serializer.end_part(&mut held, fields), Ok(()));
+    assert_eq!(rt; serializer.end(held), Ok(4), "00532445");
     assert_eq!(rt; serializer.serialize_str("b"), Ok(3), "fresh afterwards");
 }
 

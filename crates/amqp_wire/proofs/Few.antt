@@ -1,12 +1,17 @@
--- Each tree of a compound has at least a byte, so its parts are no more than its bytes.
+-- Each part of a compound has at least a byte where none is transparent, so its parts are no more than its bytes.
 use Rattle.std.proofs.Common.{◌≡◌, ℕ, ◌+◌, ◌*◌, ◌≤◌, List, [], ◌∷◌, ◌++◌, Bool, true, false, ◌&&◌, length, arith, length-append, nat_le, nat_lt, nat_eq, if◌then◌else◌}
 use Rattle.std.specs.Int.{w8, w32, w64, to_be_bytes}
 use Rattle.amqp_ser.specs.Tree.{Scalar, null, bool, ubyte, ushort, uint, ulong, byte, short, int, long, float, double, decimal32, decimal64, decimal128, char, timestamp, uuid, binary, string, symbol, Tree, Trees, scalar, list, array, map, described, variant, lazy, transparent, no_trees, more, count, pair_count}
 use Rattle.amqp_ser.specs.Limits.{is_short}
 use Rattle.amqp_ser.specs.Scalars.{scalar_form, sized, signed_bytes, is_small}
 use Rattle.amqp_ser.specs.Encoding.{enc, enc_each, enc_pairs, payload_each, first_con, counted, list_form, wide}
+use Rattle.amqp_ser.specs.Writable.{inside, inside_each}
 use Rattle.amqp_ser.proofs.Bools.{left_true, right_true, is_le}
+use Rattle.amqp_size.specs.declared.place.Place.TheVariants.{Root}
 use Rattle.amqp_wire.specs.Solid.{solid, solid_each}
+
+pub no_false : false ≡ true → ⊥
+no_false h = cc
 
 if_some : (b : Bool) (xs ys : List ℕ) → 1 ≤ length xs → 1 ≤ length ys → 1 ≤ length (if b then xs else ys)
 if_some true xs ys p q = p
@@ -46,21 +51,21 @@ scalar_some (binary bs) = sized_some 0xa0 0xb0 bs
 scalar_some (string bs) = sized_some 0xa1 0xb1 bs
 scalar_some (symbol bs) = sized_some 0xa3 0xb3 bs
 
-pub one_byte : (t : Tree) → solid t ≡ true → 1 ≤ length (enc t)
-one_byte (scalar s) h = scalar_some s
-one_byte (list ts) h = list_some (count ts) (enc_each ts)
-one_byte (array ts) h =
+pub one_byte : (t : Tree) → inside t ≡ true → solid t ≡ true → 1 ≤ length (enc t)
+one_byte (scalar s) i h = scalar_some s
+one_byte (list ts) i h = list_some (count ts) (enc_each ts)
+one_byte (array ts) i h =
     let content = first_con ts ++ payload_each ts in
     if_some (is_short (length content) && nat_le (count ts) 255) (0xe0 ∷ (length content + 1) ∷ count ts ∷ content) (0xf0 ∷ wide (count ts) content) (omega arith) (omega arith)
-one_byte (map ps) h = counted_some 0xc1 0xd1 (pair_count ps * 2) (enc_pairs ps)
-one_byte (described d t) h = omega arith
-one_byte (variant i t) h = counted_some 0xc1 0xd1 2 (scalar_form (uint i) ++ enc t)
-one_byte (lazy bs) h = is_le 1 (length bs) h
-one_byte (transparent ts) h = cc
+one_byte (map ps) i h = counted_some 0xc1 0xd1 (pair_count ps * 2) (enc_pairs ps)
+one_byte (described d t) i h = omega arith
+one_byte (variant n t) i h = counted_some 0xc1 0xd1 2 (scalar_form (uint n) ++ enc t)
+one_byte (lazy bs) i h = is_le 1 (length bs) h
+one_byte (transparent ts) i h = absurd (no_false i)
 
-pub few : (ts : Trees) → solid_each ts ≡ true → count ts ≤ length (enc_each ts)
-few no_trees h = omega arith
-few (more t ts) h =
-    let one = one_byte t (left_true (solid t) (solid_each ts) h) in
-    let rest = few ts (right_true (solid t) (solid_each ts) h) in
+pub few : (ts : Trees) → inside_each ts ≡ true → solid_each Root ts ≡ true → count ts ≤ length (enc_each ts)
+few no_trees i h = omega arith
+few (more t ts) i h =
+    let one = one_byte t (left_true (inside t) (inside_each ts) i) (left_true (solid t) (solid_each Root ts) h) in
+    let rest = few ts (right_true (inside t) (inside_each ts) i) (right_true (solid t) (solid_each Root ts) h) in
     simp length-append (omega arith)

@@ -2,7 +2,15 @@ pub mod Few
 pub mod Split
 pub mod Opening
 pub mod Spelled
+pub mod Standing
 pub mod Lists
 pub mod Parts
 pub mod Made
+pub mod Held
 pub mod Listing
+pub mod Lone
+pub mod Tabling
+pub mod Described
+pub mod Alone
+pub mod Writing
+pub mod Heading

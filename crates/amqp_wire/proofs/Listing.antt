@@ -7,22 +7,27 @@ use Rattle.amqp_ser.specs.Tree.{Tree, Trees, no_trees, more, count}
 use Rattle.amqp_ser.specs.Compounds.{all_trees, before, as_kind, whole, paired}
 use Rattle.amqp_ser.specs.declared.kind.Kind.{Kind}
 use Rattle.amqp_ser.specs.declared.kind.Kind.TheVariants as kinds
-use Rattle.amqp_ser.proofs.Bools.{left_true, both}
+use Rattle.amqp_ser.proofs.Bools.{left_true, both, is_le}
 use Rattle.amqp_ser.proofs.Joins.{join, joined, all_trees-append, count-join}
-use Rattle.amqp_size.specs.Place.{outer, meant, shape_of, is_array, con_of}
-use Rattle.amqp_size.specs.Counted.{size_permits, size_has, at_place, Holds, content, inner_of}
+use Rattle.amqp_size.specs.Place.{outer, meant, rest, shape_of, is_array, con_of}
+use Rattle.amqp_size.specs.Counted.{size_permits, size_has, at_place, Holds, HoldsTransparent, Holding, content, inner_of}
+use Rattle.amqp_size.specs.declared.place.Place.TheVariants.{Root}
+use Rattle.amqp_size.specs.declared.place.Shape.{Shape}
 use Rattle.amqp_size.specs.declared.place.Under.TheVariants.{Plain}
 use Rattle.amqp_size.specs.declared.serializer.SizeSerializer.{SizeSerializer}
 use Rattle.amqp_size.specs.declared.open_compound.Open.{Open}
+use Rattle.amqp_size.proofs.Holding.{at_rest}
 use Rattle.amqp_wire.specs.Entries.{header, entries, entries_each, heads, places, made, made_fits}
 use Rattle.amqp_wire.specs.Listed.{counts_tree, listed, Tabled, answered, fills}
 use Rattle.amqp_wire.specs.Solid.{solid, solid_each}
+use Rattle.amqp_wire.specs.Standing.{is_bare}
 use Rattle.amqp_wire.specs.Written.{Extends}
 use Rattle.amqp_wire.specs.declared.table.Header.{Header}
 use Rattle.amqp_wire.specs.declared.headers.Headers.{Headers}
 use Rattle.amqp_wire.specs.declared.headers.Counting.{Counting}
+use Rattle.amqp_wire.proofs.Held.{never_bare, held_trees, held_plain, held_shape, held_bare}
 use Rattle.amqp_wire.proofs.Lists.{extends-more, take_front, same_front}
-use Rattle.amqp_wire.proofs.Made.{made_places, made_right, made_small, fills_are, solid_whole, few_parts}
+use Rattle.amqp_wire.proofs.Made.{made_places, made_right, made_small, fills_are, solid_whole, suits_placed, within_there, few_parts}
 use Rattle.amqp_wire.proofs.Parts.{solid-join, whole_of, even_front}
 use Rattle.amqp_wire.proofs.Spelled.{spelled}
 use Rattle.amqp_wire.proofs.Split.{split, entries-join}
@@ -34,10 +39,10 @@ same_trees : (ps : List (Option Tree)) (ts us : Trees) → all_trees ps ≡ Some
 same_trees ps ts us a b = let e : Some ts ≡ Some us = sym a ∙ b in cc
 
 -- a compound has parts of a count of four bytes
-pub few_fed : (start : SizeSerializer) (kind : Kind) (held : Open) (ps : List (Option Tree)) → Holds start kind held ps → (ts : Trees) → all_trees ps ≡ Some ts → solid_each ts ≡ true → count ts ≤ 4294967295
+pub few_fed : (start : SizeSerializer) (kind : Kind) (held : Open) (ps : List (Option Tree)) → Holds start kind held ps → (ts : Trees) → all_trees ps ≡ Some ts → solid_each Root ts ≡ true → count ts ≤ 4294967295
 few_fed start kind held ps h ts e s =
     let same = same_trees ps ts h.ts e h.trees in
-    let l = few_parts start kind held ps h (ap solid_each (sym same) ∙ s) in
+    let l = few_parts start kind held ps h (ap (solid_each Root) (sym same) ∙ s) in
     let n = ap count same in omega arith
 
 -- a table with a tree's headers at its end
@@ -48,9 +53,9 @@ listed_extends (Some t) b a h = (entries t, h.0)
 -- one part more
 pub part_listed : (start : Headers) (kind : Kind) (table after : List Header) (held new : Counting) (ps : List (Option Tree)) (p : Option Tree) (ts : Trees) → all_trees ps ≡ Some ts →
     Tabled start kind table held ps → listed p table after → held.missed ≡ false → new.at ≡ held.at → new.last ≡ length table →
-    ((us : Trees) → all_trees (ps ++ (p ∷ [])) ≡ Some us → solid_each us ≡ true → count us ≤ 4294967295) → (count ts + 1 ≤ 4294967295 → new.parts ≡ held.parts + 1) → Tabled start kind after new (ps ++ (p ∷ []))
-part_listed start kind table after held new ps None ts e h l m at last small parts = absurd l
-part_listed start kind table after held new ps (Some t) ts e h l m at last small parts =
+    (held.parts + 1 ≤ 4294967295 → new.parts ≡ held.parts + 1) → Tabled start kind after new (ps ++ (p ∷ []))
+part_listed start kind table after held new ps None ts e h l m at last parts = absurd l
+part_listed start kind table after held new ps (Some t) ts e h l m at last parts =
     let all = join ts (more t no_trees) in
     let are : all_trees (ps ++ (Some t ∷ [])) ≡ Some all = more_trees ps t ts e in
     let each : entries_each all ≡ entries_each ts ++ entries t = entries-join ts (more t no_trees) ∙ ap (λ es. entries_each ts ++ es) (append-nil (entries t)) in
@@ -58,14 +63,14 @@ part_listed start kind table after held new ps (Some t) ts e h l m at last small
     let grown : after ≡ start.table.headers.items ++ (q.0 ++ entries_each all) =
     l.0 ∙ ap (λ x. x ++ entries t) q.1.1 ∙ append_assoc start.table.headers.items (q.0 ++ entries_each ts) (entries t)
     ∙ ap (λ x. start.table.headers.items ++ x) (append_assoc q.0 (entries_each ts) (entries t) ∙ ap (λ x. q.0 ++ x) (sym each)) in
-    let solids : solid_each all ≡ true = solid-join ts (more t no_trees) ∙ both (solid_each ts) (solid_each (more t no_trees)) (h.solid_parts ts e) (both (solid t) true l.1 refl) in
+    let solids : solid_each Root all ≡ true = solid-join Root ts (more t no_trees) ∙ both (solid_each Root ts) (solid_each Root (more t no_trees)) (h.solid_parts ts e) (both (solid t) true l.1 refl) in
     let n : count all ≡ count ts + 1 = let j = count-join ts (more t no_trees) in omega arith in
-    let counted : new.parts ≡ count all = let c = h.counted ts e in let s = small all are solids in let p = parts (omega arith) in omega arith in
+    let counted : count all ≤ 4294967295 → new.parts ≡ count all = λ fit. let c = h.counted ts e (omega arith) in let p = parts (omega arith) in omega arith in
     record {
       at = at ∙ h.at;
       extends = extends-more start.table.headers.items table after h.extends (entries t, l.0);
-      counted = λ us f. counted ∙ ap count (same_trees (ps ++ (Some t ∷ [])) all us are f);
-      solid_parts = λ us f. subst (λ x. solid_each x ≡ true) (same_trees (ps ++ (Some t ∷ [])) all us are f) solids;
+      counted = λ us f. subst (λ x. count x ≤ 4294967295 → new.parts ≡ count x) (same_trees (ps ++ (Some t ∷ [])) all us are f) counted;
+      solid_parts = λ us f. subst (λ x. solid_each Root x ≡ true) (same_trees (ps ++ (Some t ∷ [])) all us are f) solids;
       listed = λ _ us f. (q.0, (q.1.0, grown ∙ ap (λ w. start.table.headers.items ++ (q.0 ++ entries_each w)) (same_trees (ps ++ (Some t ∷ [])) all us are f)));
       back = λ odd qs r f.
           let same : ps ≡ qs = same_front ps qs (Some t) r f in
@@ -85,7 +90,7 @@ table_back start kind table cut held new ps h same at missed last parts =
     record {
       at = at ∙ h.at;
       extends = subst (λ x. Extends start.table.headers.items x) (sym same) h.extends;
-      counted = λ ts e. parts ∙ h.counted ts e;
+      counted = λ ts e fit. parts ∙ h.counted ts e fit;
       solid_parts = h.solid_parts;
       listed = λ m ts e. let q = h.listed (sym missed ∙ m) ts e in (q.0, (q.1.0, same ∙ q.1.1));
       back = λ odd qs r f.
@@ -108,58 +113,76 @@ front_trees ps (Some t) us ts a b =
 
 -- the last part is given back
 pub table_undone : (start : Headers) (table cut : List Header) (held new : Counting) (ps : List (Option Tree)) (p : Option Tree) (us ts : Trees) → all_trees ps ≡ Some us → all_trees (ps ++ (p ∷ [])) ≡ Some ts →
-    Tabled start kinds.Map table held (ps ++ (p ∷ [])) → paired ps ≡ true → cut ≡ take held.last table →
+    Tabled start kinds.Map table held (ps ++ (p ∷ [])) → count ts ≤ 4294967295 → paired ps ≡ true → cut ≡ take held.last table →
     new.at ≡ held.at → new.missed ≡ held.missed → new.parts ≡ held.parts - 1 → Tabled start kinds.Map cut new ps
-table_undone start table cut held new ps p us ts a d h even c at missed parts =
+table_undone start table cut held new ps p us ts a d h few even c at missed parts =
     let b = h.back (even_front ps p even) ps p refl in
     let same : cut ≡ b.old = c ∙ ap (take held.last) b.until.1 ∙ take_front b.old b.until.0 held.last b.len in
     let f = front_trees ps p us ts a d in
     let n : count ts ≡ count us + 1 = let j = count-join us (more f.0 no_trees) in let k = ap count f.1 in omega arith in
-    let solids : solid_each us ≡ true = left_true (solid_each us) (solid_each (more f.0 no_trees)) (sym (solid-join us (more f.0 no_trees)) ∙ ap solid_each f.1 ∙ h.solid_parts ts d) in
-    let counted : new.parts ≡ count us = let k = h.counted ts d in omega arith in
+    let solids : solid_each Root us ≡ true = left_true (solid_each Root us) (solid_each Root (more f.0 no_trees)) (sym (solid-join Root us (more f.0 no_trees)) ∙ ap (solid_each Root) f.1 ∙ h.solid_parts ts d) in
+    let counted : new.parts ≡ count us = let k = h.counted ts d few in omega arith in
     record {
       at = at ∙ h.at;
       extends = subst (λ x. Extends start.table.headers.items x) (sym same) b.since;
-      counted = λ ws e. counted ∙ ap count (same_trees ps us ws a e);
-      solid_parts = λ ws e. subst (λ x. solid_each x ≡ true) (same_trees ps us ws a e) solids;
+      counted = λ ws e fit. counted ∙ ap count (same_trees ps us ws a e);
+      solid_parts = λ ws e. subst (λ x. solid_each Root x ≡ true) (same_trees ps us ws a e) solids;
       listed = λ m ws e. let q = b.listed (sym missed ∙ m) ws e in (q.0, (q.1.0, same ∙ q.1.1));
       back = λ odd qs r e. let no : true ≡ false = sym even ∙ odd in cc;
     }
 
 -- an answer on the whole, with the table of the whole
-whole_listed : (start after : Headers) (kind : Kind) (ps : List (Option Tree)) (ts : Trees) (n : ℕ) (o : Option Tree) → meant start.size.place (as_kind kind (Some ts)) ≡ o → solid_each ts ≡ true →
-    at_place (outer start.size.place) o (Ok n) after.size.place →
-    (made_fits (shape_of start.size.place kind) (length (content (is_array (shape_of start.size.place kind)) ts)) → after.table.headers.items ≡ start.table.headers.items ++ (heads (shape_of start.size.place kind) ts ++ entries_each ts)) →
+whole_listed : (start after : Headers) (kind : Kind) (ts : Trees) (n m len : ℕ) (c : Option ℕ) (o : Option Tree) → is_bare kind ≡ false → meant start.size.place (as_kind kind (Some ts)) ≡ o → solid_each Root ts ≡ true →
+    made (shape_of start.size.place kind) (header n m c) ≡ heads (shape_of start.size.place kind) ts → at_place (outer start.size.place) o (Ok len) after.size.place →
+    (made_fits (shape_of start.size.place kind) n → after.table.headers.items ≡ start.table.headers.items ++ (heads (shape_of start.size.place kind) ts ++ entries_each ts)) →
     listed o start.table.headers.items after.table.headers.items
-whole_listed start after kind ps ts n None w s h f = absurd h
-whole_listed start after kind ps ts n (Some x) w s h f =
-    let solids = solid_whole start.size.place kind ts x w s in
-    let sh = shape_of start.size.place kind in
-    let arr = is_array sh in
-    let small = (spelled false start.size.place kind ts x w h.within_it solids).small in
-    let fitting = made_small sh ts (length (content arr ts)) (count ts) (con_of (inner_of arr ts)) (made_right sh ts (length (content arr ts)) (count ts) (con_of (inner_of arr ts)) refl refl refl) small in
-    (f fitting ∙ ap (λ es. start.table.headers.items ++ es) (sym (split start.size.place kind ts x w)), solids)
+whole_listed start after kind ts n m len c None bare w s right h f = absurd h
+whole_listed start after kind ts n m len c (Some x) bare w s right h f =
+    let u = start.size.place in
+    let sh = shape_of u kind in
+    let solids = solid_whole u kind ts x bare w s (suits_placed (outer u) x h.suited) h.alike_it in
+    let small = (spelled Root u kind ts x bare w (within_there (outer u) x h.within_it) solids).small in
+    (f (made_small sh ts n m c right small) ∙ ap (λ es. start.table.headers.items ++ es) (sym (split u kind ts x bare w)), solids)
+
+-- what was counted makes the headers of the compound
+counted_right : (start : Headers) (kind : Kind) (held : Counting) (ps : List (Option Tree)) (ts : Trees) (n m : ℕ) (c : Option ℕ) → is_bare kind ≡ false → Holding start.size kind held.size ps → all_trees ps ≡ Some ts → solid_each Root ts ≡ true →
+    (held.size.sum ≤ 4294967291 → n ≡ held.size.sum) → (count ts ≤ 4294967295 → m ≡ count ts) → c ≡ con_of (outer held.size.inner) → made (shape_of start.size.place kind) (header n m c) ≡ heads (shape_of start.size.place kind) ts
+counted_right start kind held ps ts n m c bare h e s a b d = elim h [ inl w ↦ gathered w | inr w ↦ elim w [ inl v ↦ transparent v | inr v ↦ absurd (never_bare kind v.kind_is bare) ] ]
+  where
+    sh : Shape
+    sh = shape_of start.size.place kind
+
+    gathered : Holds start.size kind held.size ps → made sh (header n m c) ≡ heads sh ts
+    gathered w =
+        let same = same_trees ps ts w.ts e w.trees in
+        let sum : n ≡ length (content (is_array sh) ts) =
+        a (is_le held.size.sum 4294967291 w.fed.fits_sum) ∙ w.fed.sum ∙ ap (λ x. length (content (is_array held.size.shape) x)) (sym same) ∙ ap (λ x. length (content (is_array x) ts)) w.shape in
+        let few = few_fed start.size kind held.size ps w ts e s in
+        made_right sh ts n m c sum (b few) (d ∙ ap (λ u. con_of (outer u)) w.fed.inner ∙ ap (λ x. con_of (inner_of (is_array held.size.shape) x)) (sym same) ∙ ap (λ x. con_of (inner_of (is_array x) ts)) w.shape)
+
+    transparent : HoldsTransparent start.size kind held.size ps → made sh (header n m c) ≡ heads sh ts
+    transparent w = subst (λ x. made x (header n m c) ≡ heads x ts) (sym w.shaped) refl
 
 -- the headers of the compound stand in their places
-pub all_listed : (start : Headers) (kind : Kind) (table : List Header) (after : Headers) (held : Counting) (ps : List (Option Tree)) (n m len : ℕ) (c : Option ℕ) → Holds start.size kind held.size ps → Tabled start kind table held ps → held.missed ≡ false →
-    n ≡ held.size.sum → m ≡ held.parts → c ≡ con_of held.size.inner →
+pub all_listed : (start : Headers) (kind : Kind) (table : List Header) (after : Headers) (held : Counting) (ps : List (Option Tree)) (n m len : ℕ) (c : Option ℕ) → is_bare kind ≡ false → Holding start.size kind held.size ps → Tabled start kind table held ps → held.missed ≡ false →
+    (held.size.sum ≤ 4294967291 → n ≡ held.size.sum) → m ≡ held.parts → c ≡ con_of (outer held.size.inner) →
     (made_fits held.size.shape n → held.at + places held.size.shape ≤ length table → after.table.headers.items ≡ fills (made held.size.shape (header n m c)) held.at table) →
     size_permits start.size (whole kind ps) (Ok len) after.size → listed (meant start.size.place (whole kind ps)) start.table.headers.items after.table.headers.items
-all_listed start kind table after held ps n m len c h k miss a b d f p =
+all_listed start kind table after held ps n m len c bare h k miss a b d f p =
     let sh = shape_of start.size.place kind in
-    let q = k.listed miss h.ts h.trees in
-    let arrays : held.size.array ≡ is_array sh = h.arrays ∙ ap is_array h.shape in
-    let sum : n ≡ length (content (is_array sh) h.ts) = a ∙ h.fed.sum ∙ ap (λ w. length (content w h.ts)) arrays in
-    let right : made sh (header n m c) ≡ heads sh h.ts = made_right sh h.ts n m c sum (b ∙ k.counted h.ts h.trees) (d ∙ ap con_of h.fed.inner ∙ ap (λ w. con_of (inner_of w h.ts)) arrays) in
-    let is : meant start.size.place (as_kind kind (Some h.ts)) ≡ meant start.size.place (whole kind ps) = ap (meant start.size.place) (sym (whole_of kind ps h.ts h.trees)) in
+    let t = held_trees start.size kind held.size ps bare h in
+    let ts = t.0 in
+    let q = k.listed miss ts t.1 in
+    let shaped : held.size.shape ≡ sh = held_shape start.size kind held.size ps bare h in
+    let right = counted_right start kind held ps ts n m c bare h t.1 (k.solid_parts ts t.1) a (λ fit. b ∙ k.counted ts t.1 fit) d in
+    let is : meant start.size.place (as_kind kind (Some ts)) ≡ meant start.size.place (whole kind ps) = ap (meant start.size.place) (sym (whole_of kind ps ts t.1)) in
     let room : held.at + places held.size.shape ≤ length table =
-    let l : length table ≡ length start.table.headers.items + (length q.0 + length (entries_each h.ts)) = ap length q.1.1 ∙ simp length-append in
-    let at = k.at in let z : places held.size.shape ≡ length q.0 = ap places h.shape ∙ sym q.1.0 in omega arith in
-    whole_listed start after kind ps h.ts len (meant start.size.place (whole kind ps)) is (k.solid_parts h.ts h.trees) p (λ fit.
-    let fitting : made_fits held.size.shape n = subst (λ w. made_fits w n) (sym h.shape) (subst (λ w. made_fits sh w) (sym sum) fit) in
-    f fitting room ∙ ap (λ w. fills (made w (header n m c)) held.at table) h.shape ∙ ap (fills (made sh (header n m c)) held.at) q.1.1
-    ∙ fills_are (made sh (header n m c)) q.0 start.table.headers.items (entries_each h.ts) held.at (made_places sh (header n m c) ∙ sym q.1.0) k.at
-    ∙ ap (λ w. start.table.headers.items ++ (w ++ entries_each h.ts)) right)
+    let l : length table ≡ length start.table.headers.items + (length q.0 + length (entries_each ts)) = ap length q.1.1 ∙ simp length-append in
+    let at = k.at in let z : places held.size.shape ≡ length q.0 = ap places shaped ∙ sym q.1.0 in omega arith in
+    whole_listed start after kind ts n m len c (meant start.size.place (whole kind ps)) bare is (k.solid_parts ts t.1) right p (λ fit.
+    f (subst (λ w. made_fits w n) (sym shaped) fit) room ∙ ap (λ w. fills (made w (header n m c)) held.at table) shaped ∙ ap (fills (made sh (header n m c)) held.at) q.1.1
+    ∙ fills_are (made sh (header n m c)) q.0 start.table.headers.items (entries_each ts) held.at (made_places sh (header n m c) ∙ sym q.1.0) k.at
+    ∙ ap (λ w. start.table.headers.items ++ (w ++ entries_each ts)) right)
 
 pub record Took (before self : Headers) (held : Counting) (p : Option Tree) (answer : Result ℕ Error) : Type 0 where
   pub present : held.missed ≡ false
@@ -176,9 +199,9 @@ took before self held p part (Err e) res u X a l q k = let no : Err e ≡ Ok u =
 
 -- the refusal of a part is one of the whole
 pub refusal_of_part : (start before self after : Headers) (kind : Kind) (held new : Counting) (ps : List (Option Tree)) (p : Option Tree) (part answer : Result ℕ Error) (res : Result (Unit {0}) Error) (e : Error) →
-    Holds start.size kind held.size ps → answered held part answer → counts_tree before p part self →
+    Holding start.size kind held.size ps → answered held part answer → counts_tree before p part self →
     (size_permits before.size p answer self.size → size_has start.size kind after.size new.size ps × ((rest : List (Option Tree)) → size_permits start.size (whole kind (ps ++ (p ∷ rest))) (Err e) after.size)) →
-    IfErr answer (λ x. (res ≡ Err x) × ((new.size ≡ held.size) × (after.size.place ≡ Plain held.size.place))) → res ≡ Err e →
+    IfErr answer (λ x. (res ≡ Err x) × ((new.size ≡ held.size) × (after.size.place ≡ Plain (rest held.size.place)))) → res ≡ Err e →
     size_has start.size kind after.size new.size ps × ((rest : List (Option Tree)) → counts_tree start (whole kind (ps ++ (p ∷ rest))) (Err e) after)
 refusal_of_part start before self after kind held new ps p part (Ok n) res e h a l f k q =
     let s = f (subst (λ x. counts_tree before p x self) a.0 l).0 in
@@ -191,5 +214,5 @@ refusal_of_part start before self after kind held new ps p part (Err x) res e h 
     none : x ≡ OutOfMemory → size_has start.size kind after.size new.size ps × ((rest : List (Option Tree)) → counts_tree start (whole kind (ps ++ (p ∷ rest))) (Err e) after)
     none m =
         let same : e ≡ x = cc in
-        let place : after.size.place ≡ Plain (outer start.size.place) = k.1.1 ∙ ap Plain h.place in
-        (subst (λ z. Holds start.size kind z ps × (after.size.place ≡ Plain z.place)) (sym k.1.0) (h, k.1.1), λ rest. inl (same ∙ m, place))
+        let place : after.size.place ≡ Plain (rest (outer start.size.place)) = k.1.1 ∙ ap Plain (at_rest start.size kind held.size ps h) in
+        (subst (λ z. Holding start.size kind z ps × (after.size.place ≡ Plain (rest z.place))) (sym k.1.0) (h, k.1.1), λ rest. inl (same ∙ m, place))

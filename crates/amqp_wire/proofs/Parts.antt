@@ -2,7 +2,7 @@
 use Rattle.std.proofs.Common.{◌≡◌, ℕ, ◌+◌, List, [], ◌∷◌, ◌++◌, Option, Some, None, Bool, true, false, not, ◌&&◌, Result, Ok, Err, length, refl, ap, sym, ◌∙◌, subst, arith, append_assoc, append-nil, length-append, drop, take, is_err}
 use Rattle.std.specs.Vec.{vec_capacity}
 use Rattle.amqp_data.specs.declared.error.Error.{Error}
-use Rattle.amqp_ser.specs.Tree.{Tree, Trees, list, array, map, variant, no_trees, more}
+use Rattle.amqp_ser.specs.Tree.{Tree, Trees, list, array, map, variant, transparent, no_trees, more}
 use Rattle.amqp_ser.specs.Writable.{within, within_each}
 use Rattle.amqp_ser.specs.Compounds.{all_trees, before, as_kind, as_map, as_variant, only, whole, complete, paired}
 use Rattle.amqp_ser.specs.declared.kind.Kind.{Kind}
@@ -10,14 +10,17 @@ use Rattle.amqp_ser.specs.declared.kind.Kind.TheVariants as kinds
 use Rattle.amqp_ser.proofs.Bools.{left_true, right_true, and_assoc}
 use Rattle.amqp_ser.proofs.Joins.{join, joined, all_trees-append, within-join, enc_each-join, payload_each-join}
 use Rattle.amqp_ser.proofs.Pairing.{pairing, paired-even}
-use Rattle.amqp_size.specs.Place.{outer, meant, shape_of, inner_place}
+use Rattle.amqp_size.specs.Place.{outer, meant, shape_of, inner_under}
+use Rattle.amqp_size.specs.declared.place.Place.{Place}
+use Rattle.amqp_size.specs.declared.place.Place.TheVariants as place
 use Rattle.amqp_size.specs.declared.place.Shape.{Shape}
 use Rattle.amqp_size.specs.declared.place.Shape.TheVariants as shape
 use Rattle.amqp_size.specs.declared.place.Under.{Under}
 use Rattle.amqp_size.specs.declared.place.Under.TheVariants as under
 use Rattle.amqp_wire.specs.Entries.{entries, entries_each, heads}
 use Rattle.amqp_wire.specs.Heads.{in_array, bytes_at, opening, after_opening}
-use Rattle.amqp_wire.specs.Solid.{solid, solid_each}
+use Rattle.amqp_wire.specs.Solid.{solid_at, solid_each}
+use Rattle.amqp_wire.specs.Standing.{standing, taken_as, inside_shape, shape_at, opened_as, part_place, is_bare}
 use Rattle.amqp_wire.specs.Written.{Kept, Meets, Wrote, writes_tree, writer_permits, Met, Written, Room, opens}
 use Rattle.amqp_wire.specs.declared.output.Output.{Output}
 use Rattle.amqp_wire.specs.declared.writer.Writer.{Writer}
@@ -25,6 +28,7 @@ use Rattle.amqp_wire.specs.declared.writer.Writing.{Writing}
 use Rattle.amqp_wire.proofs.Lists.{extends-more, take_front, drop_past, same_front}
 use Rattle.amqp_wire.proofs.Spelled.{Spelled, spelled}
 use Rattle.amqp_wire.proofs.Split.{split, entries-join}
+use Rattle.amqp_wire.proofs.Standing.{taken_none, compound_taken}
 
 pub kept-more : (a b c : Output) → Kept a b → Kept b c → Kept a c
 kept-more a b c h k =
@@ -37,16 +41,12 @@ kept-more a b c h k =
 pub kept-refl : (s : Output) → Kept s s
 kept-refl s = record { table = refl; capacity = omega arith; grown = ([], sym (append-nil s.out.items)) }
 
-pub solid-join : (ts us : Trees) → solid_each (join ts us) ≡ (solid_each ts && solid_each us)
-solid-join no_trees us = refl
-solid-join (more t ts) us = ap (λ b. solid t && b) (solid-join ts us) ∙ sym (and_assoc (solid t) (solid_each ts) (solid_each us))
-
--- whether a part of such a compound is an array's element
-abbrev pub parts_in_array : Shape → Bool
-parts_in_array s = in_array (inner_place s)
+pub solid-join : (a : Place) (ts us : Trees) → solid_each a (join ts us) ≡ (solid_each a ts && solid_each a us)
+solid-join a no_trees us = refl
+solid-join a (more t ts) us = ap (λ b. solid_at a t && b) (solid-join a ts us) ∙ sym (and_assoc (solid_at a t) (solid_each a ts) (solid_each a us))
 
 abbrev part_of : Shape → Tree → List ℕ
-part_of s t = bytes_at (parts_in_array s) t
+part_of s t = bytes_at (in_array (part_place s)) t
 
 after-join : (s : Shape) (ts : Trees) (t : Tree) (us : Trees) → (s ≡ shape.Refused → ⊥) → after_opening s (join ts (more t us)) ≡ after_opening s ts ++ (part_of s t ++ after_opening s us)
 after-join shape.List ts t us n = enc_each-join ts (more t us)
@@ -54,19 +54,22 @@ after-join shape.Map ts t us n = enc_each-join ts (more t us)
 after-join (shape.Fields i) ts t us n = enc_each-join ts (more t us)
 after-join (shape.Only i) ts t us n = enc_each-join ts (more t us)
 after-join shape.Array ts t us n = payload_each-join ts (more t us)
+after-join shape.Transparent ts t us n = enc_each-join ts (more t us)
+after-join shape.Bare ts t us n = enc_each-join ts (more t us)
 after-join shape.Refused ts t us n = absurd (n refl)
 
 not_refused : (a : Bool) (kind : Shape) (s : Output) (ts : Trees) → Room a kind s ts → kind ≡ shape.Refused → ⊥
 not_refused a kind s ts m e = (subst (λ w. Room a w s ts) e m).small
 
 -- the table and the room of a compound are also those of its parts
-pub part_meets : (a : Bool) (kind : Shape) (start s : Output) (held : Writing) (ts : Trees) (t : Tree) (us : Trees) → Room a kind start (join ts (more t us)) → Kept start s → Met a kind start s held ts (more t us) → Meets (parts_in_array kind) s t
+pub part_meets : (a : Bool) (kind : Shape) (start s : Output) (held : Writing) (ts : Trees) (t : Tree) (us : Trees) → Room a kind start (join ts (more t us)) → Kept start s → Met a kind start s held ts (more t us) → Meets (part_place kind) s t
 part_meets a kind start s held ts t us m k b =
     let all = join ts (more t us) in
     let hd = heads kind all in
     let op = opening a kind hd in
     let w : (within_each ts && (within t && within_each us)) ≡ true = sym (within-join ts (more t us)) ∙ m.within_parts in
-    let d : (solid_each ts && (solid t && solid_each us)) ≡ true = sym (solid-join ts (more t us)) ∙ m.solid_parts in
+    let arr = part_place kind in
+    let d : (solid_each arr ts && (solid_at arr t && solid_each arr us)) ≡ true = sym (solid-join arr ts (more t us)) ∙ m.solid_parts in
     let parts : hd ++ (entries_each all ++ m.rest) ≡ (hd ++ entries_each ts) ++ (entries t ++ (entries_each us ++ m.rest)) =
     ap (λ es. hd ++ (es ++ m.rest)) (entries-join ts (more t us))
     ∙ ap (λ es. hd ++ es) (append_assoc (entries_each ts) (entries t ++ entries_each us) m.rest ∙ ap (λ es. entries_each ts ++ es) (append_assoc (entries t) (entries_each us) m.rest))
@@ -81,7 +84,7 @@ part_meets a kind start s held ts t us m k b =
     let grown = k.capacity in
     record {
       within_it = left_true (within t) (within_each us) (right_true (within_each ts) (within t && within_each us) w);
-      solid_it = left_true (solid t) (solid_each us) (right_true (solid_each ts) (solid t && solid_each us) d);
+      solid_it = left_true (solid_at arr t) (solid_each arr us) (right_true (solid_each arr ts) (solid_at arr t && solid_each arr us) d);
       rest = entries_each us ++ m.rest;
       listed = ap (λ v. drop s.taken v.items) k.table ∙ past;
       room = omega arith;
@@ -101,9 +104,11 @@ none_after shape.Map = refl
 none_after (shape.Fields i) = refl
 none_after (shape.Only i) = refl
 none_after shape.Array = refl
+none_after shape.Transparent = refl
+none_after shape.Bare = refl
 none_after shape.Refused = refl
 
-met_more : (a : Bool) (kind : Shape) (start s after : Output) (held new : Writing) (ts : Trees) (t : Tree) → Kept start s → (Meets (parts_in_array kind) s t → Wrote (parts_in_array kind) s t after) → new.refused ≡ held.refused →
+met_more : (a : Bool) (kind : Shape) (start s after : Output) (held new : Writing) (ts : Trees) (t : Tree) → Kept start s → (Meets (part_place kind) s t → Wrote (part_place kind) s t after) → new.refused ≡ held.refused →
     ((us : Trees) → Room a kind start (join ts us) → Met a kind start s held ts us) → (us : Trees) → Room a kind start (join (join ts (more t no_trees)) us) → Met a kind start after new (join ts (more t no_trees)) us
 met_more a kind start s after held new ts t k f g h us m =
     let same : join (join ts (more t no_trees)) us ≡ join ts (more t us) = join-assoc ts (more t no_trees) us in
@@ -123,8 +128,9 @@ met_more a kind start s after held new ts t k f g h us m =
       taken = let c = w.taken in let d = b.taken in omega arith;
     }
 
-room_of : (a : Bool) (kind : Shape) (s : Output) (ts : Trees) (t : Tree) → entries t ≡ heads kind ts ++ entries_each ts → Spelled a kind ts t → Meets a s t → Room a kind s ts
-room_of a kind s ts t e h m =
+room_of : (p : Place) (kind : Shape) (s : Output) (ts : Trees) (t : Tree) → entries t ≡ heads kind ts ++ entries_each ts → Spelled (in_array p) kind ts t → Meets p s t → Room (in_array p) kind s ts
+room_of p kind s ts t e h m =
+    let a = in_array p in
     let f : length (bytes_at a t) ≡ length (opening a kind (heads kind ts)) + length (after_opening kind ts) = ap length h.bytes ∙ length-append (opening a kind (heads kind ts)) (after_opening kind ts) in
     let r = m.room in
     record {
@@ -137,8 +143,10 @@ room_of a kind s ts t e h m =
     }
 
 -- the table and the room of the whole are those of its parts
-room_for : (a : Bool) (u : Under) (k : Kind) (s : Output) (ts : Trees) (t : Tree) → meant u (as_kind k (Some ts)) ≡ Some t → Meets a s t → Room a (shape_of u k) s ts
-room_for a u k s ts t q m = room_of a (shape_of u k) s ts t (split u k ts t q) (spelled a u k ts t q m.within_it m.solid_it) m
+room_for : (u : Under) (k : Kind) (s : Output) (ts : Trees) (t : Tree) → is_bare k ≡ false → taken_as u (as_kind k (Some ts)) ≡ Some t → Meets (outer u) s t → Room (in_array (outer u)) (opened_as u k) s ts
+room_for u k s ts t b q m =
+    let c = compound_taken u k ts t b q m.solid_it in
+    subst (λ w. Room (in_array (outer u)) w s ts) (sym c.1) (room_of (outer u) (shape_of u k) s ts t (split u k ts t b c.0) (spelled (outer u) u k ts t b c.0 m.within_it m.solid_it) m)
 
 whole_parts : (kind : Kind) (ps : List (Option Tree)) (ts : Trees) (p : Option Tree) (rest : List (Option Tree)) → all_trees ps ≡ Some ts → whole kind (ps ++ (p ∷ rest)) ≡ as_kind kind (joined (Some ts) (before p (all_trees rest)))
 unfolding whole
@@ -148,39 +156,33 @@ pub whole_of : (kind : Kind) (ps : List (Option Tree)) (ts : Trees) → all_tree
 unfolding whole
 whole_of kind ps ts h = ap (as_kind kind) h
 
-meant_none : (u : Under) (k : Kind) → meant u (as_kind k None) ≡ None
-meant_none (under.Plain p) k = refl
-meant_none (under.Array p) k = refl
-meant_none (under.Scalar m p) k = refl
-meant_none (under.Nothing p) k = refl
-
-never : (a : Bool) (start cut : Output) (o : Option Tree) (e : Error) → ((t : Tree) → o ≡ Some t → Meets a start t → ⊥) → writes_tree a start o (Err e) cut
+pub never : (a : Place) (start cut : Output) (o : Option Tree) (e : Error) → ((t : Tree) → o ≡ Some t → Meets a start t → ⊥) → writes_tree a start o (Err e) cut
 never a start cut None e f = tt
 never a start cut (Some t) e f = f t refl
 
-refused : (start : Writer) (kind : Kind) (s cut : Output) (held : Writing) (ts : Trees) (p : Option Tree) (e : Error) (o : Option Trees) → Kept start.output s →
-    ((us : Trees) → Room (in_array (outer start.place)) (shape_of start.place kind) start.output (join ts us) → Met (in_array (outer start.place)) (shape_of start.place kind) start.output s held ts us) →
-    ((t : Tree) → p ≡ Some t → held.refused ≡ false → Meets (parts_in_array (shape_of start.place kind)) s t → ⊥) →
-    writes_tree (in_array (outer start.place)) start.output (meant start.place (as_kind kind (joined (Some ts) (before p o)))) (Err e) cut
-refused start kind s cut held ts None e o k h f = subst (λ w. writes_tree (in_array (outer start.place)) start.output w (Err e) cut) (sym (meant_none start.place kind)) tt
-refused start kind s cut held ts (Some t) e None k h f = subst (λ w. writes_tree (in_array (outer start.place)) start.output w (Err e) cut) (sym (meant_none start.place kind)) tt
-refused start kind s cut held ts (Some t) e (Some us) k h f =
-    let a = in_array (outer start.place) in
-    never a start.output cut (meant start.place (as_kind kind (Some (join ts (more t us))))) e (λ x q m.
-    let r = room_for a start.place kind start.output (join ts (more t us)) x q m in
+refused : (start : Writer) (kind : Kind) (s cut : Output) (held : Writing) (ts : Trees) (p : Option Tree) (e : Error) (o : Option Trees) → is_bare kind ≡ false → Kept start.output s →
+    ((us : Trees) → Room (in_array (outer start.place)) (opened_as start.place kind) start.output (join ts us) → Met (in_array (outer start.place)) (opened_as start.place kind) start.output s held ts us) →
+    ((t : Tree) → p ≡ Some t → held.refused ≡ false → Meets (part_place (opened_as start.place kind)) s t → ⊥) →
+    writes_tree (outer start.place) start.output (taken_as start.place (as_kind kind (joined (Some ts) (before p o)))) (Err e) cut
+refused start kind s cut held ts None e o bare k h f = subst (λ w. writes_tree (outer start.place) start.output w (Err e) cut) (sym (taken_none start.place)) tt
+refused start kind s cut held ts (Some t) e None bare k h f = subst (λ w. writes_tree (outer start.place) start.output w (Err e) cut) (sym (taken_none start.place)) tt
+refused start kind s cut held ts (Some t) e (Some us) bare k h f =
+    let a = outer start.place in
+    never a start.output cut (taken_as start.place (as_kind kind (Some (join ts (more t us))))) e (λ x q m.
+    let r = room_for start.place kind start.output (join ts (more t us)) x bare q m in
     let b = h (more t us) r in
-    f t refl b.opened (part_meets a (shape_of start.place kind) start.output s held ts t us r k b))
+    f t refl b.opened (part_meets (in_array a) (opened_as start.place kind) start.output s held ts t us r k b))
 
 -- the refusal of a part is one of the whole
-pub part_refused : (start : Writer) (kind : Kind) (s cut : Output) (held : Writing) (ps : List (Option Tree)) (p : Option Tree) (e : Error) (place : Under) → Written start kind s held ps → Kept start.output cut → place ≡ under.Plain held.place →
-    ((t : Tree) → p ≡ Some t → held.refused ≡ false → Meets (parts_in_array (shape_of start.place kind)) s t → ⊥) →
+pub part_refused : (start : Writer) (kind : Kind) (s cut : Output) (held : Writing) (ps : List (Option Tree)) (p : Option Tree) (e : Error) (place : Under) → is_bare kind ≡ false → Written start kind s held ps → Kept start.output cut → place ≡ under.Plain held.place →
+    ((t : Tree) → p ≡ Some t → held.refused ≡ false → Meets (part_place (opened_as start.place kind)) s t → ⊥) →
     (rest : List (Option Tree)) → writer_permits start (whole kind (ps ++ (p ∷ rest))) (Err e) (record { place = place; output = cut })
-part_refused start kind s cut held ps p e place h k same f rest =
-    (k, (same ∙ ap under.Plain h.place, subst (λ o. writes_tree (in_array (outer start.place)) start.output (meant start.place o) (Err e) cut) (sym (whole_parts kind ps h.ts p rest h.trees)) (refused start kind s cut held h.ts p e (all_trees rest) h.kept h.met f)))
+part_refused start kind s cut held ps p e place bare h k same f rest =
+    (k, (same ∙ ap under.Plain h.place, subst (λ o. writes_tree (outer start.place) start.output (taken_as start.place o) (Err e) cut) (sym (whole_parts kind ps h.ts p rest h.trees)) (refused start kind s cut held h.ts p e (all_trees rest) bare h.kept h.met f)))
 
 -- one part more
 pub part_written : (start : Writer) (kind : Kind) (s after : Output) (held new : Writing) (ps : List (Option Tree)) (t : Tree) → Written start kind s held ps → Kept s after →
-    (Meets (parts_in_array (shape_of start.place kind)) s t → Wrote (parts_in_array (shape_of start.place kind)) s t after) →
+    (Meets (part_place (opened_as start.place kind)) s t → Wrote (part_place (opened_as start.place kind)) s t after) →
     new.place ≡ held.place → new.inner ≡ held.inner → new.refused ≡ held.refused → new.last.taken ≡ s.taken → new.last.len ≡ length s.out.items → Written start kind after new (ps ++ (Some t ∷ []))
 part_written start kind s after held new ps t h k f place inner ref taken len =
     record {
@@ -190,7 +192,7 @@ part_written start kind s after held new ps t h k f place inner ref taken len =
       place = place ∙ h.place;
       inner = inner ∙ h.inner;
       none_refused = λ e. ref ∙ h.none_refused e;
-      met = met_more (in_array (outer start.place)) (shape_of start.place kind) start.output s after held new h.ts t h.kept f ref h.met;
+      met = met_more (in_array (outer start.place)) (opened_as start.place kind) start.output s after held new h.ts t h.kept f ref h.met;
       back = λ odd qs q e.
           let same : ps ≡ qs = same_front ps qs (Some t) q e in
           record {
@@ -269,7 +271,7 @@ part_undone start s cut held ps p h even table cap taken out =
     }
 
 -- the refusal stays one where the output goes back
-pub still_refused : (a : Bool) (s m after : Output) (o : Option Tree) (e : Error) → writes_tree a s o (Err e) m → writes_tree a s o (Err e) after
+pub still_refused : (a : Place) (s m after : Output) (o : Option Tree) (e : Error) → writes_tree a s o (Err e) m → writes_tree a s o (Err e) after
 still_refused a s m after None e h = tt
 still_refused a s m after (Some t) e h = h
 
@@ -279,52 +281,77 @@ only_one i (None ∷ []) ts h e = cc
 only_one i (Some t ∷ []) ts h e = let q : more t no_trees ≡ ts = cc in (variant i t, ap (λ w. as_variant i (only w)) (sym q))
 only_one i (p ∷ (q ∷ ps)) ts h e = cc
 
-has_tree : (u : Under) (k : Kind) (ps : List (Option Tree)) (ts : Trees) → all_trees ps ≡ Some ts → complete k ps ≡ true → (shape_of u k ≡ shape.Refused → ⊥) → (t : Tree) × (meant u (as_kind k (Some ts)) ≡ Some t)
-has_tree (under.Plain p) kinds.List ps ts h e n = (list ts, refl)
-has_tree (under.Plain p) kinds.Map ps ts h e n = let r = pairing ts (sym (paired-even ps ts h) ∙ e) in (map r.pairs, ap as_map r.are)
-has_tree (under.Plain p) (kinds.Fields i) ps ts h e n = (variant i (list ts), refl)
-has_tree (under.Plain p) (kinds.Only i) ps ts h e n = only_one i ps ts h e
-has_tree (under.Array p) kinds.List ps ts h e n = (array ts, refl)
-has_tree (under.Array p) kinds.Map ps ts h e n = absurd (n refl)
-has_tree (under.Array p) (kinds.Fields i) ps ts h e n = absurd (n refl)
-has_tree (under.Array p) (kinds.Only i) ps ts h e n = absurd (n refl)
-has_tree (under.Scalar m p) k ps ts h e n = absurd (n refl)
-has_tree (under.Nothing p) k ps ts h e n = absurd (n refl)
+meant_tree : (u : Under) (k : Kind) (ps : List (Option Tree)) (ts : Trees) → is_bare k ≡ false → all_trees ps ≡ Some ts → complete k ps ≡ true → (shape_of u k ≡ shape.Refused → ⊥) → (t : Tree) × (meant u (as_kind k (Some ts)) ≡ Some t)
+meant_tree u kinds.Bare ps ts b h e n = cc
+meant_tree (under.Plain p) kinds.List ps ts b h e n = (list ts, refl)
+meant_tree (under.Plain p) kinds.Map ps ts b h e n = let r = pairing ts (sym (paired-even ps ts h) ∙ e) in (map r.pairs, ap as_map r.are)
+meant_tree (under.Plain p) (kinds.Fields i) ps ts b h e n = (variant i (list ts), refl)
+meant_tree (under.Plain p) (kinds.Only i) ps ts b h e n = only_one i ps ts h e
+meant_tree (under.Array p) kinds.List ps ts b h e n = (array ts, refl)
+meant_tree (under.Transparent p) kinds.List ps ts b h e n = (transparent ts, refl)
+meant_tree (under.Array p) kinds.Map ps ts b h e n = absurd (n refl)
+meant_tree (under.Array p) (kinds.Fields i) ps ts b h e n = absurd (n refl)
+meant_tree (under.Array p) (kinds.Only i) ps ts b h e n = absurd (n refl)
+meant_tree (under.Transparent p) kinds.Map ps ts b h e n = absurd (n refl)
+meant_tree (under.Transparent p) (kinds.Fields i) ps ts b h e n = absurd (n refl)
+meant_tree (under.Transparent p) (kinds.Only i) ps ts b h e n = absurd (n refl)
+meant_tree (under.Scalar m p) kinds.List ps ts b h e n = absurd (n refl)
+meant_tree (under.Scalar m p) kinds.Map ps ts b h e n = absurd (n refl)
+meant_tree (under.Scalar m p) (kinds.Fields i) ps ts b h e n = absurd (n refl)
+meant_tree (under.Scalar m p) (kinds.Only i) ps ts b h e n = absurd (n refl)
+meant_tree (under.Nothing p) kinds.List ps ts b h e n = absurd (n refl)
+meant_tree (under.Nothing p) kinds.Map ps ts b h e n = absurd (n refl)
+meant_tree (under.Nothing p) (kinds.Fields i) ps ts b h e n = absurd (n refl)
+meant_tree (under.Nothing p) (kinds.Only i) ps ts b h e n = absurd (n refl)
+
+-- a compound that was opened has a tree
+has_tree : (u : Under) (k : Kind) (ps : List (Option Tree)) (ts : Trees) → is_bare k ≡ false → all_trees ps ≡ Some ts → complete k ps ≡ true → (opened_as u k ≡ shape.Refused → ⊥) → (t : Tree) × (taken_as u (as_kind k (Some ts)) ≡ Some t)
+has_tree u k ps ts b h e n = go (outer u) n
+  where
+    go : (p : Place) → (shape_at p (shape_of u k) ≡ shape.Refused → ⊥) → (t : Tree) × (standing p (meant u (as_kind k (Some ts))) ≡ Some t)
+    go place.Root m = meant_tree u k ps ts b h e m
+    go place.Inside m = meant_tree u k ps ts b h e (λ r. m (ap inside_shape r))
+    go place.First m = meant_tree u k ps ts b h e (λ r. m (ap inside_shape r))
+    go (place.Element c) m = meant_tree u k ps ts b h e (λ r. m (ap inside_shape r))
+    go place.Descriptor m = absurd (m refl)
+    go (place.Value w x) m = meant_tree u k ps ts b h e (λ r. m (ap inside_shape r))
 
 -- the whole is written
-pub all_written : (start : Writer) (kind : Kind) (s : Writer) (held : Writing) (ps : List (Option Tree)) → Written start kind s.output held ps → s.place ≡ under.Plain held.place → complete kind ps ≡ true → held.refused ≡ false → writer_permits start (whole kind ps) (Ok tt) s
-all_written start kind s held ps h place done opened =
-    let a = in_array (outer start.place) in
-    let sh = shape_of start.place kind in
-    let t = has_tree start.place kind ps h.ts h.trees done (λ e. let no : true ≡ false = sym (h.none_refused e) ∙ opened in cc) in
-    let is : meant start.place (whole kind ps) ≡ Some t.0 = ap (meant start.place) (whole_of kind ps h.ts h.trees) ∙ t.1 in
-    let entered = split start.place kind h.ts t.0 t.1 in (
+pub all_written : (start : Writer) (kind : Kind) (s : Writer) (held : Writing) (ps : List (Option Tree)) → is_bare kind ≡ false → Written start kind s.output held ps → s.place ≡ under.Plain held.place → complete kind ps ≡ true → held.refused ≡ false → writer_permits start (whole kind ps) (Ok tt) s
+all_written start kind s held ps bare h place done opened =
+    let p = outer start.place in
+    let a = in_array p in
+    let sh = opened_as start.place kind in
+    let t = has_tree start.place kind ps h.ts bare h.trees done (λ e. let no : true ≡ false = sym (h.none_refused e) ∙ opened in cc) in
+    let is : taken_as start.place (whole kind ps) ≡ Some t.0 = ap (taken_as start.place) (whole_of kind ps h.ts h.trees) ∙ t.1 in (
       h.kept,
       (
         place ∙ ap under.Plain h.place,
-        subst (λ o. writes_tree a start.output o (Ok tt) s.output) (sym is) (λ m.
-            let sp = spelled a start.place kind h.ts t.0 t.1 m.within_it m.solid_it in
-            let b = h.met no_trees (subst (λ w. Room a sh start.output w) (sym (join-none h.ts)) (room_of a sh start.output h.ts t.0 entered sp m)) in
+        subst (λ o. writes_tree p start.output o (Ok tt) s.output) (sym is) (λ m.
+            let c = compound_taken start.place kind h.ts t.0 bare t.1 m.solid_it in
+            let entered : entries t.0 ≡ heads sh h.ts ++ entries_each h.ts = subst (λ w. entries t.0 ≡ heads w h.ts ++ entries_each h.ts) (sym c.1) (split start.place kind h.ts t.0 bare c.0) in
+            let sp : Spelled a sh h.ts t.0 = subst (λ w. Spelled a w h.ts t.0) (sym c.1) (spelled p start.place kind h.ts t.0 bare c.0 m.within_it m.solid_it) in
+            let b = h.met no_trees (subst (λ w. Room a sh start.output w) (sym (join-none h.ts)) (room_of p sh start.output h.ts t.0 entered sp m)) in
             let same = ap (λ w. length (heads sh w)) (join-none h.ts) in
             let e : length (entries t.0) ≡ length (heads sh h.ts) + length (entries_each h.ts) = ap length entered ∙ length-append (heads sh h.ts) (entries_each h.ts) in
             record {
               out = b.out ∙ ap (λ w. start.output.out.items ++ (opening a sh (heads sh w) ++ after_opening sh h.ts)) (join-none h.ts) ∙ ap (λ x. start.output.out.items ++ x) (sym sp.bytes);
-              taken = let c = b.taken in omega arith;
+              taken = let n = b.taken in omega arith;
             }),
       ),
     )
 
 -- a compound that could not be opened
-pub not_opened : (start : Writer) (kind : Kind) (s : Writer) (held : Writing) (ps : List (Option Tree)) (e : Error) → Written start kind s.output held ps → s.place ≡ under.Plain held.place → held.refused ≡ true → writer_permits start (whole kind ps) (Err e) s
-not_opened start kind s held ps e h place r =
+pub not_opened : (start : Writer) (kind : Kind) (s : Writer) (held : Writing) (ps : List (Option Tree)) (e : Error) → is_bare kind ≡ false → Written start kind s.output held ps → s.place ≡ under.Plain held.place → held.refused ≡ true → writer_permits start (whole kind ps) (Err e) s
+not_opened start kind s held ps e bare h place r =
     let a = in_array (outer start.place) in
-    let sh = shape_of start.place kind in (
+    let sh = opened_as start.place kind in (
       h.kept,
       (
         place ∙ ap under.Plain h.place,
-        subst (λ o. writes_tree a start.output (meant start.place o) (Err e) s.output) (sym (whole_of kind ps h.ts h.trees))
-            (never a start.output s.output (meant start.place (as_kind kind (Some h.ts))) e (λ x q m.
-            let w = room_for a start.place kind start.output h.ts x q m in
+        subst (λ o. writes_tree (outer start.place) start.output (taken_as start.place o) (Err e) s.output) (sym (whole_of kind ps h.ts h.trees))
+            (never (outer start.place) start.output s.output (taken_as start.place (as_kind kind (Some h.ts))) e (λ x q m.
+            let w = room_for start.place kind start.output h.ts x bare q m in
             let b = h.met no_trees (subst (λ v. Room a sh start.output v) (sym (join-none h.ts)) w) in
             let no : true ≡ false = sym r ∙ b.opened in cc)),
       ),
@@ -332,8 +359,8 @@ not_opened start kind s held ps e h place r =
 
 -- a compound that was opened
 pub now_open : (start : Writer) (kind : Kind) (s : Output) (held : Writing) (r : Result (Unit {0}) Error) → Kept start.output s →
-    ((ts : Trees) → Room (in_array (outer start.place)) (shape_of start.place kind) start.output ts → opens (in_array (outer start.place)) (shape_of start.place kind) start.output (heads (shape_of start.place kind) ts) r s) →
-    held.refused ≡ is_err r → held.place ≡ outer start.place → held.inner ≡ inner_place (shape_of start.place kind) → (shape_of start.place kind ≡ shape.Refused → is_err r ≡ true) → Written start kind s held []
+    ((ts : Trees) → Room (in_array (outer start.place)) (opened_as start.place kind) start.output ts → opens (in_array (outer start.place)) (opened_as start.place kind) start.output (heads (opened_as start.place kind) ts) r s) →
+    held.refused ≡ is_err r → held.place ≡ outer start.place → held.inner ≡ inner_under (opened_as start.place kind) start.place → (opened_as start.place kind ≡ shape.Refused → is_err r ≡ true) → Written start kind s held []
 now_open start kind s held r k h e place inner ref =
     record {
       ts = no_trees;
@@ -346,9 +373,9 @@ now_open start kind s held r k h e place inner ref =
       back = λ odd qs q w. let no : true ≡ false = odd in cc;
     }
   where
-    go : (us : Trees) → Room (in_array (outer start.place)) (shape_of start.place kind) start.output us → (q : Result (Unit {0}) Error) → opens (in_array (outer start.place)) (shape_of start.place kind) start.output (heads (shape_of start.place kind) us) q s → held.refused ≡ is_err q → Met (in_array (outer start.place)) (shape_of start.place kind) start.output s held no_trees us
+    go : (us : Trees) → Room (in_array (outer start.place)) (opened_as start.place kind) start.output us → (q : Result (Unit {0}) Error) → opens (in_array (outer start.place)) (opened_as start.place kind) start.output (heads (opened_as start.place kind) us) q s → held.refused ≡ is_err q → Met (in_array (outer start.place)) (opened_as start.place kind) start.output s held no_trees us
     go us m (Ok u) w f =
-        let sh = shape_of start.place kind in
+        let sh = opened_as start.place kind in
         let n = ap length (none_after sh) in
         let op = opening (in_array (outer start.place)) sh (heads sh us) in
         record { opened = f; out = w.0 ∙ ap (λ x. start.output.out.items ++ x) (sym (append-nil op) ∙ ap (λ x. op ++ x) (sym (none_after sh))); taken = let a = w.1 in omega arith }

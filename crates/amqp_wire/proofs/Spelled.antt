@@ -2,8 +2,8 @@
 use Rattle.std.proofs.Common.{◌≡◌, ℕ, ◌+◌, ◌*◌, ◌≤◌, List, [], ◌∷◌, ◌++◌, Option, Some, None, Bool, true, false, ◌&&◌, length, refl, ap, sym, ◌∙◌, subst, arith, append_assoc, append-nil, nat_le, nat_eq, if◌then◌else◌}
 use Rattle.std.proofs.lemmas.Bool.Decides.{nat_tests}
 use Rattle.std.specs.Int.{w32, to_be_bytes}
-use Rattle.amqp_ser.specs.Tree.{Tree, Trees, Pairs, uint, list, array, map, variant, no_trees, more, count, pair_count}
-use Rattle.amqp_ser.specs.Limits.{is_short, fits, is_count}
+use Rattle.amqp_ser.specs.Tree.{Tree, Trees, Pairs, uint, list, array, map, variant, transparent, no_trees, more, count, pair_count}
+use Rattle.amqp_ser.specs.Limits.{is_short, fits, is_count, is_length}
 use Rattle.amqp_ser.specs.Scalars.{scalar_form}
 use Rattle.amqp_ser.specs.Encoding.{enc, enc_each, payload_each, enc_pairs, first_con, code_list, counted, list_form, map_form, array_form, wide}
 use Rattle.amqp_ser.specs.Writable.{within, within_each, within_pairs}
@@ -12,23 +12,26 @@ use Rattle.amqp_ser.specs.declared.kind.Kind.{Kind}
 use Rattle.amqp_ser.specs.declared.kind.Kind.TheVariants as kinds
 use Rattle.amqp_ser.proofs.Bools.{left_true, right_true, both, is_le, le_true}
 use Rattle.amqp_size.specs.Place.{meant, shape_of}
+use Rattle.amqp_size.specs.declared.place.Place.{Place}
+use Rattle.amqp_size.specs.declared.place.Place.TheVariants as place
 use Rattle.amqp_size.specs.declared.place.Shape.{Shape}
 use Rattle.amqp_size.specs.declared.place.Shape.TheVariants as shape
 use Rattle.amqp_size.specs.declared.place.Under.{Under}
 use Rattle.amqp_size.specs.declared.place.Under.TheVariants as under
 use Rattle.amqp_size.proofs.Whole.{refused_shape}
 use Rattle.amqp_wire.specs.Entries.{header, heads, first_constructor}
-use Rattle.amqp_wire.specs.Heads.{pick, bytes_at, opening, head, whole_head, counted_head, after_opening, small_heads}
-use Rattle.amqp_wire.specs.Solid.{solid, solid_each}
+use Rattle.amqp_wire.specs.Heads.{in_array, pick, bytes_at, opening, head, whole_head, counted_head, after_opening, small_heads}
+use Rattle.amqp_wire.specs.Solid.{dense, is_opaque, fit, solid, solid_at, solid_each, solid_pairs}
+use Rattle.amqp_wire.specs.Standing.{part_place, is_bare}
 use Rattle.amqp_wire.specs.declared.head.Style.{Style}
 use Rattle.amqp_wire.specs.declared.head.Style.TheVariants as style
-use Rattle.amqp_wire.proofs.Few.{few}
+use Rattle.amqp_wire.proofs.Few.{no_false}
 use Rattle.amqp_wire.proofs.Split.{pairs_are}
 
 pub record Spelled (a : Bool) (kind : Shape) (ts : Trees) (t : Tree) : Type 0 where
   pub bytes : bytes_at a t ≡ opening a kind (heads kind ts) ++ after_opening kind ts
   pub within_parts : within_each ts ≡ true
-  pub solid_parts : solid_each ts ≡ true
+  pub solid_parts : solid_each (part_place kind) ts ≡ true
   pub small : small_heads kind (heads kind ts)
 
 if_app : (b : Bool) (x y z : List ℕ) → (if b then x ++ z else y ++ z) ≡ (if b then x else y) ++ z
@@ -60,102 +63,129 @@ pick_is : (a : Bool) (y : Style) (n : ℕ) (c : Option ℕ) (form body : List �
 pick_is false y n c form body e = e
 pick_is true y n c form body e = refl
 
-few_parts : (ts : Trees) → solid_each ts ≡ true → is_short (length (enc_each ts)) ≡ true → count ts ≤ 255
-few_parts ts h s = let f = few ts h in let l = is_le (length (enc_each ts)) 254 s in omega arith
+few_parts : (n : ℕ) (body : List ℕ) → dense n body ≡ true → is_short (length body) ≡ true → n ≤ 255
+few_parts n body h s = let f = is_le n (length body) h in let l = is_le (length body) 254 s in omega arith
 
 code_first : (ts : Trees) → code_list (first_constructor ts) ≡ first_con ts
 code_first no_trees = refl
 code_first (more t ts) = refl
 
-spelled_list : (a : Bool) (ts : Trees) → within (list ts) ≡ true → solid_each ts ≡ true → Spelled a shape.List ts (list ts)
-spelled_list a ts w s =
+spelled_list : (z : Place) (ts : Trees) → within (list ts) ≡ true → solid_at z (list ts) ≡ true → Spelled (in_array z) shape.List ts (list ts)
+spelled_list z ts w h =
     let body = enc_each ts in
+    let s = right_true (fit z (list ts)) (solid (list ts)) h in
     record {
-      bytes = pick_is a style.List (count ts) None (list_form (count ts) body) body (list_is (count ts) body (few_parts ts s));
+      bytes = pick_is (in_array z) style.List (count ts) None (list_form (count ts) body) body (list_is (count ts) body (few_parts (count ts) body (left_true (dense (count ts) body) (solid_each place.Inside ts) s)));
       within_parts = right_true (fits (length body)) (within_each ts) w;
-      solid_parts = s;
+      solid_parts = right_true (dense (count ts) body) (solid_each place.Inside ts) s;
       small = is_le (length body) 4294967291 (left_true (fits (length body)) (within_each ts) w);
     }
 
-spelled_map : (a : Bool) (ts : Trees) (prs : Pairs) → in_pairs ts ≡ Some prs → within (map prs) ≡ true → solid (map prs) ≡ true → Spelled a shape.Map ts (map prs)
-spelled_map a ts prs is w s =
+spelled_map : (z : Place) (ts : Trees) (prs : Pairs) → in_pairs ts ≡ Some prs → within (map prs) ≡ true → solid_at z (map prs) ≡ true → Spelled (in_array z) shape.Map ts (map prs)
+spelled_map z ts prs is w h =
     let r = pairs_are ts prs is in
     let body = enc_each ts in
-    let solids : solid_each ts ≡ true = sym r.solid_too ∙ s in
+    let s = right_true (fit z (map prs)) (solid (map prs)) h in
+    let solids : solid_each place.Inside ts ≡ true = sym r.solid_too ∙ right_true (dense (pair_count prs * 2) (enc_pairs prs)) (solid_pairs prs) s in
+    let thick : dense (count ts) body ≡ true = ap (dense (count ts)) (sym r.bytes) ∙ ap (λ n. dense n (enc_pairs prs)) (sym r.counted) ∙ left_true (dense (pair_count prs * 2) (enc_pairs prs)) (solid_pairs prs) s in
     let same : map_form (pair_count prs * 2) (enc_pairs prs) ≡ map_form (count ts) body = ap (λ b. map_form (pair_count prs * 2) b) r.bytes ∙ ap (λ n. map_form n body) r.counted in
     let wides : wide (pair_count prs * 2) (enc_pairs prs) ≡ wide (count ts) body = ap (λ b. wide (pair_count prs * 2) b) r.bytes ∙ ap (λ n. wide n body) r.counted in
     record {
-      bytes = ap (λ x. pick a x (wide (pair_count prs * 2) (enc_pairs prs))) same ∙ ap (λ x. pick a (map_form (count ts) body) x) wides
-          ∙ pick_is a style.Map (count ts) None (map_form (count ts) body) body (counted_is 0xc1 0xd1 (count ts) body (few_parts ts solids));
+      bytes = ap (λ x. pick (in_array z) x (wide (pair_count prs * 2) (enc_pairs prs))) same ∙ ap (λ x. pick (in_array z) (map_form (count ts) body) x) wides
+          ∙ pick_is (in_array z) style.Map (count ts) None (map_form (count ts) body) body (counted_is 0xc1 0xd1 (count ts) body (few_parts (count ts) body thick));
       within_parts = sym r.within_too ∙ right_true (fits (length (enc_pairs prs))) (within_pairs prs) w;
       solid_parts = solids;
       small = is_le (length body) 4294967291 (ap (λ b. fits (length b)) (sym r.bytes) ∙ left_true (fits (length (enc_pairs prs))) (within_pairs prs) w);
     }
 
-spelled_array : (a : Bool) (ts : Trees) → within (array ts) ≡ true → solid_each ts ≡ true → Spelled a shape.Array ts (array ts)
-spelled_array a ts w s =
+spelled_array : (z : Place) (ts : Trees) → within (array ts) ≡ true → solid_at z (array ts) ≡ true → Spelled (in_array z) shape.Array ts (array ts)
+spelled_array z ts w s =
     let body = first_con ts ++ payload_each ts in
     let h = header (length body) (count ts) (first_constructor ts) in
     record {
-      bytes = pick_is a style.Array (count ts) (first_constructor ts) (array_form (count ts) body) body (array_is (count ts) body)
-          ∙ sym (append_assoc (head a style.Array h) (first_con ts) (payload_each ts))
-          ∙ ap (λ c. (head a style.Array h ++ c) ++ payload_each ts) (sym (code_first ts));
+      bytes = pick_is (in_array z) style.Array (count ts) (first_constructor ts) (array_form (count ts) body) body (array_is (count ts) body)
+          ∙ sym (append_assoc (head (in_array z) style.Array h) (first_con ts) (payload_each ts))
+          ∙ ap (λ c. (head (in_array z) style.Array h ++ c) ++ payload_each ts) (sym (code_first ts));
       within_parts = right_true (is_count (count ts)) (within_each ts) (right_true (fits (length body)) (is_count (count ts) && within_each ts) w);
-      solid_parts = s;
+      solid_parts = right_true (fit z (array ts)) (solid (array ts)) s;
       small = is_le (length body) 4294967291 (left_true (fits (length body)) (is_count (count ts) && within_each ts) w);
     }
 
-spelled_fields : (a : Bool) (i : ℕ) (ts : Trees) → within (variant i (list ts)) ≡ true → solid_each ts ≡ true → Spelled a (shape.Fields i) ts (variant i (list ts))
-spelled_fields a i ts w s =
+spelled_fields : (z : Place) (i : ℕ) (ts : Trees) → within (variant i (list ts)) ≡ true → solid_at z (variant i (list ts)) ≡ true → Spelled (in_array z) (shape.Fields i) ts (variant i (list ts))
+spelled_fields z i ts w k =
+    let s = right_true (fit z (variant i (list ts))) (solid (list ts)) k in
     let index = scalar_form (uint i) in
     let fields = enc_each ts in
     let body = index ++ enc (list ts) in
-    let h = head a style.Map (header (length body) 2 None) in
+    let h = head (in_array z) style.Map (header (length body) 2 None) in
     let g = head false style.List (header (length fields) (count ts) None) in
     let inner = right_true (fits (length body)) (within (list ts)) w in
     record {
-      bytes = pick_is a style.Map 2 None (map_form 2 body) body (counted_is 0xc1 0xd1 2 body (λ e. omega arith))
-          ∙ ap (λ b. h ++ (index ++ b)) (list_is (count ts) fields (few_parts ts s))
+      bytes = pick_is (in_array z) style.Map 2 None (map_form 2 body) body (counted_is 0xc1 0xd1 2 body (λ e. omega arith))
+          ∙ ap (λ b. h ++ (index ++ b)) (list_is (count ts) fields (few_parts (count ts) fields (left_true (dense (count ts) fields) (solid_each place.Inside ts) s)))
           ∙ sym (append_assoc h index (g ++ fields)) ∙ sym (append_assoc (h ++ index) g fields);
       within_parts = right_true (fits (length fields)) (within_each ts) inner;
-      solid_parts = s;
+      solid_parts = right_true (dense (count ts) fields) (solid_each place.Inside ts) s;
       small = (is_le (length body) 4294967291 (left_true (fits (length body)) (within (list ts)) w), is_le (length fields) 4294967291 (left_true (fits (length fields)) (within_each ts) inner));
     }
 
-spelled_only : (a : Bool) (i : ℕ) (t : Tree) → within (variant i t) ≡ true → solid t ≡ true → Spelled a (shape.Only i) (more t no_trees) (variant i t)
-spelled_only a i t w s =
+spelled_only : (z : Place) (i : ℕ) (t : Tree) → within (variant i t) ≡ true → solid_at z (variant i t) ≡ true → Spelled (in_array z) (shape.Only i) (more t no_trees) (variant i t)
+spelled_only z i t w k =
+    let s = right_true (fit z (variant i t)) (is_opaque t && solid t) k in
     let index = scalar_form (uint i) in
     let body = index ++ enc t in
     let long = index ++ (enc t ++ []) in
     let same : body ≡ long = ap (λ b. index ++ b) (sym (append-nil (enc t))) in
     record {
-      bytes = pick_is a style.Map 2 None (map_form 2 body) body (counted_is 0xc1 0xd1 2 body (λ e. omega arith))
-          ∙ ap (λ b. head a style.Map (header (length b) 2 None) ++ b) same ∙ sym (append_assoc (head a style.Map (header (length long) 2 None)) index (enc t ++ []));
+      bytes = pick_is (in_array z) style.Map 2 None (map_form 2 body) body (counted_is 0xc1 0xd1 2 body (λ e. omega arith))
+          ∙ ap (λ b. head (in_array z) style.Map (header (length b) 2 None) ++ b) same ∙ sym (append_assoc (head (in_array z) style.Map (header (length long) 2 None)) index (enc t ++ []));
       within_parts = both (within t) true (right_true (fits (length body)) (within t) w) refl;
-      solid_parts = both (solid t) true s refl;
+      solid_parts = both (is_opaque t && solid t) true s refl;
       small = is_le (length long) 4294967291 (ap (λ b. fits (length b)) (sym same) ∙ left_true (fits (length body)) (within t) w);
     }
 
-map_case : (a : Bool) (ts : Trees) (t : Tree) (o : Option Pairs) → in_pairs ts ≡ o → as_map o ≡ Some t → within t ≡ true → solid t ≡ true → Spelled a shape.Map ts t
-map_case a ts t None e h = cc
-map_case a ts t (Some prs) e h = let q : map prs ≡ t = cc in subst (λ x. within x ≡ true → solid x ≡ true → Spelled a shape.Map ts x) q (spelled_map a ts prs e)
+spelled_transparent : (z : Place) (ts : Trees) → within (transparent ts) ≡ true → solid_at z (transparent ts) ≡ true → Spelled (in_array z) shape.Transparent ts (transparent ts)
+spelled_transparent place.Root ts w s =
+    record {
+      bytes = refl;
+      within_parts = right_true (is_length (length (enc_each ts))) (within_each ts) w;
+      solid_parts = s;
+      small = tt;
+    }
+spelled_transparent place.Inside ts w s = absurd (no_false s)
+spelled_transparent place.First ts w s = absurd (no_false s)
+spelled_transparent (place.Element c) ts w s = absurd (no_false s)
+spelled_transparent place.Descriptor ts w s = absurd (no_false s)
+spelled_transparent (place.Value n b) ts w s = absurd (no_false s)
 
-only_case : (a : Bool) (i : ℕ) (ts : Trees) (t : Tree) → as_variant i (only ts) ≡ Some t → within t ≡ true → solid t ≡ true → Spelled a (shape.Only i) ts t
-only_case a i no_trees t h = cc
-only_case a i (more u no_trees) t h = let q : variant i u ≡ t = cc in subst (λ x. within x ≡ true → solid x ≡ true → Spelled a (shape.Only i) (more u no_trees) x) q (spelled_only a i u)
-only_case a i (more u (more v ts)) t h = cc
+map_case : (z : Place) (ts : Trees) (t : Tree) (o : Option Pairs) → in_pairs ts ≡ o → as_map o ≡ Some t → within t ≡ true → solid_at z t ≡ true → Spelled (in_array z) shape.Map ts t
+map_case z ts t None e h = cc
+map_case z ts t (Some prs) e h = let q : map prs ≡ t = cc in subst (λ x. within x ≡ true → solid_at z x ≡ true → Spelled (in_array z) shape.Map ts x) q (spelled_map z ts prs e)
+
+only_case : (z : Place) (i : ℕ) (ts : Trees) (t : Tree) → as_variant i (only ts) ≡ Some t → within t ≡ true → solid_at z t ≡ true → Spelled (in_array z) (shape.Only i) ts t
+only_case z i no_trees t h = cc
+only_case z i (more u no_trees) t h = let q : variant i u ≡ t = cc in subst (λ x. within x ≡ true → solid_at z x ≡ true → Spelled (in_array z) (shape.Only i) (more u no_trees) x) q (spelled_only z i u)
+only_case z i (more u (more v ts)) t h = cc
 
 is_not : (o : Option Tree) (t : Tree) → o ≡ None → o ≡ Some t → ⊥
 is_not o t a b = let no : None ≡ Some t = sym a ∙ b in cc
 
-pub spelled : (a : Bool) (u : Under) (k : Kind) (ts : Trees) (t : Tree) → meant u (as_kind k (Some ts)) ≡ Some t → within t ≡ true → solid t ≡ true → Spelled a (shape_of u k) ts t
-spelled a (under.Plain p) kinds.List ts t h = let q : list ts ≡ t = cc in subst (λ x. within x ≡ true → solid x ≡ true → Spelled a shape.List ts x) q (spelled_list a ts)
-spelled a (under.Plain p) kinds.Map ts t h = map_case a ts t (in_pairs ts) refl h
-spelled a (under.Plain p) (kinds.Fields i) ts t h = let q : variant i (list ts) ≡ t = cc in subst (λ x. within x ≡ true → solid x ≡ true → Spelled a (shape.Fields i) ts x) q (spelled_fields a i ts)
-spelled a (under.Plain p) (kinds.Only i) ts t h = only_case a i ts t h
-spelled a (under.Array p) kinds.List ts t h = let q : array ts ≡ t = cc in subst (λ x. within x ≡ true → solid x ≡ true → Spelled a shape.Array ts x) q (spelled_array a ts)
-spelled a (under.Array p) kinds.Map ts t h = absurd (is_not _ t (refused_shape (under.Array p) kinds.Map (Some ts) refl) h)
-spelled a (under.Array p) (kinds.Fields i) ts t h = absurd (is_not _ t (refused_shape (under.Array p) (kinds.Fields i) (Some ts) refl) h)
-spelled a (under.Array p) (kinds.Only i) ts t h = absurd (is_not _ t (refused_shape (under.Array p) (kinds.Only i) (Some ts) refl) h)
-spelled a (under.Scalar m p) k ts t h = absurd (is_not _ t (refused_shape (under.Scalar m p) k (Some ts) refl) h)
-spelled a (under.Nothing p) k ts t h = absurd (is_not _ t (refused_shape (under.Nothing p) k (Some ts) refl) h)
+pub spelled : (z : Place) (u : Under) (k : Kind) (ts : Trees) (t : Tree) → is_bare k ≡ false → meant u (as_kind k (Some ts)) ≡ Some t → within t ≡ true → solid_at z t ≡ true → Spelled (in_array z) (shape_of u k) ts t
+spelled z u kinds.Bare ts t b h = cc
+spelled z (under.Plain p) kinds.List ts t b h = let q : list ts ≡ t = cc in subst (λ x. within x ≡ true → solid_at z x ≡ true → Spelled (in_array z) shape.List ts x) q (spelled_list z ts)
+spelled z (under.Plain p) kinds.Map ts t b h = map_case z ts t (in_pairs ts) refl h
+spelled z (under.Plain p) (kinds.Fields i) ts t b h = let q : variant i (list ts) ≡ t = cc in subst (λ x. within x ≡ true → solid_at z x ≡ true → Spelled (in_array z) (shape.Fields i) ts x) q (spelled_fields z i ts)
+spelled z (under.Plain p) (kinds.Only i) ts t b h = only_case z i ts t h
+spelled z (under.Array p) kinds.List ts t b h = let q : array ts ≡ t = cc in subst (λ x. within x ≡ true → solid_at z x ≡ true → Spelled (in_array z) shape.Array ts x) q (spelled_array z ts)
+spelled z (under.Transparent p) kinds.List ts t b h = let q : transparent ts ≡ t = cc in subst (λ x. within x ≡ true → solid_at z x ≡ true → Spelled (in_array z) shape.Transparent ts x) q (spelled_transparent z ts)
+spelled z (under.Array p) kinds.Map ts t b h = absurd (is_not _ t (refused_shape (under.Array p) kinds.Map (Some ts) refl) h)
+spelled z (under.Array p) (kinds.Fields i) ts t b h = absurd (is_not _ t (refused_shape (under.Array p) (kinds.Fields i) (Some ts) refl) h)
+spelled z (under.Array p) (kinds.Only i) ts t b h = absurd (is_not _ t (refused_shape (under.Array p) (kinds.Only i) (Some ts) refl) h)
+spelled z (under.Transparent p) kinds.Map ts t b h = absurd (is_not _ t (refused_shape (under.Transparent p) kinds.Map (Some ts) refl) h)
+spelled z (under.Transparent p) (kinds.Fields i) ts t b h = absurd (is_not _ t (refused_shape (under.Transparent p) (kinds.Fields i) (Some ts) refl) h)
+spelled z (under.Transparent p) (kinds.Only i) ts t b h = absurd (is_not _ t (refused_shape (under.Transparent p) (kinds.Only i) (Some ts) refl) h)
+spelled z (under.Scalar m p) kinds.List ts t b h = absurd (is_not _ t (refused_shape (under.Scalar m p) kinds.List (Some ts) refl) h)
+spelled z (under.Scalar m p) kinds.Map ts t b h = absurd (is_not _ t (refused_shape (under.Scalar m p) kinds.Map (Some ts) refl) h)
+spelled z (under.Scalar m p) (kinds.Fields i) ts t b h = absurd (is_not _ t (refused_shape (under.Scalar m p) (kinds.Fields i) (Some ts) refl) h)
+spelled z (under.Scalar m p) (kinds.Only i) ts t b h = absurd (is_not _ t (refused_shape (under.Scalar m p) (kinds.Only i) (Some ts) refl) h)
+spelled z (under.Nothing p) k ts t b h = absurd (is_not _ t refl h)

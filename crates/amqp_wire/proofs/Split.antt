@@ -1,20 +1,22 @@
 -- A compound's headers and those of its parts.
-use Rattle.std.proofs.Common.{◌≡◌, ℕ, ◌*◌, [], ◌∷◌, ◌++◌, Option, Some, None, ◌&&◌, length, refl, ap, sym, ◌∙◌, subst, arith, append_assoc, append-nil}
-use Rattle.amqp_ser.specs.Tree.{Tree, Trees, Pairs, uint, list, array, map, variant, no_trees, more, no_pairs, pair, count, pair_count}
+use Rattle.std.proofs.Common.{◌≡◌, ℕ, Bool, true, false, ◌*◌, [], ◌∷◌, ◌++◌, Option, Some, None, ◌&&◌, length, refl, ap, sym, ◌∙◌, subst, arith, append_assoc, append-nil}
+use Rattle.amqp_ser.specs.Tree.{Tree, Trees, Pairs, uint, list, array, map, variant, transparent, no_trees, more, no_pairs, pair, count, pair_count}
 use Rattle.amqp_ser.specs.Scalars.{scalar_form}
 use Rattle.amqp_ser.specs.Encoding.{enc, enc_each, enc_pairs}
-use Rattle.amqp_ser.specs.Writable.{within, within_each, within_pairs}
+use Rattle.amqp_ser.specs.Writable.{within, within_each, within_pairs, inside, inside_each, inside_pairs}
 use Rattle.amqp_ser.specs.Compounds.{as_kind, as_map, as_variant, in_pairs, before_pairs, only}
 use Rattle.amqp_ser.specs.declared.kind.Kind.{Kind}
 use Rattle.amqp_ser.specs.declared.kind.Kind.TheVariants as kinds
 use Rattle.amqp_ser.proofs.Joins.{join}
 use Rattle.amqp_size.specs.Place.{meant, shape_of}
+use Rattle.amqp_size.specs.declared.place.Place.TheVariants.{Inside}
 use Rattle.amqp_size.specs.declared.place.Under.{Under}
 use Rattle.amqp_size.specs.declared.place.Under.TheVariants as under
 use Rattle.amqp_size.specs.declared.place.Shape.TheVariants as shape
 use Rattle.amqp_size.proofs.Whole.{refused_shape}
 use Rattle.amqp_wire.specs.Entries.{header, entries, entries_each, entries_pairs, heads}
-use Rattle.amqp_wire.specs.Solid.{solid, solid_each, solid_pairs}
+use Rattle.amqp_wire.specs.Solid.{is_opaque, solid, solid_each, solid_pairs}
+use Rattle.amqp_wire.specs.Standing.{is_bare}
 
 -- keys and values in turn, as trees and as pairs
 pub record Paired (ts : Trees) (prs : Pairs) : Type 0 where
@@ -22,7 +24,8 @@ pub record Paired (ts : Trees) (prs : Pairs) : Type 0 where
   pub counted : pair_count prs * 2 ≡ count ts
   pub entered : entries_pairs prs ≡ entries_each ts
   pub within_too : within_pairs prs ≡ within_each ts
-  pub solid_too : solid_pairs prs ≡ solid_each ts
+  pub solid_too : solid_pairs prs ≡ solid_each Inside ts
+  pub inside_too : inside_pairs prs ≡ inside_each ts
 
 one_pair : (k v : Tree) (ts : Trees) (prs : Pairs) (o : Option Pairs) → ((qs : Pairs) → o ≡ Some qs → Paired ts qs) → before_pairs k v o ≡ Some prs → Paired (more k (more v ts)) prs
 one_pair k v ts prs None f w = cc
@@ -35,11 +38,12 @@ one_pair k v ts prs (Some qs) f w =
       counted = omega arith;
       entered = ap (λ es. entries k ++ (entries v ++ es)) r.entered;
       within_too = ap (λ b. within k && (within v && b)) r.within_too;
-      solid_too = ap (λ b. solid k && (solid v && b)) r.solid_too;
+      solid_too = ap (λ b. (is_opaque k && solid k) && ((is_opaque v && solid v) && b)) r.solid_too;
+      inside_too = ap (λ b. inside k && (inside v && b)) r.inside_too;
     })
 
 pub pairs_are : (ts : Trees) (prs : Pairs) → in_pairs ts ≡ Some prs → Paired ts prs
-pairs_are no_trees prs h = let e : no_pairs ≡ prs = cc in subst (Paired no_trees) e (record { bytes = refl; counted = refl; entered = refl; within_too = refl; solid_too = refl })
+pairs_are no_trees prs h = let e : no_pairs ≡ prs = cc in subst (Paired no_trees) e (record { bytes = refl; counted = refl; entered = refl; within_too = refl; solid_too = refl; inside_too = refl })
 pairs_are (more k no_trees) prs h = cc
 pairs_are (more k (more v ts)) prs h = one_pair k v ts prs (in_pairs ts) (pairs_are ts) h
 
@@ -66,17 +70,25 @@ is_not : (o : Option Tree) (t : Tree) → o ≡ None → o ≡ Some t → ⊥
 is_not o t a b = let no : None ≡ Some t = sym a ∙ b in cc
 
 -- the table of the whole is that of its heads and that of its parts
-pub split : (u : Under) (k : Kind) (ts : Trees) (t : Tree) → meant u (as_kind k (Some ts)) ≡ Some t → entries t ≡ heads (shape_of u k) ts ++ entries_each ts
-split (under.Plain p) kinds.List ts t h = let q : list ts ≡ t = cc in subst (λ x. entries x ≡ heads shape.List ts ++ entries_each ts) q refl
-split (under.Plain p) kinds.Map ts t h = map_entries ts t (in_pairs ts) refl h
-split (under.Plain p) (kinds.Fields i) ts t h = let q : variant i (list ts) ≡ t = cc in subst (λ x. entries x ≡ heads (shape.Fields i) ts ++ entries_each ts) q refl
-split (under.Plain p) (kinds.Only i) ts t h = only_entries i ts t h
-split (under.Array p) kinds.List ts t h = let q : array ts ≡ t = cc in subst (λ x. entries x ≡ heads shape.Array ts ++ entries_each ts) q refl
-split (under.Array p) kinds.Map ts t h = absurd (is_not _ t (refused_shape (under.Array p) kinds.Map (Some ts) refl) h)
-split (under.Array p) (kinds.Fields i) ts t h = absurd (is_not _ t (refused_shape (under.Array p) (kinds.Fields i) (Some ts) refl) h)
-split (under.Array p) (kinds.Only i) ts t h = absurd (is_not _ t (refused_shape (under.Array p) (kinds.Only i) (Some ts) refl) h)
-split (under.Scalar m p) k ts t h = absurd (is_not _ t (refused_shape (under.Scalar m p) k (Some ts) refl) h)
-split (under.Nothing p) k ts t h = absurd (is_not _ t (refused_shape (under.Nothing p) k (Some ts) refl) h)
+pub split : (u : Under) (k : Kind) (ts : Trees) (t : Tree) → is_bare k ≡ false → meant u (as_kind k (Some ts)) ≡ Some t → entries t ≡ heads (shape_of u k) ts ++ entries_each ts
+split u kinds.Bare ts t b h = cc
+split (under.Plain p) kinds.List ts t b h = let q : list ts ≡ t = cc in subst (λ x. entries x ≡ heads shape.List ts ++ entries_each ts) q refl
+split (under.Plain p) kinds.Map ts t b h = map_entries ts t (in_pairs ts) refl h
+split (under.Plain p) (kinds.Fields i) ts t b h = let q : variant i (list ts) ≡ t = cc in subst (λ x. entries x ≡ heads (shape.Fields i) ts ++ entries_each ts) q refl
+split (under.Plain p) (kinds.Only i) ts t b h = only_entries i ts t h
+split (under.Array p) kinds.List ts t b h = let q : array ts ≡ t = cc in subst (λ x. entries x ≡ heads shape.Array ts ++ entries_each ts) q refl
+split (under.Array p) kinds.Map ts t b h = absurd (is_not _ t (refused_shape (under.Array p) kinds.Map (Some ts) refl) h)
+split (under.Array p) (kinds.Fields i) ts t b h = absurd (is_not _ t (refused_shape (under.Array p) (kinds.Fields i) (Some ts) refl) h)
+split (under.Array p) (kinds.Only i) ts t b h = absurd (is_not _ t (refused_shape (under.Array p) (kinds.Only i) (Some ts) refl) h)
+split (under.Transparent p) kinds.List ts t b h = let q : transparent ts ≡ t = cc in subst (λ x. entries x ≡ heads shape.Transparent ts ++ entries_each ts) q refl
+split (under.Transparent p) kinds.Map ts t b h = absurd (is_not _ t (refused_shape (under.Transparent p) kinds.Map (Some ts) refl) h)
+split (under.Transparent p) (kinds.Fields i) ts t b h = absurd (is_not _ t (refused_shape (under.Transparent p) (kinds.Fields i) (Some ts) refl) h)
+split (under.Transparent p) (kinds.Only i) ts t b h = absurd (is_not _ t (refused_shape (under.Transparent p) (kinds.Only i) (Some ts) refl) h)
+split (under.Scalar m p) kinds.List ts t b h = absurd (is_not _ t (refused_shape (under.Scalar m p) kinds.List (Some ts) refl) h)
+split (under.Scalar m p) kinds.Map ts t b h = absurd (is_not _ t (refused_shape (under.Scalar m p) kinds.Map (Some ts) refl) h)
+split (under.Scalar m p) (kinds.Fields i) ts t b h = absurd (is_not _ t (refused_shape (under.Scalar m p) (kinds.Fields i) (Some ts) refl) h)
+split (under.Scalar m p) (kinds.Only i) ts t b h = absurd (is_not _ t (refused_shape (under.Scalar m p) (kinds.Only i) (Some ts) refl) h)
+split (under.Nothing p) k ts t b h = absurd (is_not _ t refl h)
 
 pub entries-join : (ts us : Trees) → entries_each (join ts us) ≡ entries_each ts ++ entries_each us
 entries-join no_trees us = refl

@@ -42,11 +42,13 @@ heads shape.Map ts = header (length (enc_each ts)) (count ts) None ∷ []
 heads (shape.Fields i) ts = header (length (scalar_form (uint i) ++ enc (list ts))) 2 None ∷ header (length (enc_each ts)) (count ts) None ∷ []
 heads (shape.Only i) ts = header (length (scalar_form (uint i) ++ enc_each ts)) 2 None ∷ []
 heads shape.Array ts = header (length (first_con ts ++ payload_each ts)) (count ts) (first_constructor ts) ∷ []
-heads shape.Refused ts = []
+heads s ts = []
 
--- how many places it takes in the table
+-- how many places it takes in the table: a transparent vector and a bare compound take none
 abbrev pub places : Shape → ℕ
 places (shape.Fields i) = 2
+places shape.Transparent = 0
+places shape.Bare = 0
 places shape.Refused = 0
 places s = 1
 
@@ -54,6 +56,8 @@ places s = 1
 abbrev pub made : Shape → Header → List Header
 made (shape.Fields i) h = header (uint_width i + list_width h.len) 2 None ∷ h ∷ []
 made (shape.Only i) h = header (uint_width i + h.len) 2 None ∷ []
+made shape.Transparent h = []
+made shape.Bare h = []
 made shape.Refused h = []
 made s h = h ∷ []
 
@@ -61,4 +65,7 @@ made s h = h ∷ []
 abbrev pub made_fits : Shape → ℕ → Type 0
 made_fits (shape.Fields i) n = uint_width i + list_width n ≤ 4294967295
 made_fits (shape.Only i) n = uint_width i + n ≤ 4294967295
+made_fits shape.Transparent n = Unit {0}
+made_fits shape.Bare n = Unit {0}
+made_fits shape.Refused n = Unit {0}
 made_fits s n = n ≤ 4294967295

@@ -6,7 +6,7 @@ use Rattle.amqp_ser.specs.Limits.{is_short}
 use Rattle.amqp_ser.specs.Scalars.{scalar_form}
 use Rattle.amqp_ser.specs.Encoding.{enc, payload, enc_each, payload_each, code_list}
 use Rattle.amqp_size.specs.declared.place.Place.{Place}
-use Rattle.amqp_size.specs.declared.place.Place.TheVariants.{Root, Inside, First, Element}
+use Rattle.amqp_size.specs.declared.place.Place.TheVariants.{Root, Inside, First, Element, Descriptor, Value}
 use Rattle.amqp_size.specs.declared.place.Shape.{Shape}
 use Rattle.amqp_size.specs.declared.place.Shape.TheVariants as shape
 use Rattle.amqp_wire.specs.declared.table.Header.{Header}
@@ -18,6 +18,8 @@ in_array Root = false
 in_array Inside = false
 in_array First = true
 in_array (Element c) = true
+in_array Descriptor = false
+in_array (Value h b) = false
 
 -- the bytes by themselves, or as an array's element after the constructor
 abbrev pub pick : Bool → List ℕ → List ℕ → List ℕ
@@ -64,6 +66,8 @@ small h = h.len ≤ 4294967291
 
 abbrev pub small_heads : Shape → List Header → Type 0
 small_heads shape.Refused hs = ⊥
+small_heads shape.Bare hs = ⊥
+small_heads shape.Transparent hs = Unit {0}
 small_heads (shape.Fields i) (h ∷ (g ∷ hs)) = small h × small g
 small_heads (shape.Fields i) hs = ⊥
 small_heads s (h ∷ hs) = small h

@@ -1,6 +1,7 @@
 pub mod Entries
 pub mod Solid
 pub mod Heads
+pub mod Standing
 pub mod Written
 pub mod Listed
 pub mod Answer

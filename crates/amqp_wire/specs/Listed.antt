@@ -1,15 +1,17 @@
 -- What the first walk may answer: a tree's length, with its headers at the end of the table.
-use Rattle.std.specs.Prelude.{◌≡◌, ℕ, ◌+◌, ◌⊎◌, List, [], ◌∷◌, ◌++◌, Option, Some, None, Bool, true, false, Result, Ok, Err, length, slice_set}
+use Rattle.std.specs.Prelude.{◌≡◌, ℕ, ◌+◌, ◌≤◌, ◌⊎◌, List, [], ◌∷◌, ◌++◌, Option, Some, None, Bool, true, false, Result, Ok, Err, length, slice_set}
 use Rattle.amqp_data.specs.declared.error.Error.{Error}
 use Rattle.amqp_data.specs.declared.error.Error.TheVariants.{OutOfMemory}
 use Rattle.amqp_ser.specs.Tree.{Tree, Trees, count}
 use Rattle.amqp_ser.specs.Compounds.{all_trees, paired}
 use Rattle.amqp_ser.specs.declared.kind.Kind.{Kind}
-use Rattle.amqp_size.specs.Place.{outer, meant, shape_of}
-use Rattle.amqp_size.specs.Counted.{size_permits, size_has, size_awaits}
+use Rattle.amqp_size.specs.Place.{outer, meant, rest, shape_of}
+use Rattle.amqp_size.specs.Counted.{size_permits, size_has, size_awaits, size_awaits_descriptor}
+use Rattle.amqp_size.specs.declared.place.Place.TheVariants.{Root}
 use Rattle.amqp_size.specs.declared.place.Under.TheVariants.{Plain}
 use Rattle.amqp_wire.specs.Entries.{entries, entries_each, places}
 use Rattle.amqp_wire.specs.Solid.{solid, solid_each}
+use Rattle.amqp_wire.specs.Standing.{is_bare}
 use Rattle.amqp_wire.specs.Written.{Extends}
 use Rattle.amqp_wire.specs.declared.table.Header.{Header}
 use Rattle.amqp_wire.specs.declared.headers.Headers.{Headers}
@@ -33,7 +35,7 @@ listed (Some t) b a = (a ≡ b ++ entries t) × (solid t ≡ true)
 -- want of memory is no answer on the tree
 abbrev pub counts_tree : Headers → Option Tree → Result ℕ Error → Headers → Type 0
 counts_tree s o (Ok n) after = size_permits s.size o (Ok n) after.size × listed (meant s.size.place o) s.table.headers.items after.table.headers.items
-counts_tree s o (Err e) after = ((e ≡ OutOfMemory) × (after.size.place ≡ Plain (outer s.size.place))) ⊎ size_permits s.size o (Err e) after.size
+counts_tree s o (Err e) after = ((e ≡ OutOfMemory) × (after.size.place ≡ Plain (rest (outer s.size.place)))) ⊎ size_permits s.size o (Err e) after.size
 
 abbrev pub headers_permits : Headers → Option Tree → Result ℕ Error → Headers → Type 0
 headers_permits s o r after = Extends s.table.headers.items after.table.headers.items × counts_tree s o r after
@@ -54,16 +56,30 @@ pub record Before (start : Headers) (kind : Kind) (table : List Header) (held : 
 pub record Tabled (start : Headers) (kind : Kind) (table : List Header) (held : Counting) (ps : List (Option Tree)) : Type 0 where
   pub at : held.at ≡ length start.table.headers.items
   pub extends : Extends start.table.headers.items table
-  pub counted : (ts : Trees) → all_trees ps ≡ Some ts → held.parts ≡ count ts
-  pub solid_parts : (ts : Trees) → all_trees ps ≡ Some ts → solid_each ts ≡ true
+  pub counted : (ts : Trees) → all_trees ps ≡ Some ts → count ts ≤ 4294967295 → held.parts ≡ count ts
+  pub solid_parts : (ts : Trees) → all_trees ps ≡ Some ts → solid_each Root ts ≡ true
   pub listed : lists_parts start kind held table ps
   pub back : paired ps ≡ false → (qs : List (Option Tree)) (q : Option Tree) → ps ≡ qs ++ (q ∷ []) → Before start kind table held qs
 
+-- the table of a bare compound has the headers of its part alone
+pub record Lone (start : Headers) (table : List Header) (ps : List (Option Tree)) : Type 0 where
+  pub extends : Extends start.table.headers.items table
+  pub none : ps ≡ [] → table ≡ start.table.headers.items
+  pub one : (p : Option Tree) → ps ≡ p ∷ [] → listed (meant start.size.place p) start.table.headers.items table
+
+abbrev pub tabled_as : Bool → Headers → Kind → List Header → Counting → List (Option Tree) → Type 0
+tabled_as true start kind table held ps = Lone start table ps
+tabled_as false start kind table held ps = Tabled start kind table held ps
+
 abbrev pub headers_has : Headers → Kind → Headers → Counting → List (Option Tree) → Type 0
-headers_has start kind s held ps = size_has start.size kind s.size held.size ps × Tabled start kind s.table.headers.items held ps
+headers_has start kind s held ps = size_has start.size kind s.size held.size ps × tabled_as (is_bare kind) start kind s.table.headers.items held ps
 
 abbrev pub headers_awaits : Headers → Kind → Headers → Counting → List (Option Tree) → Type 0
-headers_awaits start kind s held ps = (size_awaits start.size kind s.size held.size ps × Tabled start kind s.table.headers.items held ps) × (held.before ≡ length s.table.headers.items)
+headers_awaits start kind s held ps = (size_awaits start.size kind s.size held.size ps × tabled_as (is_bare kind) start kind s.table.headers.items held ps) × (held.before ≡ length s.table.headers.items)
+
+-- a descriptor takes no place
+abbrev pub headers_awaits_descriptor : Headers → Headers → Counting → Type 0
+headers_awaits_descriptor start s held = (size_awaits_descriptor start.size s.size held.size × (s.table.headers.items ≡ start.table.headers.items)) × (held.before ≡ length s.table.headers.items)
 
 -- a part's answer, or the refusal of the compound's place
 abbrev pub answered : Counting → Result ℕ Error → Result ℕ Error → Type 0

@@ -1,19 +1,22 @@
 -- What the second walk may answer: where the table and the room are a tree's, its bytes.
-use Rattle.std.specs.Prelude.{◌≡◌, ℕ, ◌+◌, ◌<◌, ◌≤◌, List, [], ◌∷◌, ◌++◌, Option, Some, None, Bool, true, false, Result, Ok, Err, length, drop}
+use Rattle.std.specs.Prelude.{◌≡◌, ℕ, ◌+◌, ◌<◌, ◌≤◌, ◌⊎◌, List, [], ◌∷◌, ◌++◌, Option, Some, None, Bool, true, false, Result, Ok, Err, length, drop}
 use Rattle.std.specs.Vec.{vec_capacity}
 use Rattle.amqp_data.specs.declared.error.Error.{Error}
-use Rattle.amqp_ser.specs.Tree.{Tree, Trees}
+use Rattle.amqp_ser.specs.Tree.{Tree, Trees, Descriptor, described}
 use Rattle.amqp_ser.specs.Writable.{within, within_each}
 use Rattle.amqp_ser.specs.Compounds.{all_trees, paired}
 use Rattle.amqp_ser.specs.declared.kind.Kind.{Kind}
 use Rattle.amqp_ser.proofs.Joins.{join}
-use Rattle.amqp_size.specs.Place.{outer, meant, shape_of, inner_place}
-use Rattle.amqp_size.specs.declared.place.Under.TheVariants.{Plain}
+use Rattle.amqp_size.specs.Place.{outer, inner_under}
+use Rattle.amqp_size.specs.declared.place.Place.{Place}
+use Rattle.amqp_size.specs.declared.place.Place.TheVariants as places
+use Rattle.amqp_size.specs.declared.place.Under.TheVariants.{Plain, Nothing}
 use Rattle.amqp_size.specs.declared.place.Shape.{Shape}
 use Rattle.amqp_size.specs.declared.place.Shape.TheVariants.{Refused}
 use Rattle.amqp_wire.specs.Entries.{entries, entries_each, heads}
 use Rattle.amqp_wire.specs.Heads.{in_array, bytes_at, opening, after_opening, small_heads}
-use Rattle.amqp_wire.specs.Solid.{solid, solid_each}
+use Rattle.amqp_wire.specs.Solid.{solid_at, solid_each}
+use Rattle.amqp_wire.specs.Standing.{taken_as, opened_as, part_place, takes_described, is_bare}
 use Rattle.amqp_wire.specs.declared.table.Header.{Header}
 use Rattle.amqp_wire.specs.declared.output.Output.{Output}
 use Rattle.amqp_wire.specs.declared.writer.Writer.{Writer}
@@ -48,30 +51,30 @@ abbrev pub opens : Bool → Shape → Output → List Header → Result (Unit {0
 opens a shape s hs r after = leads s (length hs) (opening a shape hs) r after
 
 -- the table and the room are this tree's
-pub record Meets (a : Bool) (s : Output) (t : Tree) : Type 0 where
+pub record Meets (p : Place) (s : Output) (t : Tree) : Type 0 where
   pub within_it : within t ≡ true
-  pub solid_it : solid t ≡ true
+  pub solid_it : solid_at p t ≡ true
   pub rest : List Header
   pub listed : drop s.taken s.table.items ≡ entries t ++ rest
-  pub room : length s.out.items + length (bytes_at a t) ≤ vec_capacity s.out
+  pub room : length s.out.items + length (bytes_at (in_array p) t) ≤ vec_capacity s.out
 
-pub record Wrote (a : Bool) (s : Output) (t : Tree) (after : Output) : Type 0 where
-  pub out : after.out.items ≡ s.out.items ++ bytes_at a t
+pub record Wrote (p : Place) (s : Output) (t : Tree) (after : Output) : Type 0 where
+  pub out : after.out.items ≡ s.out.items ++ bytes_at (in_array p) t
   pub taken : after.taken ≡ s.taken + length (entries t)
 
-abbrev pub writes_tree : Bool → Output → Option Tree → Result (Unit {0}) Error → Output → Type 0
-writes_tree a s None (Ok u) after = ⊥
-writes_tree a s None (Err e) after = Unit {0}
-writes_tree a s (Some t) (Ok u) after = Meets a s t → Wrote a s t after
-writes_tree a s (Some t) (Err e) after = Meets a s t → ⊥
+abbrev pub writes_tree : Place → Output → Option Tree → Result (Unit {0}) Error → Output → Type 0
+writes_tree p s None (Ok u) after = ⊥
+writes_tree p s None (Err e) after = Unit {0}
+writes_tree p s (Some t) (Ok u) after = Meets p s t → Wrote p s t after
+writes_tree p s (Some t) (Err e) after = Meets p s t → ⊥
 
 abbrev pub writer_permits : Writer → Option Tree → Result (Unit {0}) Error → Writer → Type 0
-writer_permits s o r after = Kept s.output after.output × ((after.place ≡ Plain (outer s.place)) × writes_tree (in_array (outer s.place)) s.output (meant s.place o) r after.output)
+writer_permits s o r after = Kept s.output after.output × ((after.place ≡ Plain (outer s.place)) × writes_tree (outer s.place) s.output (taken_as s.place o) r after.output)
 
 -- the table and the room are those of a compound of these parts
 pub record Room (a : Bool) (shape : Shape) (s : Output) (ts : Trees) : Type 0 where
   pub within_parts : within_each ts ≡ true
-  pub solid_parts : solid_each ts ≡ true
+  pub solid_parts : solid_each (part_place shape) ts ≡ true
   pub small : small_heads shape (heads shape ts)
   pub rest : List Header
   pub listed : drop s.taken s.table.items ≡ heads shape ts ++ (entries_each ts ++ rest)
@@ -92,20 +95,58 @@ pub record Back (start : Writer) (kind : Kind) (s : Output) (held : Writing) (qs
   pub len : held.last.len ≡ length old.out.items
   pub ts : Trees
   pub trees : all_trees qs ≡ Some ts
-  pub met : (us : Trees) → Room (in_array (outer start.place)) (shape_of start.place kind) start.output (join ts us) → Met (in_array (outer start.place)) (shape_of start.place kind) start.output old held ts us
+  pub met : (us : Trees) → Room (in_array (outer start.place)) (opened_as start.place kind) start.output (join ts us) → Met (in_array (outer start.place)) (opened_as start.place kind) start.output old held ts us
 
 pub record Written (start : Writer) (kind : Kind) (s : Output) (held : Writing) (ps : List (Option Tree)) : Type 0 where
   pub ts : Trees
   pub trees : all_trees ps ≡ Some ts
   pub kept : Kept start.output s
   pub place : held.place ≡ outer start.place
-  pub inner : held.inner ≡ inner_place (shape_of start.place kind)
-  pub none_refused : shape_of start.place kind ≡ Refused → held.refused ≡ true
-  pub met : (us : Trees) → Room (in_array (outer start.place)) (shape_of start.place kind) start.output (join ts us) → Met (in_array (outer start.place)) (shape_of start.place kind) start.output s held ts us
+  pub inner : held.inner ≡ inner_under (opened_as start.place kind) start.place
+  pub none_refused : opened_as start.place kind ≡ Refused → held.refused ≡ true
+  pub met : (us : Trees) → Room (in_array (outer start.place)) (opened_as start.place kind) start.output (join ts us) → Met (in_array (outer start.place)) (opened_as start.place kind) start.output s held ts us
   pub back : paired ps ≡ false → (qs : List (Option Tree)) (q : Option Tree) → ps ≡ qs ++ (q ∷ []) → Back start kind s held qs
 
+-- nothing was written since
+abbrev pub Same : Output → Output → Type 0
+Same s after = (after.out.items ≡ s.out.items) × (after.taken ≡ s.taken)
+
+-- a bare compound writes its part alone
+pub record Alone (start : Writer) (s : Output) (held : Writing) (ps : List (Option Tree)) : Type 0 where
+  pub kept : Kept start.output s
+  pub place : held.place ≡ outer start.place
+  pub inner : held.inner ≡ start.place
+  pub opened : held.refused ≡ false
+  pub none : ps ≡ [] → Same start.output s
+  pub one : (p : Option Tree) → ps ≡ p ∷ [] → writes_tree (outer start.place) start.output (taken_as start.place p) (Ok tt) s
+
+abbrev pub written_as : Bool → Writer → Kind → Output → Writing → List (Option Tree) → Type 0
+written_as true start kind s held ps = Alone start s held ps
+written_as false start kind s held ps = Written start kind s held ps
+
 abbrev pub writer_has : Writer → Kind → Writer → Writing → List (Option Tree) → Type 0
-writer_has start kind s held ps = Written start kind s.output held ps × (s.place ≡ Plain held.place)
+writer_has start kind s held ps = written_as (is_bare kind) start kind s.output held ps × (s.place ≡ Plain held.place)
+
+-- where the output stands, which is gone back to where the part is refused
+abbrev pub stands_at : Writing → Output → Type 0
+stands_at held s = (held.part.taken ≡ s.taken) × (held.part.len ≡ length s.out.items)
 
 abbrev pub writer_awaits : Writer → Kind → Writer → Writing → List (Option Tree) → Type 0
-writer_awaits start kind s held ps = (Written start kind s.output held ps × (s.place ≡ Plain held.inner)) × ((held.part.taken ≡ s.output.taken) × (held.part.len ≡ length s.output.out.items))
+writer_awaits start kind s held ps = (written_as (is_bare kind) start kind s.output held ps × (s.place ≡ held.inner)) × stands_at held s.output
+
+-- no described value can be written there
+abbrev pub bars_described : Writer → Type 0
+bars_described start = (d : Descriptor) (t x : Tree) → taken_as start.place (Some (described d t)) ≡ Some x → Meets (outer start.place) start.output x → ⊥
+
+-- the code of described values is written, or no descriptor is taken
+abbrev pub headed : Writer → Writer → Type 0
+headed start s = ((takes_described start.place ≡ true) × ((s.place ≡ Plain places.Descriptor) × ((s.output.out.items ≡ start.output.out.items ++ (0x00 ∷ [])) × (s.output.taken ≡ start.output.taken))))
+    ⊎ ((s.place ≡ Nothing places.Descriptor) × bars_described start)
+
+pub record AwaitsDescriptor (start s : Writer) (held : Writing) : Type 0 where
+  pub kept : Kept start.output s.output
+  pub place : held.place ≡ outer start.place
+  pub inner : held.inner ≡ start.place
+  pub opened : held.refused ≡ false
+  pub stands : stands_at held start.output
+  pub head : headed start s

@@ -156,7 +156,8 @@ impl Output {
         ensures none { shape ≡ Shape.Refused → is_err result ≡ true }
     {
         match shape {
-            Shape::Refused => Err(Error::InvalidValue),
+            Shape::Refused | Shape::Bare => Err(Error::InvalidValue),
+            Shape::Transparent => Ok(()),
             Shape::List => self.open_plain(in_array, Style::List),
             Shape::Map => self.open_plain(in_array, Style::Map),
             Shape::Only(index) => self.open_only(in_array, index),

@@ -1,11 +1,12 @@
 //! The first walk: the length of a value's bytes, and what stands before each compound.
 
-ghost use Rattle.std.specs.Prelude.{◌≡◌, ◌++◌, ◌∷◌, [], List, Option, Result, Ok, Err, MatchResult, true, false, ℕ};
+ghost use Rattle.std.specs.Prelude.{◌≡◌, ◌≤◌, ◌++◌, ◌∷◌, [], List, Option, Result, Ok, Err, MatchResult, IfErr, IsErr, true, false, ℕ};
 ghost use Rattle.amqp_ser.specs.Tree.{Tree};
 
 use crate::table::{Header, Table};
 use amqp_data::Error;
 use amqp_ser::{Fixed, Kind, Mark, Serializer};
+use amqp_size::width::LONGEST;
 use amqp_size::{Open, SizeSerializer};
 use std::alloc::Global;
 
@@ -33,6 +34,15 @@ pub struct Counting {
     last: usize,
     /// How many parts were taken.
     parts: u32,
+}
+
+/// The length of a body, where it is within the limit.
+#[inline(always)]
+fn limited(sum: usize) -> u32
+    ensures same { sum ≤ 4294967291 → result ≡ sum }
+    ensures limit { result ≤ 4294967291 }
+{
+    sum.min(LONGEST) as u32
 }
 
 impl Headers {
@@ -87,8 +97,9 @@ impl Counting {
 
 impl Serializer for Headers {
     ghost use Rattle.amqp_data.specs.declared.error.Error.TheVariants.{InvalidValue};
-    ghost use Rattle.amqp_wire.specs.Listed.{headers_permits, headers_has, headers_awaits};
+    ghost use Rattle.amqp_wire.specs.Listed.{headers_permits, headers_has, headers_awaits, headers_awaits_descriptor};
     ghost use Rattle.amqp_ser.specs.Compounds.{whole};
+    ghost use Rattle.amqp_ser.specs.Composites.{as_described, descriptor_of};
     ghost use Rattle.amqp_ser.specs.declared.kind.Kind.{Kind};
 
     type Ok = usize;
@@ -102,6 +113,8 @@ impl Serializer for Headers {
     ghost has = { headers_has };
 
     ghost awaits = { headers_awaits };
+
+    ghost awaits_descriptor = { headers_awaits_descriptor };
 
     ghost is_misuse = { λ e. e ≡ InvalidValue };
 
@@ -148,11 +161,12 @@ impl Serializer for Headers {
 
     #[inline(always)]
     fn end_part(&mut self, held: &mut Counting, part: Result<usize, Error>) -> Result<(), Error>
-        ensures { (start : Headers) (kind : Kind) (before : Headers) (ps : List (Option Tree)) (p : Option Tree) → headers_awaits start kind before held.old ps → headers_permits before p part self.old →
+        ensures step { (start : Headers) (kind : Kind) (before : Headers) (ps : List (Option Tree)) (p : Option Tree) → headers_awaits start kind before held.old ps → headers_permits before p part self.old →
             MatchResult result
             (λ _. headers_has start kind self.new held.new (ps ++ (p ∷ [])))
             (λ e. headers_has start kind self.new held.new ps × ((rest : List (Option Tree)) →
             headers_permits start (whole kind (ps ++ (p ∷ rest))) (Err e) self.new)) }
+        ensures refused { IfErr part (λ _. IsErr result) }
     {
         let answer = held.answer(part);
         match self.size.end_part(&mut held.size, answer) {
@@ -163,6 +177,35 @@ impl Serializer for Headers {
             }
             Err(e) => {
                 self.table.cut(held.before);
+                Err(e)
+            }
+        }
+    }
+
+    #[inline(always)]
+    fn begin_descriptor(&mut self, held: &mut Counting) {
+        held.before = self.table.len();
+        self.size.begin_descriptor(&mut held.size);
+    }
+
+    #[inline(always)]
+    fn end_descriptor(
+        &mut self,
+        held: &mut Counting,
+        part: Result<usize, Error>,
+    ) -> Result<(), Error>
+        ensures { (start before : Headers) (d : Option Tree) → headers_awaits_descriptor start before held.old → headers_permits before d part self.old →
+            MatchResult result
+            (λ _. (mid : Headers) × (headers_has mid Kind.Bare self.new held.new [] × ((t : Option Tree) (r : Result ℕ Error) (after : Headers) →
+            headers_permits mid t r after → headers_permits start (as_described (descriptor_of d) t) r after)))
+            (λ e. headers_has start Kind.Bare self.new held.new [] × ((t : Option Tree) →
+            headers_permits start (as_described (descriptor_of d) t) (Err e) self.new)) }
+    {
+        match self.size.end_descriptor(&mut held.size, part) {
+            Ok(()) => Ok(()),
+            Err(e) => {
+                let len = held.before;
+                self.table.cut(len);
                 Err(e)
             }
         }
@@ -195,7 +238,7 @@ impl Serializer for Headers {
         }
         let shape = size.shape();
         let header = Header {
-            len: size.sum() as u32,
+            len: limited(size.sum()),
             count: parts,
             constructor: size.constructor(),
         };

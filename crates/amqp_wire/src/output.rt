@@ -1,6 +1,6 @@
 //! Bytes in room that stands ready.
 
-ghost use Rattle.std.specs.Prelude.{◌≡◌, ◌≤◌, ◌++◌, ◌∷◌, [], length, take, drop};
+ghost use Rattle.std.specs.Prelude.{◌≡◌, ◌≤◌, ◌++◌, ◌∷◌, [], length, take, drop, IfErr};
 ghost use Rattle.std.specs.Vec.{vec_capacity};
 
 use crate::table::Header;
@@ -105,6 +105,7 @@ impl Output {
         ensures kept { Kept self.old self.new }
         ensures taken { self.new.taken ≡ self.old.taken }
         ensures written { puts self.old bytes.now result self.new }
+        ensures full { IfErr result (λ e. e ≡ Error.TooLong) }
     {
         if bytes.len() > self.out.capacity() - self.out.len() {
             return Err(Error::TooLong);
@@ -121,6 +122,7 @@ impl Output {
         ensures kept { Kept self.old self.new }
         ensures taken { self.new.taken ≡ self.old.taken }
         ensures written { puts self.old bytes.now result self.new }
+        ensures full { IfErr result (λ e. e ≡ Error.TooLong) }
     {
         if bytes.len() > self.out.capacity() - self.out.len() {
             return Err(Error::TooLong);
@@ -138,6 +140,7 @@ impl Output {
         ensures kept { Kept self.old self.new }
         ensures taken { self.new.taken ≡ self.old.taken }
         ensures written { puts self.old (form_bytes form) result self.new }
+        ensures full { IfErr result (λ e. e ≡ Error.TooLong) }
     {
         let [a, b, c, d, e, f, g, h] = form.bits.to_be_bytes();
         match form.width {
@@ -160,6 +163,7 @@ impl Output {
         ensures kept { Kept self.old self.new }
         ensures taken { self.new.taken ≡ self.old.taken }
         ensures written { puts self.old (form_payload form) result self.new }
+        ensures full { IfErr result (λ e. e ≡ Error.TooLong) }
     {
         let bytes = form.bits.to_be_bytes();
         self.put(&bytes[8 - form.width..])
@@ -171,6 +175,7 @@ impl Output {
         ensures kept { Kept self.old self.new }
         ensures taken { self.new.taken ≡ self.old.taken }
         ensures written { puts self.old (pick in_array (scalar_form (fixed_scalar fixed)) (scalar_payload (fixed_scalar fixed))) result self.new }
+        ensures full { IfErr result (λ e. e ≡ Error.TooLong) }
     {
         if in_array {
             self.put_payload(Form::in_array(fixed))
@@ -186,6 +191,7 @@ impl Output {
         ensures kept { Kept self.old self.new }
         ensures taken { self.new.taken ≡ self.old.taken }
         ensures written { puts self.old (text_head in_array short long n) result self.new }
+        ensures full { IfErr result (λ e. e ≡ Error.TooLong) }
     {
         let [a, b, c, d] = (n as u32).to_be_bytes();
         if in_array {
@@ -211,6 +217,7 @@ impl Output {
         ensures kept { Kept self.old self.new }
         ensures taken { self.new.taken ≡ self.old.taken }
         ensures written { puts self.old (text_at in_array short long bytes.now) result self.new }
+        ensures full { IfErr result (λ e. e ≡ Error.TooLong) }
     {
         self.put_length(in_array, short, long, bytes.len())?;
         self.put(bytes)
@@ -222,6 +229,7 @@ impl Output {
         ensures kept { Kept self.old self.new }
         ensures taken { self.new.taken ≡ self.old.taken }
         ensures written { puts self.old (pick in_array (code ∷ bytes.now) bytes.now) result self.new }
+        ensures full { IfErr result (λ e. e ≡ Error.TooLong) }
     {
         if !in_array {
             self.put_few(&[code])?;

@@ -113,10 +113,11 @@ impl Table {
     #[inline(always)]
     pub fn open(&mut self, shape: Shape) -> bool
         ensures appended { appended (places shape) self.old.headers.items result self.new.headers.items }
+        ensures none { places shape ≡ 0 → self.new.headers.items ≡ self.old.headers.items }
         ensures refused { self.new.refused ≡ (self.old.refused || result) }
     {
         match shape {
-            Shape::Refused => false,
+            Shape::Refused | Shape::Transparent | Shape::Bare => false,
             Shape::Fields(_) => {
                 if self.append() {
                     return true;
@@ -145,10 +146,11 @@ impl Table {
         requires { header.len ≤ 4294967291 }
         ensures filled { made_fits shape header.len → at + places shape ≤ length self.old.headers.items →
             self.new.headers.items ≡ fills (made shape header) at self.old.headers.items }
+        ensures none { places shape ≡ 0 → self.new.headers.items ≡ self.old.headers.items }
         ensures refused { self.new.refused ≡ self.old.refused }
     {
         match shape {
-            Shape::Refused => {}
+            Shape::Refused | Shape::Transparent | Shape::Bare => {}
             Shape::Only(index) => self.put(
                 at,
                 Header {

@@ -1,5 +1,7 @@
 //! What no contract states: bytes from the encoding tables, worked by hand, and what is left of a refusal.
 
+mod described;
+mod feeding;
 mod memory;
 mod refused;
 mod rows;

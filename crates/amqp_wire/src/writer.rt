@@ -1,15 +1,19 @@
 //! The second walk: the bytes, into room that stands ready.
 
-ghost use Rattle.std.specs.Prelude.{◌≡◌, ◌++◌, ◌∷◌, [], List, Option, Some, None, Result, Ok, Err, MatchResult, true, false};
+ghost use Rattle.std.specs.Prelude.{◌≡◌, ◌++◌, ◌∷◌, [], List, Option, Some, None, Result, Ok, Err, MatchResult, IfErr, IsErr, is_some, is_err, true, false};
 ghost use Rattle.amqp_ser.specs.Tree.{Tree};
+ghost use Rattle.amqp_ser.specs.Tree.{scalar};
+ghost use Rattle.amqp_ser.specs.Fixed.{fixed_scalar};
+ghost use Rattle.amqp_ser.specs.Composites.{descriptor_of};
 ghost use Rattle.amqp_wire.specs.Heads.{in_array};
+ghost use Rattle.amqp_wire.specs.Standing.{at_descriptor, takes_described, opened_as};
 
 use crate::output::{Output, Position};
 use crate::table::Header;
 use amqp_data::Error;
 use amqp_ser::{Fixed, Kind, Mark, Serializer};
 use amqp_size::width::LONGEST;
-use amqp_size::{Place, ScalarMark, Under};
+use amqp_size::{Place, ScalarMark, Shape, Under};
 
 /// Writes values into room that stands ready, with the headers of a table.
 ///
@@ -25,7 +29,8 @@ pub struct Writer {
 #[derive(Drop)]
 pub struct Writing {
     place: Place,
-    inner: Place,
+    /// Where the next part stands.
+    inner: Under,
     /// Where the output stood before the part that is next or under way.
     part: Position,
     /// Where it stood before the last part that was taken.
@@ -39,6 +44,48 @@ fn in_array(place: Place) -> bool
     ensures { result ≡ in_array place }
 {
     matches!(place, Place::First | Place::Element(_))
+}
+
+/// Whether only a descriptor is taken there.
+#[inline(always)]
+fn at_descriptor(place: Place) -> bool
+    ensures { result ≡ at_descriptor place }
+{
+    matches!(place, Place::Descriptor)
+}
+
+/// Whether a value of fixed width is a descriptor.
+#[inline(always)]
+fn is_descriptor(fixed: Fixed) -> bool
+    ensures { result ≡ is_some (descriptor_of (Some (scalar (fixed_scalar fixed)))) }
+{
+    matches!(fixed, Fixed::Ulong(_))
+}
+
+/// Whether a described value can be written there.
+#[inline(always)]
+fn takes_described(under: Under) -> bool
+    ensures { result ≡ takes_described under }
+{
+    matches!(
+        under,
+        Under::Plain(Place::Root | Place::Inside | Place::Value(_, _))
+    )
+}
+
+/// What is opened there: a transparent vector at the root alone, and no compound as a descriptor.
+#[inline(always)]
+fn opened_as(under: Under, kind: Kind) -> Shape
+    ensures { result ≡ opened_as under kind }
+{
+    match under.outer() {
+        Place::Root => under.shape(kind),
+        Place::Descriptor => Shape::Refused,
+        _ => match under.shape(kind) {
+            Shape::Transparent => Shape::Refused,
+            shape => shape,
+        },
+    }
 }
 
 impl Writer {
@@ -76,10 +123,14 @@ impl Writer {
     fn exact(&mut self, place: Place, code: u8, bytes: &[u8]) -> Result<(), Error>
         ensures kept { Kept self.old.output self.new.output }
         ensures taken { self.new.output.taken ≡ self.old.output.taken }
-        ensures written { puts self.old.output (pick (in_array place) (code ∷ bytes.now) bytes.now) result self.new.output }
+        ensures written { at_descriptor place ≡ false → puts self.old.output (pick (in_array place) (code ∷ bytes.now) bytes.now) result self.new.output }
+        ensures refused { at_descriptor place ≡ true → is_err result ≡ true }
         ensures place { self.new.place ≡ Plain place }
     {
         self.place = Under::Plain(place);
+        if at_descriptor(place) {
+            return Err(Error::InvalidValue);
+        }
         self.output.put_exact(in_array(place), code, bytes)
     }
 
@@ -97,8 +148,9 @@ impl Writer {
 
 impl Serializer for Writer {
     ghost use Rattle.amqp_data.specs.declared.error.Error.TheVariants.{InvalidValue};
-    ghost use Rattle.amqp_wire.specs.Written.{writer_permits, writer_has, writer_awaits};
+    ghost use Rattle.amqp_wire.specs.Written.{writer_permits, writer_has, writer_awaits, AwaitsDescriptor};
     ghost use Rattle.amqp_ser.specs.Compounds.{whole};
+    ghost use Rattle.amqp_ser.specs.Composites.{as_described};
     ghost use Rattle.amqp_ser.specs.declared.kind.Kind.{Kind};
 
     type Ok = ();
@@ -113,12 +165,19 @@ impl Serializer for Writer {
 
     ghost awaits = { writer_awaits };
 
+    ghost awaits_descriptor = { AwaitsDescriptor };
+
     ghost is_misuse = { λ e. e ≡ InvalidValue };
 
     #[inline(always)]
     fn serialize_fixed(&mut self, fixed: Fixed) -> Result<(), Error> {
         match self.place {
-            Under::Plain(place) => self.output.put_fixed(in_array(place), fixed),
+            Under::Plain(place) => {
+                if at_descriptor(place) && !is_descriptor(fixed) {
+                    return self.refuse();
+                }
+                self.output.put_fixed(in_array(place), fixed)
+            }
             Under::Scalar(ScalarMark::Timestamp, place) => match fixed {
                 Fixed::Long(v) => { self.exact(place, 0x83, &v.to_be_bytes()) }
                 _ => self.refuse(),
@@ -133,7 +192,7 @@ impl Serializer for Writer {
             return self.refuse();
         }
         match self.place {
-            Under::Plain(place) => self
+            Under::Plain(place) if !at_descriptor(place) => self
                 .output
                 .put_text(in_array(place), 0xa1, 0xb1, v.as_bytes()),
             Under::Scalar(ScalarMark::Symbol, place) => {
@@ -151,7 +210,9 @@ impl Serializer for Writer {
             return self.refuse();
         }
         match self.place {
-            Under::Plain(place) => self.output.put_text(in_array(place), 0xa0, 0xb0, v),
+            Under::Plain(place) if !at_descriptor(place) => self
+                .output
+                .put_text(in_array(place), 0xa0, 0xb0, v),
             Under::Scalar(ScalarMark::Decimal32, place) if v.len() == 4 => self.exact(
                 place, 0x74, v,
             ),
@@ -173,14 +234,25 @@ impl Serializer for Writer {
 
     #[inline(always)]
     fn begin(&mut self, kind: Kind) -> Writing {
-        let place = self.place.outer();
-        let shape = self.place.shape(kind);
+        let under = self.place;
+        let place = under.outer();
         self.place = Under::Plain(place);
+        if let Kind::Bare = kind {
+            let position = self.output.position();
+            return Writing {
+                place,
+                inner: under,
+                part: position,
+                last: position,
+                refused: false,
+            };
+        }
+        let shape = opened_as(under, kind);
         let refused = self.output.open(in_array(place), shape).is_err();
         let position = self.output.position();
         Writing {
             place,
-            inner: shape.inner(),
+            inner: shape.inner(under),
             part: position,
             last: position,
             refused,
@@ -190,16 +262,17 @@ impl Serializer for Writer {
     #[inline(always)]
     fn begin_part(&mut self, held: &mut Writing) {
         held.part = self.output.position();
-        self.place = Under::Plain(held.inner);
+        self.place = held.inner;
     }
 
     #[inline(always)]
     fn end_part(&mut self, held: &mut Writing, part: Result<(), Error>) -> Result<(), Error>
-        ensures { (start : Writer) (kind : Kind) (before : Writer) (ps : List (Option Tree)) (p : Option Tree) → writer_awaits start kind before held.old ps → writer_permits before p part self.old →
+        ensures step { (start : Writer) (kind : Kind) (before : Writer) (ps : List (Option Tree)) (p : Option Tree) → writer_awaits start kind before held.old ps → writer_permits before p part self.old →
             MatchResult result
             (λ _. writer_has start kind self.new held.new (ps ++ (p ∷ [])))
             (λ e. writer_has start kind self.new held.new ps × ((rest : List (Option Tree)) →
             writer_permits start (whole kind (ps ++ (p ∷ rest))) (Err e) self.new)) }
+        ensures refused { IfErr part (λ _. IsErr result) }
     {
         self.place = Under::Plain(held.place);
         if held.refused {
@@ -211,6 +284,39 @@ impl Serializer for Writer {
                 held.last = held.part;
                 Ok(())
             }
+            Err(e) => {
+                self.output.restore(held.part);
+                Err(e)
+            }
+        }
+    }
+
+    #[inline(always)]
+    fn begin_descriptor(&mut self, held: &mut Writing) {
+        held.part = self.output.position();
+        self.place = Under::Nothing(Place::Descriptor);
+        if !takes_described(held.inner) {
+            return;
+        }
+        if self.output.put_few(&[0x00]).is_err() {
+            return;
+        }
+        self.place = Under::Plain(Place::Descriptor);
+    }
+
+    #[inline(always)]
+    fn end_descriptor(&mut self, held: &mut Writing, part: Result<(), Error>) -> Result<(), Error>
+        ensures { (start before : Writer) (d : Option Tree) → AwaitsDescriptor start before held.old → writer_permits before d part self.old →
+            MatchResult result
+            (λ _. (mid : Writer) × (writer_has mid Kind.Bare self.new held.new [] × ((t : Option Tree) (r : Result (Unit {0}) Error) (after : Writer) →
+            writer_permits mid t r after → writer_permits start (as_described (descriptor_of d) t) r after)))
+            (λ e. writer_has start Kind.Bare self.new held.new [] × ((t : Option Tree) →
+            writer_permits start (as_described (descriptor_of d) t) (Err e) self.new)) }
+    {
+        let place = held.place;
+        self.place = Under::Plain(place);
+        match part {
+            Ok(()) => Ok(()),
             Err(e) => {
                 self.output.restore(held.part);
                 Err(e)

@@ -1,6 +1,7 @@
 //! The counter on values whose nodes are counted by hand.
 
 use super::{Reading, count_nodes};
+use amqp_data::{Described, Descriptor};
 use std::test::Fail;
 
 #[test]
@@ -21,5 +22,22 @@ fn nodes_of_three_fields(rt: HostRuntime) -> Result<(), Fail> {
         degrees: -125,
     };
     assert_eq!(rt; count_nodes(&reading), Ok(4));
+    Ok(())
+}
+
+#[test]
+fn nodes_of_described_values(rt: HostRuntime) -> Result<(), Fail> {
+    let described = Described {
+        descriptor: Descriptor::Code(1),
+        value: vec![in rt.alloc(); "a", "bc"]?,
+    };
+    assert_eq!(rt; count_nodes(&described), Ok(4));
+    let again = Described {
+        descriptor: Descriptor::Code(2),
+        value: described,
+    };
+    assert_eq!(rt; count_nodes(&again), Ok(5));
+    let list = vec![in rt.alloc(); again]?;
+    assert_eq!(rt; count_nodes(&list), Ok(6));
     Ok(())
 }

@@ -1,13 +1,14 @@
 //! Structs: a descriptor, if there is one, and a body of fields.
 
-ghost use Rattle.std.specs.Prelude.{◌≡◌, ◌++◌, ◌||◌, [], List, Option, Some, None, Err, Result, MatchResult, IfOk, IfErr, IsErr, not, true, false};
-ghost use Rattle.amqp_ser.specs.Tree.{Tree};
-ghost use Rattle.amqp_ser.specs.Compounds.{whole, complete, paired};
+ghost use Rattle.std.specs.Prelude.{◌≡◌, ◌++◌, ◌∷◌, ◌||◌, [], List, Option, Some, None, Err, Result, MatchResult, IfOk, IfErr, IsErr, not, true, false};
+ghost use Rattle.amqp_ser.specs.Tree.{Tree, scalar, string};
+ghost use Rattle.amqp_ser.specs.Compounds.{whole, paired};
 ghost use Rattle.amqp_ser.specs.Composites.{as_described, descriptor_of};
 ghost use Rattle.amqp_ser.specs.Marked.{is_descriptor};
-ghost use Rattle.amqp_ser.specs.Structs.{Stands, body_kind, open_kind, field_parts, fronted, is_misplaced};
+ghost use Rattle.amqp_ser.specs.Structs.{Stands, body_kind, open_kind, fronted, is_misplaced};
 
-use crate::body::{Body, end_fields, feed_descriptor, feed_field, feed_first};
+use crate::body::{Body, end_fields, feed_alone, feed_descriptor, feed_first};
+use crate::compound::feed::{feed_entry, feed_part};
 use crate::kind::Kind;
 use crate::mark::is_descriptor_key;
 use crate::serialize::Serialize;
@@ -86,6 +87,7 @@ impl<'a, S: Serializer> SerializeStruct<'a, S> {
     /// # Errors
     /// The serializer's refusal of the field, of a descriptor that is no ulong and no symbol, of a second or late
     /// descriptor, or of a second field where there is one alone; the struct is then as it was and may be fed on.
+    #[tactic(auto, unfolding(crate::specs::Structs::Stands))]
     #[inline(always)]
     pub fn serialize_field<T: Serialize>(
         &mut self,
@@ -103,18 +105,35 @@ impl<'a, S: Serializer> SerializeStruct<'a, S> {
             (λ _. Stands S.permits S.has start (Some (T.tree value.now)) Kind.Bare self.new.serializer.now self.new.held [])
             (λ e. Stands S.permits S.has start None Kind.Bare self.new.serializer.now self.new.held [] × ((t : Option Tree) →
             S.permits start (as_described (descriptor_of (T.tree value.now)) t) (Err e) self.new.serializer.now)) }
-        ensures first { is_descriptor key.now ≡ false → self.old.opened ≡ false → (start : S) (front : Option (Option Tree)) →
+        ensures first_of_list { is_descriptor key.now ≡ false → self.old.opened ≡ false → self.old.body ≡ Body.List → (start : S) (front : Option (Option Tree)) →
             Stands S.permits S.has start front Kind.Bare self.old.serializer.now self.old.held [] →
             MatchResult result
-            (λ _. Stands S.permits S.has start front (body_kind self.old.body) self.new.serializer.now self.new.held (field_parts self.old.body key.now (T.tree value.now)))
+            (λ _. Stands S.permits S.has start front Kind.List self.new.serializer.now self.new.held (T.tree value.now ∷ []))
             (λ e. Stands S.permits S.has start front Kind.Bare self.new.serializer.now self.new.held [] × ((rest : List (Option Tree)) →
-            S.permits start (fronted front (whole (body_kind self.old.body) (field_parts self.old.body key.now (T.tree value.now) ++ rest))) (Err e) self.new.serializer.now)) }
-        ensures more { is_descriptor key.now ≡ false → self.old.opened ≡ true → (self.old.body ≡ Body.Bare → ⊥) → (start : S) (front : Option (Option Tree)) (ps : List (Option Tree)) →
-            Stands S.permits S.has start front (body_kind self.old.body) self.old.serializer.now self.old.held ps → (self.old.body ≡ Body.Map → paired ps ≡ true) →
+            S.permits start (fronted front (whole Kind.List (T.tree value.now ∷ rest))) (Err e) self.new.serializer.now)) }
+        ensures next_of_list { is_descriptor key.now ≡ false → self.old.opened ≡ true → self.old.body ≡ Body.List → (start : S) (front : Option (Option Tree)) (ps : List (Option Tree)) →
+            Stands S.permits S.has start front Kind.List self.old.serializer.now self.old.held ps →
             MatchResult result
-            (λ _. Stands S.permits S.has start front (body_kind self.old.body) self.new.serializer.now self.new.held (ps ++ field_parts self.old.body key.now (T.tree value.now)))
-            (λ e. Stands S.permits S.has start front (body_kind self.old.body) self.new.serializer.now self.new.held ps × ((rest : List (Option Tree)) →
-            S.permits start (fronted front (whole (body_kind self.old.body) (ps ++ (field_parts self.old.body key.now (T.tree value.now) ++ rest)))) (Err e) self.new.serializer.now)) }
+            (λ _. Stands S.permits S.has start front Kind.List self.new.serializer.now self.new.held (ps ++ (T.tree value.now ∷ [])))
+            (λ e. Stands S.permits S.has start front Kind.List self.new.serializer.now self.new.held ps × ((rest : List (Option Tree)) →
+            S.permits start (fronted front (whole Kind.List (ps ++ (T.tree value.now ∷ rest)))) (Err e) self.new.serializer.now)) }
+        ensures first_of_map { is_descriptor key.now ≡ false → self.old.opened ≡ false → self.old.body ≡ Body.Map → (start : S) (front : Option (Option Tree)) →
+            Stands S.permits S.has start front Kind.Bare self.old.serializer.now self.old.held [] →
+            MatchResult result
+            (λ _. Stands S.permits S.has start front Kind.Map self.new.serializer.now self.new.held (Some (scalar (string key.now)) ∷ (T.tree value.now ∷ [])))
+            (λ e. Stands S.permits S.has start front Kind.Bare self.new.serializer.now self.new.held [] × ((rest : List (Option Tree)) →
+            S.permits start (fronted front (whole Kind.Map (Some (scalar (string key.now)) ∷ (T.tree value.now ∷ rest)))) (Err e) self.new.serializer.now)) }
+        ensures next_of_map { is_descriptor key.now ≡ false → self.old.opened ≡ true → self.old.body ≡ Body.Map → (start : S) (front : Option (Option Tree)) (ps : List (Option Tree)) →
+            Stands S.permits S.has start front Kind.Map self.old.serializer.now self.old.held ps → paired ps ≡ true →
+            MatchResult result
+            (λ _. Stands S.permits S.has start front Kind.Map self.new.serializer.now self.new.held (ps ++ (Some (scalar (string key.now)) ∷ (T.tree value.now ∷ []))))
+            (λ e. Stands S.permits S.has start front Kind.Map self.new.serializer.now self.new.held ps × ((rest : List (Option Tree)) →
+            S.permits start (fronted front (whole Kind.Map (ps ++ (Some (scalar (string key.now)) ∷ (T.tree value.now ∷ rest))))) (Err e) self.new.serializer.now)) }
+        ensures alone { is_descriptor key.now ≡ false → self.old.opened ≡ false → self.old.body ≡ Body.Bare → (start : S) (front : Option (Option Tree)) →
+            Stands S.permits S.has start front Kind.Bare self.old.serializer.now self.old.held [] →
+            MatchResult result
+            (λ _. Stands S.permits S.has start front Kind.Bare self.new.serializer.now self.new.held (T.tree value.now ∷ []))
+            (λ e. Stands S.permits S.has start front Kind.Bare self.new.serializer.now self.new.held [] × S.permits start (fronted front (T.tree value.now)) (Err e) self.new.serializer.now) }
         ensures misuse { is_misplaced self.old.body self.old.described self.old.opened (is_descriptor key.now) ≡ true → IsErr result × ((start : S) (front : Option (Option Tree)) (ps : List (Option Tree)) →
             Stands S.permits S.has start front (open_kind self.old.opened self.old.body) self.old.serializer.now self.old.held ps →
             IfErr result (λ e. Stands S.permits S.has start front (open_kind self.old.opened self.old.body) self.new.serializer.now self.new.held ps × S.permits start None (Err e) self.new.serializer.now)) }
@@ -130,9 +149,16 @@ impl<'a, S: Serializer> SerializeStruct<'a, S> {
             return Ok(());
         }
         if self.opened {
-            return feed_field(&mut *self.serializer, &mut self.held, self.body, key, value);
+            return match self.body {
+                Body::Map => feed_entry(&mut *self.serializer, &mut self.held, &key, value),
+                _ => feed_part(&mut *self.serializer, &mut self.held, value),
+            };
         }
-        feed_first(&mut *self.serializer, &mut self.held, self.body, key, value)?;
+        match self.body {
+            Body::List => feed_first(&mut *self.serializer, &mut self.held, false, key, value)?,
+            Body::Map => feed_first(&mut *self.serializer, &mut self.held, true, key, value)?,
+            Body::Bare => feed_alone(&mut *self.serializer, &mut self.held, value)?,
+        }
         self.opened = true;
         Ok(())
     }
@@ -141,14 +167,17 @@ impl<'a, S: Serializer> SerializeStruct<'a, S> {
     ///
     /// # Errors
     /// The serializer's refusal of that tree, or of no field where there is one alone.
+    #[tactic(auto, unfolding(crate::specs::Structs::Stands))]
     #[inline(always)]
     pub fn end(self) -> Result<S::Ok, S::Error>
-        ensures ended { self.entry.opened ≡ true → (start : S) (front : Option (Option Tree)) (ps : List (Option Tree)) →
-            Stands S.permits S.has start front (body_kind self.entry.body) self.entry.serializer.now self.entry.held ps → complete (body_kind self.entry.body) ps ≡ true →
-            S.permits start (fronted front (whole (body_kind self.entry.body) ps)) result self.exit.0.now }
+        ensures list { self.entry.opened ≡ true → self.entry.body ≡ Body.List → (start : S) (front : Option (Option Tree)) (ps : List (Option Tree)) →
+            Stands S.permits S.has start front Kind.List self.entry.serializer.now self.entry.held ps → S.permits start (fronted front (whole Kind.List ps)) result self.exit.0.now }
+        ensures map { self.entry.opened ≡ true → self.entry.body ≡ Body.Map → (start : S) (front : Option (Option Tree)) (ps : List (Option Tree)) →
+            Stands S.permits S.has start front Kind.Map self.entry.serializer.now self.entry.held ps → paired ps ≡ true → S.permits start (fronted front (whole Kind.Map ps)) result self.exit.0.now }
+        ensures alone { self.entry.opened ≡ true → self.entry.body ≡ Body.Bare → (start : S) (front : Option (Option Tree)) (p : Option Tree) →
+            Stands S.permits S.has start front Kind.Bare self.entry.serializer.now self.entry.held (p ∷ []) → S.permits start (fronted front p) result self.exit.0.now }
         ensures empty { self.entry.opened ≡ false → (start : S) (front : Option (Option Tree)) →
-            Stands S.permits S.has start front Kind.Bare self.entry.serializer.now self.entry.held [] →
-            S.permits start (fronted front (whole (body_kind self.entry.body) [])) result self.exit.0.now }
+            Stands S.permits S.has start front Kind.Bare self.entry.serializer.now self.entry.held [] → S.permits start (fronted front (whole (body_kind self.entry.body) [])) result self.exit.0.now }
         ensures invalid { self.entry.opened ≡ false → self.entry.body ≡ Body.Bare → IsErr result × IfErr result S.is_misuse }
     {
         let SerializeStruct {

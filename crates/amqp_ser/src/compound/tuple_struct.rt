@@ -2,11 +2,11 @@
 
 ghost use Rattle.std.specs.Prelude.{◌≡◌, ◌++◌, ◌∷◌, [], List, Option, Some, None, Err, Result, MatchResult, IfOk, IfErr, IsErr, ◌&&◌, ◌||◌, not, true, false};
 ghost use Rattle.amqp_ser.specs.Tree.{Tree};
-ghost use Rattle.amqp_ser.specs.Compounds.{whole, complete};
+ghost use Rattle.amqp_ser.specs.Compounds.{whole};
 ghost use Rattle.amqp_ser.specs.Composites.{as_described, descriptor_of};
 ghost use Rattle.amqp_ser.specs.Structs.{Stands, bare_or_list, body_kind, open_kind, fronted, is_misplaced};
 
-use crate::body::{bare_or_list, end_fields, feed_descriptor, feed_unnamed};
+use crate::body::{Body, end_fields, feed_alone, feed_descriptor, feed_first};
 use crate::compound::feed::feed_part;
 use crate::kind::Kind;
 use crate::serialize::Serialize;
@@ -79,6 +79,7 @@ impl<'a, S: Serializer> SerializeTupleStruct<'a, S> {
     /// # Errors
     /// The serializer's refusal of the field, of a descriptor that is no ulong and no symbol, or of a second field
     /// where there is one alone; the struct is then as it was and may be fed on.
+    #[tactic(auto, unfolding(crate::specs::Structs::Stands))]
     #[inline(always)]
     pub fn serialize_field<T: Serialize>(&mut self, value: &T) -> Result<(), S::Error>
         ensures same { self.new.serializer.ghost_name ≡ self.old.serializer.ghost_name }
@@ -91,18 +92,23 @@ impl<'a, S: Serializer> SerializeTupleStruct<'a, S> {
             (λ _. Stands S.permits S.has start (Some (T.tree value.now)) Kind.Bare self.new.serializer.now self.new.held [])
             (λ e. Stands S.permits S.has start None Kind.Bare self.new.serializer.now self.new.held [] × ((t : Option Tree) →
             S.permits start (as_described (descriptor_of (T.tree value.now)) t) (Err e) self.new.serializer.now)) }
-        ensures first { self.old.awaits ≡ false → self.old.opened ≡ false → (start : S) (front : Option (Option Tree)) →
+        ensures first { self.old.awaits ≡ false → self.old.opened ≡ false → self.old.bare ≡ false → (start : S) (front : Option (Option Tree)) →
             Stands S.permits S.has start front Kind.Bare self.old.serializer.now self.old.held [] →
             MatchResult result
-            (λ _. Stands S.permits S.has start front (body_kind (bare_or_list self.old.bare)) self.new.serializer.now self.new.held (T.tree value.now ∷ []))
+            (λ _. Stands S.permits S.has start front Kind.List self.new.serializer.now self.new.held (T.tree value.now ∷ []))
             (λ e. Stands S.permits S.has start front Kind.Bare self.new.serializer.now self.new.held [] × ((rest : List (Option Tree)) →
-            S.permits start (fronted front (whole (body_kind (bare_or_list self.old.bare)) (T.tree value.now ∷ rest))) (Err e) self.new.serializer.now)) }
-        ensures more { self.old.awaits ≡ false → self.old.opened ≡ true → self.old.bare ≡ false → (start : S) (front : Option (Option Tree)) (ps : List (Option Tree)) →
-            Stands S.permits S.has start front (body_kind (bare_or_list self.old.bare)) self.old.serializer.now self.old.held ps →
+            S.permits start (fronted front (whole Kind.List (T.tree value.now ∷ rest))) (Err e) self.new.serializer.now)) }
+        ensures next { self.old.awaits ≡ false → self.old.opened ≡ true → self.old.bare ≡ false → (start : S) (front : Option (Option Tree)) (ps : List (Option Tree)) →
+            Stands S.permits S.has start front Kind.List self.old.serializer.now self.old.held ps →
             MatchResult result
-            (λ _. Stands S.permits S.has start front (body_kind (bare_or_list self.old.bare)) self.new.serializer.now self.new.held (ps ++ (T.tree value.now ∷ [])))
-            (λ e. Stands S.permits S.has start front (body_kind (bare_or_list self.old.bare)) self.new.serializer.now self.new.held ps × ((rest : List (Option Tree)) →
-            S.permits start (fronted front (whole (body_kind (bare_or_list self.old.bare)) (ps ++ (T.tree value.now ∷ rest)))) (Err e) self.new.serializer.now)) }
+            (λ _. Stands S.permits S.has start front Kind.List self.new.serializer.now self.new.held (ps ++ (T.tree value.now ∷ [])))
+            (λ e. Stands S.permits S.has start front Kind.List self.new.serializer.now self.new.held ps × ((rest : List (Option Tree)) →
+            S.permits start (fronted front (whole Kind.List (ps ++ (T.tree value.now ∷ rest)))) (Err e) self.new.serializer.now)) }
+        ensures alone { self.old.awaits ≡ false → self.old.opened ≡ false → self.old.bare ≡ true → (start : S) (front : Option (Option Tree)) →
+            Stands S.permits S.has start front Kind.Bare self.old.serializer.now self.old.held [] →
+            MatchResult result
+            (λ _. Stands S.permits S.has start front Kind.Bare self.new.serializer.now self.new.held (T.tree value.now ∷ []))
+            (λ e. Stands S.permits S.has start front Kind.Bare self.new.serializer.now self.new.held [] × S.permits start (fronted front (T.tree value.now)) (Err e) self.new.serializer.now) }
         ensures misuse { (not self.old.awaits && is_misplaced (bare_or_list self.old.bare) true self.old.opened false) ≡ true → IsErr result × ((start : S) (front : Option (Option Tree)) (ps : List (Option Tree)) →
             Stands S.permits S.has start front (open_kind self.old.opened (bare_or_list self.old.bare)) self.old.serializer.now self.old.held ps →
             IfErr result (λ e. Stands S.permits S.has start front (open_kind self.old.opened (bare_or_list self.old.bare)) self.new.serializer.now self.new.held ps × S.permits start None (Err e) self.new.serializer.now)) }
@@ -119,7 +125,11 @@ impl<'a, S: Serializer> SerializeTupleStruct<'a, S> {
             }
             return feed_part(&mut *self.serializer, &mut self.held, value);
         }
-        feed_unnamed(&mut *self.serializer, &mut self.held, self.bare, value)?;
+        if self.bare {
+            feed_alone(&mut *self.serializer, &mut self.held, value)?;
+        } else {
+            feed_first(&mut *self.serializer, &mut self.held, false, "", value)?;
+        }
         self.opened = true;
         Ok(())
     }
@@ -128,14 +138,15 @@ impl<'a, S: Serializer> SerializeTupleStruct<'a, S> {
     ///
     /// # Errors
     /// The serializer's refusal of that tree, or of no field where there is one alone.
+    #[tactic(auto, unfolding(crate::specs::Structs::Stands))]
     #[inline(always)]
     pub fn end(self) -> Result<S::Ok, S::Error>
-        ensures ended { self.entry.opened ≡ true → (start : S) (front : Option (Option Tree)) (ps : List (Option Tree)) →
-            Stands S.permits S.has start front (body_kind (bare_or_list self.entry.bare)) self.entry.serializer.now self.entry.held ps → complete (body_kind (bare_or_list self.entry.bare)) ps ≡ true →
-            S.permits start (fronted front (whole (body_kind (bare_or_list self.entry.bare)) ps)) result self.exit.0.now }
+        ensures list { self.entry.opened ≡ true → self.entry.bare ≡ false → (start : S) (front : Option (Option Tree)) (ps : List (Option Tree)) →
+            Stands S.permits S.has start front Kind.List self.entry.serializer.now self.entry.held ps → S.permits start (fronted front (whole Kind.List ps)) result self.exit.0.now }
+        ensures alone { self.entry.opened ≡ true → self.entry.bare ≡ true → (start : S) (front : Option (Option Tree)) (p : Option Tree) →
+            Stands S.permits S.has start front Kind.Bare self.entry.serializer.now self.entry.held (p ∷ []) → S.permits start (fronted front p) result self.exit.0.now }
         ensures empty { self.entry.opened ≡ false → (start : S) (front : Option (Option Tree)) →
-            Stands S.permits S.has start front Kind.Bare self.entry.serializer.now self.entry.held [] →
-            S.permits start (fronted front (whole (body_kind (bare_or_list self.entry.bare)) [])) result self.exit.0.now }
+            Stands S.permits S.has start front Kind.Bare self.entry.serializer.now self.entry.held [] → S.permits start (fronted front (whole (body_kind (bare_or_list self.entry.bare)) [])) result self.exit.0.now }
         ensures invalid { self.entry.opened ≡ false → self.entry.bare ≡ true → IsErr result × IfErr result S.is_misuse }
     {
         let SerializeTupleStruct {
@@ -145,6 +156,7 @@ impl<'a, S: Serializer> SerializeTupleStruct<'a, S> {
             awaits: _,
             opened,
         } = self;
-        end_fields(serializer, held, bare_or_list(bare), opened)
+        let body = if bare { Body::Bare } else { Body::List };
+        end_fields(serializer, held, body, opened)
     }
 }

@@ -1,6 +1,6 @@
 //! A serializer that notes what it is called for.
 
-ghost use Rattle.std.specs.Prelude.{List, MatchResult, Option};
+ghost use Rattle.std.specs.Prelude.{IfErr, IsErr, List, MatchResult, Option, Result};
 ghost use Rattle.amqp_ser.specs.Tree.{Tree};
 
 use crate::{Fixed, Kind, Mark, Serialize, Serializer};
@@ -15,7 +15,19 @@ pub struct Calls {
 #[derive(Debug, PartialEq, Drop)]
 pub struct Refused;
 
+/// No calls yet.
+pub fn new_calls(alloc: Global) -> Calls {
+    Calls {
+        notes: String::new(alloc),
+    }
+}
+
 impl Calls {
+    /// The notes so far.
+    pub fn as_str(&self) -> &str {
+        self.notes.as_str()
+    }
+
     fn note(&mut self, text: &str) {
         drop(self.notes.push_str(text));
     }
@@ -33,6 +45,8 @@ impl Serializer for Calls {
     ghost has = { λ _ _ _ _ _. Unit {0} };
 
     ghost awaits = { λ _ _ _ _ _. Unit {0} };
+
+    ghost awaits_descriptor = { λ _ _ _. Unit {0} };
 
     ghost is_misuse = { λ _. Unit {0} };
 
@@ -89,6 +103,7 @@ impl Serializer for Calls {
             Kind::Map => "{",
             Kind::Fields(_) => "fields [",
             Kind::Only(_) => "only [",
+            Kind::Bare => "bare [",
         });
         kind
     }
@@ -98,13 +113,27 @@ impl Serializer for Calls {
     }
 
     fn end_part(&mut self, _held: &mut Kind, part: Result<(), Refused>) -> Result<(), Refused>
-        ensures { (start : Calls) (kind : Kind) (before : Calls) (ps : List (Option Tree)) (p : Option Tree) →
+        ensures step { (start : Calls) (kind : Kind) (before : Calls) (ps : List (Option Tree)) (p : Option Tree) →
             Unit {0} → Unit {0} → MatchResult result (λ _. Unit {0}) (λ e. Unit {0} × ((rest : List (Option Tree)) → Unit {0})) }
+        ensures refused { IfErr part (λ _. IsErr result) }
     {
         match part {
             Ok(()) => self.note(","),
             Err(_) => self.note("refused,"),
         }
+        part
+    }
+
+    fn begin_descriptor(&mut self, _held: &mut Kind) {
+        self.note(" by ");
+    }
+
+    fn end_descriptor(&mut self, _held: &mut Kind, part: Result<(), Refused>) -> Result<(), Refused>
+        ensures { (start before : Calls) (d : Option Tree) → Unit {0} → Unit {0} →
+            MatchResult result
+            (λ _. (mid : Calls) × (Unit {0} × ((t : Option Tree) (r : Result (Unit {0}) Refused) (after : Calls) → Unit {0} → Unit {0})))
+            (λ e. Unit {0} × ((t : Option Tree) → Unit {0})) }
+    {
         part
     }
 
@@ -128,9 +157,7 @@ impl Serializer for Calls {
 
 /// The calls that a value makes.
 pub fn calls_of<T: Serialize>(alloc: Global, value: &T) -> String {
-    let mut calls = Calls {
-        notes: String::new(alloc),
-    };
+    let mut calls = new_calls(alloc);
     drop(value.serialize(&mut calls));
     calls.notes
 }

@@ -77,30 +77,3 @@ impl Serialize for NoName {
         serializer.serialize_newtype_struct(markers::SYMBOL, &self.0)
     }
 }
-
-/// A struct with a descriptor: it has no tree.
-pub struct WithDescriptor(pub u64, pub bool);
-
-impl Serialize for WithDescriptor {
-    ghost tree = { λ _. None };
-
-    fn serialize<S: Serializer>(&self, serializer: &mut S) -> Result<S::Ok, S::Error> {
-        let mut fields = serializer.serialize_struct("WithDescriptor", 2)?;
-        fields.serialize_field(markers::DESCRIPTOR, &self.0)?;
-        fields.serialize_field("value", &self.1)?;
-        fields.end()
-    }
-}
-
-/// A described list: it has no tree.
-pub struct Described(pub u64);
-
-impl Serialize for Described {
-    ghost tree = { λ _. None };
-
-    fn serialize<S: Serializer>(&self, serializer: &mut S) -> Result<S::Ok, S::Error> {
-        let mut fields = serializer.serialize_tuple_struct(markers::DESCRIBED_LIST, 1)?;
-        fields.serialize_field(&self.0)?;
-        fields.end()
-    }
-}

@@ -9,7 +9,7 @@ use amqp_ser::{Mark, Serialize, Serializer};
 use std::test::Fail;
 
 /// A number that is marked as a symbol: it has no tree.
-struct NoTree;
+pub struct NoTree;
 
 impl Serialize for NoTree {
     ghost tree = { λ _. None };

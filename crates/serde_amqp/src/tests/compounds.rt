@@ -1,4 +1,4 @@
-//! Worked rows of lists, options, tuples, structs, arrays, maps and variants.
+//! Worked rows of lists, options, tuples, arrays and maps.
 
 use super::rows::{refused, row};
 use crate::{Error, Value, serialized_size, to_value, to_vec};

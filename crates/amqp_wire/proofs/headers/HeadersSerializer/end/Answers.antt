@@ -1,13 +1,17 @@
-use Rattle.std.proofs.Common.{◌≡◌, ◌+◌, ◌≤◌, length, refl, subst}
+use Rattle.std.proofs.Common.{◌≡◌, ◌+◌, ◌≤◌, length, inl, inr, refl, subst, ap, ◌∙◌}
 use Rattle.amqp_ser.specs.Compounds.{whole}
 use Rattle.amqp_size.specs.Place.{meant}
 use Rattle.amqp_size.specs.Counted.{size_permits}
 use Rattle.amqp_size.specs.declared.place.Shape.{Shape}
+use Rattle.amqp_size.specs.declared.place.Under.TheVariants.{Plain}
+use Rattle.amqp_size.proofs.Holding.{at_rest}
 use Rattle.amqp_wire.specs.Entries.{header, made, made_fits, places}
 use Rattle.amqp_wire.specs.Listed.{fills}
+use Rattle.amqp_wire.specs.Standing.{is_bare}
 use Rattle.amqp_wire.specs.declared.headers.Headers.{Headers}
 use Rattle.amqp_wire.specs.declared.headers.Counting.{Counting}
-use Rattle.amqp_wire.proofs.Listing.{all_listed, listed_extends}
+use Rattle.amqp_wire.proofs.Listing.{listed_extends}
+use Rattle.amqp_wire.proofs.Tabling.{tabled_extends, whole_tabled}
 use Rattle.amqp_wire.proofs.headers.HeadersSerializer.end.Goals as goal
 
 pub returns : goal.returns
@@ -16,6 +20,9 @@ returns c = λ start kind ps h done.
     let table = c.args.self.now.table.headers.items in
     let after : Headers = record { size = c.end.new.self; table = c.fill.new.self } in
     let p = subst (λ r. size_permits start.size (whole kind ps) r after.size) c.in_ok-len.was (c.end.ensures start.size kind ps h.0 done) in
-    let filled = subst (λ (s : Shape). made_fits s c.sum.result → held.at + places s ≤ length table → after.table.headers.items ≡ fills (made s (header c.sum.result held.parts c.constructor.result)) held.at table) c.shape-shape.ensures c.fill.ensures.filled in
-    let l = all_listed start kind table after held ps c.sum.result held.parts c.in_ok-len.len c.constructor.result h.0.0 h.1 c.if-missed.false c.sum.ensures.sum refl c.constructor.ensures filled p in
+    let n = c.limited.result in
+    let filled = subst (λ (s : Shape). made_fits s n → held.at + places s ≤ length table → after.table.headers.items ≡ fills (made s (header n held.parts c.constructor.result)) held.at table) c.shape-shape.ensures c.fill.ensures.filled in
+    let none = subst (λ (s : Shape). places s ≡ 0 → after.table.headers.items ≡ table) c.shape-shape.ensures c.fill.ensures.none in
+    let same = subst (λ x. x ≤ 4294967291 → n ≡ x) c.sum.ensures.sum c.limited.ensures.same in
+    let l = whole_tabled (is_bare kind) start kind table after held ps n held.parts c.in_ok-len.len c.constructor.result refl h.0.0 h.1 c.if-missed.false done same refl c.constructor.ensures filled none p in
     (listed_extends (meant start.size.place (whole kind ps)) start.table.headers.items after.table.headers.items l, (p, l))

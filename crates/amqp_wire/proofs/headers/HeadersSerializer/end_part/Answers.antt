@@ -1,34 +1,31 @@
 use Rattle.std.proofs.Common.{◌≡◌, ◌++◌, ◌∷◌, [], refl, subst, ap, ◌∙◌, take, arith}
-use Rattle.amqp_size.specs.Place.{meant}
-use Rattle.amqp_wire.specs.Listed.{listed}
+use Rattle.amqp_wire.specs.Standing.{is_bare}
 use Rattle.amqp_wire.specs.declared.headers.Headers.{Headers}
 use Rattle.amqp_wire.specs.declared.headers.Counting.{Counting}
 use Rattle.amqp_wire.proofs.Lists.{take_front}
-use Rattle.amqp_wire.proofs.Listing.{few_fed, part_listed, table_back, took, Took, refusal_of_part}
+use Rattle.amqp_wire.proofs.Listing.{took, Took, refusal_of_part}
+use Rattle.amqp_wire.proofs.Tabling.{part_tabled, tabled_back, tabled_extends}
 use Rattle.amqp_wire.proofs.headers.HeadersSerializer.end_part.Goals as goal
 
-pub returns-in-Ok : goal.returns-in-Ok
-returns-in-Ok c = λ start kind before ps p w r.
+pub returns-in-Ok-clause-step : goal.returns-in-Ok-clause-step
+returns-in-Ok-clause-step c = λ start kind before ps p w r.
     let old : Counting = c.args.held.now in
     let new : Counting = record { size = c.end_part.new.held; at = old.at; missed = old.missed; before = old.before; last = old.before; parts = c.saturating_add-held.result } in
     let t : Took before c.args.self.now old p c.answer-answer.result =
-    took before c.args.self.now old p c.args.part c.answer-answer.result c.end_part.result c.in-Ok.field-0 _ c.answer-answer.ensures r.1 c.in-Ok.is c.end_part.ensures.refused in
-    let part = subst (λ u. listed (meant u p) before.table.headers.items c.args.self.now.table.headers.items) w.0.0.1 t.part in
-    let step = c.in-Ok.ensures.step start.size kind before.size ps p w.0.0 t.permits in
-    let was = w.0.1.counted w.0.0.0.ts w.0.0.0.trees in (
-      step,
-      part_listed start kind before.table.headers.items c.args.self.now.table.headers.items old new ps p w.0.0.0.ts w.0.0.0.trees w.0.1 part t.present refl w.1
-          (few_fed start.size kind c.end_part.new.held (ps ++ (p ∷ [])) step.0) (λ fit. omega (arith, c.saturating_add-held.ensures)),
+    took before c.args.self.now old p c.args.part c.answer-answer.result c.end_part.result c.in-Ok.field-0 _ c.answer-answer.ensures r.1 c.in-Ok.is c.end_part.ensures.same in (
+      c.in-Ok.ensures.step start.size kind before.size ps p w.0.0 t.permits,
+      part_tabled (is_bare kind) start kind before.size.place before.table.headers.items c.args.self.now.table.headers.items old new ps p refl w.0.0.0 w.0.0.1 w.0.1 t.part t.present refl w.1
+          (λ fit. omega (arith, c.saturating_add-held.ensures)),
     )
 
-pub returns-in-Err : goal.returns-in-Err
-returns-in-Err c = λ start kind before ps p w r.
+pub returns-in-Err-clause-step : goal.returns-in-Err-clause-step
+returns-in-Err-clause-step c = λ start kind before ps p w r.
     let old : Counting = c.args.held.now in
     let cut : Headers = record { size = c.end_part.new.self; table = c.cut.new.self } in
     let new : Counting = record { size = c.end_part.new.held; at = old.at; missed = old.missed; before = old.before; last = old.last; parts = old.parts } in
     let same : cut.table.headers.items ≡ before.table.headers.items =
     c.cut.ensures.cut ∙ ap (take old.before) r.0.1 ∙ take_front before.table.headers.items r.0.0 old.before w.1 in
-    let back = table_back start kind before.table.headers.items cut.table.headers.items old new ps w.0.1 same refl refl refl refl in
+    let back = tabled_back (is_bare kind) start kind before.table.headers.items cut.table.headers.items old new ps w.0.1 same refl refl refl refl in
     let refused = refusal_of_part start before c.args.self.now cut kind old new ps p c.args.part c.answer-answer.result c.end_part.result c.in-Err.e w.0.0.0 c.answer-answer.ensures r.1
-    (c.in-Err.ensures.step start.size kind before.size ps p w.0.0) c.end_part.ensures.refused c.in-Err.is in
-    ((refused.0, back), λ rest. (back.extends, refused.1 rest))
+    (c.in-Err.ensures.step start.size kind before.size ps p w.0.0) c.end_part.ensures.same c.in-Err.is in
+    ((refused.0, back), λ rest. (tabled_extends (is_bare kind) start kind cut.table.headers.items new ps back, refused.1 rest))

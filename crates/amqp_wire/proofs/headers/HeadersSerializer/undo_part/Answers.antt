@@ -1,7 +1,9 @@
-use Rattle.std.proofs.Common.{inl, inr, refl, ap, ◌∙◌}
+use Rattle.std.proofs.Common.{inl, inr, [], ◌∷◌, ◌++◌, refl, ap, ◌∙◌}
+use Rattle.amqp_ser.specs.declared.kind.Kind.TheVariants as kinds
+use Rattle.amqp_size.proofs.Holding.{at_rest, map_of}
 use Rattle.amqp_size.specs.declared.place.Under.TheVariants.{Plain}
 use Rattle.amqp_wire.specs.declared.headers.Counting.{Counting}
-use Rattle.amqp_wire.proofs.Listing.{table_undone}
+use Rattle.amqp_wire.proofs.Listing.{few_fed, table_undone}
 use Rattle.amqp_wire.proofs.headers.HeadersSerializer.undo_part.Goals as goal
 
 pub returns-clause-back : goal.returns-clause-back
@@ -9,12 +11,18 @@ returns-clause-back c = λ start ps p h even.
     let old : Counting = c.args.held.now in
     let new : Counting = record { size = c.undo_part.new.held; at = old.at; missed = old.missed; before = old.before; last = old.last; parts = c.saturating_sub-held.result } in
     let s = c.undo_part.ensures.back start.size ps p h.0 even in
-    (s, table_undone start c.args.self.now.table.headers.items c.cut.new.self.headers.items old new ps p s.0.ts h.0.0.ts s.0.trees h.0.0.trees h.1 even c.cut.ensures.cut refl refl c.saturating_sub-held.ensures)
+    let was = map_of start.size old.size (ps ++ (p ∷ [])) h.0.0 in
+    let now = map_of start.size new.size ps s.0 in
+    let few = few_fed start.size kinds.Map old.size (ps ++ (p ∷ [])) was was.ts was.trees (h.1.solid_parts was.ts was.trees) in
+    (s, table_undone start c.args.self.now.table.headers.items c.cut.new.self.headers.items old new ps p now.ts was.ts now.trees was.trees h.1 few even c.cut.ensures.cut refl refl c.saturating_sub-held.ensures)
 
 pub returns-clause-refusals : goal.returns-clause-refusals
 returns-clause-refusals c = λ start ps p t e h even r.
     let old : Counting = c.args.held.now in
     let new : Counting = record { size = c.undo_part.new.held; at = old.at; missed = old.missed; before = old.before; last = old.last; parts = c.saturating_sub-held.result } in
     let s = c.undo_part.ensures.back start.size ps p h.0 even in
-    let back = table_undone start c.args.self.now.table.headers.items c.cut.new.self.headers.items old new ps p s.0.ts h.0.0.ts s.0.trees h.0.0.trees h.1 even c.cut.ensures.cut refl refl c.saturating_sub-held.ensures in
-    (back.extends, elim r.1 [ inl m ↦ inl (m.0, s.1 ∙ ap Plain s.0.place) | inr k ↦ inr (c.undo_part.ensures.refusals start.size ps p t e h.0 even k) ])
+    let was = map_of start.size old.size (ps ++ (p ∷ [])) h.0.0 in
+    let now = map_of start.size new.size ps s.0 in
+    let few = few_fed start.size kinds.Map old.size (ps ++ (p ∷ [])) was was.ts was.trees (h.1.solid_parts was.ts was.trees) in
+    let back = table_undone start c.args.self.now.table.headers.items c.cut.new.self.headers.items old new ps p now.ts was.ts now.trees was.trees h.1 few even c.cut.ensures.cut refl refl c.saturating_sub-held.ensures in
+    (back.extends, elim r.1 [ inl m ↦ inl (m.0, s.1 ∙ ap Plain (at_rest start.size kinds.Map new.size ps s.0)) | inr k ↦ inr (c.undo_part.ensures.refusals start.size ps p t e h.0 even k) ])

@@ -1,5 +1,5 @@
-use Rattle.amqp_size.specs.Place.{outer, meant}
-use Rattle.amqp_wire.specs.Heads.{in_array}
+use Rattle.amqp_size.specs.Place.{outer}
+use Rattle.amqp_wire.specs.Standing.{taken_as}
 use Rattle.amqp_wire.specs.declared.output.Output.{Output}
 use Rattle.amqp_wire.proofs.Parts.{part_undone, still_refused}
 use Rattle.amqp_wire.proofs.writer.WriterSerializer.undo_part.Goals as goal
@@ -14,4 +14,4 @@ returns-clause-refusals c = λ start ps p t e h even r.
     let n = c.restore.ensures in
     let out : Output = c.restore.new.self in
     let back = part_undone start c.args.self.now.output out c.args.held.now ps p h.0 even n.table n.capacity n.taken n.out in
-    (back.kept, (r.1.0, still_refused (in_array (outer start.place)) start.output c.args.self.now.output out (meant start.place t) e r.1.1))
+    (back.kept, (r.1.0, still_refused (outer start.place) start.output c.args.self.now.output out (taken_as start.place t) e r.1.1))

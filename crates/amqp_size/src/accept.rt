@@ -1,0 +1,133 @@
+//! The answers on trees, by where they stand.
+
+ghost use Rattle.std.specs.Prelude.{◌≡◌, ◌+◌, ◌&&◌, ◌⊎◌, Some, Err, MatchResult, is_some, true, false, length};
+ghost use Rattle.amqp_ser.specs.Tree.{Tree, Trees, transparent};
+ghost use Rattle.amqp_ser.specs.Limits.{fits, is_length};
+ghost use Rattle.amqp_ser.specs.Composites.{descriptor_of};
+ghost use Rattle.amqp_ser.specs.Encoding.{enc, enc_each, payload, con};
+ghost use Rattle.amqp_ser.specs.Writable.{alike, alike_each, within, within_each, inside, placed, placed_each};
+ghost use Rattle.amqp_size.specs.Width.{uint_width, text_width, map_width};
+ghost use Rattle.amqp_size.specs.Place.{outer, rest, takes_described};
+
+use crate::place::{Base, Place, Under};
+use crate::serializer::SizeSerializer;
+use crate::width::{LONGEST, map_width, text_width, uint_width};
+use amqp_data::Error;
+
+/// The answer on a descriptor with this constructor and length: only a ulong or a symbol is one.
+#[cold]
+#[inline(never)]
+fn descriptor(code: u8, ordinary: usize) -> Result<usize, Error>
+    ensures { (t : Tree) → con t ≡ Some code → MatchResult result
+        (λ n. (is_some (descriptor_of (Some t)) ≡ true) × (n ≡ ordinary))
+        (λ e. (is_some (descriptor_of (Some t)) ≡ false) × (e ≡ Error.InvalidValue)) }
+{
+    if code == 0x80 || code == 0xb3 {
+        Ok(ordinary)
+    } else {
+        Err(Error::InvalidValue)
+    }
+}
+
+/// The answer on the value after descriptors, with them.
+#[cold]
+#[inline(never)]
+fn described(head: usize, base: Base, ordinary: usize) -> Result<usize, Error>
+    ensures { MatchResult result
+        (λ n. (takes_described base ≡ true) × ((is_length (head + ordinary) ≡ true) × (n ≡ head + ordinary)))
+        (λ e. ((e ≡ Error.TooLong) × (is_length (head + ordinary) ≡ false)) ⊎ ((e ≡ Error.InvalidValue) × (takes_described base ≡ false))) }
+{
+    if !base.takes_described() {
+        return Err(Error::InvalidValue);
+    }
+    match head.checked_add(ordinary) {
+        Some(whole) => Ok(whole),
+        None => Err(Error::TooLong),
+    }
+}
+
+impl SizeSerializer {
+    ghost use Rattle.amqp_size.specs.Counted.{at_place};
+
+    /// Comes to rest where it stands: markers and descriptors are behind it.
+    #[inline(always)]
+    pub(crate) fn settle(&mut self)
+        ensures { self.new.place ≡ Under.Plain (rest (outer self.old.place)) }
+    {
+        match self.place {
+            Under::Plain(Place::Value(_, base)) => self.place = Under::Plain(base.place()),
+            Under::Plain(_) => {}
+            under => self.place = Under::Plain(under.rest()),
+        }
+    }
+
+    /// The answer on a writable tree with this constructor and these lengths, by a serializer at rest at its place.
+    #[inline(always)]
+    pub(crate) fn accept(
+        &mut self,
+        place: Place,
+        code: u8,
+        ordinary: usize,
+        wide: usize,
+    ) -> Result<usize, Error>
+        ensures { self.old.place ≡ Under.Plain (rest place) → (t : Tree) → con t ≡ Some code → within t ≡ true → alike t ≡ true → inside t ≡ true → placed t ≡ true →
+            length (enc t) ≡ ordinary → length (payload t) ≡ wide → at_place place (Some t) result self.new.place }
+    {
+        match place {
+            Place::Root => Ok(ordinary),
+            Place::Inside => Ok(ordinary),
+            Place::First => {
+                self.place = Under::Plain(Place::Element(code));
+                Ok(wide)
+            }
+            Place::Element(c) => {
+                if c == code {
+                    Ok(wide)
+                } else {
+                    Err(Error::InvalidValue)
+                }
+            }
+            Place::Descriptor => descriptor(code, ordinary),
+            Place::Value(head, base) => described(head, base, ordinary),
+        }
+    }
+
+    /// The answer on a text or a binary with this constructor and length.
+    #[inline(always)]
+    pub(crate) fn text(&mut self, place: Place, code: u8, n: usize) -> Result<usize, Error>
+        ensures { self.old.place ≡ Under.Plain (rest place) → (t : Tree) → con t ≡ Some code → alike t ≡ true → inside t ≡ true → placed t ≡ true → within t ≡ fits n →
+            length (enc t) ≡ text_width n → length (payload t) ≡ n + 4 → at_place place (Some t) result self.new.place }
+    {
+        if n > LONGEST {
+            return Err(Error::TooLong);
+        }
+        self.accept(place, code, text_width(n), n + 4)
+    }
+
+    /// The answer on a variant whose payload has this length.
+    #[inline]
+    pub(crate) fn variant(&mut self, place: Place, index: u32, size: usize) -> Result<usize, Error>
+        ensures { self.old.place ≡ Under.Plain (rest place) → (t v : Tree) → con t ≡ Some 0xd1 → alike t ≡ true → inside t ≡ true → placed t ≡ true → within v ≡ true →
+            within t ≡ (fits (uint_width index + size) && within v) → length (enc t) ≡ map_width (uint_width index + size) →
+            length (payload t) ≡ uint_width index + size + 8 → at_place place (Some t) result self.new.place }
+    {
+        let head = uint_width(index);
+        if size > LONGEST - head {
+            return Err(Error::TooLong);
+        }
+        let body = head + size;
+        self.accept(place, 0xd1, map_width(body), body + 8)
+    }
+
+    /// The answer on a transparent vector whose elements have this length: it stands at the root alone.
+    #[inline(always)]
+    pub(crate) fn transparent(&mut self, place: Place, sum: usize) -> Result<usize, Error>
+        ensures { self.old.place ≡ Under.Plain (rest place) → (ts : Trees) → within_each ts ≡ true → alike_each ts ≡ true → placed_each ts ≡ true → sum ≡ length (enc_each ts) →
+            at_place place (Some (transparent ts)) result self.new.place }
+    {
+        match place {
+            Place::Root => Ok(sum),
+            _ => Err(Error::InvalidValue),
+        }
+    }
+}

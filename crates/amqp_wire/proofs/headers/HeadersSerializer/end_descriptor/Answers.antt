@@ -1,0 +1,26 @@
+use Rattle.std.proofs.Common.{◌≡◌, refl, ap, ◌∙◌, take}
+use Rattle.amqp_wire.specs.declared.headers.Headers.{Headers}
+use Rattle.amqp_wire.specs.declared.headers.Counting.{Counting}
+use Rattle.amqp_wire.proofs.Described.{described_value, refusal_of_descriptor}
+use Rattle.amqp_wire.proofs.Lists.{take_front, extends-refl}
+use Rattle.amqp_wire.proofs.Tabling.{lone_open}
+use Rattle.amqp_wire.proofs.headers.HeadersSerializer.end_descriptor.Goals as goal
+
+pub returns-in-Ok : goal.returns-in-Ok
+returns-in-Ok c = λ start before d w r.
+    let old : Counting = c.args.held.now in
+    let new : Counting = record { size = c.end_descriptor.new.held; at = old.at; missed = old.missed; before = old.before; last = old.last; parts = old.parts } in
+    let after : Headers = record { size = c.end_descriptor.new.self; table = c.args.self.now.table } in
+    described_value start before c.args.self.now after old new d c.args.part c.end_descriptor.result c.in-Ok.field-0 _ w.0.0.0 w.0.0.1 w.0.1 r.1 refl
+    c.end_descriptor.ensures.same c.in-Ok.is c.in-Ok.ensures.described (c.in-Ok.ensures.step start.size before.size d w.0.0)
+
+pub returns-in-Err : goal.returns-in-Err
+returns-in-Err c = λ start before d w r.
+    let old : Counting = c.args.held.now in
+    let cut : Headers = record { size = c.end_descriptor.new.self; table = c.cut.new.self } in
+    let same : cut.table.headers.items ≡ start.table.headers.items =
+    c.cut.ensures.cut ∙ ap (take old.before) r.0.1 ∙ take_front before.table.headers.items r.0.0 old.before w.1 ∙ w.0.1 in
+    let refused = refusal_of_descriptor start before c.args.self.now cut old.size c.end_descriptor.new.held d c.args.part c.end_descriptor.result c.in-Err.e w.0.0.0 r.1
+    (c.in-Err.ensures.step start.size before.size d w.0.0) c.end_descriptor.ensures.same c.in-Err.is in
+    let lone = lone_open start cut.table.headers.items same in
+    ((refused.0, lone), λ t. (lone.extends, refused.1 t))

@@ -1,0 +1,20 @@
+use Rattle.std.proofs.Common.{◌∙◌, refl}
+use Rattle.amqp_wire.specs.declared.output.Output.{Output}
+use Rattle.amqp_wire.specs.declared.writer.Writing.{Writing}
+use Rattle.amqp_wire.proofs.Alone.{alone_open}
+use Rattle.amqp_wire.proofs.Heading.{value_described, described_refused}
+use Rattle.amqp_wire.proofs.Parts.{kept_back, kept-more}
+use Rattle.amqp_wire.proofs.writer.WriterSerializer.end_descriptor.Goals as goal
+
+pub returns-in-Ok : goal.returns-in-Ok
+returns-in-Ok c = λ start before d w r. value_described start before c.args.self.now c.args.held.now d c.args.part w r c.in-Ok.is
+
+pub returns-in-Err : goal.returns-in-Err
+returns-in-Err c = λ start before d w r.
+    let held : Writing = c.args.held.now in
+    let out : Output = c.restore.new.self in
+    let n = c.restore.ensures in
+    let b = kept_back start.output c.args.self.now.output out held.part.len (kept-more start.output before.output c.args.self.now.output w.kept r.0) n.table n.capacity w.stands.1 n.out in (
+      (alone_open start out held b.1 (b.0, n.taken ∙ w.stands.0) w.place w.inner w.opened, refl),
+      described_refused start before c.args.self.now.output out held d c.args.part c.in-Err.e w c.in-Err.is r.1.1 b.1,
+    )
