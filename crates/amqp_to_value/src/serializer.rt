@@ -22,7 +22,7 @@ use std::mem;
 /// Makes untyped values; it is fresh after each call, refused ones too.
 ///
 /// # Memory
-/// The descriptors of a refused value are let go when the compound around it goes on or ends, or with the serializer.
+/// The descriptors of a refused value are let go when the compound around it ends, or with the serializer.
 #[derive(Drop)]
 pub struct Serializer {
     alloc: Global,

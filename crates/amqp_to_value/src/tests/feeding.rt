@@ -1,5 +1,6 @@
-use crate::Serializer;
-use amqp_data::{Described, Descriptor, Error, OrderedMap, markers};
+use super::described;
+use crate::{Serializer, to_value};
+use amqp_data::{Array, Descriptor, Error, OrderedMap, markers};
 use amqp_ser::Kind;
 use amqp_value::Value;
 use std::alloc::Global;
@@ -74,11 +75,6 @@ fn refuse_late<S: amqp_ser::Serializer>(serializer: &mut S) -> Result<S::Ok, S::
     serializer.end(outer)
 }
 
-fn coded(alloc: Global, code: u64, value: Value) -> Result<Value, Fail> {
-    let descriptor = Descriptor::Code(code);
-    Ok(Value::Described(Box::new(alloc, Described { descriptor, value })?))
-}
-
 fn map_of(alloc: Global, pairs: &[(&str, u8)]) -> Result<Value, Fail> {
     let mut map = OrderedMap::new(alloc);
     for (key, value) in pairs {
@@ -135,7 +131,7 @@ fn variants_are_maps_of_one_pair(rt: HostRuntime) -> Result<(), Fail> {
 #[test]
 fn refusals_leave_a_described_value_as_it_was(rt: HostRuntime) -> Result<(), Fail> {
     let mut serializer = Serializer::new(rt.alloc());
-    let expected = coded(rt.alloc(), 1, Value::Ubyte(4))?;
+    let expected = described(rt.alloc(), Descriptor::Code(1), Value::Ubyte(4))?;
     let (value, refused) = feed_described(&mut serializer)?;
     assert!(rt; refused);
     assert_eq!(rt; value, expected);
@@ -144,5 +140,32 @@ fn refusals_leave_a_described_value_as_it_was(rt: HostRuntime) -> Result<(), Fai
         amqp_ser::Serializer::serialize_unit(&mut serializer)?,
         Value::Null
     );
+    Ok(())
+}
+
+// The nth of some distinct keys: numbers, arrays and maps in turn.
+fn nth_key(alloc: Global, n: u32) -> Result<Value, Fail> {
+    let mut items = Vec::new(alloc);
+    items.push(Value::Uint(n))?;
+    Ok(match n % 3 {
+        0 => Value::Uint(n),
+        1 => Value::Array(Array::from(items)),
+        _ => {
+            let mut map = OrderedMap::new(alloc);
+            drop(map.insert(Value::List(items), Value::Null)?);
+            Value::Map(map)
+        }
+    })
+}
+
+#[test]
+fn large_maps_keep_their_order(rt: HostRuntime) -> Result<(), Fail> {
+    let mut map = OrderedMap::new(rt.alloc());
+    for n in 0..1000u32 {
+        drop(map.insert(nth_key(rt.alloc(), n * 7919 % 1000)?, Value::Uint(n))?);
+    }
+    assert_eq!(rt; map.len(), 1000);
+    let value = Value::Map(map);
+    assert!(rt; to_value(rt.alloc(), &value)? == value);
     Ok(())
 }

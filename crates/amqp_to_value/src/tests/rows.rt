@@ -1,5 +1,6 @@
 ghost use Rattle.amqp_ser.specs.Marked.{marked, mark_of};
 
+use super::described;
 use crate::{TryFromSerializable, to_value};
 use amqp_data::{
     Array, ByteBuf, Dec32, Dec64, Dec128, Described, Descriptor, Error, F32Bits, F64Bits,
@@ -37,10 +38,6 @@ fn list(alloc: Global, texts: &[&str]) -> Result<Value, Fail> {
         items.push(text(alloc, *item)?)?;
     }
     Ok(Value::List(items))
-}
-
-fn described(alloc: Global, descriptor: Descriptor, value: Value) -> Result<Value, Fail> {
-    Ok(Value::Described(Box::new(alloc, Described { descriptor, value })?))
 }
 
 // One value of each kind of scalar, and those at the ends of its range.
@@ -208,10 +205,10 @@ fn described_values_keep_their_descriptors(rt: HostRuntime) -> Result<(), Fail> 
 #[test]
 fn transparent_vectors_are_lists(rt: HostRuntime) -> Result<(), Fail> {
     let alloc = rt.alloc();
-    let words = || Ok::<_, Fail>(TransparentVec::new(["a", "bc"].to_vec(alloc)?));
-    assert_eq!(rt; to_value(alloc, &words()?)?, list(alloc, &["a", "bc"])?);
+    let words = TransparentVec::new(["a", "bc"].to_vec(alloc)?);
+    assert_eq!(rt; to_value(alloc, &words)?, list(alloc, &["a", "bc"])?);
     let mut vectors = Vec::new(alloc);
-    vectors.push(words()?)?;
+    vectors.push(words)?;
     let mut lists = Vec::new(alloc);
     lists.push(list(alloc, &["a", "bc"])?)?;
     assert_eq!(rt; to_value(alloc, &vectors)?, Value::List(lists));
@@ -226,32 +223,5 @@ fn later_values_of_a_key_win(rt: HostRuntime) -> Result<(), Fail> {
     let mut expected = OrderedMap::new(rt.alloc());
     drop(expected.insert(Value::Null, Value::Ubyte(2))?);
     assert_eq!(rt; to_value(rt.alloc(), &map)?, Value::Map(expected));
-    Ok(())
-}
-
-// The nth of some distinct keys: numbers, arrays and maps in turn.
-fn nth_key(alloc: Global, n: u32) -> Result<Value, Fail> {
-    let mut items = Vec::new(alloc);
-    items.push(Value::Uint(n))?;
-    Ok(match n % 3 {
-        0 => Value::Uint(n),
-        1 => Value::Array(Array::from(items)),
-        _ => {
-            let mut map = OrderedMap::new(alloc);
-            drop(map.insert(Value::List(items), Value::Null)?);
-            Value::Map(map)
-        }
-    })
-}
-
-#[test]
-fn large_maps_keep_their_order(rt: HostRuntime) -> Result<(), Fail> {
-    let mut map = OrderedMap::new(rt.alloc());
-    for n in 0..1000u32 {
-        drop(map.insert(nth_key(rt.alloc(), n * 7919 % 1000)?, Value::Uint(n))?);
-    }
-    assert_eq!(rt; map.len(), 1000);
-    let value = Value::Map(map);
-    assert!(rt; to_value(rt.alloc(), &value)? == value);
     Ok(())
 }
