@@ -5,9 +5,7 @@ mod composites;
 mod samples;
 
 use self::calls::{calls_of, new_calls};
-use self::composites::{
-    Body, Named, Opens, Properties, Tuple, bad_descriptor, two_descriptors,
-};
+use self::composites::{Body, Named, Opens, Properties, Tuple, bad_descriptor, two_descriptors};
 use self::samples::{Inner, Name, NoName, Pair, Reading};
 use amqp_data::{
     Array, ByteBuf, Dec32, Described, Descriptor, F64Bits, OrderedMap, Symbol, SymbolRef,
