@@ -9,7 +9,6 @@ use Rattle.amqp_ser.specs.declared.kind.Kind.TheVariants as kinds
 use Rattle.amqp_size.specs.Place.{outer, meant, rest, is_array, is_gathered}
 use Rattle.amqp_size.specs.Counted.{at_place, Holds, HoldsTransparent, HoldsBare, Holding}
 use Rattle.amqp_size.specs.Take.{opens_in, over}
-use Rattle.amqp_size.specs.declared.place.Place.{Place}
 use Rattle.amqp_size.specs.declared.place.Place.TheVariants.{Root}
 use Rattle.amqp_size.specs.declared.place.Under.{Under}
 use Rattle.amqp_size.specs.declared.place.Under.TheVariants as under

@@ -46,20 +46,22 @@ fn described(head: usize, base: Base, ordinary: usize) -> Result<usize, Error>
     }
 }
 
-/// Where a serializer stands after a refusal.
-#[cold]
-#[inline(never)]
-fn at_rest(under: Under) -> Under
-    ensures { result ≡ Under.Plain (rest (outer under)) }
-{
-    Under::Plain(under.rest())
-}
-
 impl SizeSerializer {
     ghost use Rattle.amqp_size.specs.Counted.{at_place};
-    ghost use Rattle.amqp_ser.specs.Permitted.{refuses_none};
 
-    /// The answer on a writable tree with this constructor and these lengths, at a place.
+    /// Comes to rest where it stands: markers and descriptors are behind it.
+    #[inline(always)]
+    pub(crate) fn settle(&mut self)
+        ensures { self.new.place ≡ Under.Plain (rest (outer self.old.place)) }
+    {
+        match self.place {
+            Under::Plain(Place::Value(_, base)) => self.place = Under::Plain(base.place()),
+            Under::Plain(_) => {}
+            under => self.place = Under::Plain(under.rest()),
+        }
+    }
+
+    /// The answer on a writable tree with this constructor and these lengths, by a serializer at rest at its place.
     #[inline(always)]
     pub(crate) fn accept(
         &mut self,
@@ -68,49 +70,35 @@ impl SizeSerializer {
         ordinary: usize,
         wide: usize,
     ) -> Result<usize, Error>
-        ensures { (t : Tree) → con t ≡ Some code → within t ≡ true → alike t ≡ true → inside t ≡ true → placed t ≡ true →
+        ensures { self.old.place ≡ Under.Plain (rest place) → (t : Tree) → con t ≡ Some code → within t ≡ true → alike t ≡ true → inside t ≡ true → placed t ≡ true →
             length (enc t) ≡ ordinary → length (payload t) ≡ wide → at_place place (Some t) result self.new.place }
     {
         match place {
-            Place::Root => {
-                self.place = Under::Plain(Place::Root);
-                Ok(ordinary)
-            }
-            Place::Inside => {
-                self.place = Under::Plain(Place::Inside);
-                Ok(ordinary)
-            }
+            Place::Root => Ok(ordinary),
+            Place::Inside => Ok(ordinary),
             Place::First => {
                 self.place = Under::Plain(Place::Element(code));
                 Ok(wide)
             }
             Place::Element(c) => {
-                self.place = Under::Plain(Place::Element(c));
                 if c == code {
                     Ok(wide)
                 } else {
                     Err(Error::InvalidValue)
                 }
             }
-            Place::Descriptor => {
-                self.place = Under::Plain(Place::Descriptor);
-                descriptor(code, ordinary)
-            }
-            Place::Value(head, base) => {
-                self.place = Under::Plain(base.place());
-                described(head, base, ordinary)
-            }
+            Place::Descriptor => descriptor(code, ordinary),
+            Place::Value(head, base) => described(head, base, ordinary),
         }
     }
 
     /// The answer on a text or a binary with this constructor and length.
     #[inline(always)]
     pub(crate) fn text(&mut self, place: Place, code: u8, n: usize) -> Result<usize, Error>
-        ensures { (t : Tree) → con t ≡ Some code → alike t ≡ true → inside t ≡ true → placed t ≡ true → within t ≡ fits n →
+        ensures { self.old.place ≡ Under.Plain (rest place) → (t : Tree) → con t ≡ Some code → alike t ≡ true → inside t ≡ true → placed t ≡ true → within t ≡ fits n →
             length (enc t) ≡ text_width n → length (payload t) ≡ n + 4 → at_place place (Some t) result self.new.place }
     {
         if n > LONGEST {
-            self.place = Under::Plain(place.rest());
             return Err(Error::TooLong);
         }
         self.accept(place, code, text_width(n), n + 4)
@@ -119,13 +107,12 @@ impl SizeSerializer {
     /// The answer on a variant whose payload has this length.
     #[inline]
     pub(crate) fn variant(&mut self, place: Place, index: u32, size: usize) -> Result<usize, Error>
-        ensures { (t v : Tree) → con t ≡ Some 0xd1 → alike t ≡ true → inside t ≡ true → placed t ≡ true → within v ≡ true →
+        ensures { self.old.place ≡ Under.Plain (rest place) → (t v : Tree) → con t ≡ Some 0xd1 → alike t ≡ true → inside t ≡ true → placed t ≡ true → within v ≡ true →
             within t ≡ (fits (uint_width index + size) && within v) → length (enc t) ≡ map_width (uint_width index + size) →
             length (payload t) ≡ uint_width index + size + 8 → at_place place (Some t) result self.new.place }
     {
         let head = uint_width(index);
         if size > LONGEST - head {
-            self.place = Under::Plain(place.rest());
             return Err(Error::TooLong);
         }
         let body = head + size;
@@ -135,23 +122,12 @@ impl SizeSerializer {
     /// The answer on a transparent vector whose elements have this length: it stands at the root alone.
     #[inline(always)]
     pub(crate) fn transparent(&mut self, place: Place, sum: usize) -> Result<usize, Error>
-        ensures { (ts : Trees) → within_each ts ≡ true → alike_each ts ≡ true → placed_each ts ≡ true → sum ≡ length (enc_each ts) →
+        ensures { self.old.place ≡ Under.Plain (rest place) → (ts : Trees) → within_each ts ≡ true → alike_each ts ≡ true → placed_each ts ≡ true → sum ≡ length (enc_each ts) →
             at_place place (Some (transparent ts)) result self.new.place }
     {
-        self.place = Under::Plain(place.rest());
         match place {
             Place::Root => Ok(sum),
             _ => Err(Error::InvalidValue),
         }
-    }
-
-    /// Refuses a value that its marker does not take.
-    #[inline(always)]
-    pub(crate) fn refuse(&mut self) -> Result<usize, Error>
-        ensures place { self.new.place ≡ Under.Plain (rest (outer self.old.place)) }
-        ensures refused { result ≡ Err Error.InvalidValue }
-    {
-        self.place = at_rest(self.place);
-        Err(Error::InvalidValue)
     }
 }

@@ -124,33 +124,14 @@ impl Base {
 }
 
 impl Place {
-    /// The place itself, read part by part: a compiler then keeps it in registers.
-    #[inline(always)]
-    pub(crate) fn parts(self) -> Place
-        ensures { result ≡ self }
-    {
-        match self {
-            Place::Root => Place::Root,
-            Place::Inside => Place::Inside,
-            Place::First => Place::First,
-            Place::Element(code) => Place::Element(code),
-            Place::Descriptor => Place::Descriptor,
-            Place::Value(head, base) => Place::Value(head, base),
-        }
-    }
-
     /// Where a serializer stands between steps and after a refusal.
     #[inline(always)]
     pub fn rest(self) -> Place
         ensures { result ≡ rest self }
     {
         match self {
-            Place::Root => Place::Root,
-            Place::Inside => Place::Inside,
-            Place::First => Place::First,
-            Place::Element(code) => Place::Element(code),
-            Place::Descriptor => Place::Descriptor,
             Place::Value(_, base) => base.place(),
+            place => place,
         }
     }
 

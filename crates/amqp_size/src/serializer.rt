@@ -73,7 +73,9 @@ impl Serializer for SizeSerializer {
 
     #[inline(always)]
     fn serialize_fixed(&mut self, fixed: Fixed) -> Result<usize, Error> {
-        match self.place {
+        let under = self.place;
+        self.settle();
+        match under {
             Under::Plain(place) => {
                 let ordinary = Form::ordinary(fixed);
                 let wide = Form::in_array(fixed);
@@ -81,24 +83,28 @@ impl Serializer for SizeSerializer {
             }
             Under::Scalar(ScalarMark::Timestamp, place) => match fixed {
                 Fixed::Long(_) => self.accept(place, 0x83, 9, 8),
-                _ => self.refuse(),
+                _ => Err(Error::InvalidValue),
             },
-            _ => self.refuse(),
+            _ => Err(Error::InvalidValue),
         }
     }
 
     #[inline(always)]
     fn serialize_str(&mut self, v: &str) -> Result<usize, Error> {
-        match self.place {
+        let under = self.place;
+        self.settle();
+        match under {
             Under::Plain(place) => self.text(place, 0xb1, v.len()),
             Under::Scalar(ScalarMark::Symbol, place) => self.text(place, 0xb3, v.len()),
-            _ => self.refuse(),
+            _ => Err(Error::InvalidValue),
         }
     }
 
     #[inline(always)]
     fn serialize_bytes(&mut self, v: &[u8]) -> Result<usize, Error> {
-        match self.place {
+        let under = self.place;
+        self.settle();
+        match under {
             Under::Plain(place) => self.text(place, 0xb0, v.len()),
             Under::Scalar(ScalarMark::Decimal32, place) if v.len() == 4 => self.accept(
                 place, 0x74, 5, 4,
@@ -112,7 +118,7 @@ impl Serializer for SizeSerializer {
             Under::Scalar(ScalarMark::Uuid, place) if v.len() == 16 => self.accept(
                 place, 0x98, 17, 16,
             ),
-            _ => self.refuse(),
+            _ => Err(Error::InvalidValue),
         }
     }
 
@@ -128,7 +134,7 @@ impl Serializer for SizeSerializer {
     #[inline(always)]
     fn begin(&mut self, kind: Kind) -> Open {
         let under = self.place;
-        self.place = Under::Plain(under.rest());
+        self.settle();
         Open::new(under, under.shape(kind))
     }
 
@@ -209,10 +215,7 @@ impl Serializer for SizeSerializer {
                 self.place = held.inner();
                 Ok(sum)
             }
-            Shape::Refused => {
-                self.place = Under::Plain(place.rest());
-                Err(Error::InvalidValue)
-            }
+            Shape::Refused => Err(Error::InvalidValue),
         }
     }
 }

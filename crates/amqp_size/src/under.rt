@@ -11,8 +11,9 @@ use amqp_data::Error;
 use amqp_ser::{Kind, Mark};
 
 impl Under {
+    /// The place itself.
     #[inline(always)]
-    fn whole(self) -> Place
+    pub fn outer(self) -> Place
         ensures { result ≡ outer self }
     {
         match self {
@@ -24,20 +25,12 @@ impl Under {
         }
     }
 
-    /// The place itself.
-    #[inline(always)]
-    pub fn outer(self) -> Place
-        ensures { result ≡ outer self }
-    {
-        self.whole().parts()
-    }
-
     /// Where a serializer stands after a refusal there.
     #[inline(always)]
     pub fn rest(self) -> Place
         ensures { result ≡ rest (outer self) }
     {
-        self.whole().rest()
+        self.outer().rest()
     }
 
     /// What is opened there.

@@ -90,5 +90,5 @@ returns c =
     let start = c.args.self.now in
     let shape = c.shape.ensures in (
       opened start c.args.kind c.new.result e.place (e.shape ∙ shape) (e.inner ∙ ap (λ s. inner_under s start.place) shape) e.sum e.count (shape_of start.place c.args.kind) refl,
-      ap Plain (c.rest.ensures ∙ ap rest (sym e.place)),
+      c.settle.ensures ∙ ap (λ q. Plain (rest q)) (sym e.place),
     )

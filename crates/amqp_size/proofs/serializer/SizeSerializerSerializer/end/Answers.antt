@@ -6,7 +6,7 @@ use Rattle.amqp_ser.specs.Encoding.{enc}
 use Rattle.amqp_ser.specs.Writable.{within}
 use Rattle.amqp_ser.specs.Compounds.{whole, all_trees}
 use Rattle.amqp_size.specs.Width.{map_width, list_width}
-use Rattle.amqp_size.specs.Place.{is_gathered}
+use Rattle.amqp_size.specs.Place.{rest, is_gathered}
 use Rattle.amqp_size.specs.declared.place.Under.TheVariants.{Plain}
 use Rattle.amqp_size.proofs.Holding.{gathered_of}
 use Rattle.amqp_size.proofs.Lengths.{length-counted}
@@ -19,7 +19,7 @@ returns-in-Map c = λ start kind ps h done.
     let m : MapEnd start kind c.args.held ps = map_end start kind c.args.held ps g done (sym c.shape.ensures ∙ c.in-Map.is) in
     let sum = c.sum-sum.ensures.sum in
     stands start.place c.place-place.result (whole kind ps) (map m.pairs) _ _ (sym g.place ∙ sym c.place-place.ensures) m.is
-    (c.accept-in-Map.ensures (map m.pairs) refl m.within_it m.alike_it m.inside_it m.inside_it (m.ordinary ∙ ap map_width (sym sum) ∙ sym c.map_width.ensures) (let w = m.wide in omega arith))
+    (c.accept-in-Map.ensures (h.1 ∙ ap (λ q. Plain (rest q)) (sym c.place-place.ensures)) (map m.pairs) refl m.within_it m.alike_it m.inside_it m.inside_it (m.ordinary ∙ ap map_width (sym sum) ∙ sym c.map_width.ensures) (let w = m.wide in omega arith))
 
 pub returns-in-Fields : goal.returns-in-Fields
 returns-in-Fields c = λ start kind ps h done.
@@ -29,7 +29,7 @@ returns-in-Fields c = λ start kind ps h done.
     fields_end i start kind c.args.held ps c.list_width-in-Fields.result g (sym c.shape.ensures ∙ c.in-Fields.is) (c.list_width-in-Fields.ensures ∙ ap list_width c.sum-sum.ensures.sum) in
     let bytes = m.bytes in
     stands start.place c.place-place.result (whole kind ps) (variant i (list m.ts)) _ _ (sym g.place ∙ sym c.place-place.ensures) m.is
-    (c.variant.ensures (variant i (list m.ts)) (list m.ts) refl m.alike_it m.inside_it m.inside_it m.within_it (ap (λ n. fits n && within (list m.ts)) bytes)
+    (c.variant.ensures (h.1 ∙ ap (λ q. Plain (rest q)) (sym c.place-place.ensures)) (variant i (list m.ts)) (list m.ts) refl m.alike_it m.inside_it m.inside_it m.within_it (ap (λ n. fits n && within (list m.ts)) bytes)
     (length-counted 0xc1 0xd1 2 (scalar_form (uint i) ++ enc (list m.ts)) ∙ ap map_width bytes) (omega (arith, bytes)))
 
 pub returns-in-Refused : goal.returns-in-Refused
@@ -37,4 +37,4 @@ unfolding whole
 returns-in-Refused c = λ start kind ps h done.
     let g = gathered_of start kind c.args.held ps h.0 (ap is_gathered (sym c.shape.ensures ∙ c.in-Refused.is)) in
     stands_none start.place c.place-place.result (whole kind ps) _ _ (sym g.place ∙ sym c.place-place.ensures)
-    (refused_shape start.place kind (all_trees ps) (sym g.shape ∙ sym c.shape.ensures ∙ c.in-Refused.is)) (tt, ap Plain c.rest.ensures)
+    (refused_shape start.place kind (all_trees ps) (sym g.shape ∙ sym c.shape.ensures ∙ c.in-Refused.is)) (tt, h.1 ∙ ap (λ q. Plain (rest q)) (sym c.place-place.ensures))

@@ -1,15 +1,16 @@
-use Rattle.std.proofs.Common.{Some, refl, ap, sym, subst}
+use Rattle.std.proofs.Common.{Some, refl, ap, sym, ◌∙◌, subst}
 use Rattle.amqp_ser.specs.Tree.{scalar}
 use Rattle.amqp_ser.specs.Fixed.{fixed_scalar}
-use Rattle.amqp_size.specs.Place.{outer, meant}
+use Rattle.amqp_size.specs.Place.{outer, meant, rest}
 use Rattle.amqp_size.specs.Counted.{at_place}
 use Rattle.amqp_size.specs.declared.place.Under.{Under}
+use Rattle.amqp_size.specs.declared.place.Under.TheVariants.{Plain}
 use Rattle.amqp_size.proofs.Fixed.{length-ordinary, length-payload, fixed_fits}
 use Rattle.amqp_size.proofs.serializer.SizeSerializerSerializer.serialize_fixed.Goals as goal
 
 pub returns-in-Plain : goal.returns-in-Plain
 returns-in-Plain c =
     let v = c.args.fixed in
-    let counted = c.accept.ensures (scalar (fixed_scalar v)) (ap Some (sym c.in_array-wide.ensures.code)) (fixed_fits v) refl refl refl
+    let counted = c.accept.ensures (c.settle.ensures ∙ ap (λ u. Plain (rest (outer u))) c.in-Plain.is) (scalar (fixed_scalar v)) (ap Some (sym c.in_array-wide.ensures.code)) (fixed_fits v) refl refl refl
     (length-ordinary c.ordinary-ordinary.result v c.ordinary-ordinary.ensures.bytes) (length-payload c.in_array-wide.result v c.in_array-wide.ensures.payload) in
     subst (λ (u : Under). at_place (outer u) (meant u (Some (scalar (fixed_scalar v)))) c.accept.result c.accept.new.self.place) (sym c.in-Plain.is) counted
