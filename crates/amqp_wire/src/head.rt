@@ -149,7 +149,7 @@ impl Output {
     }
 
     /// Opens a compound: writes what stands before its parts.
-    #[inline(always)]
+    #[inline(never)]
     pub fn open(&mut self, in_array: bool, shape: Shape) -> Result<(), Error>
         ensures kept { Kept self.old self.new }
         ensures opened { (ts : Trees) → Room in_array shape self.old ts → opens in_array shape self.old (heads shape ts) result self.new }
