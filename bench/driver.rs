@@ -5,17 +5,43 @@
 //!     driver count WHO SHAPE OP            allocations and bytes asked for by one run (where built with --cfg count)
 //!     driver time                          the least ns of one run
 //!
-//! Operations: 0 the size, 1 the bytes in a fresh vector, 2 the hash (FNV-1a) of the bytes, 3 an untyped value.
+//! Operations: 0 the size, 1 the bytes in a fresh vector, 2 the hash (FNV-1a) of the bytes, 3 an untyped value,
+//! 4 the text of an untyped value that stands ready, in a fresh string.
 
 mod plain;
 
 use plain::{Array, Blob, Error, Serialize, Serializer};
 use std::hint::black_box;
 
-const SHAPES: [&str; 9] = [
-    "14 fields", "1,000 ints", "1,000 rows of 10", "chain of 256", "blob of 64 KiB", "1,000 strings", "array of 10,000",
-    "map of 1,000 keys", "map of 10,000 keys",
+/// Where the library's value of a shape comes from: a rule of its own, or data that it is handed.
+#[derive(Clone, Copy)]
+enum Source {
+    Rule(u32),
+    Data(u32),
+}
+
+use Source::{Data, Rule};
+
+const SHAPES: [(&str, Source); 12] = [
+    ("14 fields", Rule(0)),
+    ("14 fields, described", Rule(7)),
+    ("14 fields, one by one", Rule(8)),
+    ("14 fields, described, one by one", Rule(9)),
+    ("1,000 ints", Rule(1)),
+    ("1,000 rows of 10", Rule(2)),
+    ("chain of 256", Rule(3)),
+    ("blob of 64 KiB", Rule(4)),
+    ("1,000 strings", Data(0)),
+    ("array of 10,000", Data(1)),
+    ("map of 1,000 keys", Rule(5)),
+    ("map of 10,000 keys", Rule(6)),
 ];
+
+/// How many operations there are.
+const OPERATIONS: u32 = 5;
+
+/// The operation that answers with a hash: it is compared and not measured.
+const HASH: u32 = 2;
 
 #[derive(Clone, Copy, PartialEq)]
 enum Who {
@@ -69,6 +95,15 @@ impl Serialize for Attach {
     }
 }
 
+/// The fields under the descriptor of that performative.
+struct Described(Attach);
+
+impl Serialize for Described {
+    fn serialize<S: Serializer>(&self, serializer: S) -> Result<S::Ok, Error> {
+        serializer.serialize_described(0x12, &self.0)
+    }
+}
+
 enum Chain {
     End,
     Link(Box<Chain>),
@@ -112,7 +147,7 @@ fn ints(first: i32, count: i32) -> Vec<i32> {
 }
 
 /// The lines of work 0 and the bytes of work 1.
-fn data(work: usize) -> Vec<u8> {
+fn data(work: u32) -> Vec<u8> {
     match work {
         0 => {
             let words: Vec<String> = (0..1000).map(|i| format!("{}{}", &"a short string"[..i * 7 % 15], i)).collect();
@@ -137,27 +172,28 @@ fn repeat<T: Serialize>(who: Who, v: &T, op: u32, times: u64) -> u64 {
 }
 
 fn answer(who: Who, shape: usize, op: u32, times: u64) -> u64 {
+    let source = SHAPES[shape].1;
     if who == Who::Project {
-        return match shape {
-            0..=4 => unsafe { amqp_shape(shape as u32, op, times) },
-            5 | 6 => {
-                let data = data(shape - 5);
-                unsafe { amqp_bench(shape as u32 - 5, op, data.as_ptr(), data.len(), times) }
+        return match source {
+            Rule(rule) => unsafe { amqp_shape(rule, op, times) },
+            Data(work) => {
+                let data = data(work);
+                unsafe { amqp_bench(work, op, data.as_ptr(), data.len(), times) }
             }
-            _ => unsafe { amqp_shape(shape as u32 - 2, op, times) },
         };
     }
-    match shape {
-        0 => repeat(who, &attach(), op, times),
-        1 => repeat(who, &ints(0, 1000), op, times),
-        2 => repeat(who, &(0..1000).map(|i| ints(i, 10)).collect::<Vec<_>>(), op, times),
-        3 => repeat(who, &(0..255).fold(Chain::End, |c, _| Chain::Link(Box::new(c))), op, times),
-        4 => repeat(who, &Blob(vec![0x5a; 65536]), op, times),
-        5 => {
+    match source {
+        Rule(0 | 8) => repeat(who, &attach(), op, times),
+        Rule(7 | 9) => repeat(who, &Described(attach()), op, times),
+        Rule(1) => repeat(who, &ints(0, 1000), op, times),
+        Rule(2) => repeat(who, &(0..1000).map(|i| ints(i, 10)).collect::<Vec<_>>(), op, times),
+        Rule(3) => repeat(who, &(0..255).fold(Chain::End, |c, _| Chain::Link(Box::new(c))), op, times),
+        Rule(4) => repeat(who, &Blob(vec![0x5a; 65536]), op, times),
+        Data(0) => {
             let text = String::from_utf8(data(0)).unwrap();
             repeat(who, &text.split('\n').map(String::from).collect::<Vec<_>>(), op, times)
         }
-        6 => {
+        Data(1) => {
             let numbers = data(1).chunks(4).map(|c| u32::from_be_bytes(c.try_into().unwrap())).collect();
             repeat(who, &Array(numbers), op, times)
         }
@@ -278,11 +314,11 @@ fn main() {
             let mut rows = Vec::new();
             for shape in 0..SHAPES.len() {
                 for (name, (_, who)) in WHO.iter().enumerate() {
-                    for op in 0..4 {
+                    for op in 0..OPERATIONS {
                         let found = answer(*who, shape, op, 1);
                         if found != 0 && command == "list" {
-                            println!("{} {shape} {op} {found} {}", WHO[name].0, SHAPES[shape]);
-                        } else if found != 0 && op != 2 {
+                            println!("{} {shape} {op} {found} {}", WHO[name].0, SHAPES[shape].0);
+                        } else if found != 0 && op != HASH {
                             rows.push((name, *who, shape, op));
                         }
                     }

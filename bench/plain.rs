@@ -32,6 +32,8 @@ pub trait Serializer: Sized {
         Ok(Fields { seq: self.serialize_seq(Some(len))?, described })
     }
     fn serialize_newtype_struct<T: Serialize>(self, name: &'static str, v: &T) -> Result<Self::Ok, Error>;
+    /// A value after a descriptor, a ulong.
+    fn serialize_described<T: Serialize>(self, code: u64, v: &T) -> Result<Self::Ok, Error>;
 }
 
 pub trait SerializeSeq {
@@ -183,6 +185,13 @@ impl<'a, const TABLE: bool> Serializer for &'a mut Sizer<TABLE> {
             self.place = Place::Marked;
         }
         v.serialize(self)
+    }
+    fn serialize_described<T: Serialize>(self, code: u64, v: &T) -> Result<usize, Error> {
+        if !matches!(self.place, Place::Ordinary) {
+            return Err(Error::Invalid);
+        }
+        let before = 1 + self.serialize_u64(code)?;
+        Ok(before + v.serialize(self)?)
     }
 }
 
@@ -338,6 +347,11 @@ impl<'a> Serializer for &'a mut Writer {
         }
         v.serialize(self)
     }
+    fn serialize_described<T: Serialize>(self, code: u64, v: &T) -> Result<(), Error> {
+        self.out.push(0x00);
+        self.serialize_u64(code)?;
+        v.serialize(self)
+    }
 }
 
 impl SerializeSeq for Writing<'_> {
@@ -470,6 +484,14 @@ impl<'a> Serializer for &'a mut Buffers {
         if name == ARRAY {
             self.place = Place::Marked;
         }
+        v.serialize(self)
+    }
+    fn serialize_described<T: Serialize>(self, code: u64, v: &T) -> Result<(), Error> {
+        if !matches!(self.place, Place::Ordinary) {
+            return Err(Error::Invalid);
+        }
+        self.out.push(0x00);
+        self.serialize_u64(code)?;
         v.serialize(self)
     }
 }

@@ -1,9 +1,10 @@
-"""Builds the project's library and the driver, measures, and prints a table.
+"""Builds the project's library and the driver, measures, and prints a table and what was asked beside what is.
 
-    python3 bench/run.py [--library FILE] [--keep FOLDER] [--no-instructions] [--no-time]
+    python3 bench/run.py [--check] [--library FILE] [--keep FOLDER] [--no-instructions] [--no-time]
 
 Needs rt, rustc and ar, and valgrind for the instructions. --library takes a library that stands ready, made by --keep:
-FOLDER/libamqp.a is the project with the kit's heap functions, in one file.
+FOLDER/libamqp.a is the project with the kit's heap functions, in one file. --check measures the project's instructions and
+allocations alone, compares them with the table of README.md, and fails where one is more than five percent above it.
 """
 import datetime
 import os
@@ -14,8 +15,22 @@ import tempfile
 
 HERE = os.path.dirname(os.path.abspath(__file__))
 CRATE = os.path.join(HERE, '..', 'crates', 'amqp_bench')
-CALLS = {0: 'size', 1: 'bytes', 3: 'value'}
+CALLS = {0: 'size', 1: 'bytes', 3: 'value', 4: 'text'}
 WHO = ['table', 'buffers', 'project']
+ALLOWED = 1.05
+
+# A shape, its short name, and what is asked: bytes and size at most so many times those of *table*, and size at most so many
+# instructions.
+TARGETS = {
+    '14 fields': ('14 fields', 0.9, 0.75, 200),
+    '14 fields, described': ('described', 0.9, 0.75, 200),
+    '1,000 ints': ('ints', 0.9, 0.75, None),
+    '1,000 rows of 10': ('rows', 0.9, 0.75, None),
+    'chain of 256': ('chain', 1.2, 1.2, None),
+    'blob of 64 KiB': ('blob', 1.0, None, None),
+    '1,000 strings': ('strings', 1.0, 0.75, None),
+    'array of 10,000': ('array', 0.9, 0.75, None),
+}
 
 
 def arg(name, default=None):
@@ -52,6 +67,28 @@ def instructions(plain, who, shape, call):
     return (whole(8) - whole(4)) / 4
 
 
+def answers(plain, counting, who):
+    """The shapes' names and lengths, and what is measured of each call: its allocations, and its instructions unless left out."""
+    names, size, found = {}, {}, {}
+    for line in run([plain, 'list']).splitlines():
+        one, shape, call, answer, name = line.split(' ', 4)
+        names[shape] = name
+        if call == '0':
+            size.setdefault(shape, answer)
+            assert size[shape] == answer, '%s counts another length for shape %s' % (one, name)
+        if call == '2':
+            assert found.setdefault((shape, 2), answer) == answer, '%s writes other bytes for shape %s' % (one, name)
+        elif one in who:
+            found[shape, int(call), one] = {'length': int(answer)} if CALLS[int(call)] == 'text' else {}
+    for (shape, call, *one), at in found.items():
+        if not one:
+            continue
+        at['calls'], at['bytes'] = run([counting, 'count', one[0], shape, str(call)]).split()
+        if '--no-instructions' not in sys.argv:
+            at['instructions'] = instructions(plain, one[0], shape, str(call))
+    return names, size, {key: at for key, at in found.items() if len(key) == 3}
+
+
 def main():
     folder = arg('--keep') or tempfile.mkdtemp(prefix='amqp-bench-')
     os.makedirs(folder, exist_ok=True)
@@ -59,44 +96,65 @@ def main():
     plain = driver(folder, made, 'driver', [])
     wraps = ['-C', 'link-arg=-Wl,--wrap=malloc,--wrap=realloc', '--cfg', 'count']
     counting = driver(folder, made, 'counting', wraps)
-    names, size, found = {}, {}, {}
-    for line in run([plain, 'list']).splitlines():
-        who, shape, call, answer, name = line.split(' ', 4)
-        names[shape] = name
-        if call == '0':
-            size.setdefault(shape, answer)
-            assert size[shape] == answer, '%s counts another length for shape %s' % (who, name)
-        if call == '2':
-            assert found.setdefault((shape, 2), answer) == answer, '%s writes other bytes for shape %s' % (who, name)
-        else:
-            found[shape, int(call), who] = {}
+    if '--check' in sys.argv:
+        sys.exit(check(*answers(plain, counting, ['project'])))
+    names, size, found = answers(plain, counting, WHO)
     if '--no-time' not in sys.argv:
         for line in run([plain, 'time']).splitlines():
             who, shape, call, ns = line.split()
             found[shape, int(call), who]['ns'] = float(ns)
-    for (shape, call, *who), at in found.items():
-        if not who:
-            continue
-        calls, at['bytes'] = run([counting, 'count', who[0], shape, str(call)]).split()
-        at['calls'] = calls
-        if '--no-instructions' not in sys.argv:
-            at['instructions'] = instructions(plain, who[0], shape, str(call))
     show(names, size, found)
+    if '--no-instructions' not in sys.argv:
+        targets(names, found)
+
+
+def recorded():
+    """The project's instructions and allocations, by shape and call, as README.md has them."""
+    rows, heads = {}, None
+    for line in open(os.path.join(HERE, 'README.md')):
+        cells = [cell.strip() for cell in line.strip().strip('|').split('|')]
+        if cells[0] == 'Shape' and 'instructions: table' in cells:
+            heads = cells
+        elif heads and len(cells) == len(heads) and cells[2] in CALLS.values() and cells[-1] != '-':
+            calls, asked = cells[-1].strip(')').split(' (')
+            rows[cells[0], cells[2]] = (int(cells[heads.index('project')]), int(calls), int(asked))
+        elif not line.startswith('|'):
+            heads = None
+    return rows
+
+
+def check(names, size, found):
+    """Prints each call that differs from the table; 1 where one is worse, or is not there."""
+    rows, worse = recorded(), 0
+    for (shape, call, _), at in found.items():
+        key = names[shape], CALLS[call]
+        if key not in rows:
+            print('%s, %s: not in the table' % key)
+            worse = 1
+            continue
+        now = (round(at['instructions']), int(at['calls']), int(at['bytes']))
+        for word, new, old in zip(['instructions', 'allocations', 'bytes asked for'], now, rows[key]):
+            if new > old * ALLOWED:
+                worse = 1
+            if new != old:
+                print('%s, %s: %d %s for %d%s' % (*key, new, word, old, ', WORSE' if new > old * ALLOWED else ''))
+    print('worse than the table' if worse else 'within five percent of the table')
+    return worse
 
 
 def show(names, size, found):
     cpu = [line.split(':')[1].strip() for line in open('/proc/cpuinfo') if line.startswith('model name')][0]
     print('%s, %s; %s; %s.\n' % (datetime.date.today().strftime('%-d %B %Y'), cpu, run(['rt', 'version']).strip(), run(['rustc', '--version']).strip()))
     heads = ['Shape', 'Bytes', 'Call']
-    heads += ['instructions a byte: table', 'buffers', 'project', 'project / table']
+    heads += ['instructions: table', 'buffers', 'project', 'project / table']
     heads += ['ns a byte: table', 'buffers', 'project', 'allocations: table', 'buffers', 'project']
     print('| ' + ' | '.join(heads) + ' |\n|' + '---|' * len(heads))
     for shape, name in names.items():
-        length = int(size[shape])
         for call, word in CALLS.items():
-            row = [name, str(length), word]
             at = [found.get((shape, call, who), {}) for who in WHO]
-            row += ['%.3f' % (x['instructions'] / length) if 'instructions' in x else '-' for x in at]
+            length = at[2].get('length', int(size[shape]))
+            row = [name, str(length), word]
+            row += ['%d' % round(x['instructions']) if 'instructions' in x else '-' for x in at]
             both = 'instructions' in at[0] and 'instructions' in at[2]
             row.append('%.2f' % (at[2]['instructions'] / at[0]['instructions']) if both else '-')
             row += ['%.4f' % (x['ns'] / length) if 'ns' in x else '-' for x in at]
@@ -104,4 +162,25 @@ def show(names, size, found):
             print('| ' + ' | '.join(row) + ' |')
 
 
-main()
+def targets(names, found):
+    """Prints what was asked beside what is, with the misses in bold."""
+    def told(value, limit, form):
+        text = form % value
+        return '%s of %s' % (text if float(text) <= limit else '**%s**' % text, limit)
+    rows = [['Target'], ['`to_vec`, of *table*'], ['`serialized_size`, of *table*'], ['`serialized_size`, instructions'], ["allocations: the table's growths, and one"]]
+    for shape, name in names.items():
+        if name not in TARGETS:
+            continue
+        word, most_bytes, most_size, most = TARGETS[name]
+        count = lambda call, who: found[shape, call, who]['instructions']
+        rows[0].append(word)
+        rows[1].append(told(count(1, 'project') / count(1, 'table'), most_bytes, '%.2f'))
+        rows[2].append(told(count(0, 'project') / count(0, 'table'), most_size, '%.2f') if most_size else '-')
+        rows[3].append(told(count(0, 'project'), most, '%.0f') if most else '-')
+        rows[4].append('%d + 1' % (int(found[shape, 1, 'project']['calls']) - 1))
+    rows.insert(1, ['---'] * len(rows[0]))
+    print('\n' + '\n'.join('| ' + ' | '.join(row) + ' |' for row in rows))
+
+
+if __name__ == '__main__':
+    main()

@@ -1,6 +1,6 @@
 /* Refuses one of the program's own requests for memory: the one whose number, from 1 on, stands in REFUSE. With 0 there
-   it refuses none, and prints how many there were. Requests that the C library makes for itself are not counted.
-   Loaded before the C library. */
+   it refuses none, and prints how many there were. And it refuses each request for more bytes than stand in REFUSE_PAST.
+   Requests that the C library makes for itself are not counted. Loaded before the C library. */
 #define _GNU_SOURCE
 #include <elf.h>
 #include <stddef.h>
@@ -28,17 +28,19 @@ static void find_program(void) {
       end = base + header[i].p_vaddr + header[i].p_memsz;
 }
 
-static int is_refused(const void *caller) {
+static int is_refused(const void *caller, size_t size) {
   if (!end) find_program();
   if ((uintptr_t)caller < first || (uintptr_t)caller >= end) return 0;
+  const char *past = getenv("REFUSE_PAST");
+  if (past && size > strtoul(past, NULL, 10)) return 1;
   const char *at = getenv("REFUSE");
   return at && ++number == atol(at);
 }
 
-void *malloc(size_t size) { return is_refused(__builtin_return_address(0)) ? NULL : __libc_malloc(size); }
+void *malloc(size_t size) { return is_refused(__builtin_return_address(0), size) ? NULL : __libc_malloc(size); }
 
 void *realloc(void *block, size_t size) {
-  return is_refused(__builtin_return_address(0)) ? NULL : __libc_realloc(block, size);
+  return is_refused(__builtin_return_address(0), size) ? NULL : __libc_realloc(block, size);
 }
 
 __attribute__((destructor)) static void tell(void) {

@@ -2,8 +2,9 @@
 
 ghost use Rattle.std.specs.Prelude.{◌≡◌, ◌≤◌};
 
-use crate::attach::Attach;
+use crate::attach::{Attach, DescribedAttach};
 use crate::chain::Chain;
+use crate::fed::{FedAttach, FedDescribedAttach};
 use crate::inputs::{blob, ints, lines, numbered, numbers, rows};
 use crate::repeat::repeat;
 use amqp_data::Error;
@@ -12,7 +13,7 @@ use std::alloc::Global;
 
 /// The answer on what could be built; 0 where it could not.
 fn answer<T: Serialize + Drop>(alloc: Global, built: Result<T, Error>, op: u32, times: u64) -> u64
-    ensures { 4 ≤ op → result ≡ 0 }
+    ensures { 5 ≤ op → result ≡ 0 }
 {
     match built {
         Ok(value) => repeat(alloc, &value, op, times),
@@ -20,14 +21,28 @@ fn answer<T: Serialize + Drop>(alloc: Global, built: Result<T, Error>, op: u32, 
     }
 }
 
+/// The answer on the fourteen fields in one of three other forms.
+fn attached(alloc: Global, form: u32, op: u32, times: u64) -> u64
+    ensures { 5 ≤ op → result ≡ 0 }
+{
+    let Ok(attach) = Attach::example(alloc) else {
+        return 0;
+    };
+    match form {
+        7 => repeat(alloc, &DescribedAttach(attach), op, times),
+        8 => repeat(alloc, &FedAttach(attach), op, times),
+        _ => repeat(alloc, &FedDescribedAttach(attach), op, times),
+    }
+}
+
 /// Answers on a value made of the data: work 0 is the list of the text's lines, work 1 the array of the numbers of
 /// four bytes each; any other is 0.
 ///
-/// The operations are those of `repeat`: 0 sizes, 1 bytes, 2 a hash of the bytes, 3 untyped values.
+/// The operations are those of `repeat`: 0 sizes, 1 bytes, 2 a hash of the bytes, 3 untyped values, 4 texts.
 #[unsafe(no_mangle)]
 pub extern "C" fn amqp_bench(alloc: Global, work: u32, op: u32, data: &[u8], times: u64) -> u64
     ensures works { 2 ≤ work → result ≡ 0 }
-    ensures operations { 4 ≤ op → result ≡ 0 }
+    ensures operations { 5 ≤ op → result ≡ 0 }
 {
     match work {
         0 => answer(alloc, lines(alloc, data), op, times),
@@ -37,12 +52,13 @@ pub extern "C" fn amqp_bench(alloc: Global, work: u32, op: u32, data: &[u8], tim
 }
 
 /// Answers on a value made by a rule: 0 is a list of fourteen fields, 1 a list of 1,000 ints, 2 1,000 rows of ten
-/// ints, 3 a chain of 256 lists, 4 a binary of 65,536 bytes, 5 and 6 maps of 1,000 and 10,000 keys; any other is 0. The
-/// operations are those of `amqp_bench`.
+/// ints, 3 a chain of 256 lists, 4 a binary of 65,536 bytes, 5 and 6 maps of 1,000 and 10,000 keys; 7 is the list of
+/// fields under a descriptor, 8 and 9 are the two with the fields fed one by one; any other is 0. The operations are those
+/// of `amqp_bench`.
 #[unsafe(no_mangle)]
 pub extern "C" fn amqp_shape(alloc: Global, shape: u32, op: u32, times: u64) -> u64
-    ensures shapes { 7 ≤ shape → result ≡ 0 }
-    ensures operations { 4 ≤ op → result ≡ 0 }
+    ensures shapes { 10 ≤ shape → result ≡ 0 }
+    ensures operations { 5 ≤ op → result ≡ 0 }
 {
     match shape {
         0 => answer(alloc, Attach::example(alloc), op, times),
@@ -52,6 +68,7 @@ pub extern "C" fn amqp_shape(alloc: Global, shape: u32, op: u32, times: u64) -> 
         4 => answer(alloc, blob(alloc, 65536), op, times),
         5 => answer(alloc, numbered(alloc, 1000), op, times),
         6 => answer(alloc, numbered(alloc, 10000), op, times),
+        7..=9 => attached(alloc, shape, op, times),
         _ => 0,
     }
 }

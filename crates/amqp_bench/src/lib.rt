@@ -6,6 +6,7 @@
 mod attach;
 mod chain;
 mod exports;
+mod fed;
 mod hash;
 mod inputs;
 mod repeat;

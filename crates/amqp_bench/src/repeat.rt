@@ -8,6 +8,7 @@ use crate::hash::hash_of;
 use amqp_ser::Serialize;
 use amqp_size::serialized_size;
 use amqp_to_value::to_value;
+use amqp_value::Value;
 use amqp_wire::to_vec;
 use std::alloc::Global;
 
@@ -47,6 +48,34 @@ fn add_value<T: Serialize>(alloc: Global, value: &T, sum: &mut u64) -> bool {
     }
 }
 
+/// Writes the text of an untyped value, adds how many bytes it has, and tells whether it was written.
+#[inline(never)]
+fn add_text(alloc: Global, value: &Value, sum: &mut u64) -> bool {
+    match value.to_string(alloc) {
+        Ok(text) => {
+            *sum = sum.wrapping_add(text.len() as u64);
+            true
+        }
+        Err(_) => false,
+    }
+}
+
+/// The sum of so many lengths of the text of a value's untyped value; 0 where one is refused.
+fn lengths_of_texts<T: Serialize>(alloc: Global, value: &T, times: u64) -> u64 {
+    match to_value(alloc, value) {
+        Ok(value) => {
+            let mut sum: u64 = 0;
+            for _ in 0..times {
+                if !add_text(alloc, &value, &mut sum) {
+                    return 0;
+                }
+            }
+            sum
+        }
+        Err(_) => 0,
+    }
+}
+
 /// The hash of a value's bytes; 0 where they cannot be written.
 fn hash_of_bytes<T: Serialize>(alloc: Global, value: &T) -> u64 {
     match to_vec(alloc, value) {
@@ -65,17 +94,21 @@ fn round<T: Serialize>(alloc: Global, value: &T, op: u32, sum: &mut u64) -> bool
 }
 
 /// What an operation answers on a value: 0 the sum of this many sizes, 1 the sum of this many written lengths, 2 the
-/// hash of the bytes, 3 how many untyped values were made; 0 where a round is refused, and for any other operation.
+/// hash of the bytes, 3 how many untyped values were made, 4 the sum of this many lengths of texts; 0 where a round is
+/// refused, and for any other operation.
 ///
 /// # Memory
 /// Takes `alloc`, and gives it back after each round.
 pub fn repeat<T: Serialize>(alloc: Global, value: &T, op: u32, times: u64) -> u64
-    ensures { 4 ≤ op → result ≡ 0 }
+    ensures { 5 ≤ op → result ≡ 0 }
 {
     if op == 2 {
         return hash_of_bytes(alloc, value);
     }
-    if op > 3 {
+    if op == 4 {
+        return lengths_of_texts(alloc, value, times);
+    }
+    if op > 4 {
         return 0;
     }
     let mut sum: u64 = 0;

@@ -33,6 +33,12 @@ fn sizes_of_the_shapes(rt: HostRuntime) {
 }
 
 #[test]
+fn lengths_of_texts_are_summed(rt: HostRuntime) {
+    let alloc = rt.alloc();
+    assert_eq!(rt; amqp_bench(alloc, 0, 4, b"a\nbc", 3), 33);
+}
+
+#[test]
 fn bytes_have_the_hash_of_worked_bytes(rt: HostRuntime) {
     let alloc = rt.alloc();
     let strings = hash_of(b"\xc0\x08\x02\xa1\x01a\xa1\x02bc");
@@ -46,7 +52,7 @@ fn bytes_have_the_hash_of_worked_bytes(rt: HostRuntime) {
 
 #[test]
 fn each_shape_is_written_and_made(rt: HostRuntime) {
-    for shape in [0, 1, 2, 3, 4, 5, 6] {
+    for shape in [0, 1, 2, 3, 4, 5, 6, 7, 8, 9] {
         let size = amqp_shape(rt.alloc(), shape, 0, 1);
         assert!(rt; size > 0);
         assert_eq!(rt;
@@ -55,5 +61,19 @@ fn each_shape_is_written_and_made(rt: HostRuntime) {
             "shape {shape}"
         );
         assert_eq!(rt; amqp_shape(rt.alloc(), shape, 3, 2), 2, "shape {shape}");
+        assert!(rt; amqp_shape(rt.alloc(), shape, 4, 1) > 0);
     }
+}
+
+#[test]
+fn forms_of_the_fields_are_written_alike(rt: HostRuntime) {
+    let alloc = rt.alloc();
+    for (one, other) in [(0, 8), (7, 9)] {
+        assert_eq!(rt;
+            amqp_shape(alloc, one, 2, 1),
+            amqp_shape(alloc, other, 2, 1),
+            "shapes {one} and {other}"
+        );
+    }
+    assert_eq!(rt; amqp_shape(alloc, 7, 0, 1), 133);
 }

@@ -1,8 +1,10 @@
 pub mod Compares
 pub mod Fixed
 pub mod FormatCode
+pub mod Hexadecimal
 pub mod Items
 pub mod Iterates
 pub mod Lends
 pub mod Pairs
+pub mod Shown
 pub mod Text

@@ -66,6 +66,13 @@ impl<K, V> OrderedMap<K, V> {
         }
     }
 
+    /// The pairs in order.
+    pub fn as_slice(&self) -> &[(K, V)]
+        ensures { result.now ≡ entries_of self.now }
+    {
+        &self.entries[..]
+    }
+
     /// Gives the pairs up, in order.
     pub fn into_inner(self) -> Vec<(K, V)>
         ensures { result.items ≡ entries_of self }

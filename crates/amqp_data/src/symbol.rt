@@ -1,10 +1,13 @@
 //! Symbols: names that the sender and the receiver agree on (AMQP 1.0 part 1, section 1.6.21).
 
-ghost use Rattle.std.specs.Prelude.{◌≡◌, IfOk, IfErr, string_bytes};
+ghost use Rattle.std.specs.Prelude.{◌≡◌, IfOk, IfErr, Some, string_bytes};
+ghost use Rattle.amqp_data.specs.Shown.{shown_symbol};
 ghost use Rattle.amqp_data.specs.Text.{symbol_text, symbol_ref_text};
 
 use crate::Error;
 use std::alloc::Global;
+use std::fmt;
+use std::fmt::{Formatter, Write};
 
 /// A symbol with its own text.
 ///
@@ -52,6 +55,19 @@ impl From<String> for Symbol {
 
     fn from(text: String) -> Symbol {
         Symbol(text)
+    }
+}
+
+/// A colon and the text.
+///
+/// # Example
+/// `:amqp`.
+impl fmt::Display for Symbol {
+    ghost output = { λ symbol. Some (shown_symbol (symbol_text symbol)) };
+
+    fn fmt<W: Write>(&self, f: &mut Formatter<W>) -> fmt::Result {
+        f.write_str(":")?;
+        f.write_str(self.0.as_str())
     }
 }
 

@@ -3,3 +3,4 @@
 mod codes;
 mod containers;
 mod scalars;
+mod shown;

@@ -1,7 +1,12 @@
 //! Moments (AMQP 1.0 part 1, section 1.6.17).
 
-ghost use Rattle.std.specs.Prelude.{◌≡◌};
+ghost use Rattle.std.specs.Prelude.{◌≡◌, Some};
+ghost use Rattle.amqp_calendar.specs.Moment.{moment_text};
 ghost use Rattle.amqp_data.specs.Fixed.{milliseconds_of};
+
+use amqp_calendar::write_moment;
+use std::fmt;
+use std::fmt::{Formatter, Write};
 
 /// A moment, as milliseconds since the Unix epoch, 1 January 1970 at 00:00 UTC.
 ///
@@ -48,5 +53,18 @@ impl From<i64> for Timestamp {
 
     fn from(milliseconds: i64) -> Timestamp {
         Timestamp::from_milliseconds(milliseconds)
+    }
+}
+
+/// Date and time in the proleptic Gregorian calendar with a year 0: `Y-MM-DDThh:mm:ss.mmmZ`. Years from 0 to 9999 have
+/// four digits, others a sign and at least six.
+///
+/// # Example
+/// -1 millisecond is `1969-12-31T23:59:59.999Z`.
+impl fmt::Display for Timestamp {
+    ghost output = { λ timestamp. Some (moment_text (milliseconds_of timestamp)) };
+
+    fn fmt<W: Write>(&self, f: &mut Formatter<W>) -> fmt::Result {
+        write_moment(self.0, f)
     }
 }

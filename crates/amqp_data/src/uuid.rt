@@ -1,9 +1,13 @@
 //! Universally unique identifiers (AMQP 1.0 part 1, section 1.6.18).
 
-ghost use Rattle.std.specs.Prelude.{◌≡◌};
+ghost use Rattle.std.specs.Prelude.{◌≡◌, ◌+◌, ◌≤◌, Some};
+ghost use Rattle.std.specs.Fmt.{WritesOnOk};
 ghost use Rattle.amqp_data.specs.Fixed.{uuid_bytes, GivesFixed};
+ghost use Rattle.amqp_data.specs.Shown.{shown_uuid, uuid_group};
 
-use crate::Error;
+use crate::{Error, write_hexadecimal};
+use std::fmt;
+use std::fmt::{Formatter, Write};
 
 /// A universally unique identifier of any version, as its 16 bytes.
 ///
@@ -49,4 +53,34 @@ impl TryFrom<&[u8]> for Uuid {
             Err(_) => Err(Error::InvalidValue),
         }
     }
+}
+
+/// 8, 4, 4, 4 and 12 lower-case hexadecimal digits, with hyphens between them.
+///
+/// # Example
+/// `00112233-4455-6677-8899-aabbccddeeff`.
+impl fmt::Display for Uuid {
+    ghost output = { λ uuid. Some (shown_uuid (uuid_bytes uuid)) };
+
+    fn fmt<W: Write>(&self, f: &mut Formatter<W>) -> fmt::Result {
+        write_hexadecimal(&self.0[..4], f)?;
+        write_group(&self.0, 4, 2, f)?;
+        write_group(&self.0, 6, 2, f)?;
+        write_group(&self.0, 8, 2, f)?;
+        write_group(&self.0, 10, 6, f)
+    }
+}
+
+// Writes so many bytes from a place on, behind a hyphen.
+fn write_group<W: Write>(
+    bytes: &[u8; 16],
+    from: usize,
+    count: usize,
+    f: &mut Formatter<W>,
+) -> fmt::Result
+    requires { from + count ≤ 16 }
+    ensures { WritesOnOk W.write_str_gives f.old result (uuid_group bytes.now from count) f.new }
+{
+    f.write_str("-")?;
+    write_hexadecimal(&bytes[from..from + count], f)
 }

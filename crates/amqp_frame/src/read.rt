@@ -1,9 +1,9 @@
 //! The trait of what bytes are read from.
 
-ghost use Rattle.std.specs.Prelude.{◌≡◌, ◌≤◌, ◌⊎◌, ℕ, List, Option, None, IfOk, OnOk, IfErr, OnErr, IfSome, IsErrOf, length, slice_get};
+ghost use Rattle.std.specs.Prelude.{◌≡◌, ◌≤◌, ◌⊎◌, ℕ, Bool, List, Option, None, IfOk, OnOk, IfErr, OnErr, IfSome, IsErrOf, length, slice_get};
 ghost use Rattle.std.specs.Option.{option_to_list};
 ghost use Rattle.std.specs.Io.KnownBytes.{Keeps, Consumes, IsAtEnd};
-ghost use Rattle.amqp_frame.specs.Reader.{last_count, Failed, Takes, RunsOut};
+ghost use Rattle.amqp_frame.specs.Reader.{last_count, Failed, Takes, RunsOut, answers_io};
 
 use amqp_data::Error;
 
@@ -18,6 +18,10 @@ pub trait Read {
 
     /// How many reads failed.
     ghost failures: { Self → ℕ };
+
+    /// What a call makes of the count, where the reader says more than the clauses do: from whether it
+    /// answered [`Error::Io`], the count before and the count after.
+    ghost counts: { Bool → ℕ → ℕ → Type 0 } = { λ _ _ _. Unit {0} };
 
     /// Looks at the next byte, which stays: none at the end.
     ///
@@ -34,6 +38,7 @@ pub trait Read {
             (e ≡ Error.Io) × Failed (failures self.old) (failures self.new)) }
         ensures last { failures self.old ≡ last_count → IsErrOf result Error.Io }
         ensures kept { Keeps (left self.old) (left self.new) }
+        ensures counts { counts (answers_io result) (failures self.old) (failures self.new) }
         ensures count { failures self.old ≤ failures self.new };
 
     /// Takes the next byte: none at the end.
@@ -53,6 +58,7 @@ pub trait Read {
             (e ≡ Error.Io) × Failed (failures self.old) (failures self.new)) }
         ensures last { failures self.old ≡ last_count → IsErrOf result Error.Io }
         ensures kept { OnErr result (Keeps (left self.old) (left self.new)) }
+        ensures counts { counts (answers_io result) (failures self.old) (failures self.new) }
         ensures count { failures self.old ≤ failures self.new };
 
     /// Takes as many bytes as `buf` has.
@@ -74,5 +80,6 @@ pub trait Read {
             × Failed (failures self.old) (failures self.new) }
         ensures others { IfErr result (λ e. (e ≡ Error.UnexpectedEof) ⊎ (e ≡ Error.Io)) }
         ensures last { failures self.old ≡ last_count → IsErrOf result Error.Io }
+        ensures counts { counts (answers_io result) (failures self.old) (failures self.new) }
         ensures count { failures self.old ≤ failures self.new };
 }

@@ -3,7 +3,7 @@
 ghost use Rattle.std.specs.Prelude.{◌≡◌, ◌≤◌, ◌<◌, ◌+◌, ◌⊎◌, None, Some, IfOk, OnOk, IfErr, OnErr, IsErrOf, IsOkUnless, Ok, length, take};
 ghost use Rattle.std.specs.Option.{option_to_list};
 ghost use Rattle.std.specs.Io.KnownBytes.{Keeps, Consumes, IsAtEnd, prepend_known};
-ghost use Rattle.amqp_frame.specs.Reader.{last_count, Takes, RunsOut};
+ghost use Rattle.amqp_frame.specs.Reader.{last_count, Takes, RunsOut, CountsOne, answers_io};
 
 use crate::read::Read;
 use amqp_data::Error;
@@ -62,7 +62,8 @@ impl Read for SliceReader<'_> {
 
 /// The bytes that a `std` reader gives.
 ///
-/// Each failed read counts one failure, an interrupted one too; no read is tried again.
+/// Each failed read counts one failure, an interrupted one too; no read is tried again. A call that does
+/// not fail counts none.
 #[derive(Drop)]
 pub struct IoReader<R> {
     inner: R,
@@ -93,6 +94,8 @@ impl<R: io::Read> Read for IoReader<R> {
     ghost left = { λ r. prepend_known (option_to_list r.seen) (R.remaining r.inner) };
 
     ghost failures = { λ r. r.failures };
+
+    ghost counts = { CountsOne };
 
     fn peek(&mut self) -> Result<Option<u8>, Error> {
         if self.failures == u64::MAX {
@@ -180,6 +183,7 @@ fn fill<R: io::Read>(inner: &mut R, buf: &mut [u8], failures: &mut u64) -> Resul
     ensures io { IsErrOf result Error.Io
         → Takes (R.remaining inner.old) (R.remaining inner.new) × (failures.old < failures.new) }
     ensures others { IfErr result (λ e. (e ≡ Error.UnexpectedEof) ⊎ (e ≡ Error.Io)) }
+    ensures counts { CountsOne (answers_io result) failures.old failures.new }
     ensures count { failures.old ≤ failures.new }
 {
     let mut at = 0;

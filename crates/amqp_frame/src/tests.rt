@@ -1,8 +1,9 @@
 //! Rows of frames, through readers that give a slice, one byte a call, or fail.
 
-ghost use Rattle.std.specs.Prelude.{◌≡◌, ◌↔◌, IsTrue, Some};
+ghost use Rattle.std.specs.Prelude.{◌≡◌, ◌+◌, ◌<◌, ◌↔◌, IsErrOf, IsTrue, OnOk, Some};
 ghost use Rattle.std.specs.Cmp.Lexicographic.{slice_cmp};
 ghost use Rattle.std.specs.Ordering.{nat_cmp};
+ghost use Rattle.amqp_frame.specs.Reader.{last_count};
 
 use crate::{IoReader, LazyValue, Read, SliceReader, frame_len};
 use amqp_data::Error;
@@ -166,6 +167,25 @@ fn each_read_fails(rt: HostRuntime) {
         let answer = cut_by_bytes(alloc, bytes, 6, kind);
         assert_eq!(rt; answer, (Ok(5), 0));
     }
+}
+
+// A look that goes well counts no failure, and one that fails counts one.
+fn looks_once<R: io::Read>(reader: &mut IoReader<R>) -> Result<Option<u8>, Error>
+    ensures stays { OnOk result (⟦<IoReader<R> as Read>⟧.failures reader.new
+        ≡ ⟦<IoReader<R> as Read>⟧.failures reader.old) }
+    ensures rises { IsErrOf result Error.Io
+        → ⟦<IoReader<R> as Read>⟧.failures reader.old < last_count
+        → ⟦<IoReader<R> as Read>⟧.failures reader.new
+        ≡ ⟦<IoReader<R> as Read>⟧.failures reader.old + 1 }
+{
+    reader.peek()
+}
+
+#[test]
+fn a_reader_goes_on_after_a_failure(rt: HostRuntime) {
+    let mut reader = by_bytes(b"\x40", 1, ErrorKind::Interrupted);
+    assert_eq!(rt; looks_once(&mut reader), Err(Error::Io));
+    assert_eq!(rt; looks_once(&mut reader), Ok(Some(0x40)));
 }
 
 #[test]

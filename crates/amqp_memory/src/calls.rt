@@ -1,9 +1,11 @@
-//! The main calls that take memory, with what they must answer: all but the two runs and `try_collect`.
+//! The main calls that take memory, with what they must answer.
 
 use crate::again::Again;
-use amqp_data::{Array, Described, Descriptor, Error, OrderedMap, Symbol};
+use crate::conversions;
+use crate::report::report;
+use amqp_data::{Array, Described, Descriptor, Error, OrderedMap, Symbol, TransparentVec};
 use amqp_frame::{LazyValue, SliceReader};
-use amqp_to_value::to_value;
+use amqp_to_value::{TryFromSerializable, to_value};
 use amqp_value::Value;
 use amqp_wire::to_vec;
 use std::alloc::Global;
@@ -13,20 +15,15 @@ pub fn all(rt: &(impl Print + AllocGlobal)) -> Result<(), Error> {
     let alloc = rt.alloc();
     report(rt, "names", names(alloc)?);
     report(rt, "maps", maps(alloc)?);
+    report(rt, "what an iterator gives", collected(alloc)?);
     report(rt, "bytes", bytes(alloc)?);
     report(rt, "a refused element fed again", fed_again(alloc)?);
+    report(rt, "refused lists fed again", lists_fed_again(alloc)?);
     report(rt, "images", images(alloc)?);
     report(rt, "described values", described(alloc)?);
     report(rt, "frames", frames(alloc)?);
+    report(rt, "conversions", conversions::all(alloc)?);
     Ok(())
-}
-
-fn report(rt: &impl Print, name: &str, right: bool) {
-    let _ = if right {
-        rt.println(name)
-    } else {
-        rt.println("wrong")
-    };
 }
 
 fn names(alloc: Global) -> Result<bool, Error> {
@@ -42,7 +39,7 @@ fn maps(alloc: Global) -> Result<bool, Error> {
     Ok(first.is_none() && second.is_none() && third == Some(true) && map.len() == 2)
 }
 
-/// Lists within a list, an array of arrays and a map: more compounds than the table first has room for.
+/// Arrays within a list: more compounds than the table first has room for.
 fn nested(alloc: Global) -> Result<Value, Error> {
     let mut lists = Vec::new(alloc);
     for number in 0u8..12 {
@@ -64,12 +61,25 @@ fn fed_again(alloc: Global) -> Result<bool, Error> {
     Ok(bytes.as_slice() == [0xc0, 7, 1, 0xc0, 4, 1, 0xa1, 1, b'a'].as_slice())
 }
 
+/// Five lists within one another: the table's growth is refused within the element that is fed again.
+fn lists_fed_again(alloc: Global) -> Result<bool, Error> {
+    let bytes = to_vec(alloc, &Again(((((("a",),),),),)))?;
+    let expected: &[u8] =
+        b"\xc0\x13\x01\xc0\x10\x01\xc0\x0d\x01\xc0\x0a\x01\xc0\x07\x01\xc0\x04\x01\xa1\x01a";
+    Ok(bytes.as_slice() == expected)
+}
+
+fn collected(alloc: Global) -> Result<bool, Error> {
+    let vector = TransparentVec::try_collect(alloc, [1u8, 2, 3].into_iter())?;
+    Ok(vector.as_slice() == [1, 2, 3].as_slice())
+}
+
 fn images(alloc: Global) -> Result<bool, Error> {
     let value = nested(alloc)?;
     let mut map = OrderedMap::new(alloc);
     drop(map.insert(Symbol::try_from_str(alloc, "k")?, value)?);
     let image = to_value(alloc, &map)?;
-    Ok(to_value(alloc, &image)? == image)
+    Ok(Value::try_from_serializable(alloc, &image)? == image)
 }
 
 fn described(alloc: Global) -> Result<bool, Error> {

@@ -13,3 +13,6 @@ pub mod Same
 pub mod Fixed
 pub mod Carried
 pub mod Forms
+pub mod Feeding
+pub mod Named
+pub mod Words

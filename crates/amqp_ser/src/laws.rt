@@ -2,6 +2,8 @@
 //!
 //! A law is a function that does nothing: its clause is the law. A caller's proof learns it by a call.
 
+pub mod trees_of_carried_types;
+
 ghost use Rattle.std.specs.Prelude.{◌≡◌, ◌∷◌, ◌<◌, ◌^◌, ℕ, Some, true, length};
 ghost use Rattle.amqp_ser.specs.Encoding.{con, enc, payload};
 ghost use Rattle.amqp_ser.specs.Forms.{IsForm, has_one_form};

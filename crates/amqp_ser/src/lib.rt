@@ -7,6 +7,7 @@
 
 mod body;
 mod compound;
+mod fields;
 mod fixed;
 mod impls;
 mod kind;
@@ -22,8 +23,26 @@ pub use compound::{
     SerializeMap, SerializeSeq, SerializeStruct, SerializeStructVariant, SerializeTuple,
     SerializeTupleStruct, SerializeTupleVariant,
 };
+pub use fields::{Field, Fields, Keys, ListOf, MapOf, OptionalField, SymbolMapOf, VariantOf};
 pub use fixed::Fixed;
 pub use kind::Kind;
 pub use mark::{Mark, mark_named};
 pub use serialize::Serialize;
 pub use serializer::Serializer;
+
+/// The fields of a struct, in order: `fields! { "name": value, "other"?: option, .. }`.
+///
+/// A name is a literal, or an expression in parentheses whose value is a `&str`. A value is what its name means, or a
+/// reference to it. The value after `?:` is a reference to an `Option`, and the field is left out where it is `None`:
+/// in a map always, and in a list where no later field is there. Wrapped in [`ListOf`], [`MapOf`], [`SymbolMapOf`] or
+/// [`VariantOf`] the fields serialize as the list of them, as the map from their names, or as a variant.
+#[macro_export]
+macro_rules! fields {
+    () => { () };
+    ($name:tt : $value:expr $(, $($rest:tt)*)?) => {
+        $crate::Field { name: $name, value: $value, rest: $crate::fields!($($($rest)*)?) }
+    };
+    ($name:tt ? : $value:expr $(, $($rest:tt)*)?) => {
+        $crate::OptionalField { name: $name, value: $value, rest: $crate::fields!($($($rest)*)?) }
+    };
+}

@@ -68,12 +68,13 @@ pub fn mark_named(name: &str) -> Mark
 ///
 /// # Memory
 /// Takes none.
+#[inline(always)]
 pub fn struct_body(name: &str) -> Body
     ensures { result ≡ struct_body name.now }
 {
     if is_basic_name(name) {
         Body::Bare
-    } else if name == markers::DESCRIBED_MAP {
+    } else if name.len() == markers::DESCRIBED_MAP.len() && name == markers::DESCRIBED_MAP {
         Body::Map
     } else {
         Body::List
@@ -84,10 +85,11 @@ pub fn struct_body(name: &str) -> Body
 ///
 /// # Memory
 /// Takes none.
+#[inline(always)]
 pub fn is_basic_name(name: &str) -> bool
     ensures { result ≡ is_basic_name name.now }
 {
-    name == markers::DESCRIBED_BASIC
+    name.len() == markers::DESCRIBED_BASIC.len() && name == markers::DESCRIBED_BASIC
 }
 
 /// Whether the first field of a tuple struct of this name is its descriptor.
@@ -114,8 +116,9 @@ pub fn is_value_name(name: &str) -> bool
 ///
 /// # Memory
 /// Takes none.
+#[inline(always)]
 pub fn is_descriptor_key(key: &str) -> bool
     ensures { result ≡ is_descriptor key.now }
 {
-    key == markers::DESCRIPTOR
+    key.len() == markers::DESCRIPTOR.len() && key == markers::DESCRIPTOR
 }

@@ -9,6 +9,7 @@ ghost use Rattle.amqp_ser.specs.Marked.{is_descriptor, is_value, marked, mark_of
 ghost use Rattle.amqp_ser.specs.Structs.{Stands, struct_body, is_basic_name, is_tagged, named_variant};
 ghost use Rattle.amqp_data.specs.Fixed.{f32_bits, f64_bits};
 
+use crate::body::serialize_described;
 use crate::compound::feed::feed_part;
 use crate::compound::{
     SerializeMap, SerializeSeq, SerializeStruct, SerializeStructVariant, SerializeTuple,
@@ -24,7 +25,7 @@ use amqp_data::{F32Bits, F64Bits};
 
 /// Turns data trees into answers of one kind, as their length, their bytes or an untyped value.
 ///
-/// An author writes the twelve required methods; the methods that values call, named as serde names them,
+/// An author writes the fourteen required methods; the methods that values call, named as serde names them,
 /// stand on these and are the same for every serializer.
 ///
 /// # Implementer notes
@@ -63,6 +64,10 @@ pub trait Serializer {
     fn serialize_fixed(&mut self, fixed: Fixed) -> Result<Self::Ok, Self::Error>
         ensures { permits self.old (Some (scalar (fixed_scalar fixed))) result self.new };
 
+    /// Answers on null.
+    fn serialize_null(&mut self) -> Result<Self::Ok, Self::Error>
+        ensures { permits self.old (Some (scalar null)) result self.new };
+
     /// Answers on a string.
     fn serialize_str(&mut self, v: &str) -> Result<Self::Ok, Self::Error>
         ensures { permits self.old (Some (scalar (string v.now))) result self.new };
@@ -79,6 +84,9 @@ pub trait Serializer {
     /// Opens a compound.
     fn begin(&mut self, kind: Kind) -> Self::Open
         ensures { has self.old kind self.new result [] };
+
+    /// A compound that was never opened, which stands where one was moved out.
+    fn vacant(&self) -> Self::Open;
 
     /// Makes ready for the next part. The first of a bare compound stands where the compound was opened: any call may
     /// come there.
@@ -248,7 +256,7 @@ pub trait Serializer {
     final fn serialize_none(&mut self) -> Result<Self::Ok, Self::Error>
         ensures { Self.permits self.old (Some (scalar null)) result self.new }
     {
-        self.serialize_fixed(Fixed::Null)
+        self.serialize_null()
     }
 
     /// Answers on the unit, as null.
@@ -256,7 +264,7 @@ pub trait Serializer {
     final fn serialize_unit(&mut self) -> Result<Self::Ok, Self::Error>
         ensures { Self.permits self.old (Some (scalar null)) result self.new }
     {
-        self.serialize_fixed(Fixed::Null)
+        self.serialize_null()
     }
 
     /// Answers on a struct without fields, as null.
@@ -264,7 +272,7 @@ pub trait Serializer {
     final fn serialize_unit_struct(&mut self, _name: &'static str) -> Result<Self::Ok, Self::Error>
         ensures { Self.permits self.old (Some (scalar null)) result self.new }
     {
-        self.serialize_fixed(Fixed::Null)
+        self.serialize_null()
     }
 
     /// Answers on a variant without a value, as the uint of its index.
@@ -335,7 +343,7 @@ pub trait Serializer {
         ensures succeeds { IsOk result }
     {
         let held = self.begin(Kind::List);
-        Ok(SerializeTuple::new(self, held))
+        Ok(SerializeSeq::new(self, held))
     }
 
     /// Opens a tuple struct: a list of its fields, of which the first is the descriptor where the name asks for one.
@@ -382,6 +390,20 @@ pub trait Serializer {
     {
         let held = self.begin(Kind::Bare);
         Ok(SerializeStruct::new(self, held, struct_body(name)))
+    }
+
+    /// Answers on a described value: a descriptor, which is a ulong or a symbol, before a value.
+    #[inline(always)]
+    final fn serialize_described<D: Serialize, T: Serialize>(
+        &mut self,
+        descriptor: &D,
+        value: &T,
+    ) -> Result<Self::Ok, Self::Error>
+    where
+        Self: Sized,
+        ensures { Self.permits self.old (as_described (descriptor_of (D.tree descriptor.now)) (T.tree value.now)) result self.new }
+    {
+        serialize_described(self, descriptor, value)
     }
 
     /// Opens a map.
@@ -439,12 +461,11 @@ pub trait Serializer {
     where
         Self: Sized,
         ensures opened { IfOk result (λ variant. Self.has self.old (Kind.Fields index) variant.serializer.now variant.held []) }
-        ensures index { IfOk result (λ variant. variant.index ≡ index) }
         ensures same_reference { IfOk result (λ variant. variant.serializer.ghost_name ≡ self.entry.ghost_name) }
         ensures succeeds { IsOk result }
     {
         let held = self.begin(Kind::Fields(index));
-        Ok(SerializeTupleVariant::new(self, held, index))
+        Ok(SerializeTupleVariant::new(self, held))
     }
 
     /// Opens a variant of named fields.
@@ -459,11 +480,10 @@ pub trait Serializer {
     where
         Self: Sized,
         ensures opened { IfOk result (λ variant. Self.has self.old (Kind.Fields index) variant.serializer.now variant.held []) }
-        ensures index { IfOk result (λ variant. variant.index ≡ index) }
         ensures same_reference { IfOk result (λ variant. variant.serializer.ghost_name ≡ self.entry.ghost_name) }
         ensures succeeds { IsOk result }
     {
         let held = self.begin(Kind::Fields(index));
-        Ok(SerializeStructVariant::new(self, held, index))
+        Ok(SerializeStructVariant::new(self, held))
     }
 }

@@ -2,11 +2,14 @@
 
 mod calls;
 mod composites;
+mod looks;
 mod samples;
 
 use self::calls::{calls_of, new_calls};
 use self::composites::{Body, Named, Opens, Properties, Tuple, bad_descriptor, two_descriptors};
+use self::looks::looks_between;
 use self::samples::{Inner, Name, NoName, Pair, Reading};
+use crate::{ListOf, MapOf, SymbolMapOf, VariantOf, fields};
 use amqp_data::{
     Array, ByteBuf, Dec32, Described, Descriptor, F64Bits, OrderedMap, Symbol, SymbolRef,
     Timestamp, TransparentVec, Uuid, markers,
@@ -143,7 +146,7 @@ fn descriptors_come_before_bodies(rt: HostRuntime) -> Result<(), Fail> {
     };
     assert_eq!(rt;
         calls_of(alloc, &properties).as_str(),
-        "bare [ by ulong { is_fool, bool, a, ubyte, }"
+        "bare [ by ulong { is_fool, bool, a, ubyte, }, ]"
     );
     assert_eq!(rt;
         calls_of(alloc, &Body("a")).as_str(),
@@ -201,5 +204,54 @@ fn descriptors_come_once(rt: HostRuntime) -> Result<(), Fail> {
     let mut calls = new_calls(alloc);
     drop(two_descriptors(&mut calls));
     assert_eq!(rt; calls.as_str(), "bare [ by ulong misuse,");
+    Ok(())
+}
+
+#[test]
+fn a_look_changes_nothing(rt: HostRuntime) -> Result<(), Fail> {
+    let mut calls = new_calls(rt.alloc());
+    drop(looks_between(&mut calls));
+    assert_eq!(rt; calls.as_str(), "{ a, ubyte, }");
+    Ok(())
+}
+
+#[test]
+fn fields_are_handed_over_together(rt: HostRuntime) -> Result<(), Fail> {
+    let alloc = rt.alloc();
+    let there = Some(true);
+    let list = ListOf(fields! { "a": None::<u8>, "b"?: &there });
+    assert_eq!(rt; calls_of(alloc, &list).as_str(), "[ null, bool, ]");
+    let map = SymbolMapOf(fields! { "a": 1u8, "b"?: &there });
+    assert_eq!(rt;
+        calls_of(alloc, &map).as_str(),
+        "{ symbol a, ubyte, symbol b, bool, }"
+    );
+    let variant = VariantOf(3, fields! { "a": 1u8, "b"?: &there });
+    assert_eq!(rt;
+        calls_of(alloc, &variant).as_str(),
+        "fields [ ubyte, bool, ]"
+    );
+    Ok(())
+}
+
+#[test]
+fn absent_fields_are_left_out(rt: HostRuntime) -> Result<(), Fail> {
+    let alloc = rt.alloc();
+    let absent: Option<u8> = None;
+    let list = ListOf(fields! { "a"?: &absent, "b": true });
+    assert_eq!(rt; calls_of(alloc, &list).as_str(), "[ null, bool, ]");
+    let list = ListOf(fields! { "b": true, "c"?: &absent });
+    assert_eq!(rt; calls_of(alloc, &list).as_str(), "[ bool, ]");
+    let map = MapOf(fields! { "a"?: &absent, "b": true });
+    assert_eq!(rt; calls_of(alloc, &map).as_str(), "{ b, bool, }");
+    Ok(())
+}
+
+#[test]
+fn names_may_come_at_run_time(rt: HostRuntime) -> Result<(), Fail> {
+    let alloc = rt.alloc();
+    let name = String::from_str(alloc, "later")?;
+    let map = MapOf(fields! { (name.as_str()): 1u8 });
+    assert_eq!(rt; calls_of(alloc, &map).as_str(), "{ later, ubyte, }");
     Ok(())
 }

@@ -1,16 +1,16 @@
 -- An open bare compound.
 use Rattle.std.proofs.Common.{◌≡◌, ℕ, ◌≤◌, List, [], ◌∷◌, ◌++◌, Option, Some, None, Ok, Err, refl, ap, sym, ◌∙◌, subst, arith}
-use Rattle.amqp_data.specs.declared.error.Error.{Error}
-use Rattle.amqp_data.specs.declared.error.Error.TheVariants as error
+use Rattle.amqp_size.specs.declared.refusal.Refusal.{Refusal}
+use Rattle.amqp_size.specs.declared.refusal.Refusal.TheVariants as error
 use Rattle.amqp_ser.specs.Tree.{Tree, Trees}
 use Rattle.amqp_ser.specs.Compounds.{all_trees, before, as_kind, whole}
-use Rattle.amqp_ser.specs.Permitted.{refuses_none}
+use Rattle.amqp_size.specs.Refused.{refuses_none}
 use Rattle.amqp_ser.specs.declared.kind.Kind.{Kind}
 use Rattle.amqp_ser.specs.declared.kind.Kind.TheVariants as kinds
 use Rattle.amqp_size.specs.Place.{outer, meant, rest, shape_of}
 use Rattle.amqp_size.specs.Counted.{at_place, HoldsBare}
-use Rattle.amqp_size.specs.declared.place.Under.{Under}
-use Rattle.amqp_size.specs.declared.place.Under.TheVariants as under
+use Rattle.amqp_size.specs.WholeUnder.{Under}
+use Rattle.amqp_size.specs.WholeUnder as under
 use Rattle.amqp_size.specs.declared.place.Shape.TheVariants as shapes
 use Rattle.amqp_size.specs.declared.serializer.SizeSerializer.{SizeSerializer}
 use Rattle.amqp_size.specs.declared.open_compound.Open.{Open}
@@ -57,14 +57,14 @@ unfolding whole
 whole_two p q ps = two p q (all_trees ps)
 
 -- the refusal of no tree
-no_whole : (start : SizeSerializer) (held : Open) (kind : Kind) (qs : List (Option Tree)) (e : Error) → rest held.place ≡ rest (outer start.place) → kind ≡ kinds.Bare → whole kinds.Bare qs ≡ None → refuses_none e →
+no_whole : (start : SizeSerializer) (held : Open) (kind : Kind) (qs : List (Option Tree)) (e : Refusal) → rest held.place ≡ rest (outer start.place) → kind ≡ kinds.Bare → whole kinds.Bare qs ≡ None → refuses_none e →
     at_place (outer start.place) (meant start.place (whole kind qs)) (Err e) (under.Plain (rest held.place))
 no_whole start held kind qs e a k q r =
     stands_none start.place (outer start.place) (whole kind qs) (Err e) (under.Plain (rest held.place)) refl
     (ap (λ k. meant start.place (whole k qs)) k ∙ ap (meant start.place) q ∙ meant_none start.place) (r, ap under.Plain a)
 
 -- a refused value
-pub refused_bare : (start : SizeSerializer) (kind : Kind) (held : Open) (ps : List (Option Tree)) → HoldsBare start kind held ps → (p : Option Tree) (e : Error) (after : Under) →
+pub refused_bare : (start : SizeSerializer) (kind : Kind) (held : Open) (ps : List (Option Tree)) → HoldsBare start kind held ps → (p : Option Tree) (e : Refusal) (after : Under) →
     at_place (outer held.inner) (meant held.inner p) (Err e) after → (others : List (Option Tree)) →
     at_place (outer start.place) (meant start.place (whole kind (ps ++ (p ∷ others)))) (Err e) (under.Plain (rest held.place))
 refused_bare start kind held [] h p e after r [] =

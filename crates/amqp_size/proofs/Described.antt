@@ -1,7 +1,7 @@
 -- A descriptor, and the value after it.
 use Rattle.std.proofs.Common.{◌≡◌, ℕ, ◌+◌, ◌<◌, Option, Some, None, Bool, true, false, ◌&&◌, Result, Ok, Err, length, refl, ap, sym, ◌∙◌, subst, arith, length-append, is_some}
-use Rattle.amqp_data.specs.declared.error.Error.{Error}
-use Rattle.amqp_data.specs.declared.error.Error.TheVariants as error
+use Rattle.amqp_size.specs.declared.refusal.Refusal.{Refusal}
+use Rattle.amqp_size.specs.declared.refusal.Refusal.TheVariants as error
 use Rattle.amqp_ser.specs.Tree.{Scalar, null, bool, ubyte, ushort, uint, ulong, byte, short, int, long, float, double, decimal32, decimal64, decimal128, char, timestamp, uuid, binary, string, symbol, Descriptor, name, code, Tree, scalar, list, array, map, described, variant, lazy, transparent}
 use Rattle.amqp_ser.specs.Limits.{is_length}
 use Rattle.amqp_ser.specs.Scalars.{scalar_form}
@@ -10,17 +10,17 @@ use Rattle.amqp_ser.specs.Writable.{alike, within, scalar_fits, descriptor_fits}
 use Rattle.amqp_ser.specs.Composites.{scalar_descriptor, descriptor_of, as_described}
 use Rattle.amqp_ser.specs.Marked.{marked}
 use Rattle.amqp_ser.specs.declared.mark.Mark.TheVariants as mark
-use Rattle.amqp_ser.specs.Permitted.{refuses_none}
+use Rattle.amqp_size.specs.Refused.{refuses_none}
 use Rattle.amqp_ser.proofs.Bools.{left_false, right_false, le_false, le_true, is_le}
 use Rattle.amqp_size.specs.Place.{outer, meant, rest, stand, suits, next, extent, within_at, described_under, the_mark}
 use Rattle.amqp_size.specs.Counted.{at_place, refused}
 use Rattle.amqp_size.specs.Take.{undescribed}
 use Rattle.amqp_size.specs.declared.place.Base.{Base}
 use Rattle.amqp_size.specs.declared.place.Base.TheVariants as base
-use Rattle.amqp_size.specs.declared.place.Place.{Place}
-use Rattle.amqp_size.specs.declared.place.Place.TheVariants as place
-use Rattle.amqp_size.specs.declared.place.Under.{Under}
-use Rattle.amqp_size.specs.declared.place.Under.TheVariants as under
+use Rattle.amqp_size.specs.WholePlace.{Place}
+use Rattle.amqp_size.specs.WholePlace as place
+use Rattle.amqp_size.specs.WholeUnder.{Under}
+use Rattle.amqp_size.specs.WholeUnder as under
 use Rattle.amqp_size.specs.declared.place.ScalarMark.{ScalarMark}
 use Rattle.amqp_size.specs.declared.place.ScalarMark.TheVariants as scalar_mark
 
@@ -77,7 +77,7 @@ length-described x t n e = simp length-append (omega arith)
 
 value_step : (p : Place) (k : ℕ) (b : Base) (x : Descriptor) → rest p ≡ stand b → ((t : Tree) → within_at (place.Value k b) t ≡ within_at p (described x t)) → ((t : Tree) → suits (place.Value k b) t ≡ suits p (described x t)) →
     ((t : Tree) → suits p (described x t) ≡ true → extent (place.Value k b) t ≡ extent p (described x t)) → ((t : Tree) → next p (described x t) ≡ stand b) →
-    (t : Option Tree) (r : Result ℕ Error) (after : Under) → at_place (place.Value k b) t r after → at_place p (as_described (Some x) t) r after
+    (t : Option Tree) (r : Result ℕ Refusal) (after : Under) → at_place (place.Value k b) t r after → at_place p (as_described (Some x) t) r after
 value_step p k b x same limit fitting len then None (Ok n) after h = absurd h
 value_step p k b x same limit fitting len then None (Err e) after h = (h.0, h.1 ∙ ap under.Plain (sym same))
 value_step p k b x same limit fitting len then (Some t) (Ok n) after h =
@@ -136,12 +136,12 @@ some_under : (u v : Under) → Some u ≡ Some v → v ≡ u
 some_under u v q = cc
 
 -- an answer under the place that is meant, and one where nothing is
-answered : (u v : Under) (t : Option Tree) (r : Result ℕ Error) (after : Under) → v ≡ u → at_place (outer v) (meant v t) r after → at_place (outer u) (meant u t) r after
+answered : (u v : Under) (t : Option Tree) (r : Result ℕ Refusal) (after : Under) → v ≡ u → at_place (outer v) (meant v t) r after → at_place (outer u) (meant u t) r after
 answered u v t r after q h = subst (λ w. at_place (outer w) (meant w t) r after) q h
 
 -- what is answered on a value is an answer on the described one
 pub described_step : (u v : Under) (n : ℕ) (x : Descriptor) → described_under u n ≡ Some v → n ≡ length (descriptor_form x) → descriptor_fits x ≡ true →
-    (t : Option Tree) (r : Result ℕ Error) (after : Under) → at_place (outer v) (meant v t) r after → at_place (outer u) (meant u (as_described (Some x) t)) r after
+    (t : Option Tree) (r : Result ℕ Refusal) (after : Under) → at_place (outer v) (meant v t) r after → at_place (outer u) (meant u (as_described (Some x) t)) r after
 described_step (under.Plain place.Root) v n x s e f t r after h =
     value_step place.Root (n + 1) base.Root x refl (λ t. limit_here x n e f t) (λ t. refl) (λ t q. sym (length-described x t n e)) (λ t. refl) t r after
     (answered (under.Plain (place.Value (n + 1) base.Root)) v t r after (some_under _ v s) h)
@@ -191,15 +191,15 @@ past_after k b x n e h t =
     let len = length-described x t n e in
     left_false (is_length (k + length (enc (described x t)))) (within (described x t)) (le_false (k + length (enc (described x t))) 18446744073709551615 (omega arith))
 
-too_long : (p : Place) (x : Descriptor) → ((t : Tree) → within_at p (described x t) ≡ false) → (t : Option Tree) (e : Error) → e ≡ error.TooLong → at_place p (as_described (Some x) t) (Err e) (under.Plain (rest p))
+too_long : (p : Place) (x : Descriptor) → ((t : Tree) → within_at p (described x t) ≡ false) → (t : Option Tree) (e : Refusal) → e ≡ error.TooLong → at_place p (as_described (Some x) t) (Err e) (under.Plain (rest p))
 too_long p x h None e q = (subst refuses_none (sym q) tt, refl)
 too_long p x h (Some t) e q = (subst (λ y. refused p (described x t) y) (sym q) (h t), refl)
 
-no_nested : (x : Descriptor) (t : Option Tree) (e : Error) → e ≡ error.InvalidValue → at_place place.Descriptor (as_described (Some x) t) (Err e) (under.Plain place.Descriptor)
+no_nested : (x : Descriptor) (t : Option Tree) (e : Refusal) → e ≡ error.InvalidValue → at_place place.Descriptor (as_described (Some x) t) (Err e) (under.Plain place.Descriptor)
 no_nested x None e q = (subst refuses_none (sym q) tt, refl)
 no_nested x (Some t) e q = (subst (λ y. refused place.Descriptor (described x t) y) (sym q) (right_false (alike t) false refl), refl)
 
-pub described_refusal : (u : Under) (n : ℕ) (x : Descriptor) (e : Error) → undescribed u n e → n ≡ length (descriptor_form x) → (t : Option Tree) → at_place (outer u) (meant u (as_described (Some x) t)) (Err e) (under.Plain (rest (outer u)))
+pub described_refusal : (u : Under) (n : ℕ) (x : Descriptor) (e : Refusal) → undescribed u n e → n ≡ length (descriptor_form x) → (t : Option Tree) → at_place (outer u) (meant u (as_described (Some x) t)) (Err e) (under.Plain (rest (outer u)))
 described_refusal (under.Plain place.Root) n x e h l t = too_long place.Root x (past_here x n l h.1) t e h.0
 described_refusal (under.Plain place.Inside) n x e h l t = too_long place.Inside x (past_here x n l h.1) t e h.0
 described_refusal (under.Plain place.First) n x e h l t = too_long place.First x (past_here x n l h.1) t e h.0

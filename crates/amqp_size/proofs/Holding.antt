@@ -1,17 +1,17 @@
 -- Open compounds of every shape.
 use Rattle.std.proofs.Common.{◌≡◌, ℕ, ◌+◌, ◌<◌, ◌≤◌, List, [], ◌∷◌, ◌++◌, Option, Some, None, true, false, Result, Ok, Err, MatchResult, IfOk, IfErr, refl, ap, sym, ◌∙◌, subst, if◌then◌else◌, inl, inr}
-use Rattle.amqp_data.specs.declared.error.Error.{Error}
-use Rattle.amqp_data.specs.declared.error.Error.TheVariants as error
+use Rattle.amqp_size.specs.declared.refusal.Refusal.{Refusal}
+use Rattle.amqp_size.specs.declared.refusal.Refusal.TheVariants as error
 use Rattle.amqp_ser.specs.Tree.{Tree}
 use Rattle.amqp_ser.specs.Compounds.{whole}
 use Rattle.amqp_ser.specs.declared.kind.Kind.{Kind}
 use Rattle.amqp_ser.specs.declared.kind.Kind.TheVariants as kinds
-use Rattle.amqp_size.specs.Place.{outer, meant, rest, is_array, is_gathered}
+use Rattle.amqp_size.specs.Place.{outer, meant, rest, is_array, is_gathered, limit_of}
 use Rattle.amqp_size.specs.Counted.{at_place, Holds, HoldsTransparent, HoldsBare, Holding}
 use Rattle.amqp_size.specs.Take.{opens_in, over}
-use Rattle.amqp_size.specs.declared.place.Place.TheVariants.{Root}
-use Rattle.amqp_size.specs.declared.place.Under.{Under}
-use Rattle.amqp_size.specs.declared.place.Under.TheVariants as under
+use Rattle.amqp_size.specs.WholePlace.{Root}
+use Rattle.amqp_size.specs.WholeUnder.{Under}
+use Rattle.amqp_size.specs.WholeUnder as under
 use Rattle.amqp_size.specs.declared.place.Shape.{Shape}
 use Rattle.amqp_size.specs.declared.place.Shape.TheVariants as shapes
 use Rattle.amqp_size.specs.declared.serializer.SizeSerializer.{SizeSerializer}
@@ -66,7 +66,7 @@ map_of start held ps (inr (inl h)) = absurd (no_maps.0 h.kind_is)
 map_of start held ps (inr (inr h)) = absurd (no_maps.1 h.kind_is)
 
 -- a refused part
-pub refused_any : (start : SizeSerializer) (kind : Kind) (held : Open) (ps : List (Option Tree)) → Holding start kind held ps → (p : Option Tree) (e : Error) (after : Under) →
+pub refused_any : (start : SizeSerializer) (kind : Kind) (held : Open) (ps : List (Option Tree)) → Holding start kind held ps → (p : Option Tree) (e : Refusal) (after : Under) →
     at_place (outer held.inner) (meant held.inner p) (Err e) after → (others : List (Option Tree)) →
     at_place (outer start.place) (meant start.place (whole kind (ps ++ (p ∷ others)))) (Err e) (under.Plain (rest held.place))
 refused_any start kind held ps (inl h) p e after r others =
@@ -76,10 +76,11 @@ refused_any start kind held ps (inr (inl h)) p e after r others =
 refused_any start kind held ps (inr (inr h)) p e after r others = refused_bare start kind held ps h p e after r others
 
 -- what is known of a part's counting
-pub record Taking (held new : Open) (size : ℕ) (after : Under) (res : Result (Unit {0}) Error) : Type 0 where
+pub record Taking (held new : Open) (size : ℕ) (after : Under) (res : Result (Unit {0}) Refusal) : Type 0 where
   pub place : new.place ≡ held.place
   pub shape : new.shape ≡ held.shape
   pub few : held.count ≤ 4294967295 → new.count ≤ 4294967295
+  pub small : new.sum ≤ limit_of new.shape
   pub kept : IfErr res (λ _. new ≡ held)
   pub before : is_gathered held.shape ≡ true → IfOk res (λ _. new.before ≡ held.sum)
   pub gathered : is_gathered held.shape ≡ true → MatchResult res
@@ -93,7 +94,7 @@ pub record Taking (held new : Open) (size : ℕ) (after : Under) (res : Result (
       (λ e. (e ≡ error.InvalidValue) × (1 ≤ held.count))
 
 taken_joined : (start : SizeSerializer) (kind : Kind) (held new : Open) (ps : List (Option Tree)) → HoldsTransparent start kind held ps → (p : Option Tree) (size : ℕ) (after : Under) → at_place Root p (Ok size) after →
-    (res : Result (Unit {0}) Error) → Taking held new size after res →
+    (res : Result (Unit {0}) Refusal) → Taking held new size after res →
     MatchResult res (λ _. Holding start kind new (ps ++ (p ∷ [])))
     (λ e. (others : List (Option Tree)) → at_place (outer start.place) (meant start.place (whole kind (ps ++ (p ∷ others)))) (Err e) (under.Plain (rest held.place)))
 taken_joined start kind held new ps h None size after r res k = absurd r
@@ -102,11 +103,11 @@ taken_joined start kind held new ps h (Some t) size after r (Ok u) k =
     inr (inl (taken_transparent start kind held new ps h t size after r k.place k.shape m.0 m.1))
 taken_joined start kind held new ps h (Some t) size after r (Err e) k = λ others.
     let m = k.transparent h.shape in
-    subst (λ (x : Error). at_place (outer start.place) (meant start.place (whole kind (ps ++ (Some t ∷ others)))) (Err x) (under.Plain (rest held.place))) (sym m.0)
+    subst (λ (x : Refusal). at_place (outer start.place) (meant start.place (whole kind (ps ++ (Some t ∷ others)))) (Err x) (under.Plain (rest held.place))) (sym m.0)
     (over_transparent start kind held ps h t size r.len m.1 others)
 
 taken_one : (start : SizeSerializer) (kind : Kind) (held new : Open) (ps : List (Option Tree)) → HoldsBare start kind held ps → (p : Option Tree) (size : ℕ) (after : Under) → at_place (outer held.inner) (meant held.inner p) (Ok size) after →
-    (res : Result (Unit {0}) Error) → Taking held new size after res →
+    (res : Result (Unit {0}) Refusal) → Taking held new size after res →
     MatchResult res (λ _. Holding start kind new (ps ++ (p ∷ [])))
     (λ e. (others : List (Option Tree)) → at_place (outer start.place) (meant start.place (whole kind (ps ++ (p ∷ others)))) (Err e) (under.Plain (rest held.place)))
 taken_one start kind held new ps h p size after r (Ok u) k =
@@ -114,10 +115,10 @@ taken_one start kind held new ps h p size after r (Ok u) k =
     inr (inr (first_bare start kind held new ps h p size after r m.0 m.1.0 m.1.1.0 m.1.1.1 k.place k.shape))
 taken_one start kind held new ps h p size after r (Err e) k = λ others.
     let m = k.bare h.shape in
-    subst (λ (x : Error). at_place (outer start.place) (meant start.place (whole kind (ps ++ (p ∷ others)))) (Err x) (under.Plain (rest held.place))) (sym m.0)
+    subst (λ (x : Refusal). at_place (outer start.place) (meant start.place (whole kind (ps ++ (p ∷ others)))) (Err x) (under.Plain (rest held.place))) (sym m.0)
     (second_bare start kind held ps h m.1 p others)
 
-gathers : (start : SizeSerializer) (kind : Kind) (held new : Open) (ps : List (Option Tree)) (p : Option Tree) (res : Result (Unit {0}) Error) →
+gathers : (start : SizeSerializer) (kind : Kind) (held new : Open) (ps : List (Option Tree)) (p : Option Tree) (res : Result (Unit {0}) Refusal) →
     MatchResult res (λ _. Holds start kind new (ps ++ (p ∷ [])))
     (λ e. (others : List (Option Tree)) → at_place (outer start.place) (meant start.place (whole kind (ps ++ (p ∷ others)))) (Err e) (under.Plain (rest held.place))) →
     MatchResult res (λ _. Holding start kind new (ps ++ (p ∷ [])))
@@ -127,12 +128,12 @@ gathers start kind held new ps p (Err e) m = m
 
 -- a part that was counted
 pub taken_any : (start : SizeSerializer) (kind : Kind) (held new : Open) (ps : List (Option Tree)) → Holding start kind held ps → (p : Option Tree) (size : ℕ) (after : Under) →
-    at_place (outer held.inner) (meant held.inner p) (Ok size) after → (res : Result (Unit {0}) Error) → Taking held new size after res →
+    at_place (outer held.inner) (meant held.inner p) (Ok size) after → (res : Result (Unit {0}) Refusal) → Taking held new size after res →
     MatchResult res (λ _. Holding start kind new (ps ++ (p ∷ [])))
     (λ e. (others : List (Option Tree)) → at_place (outer start.place) (meant start.place (whole kind (ps ++ (p ∷ others)))) (Err e) (under.Plain (rest held.place)))
 taken_any start kind held new ps (inl h) p size after r res k =
     gathers start kind held new ps p res
-    (end_taken start kind held new ps h p size after (subst (λ u. at_place (outer u) (meant u p) (Ok size) after) h.fed.inner r) k.place k.shape k.few res (k.before h.gathered) k.kept (k.gathered h.gathered))
+    (end_taken start kind held new ps h p size after (subst (λ u. at_place (outer u) (meant u p) (Ok size) after) h.fed.inner r) k.place k.shape k.few k.small res (k.before h.gathered) k.kept (k.gathered h.gathered))
 taken_any start kind held new ps (inr (inl h)) p size after r res k =
     taken_joined start kind held new ps h p size after (subst (λ u. at_place (outer u) (meant u p) (Ok size) after) h.inner r) res k
 taken_any start kind held new ps (inr (inr h)) p size after r res k = taken_one start kind held new ps h p size after r res k

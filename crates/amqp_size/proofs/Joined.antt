@@ -8,7 +8,7 @@ use Rattle.amqp_ser.proofs.Joins.{join, enc_each-join, payload_each-join}
 use Rattle.amqp_size.specs.Place.{element, next, form}
 use Rattle.amqp_size.specs.Counted.{content, inner_of, one_in}
 use Rattle.amqp_size.specs.Take.{opens}
-use Rattle.amqp_size.specs.declared.place.Place.TheVariants.{First}
+use Rattle.amqp_size.specs.WholePlace.{First}
 
 -- the rest of the bytes
 abbrev pub rest_of : Bool → Trees → List ℕ

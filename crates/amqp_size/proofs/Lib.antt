@@ -8,6 +8,7 @@ pub mod Part
 pub mod Places
 pub mod Refusing
 pub mod Root
+pub mod Settled
 pub mod Spoil
 pub mod Transparent
 pub mod Whole

@@ -1,7 +1,7 @@
 -- One part more.
 use Rattle.std.proofs.Common.{◌≡◌, ℕ, ◌+◌, ◌≤◌, List, [], ◌∷◌, ◌++◌, Option, Some, None, Bool, true, false, not, ◌&&◌, Result, Ok, Err, MatchResult, IfOk, IfErr, length, refl, ap, sym, ◌∙◌, subst, arith, nat_le, if◌then◌else◌, is_some}
-use Rattle.amqp_data.specs.declared.error.Error.{Error}
-use Rattle.amqp_data.specs.declared.error.Error.TheVariants as error
+use Rattle.amqp_size.specs.declared.refusal.Refusal.{Refusal}
+use Rattle.amqp_size.specs.declared.refusal.Refusal.TheVariants as error
 use Rattle.amqp_ser.specs.Tree.{Tree, Trees, no_trees, more}
 use Rattle.amqp_ser.specs.Encoding.{con}
 use Rattle.amqp_ser.specs.Writable.{same_con, each_con, alike, alike_each, within, within_each, inside, inside_each}
@@ -12,12 +12,12 @@ use Rattle.amqp_ser.proofs.Bools.{nat_eq-refl, both, left_true, right_true, le_t
 use Rattle.amqp_ser.proofs.Joins.{join, joined, all_trees-append, alike-join, within-join, inside-join, each-join, count-join}
 use Rattle.amqp_ser.proofs.Last.{last_off, paired-last}
 use Rattle.amqp_ser.proofs.Pairing.{even}
-use Rattle.amqp_size.specs.Place.{outer, meant, rest, shape_of, is_array, is_gathered, element, next, suits, form}
+use Rattle.amqp_size.specs.Place.{outer, meant, rest, limit_of, shape_of, is_array, is_gathered, element, next, suits, form}
 use Rattle.amqp_size.specs.Counted.{at_place, Counted, Holds, content, counts, one_in, inner_of}
 use Rattle.amqp_size.specs.Take.{opens, opens_in, over}
-use Rattle.amqp_size.specs.declared.place.Place.{Place}
-use Rattle.amqp_size.specs.declared.place.Under.{Under}
-use Rattle.amqp_size.specs.declared.place.Under.TheVariants as under
+use Rattle.amqp_size.specs.WholePlace.{Place}
+use Rattle.amqp_size.specs.WholeUnder.{Under}
+use Rattle.amqp_size.specs.WholeUnder as under
 use Rattle.amqp_size.specs.declared.serializer.SizeSerializer.{SizeSerializer}
 use Rattle.amqp_size.specs.declared.open_compound.Open.{Open}
 use Rattle.amqp_size.proofs.Joined.{content-join, rest_of, some_con}
@@ -89,9 +89,9 @@ pub taken_part : (start : SizeSerializer) (kind : Kind) (held new : Open) (ps : 
     Counted (inner_of (is_array held.shape) h.ts) t size after →
     new.place ≡ held.place → new.shape ≡ held.shape →
     new.sum ≡ size + opens_in (is_array held.shape) held.inner after + held.sum → new.count ≡ (if is_array held.shape then held.count + 1 else held.count) → new.count ≤ 4294967295 →
-    new.inner ≡ (if is_array held.shape then after else held.inner) → new.before ≡ held.sum →
+    new.inner ≡ (if is_array held.shape then after else held.inner) → new.before ≡ held.sum → new.sum ≤ limit_of new.shape →
     Holds start kind new (ps ++ (Some t ∷ []))
-taken_part start kind held new ps h t size after k a b d e few f was =
+taken_part start kind held new ps h t size after k a b d e few f was small =
     let arr = is_array held.shape in
     let ts = h.ts in
     let us = join ts (more t no_trees) in
@@ -113,7 +113,7 @@ taken_part start kind held new ps h t size after k a b d e few f was =
       };
       fed = record {
         sum = sum ∙ sym (ap (λ x. length (content x us)) c);
-        fits_sum = le_true new.sum 4294967291 (subst (λ m. new.sum ≤ m) (gathered_limit new.shape (ap is_gathered b ∙ h.gathered)) new.small);
+        fits_sum = le_true new.sum 4294967291 (subst (λ m. new.sum ≤ m) (gathered_limit new.shape (ap is_gathered b ∙ h.gathered)) small);
         counted = e ∙ more_counted arr ts t held.count h.fed.counted ∙ sym (ap (λ x. counts x us) c);
         few = le_true new.count 4294967295 few;
         inner = f ∙ new_inner arr ts t held.inner after h.fed.one h.fed.inner k.place ∙ sym (ap (λ x. under.Plain (inner_of x us)) c);
@@ -126,17 +126,17 @@ taken_part start kind held new ps h t size after k a b d e few f was =
 
 -- what is known after a part was counted, or passed a limit
 pub end_taken : (start : SizeSerializer) (kind : Kind) (held new : Open) (ps : List (Option Tree)) (h : Holds start kind held ps) (p : Option Tree) (size : ℕ) (after : Under) →
-    at_place (inner_of (is_array held.shape) h.ts) p (Ok size) after → new.place ≡ held.place → new.shape ≡ held.shape → (held.count ≤ 4294967295 → new.count ≤ 4294967295) →
-    (res : Result (Unit {0}) Error) → IfOk res (λ _. new.before ≡ held.sum) → IfErr res (λ _. new ≡ held) →
+    at_place (inner_of (is_array held.shape) h.ts) p (Ok size) after → new.place ≡ held.place → new.shape ≡ held.shape → (held.count ≤ 4294967295 → new.count ≤ 4294967295) → new.sum ≤ limit_of new.shape →
+    (res : Result (Unit {0}) Refusal) → IfOk res (λ _. new.before ≡ held.sum) → IfErr res (λ _. new ≡ held) →
     MatchResult res (λ _. (new.sum ≡ size + opens_in (is_array held.shape) held.inner after + held.sum) × ((new.count ≡ if is_array held.shape then held.count + 1 else held.count) × (new.inner ≡ if is_array held.shape then after else held.inner)))
     (λ e. (e ≡ error.TooLong) × over (is_array held.shape) held.count (size + opens_in (is_array held.shape) held.inner after + held.sum)) →
     MatchResult res (λ _. Holds start kind new (ps ++ (p ∷ [])))
     (λ e. (others : List (Option Tree)) → at_place (outer start.place) (meant start.place (whole kind (ps ++ (p ∷ others)))) (Err e) (under.Plain (rest held.place)))
-end_taken start kind held new ps h None size after r a b few res was same m = absurd r
-end_taken start kind held new ps h (Some t) size after r a b few (Ok u) was same m =
-    taken_part start kind held new ps h t size after r a b m.0 m.1.0 (few (is_le held.count 4294967295 h.fed.few)) m.1.1 was
-end_taken start kind held new ps h (Some t) size after r a b few (Err e) was same m = λ others.
-    subst (λ (x : Error). at_place (outer start.place) (meant start.place (whole kind (ps ++ (Some t ∷ others)))) (Err x) (under.Plain (rest held.place))) (sym m.0)
+end_taken start kind held new ps h None size after r a b few small res was same m = absurd r
+end_taken start kind held new ps h (Some t) size after r a b few small (Ok u) was same m =
+    taken_part start kind held new ps h t size after r a b m.0 m.1.0 (few (is_le held.count 4294967295 h.fed.few)) m.1.1 was small
+end_taken start kind held new ps h (Some t) size after r a b few small (Err e) was same m = λ others.
+    subst (λ (x : Refusal). at_place (outer start.place) (meant start.place (whole kind (ps ++ (Some t ∷ others)))) (Err x) (under.Plain (rest held.place))) (sym m.0)
     (over_part start kind held ps h t (subst (λ n. over (is_array held.shape) held.count n) (added start kind held ps h t size after r) m.1) others)
 
 no_array : (u : Under) → is_array (shape_of u kinds.Map) ≡ false
@@ -160,8 +160,8 @@ one_less us ts (Some t) e a w i =
 
 -- the last part taken back
 pub undone : (start : SizeSerializer) (held new : Open) (ps : List (Option Tree)) (p : Option Tree) → Holds start kinds.Map held (ps ++ (p ∷ [])) → paired ps ≡ true →
-    new.place ≡ held.place → new.shape ≡ held.shape → new.sum ≡ held.before → new.count ≡ held.count → new.inner ≡ held.inner → Holds start kinds.Map new ps
-undone start held new ps p h even a b d e f =
+    new.place ≡ held.place → new.shape ≡ held.shape → new.sum ≡ held.before → new.count ≡ held.count → new.inner ≡ held.inner → new.sum ≤ limit_of new.shape → Holds start kinds.Map new ps
+undone start held new ps p h even a b d e f small =
     let odd : paired (ps ++ (p ∷ [])) ≡ false = paired-last ps p ∙ ap not even in
     let was = h.back odd ps p refl in
     let plain : is_array held.shape ≡ false = ap is_array h.shape ∙ no_array start.place in
@@ -178,7 +178,7 @@ undone start held new ps p h even a b d e f =
       back = λ odd_now. absurd (both_ways (sym even ∙ odd_now));
       fed = record {
         sum = d ∙ was.sum ∙ ap (λ x. length (content x was.us)) (sym c);
-        fits_sum = le_true new.sum 4294967291 (subst (λ m. new.sum ≤ m) (gathered_limit new.shape (ap is_gathered b ∙ h.gathered)) new.small);
+        fits_sum = le_true new.sum 4294967291 (subst (λ m. new.sum ≤ m) (gathered_limit new.shape (ap is_gathered b ∙ h.gathered)) small);
         counted = e ∙ h.fed.counted ∙ ap (λ x. counts x h.ts) plain ∙ ap (λ x. counts x was.us) (sym now);
         few = ap (λ n. nat_le n 4294967295) e ∙ h.fed.few;
         inner = f ∙ h.fed.inner ∙ ap (λ x. under.Plain (inner_of x h.ts)) plain ∙ ap (λ x. under.Plain (inner_of x was.us)) (sym now);

@@ -1,20 +1,20 @@
 -- What places ask of a tree, and what a refusal there means.
 use Rattle.std.proofs.Common.{◌≡◌, ℕ, ◌+◌, Option, Some, None, Bool, true, false, Err, length, refl, ◌∙◌, is_some}
-use Rattle.amqp_data.specs.declared.error.Error.{Error}
-use Rattle.amqp_data.specs.declared.error.Error.TheVariants as error
+use Rattle.amqp_size.specs.declared.refusal.Refusal.{Refusal}
+use Rattle.amqp_size.specs.declared.refusal.Refusal.TheVariants as error
 use Rattle.amqp_ser.specs.Tree.{Tree, Trees, scalar, list, array, map, described, variant, lazy, transparent, no_trees, more}
 use Rattle.amqp_ser.specs.Limits.{is_length}
 use Rattle.amqp_ser.specs.Encoding.{enc, con}
 use Rattle.amqp_ser.specs.Writable.{same_con, within, inside, placed}
 use Rattle.amqp_ser.specs.Composites.{descriptor_of}
-use Rattle.amqp_ser.specs.Permitted.{refuses_none}
+use Rattle.amqp_size.specs.Refused.{refuses_none}
 use Rattle.amqp_ser.proofs.Bools.{right_false}
 use Rattle.amqp_size.specs.Place.{meant, rest, suits, element, form, extent, within_at, takes_described, is_gathered, limit_of}
 use Rattle.amqp_size.specs.Counted.{at_place, refused, inner_of}
-use Rattle.amqp_size.specs.declared.place.Place.{Place}
-use Rattle.amqp_size.specs.declared.place.Place.TheVariants.{Root, Inside, First, Element, Descriptor, Value}
-use Rattle.amqp_size.specs.declared.place.Under.{Under}
-use Rattle.amqp_size.specs.declared.place.Under.TheVariants as under
+use Rattle.amqp_size.specs.WholePlace.{Place}
+use Rattle.amqp_size.specs.WholePlace.{Root, Inside, First, Element, Descriptor, Value}
+use Rattle.amqp_size.specs.WholeUnder.{Under}
+use Rattle.amqp_size.specs.WholeUnder as under
 use Rattle.amqp_size.specs.declared.place.Shape.{Shape}
 use Rattle.amqp_size.specs.declared.place.Shape.TheVariants as shape
 
@@ -72,13 +72,13 @@ meant_none (under.Transparent p) = refl
 meant_none (under.Scalar m p) = refl
 meant_none (under.Nothing p) = refl
 
-pub refused-none : (p : Place) (t : Tree) (e : Error) → refused p t e → refuses_none e
+pub refused-none : (p : Place) (t : Tree) (e : Refusal) → refused p t e → refuses_none e
 refused-none p t error.TooLong h = tt
 refused-none p t error.InvalidValue h = tt
 refused-none p t e h = absurd h
 
 -- any refusal is one of no tree, and leaves the serializer at rest
-pub refusal : (p : Place) (o : Option Tree) (e : Error) (after : Under) → at_place p o (Err e) after → refuses_none e × (after ≡ under.Plain (rest p))
+pub refusal : (p : Place) (o : Option Tree) (e : Refusal) (after : Under) → at_place p o (Err e) after → refuses_none e × (after ≡ under.Plain (rest p))
 refusal p None e after h = h
 refusal p (Some t) e after h = (refused-none p t e h.0, h.1)
 

@@ -1,7 +1,7 @@
 -- A part that is refused, and one that passes a limit.
 use Rattle.std.proofs.Common.{◌≡◌, ℕ, ◌+◌, List, ◌∷◌, ◌++◌, Option, Some, None, Bool, true, false, ◌&&◌, Err, length, refl, ap, sym, ◌∙◌, subst, arith, ◌⊎◌, inl, inr, is_some}
-use Rattle.amqp_data.specs.declared.error.Error.{Error}
-use Rattle.amqp_data.specs.declared.error.Error.TheVariants as error
+use Rattle.amqp_size.specs.declared.refusal.Refusal.{Refusal}
+use Rattle.amqp_size.specs.declared.refusal.Refusal.TheVariants as error
 use Rattle.amqp_ser.specs.Tree.{Tree, Trees, no_trees, more, count}
 use Rattle.amqp_ser.specs.Limits.{fits, is_count}
 use Rattle.amqp_ser.specs.Encoding.{con}
@@ -13,8 +13,8 @@ use Rattle.amqp_ser.proofs.Joins.{join, alike-join, within-join, inside-join, ea
 use Rattle.amqp_size.specs.Place.{outer, meant, rest, is_array, element, next, suits, form}
 use Rattle.amqp_size.specs.Counted.{at_place, refused, Holds, content, counts, one_in, inner_of}
 use Rattle.amqp_size.specs.Take.{opens, over}
-use Rattle.amqp_size.specs.declared.place.Under.{Under}
-use Rattle.amqp_size.specs.declared.place.Under.TheVariants as under
+use Rattle.amqp_size.specs.WholeUnder.{Under}
+use Rattle.amqp_size.specs.WholeUnder as under
 use Rattle.amqp_size.specs.declared.serializer.SizeSerializer.{SizeSerializer}
 use Rattle.amqp_size.specs.declared.open_compound.Open.{Open}
 use Rattle.amqp_size.proofs.Joined.{content-join, some_con}
@@ -46,7 +46,7 @@ not_suited true (more v ts) t us h s =
     ]
 
 -- a bad part makes bad parts
-part_bad : (arr : Bool) (ts : Trees) (t : Tree) (us : Trees) (e : Error) → one_in arr ts ≡ true → refused (inner_of arr ts) t e → bad_in arr (join ts (more t us)) e
+part_bad : (arr : Bool) (ts : Trees) (t : Tree) (us : Trees) (e : Refusal) → one_in arr ts ≡ true → refused (inner_of arr ts) t e → bad_in arr (join ts (more t us)) e
 part_bad arr ts t us error.TooLong o h =
     let w : within_each (join ts (more t us)) ≡ false = within-join ts (more t us) ∙ right_false (within_each ts) (within t && within_each us) (left_false (within t) (within_each us) (sym (within_inner arr ts t) ∙ h)) in
     right_false (fits (length (content arr (join ts (more t us))))) _ (right_false (is_count (counts arr (join ts (more t us)))) _ w)
@@ -74,7 +74,7 @@ over_bad arr ts t us n o m h = elim h [
 ]
 
 -- a refused part
-pub refused_part : (start : SizeSerializer) (kind : Kind) (held : Open) (ps : List (Option Tree)) (h : Holds start kind held ps) (p : Option Tree) (e : Error) (after : Under) →
+pub refused_part : (start : SizeSerializer) (kind : Kind) (held : Open) (ps : List (Option Tree)) (h : Holds start kind held ps) (p : Option Tree) (e : Refusal) (after : Under) →
     at_place (inner_of (is_array held.shape) h.ts) p (Err e) after → (others : List (Option Tree)) →
     at_place (outer start.place) (meant start.place (whole kind (ps ++ (p ∷ others)))) (Err e) (under.Plain (rest held.place))
 refused_part start kind held ps h None e after r others = with_rest start kind held ps h None e r.0 (λ t us q. absurd (none-some t q)) others

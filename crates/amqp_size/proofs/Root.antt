@@ -1,33 +1,36 @@
 -- A serializer at the root.
 use Rattle.std.proofs.Common.{◌≡◌, ℕ, Option, Some, None, ◌&&◌, Result, Ok, Err, subst}
-use Rattle.amqp_data.specs.declared.error.Error.{Error}
-use Rattle.amqp_data.specs.declared.error.Error.TheVariants as error
+use Rattle.amqp_size.specs.declared.refusal.Refusal.{Refusal}
+use Rattle.amqp_size.specs.declared.refusal.Refusal.TheVariants as refusal
 use Rattle.amqp_ser.specs.Tree.{Tree}
 use Rattle.amqp_ser.specs.Writable.{alike, within, placed}
 use Rattle.amqp_ser.specs.Permitted.{IsSizeOf}
 use Rattle.amqp_ser.proofs.Bools.{both}
 use Rattle.amqp_size.specs.Place.{outer, meant}
+use Rattle.amqp_size.specs.Refused.{told}
 use Rattle.amqp_size.specs.Counted.{at_place, size_permits}
-use Rattle.amqp_size.specs.declared.place.Place.TheVariants.{Root}
-use Rattle.amqp_size.specs.declared.place.Under.{Under}
-use Rattle.amqp_size.specs.declared.place.Under.TheVariants.{Plain}
+use Rattle.amqp_size.specs.WholePlace.{Root}
+use Rattle.amqp_size.specs.WholeUnder.{Under}
+use Rattle.amqp_size.specs.WholeUnder.{Plain}
 use Rattle.amqp_size.specs.declared.serializer.SizeSerializer.{SizeSerializer}
 
-root_size : (o : Option Tree) (r : Result ℕ Error) (after : Under) → at_place Root o r after → IsSizeOf o r × (after ≡ Plain Root)
+root_size : (o : Option Tree) (r : Result ℕ Refusal) (after : Under) → at_place Root o r after → IsSizeOf o (told r) × (after ≡ Plain Root)
 root_size None (Ok n) after h = absurd h
-root_size None (Err e) after h = h
+root_size None (Err refusal.TooLong) after h = h
+root_size None (Err refusal.InvalidValue) after h = h
+root_size None (Err e) after h = absurd h.0
 root_size (Some t) (Ok n) after h = ((both (within t) (alike t && placed t) h.within_it (both (alike t) (placed t) h.alike_it h.suited), h.len), h.place)
-root_size (Some t) (Err error.TooLong) after h = h
-root_size (Some t) (Err error.InvalidValue) after h = h
+root_size (Some t) (Err refusal.TooLong) after h = h
+root_size (Some t) (Err refusal.InvalidValue) after h = h
 root_size (Some t) (Err e) after h = absurd h.0
 
-at_root : (s : SizeSerializer) (o : Option Tree) (r : Result ℕ Error) (after : SizeSerializer) → s.place ≡ Plain Root → size_permits s o r after → at_place Root o r after.place
+at_root : (s : SizeSerializer) (o : Option Tree) (r : Result ℕ Refusal) (after : SizeSerializer) → s.place ≡ Plain Root → size_permits s o r after → at_place Root o r after.place
 at_root s o r after q h = subst (λ u. at_place (outer u) (meant u o) r after.place) q h
 
 -- its answer is the length of the bytes
-pub is_size : (s : SizeSerializer) (o : Option Tree) (r : Result ℕ Error) (after : SizeSerializer) → s.place ≡ Plain Root → size_permits s o r after → IsSizeOf o r
+pub is_size : (s : SizeSerializer) (o : Option Tree) (r : Result ℕ Refusal) (after : SizeSerializer) → s.place ≡ Plain Root → size_permits s o r after → IsSizeOf o (told r)
 is_size s o r after q h = (root_size o r after.place (at_root s o r after q h)).0
 
 -- it is fresh afterwards
-pub fresh : (s : SizeSerializer) (o : Option Tree) (r : Result ℕ Error) (after : SizeSerializer) → s.place ≡ Plain Root → size_permits s o r after → after.place ≡ Plain Root
+pub fresh : (s : SizeSerializer) (o : Option Tree) (r : Result ℕ Refusal) (after : SizeSerializer) → s.place ≡ Plain Root → size_permits s o r after → after.place ≡ Plain Root
 fresh s o r after q h = (root_size o r after.place (at_root s o r after q h)).1

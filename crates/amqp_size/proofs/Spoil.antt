@@ -1,14 +1,14 @@
 -- Parts that spoil every whole that they are in.
 use Rattle.std.proofs.Common.{◌≡◌, ℕ, ◌+◌, ◌<◌, List, [], ◌∷◌, ◌++◌, Option, Some, None, Bool, true, false, not, ◌&&◌, Err, length, refl, ap, sym, ◌∙◌, subst, arith, length-append, inl, inr}
-use Rattle.amqp_data.specs.declared.error.Error.{Error}
-use Rattle.amqp_data.specs.declared.error.Error.TheVariants as error
+use Rattle.amqp_size.specs.declared.refusal.Refusal.{Refusal}
+use Rattle.amqp_size.specs.declared.refusal.Refusal.TheVariants as error
 use Rattle.amqp_ser.specs.Tree.{uint, Tree, Trees, list, array, map, variant, no_trees, more}
 use Rattle.amqp_ser.specs.Limits.{fits, is_count}
 use Rattle.amqp_ser.specs.Scalars.{scalar_form}
 use Rattle.amqp_ser.specs.Encoding.{enc, enc_each}
 use Rattle.amqp_ser.specs.Writable.{one_con, alike, alike_each, alike_pairs, within, within_each, within_pairs, inside, inside_each, inside_pairs, placed}
 use Rattle.amqp_ser.specs.Compounds.{all_trees, before, as_kind, as_map, as_variant, in_pairs, only, whole}
-use Rattle.amqp_ser.specs.Permitted.{refuses_none}
+use Rattle.amqp_size.specs.Refused.{refuses_none}
 use Rattle.amqp_ser.specs.declared.kind.Kind.{Kind}
 use Rattle.amqp_ser.specs.declared.kind.Kind.TheVariants as kinds
 use Rattle.amqp_ser.proofs.Bools.{and_assoc, left_false, right_false, one_false, le_false, not_le}
@@ -16,9 +16,9 @@ use Rattle.amqp_ser.proofs.Joins.{join, joined, all_trees-append, kind_none}
 use Rattle.amqp_ser.proofs.Pairing.{pairing, even}
 use Rattle.amqp_size.specs.Place.{outer, meant, rest, shape_of, is_array, is_gathered, suits}
 use Rattle.amqp_size.specs.Counted.{at_place, Holds, content, counts, one_in}
-use Rattle.amqp_size.specs.declared.place.Place.{Place}
-use Rattle.amqp_size.specs.declared.place.Under.{Under}
-use Rattle.amqp_size.specs.declared.place.Under.TheVariants as under
+use Rattle.amqp_size.specs.WholePlace.{Place}
+use Rattle.amqp_size.specs.WholeUnder.{Under}
+use Rattle.amqp_size.specs.WholeUnder as under
 use Rattle.amqp_size.specs.declared.place.Shape.TheVariants as shape
 use Rattle.amqp_size.specs.declared.serializer.SizeSerializer.{SizeSerializer}
 use Rattle.amqp_size.specs.declared.open_compound.Open.{Open}
@@ -26,7 +26,7 @@ use Rattle.amqp_size.proofs.Places.{long_at, not_inside, meant_none}
 use Rattle.amqp_size.proofs.Whole.{stands_none, refused_shape}
 
 -- parts of which the whole is refused with this error
-abbrev pub bad_in : Bool → Trees → Error → Type 0
+abbrev pub bad_in : Bool → Trees → Refusal → Type 0
 bad_in arr ws error.TooLong = (fits (length (content arr ws)) && (is_count (counts arr ws) && within_each ws)) ≡ false
 bad_in arr ws error.InvalidValue = (one_in arr ws && (alike_each ws && inside_each ws)) ≡ false
 bad_in arr ws e = ⊥
@@ -48,7 +48,7 @@ odd_none (more k (more v ts)) h = let e = odd_none ts (not_not (even ts) h) in r
     not_not false h = refl
 
 -- the refusal of no map, whatever the error
-none_map : (p : Place) (ws : Trees) (e : Error) → refuses_none e → even ws ≡ false → at_place p (as_map (in_pairs ws)) (Err e) (under.Plain (rest p))
+none_map : (p : Place) (ws : Trees) (e : Refusal) → refuses_none e → even ws ≡ false → at_place p (as_map (in_pairs ws)) (Err e) (under.Plain (rest p))
 none_map p ws e r q = subst (λ o. at_place p (as_map o) (Err e) (under.Plain (rest p))) (sym (odd_none ws q)) (r, refl)
 
 long_map : (p : Place) (ws : Trees) → bad_in false ws error.TooLong → (b : Bool) → even ws ≡ b → at_place p (as_map (in_pairs ws)) (Err error.TooLong) (under.Plain (rest p))
@@ -96,44 +96,44 @@ bad_only p i (more t no_trees) h = (bad_one p i t h, refl)
 bad_only p i (more t (more v ts)) h = (tt, refl)
 
 -- the refusal of no tree, by a shape that its marker does not take
-none_bad : (u : Under) (o : Option Tree) (e : Error) → refuses_none e → meant u o ≡ None → at_place (outer u) (meant u o) (Err e) (under.Plain (rest (outer u)))
+none_bad : (u : Under) (o : Option Tree) (e : Refusal) → refuses_none e → meant u o ≡ None → at_place (outer u) (meant u o) (Err e) (under.Plain (rest (outer u)))
 none_bad u o e r h = stands_none u (outer u) o (Err e) (under.Plain (rest (outer u))) refl h (r, refl)
 
-bad_none : (arr : Bool) (ws : Trees) (e : Error) → bad_in arr ws e → refuses_none e
+bad_none : (arr : Bool) (ws : Trees) (e : Refusal) → bad_in arr ws e → refuses_none e
 bad_none arr ws error.TooLong h = tt
 bad_none arr ws error.InvalidValue h = tt
 bad_none arr ws e h = absurd h
 
-shapeless : (arr : Bool) (u : Under) (k : Kind) (ws : Trees) (e : Error) → bad_in arr ws e → shape_of u k ≡ shape.Refused → at_place (outer u) (meant u (as_kind k (Some ws))) (Err e) (under.Plain (rest (outer u)))
+shapeless : (arr : Bool) (u : Under) (k : Kind) (ws : Trees) (e : Refusal) → bad_in arr ws e → shape_of u k ≡ shape.Refused → at_place (outer u) (meant u (as_kind k (Some ws))) (Err e) (under.Plain (rest (outer u)))
 shapeless arr u k ws e b h = none_bad u (as_kind k (Some ws)) e (bad_none arr ws e b) (refused_shape u k (Some ws) h)
 
-spoiled_list : (p : Place) (ws : Trees) (e : Error) → bad_in false ws e → at_place p (Some (list ws)) (Err e) (under.Plain (rest p))
+spoiled_list : (p : Place) (ws : Trees) (e : Refusal) → bad_in false ws e → at_place p (Some (list ws)) (Err e) (under.Plain (rest p))
 spoiled_list p ws error.TooLong h = (long_at p (list ws) h, refl)
 spoiled_list p ws error.InvalidValue h = (spoiled p (list ws) refl h, refl)
 spoiled_list p ws e h = absurd h
 
-spoiled_array : (p : Place) (ws : Trees) (e : Error) → bad_in true ws e → at_place p (Some (array ws)) (Err e) (under.Plain (rest p))
+spoiled_array : (p : Place) (ws : Trees) (e : Refusal) → bad_in true ws e → at_place p (Some (array ws)) (Err e) (under.Plain (rest p))
 spoiled_array p ws error.TooLong h = (long_at p (array ws) h, refl)
 spoiled_array p ws error.InvalidValue h = (spoiled p (array ws) refl (and_assoc (one_con ws) (alike_each ws) (inside_each ws) ∙ h), refl)
 spoiled_array p ws e h = absurd h
 
-spoiled_map : (p : Place) (ws : Trees) (e : Error) → bad_in false ws e → at_place p (as_map (in_pairs ws)) (Err e) (under.Plain (rest p))
+spoiled_map : (p : Place) (ws : Trees) (e : Refusal) → bad_in false ws e → at_place p (as_map (in_pairs ws)) (Err e) (under.Plain (rest p))
 spoiled_map p ws error.TooLong h = long_map p ws h (even ws) refl
 spoiled_map p ws error.InvalidValue h = bad_map p ws h (even ws) refl
 spoiled_map p ws e h = absurd h
 
-spoiled_fields : (p : Place) (i : ℕ) (ws : Trees) (e : Error) → bad_in false ws e → at_place p (Some (variant i (list ws))) (Err e) (under.Plain (rest p))
+spoiled_fields : (p : Place) (i : ℕ) (ws : Trees) (e : Refusal) → bad_in false ws e → at_place p (Some (variant i (list ws))) (Err e) (under.Plain (rest p))
 spoiled_fields p i ws error.TooLong h = (long_at p (variant i (list ws)) (right_false (fits (length (scalar_form (uint i) ++ enc (list ws)))) (within (list ws)) h), refl)
 spoiled_fields p i ws error.InvalidValue h = (spoiled p (variant i (list ws)) refl h, refl)
 spoiled_fields p i ws e h = absurd h
 
-spoiled_only : (p : Place) (i : ℕ) (ws : Trees) (e : Error) → bad_in false ws e → at_place p (as_variant i (only ws)) (Err e) (under.Plain (rest p))
+spoiled_only : (p : Place) (i : ℕ) (ws : Trees) (e : Refusal) → bad_in false ws e → at_place p (as_variant i (only ws)) (Err e) (under.Plain (rest p))
 spoiled_only p i ws error.TooLong h = long_only p i ws h
 spoiled_only p i ws error.InvalidValue h = bad_only p i ws h
 spoiled_only p i ws e h = absurd h
 
 -- a whole of spoiled parts
-spoiled_whole : (u : Under) (k : Kind) (ws : Trees) (e : Error) → is_gathered (shape_of u k) ≡ true → bad_in (is_array (shape_of u k)) ws e → at_place (outer u) (meant u (as_kind k (Some ws))) (Err e) (under.Plain (rest (outer u)))
+spoiled_whole : (u : Under) (k : Kind) (ws : Trees) (e : Refusal) → is_gathered (shape_of u k) ≡ true → bad_in (is_array (shape_of u k)) ws e → at_place (outer u) (meant u (as_kind k (Some ws))) (Err e) (under.Plain (rest (outer u)))
 spoiled_whole u kinds.Bare ws e g h = cc
 spoiled_whole (under.Plain p) kinds.List ws e g h = spoiled_list p ws e h
 spoiled_whole (under.Plain p) kinds.Map ws e g h = spoiled_map p ws e h
@@ -156,14 +156,14 @@ spoiled_whole (under.Nothing p) kinds.Map ws e g h = shapeless false (under.Noth
 spoiled_whole (under.Nothing p) (kinds.Fields i) ws e g h = shapeless false (under.Nothing p) (kinds.Fields i) ws e h refl
 spoiled_whole (under.Nothing p) (kinds.Only i) ws e g h = shapeless false (under.Nothing p) (kinds.Only i) ws e h refl
 
-go : (u : Under) (k : Kind) (ts : Trees) (e : Error) → is_gathered (shape_of u k) ≡ true → refuses_none e → (p : Option Tree) (o : Option Trees) → ((t : Tree) (us : Trees) → p ≡ Some t → bad_in (is_array (shape_of u k)) (join ts (more t us)) e) →
+go : (u : Under) (k : Kind) (ts : Trees) (e : Refusal) → is_gathered (shape_of u k) ≡ true → refuses_none e → (p : Option Tree) (o : Option Trees) → ((t : Tree) (us : Trees) → p ≡ Some t → bad_in (is_array (shape_of u k)) (join ts (more t us)) e) →
     at_place (outer u) (meant u (as_kind k (joined (Some ts) (before p o)))) (Err e) (under.Plain (rest (outer u)))
 go u k ts e g r None o bad = none_bad u (as_kind k None) e r (ap (meant u) (kind_none k) ∙ meant_none u)
 go u k ts e g r (Some t) None bad = none_bad u (as_kind k None) e r (ap (meant u) (kind_none k) ∙ meant_none u)
 go u k ts e g r (Some t) (Some us) bad = spoiled_whole u k (join ts (more t us)) e g (bad t us refl)
 
 -- where the next part spoils every whole
-pub with_rest : (start : SizeSerializer) (kind : Kind) (held : Open) (ps : List (Option Tree)) (h : Holds start kind held ps) (p : Option Tree) (e : Error) → refuses_none e →
+pub with_rest : (start : SizeSerializer) (kind : Kind) (held : Open) (ps : List (Option Tree)) (h : Holds start kind held ps) (p : Option Tree) (e : Refusal) → refuses_none e →
     ((t : Tree) (us : Trees) → p ≡ Some t → bad_in (is_array held.shape) (join h.ts (more t us)) e) → (others : List (Option Tree)) →
     at_place (outer start.place) (meant start.place (whole kind (ps ++ (p ∷ others)))) (Err e) (under.Plain (rest held.place))
 unfolding whole

@@ -1,23 +1,23 @@
 -- An open transparent vector.
 use Rattle.std.proofs.Common.{◌≡◌, ℕ, ◌+◌, ◌<◌, List, [], ◌∷◌, ◌++◌, Option, Some, None, true, false, ◌&&◌, Err, length, refl, ap, sym, ◌∙◌, subst, arith, length-append, ◌⊎◌, inl, inr}
-use Rattle.amqp_data.specs.declared.error.Error.{Error}
-use Rattle.amqp_data.specs.declared.error.Error.TheVariants as error
+use Rattle.amqp_size.specs.declared.refusal.Refusal.{Refusal}
+use Rattle.amqp_size.specs.declared.refusal.Refusal.TheVariants as error
 use Rattle.amqp_ser.specs.Tree.{Tree, Trees, transparent, no_trees, more}
 use Rattle.amqp_ser.specs.Limits.{is_length}
 use Rattle.amqp_ser.specs.Encoding.{enc, enc_each}
 use Rattle.amqp_ser.specs.Writable.{alike, alike_each, within, within_each, placed, placed_each}
 use Rattle.amqp_ser.specs.Compounds.{all_trees, before, as_kind, whole}
-use Rattle.amqp_ser.specs.Permitted.{refuses_none}
+use Rattle.amqp_size.specs.Refused.{refuses_none}
 use Rattle.amqp_ser.specs.declared.kind.Kind.{Kind}
 use Rattle.amqp_ser.specs.declared.kind.Kind.TheVariants as kinds
 use Rattle.amqp_ser.proofs.Bools.{both, and_assoc, left_false, right_false, one_false, le_false}
 use Rattle.amqp_ser.proofs.Joins.{join, joined, all_trees-append, enc_each-join, alike-join, within-join}
 use Rattle.amqp_size.specs.Place.{outer, meant, rest, suits, shape_of, takes_described}
 use Rattle.amqp_size.specs.Counted.{at_place, refused, Counted, HoldsTransparent}
-use Rattle.amqp_size.specs.declared.place.Place.{Place}
-use Rattle.amqp_size.specs.declared.place.Place.TheVariants.{Root, Inside, First, Element, Descriptor, Value}
-use Rattle.amqp_size.specs.declared.place.Under.{Under}
-use Rattle.amqp_size.specs.declared.place.Under.TheVariants as under
+use Rattle.amqp_size.specs.WholePlace.{Place}
+use Rattle.amqp_size.specs.WholePlace.{Root, Inside, First, Element, Descriptor, Value}
+use Rattle.amqp_size.specs.WholeUnder.{Under}
+use Rattle.amqp_size.specs.WholeUnder as under
 use Rattle.amqp_size.specs.declared.place.Shape.TheVariants as shape
 use Rattle.amqp_size.specs.declared.serializer.SizeSerializer.{SizeSerializer}
 use Rattle.amqp_size.specs.declared.open_compound.Open.{Open}
@@ -91,12 +91,12 @@ root_alone Descriptor ts = inr refl
 root_alone (Value n b) ts = inr (right_false (takes_described b) false refl)
 
 -- elements of which the whole is refused with this error
-abbrev bad_each : Trees → Error → Type 0
+abbrev bad_each : Trees → Refusal → Type 0
 bad_each ws error.TooLong = (is_length (length (enc_each ws)) && within_each ws) ≡ false
 bad_each ws error.InvalidValue = (alike_each ws && placed_each ws) ≡ false
 bad_each ws e = ⊥
 
-spoiled_transparent : (p : Place) (ws : Trees) (e : Error) → bad_each ws e → at_place p (Some (transparent ws)) (Err e) (under.Plain (rest p))
+spoiled_transparent : (p : Place) (ws : Trees) (e : Refusal) → bad_each ws e → at_place p (Some (transparent ws)) (Err e) (under.Plain (rest p))
 spoiled_transparent p ws error.TooLong h = (long_at p (transparent ws) h, refl)
 spoiled_transparent p ws error.InvalidValue h = elim (root_alone p ws) [
   | inl q ↦ (subst (λ x. (alike_each ws && suits x (transparent ws)) ≡ false) (sym q) h, refl)
@@ -104,7 +104,7 @@ spoiled_transparent p ws error.InvalidValue h = elim (root_alone p ws) [
 ]
 spoiled_transparent p ws e h = absurd h
 
-go : (start : SizeSerializer) (kind : Kind) (held : Open) (ps : List (Option Tree)) → HoldsTransparent start kind held ps → (qs : List (Option Tree)) (o : Option Trees) → all_trees qs ≡ o → (e : Error) → refuses_none e → ((ws : Trees) → o ≡ Some ws → bad_each ws e) →
+go : (start : SizeSerializer) (kind : Kind) (held : Open) (ps : List (Option Tree)) → HoldsTransparent start kind held ps → (qs : List (Option Tree)) (o : Option Trees) → all_trees qs ≡ o → (e : Refusal) → refuses_none e → ((ws : Trees) → o ≡ Some ws → bad_each ws e) →
     at_place (outer start.place) (meant start.place (whole kind qs)) (Err e) (under.Plain (rest (outer start.place)))
 unfolding whole
 go start kind held ps h qs None q e r bad =
@@ -120,7 +120,7 @@ after ts (Some t) None ws q = cc
 after ts (Some t) (Some us) ws q = (t, (us, (refl, cc)))
 
 -- where the next element spoils every whole
-spoils : (start : SizeSerializer) (kind : Kind) (held : Open) (ps : List (Option Tree)) (h : HoldsTransparent start kind held ps) (p : Option Tree) (e : Error) → refuses_none e → ((t : Tree) (us : Trees) → p ≡ Some t → bad_each (join h.ts (more t us)) e) →
+spoils : (start : SizeSerializer) (kind : Kind) (held : Open) (ps : List (Option Tree)) (h : HoldsTransparent start kind held ps) (p : Option Tree) (e : Refusal) → refuses_none e → ((t : Tree) (us : Trees) → p ≡ Some t → bad_each (join h.ts (more t us)) e) →
     (others : List (Option Tree)) → at_place (outer start.place) (meant start.place (whole kind (ps ++ (p ∷ others)))) (Err e) (under.Plain (rest held.place))
 spoils start kind held ps h p e r bad others =
     let trees : all_trees (ps ++ (p ∷ others)) ≡ joined (Some h.ts) (before p (all_trees others)) = all_trees-append ps (p ∷ others) ∙ ap (λ o. joined o (before p (all_trees others))) h.trees in
@@ -128,7 +128,7 @@ spoils start kind held ps h p e r bad others =
     (go start kind held ps h (ps ++ (p ∷ others)) (joined (Some h.ts) (before p (all_trees others))) trees e r
     (λ ws q. let a = after h.ts p (all_trees others) ws q in subst (λ x. bad_each x e) (sym a.1.1.1) (bad a.0 a.1.0 a.1.1.0)))
 
-part_bad : (ts : Trees) (t : Tree) (us : Trees) (e : Error) → refused Root t e → bad_each (join ts (more t us)) e
+part_bad : (ts : Trees) (t : Tree) (us : Trees) (e : Refusal) → refused Root t e → bad_each (join ts (more t us)) e
 part_bad ts t us error.TooLong h = right_false (is_length (length (enc_each (join ts (more t us))))) (within_each (join ts (more t us)))
     (within-join ts (more t us) ∙ right_false (within_each ts) (within t && within_each us) (left_false (within t) (within_each us) h))
 part_bad ts t us error.InvalidValue h = elim (one_false (alike t) (placed t) h) [
@@ -140,7 +140,7 @@ part_bad ts t us e h = absurd h
 some_same : (t v : Tree) → Some t ≡ Some v → t ≡ v
 some_same t v q = cc
 
-pub refused_transparent : (start : SizeSerializer) (kind : Kind) (held : Open) (ps : List (Option Tree)) → HoldsTransparent start kind held ps → (p : Option Tree) (e : Error) (after : Under) → at_place Root p (Err e) after →
+pub refused_transparent : (start : SizeSerializer) (kind : Kind) (held : Open) (ps : List (Option Tree)) → HoldsTransparent start kind held ps → (p : Option Tree) (e : Refusal) (after : Under) → at_place Root p (Err e) after →
     (others : List (Option Tree)) → at_place (outer start.place) (meant start.place (whole kind (ps ++ (p ∷ others)))) (Err e) (under.Plain (rest held.place))
 refused_transparent start kind held ps h None e after r others = spoils start kind held ps h None e r.0 (λ t us q. cc) others
 refused_transparent start kind held ps h (Some t) e after r others =

@@ -1,6 +1,6 @@
 -- The tree of a compound that has ended.
 use Rattle.std.proofs.Common.{◌≡◌, ℕ, ◌+◌, ◌*◌, List, ◌++◌, Option, Some, None, true, false, Result, length, refl, ap, sym, ◌∙◌, subst, arith}
-use Rattle.amqp_data.specs.declared.error.Error.{Error}
+use Rattle.amqp_size.specs.declared.refusal.Refusal.{Refusal}
 use Rattle.amqp_ser.specs.Tree.{uint, Tree, Trees, Pairs, list, map, variant, count, pair_count}
 use Rattle.amqp_ser.specs.Limits.{fits}
 use Rattle.amqp_ser.specs.Scalars.{scalar_form}
@@ -16,9 +16,9 @@ use Rattle.amqp_ser.proofs.Pairing.{Pairing, pairing, paired-even}
 use Rattle.amqp_size.specs.Place.{outer, meant, shape_of, is_array, the_mark}
 use Rattle.amqp_size.specs.Counted.{at_place, Holds, content}
 use Rattle.amqp_size.specs.Width.{map_width, list_width, uint_width}
-use Rattle.amqp_size.specs.declared.place.Place.{Place}
-use Rattle.amqp_size.specs.declared.place.Under.{Under}
-use Rattle.amqp_size.specs.declared.place.Under.TheVariants as under
+use Rattle.amqp_size.specs.WholePlace.{Place}
+use Rattle.amqp_size.specs.WholeUnder.{Under}
+use Rattle.amqp_size.specs.WholeUnder as under
 use Rattle.amqp_size.specs.declared.place.ScalarMark.{ScalarMark}
 use Rattle.amqp_size.specs.declared.place.ScalarMark.TheVariants as scalar_mark
 use Rattle.amqp_size.specs.declared.place.Shape.TheVariants as shape
@@ -27,10 +27,10 @@ use Rattle.amqp_size.specs.declared.open_compound.Open.{Open}
 use Rattle.amqp_size.proofs.Lengths.{length-counted, length-list_form, length-variant}
 
 -- an answer on the tree that is meant
-pub stands : (u : Under) (q : Place) (o : Option Tree) (x : Tree) (r : Result ℕ Error) (after : Under) → outer u ≡ q → meant u o ≡ Some x → at_place q (Some x) r after → at_place (outer u) (meant u o) r after
+pub stands : (u : Under) (q : Place) (o : Option Tree) (x : Tree) (r : Result ℕ Refusal) (after : Under) → outer u ≡ q → meant u o ≡ Some x → at_place q (Some x) r after → at_place (outer u) (meant u o) r after
 stands u q o x r after a b h = subst (λ w. at_place w (meant u o) r after) (sym a) (subst (λ w. at_place q w r after) (sym b) h)
 
-pub stands_none : (u : Under) (q : Place) (o : Option Tree) (r : Result ℕ Error) (after : Under) → outer u ≡ q → meant u o ≡ None → at_place q None r after → at_place (outer u) (meant u o) r after
+pub stands_none : (u : Under) (q : Place) (o : Option Tree) (r : Result ℕ Refusal) (after : Under) → outer u ≡ q → meant u o ≡ None → at_place q None r after → at_place (outer u) (meant u o) r after
 stands_none u q o r after a b h = subst (λ w. at_place w (meant u o) r after) (sym a) (subst (λ w. at_place q w r after) (sym b) h)
 
 pub map_shape : (u : Under) (k : Kind) → shape_of u k ≡ shape.Map → (u ≡ under.Plain (outer u)) × (k ≡ kinds.Map)

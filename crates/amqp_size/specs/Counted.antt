@@ -1,20 +1,20 @@
 -- What the size serializer may answer, and what an open compound was fed.
 use Rattle.std.specs.Prelude.{◌≡◌, ℕ, List, [], ◌∷◌, ◌++◌, ◌⊎◌, Option, Some, None, Bool, true, false, ◌&&◌, Result, Ok, Err, length}
-use Rattle.amqp_data.specs.declared.error.Error.{Error}
-use Rattle.amqp_data.specs.declared.error.Error.TheVariants as error
+use Rattle.amqp_size.specs.declared.refusal.Refusal.{Refusal}
+use Rattle.amqp_size.specs.declared.refusal.Refusal.TheVariants as error
 use Rattle.amqp_ser.specs.Tree.{Tree, Trees, no_trees, more, count}
 use Rattle.amqp_ser.specs.Limits.{fits, is_count}
 use Rattle.amqp_ser.specs.Encoding.{enc_each, payload_each, first_con, con}
 use Rattle.amqp_ser.specs.Writable.{within_each, alike, alike_each, inside_each, one_con, placed_each}
 use Rattle.amqp_ser.specs.Compounds.{all_trees, paired}
-use Rattle.amqp_ser.specs.Permitted.{refuses_none}
+use Rattle.amqp_size.specs.Refused.{refuses_none}
 use Rattle.amqp_ser.specs.declared.kind.Kind.{Kind}
 use Rattle.amqp_ser.specs.declared.kind.Kind.TheVariants as kinds
 use Rattle.amqp_size.specs.Place.{outer, meant, rest, suits, element, next, extent, within_at, shape_of, is_array, is_gathered}
-use Rattle.amqp_size.specs.declared.place.Place.{Place}
-use Rattle.amqp_size.specs.declared.place.Place.TheVariants.{Root, Inside, First, Descriptor}
-use Rattle.amqp_size.specs.declared.place.Under.{Under}
-use Rattle.amqp_size.specs.declared.place.Under.TheVariants.{Plain}
+use Rattle.amqp_size.specs.WholePlace.{Place}
+use Rattle.amqp_size.specs.WholePlace.{Root, Inside, First, Descriptor}
+use Rattle.amqp_size.specs.WholeUnder.{Under}
+use Rattle.amqp_size.specs.WholeUnder.{Plain}
 use Rattle.amqp_size.specs.declared.place.Shape.TheVariants as shapes
 use Rattle.amqp_size.specs.declared.serializer.SizeSerializer.{SizeSerializer}
 use Rattle.amqp_size.specs.declared.open_compound.Open.{Open}
@@ -28,18 +28,18 @@ pub record Counted (p : Place) (t : Tree) (n : ℕ) (after : Under) : Type 0 whe
   pub place : after ≡ Plain (next p t)
 
 -- too long only where a limit is passed, invalid only for another cause
-abbrev pub refused : Place → Tree → Error → Type 0
+abbrev pub refused : Place → Tree → Refusal → Type 0
 refused p t error.TooLong = within_at p t ≡ false
 refused p t error.InvalidValue = (alike t && suits p t) ≡ false
 refused p t e = ⊥
 
-abbrev pub at_place : Place → Option Tree → Result ℕ Error → Under → Type 0
+abbrev pub at_place : Place → Option Tree → Result ℕ Refusal → Under → Type 0
 at_place p None (Ok n) after = ⊥
 at_place p None (Err e) after = refuses_none e × (after ≡ Plain (rest p))
 at_place p (Some t) (Ok n) after = Counted p t n after
 at_place p (Some t) (Err e) after = refused p t e × (after ≡ Plain (rest p))
 
-abbrev pub size_permits : SizeSerializer → Option Tree → Result ℕ Error → SizeSerializer → Type 0
+abbrev pub size_permits : SizeSerializer → Option Tree → Result ℕ Refusal → SizeSerializer → Type 0
 size_permits s t r after = at_place (outer s.place) (meant s.place t) r after.place
 
 -- the bytes of the parts, in an array or not

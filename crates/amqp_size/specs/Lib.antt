@@ -1,3 +1,7 @@
+pub mod Refused
+pub mod WholePlace
+pub mod WholeUnder
+pub mod State
 pub mod Form
 pub mod Width
 pub mod Place

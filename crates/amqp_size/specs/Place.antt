@@ -10,12 +10,12 @@ use Rattle.amqp_ser.specs.declared.kind.Kind.{Kind}
 use Rattle.amqp_ser.specs.declared.kind.Kind.TheVariants as kind
 use Rattle.amqp_ser.specs.declared.mark.Mark.{Mark}
 use Rattle.amqp_ser.specs.declared.mark.Mark.TheVariants as mark
-use Rattle.amqp_size.specs.declared.place.Place.{Place}
-use Rattle.amqp_size.specs.declared.place.Place.TheVariants.{Root, Inside, First, Element, Descriptor, Value}
+use Rattle.amqp_size.specs.WholePlace.{Place}
+use Rattle.amqp_size.specs.WholePlace.{Root, Inside, First, Element, Descriptor, Value}
 use Rattle.amqp_size.specs.declared.place.Base.{Base}
 use Rattle.amqp_size.specs.declared.place.Base.TheVariants as base
-use Rattle.amqp_size.specs.declared.place.Under.{Under}
-use Rattle.amqp_size.specs.declared.place.Under.TheVariants as under
+use Rattle.amqp_size.specs.WholeUnder.{Under}
+use Rattle.amqp_size.specs.WholeUnder as under
 use Rattle.amqp_size.specs.declared.place.ScalarMark.{ScalarMark}
 use Rattle.amqp_size.specs.declared.place.ScalarMark.TheVariants as scalar_mark
 use Rattle.amqp_size.specs.declared.place.Shape.{Shape}

@@ -9,6 +9,7 @@ mod compounds;
 mod form;
 mod open_compound;
 mod place;
+mod refusal;
 mod serializer;
 #[cfg(test)]
 mod tests;
@@ -22,4 +23,5 @@ pub use compounds::{
 pub use form::Form;
 pub use open_compound::Open;
 pub use place::{Base, Place, ScalarMark, Shape, Under};
+pub use refusal::Refusal;
 pub use serializer::{SizeSerializer, serialized_size};

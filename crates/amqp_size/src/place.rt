@@ -1,10 +1,10 @@
 //! Where a value stands, and under which marker.
 
-ghost use Rattle.std.specs.Prelude.{◌≡◌, ◌<◌, ◌+◌, Some, MatchResult};
-ghost use Rattle.amqp_size.specs.Place.{rest, stand, takes_described, con_of, described_place, inner_under};
-ghost use Rattle.amqp_size.specs.Take.{undescribed};
+ghost use Rattle.std.specs.Prelude.{◌≡◌, ◌+◌, ℕ, Some, MatchResult};
+ghost use Rattle.amqp_size.specs.State.{place_at, under_at};
+ghost use Rattle.amqp_size.specs.Place.{rest, stand, takes_described, con_of, described_place, head_of, inner_under};
 
-use amqp_data::Error;
+use crate::refusal::Refusal;
 
 /// Where a described value stands.
 #[derive(Clone, Copy, Debug)]
@@ -32,8 +32,8 @@ pub enum Place {
     Element(u8),
     /// Before a described value.
     Descriptor,
-    /// After this many bytes: the code of described values and the descriptors.
-    Value(usize, Base),
+    /// After the code of described values and the descriptors: how many bytes those are stands beside the place.
+    Value(Base),
 }
 
 /// The marker of a scalar.
@@ -63,7 +63,7 @@ pub enum Under {
     /// Under the marker of transparent vectors.
     Transparent(Place),
     /// Under a scalar's marker.
-    Scalar(ScalarMark, Place),
+    Scalar(Place, ScalarMark),
     /// Under markers that no value satisfies.
     Nothing(Place),
 }
@@ -93,7 +93,7 @@ impl Base {
     /// The place itself.
     #[inline(always)]
     pub fn place(self) -> Place
-        ensures { result ≡ stand self }
+        ensures { (h : ℕ) → place_at result h ≡ stand self }
     {
         match self {
             Base::Root => Place::Root,
@@ -110,50 +110,52 @@ impl Base {
     {
         matches!(self, Base::Root | Base::Inside)
     }
-
-    /// The place after the code of described values and a descriptor of this size, with more before them.
-    #[inline(always)]
-    fn after(self, head: usize, size: usize) -> Result<Place, Error>
-        ensures { MatchResult result (λ p. p ≡ Place.Value (head + (size + 1)) self) (λ e. (e ≡ Error.TooLong) × (18446744073709551615 < head + (size + 1))) }
-    {
-        if size >= usize::MAX - head {
-            return Err(Error::TooLong);
-        }
-        Ok(Place::Value(head + (size + 1), self))
-    }
 }
 
 impl Place {
     /// Where a serializer stands between steps and after a refusal.
     #[inline(always)]
     pub fn rest(self) -> Place
-        ensures { result ≡ rest self }
+        ensures { (h k : ℕ) → place_at result k ≡ rest (place_at self h) }
     {
         match self {
-            Place::Value(_, base) => base.place(),
+            Place::Value(base) => base.place(),
             place => place,
         }
     }
 
-    /// The place after a descriptor of this size.
+    /// The place after a descriptor.
     #[inline(always)]
-    pub(crate) fn described(self, size: usize) -> Result<Place, Error>
-        ensures { MatchResult result (λ p. described_place self size ≡ Some p) (λ e. undescribed (Under.Plain self) size e) }
+    pub(crate) fn described(self) -> Result<Place, Refusal>
+        ensures { MatchResult result
+            (λ p. (h n : ℕ) → described_place (place_at self h) n ≡ Some (place_at p (head_of (place_at self h) + (n + 1))))
+            (λ e. (self ≡ Place.Descriptor) × (e ≡ Refusal.InvalidValue)) }
     {
         match self {
-            Place::Root => Base::Root.after(0, size),
-            Place::Inside => Base::Inside.after(0, size),
-            Place::First => Base::First.after(0, size),
-            Place::Element(code) => Base::Element(code).after(0, size),
-            Place::Descriptor => Err(Error::InvalidValue),
-            Place::Value(head, base) => base.after(head, size),
+            Place::Root => Ok(Place::Value(Base::Root)),
+            Place::Inside => Ok(Place::Value(Base::Inside)),
+            Place::First => Ok(Place::Value(Base::First)),
+            Place::Element(code) => Ok(Place::Value(Base::Element(code))),
+            Place::Descriptor => Err(Refusal::InvalidValue),
+            Place::Value(base) => Ok(Place::Value(base)),
+        }
+    }
+
+    /// How many bytes stand before a value there, where this many stand after descriptors.
+    #[inline(always)]
+    pub(crate) fn before(self, head: usize) -> usize
+        ensures { result ≡ head_of (place_at self head) }
+    {
+        match self {
+            Place::Value(_) => head,
+            _ => 0,
         }
     }
 
     /// The constructor of an array's elements, once there is one.
     #[inline(always)]
     pub fn constructor(self) -> Option<u8>
-        ensures { result ≡ con_of self }
+        ensures { (h : ℕ) → result ≡ con_of (place_at self h) }
     {
         match self {
             Place::Element(code) => Some(code),
@@ -166,7 +168,7 @@ impl Shape {
     /// Where the first part stands.
     #[inline(always)]
     pub fn inner(self, under: Under) -> Under
-        ensures { result ≡ inner_under self under }
+        ensures { (h : ℕ) → under_at result h ≡ inner_under self (under_at under h) }
     {
         match self {
             Shape::Array => Under::Plain(Place::First),

@@ -2,9 +2,10 @@
 
 ghost use Rattle.std.specs.Prelude.{None};
 ghost use Rattle.amqp_ser.specs.Permitted.{IsSizeOf};
+ghost use Rattle.amqp_size.specs.Refused.{told};
 
 use super::width::{array_len, list_len, map_len, text_len};
-use super::{SizeSerializer, serialized_size};
+use super::{Refusal, SizeSerializer, serialized_size};
 use amqp_data::markers::SYMBOL;
 use amqp_data::{Array, Error};
 use amqp_ser::{Kind, Mark, Serialize, Serializer};
@@ -149,7 +150,7 @@ fn compounds_pass_over_what_they_refuse(rt: HostRuntime) {
     assert_eq!(rt; mixed_array(&mut serializer), Ok(12));
     assert_eq!(rt; interrupted_list(&mut serializer), Ok(7));
     assert_eq!(rt; two_keys(&mut serializer), Ok(8));
-    assert_eq!(rt; key_alone(&mut serializer), Err(Error::InvalidValue));
+    assert_eq!(rt; key_alone(&mut serializer), Err(Refusal::InvalidValue));
     assert_eq!(rt; serializer.serialize_str("b"), Ok(3), "fresh afterwards");
 }
 
@@ -164,7 +165,7 @@ fn second_value_of_a_bare_compound(rt: HostRuntime) {
     let second = serializer.serialize_u64(2);
     assert_eq!(rt;
         serializer.end_part(&mut held, second),
-        Err(Error::InvalidValue)
+        Err(Refusal::InvalidValue)
     );
     assert_eq!(rt; serializer.end(held), Ok(2), "the first value alone");
     assert_eq!(rt; serializer.serialize_str("b"), Ok(3), "fresh afterwards");
@@ -178,7 +179,7 @@ fn descriptor_after_a_string(rt: HostRuntime) {
     let text = serializer.serialize_str("a");
     assert_eq!(rt;
         serializer.end_descriptor(&mut held, text),
-        Err(Error::InvalidValue)
+        Err(Refusal::InvalidValue)
     );
     serializer.begin_descriptor(&mut held);
     let code = serializer.serialize_u64(0x24);
@@ -192,8 +193,8 @@ fn descriptor_after_a_string(rt: HostRuntime) {
 }
 
 /// The length of the second value, by a serializer that has counted, or refused, the first.
-fn counted_after<A: Serialize, B: Serialize>(first: &A, second: &B) -> Result<usize, Error>
-    ensures { IsSizeOf (B.tree second.now) result }
+fn counted_after<A: Serialize, B: Serialize>(first: &A, second: &B) -> Result<usize, Refusal>
+    ensures { IsSizeOf (B.tree second.now) (told result) }
 {
     let mut serializer = SizeSerializer::default();
     let _ = first.serialize(&mut serializer);

@@ -1,26 +1,25 @@
 //! What a marker leaves of a place.
 
-ghost use Rattle.std.specs.Prelude.{◌≡◌, Option, Some, MatchResult};
+ghost use Rattle.std.specs.Prelude.{◌≡◌, ℕ, Option};
 ghost use Rattle.amqp_ser.specs.Tree.{Tree};
 ghost use Rattle.amqp_ser.specs.Marked.{marked};
-ghost use Rattle.amqp_size.specs.Place.{outer, meant, rest, shape_of, the_mark, described_under};
-ghost use Rattle.amqp_size.specs.Take.{undescribed};
+ghost use Rattle.amqp_size.specs.State.{place_at, under_at};
+ghost use Rattle.amqp_size.specs.Place.{outer, meant, rest, shape_of, the_mark};
 
 use crate::place::{Place, ScalarMark, Shape, Under};
-use amqp_data::Error;
 use amqp_ser::{Kind, Mark};
 
 impl Under {
     /// The place itself.
     #[inline(always)]
     pub fn outer(self) -> Place
-        ensures { result ≡ outer self }
+        ensures { (h : ℕ) → place_at result h ≡ outer (under_at self h) }
     {
         match self {
             Under::Plain(place) => place,
             Under::Array(place) => place,
             Under::Transparent(place) => place,
-            Under::Scalar(_, place) => place,
+            Under::Scalar(place, _) => place,
             Under::Nothing(place) => place,
         }
     }
@@ -28,7 +27,7 @@ impl Under {
     /// Where a serializer stands after a refusal there.
     #[inline(always)]
     pub fn rest(self) -> Place
-        ensures { result ≡ rest (outer self) }
+        ensures { (h k : ℕ) → place_at result k ≡ rest (outer (under_at self h)) }
     {
         self.outer().rest()
     }
@@ -36,7 +35,7 @@ impl Under {
     /// What is opened there.
     #[inline(always)]
     pub fn shape(self, kind: Kind) -> Shape
-        ensures { result ≡ shape_of self kind }
+        ensures { (h : ℕ) → result ≡ shape_of (under_at self h) kind }
     {
         match self {
             Under::Plain(_) => match kind {
@@ -57,7 +56,7 @@ impl Under {
     /// What a list becomes under a marker.
     #[inline(always)]
     fn marked_list(self) -> Shape
-        ensures { result ≡ shape_of self Kind.List }
+        ensures { (h : ℕ) → result ≡ shape_of (under_at self h) Kind.List }
     {
         match self {
             Under::Plain(_) => Shape::List,
@@ -67,22 +66,11 @@ impl Under {
         }
     }
 
-    /// The place after a descriptor of this size: no marker takes a described value.
-    #[inline(always)]
-    pub fn described(self, size: usize) -> Result<Under, Error>
-        ensures { MatchResult result (λ u. described_under self size ≡ Some u) (λ e. undescribed self size e) }
-    {
-        match self {
-            Under::Plain(place) => Ok(Under::Plain(place.described(size)?)),
-            under => Ok(Under::Nothing(under.outer())),
-        }
-    }
-
     /// The place under one marker more.
     #[inline(always)]
     pub fn marked(self, mark: Mark) -> Under
-        ensures meant { (t : Option Tree) → meant result t ≡ meant self (marked mark t) }
-        ensures outer { outer result ≡ outer self }
+        ensures meant { (h : ℕ) (t : Option Tree) → meant (under_at result h) t ≡ meant (under_at self h) (marked mark t) }
+        ensures outer { (h : ℕ) → outer (under_at result h) ≡ outer (under_at self h) }
     {
         match mark {
             Mark::Other => self,
@@ -100,8 +88,8 @@ impl Under {
 
     #[inline(always)]
     fn under_array(self) -> Under
-        ensures meant { (t : Option Tree) → meant result t ≡ meant self (marked Mark.Array t) }
-        ensures outer { outer result ≡ outer self }
+        ensures meant { (h : ℕ) (t : Option Tree) → meant (under_at result h) t ≡ meant (under_at self h) (marked Mark.Array t) }
+        ensures outer { (h : ℕ) → outer (under_at result h) ≡ outer (under_at self h) }
     {
         match self {
             Under::Plain(place) => Under::Array(place),
@@ -111,8 +99,8 @@ impl Under {
 
     #[inline(always)]
     fn under_transparent(self) -> Under
-        ensures meant { (t : Option Tree) → meant result t ≡ meant self (marked Mark.Transparent t) }
-        ensures outer { outer result ≡ outer self }
+        ensures meant { (h : ℕ) (t : Option Tree) → meant (under_at result h) t ≡ meant (under_at self h) (marked Mark.Transparent t) }
+        ensures outer { (h : ℕ) → outer (under_at result h) ≡ outer (under_at self h) }
     {
         match self {
             Under::Plain(place) => Under::Transparent(place),
@@ -122,11 +110,11 @@ impl Under {
 
     #[inline(always)]
     fn under_scalar(self, mark: ScalarMark) -> Under
-        ensures meant { (t : Option Tree) → meant result t ≡ meant self (marked (the_mark mark) t) }
-        ensures outer { outer result ≡ outer self }
+        ensures meant { (h : ℕ) (t : Option Tree) → meant (under_at result h) t ≡ meant (under_at self h) (marked (the_mark mark) t) }
+        ensures outer { (h : ℕ) → outer (under_at result h) ≡ outer (under_at self h) }
     {
         match self {
-            Under::Plain(place) => Under::Scalar(mark, place),
+            Under::Plain(place) => Under::Scalar(place, mark),
             under => Under::Nothing(under.outer()),
         }
     }

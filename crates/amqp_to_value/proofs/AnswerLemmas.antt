@@ -1,5 +1,5 @@
 -- What an answer leaves of the serializer, and what a compound has after it.
-use Rattle.std.proofs.Common.{◌≡◌, ◌≤◌, List, [], ◌∷◌, ◌++◌, Option, Some, None, Result, Ok, Err, length, refl, ap, sym, ◌∙◌, subst, append-nil, append_assoc}
+use Rattle.std.proofs.Common.{◌≡◌, ◌≤◌, false, List, [], ◌∷◌, ◌++◌, Option, Some, None, Result, Ok, Err, length, refl, ap, sym, ◌∙◌, subst, append_assoc}
 use Rattle.amqp_data.specs.declared.error.Error.{Error}
 use Rattle.amqp_data.specs.declared.error.Error.TheVariants as error
 use Rattle.amqp_ser.specs.Tree.{Descriptor, Tree, Trees}
@@ -8,46 +8,48 @@ use Rattle.amqp_ser.specs.declared.kind.Kind.TheVariants as kinds
 use Rattle.amqp_ser.specs.declared.mark.Mark.TheVariants as mark
 use Rattle.amqp_value.specs.TreeOf.{tree_of}
 use Rattle.amqp_value.specs.declared.value.Value.{Value}
-use Rattle.amqp_to_value.specs.Around.{described_in, described_by}
-use Rattle.amqp_to_value.specs.Holds.{IsKept, Leaves, meant_by, value_permits}
+use Rattle.amqp_to_value.specs.Around.{Pending, described_in, described_by, standing}
+use Rattle.amqp_to_value.specs.Holds.{IsAside, IsFresh, IsKept, Leaves, meant_by, value_permits}
 use Rattle.amqp_to_value.specs.Permitted.{refuses, StandsFor}
 use Rattle.amqp_to_value.specs.Under.{meant}
 use Rattle.amqp_to_value.specs.declared.under.Under.TheVariants as under
 use Rattle.amqp_to_value.specs.declared.serializer.Serializer.{Serializer}
-use Rattle.amqp_to_value.proofs.AroundLemmas.{described_by-None, refuses_in, stands_in}
+use Rattle.amqp_to_value.proofs.AroundLemmas.{described_by-None, refuses_in, standing_left, stands_in}
 use Rattle.amqp_to_value.proofs.HoldsLemmas.{meant_none}
 
--- descriptors that are put aside alone
-pub kept_all : (ds : List Descriptor) (s : Serializer) → s.under ≡ under.Mark mark.Other → s.around.1 ≡ [] → s.around.0 ≡ ds → IsKept ds s
-kept_all ds s fresh none is = ((fresh, none), [], is ∙ sym (append-nil ds))
-
 -- a value in all that it stood in
-pub finished : (start after : Serializer) (t : Option Tree) (v w : Value) (others own : List Descriptor) → others ≡ start.around.0 → own ≡ start.around.1
-    → after.under ≡ under.Mark mark.Other → after.around.0 ≡ others → after.around.1 ≡ [] → length (others ++ own) ≤ after.around.2
-    → tree_of w ≡ described_in own (tree_of v) → StandsFor v (meant start.under t) → value_permits start t (Ok w) after
-finished start after t v w others own e f fresh is none room d s = (
-  stands_in start.around.1 (meant start.under t) v w (d ∙ ap (λ ds. described_in ds (tree_of v)) f) s,
-  (kept_all start.around.0 after fresh none (is ∙ e), subst (λ n. n ≤ after.around.2) (λ i. length (e i ++ f i)) room),
+pub finished : (start after : Serializer) (t : Option Tree) (v w : Value) (others ds : List Descriptor) → others ≡ start.around.kept → ds ≡ standing start.around
+    → after.under ≡ under.Mark mark.Other → after.around.kept ≡ others → after.around.next ≡ false → length (others ++ ds) ≤ after.around.room
+    → tree_of w ≡ described_in ds (tree_of v) → StandsFor v (meant start.under t) → value_permits start t (Ok w) after
+finished start after t v w others ds e f fresh is none room d s = (
+  stands_in (standing start.around) (meant start.under t) v w (d ∙ ap (λ x. described_in x (tree_of v)) f) s,
+  (((fresh, none), is ∙ e), subst (λ n. n ≤ after.around.room) (λ i. length (e i ++ f i)) room),
 )
 
 -- a refusal
-pub finished_not : (start after : Serializer) (t : Option Tree) (e : Error) (others own : List Descriptor) → others ≡ start.around.0 → own ≡ start.around.1
-    → after.under ≡ under.Mark mark.Other → after.around.0 ≡ others ++ own → after.around.1 ≡ [] → refuses e (meant start.under t) → value_permits start t (Err e) after
-finished_not start after t e others own p q fresh is none r =
-    (refuses_in start.around.1 (meant start.under t) e r, kept_all (start.around.0 ++ start.around.1) after fresh none (is ∙ (λ i. p i ++ q i)))
+pub finished_not : (start after : Serializer) (t : Option Tree) (e : Error) (old : Pending) → old.kept ≡ start.around.kept → standing old ≡ standing start.around
+    → after.under ≡ under.Mark mark.Other → after.around.kept ≡ old.kept → after.around.later ≡ old.later → after.around.next ≡ false → refuses e (meant start.under t) → value_permits start t (Err e) after
+finished_not start after t e old p q fresh is left none r =
+    let more = standing_left old in
+    (refuses_in (standing start.around) (meant start.under t) e r, (((fresh, none), is ∙ p), (more.0, left ∙ more.1 ∙ ap (λ ds. ds ++ more.0) q)))
 
--- descriptors that are kept with others are kept
-pub kept_front : (ds es : List Descriptor) (s : Serializer) → IsKept (ds ++ es) s → IsKept ds s
-kept_front ds es s k = (k.0, es ++ k.1, k.2 ∙ append_assoc ds es k.1)
+-- what is kept stays so by an answer
+pub kept_on : (ds : List Descriptor) (start after : Serializer) (r : Result Value Error) → IsKept ds start → Leaves start.around.kept (standing start.around) r after → IsKept ds after
+kept_on ds start after (Ok v) h k = (k.0.0, k.0.1 ∙ h.1)
+kept_on ds start after (Err e) h k = (k.0.0, k.0.1 ∙ h.1)
 
--- they stay kept by an answer
-pub kept_on : (ds : List Descriptor) (start after : Serializer) (r : Result Value Error) → IsKept ds start → Leaves start.around.0 start.around.1 r after → IsKept ds after
-kept_on ds start after (Ok v) h k = kept_front ds h.1 after (subst (λ x. IsKept x after) h.2 k.0)
-kept_on ds start after (Err e) h k = kept_front ds h.1 after (subst (λ x. IsKept x after) ((λ i. h.2 i ++ h.0.1 i) ∙ append-nil _) k)
+-- after a part, what the compound stands in is put aside again
+pub parted_again : (start now : Serializer) → IsKept (start.around.kept ++ standing start.around) now
+    → now.around.kept ++ now.around.later ≡ start.around.kept ++ (standing start.around ++ now.around.later)
+parted_again start now k = ap (λ ds. ds ++ now.around.later) k.1 ∙ append_assoc start.around.kept (standing start.around) now.around.later
+
+pub aside_again : (start now : Serializer) (around : Pending) (more : List Descriptor) → IsFresh now → around.next ≡ now.around.next
+    → (around.kept ≡ start.around.kept) × (around.later ≡ standing start.around ++ more) → IsAside start (record { alloc = now.alloc; under = now.under; around = around })
+aside_again start now around more fresh next rel = (((fresh.0, next ∙ fresh.1), rel.0), (more, rel.1))
 
 -- nothing is permitted on none but a refusal
 pub none_refused : (s : Serializer) → refuses error.InvalidValue (meant_by s None)
-none_refused s = subst (refuses error.InvalidValue) (sym (ap (described_by s.around.1) (meant_none s.under) ∙ described_by-None s.around.1)) tt
+none_refused s = subst (refuses error.InvalidValue) (sym (ap (described_by (standing s.around)) (meant_none s.under) ∙ described_by-None (standing s.around))) tt
 
 -- two parts make no bare compound
 two_trees : (t u : Tree) (o : Option Trees) → as_kind kinds.Bare (before (Some t) (before (Some u) o)) ≡ None

@@ -1,5 +1,5 @@
 -- Values after their descriptors.
-use Rattle.std.proofs.Common.{◌≡◌, Bool, true, false, true≢false, ℕ, ◌+◌, ◌≤◌, ◌<◌, List, [], ◌∷◌, ◌++◌, Option, Some, None, Result, Ok, Err, MatchResult, Box, Global, length, take, drop, refl, ap, sym, ◌∙◌, subst, append-nil, append_assoc, arith, rules}
+use Rattle.std.proofs.Common.{◌≡◌, if◌then◌else◌, Bool, true, false, true≢false, ℕ, ◌+◌, ◌≤◌, ◌<◌, List, [], ◌∷◌, ◌++◌, Option, Some, None, Result, Ok, Err, MatchResult, Box, Global, length, take, drop, refl, ap, sym, ◌∙◌, subst, append-nil, append_assoc, arith, rules}
 use Rattle.std.proofs.lemmas.List.{map-append, length-map, take-map, drop-map, take-append-drop, take-append-le, drop-append-le, length-append}
 use Rattle.std.proofs.Math.Seq.{take-append_seam, drop-append_seam, take-length, drop-length}
 use Rattle.amqp_data.specs.declared.described.Described.{Described}
@@ -12,8 +12,22 @@ use Rattle.amqp_value.specs.TreeOf.{tree_of, tree_step}
 use Rattle.amqp_value.specs.declared.value.Value.{Value, the_lemmas, out-Value, roll-Value, roll-out-Value, map-Value, fold-roll-Value}
 use Rattle.amqp_value.specs.declared.value.Value.TheOpen.{Value-F}
 use Rattle.amqp_value.specs.declared.value.Value.TheVariants.{Described as DescribedValue}
-use Rattle.amqp_to_value.specs.Around.{contents, described_in, described_by}
+use Rattle.amqp_to_value.specs.Around.{Pending, contents, described_in, described_by, standing}
 use Rattle.amqp_to_value.specs.Permitted.{refuses, StandsFor}
+
+-- what comes after the kept ones begins with what the next value stands in
+pub standing_left : (p : Pending) → (more : List Descriptor) × (p.later ≡ standing p ++ more)
+standing_left p = by p.next refl
+  where
+    by : (b : Bool) → p.next ≡ b → (more : List Descriptor) × (p.later ≡ standing p ++ more)
+    by true is = ([], ap (λ b. if b then p.later else []) (sym is) ∙ sym (append-nil (standing p)))
+    by false is = (p.later, ap (λ b. (if b then p.later else []) ++ p.later) (sym is))
+
+pub standing_next : (p : Pending) → p.next ≡ true → standing p ≡ p.later
+standing_next p is = ap (λ b. if b then p.later else []) is
+
+pub standing_none : (p : Pending) → p.next ≡ false → standing p ≡ []
+standing_none p is = ap (λ b. if b then p.later else []) is
 
 -- one descriptor more, the innermost
 pub described_in-last : (ds : List Descriptor) (d : Descriptor) (t : Tree) → described_in (ds ++ (d ∷ [])) t ≡ described_in ds (described d t)
@@ -49,38 +63,28 @@ refuses_in ds None error.InvalidValue r = subst (refuses error.InvalidValue) (sy
 refuses_in ds (Some t) error.InvalidValue r = absurd r
 refuses_in ds o e r = absurd r
 
--- what is put aside stands before
-pub all_contents : (bs : List (Box (Described Value) Global)) (first : ℕ) → contents (take first bs) ++ contents (drop first bs) ≡ contents bs
-all_contents bs first = sym (map-append _ (take first bs) (drop first bs)) ∙ ap contents (take-append-drop first bs)
+-- what is kept stands before
+pub all_contents : (bs : List (Box (Described Value) Global)) (kept : ℕ) (others later : List Descriptor) → contents (take kept bs) ≡ others → contents (drop kept bs) ≡ later → contents bs ≡ others ++ later
+all_contents bs kept others later o l = ap contents (sym (take-append-drop kept bs)) ∙ map-append _ (take kept bs) (drop kept bs) ∙ (λ i. o i ++ l i)
 
-pub seen-all : (bs : List (Box (Described Value) Global)) (n : ℕ) → n ≡ length bs → (contents (take n bs) ≡ contents bs) × (contents (drop n bs) ≡ [])
-seen-all bs n e = rw (e, take-length bs, drop-length bs) (refl, refl)
-
--- the first of those that are put aside
-module _ (bs cs : List (Box (Described Value) Global)) (first : ℕ) (kept later : List Descriptor)
-    (before : contents (take first bs) ≡ kept ++ later) (none : contents (drop first bs) ≡ []) (front : cs ≡ take (length kept) bs) where
-  pub kept_contents : contents cs ≡ kept
-  kept_contents =
-      ap contents front ∙ sym (take-map _ (length kept) bs)
-      ∙ ap (take (length kept)) (sym (all_contents bs first) ∙ (λ i. before i ++ none i) ∙ append-nil _) ∙ take-append_seam kept later
-
-  pub kept_length : length cs ≡ length kept
-  kept_length = sym (length-map cs _) ∙ ap length kept_contents
-
--- what is put aside is taken back
-pub taken_back : (cs : List (Box (Described Value) Global)) (others own : List Descriptor) (n : ℕ) → contents cs ≡ others ++ own → n ≡ length others
-    → (contents (take n cs) ≡ others) × (contents (drop n cs) ≡ own)
-taken_back cs others own n is e = (
-  sym (take-map _ n cs) ∙ (λ i. take (e i) (is i)) ∙ take-append_seam others own,
-  sym (drop-map _ n cs) ∙ (λ i. drop (e i) (is i)) ∙ drop-append_seam others own,
+-- those up to a place, and those after it
+pub parted : (bs : List (Box (Described Value) Global)) (others own : List Descriptor) (n : ℕ) → contents bs ≡ others ++ own → n ≡ length others
+    → (contents (take n bs) ≡ others) × (contents (drop n bs) ≡ own)
+parted bs others own n is e = (
+  sym (take-map _ n bs) ∙ (λ i. take (e i) (is i)) ∙ take-append_seam others own,
+  sym (drop-map _ n bs) ∙ (λ i. drop (e i) (is i)) ∙ drop-append_seam others own,
 )
 
+-- the front of them
+pub front : (bs cs : List (Box (Described Value) Global)) (ds later : List Descriptor) (n : ℕ) → contents bs ≡ ds ++ later → n ≡ length ds → cs ≡ take n bs → contents cs ≡ ds
+front bs cs ds later n is e f = ap contents f ∙ (parted bs ds later n is e).0
+
 -- a value that was taken out of what is put aside again
-pub put_again : (r : Result Value Error) (cs ns : List (Box (Described Value) Global)) (others own : List Descriptor) (t : Tree) (n : ℕ) → contents cs ≡ others → n ≡ length ns
+pub put_again : (r : Result Value Error) (cs ns : List (Box (Described Value) Global)) (others own : List Descriptor) (t : Tree) (n : ℕ) (next : Bool) → contents cs ≡ others → n ≡ length others → next ≡ false
     → MatchResult r (λ v. (tree_of v ≡ t) × (contents ns ≡ contents cs ++ own)) (λ _. ⊥)
-    → MatchResult r (λ v. (tree_of v ≡ t) × (contents (take n ns) ≡ others ++ own) × (contents (drop n ns) ≡ [])) (λ _. ⊥)
-put_again (Ok v) cs ns others own t n is e h = let all = seen-all ns n e in (h.0, all.0 ∙ h.1 ∙ ap (λ ds. ds ++ own) is, all.1)
-put_again (Err e) cs ns others own t n is e' h = h
+    → MatchResult r (λ v. (tree_of v ≡ t) × (contents (take n ns) ≡ others) × (contents (drop n ns) ≡ own) × (next ≡ false)) (λ _. ⊥)
+put_again (Ok v) cs ns others own t n next is e idle h = let all = parted ns others own n (h.1 ∙ ap (λ ds. ds ++ own) is) e in (h.0, all.0, all.1, idle)
+put_again (Err e) cs ns others own t n next is e' idle h = h
 
 -- the last of those from the first on, and the others
 module _ (bs : List (Box (Described Value) Global)) (b : Box (Described Value) Global) (first : ℕ) (le : first ≤ length bs) where

@@ -1,5 +1,5 @@
 -- A bare compound after the answer on a descriptor.
-use Rattle.std.proofs.Common.{◌≡◌, ◌+◌, List, [], ◌∷◌, ◌++◌, Option, Some, None, Result, Ok, Err, length, refl, ap, sym, ◌∙◌, subst, append_assoc, arith}
+use Rattle.std.proofs.Common.{◌≡◌, ◌+◌, true, List, [], ◌∷◌, ◌++◌, Option, Some, None, Result, Ok, Err, length, refl, ap, sym, ◌∙◌, subst, append_assoc, arith}
 use Rattle.std.proofs.lemmas.List.{length-append}
 use Rattle.amqp_data.specs.declared.error.Error.{Error}
 use Rattle.amqp_data.specs.declared.error.Error.TheVariants as error
@@ -8,13 +8,13 @@ use Rattle.amqp_ser.specs.Composites.{as_described, descriptor_of}
 use Rattle.amqp_value.specs.Image.{image}
 use Rattle.amqp_value.specs.TreeOf.{tree_of}
 use Rattle.amqp_value.specs.declared.value.Value.{Value}
-use Rattle.amqp_to_value.specs.Around.{described_by}
-use Rattle.amqp_to_value.specs.Holds.{IsKept, Leaves, meant_by, value_permits}
+use Rattle.amqp_to_value.specs.Around.{described_by, standing}
+use Rattle.amqp_to_value.specs.Holds.{Leaves, meant_by, value_permits}
 use Rattle.amqp_to_value.specs.Permitted.{refuses, StandsFor, IsImageOf}
 use Rattle.amqp_to_value.specs.Under.{meant}
 use Rattle.amqp_to_value.specs.declared.under.Under.{Under}
 use Rattle.amqp_to_value.specs.declared.serializer.Serializer.{Serializer}
-use Rattle.amqp_to_value.proofs.AnswerLemmas.{kept_front, none_refused}
+use Rattle.amqp_to_value.proofs.AnswerLemmas.{none_refused}
 
 -- a tree is the descriptor that its image is
 descriptor-image : (t : Tree) → descriptor_of (Some (image t)) ≡ descriptor_of (Some t)
@@ -50,15 +50,15 @@ leaves-front others own d (Ok v) s k =
     let sum : length (others ++ (own ++ (d ∷ []))) ≡ length (others ++ own) + 1 = ap length (sym (append_assoc others own (d ∷ []))) ∙ length-append (others ++ own) (d ∷ []) in
     let le = k.1 in
     (k.0, omega arith)
-leaves-front others own d (Err e) s k = kept_front (others ++ own) (d ∷ []) s (subst (λ ds. IsKept ds s) (sym (append_assoc others own (d ∷ []))) k)
+leaves-front others own d (Err e) s k = (k.0, ((d ∷ []) ++ k.1.0, k.1.1 ∙ append_assoc own (d ∷ []) k.1.0))
 
 -- what is permitted after one descriptor more, is permitted before it on the described value
 pub permitted_before : (start : Serializer) (inner : Under) (x : Descriptor) (d t : Option Tree) (r : Result Value Error) (after : Serializer) → descriptor_of d ≡ Some x
     → as_described (Some x) (meant inner t) ≡ meant start.under (as_described (Some x) t)
-    → value_permits (record { alloc = start.alloc; under = inner; around = (start.around.0, start.around.1 ++ (x ∷ []), 0) }) t r after
+    → value_permits (record { alloc = start.alloc; under = inner; around = record { kept = start.around.kept; later = standing start.around ++ (x ∷ []); next = true; room = 0 } }) t r after
     → value_permits start (as_described (descriptor_of d) t) r after
 permitted_before start inner x d t r after is means p = (
   subst (λ o. IsImageOf o r)
-      (described_by-last start.around.1 x (meant inner t) ∙ ap (described_by start.around.1) (means ∙ ap (λ o. meant start.under (as_described o t)) (sym is))) p.0,
-  leaves-front start.around.0 start.around.1 x r after p.1,
+      (described_by-last (standing start.around) x (meant inner t) ∙ ap (described_by (standing start.around)) (means ∙ ap (λ o. meant start.under (as_described o t)) (sym is))) p.0,
+  leaves-front start.around.kept (standing start.around) x r after p.1,
 )

@@ -24,6 +24,7 @@ use Rattle.amqp_to_value.specs.declared.open.Body.TheVariants as body
 use Rattle.amqp_to_value.specs.declared.parts.Parts.{Parts}
 use Rattle.amqp_to_value.specs.declared.parts.Parts.TheVariants as parts
 use Rattle.amqp_to_value.specs.declared.serializer.Serializer.{Serializer}
+use Rattle.amqp_to_value.proofs.AroundLemmas.{standing_none}
 use Rattle.amqp_to_value.proofs.FedLemmas.{join_then, all_trees-then}
 
 none-some : (t : Tree) → None ≡ Some t → ⊥
@@ -46,7 +47,7 @@ other (Some t) = unmarked t
 -- what is meant with nothing before it
 pub plain_answer : (s : Serializer) (ds : List Descriptor) (p : Option Tree) (r : Result Value Error) → IsKept ds s → IsImageOf (meant_by s p) r → IsImageOf p r
 plain_answer s ds p r kept is =
-    subst (λ o. IsImageOf o r) (ap (λ ds. described_by ds (meant s.under p)) kept.0.1 ∙ ap (λ u. meant u p) kept.0.0 ∙ other p) is
+    subst (λ o. IsImageOf o r) (ap (λ ds. described_by ds (meant s.under p)) (standing_none s.around kept.0.1) ∙ ap (λ u. meant u p) kept.0.0 ∙ other p) is
 
 pub meant_none : (u : Under) → meant u None ≡ None
 meant_none (under.Mark m) = refl

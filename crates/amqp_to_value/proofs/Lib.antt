@@ -5,3 +5,4 @@ pub mod HoldsLemmas
 pub mod AnswerLemmas
 pub mod PartLemmas
 pub mod DescriptorLemmas
+pub mod SoundLemmas

@@ -1,5 +1,5 @@
 -- Descriptors before a value: what is described by them, and where they are put aside.
-use Rattle.std.specs.Prelude.{List, [], ◌∷◌, ◌++◌, Option, Some, Box, length, map}
+use Rattle.std.specs.Prelude.{ℕ, Bool, if◌then◌else◌, List, [], ◌∷◌, ◌++◌, Option, Some, Box, length, map}
 use Rattle.std.specs.Global.{Global}
 use Rattle.amqp_data.specs.declared.described.Described.{Described}
 use Rattle.amqp_ser.specs.Composites.{as_described}
@@ -21,6 +21,21 @@ described_in (d ∷ ds) t = described d (described_in ds t)
 abbrev pub described_by : List Descriptor → Option Tree → Option Tree
 described_by [] t = t
 described_by (d ∷ ds) t = as_described (Some d) (described_by ds t)
+
+-- the descriptors that are still needed, and those that come after them
+pub record Pending : Type 0 where
+  -- those that open compounds keep
+  pub kept : List Descriptor
+  -- those after them
+  pub later : List Descriptor
+  -- whether the next value stands in the later ones; otherwise a refused value has left them
+  pub next : Bool
+  -- for how many there is room
+  pub room : ℕ
+
+-- what the next value stands in
+abbrev pub standing : Pending → List Descriptor
+standing p = if p.next then p.later else []
 
 -- where the second stand, after the first
 abbrev pub aside_of : List Descriptor → List Descriptor → Aside

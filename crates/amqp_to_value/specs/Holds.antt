@@ -7,7 +7,7 @@ use Rattle.amqp_ser.specs.declared.kind.Kind.{Kind}
 use Rattle.amqp_ser.specs.declared.kind.Kind.TheVariants as kind
 use Rattle.amqp_ser.specs.declared.mark.Mark.TheVariants as mark
 use Rattle.amqp_value.specs.declared.value.Value.{Value}
-use Rattle.amqp_to_value.specs.Around.{aside_of, described_by}
+use Rattle.amqp_to_value.specs.Around.{aside_of, described_by, standing}
 use Rattle.amqp_to_value.specs.Permitted.{IsImageOf, StandsFor}
 use Rattle.amqp_to_value.specs.Under.{meant}
 use Rattle.amqp_to_value.specs.Fed.{Fed, is_bare, made}
@@ -21,23 +21,27 @@ use Rattle.amqp_to_value.specs.declared.serializer.Serializer.{Serializer}
 
 -- under no marker, and after no descriptor
 abbrev pub IsFresh : Serializer → Type 0
-IsFresh s = (s.under ≡ under.Mark mark.Other) × (s.around.1 ≡ [])
+IsFresh s = (s.under ≡ under.Mark mark.Other) × (s.around.next ≡ false)
 
 -- the tree that is meant: under its marker, after its descriptors
 abbrev pub meant_by : Serializer → Option Tree → Option Tree
-meant_by s t = described_by s.around.1 (meant s.under t)
+meant_by s t = described_by (standing s.around) (meant s.under t)
 
--- fresh, with these descriptors put aside, and with some that are needed no more
+-- fresh, and these descriptors are kept, no more and no fewer
 abbrev pub IsKept : List Descriptor → Serializer → Type 0
-IsKept ds s = IsFresh s × (more : List Descriptor) × (s.around.0 ≡ ds ++ more)
+IsKept ds s = IsFresh s × (s.around.kept ≡ ds)
 
--- the descriptors that an answer leaves of those put aside and its own: a value uses up its own, and leaves their room
+-- these are left after them, with some that are needed no more
+abbrev pub IsLeft : List Descriptor → Serializer → Type 0
+IsLeft ds s = (more : List Descriptor) × (s.around.later ≡ ds ++ more)
+
+-- what is kept stays as it was; a value uses up its own descriptors, and leaves their room, and a refusal leaves them
 abbrev pub Leaves : List Descriptor → List Descriptor → Result Value Error → Serializer → Type 0
-Leaves others own (Ok v) s = IsKept others s × (length (others ++ own) ≤ s.around.2)
-Leaves others own (Err e) s = IsKept (others ++ own) s
+Leaves others own (Ok v) s = IsKept others s × (length (others ++ own) ≤ s.around.room)
+Leaves others own (Err e) s = IsKept others s × IsLeft own s
 
 abbrev pub value_permits : Serializer → Option Tree → Result Value Error → Serializer → Type 0
-value_permits s t r after = IsImageOf (meant_by s t) r × Leaves s.around.0 s.around.1 r after
+value_permits s t r after = IsImageOf (meant_by s t) r × Leaves s.around.kept (standing s.around) r after
 
 -- an open compound, of the parts that it was fed
 pub record Holds (under : Under) (kind : Kind) (held : Parts) (ps : List (Option Tree)) : Type 0 where
@@ -61,16 +65,24 @@ HasParts u k (body.Parts parts) ps = (is_bare k ≡ false) × Holds u k parts ps
 
 -- what the compound stands in is put aside
 abbrev pub IsAside : Serializer → Serializer → Type 0
-IsAside start s = IsKept (start.around.0 ++ start.around.1) s
+IsAside start s = IsKept start.around.kept s × IsLeft (standing start.around) s
+
+-- it is kept, for the time of a part
+abbrev pub IsKeeping : Serializer → Serializer → Type 0
+IsKeeping start s = IsKept (start.around.kept ++ standing start.around) s
 
 -- before its value a bare compound has the serializer stand as at its opening
 abbrev pub IsReady : Serializer → Serializer → Body → Type 0
-IsReady start s (body.Bare u None) = (s.under ≡ start.under) × (s.around.0 ≡ start.around.0) × (s.around.1 ≡ start.around.1)
-IsReady start s (body.Bare u (Some v)) = IsAside start s
-IsReady start s (body.Parts parts) = IsAside start s
+IsReady start s (body.Bare u None) = (s.under ≡ start.under) × (s.around.kept ≡ start.around.kept) × (standing s.around ≡ standing start.around)
+IsReady start s (body.Bare u (Some v)) = IsKeeping start s
+IsReady start s (body.Parts parts) = IsKeeping start s
 
 abbrev pub value_has : Serializer → Kind → Serializer → Open → List (Option Tree) → Type 0
-value_has start k s held ps = (held.aside ≡ aside_of start.around.0 start.around.1) × HasParts start.under k held.body ps × IsAside start s
+value_has start k s held ps = (held.aside ≡ aside_of start.around.kept (standing start.around)) × HasParts start.under k held.body ps × IsAside start s
 
 abbrev pub value_awaits : Serializer → Kind → Serializer → Open → List (Option Tree) → Type 0
-value_awaits start k s held ps = (held.aside ≡ aside_of start.around.0 start.around.1) × HasParts start.under k held.body ps × IsReady start s held.body
+value_awaits start k s held ps = (held.aside ≡ aside_of start.around.kept (standing start.around)) × HasParts start.under k held.body ps × IsReady start s held.body
+
+-- a bare compound is ready for a descriptor
+abbrev pub value_awaits_descriptor : Serializer → Serializer → Open → Type 0
+value_awaits_descriptor start s held = (held.aside ≡ aside_of start.around.kept (standing start.around)) × HasParts start.under kind.Bare held.body [] × IsKeeping start s

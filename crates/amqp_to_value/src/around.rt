@@ -1,10 +1,10 @@
 //! Descriptors whose values are still to come.
 
-ghost use Rattle.std.specs.Prelude.{◌≡◌, ℕ, ◌+◌, ◌≤◌, ◌++◌, ◌∷◌, [], List, length, take, drop, vec_capacity, vec_len, MatchResult};
+ghost use Rattle.std.specs.Prelude.{◌≡◌, ℕ, ◌+◌, ◌≤◌, ◌++◌, ◌∷◌, [], List, length, take, drop, true, false, vec_capacity, vec_len, MatchResult};
 ghost use Rattle.amqp_ser.specs.Carried.{descriptor_content};
 ghost use Rattle.amqp_ser.specs.Tree.{Descriptor as Content, Tree};
 ghost use Rattle.amqp_value.specs.TreeOf.{tree_of};
-ghost use Rattle.amqp_to_value.specs.Around.{aside_of, contents, described_in};
+ghost use Rattle.amqp_to_value.specs.Around.{Pending, aside_of, contents, described_in, standing};
 
 use amqp_data::{Described, Descriptor, Error};
 use amqp_value::Value;
@@ -12,23 +12,23 @@ use std::alloc::Global;
 use std::marker::Model;
 use std::mem;
 
-/// Described values without their values, of which null keeps the room, the outermost first: those that are put aside,
-/// and then those that the next value stands in.
+/// Described values without their values, of which null keeps the room, the outermost first: those that open compounds
+/// keep, and then those that the next value stands in. Where it stands in none, what is left there is needed no more
+/// once the next compound is opened.
 #[derive(Drop)]
 pub struct Around {
     stack: Vec<Box<Described<Value>>>,
-    first: usize,
+    kept: usize,
+    next: bool,
 }
 
 impl Model for Around {
-    ghost Value = { List Content × List Content × ℕ };
+    ghost Value = { Pending };
 
-    ghost view = { λ a. (contents (take a.first a.stack.items), contents (drop a.first a.stack.items), vec_capacity a.stack) };
-
-    ghost invariant = { λ a. a.first ≤ length a.stack.items };
+    ghost view = { λ a. record { kept = contents (take a.kept a.stack.items); later = contents (drop a.kept a.stack.items); next = a.next; room = vec_capacity a.stack } };
 }
 
-/// What the next value stood in when it was put aside: where the first began, and where the last ended.
+/// What a compound stands in: where the first is, and where the last ends.
 #[derive(Clone, Copy)]
 pub struct Aside {
     first: usize,
@@ -37,43 +37,83 @@ pub struct Aside {
 
 impl Around {
     /// Nothing.
+    #[inline(always)]
     pub fn new(alloc: Global) -> Around
-        ensures { result.1 ≡ [] }
+        ensures { result.next ≡ false }
     {
         Around {
             stack: Vec::new(alloc),
-            first: 0,
+            kept: 0,
+            next: false,
         }
     }
 
-    /// Puts aside what the next value stands in.
+    /// Nothing that was put aside.
+    #[inline(always)]
+    pub fn vacant(&self) -> Aside {
+        Aside { first: 0, end: 0 }
+    }
+
+    /// Puts aside what the next value stands in. What a refused value left is let go.
+    #[inline(always)]
     pub fn put_aside(&mut self) -> Aside
-        ensures aside { result ≡ aside_of self.old.0 self.old.1 }
-        ensures others { self.new.0 ≡ self.old.0 ++ self.old.1 }
-        ensures none { self.new.1 ≡ [] }
+        ensures aside { result ≡ aside_of self.old.kept (standing self.old) }
+        ensures kept { self.new.kept ≡ self.old.kept }
+        ensures later { self.new.later ≡ standing self.old }
+        ensures none { self.new.next ≡ false }
     {
-        let first = self.first;
+        if !self.next {
+            self.stack.truncate(self.kept);
+        }
+        self.next = false;
         let end = self.stack.len();
-        self.first = end;
+        let first = if self.kept < end { self.kept } else { end };
         Aside { first, end }
     }
 
-    /// The next value stands again in what was put aside. What came later is let go.
-    pub fn take_back(&mut self, aside: Aside)
-        ensures { (others own later : List Content) → self.old.0 ≡ (others ++ own) ++ later → self.old.1 ≡ [] → aside ≡ aside_of others own →
-            (self.new.0 ≡ others) × (self.new.1 ≡ own) }
+    /// Keeps what was put aside, before a part of the compound that stands in it.
+    #[inline(always)]
+    pub fn keep(&mut self, aside: Aside)
+        ensures { (others own later : List Content) → self.old.kept ≡ others → self.old.later ≡ own ++ later → self.old.next ≡ false → aside ≡ aside_of others own →
+            (self.new.kept ≡ others ++ own) × (self.new.next ≡ false) }
     {
-        self.stack.truncate(aside.end);
-        let len = self.stack.len();
-        self.first = if aside.first < len { aside.first } else { len };
+        self.kept = aside.end;
     }
 
-    /// The next value stands in one described value more, the innermost.
-    pub fn describe(&mut self, alloc: Global, descriptor: Descriptor) -> Result<(), Error>
-        ensures others { self.new.0 ≡ self.old.0 }
-        ensures own { MatchResult result
-            (λ _. self.new.1 ≡ self.old.1 ++ (descriptor_content descriptor ∷ []))
-            (λ e. (self.new.1 ≡ self.old.1) × (e ≡ Error.OutOfMemory)) }
+    /// Keeps it no more, after the part.
+    #[inline(always)]
+    pub fn release(&mut self, aside: Aside)
+        ensures parted { (others own rest : List Content) → self.old.kept ++ self.old.later ≡ others ++ rest → aside ≡ aside_of others own →
+            (self.new.kept ≡ others) × (self.new.later ≡ rest) }
+        ensures next { self.new.next ≡ self.old.next }
+        ensures room { self.new.room ≡ self.old.room }
+    {
+        self.kept = aside.first;
+    }
+
+    /// The next value stands again in what was put aside. What came later is let go.
+    #[inline(always)]
+    pub fn take_back(&mut self, aside: Aside)
+        ensures { (others own later : List Content) → self.old.kept ≡ others → self.old.later ≡ own ++ later → self.old.next ≡ false → aside ≡ aside_of others own →
+            (self.new.kept ≡ others) × (self.new.later ≡ own) × (self.new.next ≡ true) }
+    {
+        self.stack.truncate(aside.end);
+        self.kept = aside.first;
+        self.next = true;
+    }
+
+    /// What was put aside, and one described value more, the innermost. What came later is let go.
+    #[inline(always)]
+    pub fn describe(
+        &mut self,
+        aside: Aside,
+        alloc: Global,
+        descriptor: Descriptor,
+    ) -> Result<Aside, Error>
+        ensures { (others own later : List Content) → self.old.kept ≡ others → self.old.later ≡ own ++ later → self.old.next ≡ false → aside ≡ aside_of others own →
+            MatchResult result
+            (λ a. (a ≡ aside_of others (own ++ (descriptor_content descriptor ∷ []))) × (self.new.kept ≡ others) × (self.new.later ≡ own ++ (descriptor_content descriptor ∷ [])) × (self.new.next ≡ false))
+            (λ e. (e ≡ Error.OutOfMemory) × (self.new.kept ≡ others) × (more : List Content) × (self.new.later ≡ own ++ more) × (self.new.next ≡ false)) }
     {
         let described = Box::new(
             alloc,
@@ -82,25 +122,46 @@ impl Around {
                 value: Value::Null,
             },
         )?;
+        self.stack.truncate(aside.end);
         self.stack.push(described)?;
-        Ok(())
+        self.kept = aside.first;
+        Ok(Aside {
+            first: aside.first,
+            end: self.stack.len(),
+        })
     }
 
     /// The value in all that it stands in, which is used up; its room stays.
+    #[inline(always)]
     pub fn wrap(&mut self, value: Value) -> Value
-        ensures others { self.new.0 ≡ self.old.0 }
-        ensures none { self.new.1 ≡ [] }
-        ensures room { length (self.old.0 ++ self.old.1) ≤ self.new.2 }
-        ensures described { tree_of result ≡ described_in self.old.1 (tree_of value) }
+        ensures kept { self.new.kept ≡ self.old.kept }
+        ensures none { self.new.next ≡ false }
+        ensures room { length (self.old.kept ++ standing self.old) ≤ self.new.room }
+        ensures described { tree_of result ≡ described_in (standing self.old) (tree_of value) }
     {
-        wrap_from(&mut self.stack, self.first, value)
+        if !self.next {
+            return value;
+        }
+        self.next = false;
+        wrap_from(&mut self.stack, self.kept, value)
+    }
+
+    /// What a refused value stood in is left, for the compound that fed the value.
+    #[inline(always)]
+    pub fn leave(&mut self)
+        ensures kept { self.new.kept ≡ self.old.kept }
+        ensures later { self.new.later ≡ self.old.later }
+        ensures none { self.new.next ≡ false }
+    {
+        self.next = false;
     }
 
     /// The value alone: what it stood in is put aside again, for which there is room.
+    #[inline(always)]
     pub fn unwrap(&mut self, aside: Aside, value: Value) -> Result<Value, Error>
-        ensures { (others own later : List Content) (t : Tree) → self.old.0 ≡ others ++ later → self.old.1 ≡ [] → aside ≡ aside_of others own →
-            length (others ++ own) ≤ self.old.2 → tree_of value ≡ described_in own t →
-            MatchResult result (λ v. (tree_of v ≡ t) × (self.new.0 ≡ others ++ own) × (self.new.1 ≡ [])) (λ _. ⊥) }
+        ensures { (others own : List Content) (t : Tree) → self.old.kept ≡ others → self.old.next ≡ false → aside ≡ aside_of others own →
+            length (others ++ own) ≤ self.old.room → tree_of value ≡ described_in own t →
+            MatchResult result (λ v. (tree_of v ≡ t) × (self.new.kept ≡ others) × (self.new.later ≡ own) × (self.new.next ≡ false)) (λ _. ⊥) }
     {
         self.stack.truncate(aside.first);
         let inner = unwrap_from(
@@ -108,12 +169,12 @@ impl Around {
             aside.end.saturating_sub(aside.first),
             value,
         );
-        self.first = self.stack.len();
+        self.kept = aside.first;
         inner
     }
 }
-
 // The value in those from the first on, which are used up.
+#[inline(never)]
 fn wrap_from(stack: &mut Vec<Box<Described<Value>>>, first: usize, value: Value) -> Value
     ensures used { stack.new.items ≡ take first stack.old.items }
     ensures room { vec_capacity stack.new ≡ vec_capacity stack.old }
@@ -131,6 +192,7 @@ fn wrap_from(stack: &mut Vec<Box<Described<Value>>>, first: usize, value: Value)
 }
 
 // The value in as many described values, which are kept last.
+#[inline(never)]
 fn unwrap_from(
     stack: &mut Vec<Box<Described<Value>>>,
     count: usize,

@@ -31,6 +31,7 @@ impl Gathered {
     }
 
     /// Takes a key, or the value of the pending key.
+    #[inline(never)]
     pub fn take(&mut self, part: Value) -> Result<(), Error>
         ensures { MatchResult result
             (λ _. held_pairs self.new ≡ feed (held_pairs self.old) (tree_of part))
@@ -53,6 +54,7 @@ impl Gathered {
     }
 
     /// Takes the pending key back.
+    #[inline(always)]
     pub fn undo(&mut self)
         ensures { held_pairs self.new ≡ ((held_pairs self.old).0, None) }
     {
@@ -60,6 +62,7 @@ impl Gathered {
     }
 
     /// The map of the pairs, none where a key is pending.
+    #[inline(never)]
     pub fn into_value(self, alloc: Global) -> Result<Value, Error>
         ensures { (ts : Trees) → held_pairs self ≡ fed_onto ts no_pairs → IsImageOf (as_map (in_pairs ts)) result }
     {

@@ -1,7 +1,8 @@
 //! The value that a value stands for.
 
-ghost use Rattle.std.specs.Prelude.{Option, Result};
+ghost use Rattle.std.specs.Prelude.{IfOk, Option, Result};
 ghost use Rattle.amqp_ser.specs.Tree.{Tree};
+ghost use Rattle.amqp_value.specs.Sound.{IsSound};
 ghost use Rattle.amqp_to_value.specs.Permitted.{IsImageOf};
 
 use crate::serializer::Serializer;
@@ -14,7 +15,7 @@ use std::alloc::Global;
 ///
 /// Each kind of tree is its variant. A variant of an enum is the map of one pair, from its index as an uint to its
 /// payload, and a transparent vector is the list of its elements. The pairs of a map are inserted in order: a present
-/// key keeps its place and takes the new value.
+/// key keeps its place and takes the new value, so no map in the value has a key twice: the value is sound.
 ///
 /// # Errors
 /// `OutOfMemory` where a growth of memory is refused; `InvalidValue` only where the value has no tree, and then one of
@@ -25,8 +26,10 @@ use std::alloc::Global;
 ///
 /// # Example
 /// The vector of the strings `a` and `bc` gives the list of the two, which is written `c00802a10161a1026263`.
+#[tactic(auto, using(crate::proofs::SoundLemmas::answer_sound))]
 pub fn to_value<T: Serialize>(alloc: Global, value: &T) -> Result<Value, Error>
-    ensures { IsImageOf (T.tree value.now) result }
+    ensures image { IsImageOf (T.tree value.now) result }
+    ensures sound { IfOk result IsSound }
 {
     let mut serializer = Serializer::new(alloc);
     value.serialize(&mut serializer)

@@ -8,6 +8,7 @@ ghost use Rattle.amqp_ser.specs.Tree.{Tree};
 ghost use Rattle.amqp_ser.specs.Writable.{writable};
 ghost use Rattle.amqp_value.specs.AsMap.{read_as_map};
 ghost use Rattle.amqp_value.specs.Plain.{IsPlain};
+ghost use Rattle.amqp_value.specs.Sound.{IsSound};
 ghost use Rattle.amqp_value.specs.TreeOf.{tree_of};
 ghost use Rattle.amqp_to_value.specs.Permitted.{StandsFor};
 
@@ -30,10 +31,11 @@ pub fn plain_trees_keep_their_bytes()
     ensures bytes { (t : Tree) (v : Value) → IsPlain t → StandsFor v (Some t) → enc (tree_of v) ≡ enc t }
 {}
 
-/// A value that stands for another, whose maps have distinct keys at every depth, is equal to it.
+/// A value that stands for a sound one has its tree, and is equal to it.
 ///
 /// # Memory
 /// Takes none.
-pub fn values_come_back_equal()
-    ensures { (a b : Value) → IsPlain (tree_of a) → StandsFor b (Some (tree_of a)) → ⟦<Value as PartialEq>⟧.eq b a ≡ true }
+pub fn sound_values_come_back_equal()
+    ensures tree { (a b : Value) → IsSound a → StandsFor b (Some (tree_of a)) → tree_of b ≡ tree_of a }
+    ensures equal { (a b : Value) → IsSound a → StandsFor b (Some (tree_of a)) → ⟦<Value as PartialEq>⟧.eq b a ≡ true }
 {}

@@ -37,6 +37,7 @@ pub enum Body {
 
 impl Body {
     /// A compound of this kind under a marker, without parts.
+    #[inline(always)]
     pub fn new(alloc: Global, under: Under, kind: Kind) -> Body
         ensures { HasParts under kind result [] }
     {
@@ -47,6 +48,7 @@ impl Body {
     }
 
     /// The value to come is a described one.
+    #[inline(always)]
     pub fn describe(&mut self)
         ensures { (under : Under) → HasParts under kind.Bare self.old [] →
             (inner : Under) × HasParts inner kind.Bare self.new [] × ((d : Descriptor) (t : Option Tree) → as_described (Some d) (meant inner t) ≡ meant under (as_described (Some d) t)) }
@@ -57,6 +59,7 @@ impl Body {
     }
 
     /// Takes a map's pending key back.
+    #[inline(always)]
     pub fn undo(&mut self)
         ensures { (under : Under) (ps : List (Option Tree)) (p : Option Tree) → HasParts under kind.Map self.old (ps ++ (p ∷ [])) → paired ps ≡ true →
             HasParts under kind.Map self.new ps }
@@ -67,6 +70,7 @@ impl Body {
     }
 
     /// The value of the compound.
+    #[inline(always)]
     pub fn into_value(self, alloc: Global) -> Result<Value, Error>
         ensures { (under : Under) (kind : Kind) (ps : List (Option Tree)) → HasParts under kind self ps → complete kind ps ≡ true →
             IsImageOf (meant under (whole kind ps)) result }

@@ -37,6 +37,7 @@ pub enum Parts {
 
 impl Parts {
     /// What a compound of this kind is under a marker. A bare one is none of these.
+    #[inline(always)]
     pub fn new(alloc: Global, under: Under, kind: Kind) -> Parts
         ensures makes { is_bare kind ≡ false → (o : Option Trees) → meant under (as_kind kind o) ≡ made result o }
         ensures empty { Fed result no_trees }
@@ -56,6 +57,7 @@ impl Parts {
     }
 
     /// Takes one part more.
+    #[inline(always)]
     pub fn take(&mut self, part: Value) -> Result<(), Error>
         ensures makes { (o : Option Trees) → made self.new o ≡ made self.old o }
         ensures step { (ts : Trees) (t : Tree) → Fed self.old ts → tree_of part ≡ image t →
@@ -73,6 +75,7 @@ impl Parts {
     }
 
     /// Takes a map's pending key back.
+    #[inline(always)]
     pub fn undo(&mut self)
         ensures makes { (o : Option Trees) → made self.new o ≡ made self.old o }
         ensures back { (ts : Trees) (ps : Pairs) (t : Tree) → in_pairs ts ≡ Some ps → TakesPairs self.old → Fed self.old (then ts t) → Fed self.new ts }
@@ -83,6 +86,7 @@ impl Parts {
     }
 
     /// The value of the compound.
+    #[inline(always)]
     pub fn into_value(self, alloc: Global) -> Result<Value, Error>
         ensures { (ts : Trees) → Fed self ts → IsImageOf (made self (Some ts)) result }
     {
@@ -102,16 +106,23 @@ impl Parts {
 }
 
 // Puts a value last.
+#[inline(always)]
 fn gather(items: &mut Vec<Value>, value: Value) -> Result<(), Error>
     ensures { MatchResult result
         (λ _. items.new.items ≡ items.old.items ++ (value ∷ []))
         (λ e. (items.new.items ≡ items.old.items) × (e ≡ Error.OutOfMemory)) }
 {
-    items.push(value)?;
+    if items.len() < items.capacity() {
+        items.push_reserved(value);
+        return Ok(());
+    }
+    items.reserve(1)?;
+    items.push_reserved(value);
     Ok(())
 }
 
 // The one value, where there is one and no more.
+#[inline(never)]
 fn only(mut items: Vec<Value>) -> Option<Value>
     ensures { MatchOption result ((v : Value) → items.items ≡ v ∷ [] → ⊥) (λ v. items.items ≡ v ∷ []) }
 {
@@ -120,6 +131,7 @@ fn only(mut items: Vec<Value>) -> Option<Value>
 }
 
 // The map of one pair that stands for a variant.
+#[inline(never)]
 fn variant(alloc: Global, index: u32, payload: Value) -> Result<Value, Error>
     ensures { MatchResult result
         (λ v. tree_of v ≡ variant_map index (tree_of payload))

@@ -18,6 +18,7 @@ use amqp_value::Value;
 use std::alloc::Global;
 
 /// The value of a scalar of fixed width.
+#[inline(always)]
 pub fn fixed_value(fixed: Fixed) -> Value
     ensures { tree_of result ≡ scalar (fixed_scalar fixed) }
 {
@@ -39,6 +40,7 @@ pub fn fixed_value(fixed: Fixed) -> Value
 }
 
 /// The value of a scalar of fixed width under a marker.
+#[inline(always)]
 pub fn marked_fixed(under: Under, fixed: Fixed) -> Result<Value, Error>
     ensures { IsImageOf (meant under (Some (scalar (fixed_scalar fixed)))) result }
 {
@@ -50,6 +52,7 @@ pub fn marked_fixed(under: Under, fixed: Fixed) -> Result<Value, Error>
 }
 
 /// The value of a text under a marker.
+#[inline(always)]
 pub fn marked_text(alloc: Global, under: Under, text: &str) -> Result<Value, Error>
     ensures { IsImageOf (meant under (Some (scalar (string text.now)))) result }
 {
@@ -61,6 +64,7 @@ pub fn marked_text(alloc: Global, under: Under, text: &str) -> Result<Value, Err
 }
 
 /// The value of a binary under a marker.
+#[inline(never)]
 pub fn marked_bytes(alloc: Global, under: Under, bytes: &[u8]) -> Result<Value, Error>
     ensures { IsImageOf (meant under (Some (scalar (binary bytes.now)))) result }
 {
@@ -75,6 +79,7 @@ pub fn marked_bytes(alloc: Global, under: Under, bytes: &[u8]) -> Result<Value, 
 }
 
 /// The descriptor that a value is: a name where it is a symbol, a code where it is a ulong.
+#[inline(never)]
 pub fn descriptor_from(value: Value) -> Result<Descriptor, Error>
     ensures { MatchResult result
         (λ d. descriptor_of (Some (tree_of value)) ≡ Some (descriptor_content d))

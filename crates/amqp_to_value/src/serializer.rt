@@ -2,6 +2,7 @@
 
 ghost use Rattle.std.specs.Prelude.{◌≡◌, ◌++◌, ◌∷◌, [], List, Option, Result, Err, MatchResult, IfErr, IsErr};
 ghost use Rattle.amqp_ser.specs.Tree.{Tree};
+ghost use Rattle.amqp_to_value.specs.Around.{standing};
 ghost use Rattle.amqp_to_value.specs.Holds.{IsFresh, value_permits};
 ghost use Rattle.amqp_to_value.specs.Permitted.{IsImageOf};
 ghost use Rattle.amqp_to_value.specs.Under.{meant};
@@ -22,7 +23,8 @@ use std::mem;
 /// Makes untyped values; it is fresh after each call, refused ones too.
 ///
 /// # Memory
-/// The descriptors of a refused value are let go when the compound around it ends, or with the serializer.
+/// Between calls it keeps nothing, but for the descriptors of one refused value: they are let go when the next compound
+/// is opened, or with the serializer.
 #[derive(Drop)]
 pub struct Serializer {
     alloc: Global,
@@ -56,6 +58,7 @@ impl Serializer {
     ///
     /// # Memory
     /// Takes none, and keeps `alloc` for the values.
+    #[inline(always)]
     pub fn new(alloc: Global) -> Serializer
         ensures { IsFresh result }
     {
@@ -67,6 +70,7 @@ impl Serializer {
     }
 
     // What the next tree stands under, which is used up.
+    #[inline(always)]
     fn take_under(&mut self) -> Under
         ensures under { result ≡ self.old.under }
         ensures none { self.new.under ≡ Under.Mark Mark.Other }
@@ -76,14 +80,15 @@ impl Serializer {
     }
 
     // Answers with the value in all that it stands in; a refusal puts that aside.
+    #[inline(always)]
     fn finish(&mut self, answer: Result<Value, Error>) -> Result<Value, Error>
-        ensures { (start : Serializer) (t : Option Tree) → self.old.around.0 ≡ start.around.0 → self.old.around.1 ≡ start.around.1 →
+        ensures { (start : Serializer) (t : Option Tree) → self.old.around.kept ≡ start.around.kept → standing self.old.around ≡ standing start.around →
             self.old.under ≡ Under.Mark Mark.Other → IsImageOf (meant start.under t) answer → value_permits start t result self.new }
     {
         match answer {
             Ok(value) => Ok(self.around.wrap(value)),
             Err(e) => {
-                self.around.put_aside();
+                self.around.leave();
                 Err(e)
             }
         }
@@ -95,7 +100,7 @@ impl amqp_ser::Serializer for Serializer {
     ghost use Rattle.amqp_ser.specs.Composites.{as_described, descriptor_of};
     ghost use Rattle.amqp_ser.specs.Compounds.{whole};
     ghost use Rattle.amqp_ser.specs.declared.kind.Kind.{Kind};
-    ghost use Rattle.amqp_to_value.specs.Holds.{value_permits, value_has, value_awaits};
+    ghost use Rattle.amqp_to_value.specs.Holds.{value_permits, value_has, value_awaits, value_awaits_descriptor};
 
     type Ok = Value;
 
@@ -109,29 +114,39 @@ impl amqp_ser::Serializer for Serializer {
 
     ghost awaits = { value_awaits };
 
-    ghost awaits_descriptor = { λ start s held. value_has start Kind.Bare s held [] };
+    ghost awaits_descriptor = { value_awaits_descriptor };
 
     ghost is_misuse = { λ e. e ≡ InvalidValue };
 
+    #[inline(always)]
     fn serialize_fixed(&mut self, fixed: Fixed) -> Result<Value, Error> {
         let under = self.take_under();
         self.finish(marked_fixed(under, fixed))
     }
 
+    #[inline(always)]
+    fn serialize_null(&mut self) -> Result<Value, Error> {
+        self.serialize_fixed(Fixed::Null)
+    }
+
+    #[inline(always)]
     fn serialize_str(&mut self, v: &str) -> Result<Value, Error> {
         let under = self.take_under();
         self.finish(marked_text(self.alloc, under, v))
     }
 
+    #[inline(always)]
     fn serialize_bytes(&mut self, v: &[u8]) -> Result<Value, Error> {
         let under = self.take_under();
         self.finish(marked_bytes(self.alloc, under, v))
     }
 
+    #[inline(always)]
     fn mark(&mut self, mark: Mark) {
         self.under = self.under.with(mark);
     }
 
+    #[inline(always)]
     fn begin(&mut self, kind: Kind) -> Open {
         let under = self.take_under();
         let aside = self.around.put_aside();
@@ -141,13 +156,26 @@ impl amqp_ser::Serializer for Serializer {
         }
     }
 
-    fn begin_part(&mut self, held: &mut Open) {
-        if let Body::Bare(under, None) = &held.body {
-            self.under = *under;
-            self.around.take_back(held.aside);
+    #[inline(always)]
+    fn vacant(&self) -> Open {
+        Open {
+            aside: self.around.vacant(),
+            body: Body::Bare(self.under, None),
         }
     }
 
+    #[inline(always)]
+    fn begin_part(&mut self, held: &mut Open) {
+        match &held.body {
+            Body::Bare(under, None) => {
+                self.under = *under;
+                self.around.take_back(held.aside);
+            }
+            _ => self.around.keep(held.aside),
+        }
+    }
+
+    #[inline(always)]
     fn end_part(&mut self, held: &mut Open, part: Result<Value, Error>) -> Result<(), Error>
         ensures step { (start : Serializer) (kind : Kind) (before : Serializer) (ps : List (Option Tree)) (p : Option Tree) → value_awaits start kind before held.old ps → value_permits before p part self.old →
             MatchResult result
@@ -156,6 +184,7 @@ impl amqp_ser::Serializer for Serializer {
             value_permits start (whole kind (ps ++ (p ∷ rest))) (Err e) self.new)) }
         ensures refused { IfErr part (λ _. IsErr result) }
     {
+        self.around.release(held.aside);
         let value = part?;
         match &mut held.body {
             Body::Bare(_, first) => match first {
@@ -169,33 +198,38 @@ impl amqp_ser::Serializer for Serializer {
         }
     }
 
+    #[inline(always)]
     fn undo_part(&mut self, held: &mut Open) {
         held.body.undo();
     }
 
+    #[inline(always)]
     fn misuse(&mut self, _held: &mut Open) -> Error {
         Error::InvalidValue
     }
 
-    fn begin_descriptor(&mut self, _held: &mut Open) {}
+    #[inline(always)]
+    fn begin_descriptor(&mut self, held: &mut Open) {
+        self.around.keep(held.aside);
+    }
 
+    #[inline(always)]
     fn end_descriptor(&mut self, held: &mut Open, part: Result<Value, Error>) -> Result<(), Error>
-        ensures { (start before : Serializer) (d : Option Tree) → value_has start Kind.Bare before held.old [] → value_permits before d part self.old →
+        ensures { (start before : Serializer) (d : Option Tree) → value_awaits_descriptor start before held.old → value_permits before d part self.old →
             MatchResult result
             (λ _. (mid : Serializer) × (value_has mid Kind.Bare self.new held.new [] × ((t : Option Tree) (r : Result Value Error) (after : Serializer) →
             value_permits mid t r after → value_permits start (as_described (descriptor_of d) t) r after)))
             (λ e. value_has start Kind.Bare self.new held.new [] × ((t : Option Tree) →
             value_permits start (as_described (descriptor_of d) t) (Err e) self.new)) }
     {
+        self.around.release(held.aside);
         let descriptor = descriptor_from(part?)?;
-        self.around.take_back(held.aside);
-        let described = self.around.describe(self.alloc, descriptor);
-        held.aside = self.around.put_aside();
-        described?;
+        held.aside = self.around.describe(held.aside, self.alloc, descriptor)?;
         held.body.describe();
         Ok(())
     }
 
+    #[inline(always)]
     fn end(&mut self, held: Open) -> Result<Value, Error> {
         let Open { aside, body } = held;
         let answer = body.into_value(self.alloc);

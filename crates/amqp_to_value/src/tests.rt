@@ -1,5 +1,6 @@
 //! What no clause says: that calls succeed, which values they give, and that want of memory changes no answer.
 
+mod again;
 mod feeding;
 mod memory;
 mod rows;

@@ -19,6 +19,7 @@ pub enum Under {
 
 impl Under {
     /// The same with one marker more, inside.
+    #[inline(always)]
     pub fn with(self, mark: Mark) -> Under
         ensures { (t : Option Tree) → meant result t ≡ meant self (marked mark t) }
     {
@@ -30,6 +31,7 @@ impl Under {
     }
 
     /// The same with a descriptor, inside: no marker is satisfied by a described value.
+    #[inline(always)]
     pub fn with_descriptor(self) -> Under
         ensures { (d : Descriptor) (t : Option Tree) → as_described (Some d) (meant result t) ≡ meant self (as_described (Some d) t) }
     {

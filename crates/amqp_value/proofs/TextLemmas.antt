@@ -1,7 +1,7 @@
--- Writing a list item by item.
-use Rattle.std.proofs.Common.{◌≡◌, ℕ, suc, ◌+◌, ◌<◌, List, ◌++◌, length, drop, get_or, ap, ◌∙◌, add-one, drop-cons, append_assoc}
-use Rattle.amqp_value.specs.TreeOf.{tree_of, all_of}
-use Rattle.amqp_value.specs.Text.{text_of, items_text, separator}
+-- Writing lists and maps item by item.
+use Rattle.std.proofs.Common.{◌≡◌, ℕ, suc, ◌+◌, ◌<◌, List, ◌++◌, length, drop, get_or, ap, ◌∙◌, add-one, drop-cons, append_assoc, codes}
+use Rattle.amqp_value.specs.TreeOf.{tree_of, all_of, pairs_trees}
+use Rattle.amqp_value.specs.Text.{text_of, items_text, pairs_text, separator}
 use Rattle.amqp_value.specs.declared.value.Value.{Value}
 
 -- with the item at place i written too, what is written and the rest are still the whole
@@ -11,3 +11,14 @@ items_step xs i v done whole lt is h =
     rw add-one (append_assoc (done ++ separator i) (text_of (tree_of v)) (items_text (all_of (drop (suc i) xs)) (suc i)) ∙ append_assoc done (separator i) _
     ∙ ap (λ e. done ++ (separator i ++ (text_of (tree_of e) ++ items_text (all_of (drop (suc i) xs)) (suc i)))) is
     ∙ (rw (drop-cons xs i v lt) at h))
+
+-- the same with a pair
+pub pairs_step : (es : List (Value × Value)) (i : ℕ) (e : Value × Value) (done whole : List ℕ) → i < length es → e ≡ get_or es i e → done ++ pairs_text (pairs_trees (drop i es)) i ≡ whole
+    → ((((done ++ separator i) ++ text_of (tree_of e.0)) ++ codes ": ") ++ text_of (tree_of e.1)) ++ pairs_text (pairs_trees (drop (i + 1) es)) (i + 1) ≡ whole
+pairs_step es i e done whole lt is h =
+    rw add-one (append_assoc (((done ++ separator i) ++ text_of (tree_of e.0)) ++ codes ": ") (text_of (tree_of e.1)) (pairs_text (pairs_trees (drop (suc i) es)) (suc i))
+    ∙ append_assoc ((done ++ separator i) ++ text_of (tree_of e.0)) (codes ": ") _
+    ∙ append_assoc (done ++ separator i) (text_of (tree_of e.0)) _
+    ∙ append_assoc done (separator i) _
+    ∙ ap (λ p. done ++ (separator i ++ (text_of (tree_of p.0) ++ (codes ": " ++ (text_of (tree_of p.1) ++ pairs_text (pairs_trees (drop (suc i) es)) (suc i)))))) is
+    ∙ (rw (drop-cons es i e lt) at h))

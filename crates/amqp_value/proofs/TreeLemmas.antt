@@ -1,9 +1,11 @@
 -- The trees of the values that hold others, and of the parts that they are made of.
-use Rattle.std.proofs.Common.{◌≡◌, Bool, true, false, true≢false, if◌then◌else◌, List, [], ◌∷◌, ◌++◌, Some, Vec, Global, map, refl, sym, ap, ◌∙◌, rules}
+use Rattle.std.proofs.Common.{◌≡◌, Bool, true, false, true≢false, if◌then◌else◌, List, [], ◌∷◌, ◌++◌, Some, Box, Vec, Global, map, refl, sym, ap, ◌∙◌, rules}
 use Rattle.amqp_data.specs.Items.{array_items}
 use Rattle.amqp_data.specs.Pairs.{entries_of, insert_pair}
 use Rattle.amqp_data.specs.declared.array.Array as array
+use Rattle.amqp_data.specs.declared.described.Described.{Described}
 use Rattle.amqp_data.specs.declared.ordered_map.OrderedMap as ordered_map
+use Rattle.amqp_ser.specs.Carried.{descriptor_content}
 use Rattle.amqp_ser.specs.Tree as tree
 use Rattle.amqp_ser.specs.Tree.{Tree, Trees, Pairs, trees_of, more, pair}
 use Rattle.amqp_ser.specs.Compounds.{all_trees, before, before_pairs, in_pairs, as_map, as_kind, whole, parts_of}
@@ -13,10 +15,13 @@ use Rattle.amqp_ser.specs.declared.mark.Mark.TheVariants as mark
 use Rattle.amqp_value.specs.Image.{insert_tree}
 use Rattle.amqp_value.specs.TreeOf.{tree_of, all_of, pairs_of, pairs_trees}
 use Rattle.amqp_value.specs.declared.value.Value.{Value, the_lemmas}
-use Rattle.amqp_value.specs.declared.value.Value.TheVariants.{List as ListValue, Map as MapValue, Array as ArrayValue}
+use Rattle.amqp_value.specs.declared.value.Value.TheVariants.{Described as DescribedValue, List as ListValue, Map as MapValue, Array as ArrayValue}
 use Rattle.amqp_ser.proofs.Joins.{join}
 use Rattle.amqp_value.proofs.ImageLemmas.{joined}
 use Rattle.amqp_value.proofs.Sameness.{equal, equal-is_same}
+
+pub tree_of-Described : (b : Box (Described Value) Global) → tree_of (DescribedValue b) ≡ tree.described (descriptor_content b.value.descriptor) (tree_of b.value.value)
+tree_of-Described b = search (rules, the_lemmas)
 
 pub tree_of-List : (v : Vec Value Global) → tree_of (ListValue v) ≡ tree.list (all_of v.items)
 tree_of-List v = search (rules, the_lemmas)

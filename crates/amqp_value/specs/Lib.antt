@@ -3,3 +3,9 @@ pub mod Plain
 pub mod AsMap
 pub mod TreeOf
 pub mod Text
+pub mod Contents
+pub mod Converts
+pub mod FormatCode
+pub mod Order
+pub mod ComesBack
+pub mod Sound

@@ -1,9 +1,14 @@
--- The text of a tree, for people: strings in quotes, lists in brackets. Every other kind is `?` as yet.
-use Rattle.std.specs.Prelude.{ℕ, zero, suc, false, List, [], ◌++◌, codes, encode_utf8, if◌then◌else◌, ◌==◌, nat_lt}
-use Rattle.std.specs.Fmt.{digits}
+-- The text of a tree, for people: one recursion over all kinds.
+use Rattle.std.specs.Prelude.{ℕ, zero, suc, true, false, List, [], ◌++◌, codes, encode_utf8, if◌then◌else◌, ◌==◌, nat_lt}
+use Rattle.std.specs.Fmt.{decimal, digits, signed_decimal}
+use Rattle.std.specs.Int.{w32, w64, to_be_bytes}
 use Rattle.std.specs.List.{flat_map}
 use Rattle.std.specs.Str.{chars}
-use Rattle.amqp_ser.specs.Tree.{Scalar, string, Tree, Trees, scalar, list, no_trees, more}
+use Rattle.amqp_calendar.specs.Moment.{moment_text}
+use Rattle.amqp_data.specs.Hexadecimal.{hex}
+use Rattle.amqp_data.specs.Shown.{shown_symbol, shown_uuid}
+use Rattle.amqp_ser.specs.Tree as tree
+use Rattle.amqp_ser.specs.Tree.{Scalar, Descriptor, Tree, Trees, Pairs, no_trees, more, no_pairs, pair}
 
 -- a code in hexadecimal without leading zeros, as `\u{7f}`
 abbrev pub code_escaped : ℕ → List ℕ
@@ -19,26 +24,75 @@ escaped c =
 abbrev pub string_escaped : ℕ → List ℕ
 string_escaped c = if c == 34 then codes "\\\"" else escaped c
 
+-- a character by itself: the single quote is escaped too
+abbrev pub char_escaped : ℕ → List ℕ
+char_escaped c = if c == 39 then codes "\\'" else escaped c
+
 -- a string, by its UTF-8 bytes
 abbrev pub quoted : List ℕ → List ℕ
 quoted s = codes "\"" ++ (flat_map string_escaped (chars s) ++ codes "\"")
 
+-- a character
+abbrev pub quoted_char : ℕ → List ℕ
+quoted_char c = codes "'" ++ (char_escaped c ++ codes "'")
+
+-- bytes, two digits each
+abbrev pub bytes_text : List ℕ → List ℕ
+bytes_text bytes = codes "0x[" ++ (hex bytes ++ codes "]")
+
 abbrev pub scalar_text : Scalar → List ℕ
-scalar_text (string s) = quoted s
-scalar_text s = codes "?"
+scalar_text tree.null = codes "null"
+scalar_text (tree.bool true) = codes "true"
+scalar_text (tree.bool false) = codes "false"
+scalar_text (tree.ubyte n) = decimal n
+scalar_text (tree.ushort n) = decimal n
+scalar_text (tree.uint n) = decimal n
+scalar_text (tree.ulong n) = decimal n
+scalar_text (tree.byte z) = signed_decimal z
+scalar_text (tree.short z) = signed_decimal z
+scalar_text (tree.int z) = signed_decimal z
+scalar_text (tree.long z) = signed_decimal z
+scalar_text (tree.float n) = bytes_text (to_be_bytes w32 n)
+scalar_text (tree.double n) = bytes_text (to_be_bytes w64 n)
+scalar_text (tree.decimal32 bytes) = bytes_text bytes
+scalar_text (tree.decimal64 bytes) = bytes_text bytes
+scalar_text (tree.decimal128 bytes) = bytes_text bytes
+scalar_text (tree.char c) = quoted_char c
+scalar_text (tree.timestamp ms) = moment_text ms
+scalar_text (tree.uuid bytes) = shown_uuid bytes
+scalar_text (tree.binary bytes) = bytes_text bytes
+scalar_text (tree.string s) = quoted s
+scalar_text (tree.symbol s) = shown_symbol s
+
+-- a name, or a code in hexadecimal without leading zeros
+abbrev pub descriptor_text : Descriptor → List ℕ
+descriptor_text (tree.name s) = shown_symbol s
+descriptor_text (tree.code n) = codes "0x" ++ digits 16 false n
 
 -- what stands before the nth item: nothing before the first, else a comma and a space
 abbrev pub separator : ℕ → List ℕ
 separator zero = []
 separator (suc n) = codes ", "
 
+-- no value has a variant, a lazy or a transparent tree: a variant's text is that of its map, lazy bytes are bytes, and
+-- transparent trees a list
 abbrev mutual
   pub text_of : Tree → List ℕ
-  text_of (scalar s) = scalar_text s
-  text_of (list ts) = codes "[" ++ (items_text ts 0 ++ codes "]")
-  text_of t = codes "?"
+  text_of (tree.scalar s) = scalar_text s
+  text_of (tree.list ts) = codes "[" ++ (items_text ts 0 ++ codes "]")
+  text_of (tree.array ts) = codes "[" ++ (items_text ts 0 ++ codes "]")
+  text_of (tree.map ps) = codes "{" ++ (pairs_text ps 0 ++ codes "}")
+  text_of (tree.described d t) = descriptor_text d ++ (codes " -> " ++ text_of t)
+  text_of (tree.variant i t) = codes "{" ++ (decimal i ++ (codes ": " ++ (text_of t ++ codes "}")))
+  text_of (tree.lazy bytes) = bytes_text bytes
+  text_of (tree.transparent ts) = codes "[" ++ (items_text ts 0 ++ codes "]")
 
   -- the items, of which the first is the nth of all
   pub items_text : Trees → ℕ → List ℕ
   items_text no_trees n = []
   items_text (more t ts) n = separator n ++ (text_of t ++ items_text ts (suc n))
+
+  -- the pairs, of which the first is the nth of all
+  pub pairs_text : Pairs → ℕ → List ℕ
+  pairs_text no_pairs n = []
+  pairs_text (pair k v ps) n = separator n ++ (text_of k ++ (codes ": " ++ (text_of v ++ pairs_text ps (suc n))))

@@ -4,11 +4,16 @@
 //! hash go by contents. `laws` says how the image of a tree, which a value serializer answers with, is written.
 #![tactic(auto)]
 
+mod escape;
+mod format_code;
+mod from;
 pub mod laws;
 mod serialize;
 mod show;
 #[cfg(test)]
 mod tests;
+mod try_from;
 mod value;
 
+pub use try_from::ConvertFault;
 pub use value::Value;

@@ -1,5 +1,9 @@
 //! What no clause says: the texts of worked values, the sequence of the variants, and each call once.
 
+mod conversions;
+mod order;
+mod shown;
+
 use crate::{Value, laws};
 use amqp_data::{
     Array, ByteBuf, Dec32, Dec64, Dec128, Described, Descriptor, F32Bits, F64Bits, OrderedMap,
@@ -63,46 +67,6 @@ fn one_of_each(alloc: Global) -> Result<Vec<Value>, Fail> {
 }
 
 #[test]
-fn strings_stand_in_quotes_with_escapes(rt: HostRuntime) -> Result<(), Fail> {
-    for (text, shown) in [
-        ("", "\"\""),
-        ("a\"b\\", "\"a\\\"b\\\\\""),
-        ("\0\t\n\r", "\"\\0\\t\\n\\r\""),
-        ("\x01\x0b\x1f \x7f", "\"\\u{1}\\u{b}\\u{1f} \\u{7f}\""),
-        ("it's ~", "\"it's ~\""),
-        (
-            "\u{80}\u{e9}\u{20ac}\u{1f600}",
-            "\"\u{80}\u{e9}\u{20ac}\u{1f600}\"",
-        ),
-    ] {
-        let value = string(rt.alloc(), text)?;
-        assert_eq!(rt; value.to_string(rt.alloc())?.as_str(), shown);
-    }
-    Ok(())
-}
-
-#[test]
-fn lists_stand_in_brackets(rt: HostRuntime) -> Result<(), Fail> {
-    let rows: [(&[&str], &str); 4] = [
-        (&[], "[]"),
-        (&[""], "[\"\"]"),
-        (&["a", "bc"], "[\"a\", \"bc\"]"),
-        (&["a\r"], "[\"a\\r\"]"),
-    ];
-    for (texts, shown) in rows {
-        let value = strings(rt.alloc(), texts)?;
-        assert_eq!(rt; value.to_string(rt.alloc())?.as_str(), shown);
-    }
-    let inner = list(rt.alloc(), strings(rt.alloc(), &["a", "b"])?, Value::Null)?;
-    let nested = list(rt.alloc(), inner, strings(rt.alloc(), &[])?)?;
-    assert_eq!(rt;
-        nested.to_string(rt.alloc())?.as_str(),
-        "[[[\"a\", \"b\"], ?], []]"
-    );
-    Ok(())
-}
-
-#[test]
 fn variants_compare_in_the_sequence_of_the_standard(rt: HostRuntime) -> Result<(), Fail> {
     let values = one_of_each(rt.alloc())?;
     assert_eq!(rt; values.len(), 25);
@@ -127,10 +91,23 @@ fn equality_sees_contents_alone(rt: HostRuntime) -> Result<(), Fail> {
 
 #[test]
 fn laws_can_be_called(_rt: HostRuntime) {
+    laws::trees_of_scalar_values();
+    laws::trees_of_compound_values();
     laws::equality_is_of_contents();
     laws::sameness_is_equality();
     laws::image_of_a_plain_tree();
     laws::variants_are_written_as_maps();
     laws::image_is_written_as_the_same_bytes();
-    laws::value_is_its_own_image();
+    laws::sound_values_are_their_own_images();
+    laws::images_are_sound();
+    laws::sound_parts_make_a_sound_value();
+    laws::sound_entries_stay_sound();
+    laws::order_is_of_contents();
+    laws::order_agrees_with_equality();
+    laws::equal_values_hash_alike();
+    laws::maps_go_by_pairs_in_order();
+    laws::bits_compare_as_unsigned_numbers();
+    laws::described_values_come_before_null();
+    laws::scalars_come_back();
+    laws::elements_have_one_format_code();
 }

@@ -1,12 +1,12 @@
 -- The bytes of a bare compound.
 use Rattle.std.proofs.Common.{◌≡◌, List, [], ◌∷◌, ◌++◌, Option, Some, None, true, false, Result, Ok, Err, length, refl, ap, sym, ◌∙◌, subst, arith, drop}
-use Rattle.amqp_data.specs.declared.error.Error.{Error}
+use Rattle.amqp_size.specs.declared.refusal.Refusal.{Refusal}
 use Rattle.amqp_ser.specs.Tree.{Tree, Trees}
 use Rattle.amqp_ser.specs.Compounds.{all_trees, before, as_kind, whole, complete}
 use Rattle.amqp_ser.specs.declared.kind.Kind.TheVariants as kinds
 use Rattle.amqp_size.specs.Place.{outer}
-use Rattle.amqp_size.specs.declared.place.Place.{Place}
-use Rattle.amqp_size.specs.declared.place.Under.TheVariants as under
+use Rattle.amqp_size.specs.WholePlace.{Place}
+use Rattle.amqp_size.specs.WholeUnder as under
 use Rattle.amqp_size.proofs.Bare.{whole_one}
 use Rattle.amqp_wire.specs.Heads.{in_array, bytes_at}
 use Rattle.amqp_wire.specs.Standing.{taken_as}
@@ -30,7 +30,7 @@ meets_same a start s t k e m =
       room = let c = k.capacity in let r = m.room in let l = ap length e.0 in omega arith;
     }
 
-pub writes_same : (a : Place) (start s after : Output) (o : Option Tree) (r : Result (Unit {0}) Error) → Kept start s → Same start s → writes_tree a s o r after → writes_tree a start o r after
+pub writes_same : (a : Place) (start s after : Output) (o : Option Tree) (r : Result (Unit {0}) Refusal) → Kept start s → Same start s → writes_tree a s o r after → writes_tree a start o r after
 writes_same a start s after None (Ok u) k e h = h
 writes_same a start s after None (Err x) k e h = h
 writes_same a start s after (Some t) (Ok u) k e h = λ m.
@@ -54,7 +54,7 @@ alone_open start s held k e place inner ref =
     }
 
 -- a value stands where the compound was opened
-stands_there : (start before : Writer) (after : Output) (held : Writing) (ps : List (Option Tree)) (p : Option Tree) (r : Result (Unit {0}) Error) → Alone start before.output held ps → before.place ≡ held.inner → ps ≡ [] →
+stands_there : (start before : Writer) (after : Output) (held : Writing) (ps : List (Option Tree)) (p : Option Tree) (r : Result (Unit {0}) Refusal) → Alone start before.output held ps → before.place ≡ held.inner → ps ≡ [] →
     writes_tree (outer before.place) before.output (taken_as before.place p) r after → writes_tree (outer start.place) start.output (taken_as start.place p) r after
 stands_there start before after held ps p r h at q w =
     writes_same (outer start.place) start.output before.output after (taken_as start.place p) r h.kept (h.none q)
@@ -98,12 +98,12 @@ whole_two : (p q : Option Tree) (ps : List (Option Tree)) → whole kinds.Bare (
 unfolding whole
 whole_two p q ps = two p q (all_trees ps)
 
-no_whole : (start : Writer) (cut : Output) (qs : List (Option Tree)) (e : Error) → whole kinds.Bare qs ≡ None → writes_tree (outer start.place) start.output (taken_as start.place (whole kinds.Bare qs)) (Err e) cut
+no_whole : (start : Writer) (cut : Output) (qs : List (Option Tree)) (e : Refusal) → whole kinds.Bare qs ≡ None → writes_tree (outer start.place) start.output (taken_as start.place (whole kinds.Bare qs)) (Err e) cut
 no_whole start cut qs e n =
     subst (λ o. writes_tree (outer start.place) start.output (taken_as start.place o) (Err e) cut) (sym n)
     (subst (λ o. writes_tree (outer start.place) start.output o (Err e) cut) (sym (taken_none start.place)) tt)
 
-refused_whole : (start before : Writer) (after cut : Output) (held : Writing) (ps : List (Option Tree)) (p : Option Tree) (e : Error) → Alone start before.output held ps → before.place ≡ held.inner →
+refused_whole : (start before : Writer) (after cut : Output) (held : Writing) (ps : List (Option Tree)) (p : Option Tree) (e : Refusal) → Alone start before.output held ps → before.place ≡ held.inner →
     writes_tree (outer before.place) before.output (taken_as before.place p) (Err e) after → (rest : List (Option Tree)) →
     writes_tree (outer start.place) start.output (taken_as start.place (whole kinds.Bare (ps ++ (p ∷ rest)))) (Err e) cut
 refused_whole start before after cut held [] p e h at w [] =
@@ -114,7 +114,7 @@ refused_whole start before after cut held (v ∷ []) p e h at w rest = no_whole 
 refused_whole start before after cut held (v ∷ (u ∷ ps)) p e h at w rest = no_whole start cut (v ∷ (u ∷ (ps ++ (p ∷ rest)))) e (whole_two v u (ps ++ (p ∷ rest)))
 
 -- the refusal of a part is one of the whole
-pub alone_refused : (start before : Writer) (after cut : Output) (held : Writing) (ps : List (Option Tree)) (p : Option Tree) (e : Error) → Alone start before.output held ps → before.place ≡ held.inner → Kept start.output cut →
+pub alone_refused : (start before : Writer) (after cut : Output) (held : Writing) (ps : List (Option Tree)) (p : Option Tree) (e : Refusal) → Alone start before.output held ps → before.place ≡ held.inner → Kept start.output cut →
     writes_tree (outer before.place) before.output (taken_as before.place p) (Err e) after → (rest : List (Option Tree)) → writer_permits start (whole kinds.Bare (ps ++ (p ∷ rest))) (Err e) (record { place = under.Plain held.place; output = cut })
 alone_refused start before after cut held ps p e h at k w rest = (k, (ap under.Plain h.place, refused_whole start before after cut held ps p e h at w rest))
 
@@ -126,7 +126,7 @@ alone_written start s held (p ∷ []) h at done =
 alone_written start s held (p ∷ (q ∷ ps)) h at done = absurd (no_false done)
 
 -- what is answered where the compound was opened is answered there
-pub same_permits : (start : Writer) (s : Output) (held : Writing) (o : Option Tree) (r : Result (Unit {0}) Error) (after : Writer) → Alone start s held [] → writer_permits (record { place = held.inner; output = s }) o r after → writer_permits start o r after
+pub same_permits : (start : Writer) (s : Output) (held : Writing) (o : Option Tree) (r : Result (Unit {0}) Refusal) (after : Writer) → Alone start s held [] → writer_permits (record { place = held.inner; output = s }) o r after → writer_permits start o r after
 same_permits start s held o r after h p = (
   kept-more start.output s after.output h.kept p.0,
   (

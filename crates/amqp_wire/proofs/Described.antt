@@ -1,19 +1,19 @@
 -- A descriptor takes no place in the table, and neither does the described value itself.
 use Rattle.std.proofs.Common.{◌≡◌, ℕ, ◌+◌, inl, inr, List, [], ◌++◌, Option, Some, None, true, Result, Ok, Err, is_some, refl, ap, sym, ◌∙◌, subst, append-nil}
 use Rattle.std.specs.Prelude.{IfErr, IfOk}
-use Rattle.amqp_data.specs.declared.error.Error.{Error}
-use Rattle.amqp_data.specs.declared.error.Error.TheVariants.{OutOfMemory}
+use Rattle.amqp_size.specs.declared.refusal.Refusal.{Refusal}
+use Rattle.amqp_size.specs.declared.refusal.Refusal.TheVariants.{OutOfMemory}
 use Rattle.amqp_ser.specs.Tree.{Tree, Descriptor, scalar, list, array, map, described, variant, lazy, transparent}
 use Rattle.amqp_ser.specs.Composites.{as_described, descriptor_of}
 use Rattle.amqp_ser.specs.declared.kind.Kind.TheVariants as kinds
 use Rattle.amqp_ser.proofs.Bools.{both}
 use Rattle.amqp_size.specs.Place.{outer, meant, rest, described_place, described_under, plainly}
 use Rattle.amqp_size.specs.Counted.{at_place, size_permits, size_has, HoldsBare}
-use Rattle.amqp_size.specs.declared.place.Place.{Place}
-use Rattle.amqp_size.specs.declared.place.Place.TheVariants as place
+use Rattle.amqp_size.specs.WholePlace.{Place}
+use Rattle.amqp_size.specs.WholePlace as place
 use Rattle.amqp_size.specs.declared.place.Base.TheVariants as base
-use Rattle.amqp_size.specs.declared.place.Under.{Under}
-use Rattle.amqp_size.specs.declared.place.Under.TheVariants as under
+use Rattle.amqp_size.specs.WholeUnder.{Under}
+use Rattle.amqp_size.specs.WholeUnder as under
 use Rattle.amqp_size.specs.declared.serializer.SizeSerializer.{SizeSerializer}
 use Rattle.amqp_size.specs.declared.open_compound.Open.{Open}
 use Rattle.amqp_wire.specs.Entries.{entries}
@@ -75,11 +75,11 @@ described_listed (under.Scalar m p) v n x t l after b a e k h = absurd (none_lis
 described_listed (under.Nothing p) v n x t l after b a e k h = absurd (none_listed v p t b a e h)
 
 -- the value to come is described
-pub described_value : (start before self after : Headers) (held new : Counting) (d : Option Tree) (part : Result ℕ Error) (res : Result (Unit {0}) Error) (u : Unit {0}) (X : Error → Type 0) →
+pub described_value : (start before self after : Headers) (held new : Counting) (d : Option Tree) (part : Result ℕ Refusal) (res : Result (Unit {0}) Refusal) (u : Unit {0}) (X : Refusal → Type 0) →
     HoldsBare start.size kinds.Bare held.size [] → before.size.place ≡ under.Plain place.Descriptor → before.table.headers.items ≡ start.table.headers.items → counts_tree before d part self → after.table ≡ self.table →
     IfErr part (λ e. (res ≡ Err e) × X e) → res ≡ Ok u → IfOk part (λ n. described_under held.size.inner n ≡ Some new.size.inner) →
-    (size_permits before.size d part self.size → (mid : SizeSerializer) × (size_has mid kinds.Bare after.size new.size [] × ((t : Option Tree) (r : Result ℕ Error) (a : SizeSerializer) → size_permits mid t r a → size_permits start.size (as_described (descriptor_of d) t) r a))) →
-    (mid : Headers) × (headers_has mid kinds.Bare after new [] × ((t : Option Tree) (r : Result ℕ Error) (a : Headers) → headers_permits mid t r a → headers_permits start (as_described (descriptor_of d) t) r a))
+    (size_permits before.size d part self.size → (mid : SizeSerializer) × (size_has mid kinds.Bare after.size new.size [] × ((t : Option Tree) (r : Result ℕ Refusal) (a : SizeSerializer) → size_permits mid t r a → size_permits start.size (as_described (descriptor_of d) t) r a))) →
+    (mid : Headers) × (headers_has mid kinds.Bare after new [] × ((t : Option Tree) (r : Result ℕ Refusal) (a : Headers) → headers_permits mid t r a → headers_permits start (as_described (descriptor_of d) t) r a))
 described_value start before self after held new d (Err e) res u X h at same l table k q m f = let no : Err e ≡ Ok u = sym k.0 ∙ q in cc
 described_value start before self after held new d (Ok n) res u X h at same l table k q m f =
     let c = counted_alone d n self.size.place before.table.headers.items self.table.headers.items
@@ -92,8 +92,8 @@ described_value start before self after held new d (Ok n) res u X h at same l ta
     (mid, ((s.1.0, lone_open mid after.table.headers.items (ap (λ v. v.headers.items) table)), λ t r a p. lift c.0.0 c.0.1 s.0 e table_is t (s.1.1 t) r a p))
   where
     lift : (x : Descriptor) → descriptor_of d ≡ Some x → (mid : SizeSerializer) → described_under start.size.place n ≡ Some mid.place → self.table.headers.items ≡ start.table.headers.items →
-        (t : Option Tree) → ((r : Result ℕ Error) (a : SizeSerializer) → size_permits mid t r a → size_permits start.size (as_described (descriptor_of d) t) r a) →
-        (r : Result ℕ Error) (a : Headers) → headers_permits (record { size = mid; table = self.table }) t r a → headers_permits start (as_described (descriptor_of d) t) r a
+        (t : Option Tree) → ((r : Result ℕ Refusal) (a : SizeSerializer) → size_permits mid t r a → size_permits start.size (as_described (descriptor_of d) t) r a) →
+        (r : Result ℕ Refusal) (a : Headers) → headers_permits (record { size = mid; table = self.table }) t r a → headers_permits start (as_described (descriptor_of d) t) r a
     lift x o mid e b t g (Ok v) a p =
         let there = subst (λ y. listed (meant mid.place t) y a.table.headers.items) b p.1.1 in (
           subst (λ y. Extends y a.table.headers.items) b p.0,
@@ -108,7 +108,7 @@ described_value start before self after held new d (Ok n) res u X h at same l ta
     )
 
 -- the refusal of a descriptor is one of the described value
-pub refusal_of_descriptor : (start before self after : Headers) (held new : Open) (d : Option Tree) (part : Result ℕ Error) (res : Result (Unit {0}) Error) (e : Error) →
+pub refusal_of_descriptor : (start before self after : Headers) (held new : Open) (d : Option Tree) (part : Result ℕ Refusal) (res : Result (Unit {0}) Refusal) (e : Refusal) →
     HoldsBare start.size kinds.Bare held [] → counts_tree before d part self →
     (size_permits before.size d part self.size → size_has start.size kinds.Bare after.size new [] × ((t : Option Tree) → size_permits start.size (as_described (descriptor_of d) t) (Err e) after.size)) →
     IfErr part (λ x. (res ≡ Err x) × ((new ≡ held) × (after.size.place ≡ under.Plain (rest held.place)))) → res ≡ Err e →

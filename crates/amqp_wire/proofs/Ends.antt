@@ -1,17 +1,17 @@
 -- The bytes of a compound that has ended.
 use Rattle.std.proofs.Common.{◌≡◌, ℕ, ◌+◌, List, [], ◌∷◌, ◌++◌, Option, Some, None, true, false, Ok, Err, length, refl, ap, sym, ◌∙◌, subst, arith, length-append}
-use Rattle.amqp_data.specs.declared.error.Error.{Error}
+use Rattle.amqp_size.specs.declared.refusal.Refusal.{Refusal}
 use Rattle.amqp_ser.specs.Tree.{Tree, Trees, list, array, map, variant, transparent, no_trees, more}
 use Rattle.amqp_ser.specs.Compounds.{all_trees, as_kind, as_map, as_variant, only, whole, complete}
 use Rattle.amqp_ser.specs.declared.kind.Kind.{Kind}
 use Rattle.amqp_ser.specs.declared.kind.Kind.TheVariants as kinds
 use Rattle.amqp_ser.proofs.Pairing.{pairing, paired-even}
 use Rattle.amqp_size.specs.Place.{outer, meant, shape_of}
-use Rattle.amqp_size.specs.declared.place.Place.{Place}
-use Rattle.amqp_size.specs.declared.place.Place.TheVariants as place
+use Rattle.amqp_size.specs.WholePlace.{Place}
+use Rattle.amqp_size.specs.WholePlace as place
 use Rattle.amqp_size.specs.declared.place.Shape.TheVariants as shape
-use Rattle.amqp_size.specs.declared.place.Under.{Under}
-use Rattle.amqp_size.specs.declared.place.Under.TheVariants as under
+use Rattle.amqp_size.specs.WholeUnder.{Under}
+use Rattle.amqp_size.specs.WholeUnder as under
 use Rattle.amqp_wire.specs.Entries.{entries, entries_each, heads}
 use Rattle.amqp_wire.specs.Heads.{in_array, opening, after_opening}
 use Rattle.amqp_wire.specs.Standing.{standing, taken_as, inside_shape, shape_at, opened_as, is_bare}
@@ -90,7 +90,7 @@ all_written start kind s held ps bare h place done opened =
     )
 
 -- a compound that could not be opened
-pub not_opened : (start : Writer) (kind : Kind) (s : Writer) (held : Writing) (ps : List (Option Tree)) (e : Error) → is_bare kind ≡ false → Written start kind s.output held ps → s.place ≡ under.Plain held.place → held.refused ≡ true → writer_permits start (whole kind ps) (Err e) s
+pub not_opened : (start : Writer) (kind : Kind) (s : Writer) (held : Writing) (ps : List (Option Tree)) (e : Refusal) → is_bare kind ≡ false → Written start kind s.output held ps → s.place ≡ under.Plain held.place → held.refused ≡ true → writer_permits start (whole kind ps) (Err e) s
 not_opened start kind s held ps e bare h place r =
     let a = in_array (outer start.place) in
     let sh = opened_as start.place kind in (

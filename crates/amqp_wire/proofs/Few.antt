@@ -7,7 +7,7 @@ use Rattle.amqp_ser.specs.Scalars.{scalar_form, sized, signed_bytes, is_small}
 use Rattle.amqp_ser.specs.Encoding.{enc, enc_each, enc_pairs, payload_each, first_con, counted, list_form, wide}
 use Rattle.amqp_ser.specs.Writable.{inside, inside_each}
 use Rattle.amqp_ser.proofs.Bools.{left_true, right_true, is_le}
-use Rattle.amqp_size.specs.declared.place.Place.TheVariants.{Root}
+use Rattle.amqp_size.specs.WholePlace.{Root}
 use Rattle.amqp_wire.specs.Solid.{solid, solid_each}
 
 pub no_false : false ≡ true → ⊥

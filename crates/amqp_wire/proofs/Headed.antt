@@ -1,6 +1,6 @@
 -- The bytes of a described value: its code and its descriptor before it.
 use Rattle.std.proofs.Common.{◌≡◌, ◌+◌, inl, inr, [], ◌∷◌, ◌++◌, Option, Some, None, true, ◌&&◌, Result, Ok, Err, is_some, length, refl, ap, sym, ◌∙◌, subst, arith, append_assoc, length-append, drop}
-use Rattle.amqp_data.specs.declared.error.Error.{Error}
+use Rattle.amqp_size.specs.declared.refusal.Refusal.{Refusal}
 use Rattle.amqp_ser.specs.Tree.{Tree, Descriptor, scalar, list, array, map, described, variant, lazy, transparent}
 use Rattle.amqp_ser.specs.Limits.{is_length}
 use Rattle.amqp_ser.specs.Encoding.{enc, descriptor_form}
@@ -9,9 +9,9 @@ use Rattle.amqp_ser.specs.Composites.{as_described, descriptor_of}
 use Rattle.amqp_ser.specs.declared.kind.Kind.TheVariants as kinds
 use Rattle.amqp_ser.proofs.Bools.{left_true, right_true}
 use Rattle.amqp_size.specs.Place.{outer}
-use Rattle.amqp_size.specs.declared.place.Place.{Place}
-use Rattle.amqp_size.specs.declared.place.Place.TheVariants as place
-use Rattle.amqp_size.specs.declared.place.Under.TheVariants as under
+use Rattle.amqp_size.specs.WholePlace.{Place}
+use Rattle.amqp_size.specs.WholePlace as place
+use Rattle.amqp_size.specs.WholeUnder as under
 use Rattle.amqp_size.proofs.Described.{of_tree}
 use Rattle.amqp_wire.specs.Entries.{entries}
 use Rattle.amqp_wire.specs.Heads.{in_array, bytes_at}
@@ -75,7 +75,7 @@ value_meets p start mid x v b k out taken m =
     }
 
 -- a value after its descriptor is the described value
-described_writes : (p : Place) (start mid after : Output) (x : Descriptor) (o : Option Tree) (r : Result (Unit {0}) Error) → stands_described p ≡ true → Kept start mid →
+described_writes : (p : Place) (start mid after : Output) (x : Descriptor) (o : Option Tree) (r : Result (Unit {0}) Refusal) → stands_described p ≡ true → Kept start mid →
     ((v : Tree) → Meets p start (described x v) → (mid.out.items ≡ start.out.items ++ (0x00 ∷ descriptor_form x)) × (mid.taken ≡ start.taken)) →
     writes_tree p mid o r after → writes_tree p start (as_described (Some x) o) r after
 described_writes p start mid after x None (Ok u) b k f h = h
@@ -102,7 +102,7 @@ head_written p start before mid x t b k out taken o f v m =
 
 pub described_permits : (start before mid : Writer) (x : Descriptor) (t : Tree) → takes_described start.place ≡ true → mid.place ≡ start.place → Kept start.output before.output → Kept before.output mid.output →
     before.output.out.items ≡ start.output.out.items ++ (0x00 ∷ []) → before.output.taken ≡ start.output.taken → descriptor_of (Some t) ≡ Some x → (Meets place.Descriptor before.output t → Wrote place.Descriptor before.output t mid.output) →
-    (o : Option Tree) (r : Result (Unit {0}) Error) (after : Writer) → writer_permits mid o r after → writer_permits start (as_described (Some x) o) r after
+    (o : Option Tree) (r : Result (Unit {0}) Refusal) (after : Writer) → writer_permits mid o r after → writer_permits start (as_described (Some x) o) r after
 described_permits start before mid x t b same k l out taken d f o r after p =
     let at = outer start.place in
     let s = kept-more start.output before.output mid.output k l in
@@ -126,15 +126,15 @@ one_taken s after None (Some x) e h = absurd h
 one_taken s after (Some t) (Some x) e h = (x, (refl, (t, (refl, h))))
 
 -- the value to come is described
-pub value_described : (start before now : Writer) (held : Writing) (d : Option Tree) (part : Result (Unit {0}) Error) → AwaitsDescriptor start before held → writer_permits before d part now → part ≡ Ok tt →
-    (mid : Writer) × (writer_has mid kinds.Bare (record { place = under.Plain held.place; output = now.output }) held [] × ((t : Option Tree) (r : Result (Unit {0}) Error) (after : Writer) → writer_permits mid t r after → writer_permits start (as_described (descriptor_of d) t) r after))
+pub value_described : (start before now : Writer) (held : Writing) (d : Option Tree) (part : Result (Unit {0}) Refusal) → AwaitsDescriptor start before held → writer_permits before d part now → part ≡ Ok tt →
+    (mid : Writer) × (writer_has mid kinds.Bare (record { place = under.Plain held.place; output = now.output }) held [] × ((t : Option Tree) (r : Result (Unit {0}) Refusal) (after : Writer) → writer_permits mid t r after → writer_permits start (as_described (descriptor_of d) t) r after))
 value_described start before now held d part w p e = elim w.head [ inl h ↦ taken h | inr h ↦ absurd (none_taken before now.output d h.0 here) ]
   where
     here : writes_tree (outer before.place) before.output (taken_as before.place d) (Ok tt) now.output
     here = subst (λ r. writes_tree (outer before.place) before.output (taken_as before.place d) r now.output) e p.1.1
 
     taken : (takes_described start.place ≡ true) × ((before.place ≡ under.Plain place.Descriptor) × ((before.output.out.items ≡ start.output.out.items ++ (0x00 ∷ [])) × (before.output.taken ≡ start.output.taken))) →
-        (mid : Writer) × (writer_has mid kinds.Bare (record { place = under.Plain held.place; output = now.output }) held [] × ((t : Option Tree) (r : Result (Unit {0}) Error) (after : Writer) → writer_permits mid t r after → writer_permits start (as_described (descriptor_of d) t) r after))
+        (mid : Writer) × (writer_has mid kinds.Bare (record { place = under.Plain held.place; output = now.output }) held [] × ((t : Option Tree) (r : Result (Unit {0}) Refusal) (after : Writer) → writer_permits mid t r after → writer_permits start (as_described (descriptor_of d) t) r after))
     taken h =
         let mid : Writer = record { place = start.place; output = now.output } in
         let one = one_taken before.output now.output d (descriptor_of d) refl (subst (λ u. writes_tree (outer u) before.output (taken_as u d) (Ok tt) now.output) h.1.0 here) in
@@ -148,7 +148,7 @@ value_described start before now held d part w p e = elim w.head [ inl h ↦ tak
         )
 
 -- the refusal of a descriptor is one of the described value
-refuses_described : (start before : Writer) (after : Output) (held : Writing) (d : Option Tree) (e : Error) → AwaitsDescriptor start before held → writes_tree (outer before.place) before.output (taken_as before.place d) (Err e) after →
+refuses_described : (start before : Writer) (after : Output) (held : Writing) (d : Option Tree) (e : Refusal) → AwaitsDescriptor start before held → writes_tree (outer before.place) before.output (taken_as before.place d) (Err e) after →
     (o : Option Descriptor) → descriptor_of d ≡ o → (t : Option Tree) (x : Tree) → taken_as start.place (as_described o t) ≡ Some x → Meets (outer start.place) start.output x → ⊥
 refuses_described start before after held d e w h None is t x q m = no_some x (sym (taken_none start.place) ∙ q)
 refuses_described start before after held d e w h (Some y) is None x q m = no_some x (sym (taken_none start.place) ∙ q)
@@ -164,7 +164,7 @@ refuses_described start before after held d e w h (Some y) is (Some v) x q m = e
         let there = subst (λ z. writes_tree place.Descriptor before.output (where_some z (Some t)) (Err e) after) s (subst (λ u. writes_tree (outer u) before.output (taken_as u (Some t)) (Err e) after) k.1.0 g) in
         there (descriptor_meets (outer start.place) start.output before.output y t v p.1 w.kept k.1.1.0 k.1.1.1 s n)
 
-pub described_refused : (start before : Writer) (after cut : Output) (held : Writing) (d : Option Tree) (part : Result (Unit {0}) Error) (e : Error) → AwaitsDescriptor start before held → part ≡ Err e → writes_tree (outer before.place) before.output (taken_as before.place d) part after → Kept start.output cut →
+pub described_refused : (start before : Writer) (after cut : Output) (held : Writing) (d : Option Tree) (part : Result (Unit {0}) Refusal) (e : Refusal) → AwaitsDescriptor start before held → part ≡ Err e → writes_tree (outer before.place) before.output (taken_as before.place d) part after → Kept start.output cut →
     (t : Option Tree) → writer_permits start (as_described (descriptor_of d) t) (Err e) (record { place = under.Plain held.place; output = cut })
 described_refused start before after cut held d part e w is h k t =
     let here = subst (λ r. writes_tree (outer before.place) before.output (taken_as before.place d) r after) is h in

@@ -1,18 +1,18 @@
 -- Where a described value can be written, and its code before it.
 use Rattle.std.proofs.Common.{◌≡◌, ◌+◌, ◌<◌, inl, inr, [], ◌∷◌, ◌++◌, Option, Some, None, true, false, Result, Ok, Err, is_err, length, refl, ap, sym, ◌∙◌, subst, arith}
 use Rattle.std.specs.Vec.{vec_capacity}
-use Rattle.amqp_data.specs.declared.error.Error.{Error}
+use Rattle.amqp_size.specs.declared.refusal.Refusal.{Refusal}
 use Rattle.amqp_ser.specs.Tree.{Tree, Descriptor, described}
 use Rattle.amqp_ser.specs.Encoding.{enc, descriptor_form}
 use Rattle.amqp_ser.specs.Marked.{marked}
 use Rattle.amqp_ser.proofs.Bools.{right_true}
 use Rattle.amqp_size.specs.Place.{outer, the_mark}
-use Rattle.amqp_size.specs.declared.place.Place.{Place}
-use Rattle.amqp_size.specs.declared.place.Place.TheVariants as place
+use Rattle.amqp_size.specs.WholePlace.{Place}
+use Rattle.amqp_size.specs.WholePlace as place
 use Rattle.amqp_size.specs.declared.place.ScalarMark.{ScalarMark}
 use Rattle.amqp_size.specs.declared.place.ScalarMark.TheVariants as scalar_mark
-use Rattle.amqp_size.specs.declared.place.Under.{Under}
-use Rattle.amqp_size.specs.declared.place.Under.TheVariants as under
+use Rattle.amqp_size.specs.WholeUnder.{Under}
+use Rattle.amqp_size.specs.WholeUnder as under
 use Rattle.amqp_wire.specs.Heads.{in_array, bytes_at}
 use Rattle.amqp_wire.specs.Solid.{is_opaque, solid, solid_at}
 use Rattle.amqp_wire.specs.Standing.{standing, taken_as, stands_described, takes_described}
@@ -110,22 +110,22 @@ ready start s held new h place inner ref at after k f =
       head = f;
     }
 
-put_one : (s after : Output) (r : Result (Unit {0}) Error) → is_err r ≡ false → puts s (0x00 ∷ []) r after → after.out.items ≡ s.out.items ++ (0x00 ∷ [])
+put_one : (s after : Output) (r : Result (Unit {0}) Refusal) → is_err r ≡ false → puts s (0x00 ∷ []) r after → after.out.items ≡ s.out.items ++ (0x00 ∷ [])
 put_one s after (Ok u) e h = h
 put_one s after (Err x) e h = absurd (no_false (sym e))
 
-put_none : (s after : Output) (r : Result (Unit {0}) Error) → is_err r ≡ true → puts s (0x00 ∷ []) r after → vec_capacity s.out < length s.out.items + 1
+put_none : (s after : Output) (r : Result (Unit {0}) Refusal) → is_err r ≡ true → puts s (0x00 ∷ []) r after → vec_capacity s.out < length s.out.items + 1
 put_none s after (Ok u) e h = absurd (no_false e)
 put_none s after (Err x) e h = h
 
 -- the code is written
-pub head_there : (start s after : Writer) (held : Writing) (r : Result (Unit {0}) Error) → Alone start s.output held [] → takes_described held.inner ≡ true → is_err r ≡ false → puts s.output (0x00 ∷ []) r after.output → after.output.taken ≡ s.output.taken → after.place ≡ under.Plain place.Descriptor → headed start after
+pub head_there : (start s after : Writer) (held : Writing) (r : Result (Unit {0}) Refusal) → Alone start s.output held [] → takes_described held.inner ≡ true → is_err r ≡ false → puts s.output (0x00 ∷ []) r after.output → after.output.taken ≡ s.output.taken → after.place ≡ under.Plain place.Descriptor → headed start after
 head_there start s after held r h t e p taken at =
     let n = h.none refl in
     inl (ap takes_described (sym h.inner) ∙ t, (at, (put_one s.output after.output r e p ∙ ap (λ b. b ++ (0x00 ∷ [])) n.0, taken ∙ n.1)))
 
 -- there is no room for it
-pub head_short : (start s after : Writer) (held : Writing) (r : Result (Unit {0}) Error) → Alone start s.output held [] → takes_described held.inner ≡ true → is_err r ≡ true → puts s.output (0x00 ∷ []) r after.output → after.place ≡ under.Nothing place.Descriptor → headed start after
+pub head_short : (start s after : Writer) (held : Writing) (r : Result (Unit {0}) Refusal) → Alone start s.output held [] → takes_described held.inner ≡ true → is_err r ≡ true → puts s.output (0x00 ∷ []) r after.output → after.place ≡ under.Nothing place.Descriptor → headed start after
 head_short start s after held r h t e p at =
     let n = h.none refl in
     let short = put_none s.output after.output r e p in

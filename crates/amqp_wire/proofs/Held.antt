@@ -6,9 +6,9 @@ use Rattle.amqp_ser.specs.declared.kind.Kind.{Kind}
 use Rattle.amqp_ser.specs.declared.kind.Kind.TheVariants as kinds
 use Rattle.amqp_size.specs.Place.{shape_of}
 use Rattle.amqp_size.specs.Counted.{HoldsBare, Holding}
-use Rattle.amqp_size.specs.declared.place.Place.{Place}
-use Rattle.amqp_size.specs.declared.place.Place.TheVariants as place
-use Rattle.amqp_size.specs.declared.place.Under.TheVariants.{Plain}
+use Rattle.amqp_size.specs.WholePlace.{Place}
+use Rattle.amqp_size.specs.WholePlace as place
+use Rattle.amqp_size.specs.WholeUnder.{Plain}
 use Rattle.amqp_size.specs.declared.serializer.SizeSerializer.{SizeSerializer}
 use Rattle.amqp_size.specs.declared.open_compound.Open.{Open}
 use Rattle.amqp_wire.specs.Standing.{is_bare}

@@ -16,3 +16,4 @@ pub mod Writing
 pub mod Heading
 pub mod Headed
 pub mod Ends
+pub mod TwoWalks

@@ -1,8 +1,8 @@
 -- The table after each part.
 use Rattle.std.proofs.Common.{◌≡◌, ℕ, ◌+◌, ◌-◌, ◌≤◌, inl, inr, List, [], ◌∷◌, ◌++◌, Option, Some, None, true, false, Result, Ok, Err, length, refl, ap, sym, ◌∙◌, subst, arith, append_assoc, append-nil, length-append, take}
 use Rattle.std.specs.Prelude.{IfErr}
-use Rattle.amqp_data.specs.declared.error.Error.{Error}
-use Rattle.amqp_data.specs.declared.error.Error.TheVariants.{OutOfMemory}
+use Rattle.amqp_size.specs.declared.refusal.Refusal.{Refusal}
+use Rattle.amqp_size.specs.declared.refusal.Refusal.TheVariants.{OutOfMemory}
 use Rattle.amqp_ser.specs.Tree.{Tree, Trees, no_trees, more, count}
 use Rattle.amqp_ser.specs.Compounds.{all_trees, before, as_kind, whole, paired}
 use Rattle.amqp_ser.specs.declared.kind.Kind.{Kind}
@@ -11,9 +11,9 @@ use Rattle.amqp_ser.proofs.Bools.{left_true, both, is_le}
 use Rattle.amqp_ser.proofs.Joins.{join, joined, all_trees-append, count-join}
 use Rattle.amqp_size.specs.Place.{outer, meant, rest, shape_of, is_array, con_of}
 use Rattle.amqp_size.specs.Counted.{size_permits, size_has, at_place, Holds, HoldsTransparent, Holding, content, inner_of}
-use Rattle.amqp_size.specs.declared.place.Place.TheVariants.{Root}
+use Rattle.amqp_size.specs.WholePlace.{Root}
 use Rattle.amqp_size.specs.declared.place.Shape.{Shape}
-use Rattle.amqp_size.specs.declared.place.Under.TheVariants.{Plain}
+use Rattle.amqp_size.specs.WholeUnder.{Plain}
 use Rattle.amqp_size.specs.declared.serializer.SizeSerializer.{SizeSerializer}
 use Rattle.amqp_size.specs.declared.open_compound.Open.{Open}
 use Rattle.amqp_size.proofs.Holding.{at_rest}
@@ -184,13 +184,13 @@ all_listed start kind table after held ps n m len c bare h k miss a b d f p =
     ∙ fills_are (made sh (header n m c)) q.0 start.table.headers.items (entries_each ts) held.at (made_places sh (header n m c) ∙ sym q.1.0) k.at
     ∙ ap (λ w. start.table.headers.items ++ (w ++ entries_each ts)) right)
 
-pub record Took (before self : Headers) (held : Counting) (p : Option Tree) (answer : Result ℕ Error) : Type 0 where
+pub record Took (before self : Headers) (held : Counting) (p : Option Tree) (answer : Result ℕ Refusal) : Type 0 where
   pub present : held.missed ≡ false
   pub permits : size_permits before.size p answer self.size
   pub part : listed (meant before.size.place p) before.table.headers.items self.table.headers.items
 
 -- a part that was taken was answered
-pub took : (before self : Headers) (held : Counting) (p : Option Tree) (part answer : Result ℕ Error) (res : Result (Unit {0}) Error) (u : Unit {0}) (X : Error → Type 0) →
+pub took : (before self : Headers) (held : Counting) (p : Option Tree) (part answer : Result ℕ Refusal) (res : Result (Unit {0}) Refusal) (u : Unit {0}) (X : Refusal → Type 0) →
     answered held part answer → counts_tree before p part self → res ≡ Ok u → IfErr answer (λ e. (res ≡ Err e) × X e) → Took before self held p answer
 took before self held p part (Ok n) res u X a l q k =
     let l2 = subst (λ x. counts_tree before p x self) a.0 l in
@@ -198,7 +198,7 @@ took before self held p part (Ok n) res u X a l q k =
 took before self held p part (Err e) res u X a l q k = let no : Err e ≡ Ok u = sym k.0 ∙ q in cc
 
 -- the refusal of a part is one of the whole
-pub refusal_of_part : (start before self after : Headers) (kind : Kind) (held new : Counting) (ps : List (Option Tree)) (p : Option Tree) (part answer : Result ℕ Error) (res : Result (Unit {0}) Error) (e : Error) →
+pub refusal_of_part : (start before self after : Headers) (kind : Kind) (held new : Counting) (ps : List (Option Tree)) (p : Option Tree) (part answer : Result ℕ Refusal) (res : Result (Unit {0}) Refusal) (e : Refusal) →
     Holding start.size kind held.size ps → answered held part answer → counts_tree before p part self →
     (size_permits before.size p answer self.size → size_has start.size kind after.size new.size ps × ((rest : List (Option Tree)) → size_permits start.size (whole kind (ps ++ (p ∷ rest))) (Err e) after.size)) →
     IfErr answer (λ x. (res ≡ Err x) × ((new.size ≡ held.size) × (after.size.place ≡ Plain (rest held.size.place)))) → res ≡ Err e →

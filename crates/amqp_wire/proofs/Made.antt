@@ -14,12 +14,12 @@ use Rattle.amqp_ser.proofs.Bools.{left_true, right_true, both, is_le, le_true}
 use Rattle.amqp_size.specs.Place.{meant, suits, within_at, takes_described, is_array, con_of, element}
 use Rattle.amqp_size.specs.Counted.{content, inner_of, first_place, counts, Holds}
 use Rattle.amqp_size.specs.Width.{uint_width, list_width}
-use Rattle.amqp_size.specs.declared.place.Place.{Place}
-use Rattle.amqp_size.specs.declared.place.Place.TheVariants as place
+use Rattle.amqp_size.specs.WholePlace.{Place}
+use Rattle.amqp_size.specs.WholePlace as place
 use Rattle.amqp_size.specs.declared.place.Shape.{Shape}
 use Rattle.amqp_size.specs.declared.place.Shape.TheVariants as shape
-use Rattle.amqp_size.specs.declared.place.Under.{Under}
-use Rattle.amqp_size.specs.declared.place.Under.TheVariants as under
+use Rattle.amqp_size.specs.WholeUnder.{Under}
+use Rattle.amqp_size.specs.WholeUnder as under
 use Rattle.amqp_size.specs.declared.serializer.SizeSerializer.{SizeSerializer}
 use Rattle.amqp_size.specs.declared.open_compound.Open.{Open}
 use Rattle.amqp_size.proofs.Lengths.{length-uint, length-list_form, length-variant}

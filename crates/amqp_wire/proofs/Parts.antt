@@ -1,7 +1,7 @@
 -- The bytes after each part.
 use Rattle.std.proofs.Common.{◌≡◌, ℕ, ◌+◌, List, [], ◌∷◌, ◌++◌, Option, Some, None, Bool, true, false, not, ◌&&◌, Result, Ok, Err, length, refl, ap, sym, ◌∙◌, subst, arith, append_assoc, append-nil, length-append, drop, take, is_err}
 use Rattle.std.specs.Vec.{vec_capacity}
-use Rattle.amqp_data.specs.declared.error.Error.{Error}
+use Rattle.amqp_size.specs.declared.refusal.Refusal.{Refusal}
 use Rattle.amqp_ser.specs.Tree.{Tree, Trees, no_trees, more}
 use Rattle.amqp_ser.specs.Writable.{within, within_each}
 use Rattle.amqp_ser.specs.Compounds.{all_trees, before, as_kind, whole, paired}
@@ -10,11 +10,11 @@ use Rattle.amqp_ser.specs.declared.kind.Kind.TheVariants as kinds
 use Rattle.amqp_ser.proofs.Bools.{left_true, right_true, and_assoc}
 use Rattle.amqp_ser.proofs.Joins.{join, joined, all_trees-append, within-join, enc_each-join, payload_each-join}
 use Rattle.amqp_size.specs.Place.{outer, shape_of, inner_under}
-use Rattle.amqp_size.specs.declared.place.Place.{Place}
+use Rattle.amqp_size.specs.WholePlace.{Place}
 use Rattle.amqp_size.specs.declared.place.Shape.{Shape}
 use Rattle.amqp_size.specs.declared.place.Shape.TheVariants as shape
-use Rattle.amqp_size.specs.declared.place.Under.{Under}
-use Rattle.amqp_size.specs.declared.place.Under.TheVariants as under
+use Rattle.amqp_size.specs.WholeUnder.{Under}
+use Rattle.amqp_size.specs.WholeUnder as under
 use Rattle.amqp_wire.specs.Entries.{entries, entries_each, heads}
 use Rattle.amqp_wire.specs.Heads.{in_array, bytes_at, opening, after_opening}
 use Rattle.amqp_wire.specs.Solid.{solid_at, solid_each}
@@ -154,11 +154,11 @@ pub whole_of : (kind : Kind) (ps : List (Option Tree)) (ts : Trees) → all_tree
 unfolding whole
 whole_of kind ps ts h = ap (as_kind kind) h
 
-pub never : (a : Place) (start cut : Output) (o : Option Tree) (e : Error) → ((t : Tree) → o ≡ Some t → Meets a start t → ⊥) → writes_tree a start o (Err e) cut
+pub never : (a : Place) (start cut : Output) (o : Option Tree) (e : Refusal) → ((t : Tree) → o ≡ Some t → Meets a start t → ⊥) → writes_tree a start o (Err e) cut
 never a start cut None e f = tt
 never a start cut (Some t) e f = f t refl
 
-refused : (start : Writer) (kind : Kind) (s cut : Output) (held : Writing) (ts : Trees) (p : Option Tree) (e : Error) (o : Option Trees) → is_bare kind ≡ false → Kept start.output s →
+refused : (start : Writer) (kind : Kind) (s cut : Output) (held : Writing) (ts : Trees) (p : Option Tree) (e : Refusal) (o : Option Trees) → is_bare kind ≡ false → Kept start.output s →
     ((us : Trees) → Room (in_array (outer start.place)) (opened_as start.place kind) start.output (join ts us) → Met (in_array (outer start.place)) (opened_as start.place kind) start.output s held ts us) →
     ((t : Tree) → p ≡ Some t → held.refused ≡ false → Meets (part_place (opened_as start.place kind)) s t → ⊥) →
     writes_tree (outer start.place) start.output (taken_as start.place (as_kind kind (joined (Some ts) (before p o)))) (Err e) cut
@@ -172,7 +172,7 @@ refused start kind s cut held ts (Some t) e (Some us) bare k h f =
     f t refl b.opened (part_meets (in_array a) (opened_as start.place kind) start.output s held ts t us r k b))
 
 -- the refusal of a part is one of the whole
-pub part_refused : (start : Writer) (kind : Kind) (s cut : Output) (held : Writing) (ps : List (Option Tree)) (p : Option Tree) (e : Error) (place : Under) → is_bare kind ≡ false → Written start kind s held ps → Kept start.output cut → place ≡ under.Plain held.place →
+pub part_refused : (start : Writer) (kind : Kind) (s cut : Output) (held : Writing) (ps : List (Option Tree)) (p : Option Tree) (e : Refusal) (place : Under) → is_bare kind ≡ false → Written start kind s held ps → Kept start.output cut → place ≡ under.Plain held.place →
     ((t : Tree) → p ≡ Some t → held.refused ≡ false → Meets (part_place (opened_as start.place kind)) s t → ⊥) →
     (rest : List (Option Tree)) → writer_permits start (whole kind (ps ++ (p ∷ rest))) (Err e) (record { place = place; output = cut })
 part_refused start kind s cut held ps p e place bare h k same f rest =
@@ -269,12 +269,12 @@ part_undone start s cut held ps p h even table cap taken out =
     }
 
 -- the refusal stays one where the output goes back
-pub still_refused : (a : Place) (s m after : Output) (o : Option Tree) (e : Error) → writes_tree a s o (Err e) m → writes_tree a s o (Err e) after
+pub still_refused : (a : Place) (s m after : Output) (o : Option Tree) (e : Refusal) → writes_tree a s o (Err e) m → writes_tree a s o (Err e) after
 still_refused a s m after None e h = tt
 still_refused a s m after (Some t) e h = h
 
 -- a compound that was opened
-pub now_open : (start : Writer) (kind : Kind) (s : Output) (held : Writing) (r : Result (Unit {0}) Error) → Kept start.output s →
+pub now_open : (start : Writer) (kind : Kind) (s : Output) (held : Writing) (r : Result (Unit {0}) Refusal) → Kept start.output s →
     ((ts : Trees) → Room (in_array (outer start.place)) (opened_as start.place kind) start.output ts → opens (in_array (outer start.place)) (opened_as start.place kind) start.output (heads (opened_as start.place kind) ts) r s) →
     held.refused ≡ is_err r → held.place ≡ outer start.place → held.inner ≡ inner_under (opened_as start.place kind) start.place → (opened_as start.place kind ≡ shape.Refused → is_err r ≡ true) → Written start kind s held []
 now_open start kind s held r k h e place inner ref =
@@ -289,7 +289,7 @@ now_open start kind s held r k h e place inner ref =
       back = λ odd qs q w. let no : true ≡ false = odd in cc;
     }
   where
-    go : (us : Trees) → Room (in_array (outer start.place)) (opened_as start.place kind) start.output us → (q : Result (Unit {0}) Error) → opens (in_array (outer start.place)) (opened_as start.place kind) start.output (heads (opened_as start.place kind) us) q s → held.refused ≡ is_err q → Met (in_array (outer start.place)) (opened_as start.place kind) start.output s held no_trees us
+    go : (us : Trees) → Room (in_array (outer start.place)) (opened_as start.place kind) start.output us → (q : Result (Unit {0}) Refusal) → opens (in_array (outer start.place)) (opened_as start.place kind) start.output (heads (opened_as start.place kind) us) q s → held.refused ≡ is_err q → Met (in_array (outer start.place)) (opened_as start.place kind) start.output s held no_trees us
     go us m (Ok u) w f =
         let sh = opened_as start.place kind in
         let n = ap length (none_after sh) in

@@ -12,12 +12,12 @@ use Rattle.amqp_ser.specs.declared.kind.Kind.{Kind}
 use Rattle.amqp_ser.specs.declared.kind.Kind.TheVariants as kinds
 use Rattle.amqp_ser.proofs.Bools.{left_true, right_true, both, is_le, le_true}
 use Rattle.amqp_size.specs.Place.{meant, shape_of}
-use Rattle.amqp_size.specs.declared.place.Place.{Place}
-use Rattle.amqp_size.specs.declared.place.Place.TheVariants as place
+use Rattle.amqp_size.specs.WholePlace.{Place}
+use Rattle.amqp_size.specs.WholePlace as place
 use Rattle.amqp_size.specs.declared.place.Shape.{Shape}
 use Rattle.amqp_size.specs.declared.place.Shape.TheVariants as shape
-use Rattle.amqp_size.specs.declared.place.Under.{Under}
-use Rattle.amqp_size.specs.declared.place.Under.TheVariants as under
+use Rattle.amqp_size.specs.WholeUnder.{Under}
+use Rattle.amqp_size.specs.WholeUnder as under
 use Rattle.amqp_size.proofs.Whole.{refused_shape}
 use Rattle.amqp_wire.specs.Entries.{header, heads, first_constructor}
 use Rattle.amqp_wire.specs.Heads.{in_array, pick, bytes_at, opening, head, whole_head, counted_head, after_opening, small_heads}

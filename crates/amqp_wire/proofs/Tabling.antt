@@ -1,16 +1,16 @@
 -- The table of a compound of each kind, step by step.
 use Rattle.std.proofs.Common.{◌≡◌, ℕ, ◌+◌, ◌≤◌, inl, inr, List, [], ◌∷◌, ◌++◌, Option, Bool, true, false, Result, Ok, Err, length, refl, ap, sym, ◌∙◌, subst, append-nil}
-use Rattle.amqp_data.specs.declared.error.Error.{Error}
+use Rattle.amqp_size.specs.declared.refusal.Refusal.{Refusal}
 use Rattle.amqp_ser.specs.Tree.{Tree, no_trees, count}
 use Rattle.amqp_ser.specs.Compounds.{whole, complete}
 use Rattle.amqp_ser.specs.declared.kind.Kind.{Kind}
 use Rattle.amqp_ser.specs.declared.kind.Kind.TheVariants as kinds
 use Rattle.amqp_size.specs.Place.{outer, meant, rest, shape_of, con_of}
 use Rattle.amqp_size.specs.Counted.{at_place, size_permits, Holding, bare_parts}
-use Rattle.amqp_size.specs.declared.place.Place.TheVariants.{Root}
+use Rattle.amqp_size.specs.WholePlace.{Root}
 use Rattle.amqp_size.specs.declared.place.Shape.{Shape}
-use Rattle.amqp_size.specs.declared.place.Under.{Under}
-use Rattle.amqp_size.specs.declared.place.Under.TheVariants.{Plain}
+use Rattle.amqp_size.specs.WholeUnder.{Under}
+use Rattle.amqp_size.specs.WholeUnder.{Plain}
 use Rattle.amqp_wire.specs.Entries.{header, entries_each, places, made, made_fits}
 use Rattle.amqp_wire.specs.Listed.{appended, fills, listed, headers_permits, Lone, Tabled, tabled_as}
 use Rattle.amqp_wire.specs.Solid.{solid_each}
@@ -102,7 +102,7 @@ whole_tabled false start kind table after held ps n m len c k h t miss done a b 
     all_listed start kind table after held ps n m len c k h t miss a b d f p
 
 -- the same answers where the serializer stands at the same place over the same table
-pub permits_same : (start s : Headers) (o : Option Tree) (r : Result ℕ Error) (after : Headers) → s.size.place ≡ start.size.place → s.table.headers.items ≡ start.table.headers.items → headers_permits s o r after → headers_permits start o r after
+pub permits_same : (start s : Headers) (o : Option Tree) (r : Result ℕ Refusal) (after : Headers) → s.size.place ≡ start.size.place → s.table.headers.items ≡ start.table.headers.items → headers_permits s o r after → headers_permits start o r after
 permits_same start s o (Ok n) after e f h = (
   subst (λ x. Extends x after.table.headers.items) f h.0,
   (

@@ -1,13 +1,13 @@
 -- The bytes of a compound of each kind, step by step.
 use Rattle.std.proofs.Common.{◌≡◌, List, [], ◌∷◌, ◌++◌, Option, Some, None, Bool, true, false, Result, Ok, Err, length, refl, sym, ◌∙◌, subst}
-use Rattle.amqp_data.specs.declared.error.Error.{Error}
+use Rattle.amqp_size.specs.declared.refusal.Refusal.{Refusal}
 use Rattle.amqp_ser.specs.Tree.{Tree}
 use Rattle.amqp_ser.specs.Compounds.{whole, complete}
 use Rattle.amqp_ser.specs.declared.kind.Kind.{Kind}
 use Rattle.amqp_ser.specs.declared.kind.Kind.TheVariants as kinds
 use Rattle.amqp_size.specs.Place.{outer, inner_under}
-use Rattle.amqp_size.specs.declared.place.Place.{Place}
-use Rattle.amqp_size.specs.declared.place.Under.TheVariants as under
+use Rattle.amqp_size.specs.WholePlace.{Place}
+use Rattle.amqp_size.specs.WholeUnder as under
 use Rattle.amqp_wire.specs.Standing.{taken_as, opened_as, part_place, is_bare}
 use Rattle.amqp_wire.specs.Written.{Kept, Meets, Same, writes_tree, writer_permits, Written, written_as}
 use Rattle.amqp_wire.specs.declared.output.Output.{Output}
@@ -21,7 +21,7 @@ use Rattle.amqp_wire.proofs.Ends.{all_written, not_opened}
 use Rattle.amqp_wire.proofs.Standing.{part_taken}
 
 -- a part is taken as it is
-stands : (start : Writer) (kind : Kind) (before : Writer) (held : Writing) (ps : List (Option Tree)) (p : Option Tree) (r : Result (Unit {0}) Error) (after : Output) → is_bare kind ≡ false → Written start kind before.output held ps → before.place ≡ held.inner →
+stands : (start : Writer) (kind : Kind) (before : Writer) (held : Writing) (ps : List (Option Tree)) (p : Option Tree) (r : Result (Unit {0}) Refusal) (after : Output) → is_bare kind ≡ false → Written start kind before.output held ps → before.place ≡ held.inner →
     writes_tree (outer before.place) before.output (taken_as before.place p) r after → writes_tree (part_place (opened_as start.place kind)) before.output p r after
 stands start kind before held ps p r after k h at w =
     let t = part_taken start.place kind p k in
@@ -35,7 +35,7 @@ more_written start kind s after held new ps None h k r = absurd r
 more_written start kind s after held new ps (Some t) h k r = part_written start kind s after held new ps t h k r
 
 -- one part more
-pub part_more : (b : Bool) (start : Writer) (kind : Kind) (before : Writer) (after : Output) (held new : Writing) (ps : List (Option Tree)) (p : Option Tree) (part : Result (Unit {0}) Error) → is_bare kind ≡ b → part ≡ Ok tt → written_as b start kind before.output held ps → before.place ≡ held.inner → Kept before.output after →
+pub part_more : (b : Bool) (start : Writer) (kind : Kind) (before : Writer) (after : Output) (held new : Writing) (ps : List (Option Tree)) (p : Option Tree) (part : Result (Unit {0}) Refusal) → is_bare kind ≡ b → part ≡ Ok tt → written_as b start kind before.output held ps → before.place ≡ held.inner → Kept before.output after →
     writes_tree (outer before.place) before.output (taken_as before.place p) part after →
     new.place ≡ held.place → new.inner ≡ held.inner → new.refused ≡ held.refused → new.last.taken ≡ before.output.taken → new.last.len ≡ length before.output.out.items → written_as b start kind after new (ps ++ (p ∷ []))
 part_more true start kind before after held new ps p part k e h at kept w place inner ref taken len =
@@ -57,11 +57,11 @@ pub place_since : (b : Bool) (start : Writer) (kind : Kind) (s : Output) (held :
 place_since true start kind s held ps h = h.place
 place_since false start kind s held ps h = h.place
 
-refuses : (b : Place) (s after : Output) (p : Option Tree) (e : Error) → writes_tree b s p (Err e) after → (t : Tree) → p ≡ Some t → Meets b s t → ⊥
+refuses : (b : Place) (s after : Output) (p : Option Tree) (e : Refusal) → writes_tree b s p (Err e) after → (t : Tree) → p ≡ Some t → Meets b s t → ⊥
 refuses b s after p e w t q m = subst (λ o. writes_tree b s o (Err e) after) q w m
 
 -- the refusal of a part is one of the whole
-pub part_no : (b : Bool) (start : Writer) (kind : Kind) (before : Writer) (after cut : Output) (held : Writing) (ps : List (Option Tree)) (p : Option Tree) (part : Result (Unit {0}) Error) (e : Error) → is_bare kind ≡ b → part ≡ Err e → written_as b start kind before.output held ps → before.place ≡ held.inner → Kept start.output cut →
+pub part_no : (b : Bool) (start : Writer) (kind : Kind) (before : Writer) (after cut : Output) (held : Writing) (ps : List (Option Tree)) (p : Option Tree) (part : Result (Unit {0}) Refusal) (e : Refusal) → is_bare kind ≡ b → part ≡ Err e → written_as b start kind before.output held ps → before.place ≡ held.inner → Kept start.output cut →
     writes_tree (outer before.place) before.output (taken_as before.place p) part after → (rest : List (Option Tree)) → writer_permits start (whole kind (ps ++ (p ∷ rest))) (Err e) (record { place = under.Plain held.place; output = cut })
 part_no true start kind before after cut held ps p part e k is h at kept w rest =
     let here = subst (λ x. writes_tree (outer before.place) before.output (taken_as before.place p) x after) is w in
@@ -72,7 +72,7 @@ part_no false start kind before after cut held ps p part e k is h at kept w rest
     part_refused start kind before.output cut held ps p e (under.Plain held.place) k h kept refl (λ t q f. refuses (part_place (opened_as start.place kind)) before.output after p e there t q) rest
 
 -- a compound that could not be opened refuses each part
-pub closed_no : (b : Bool) (start : Writer) (kind : Kind) (s cut : Output) (held : Writing) (ps : List (Option Tree)) (p : Option Tree) (e : Error) → is_bare kind ≡ b → held.refused ≡ true → written_as b start kind s held ps → Kept start.output cut →
+pub closed_no : (b : Bool) (start : Writer) (kind : Kind) (s cut : Output) (held : Writing) (ps : List (Option Tree)) (p : Option Tree) (e : Refusal) → is_bare kind ≡ b → held.refused ≡ true → written_as b start kind s held ps → Kept start.output cut →
     (rest : List (Option Tree)) → writer_permits start (whole kind (ps ++ (p ∷ rest))) (Err e) (record { place = under.Plain held.place; output = cut })
 closed_no true start kind s cut held ps p e k r h kept rest = absurd (no_false (sym h.opened ∙ r))
 closed_no false start kind s cut held ps p e k r h kept rest =
@@ -84,7 +84,7 @@ ends true start kind s held ps k h at done open_one =
     subst (λ x. writer_permits start (whole x ps) (Ok tt) s) (sym is) (alone_written start s held ps h at (subst (λ x. complete x ps ≡ true) is done))
 ends false start kind s held ps k h at done open_one = all_written start kind s held ps k h at done open_one
 
-pub ends_closed : (b : Bool) (start : Writer) (kind : Kind) (s : Writer) (held : Writing) (ps : List (Option Tree)) (e : Error) → is_bare kind ≡ b → written_as b start kind s.output held ps → s.place ≡ under.Plain held.place → held.refused ≡ true → writer_permits start (whole kind ps) (Err e) s
+pub ends_closed : (b : Bool) (start : Writer) (kind : Kind) (s : Writer) (held : Writing) (ps : List (Option Tree)) (e : Refusal) → is_bare kind ≡ b → written_as b start kind s.output held ps → s.place ≡ under.Plain held.place → held.refused ≡ true → writer_permits start (whole kind ps) (Err e) s
 ends_closed true start kind s held ps e k h at r = absurd (no_false (sym h.opened ∙ r))
 ends_closed false start kind s held ps e k h at r = not_opened start kind s held ps e k h at r
 

@@ -5,8 +5,8 @@ use Rattle.amqp_ser.specs.Tree.{Tree, Trees, uint}
 use Rattle.amqp_ser.specs.Limits.{is_short}
 use Rattle.amqp_ser.specs.Scalars.{scalar_form}
 use Rattle.amqp_ser.specs.Encoding.{enc, payload, enc_each, payload_each, code_list}
-use Rattle.amqp_size.specs.declared.place.Place.{Place}
-use Rattle.amqp_size.specs.declared.place.Place.TheVariants.{Root, Inside, First, Element, Descriptor, Value}
+use Rattle.amqp_size.specs.WholePlace.{Place}
+use Rattle.amqp_size.specs.WholePlace.{Root, Inside, First, Element, Descriptor, Value}
 use Rattle.amqp_size.specs.declared.place.Shape.{Shape}
 use Rattle.amqp_size.specs.declared.place.Shape.TheVariants as shape
 use Rattle.amqp_wire.specs.declared.table.Header.{Header}

@@ -1,14 +1,14 @@
 -- What the first walk may answer: a tree's length, with its headers at the end of the table.
 use Rattle.std.specs.Prelude.{◌≡◌, ℕ, ◌+◌, ◌≤◌, ◌⊎◌, List, [], ◌∷◌, ◌++◌, Option, Some, None, Bool, true, false, Result, Ok, Err, length, slice_set}
-use Rattle.amqp_data.specs.declared.error.Error.{Error}
-use Rattle.amqp_data.specs.declared.error.Error.TheVariants.{OutOfMemory}
+use Rattle.amqp_size.specs.declared.refusal.Refusal.{Refusal}
+use Rattle.amqp_size.specs.declared.refusal.Refusal.TheVariants.{OutOfMemory}
 use Rattle.amqp_ser.specs.Tree.{Tree, Trees, count}
 use Rattle.amqp_ser.specs.Compounds.{all_trees, paired}
 use Rattle.amqp_ser.specs.declared.kind.Kind.{Kind}
 use Rattle.amqp_size.specs.Place.{outer, meant, rest, shape_of}
 use Rattle.amqp_size.specs.Counted.{size_permits, size_has, size_awaits, size_awaits_descriptor}
-use Rattle.amqp_size.specs.declared.place.Place.TheVariants.{Root}
-use Rattle.amqp_size.specs.declared.place.Under.TheVariants.{Plain}
+use Rattle.amqp_size.specs.WholePlace.{Root}
+use Rattle.amqp_size.specs.WholeUnder.{Plain}
 use Rattle.amqp_wire.specs.Entries.{entries, entries_each, places}
 use Rattle.amqp_wire.specs.Solid.{solid, solid_each}
 use Rattle.amqp_wire.specs.Standing.{is_bare}
@@ -33,11 +33,11 @@ listed None b a = ⊥
 listed (Some t) b a = (a ≡ b ++ entries t) × (solid t ≡ true)
 
 -- want of memory is no answer on the tree
-abbrev pub counts_tree : Headers → Option Tree → Result ℕ Error → Headers → Type 0
+abbrev pub counts_tree : Headers → Option Tree → Result ℕ Refusal → Headers → Type 0
 counts_tree s o (Ok n) after = size_permits s.size o (Ok n) after.size × listed (meant s.size.place o) s.table.headers.items after.table.headers.items
 counts_tree s o (Err e) after = ((e ≡ OutOfMemory) × (after.size.place ≡ Plain (rest (outer s.size.place)))) ⊎ size_permits s.size o (Err e) after.size
 
-abbrev pub headers_permits : Headers → Option Tree → Result ℕ Error → Headers → Type 0
+abbrev pub headers_permits : Headers → Option Tree → Result ℕ Refusal → Headers → Type 0
 headers_permits s o r after = Extends s.table.headers.items after.table.headers.items × counts_tree s o r after
 
 -- the table has the places of a compound, and the headers of its parts
@@ -82,6 +82,6 @@ abbrev pub headers_awaits_descriptor : Headers → Headers → Counting → Type
 headers_awaits_descriptor start s held = (size_awaits_descriptor start.size s.size held.size × (s.table.headers.items ≡ start.table.headers.items)) × (held.before ≡ length s.table.headers.items)
 
 -- a part's answer, or the refusal of the compound's place
-abbrev pub answered : Counting → Result ℕ Error → Result ℕ Error → Type 0
+abbrev pub answered : Counting → Result ℕ Refusal → Result ℕ Refusal → Type 0
 answered held part (Ok n) = (part ≡ Ok n) × (held.missed ≡ false)
 answered held part (Err e) = (e ≡ OutOfMemory) ⊎ (part ≡ Err e)

@@ -2,8 +2,8 @@
 use Rattle.std.specs.Prelude.{ℕ, ◌*◌, List, Bool, true, false, ◌&&◌, length, nat_le, is_some}
 use Rattle.amqp_ser.specs.Tree.{Tree, Trees, Pairs, scalar, list, array, map, described, variant, lazy, transparent, no_trees, more, no_pairs, pair, count, pair_count}
 use Rattle.amqp_ser.specs.Encoding.{enc_each, enc_pairs, con}
-use Rattle.amqp_size.specs.declared.place.Place.{Place}
-use Rattle.amqp_size.specs.declared.place.Place.TheVariants as place
+use Rattle.amqp_size.specs.WholePlace.{Place}
+use Rattle.amqp_size.specs.WholePlace as place
 
 -- no more parts than bytes
 abbrev pub dense : ℕ → List ℕ → Bool

@@ -5,10 +5,10 @@ use Rattle.amqp_ser.specs.Composites.{descriptor_of}
 use Rattle.amqp_ser.specs.declared.kind.Kind.{Kind}
 use Rattle.amqp_ser.specs.declared.kind.Kind.TheVariants as kinds
 use Rattle.amqp_size.specs.Place.{outer, meant, shape_of}
-use Rattle.amqp_size.specs.declared.place.Place.{Place}
-use Rattle.amqp_size.specs.declared.place.Place.TheVariants as places
-use Rattle.amqp_size.specs.declared.place.Under.{Under}
-use Rattle.amqp_size.specs.declared.place.Under.TheVariants as under
+use Rattle.amqp_size.specs.WholePlace.{Place}
+use Rattle.amqp_size.specs.WholePlace as places
+use Rattle.amqp_size.specs.WholeUnder.{Under}
+use Rattle.amqp_size.specs.WholeUnder as under
 use Rattle.amqp_size.specs.declared.place.Shape.{Shape}
 use Rattle.amqp_size.specs.declared.place.Shape.TheVariants as shape
 

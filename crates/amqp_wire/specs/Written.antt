@@ -1,16 +1,16 @@
 -- What the second walk may answer: where the table and the room are a tree's, its bytes.
 use Rattle.std.specs.Prelude.{◌≡◌, ℕ, ◌+◌, ◌<◌, ◌≤◌, ◌⊎◌, List, [], ◌∷◌, ◌++◌, Option, Some, None, Bool, true, false, Result, Ok, Err, length, drop}
 use Rattle.std.specs.Vec.{vec_capacity}
-use Rattle.amqp_data.specs.declared.error.Error.{Error}
+use Rattle.amqp_size.specs.declared.refusal.Refusal.{Refusal}
 use Rattle.amqp_ser.specs.Tree.{Tree, Trees, Descriptor, described}
 use Rattle.amqp_ser.specs.Writable.{within, within_each}
 use Rattle.amqp_ser.specs.Compounds.{all_trees, paired}
 use Rattle.amqp_ser.specs.declared.kind.Kind.{Kind}
 use Rattle.amqp_ser.proofs.Joins.{join}
 use Rattle.amqp_size.specs.Place.{outer, inner_under}
-use Rattle.amqp_size.specs.declared.place.Place.{Place}
-use Rattle.amqp_size.specs.declared.place.Place.TheVariants as places
-use Rattle.amqp_size.specs.declared.place.Under.TheVariants.{Plain, Nothing}
+use Rattle.amqp_size.specs.WholePlace.{Place}
+use Rattle.amqp_size.specs.WholePlace as places
+use Rattle.amqp_size.specs.WholeUnder.{Plain, Nothing}
 use Rattle.amqp_size.specs.declared.place.Shape.{Shape}
 use Rattle.amqp_size.specs.declared.place.Shape.TheVariants.{Refused}
 use Rattle.amqp_wire.specs.Entries.{entries, entries_each, heads}
@@ -33,7 +33,7 @@ pub record Kept (s after : Output) : Type 0 where
   pub grown : Extends s.out.items after.out.items
 
 -- these bytes are written, or there was no room
-abbrev pub puts : Output → List ℕ → Result (Unit {0}) Error → Output → Type 0
+abbrev pub puts : Output → List ℕ → Result (Unit {0}) Refusal → Output → Type 0
 puts s bytes (Ok u) after = after.out.items ≡ s.out.items ++ bytes
 puts s bytes (Err e) after = vec_capacity s.out < length s.out.items + length bytes
 
@@ -43,11 +43,11 @@ nexts s None after = length s.table.items ≤ s.taken
 nexts s (Some h) after = (drop s.taken s.table.items ≡ h ∷ drop after.taken after.table.items) × (after.taken ≡ s.taken + 1)
 
 -- so many headers were taken and these bytes written, or there was no room
-abbrev pub leads : Output → ℕ → List ℕ → Result (Unit {0}) Error → Output → Type 0
+abbrev pub leads : Output → ℕ → List ℕ → Result (Unit {0}) Refusal → Output → Type 0
 leads s n bytes (Ok u) after = (after.out.items ≡ s.out.items ++ bytes) × (after.taken ≡ s.taken + n)
 leads s n bytes (Err e) after = vec_capacity s.out < length s.out.items + length bytes
 
-abbrev pub opens : Bool → Shape → Output → List Header → Result (Unit {0}) Error → Output → Type 0
+abbrev pub opens : Bool → Shape → Output → List Header → Result (Unit {0}) Refusal → Output → Type 0
 opens a shape s hs r after = leads s (length hs) (opening a shape hs) r after
 
 -- the table and the room are this tree's
@@ -62,13 +62,13 @@ pub record Wrote (p : Place) (s : Output) (t : Tree) (after : Output) : Type 0 w
   pub out : after.out.items ≡ s.out.items ++ bytes_at (in_array p) t
   pub taken : after.taken ≡ s.taken + length (entries t)
 
-abbrev pub writes_tree : Place → Output → Option Tree → Result (Unit {0}) Error → Output → Type 0
+abbrev pub writes_tree : Place → Output → Option Tree → Result (Unit {0}) Refusal → Output → Type 0
 writes_tree p s None (Ok u) after = ⊥
 writes_tree p s None (Err e) after = Unit {0}
 writes_tree p s (Some t) (Ok u) after = Meets p s t → Wrote p s t after
 writes_tree p s (Some t) (Err e) after = Meets p s t → ⊥
 
-abbrev pub writer_permits : Writer → Option Tree → Result (Unit {0}) Error → Writer → Type 0
+abbrev pub writer_permits : Writer → Option Tree → Result (Unit {0}) Refusal → Writer → Type 0
 writer_permits s o r after = Kept s.output after.output × ((after.place ≡ Plain (outer s.place)) × writes_tree (outer s.place) s.output (taken_as s.place o) r after.output)
 
 -- the table and the room are those of a compound of these parts

@@ -6,9 +6,8 @@ ghost use Rattle.amqp_ser.specs.Tree.{Trees, uint};
 
 use crate::output::Output;
 use crate::table::Header;
-use amqp_data::Error;
 use amqp_ser::Fixed;
-use amqp_size::Shape;
+use amqp_size::{Refusal, Shape};
 
 /// The codes of a header.
 #[derive(Clone, Copy, Debug)]
@@ -31,7 +30,7 @@ impl Output {
 
     /// Writes a size and a count, in one byte each where both have room there.
     #[inline(always)]
-    fn put_counted(&mut self, short: u8, long: u8, header: Header) -> Result<(), Error>
+    fn put_counted(&mut self, short: u8, long: u8, header: Header) -> Result<(), Refusal>
         ensures kept { Kept self.old self.new }
         ensures taken { self.new.taken ≡ self.old.taken }
         ensures written { small header → puts self.old (counted_head short long header.len header.count) result self.new }
@@ -46,7 +45,7 @@ impl Output {
 
     /// Writes a header by itself.
     #[inline(always)]
-    fn put_whole_head(&mut self, style: Style, header: Header) -> Result<(), Error>
+    fn put_whole_head(&mut self, style: Style, header: Header) -> Result<(), Refusal>
         ensures kept { Kept self.old self.new }
         ensures taken { self.new.taken ≡ self.old.taken }
         ensures written { small header → puts self.old (whole_head style header.len header.count) result self.new }
@@ -65,7 +64,7 @@ impl Output {
 
     /// Writes a header.
     #[inline(never)]
-    fn put_head(&mut self, in_array: bool, style: Style, header: Header) -> Result<(), Error>
+    fn put_head(&mut self, in_array: bool, style: Style, header: Header) -> Result<(), Refusal>
         ensures kept { Kept self.old self.new }
         ensures taken { self.new.taken ≡ self.old.taken }
         ensures written { small header → puts self.old (head in_array style header) result self.new }
@@ -81,7 +80,7 @@ impl Output {
 
     /// Takes the next header and writes it, and gives its constructor.
     #[inline(always)]
-    fn put_next(&mut self, in_array: bool, style: Style) -> Result<Option<u8>, Error>
+    fn put_next(&mut self, in_array: bool, style: Style) -> Result<Option<u8>, Refusal>
         ensures kept { Kept self.old self.new }
         ensures written { (h : Header) (rest : List Header) → drop self.old.taken self.old.table.items ≡ h ∷ rest → small h →
             MatchResult result
@@ -89,7 +88,7 @@ impl Output {
             (λ _. vec_capacity self.old.out < length self.old.out.items + length (head in_array style h)) }
     {
         match self.next() {
-            None => Err(Error::InvalidValue),
+            None => Err(Refusal::InvalidValue),
             Some(header) => {
                 self.put_head(in_array, style, header)?;
                 Ok(header.constructor)
@@ -99,7 +98,7 @@ impl Output {
 
     /// Opens a list or a map.
     #[inline(always)]
-    fn open_plain(&mut self, in_array: bool, style: Style) -> Result<(), Error>
+    fn open_plain(&mut self, in_array: bool, style: Style) -> Result<(), Refusal>
         ensures kept { Kept self.old self.new }
         ensures opened { (h : Header) (rest : List Header) → drop self.old.taken self.old.table.items ≡ h ∷ rest → small h →
             leads self.old 1 (head in_array style h) result self.new }
@@ -111,7 +110,7 @@ impl Output {
     }
 
     /// Opens a variant of one value.
-    fn open_only(&mut self, in_array: bool, index: u32) -> Result<(), Error>
+    fn open_only(&mut self, in_array: bool, index: u32) -> Result<(), Refusal>
         ensures kept { Kept self.old self.new }
         ensures opened { (h : Header) (rest : List Header) → drop self.old.taken self.old.table.items ≡ h ∷ rest → small h →
             leads self.old 1 (head in_array Style.Map h ++ scalar_form (uint index)) result self.new × IfOk result (λ _. drop self.new.taken self.new.table.items ≡ rest) }
@@ -123,7 +122,7 @@ impl Output {
     }
 
     /// Opens a variant of fields.
-    fn open_fields(&mut self, in_array: bool, index: u32) -> Result<(), Error>
+    fn open_fields(&mut self, in_array: bool, index: u32) -> Result<(), Refusal>
         ensures kept { Kept self.old self.new }
         ensures opened { (h g : Header) (rest : List Header) → drop self.old.taken self.old.table.items ≡ h ∷ (g ∷ rest) → small h → small g →
             leads self.old 2 ((head in_array Style.Map h ++ scalar_form (uint index)) ++ head false Style.List g) result self.new }
@@ -136,7 +135,7 @@ impl Output {
 
     /// Opens an array.
     #[inline(always)]
-    fn open_array(&mut self, in_array: bool) -> Result<(), Error>
+    fn open_array(&mut self, in_array: bool) -> Result<(), Refusal>
         ensures kept { Kept self.old self.new }
         ensures opened { (h : Header) (rest : List Header) → drop self.old.taken self.old.table.items ≡ h ∷ rest → small h →
             leads self.old 1 (head in_array Style.Array h ++ code_list h.constructor) result self.new }
@@ -150,13 +149,13 @@ impl Output {
 
     /// Opens a compound: writes what stands before its parts.
     #[inline(never)]
-    pub fn open(&mut self, in_array: bool, shape: Shape) -> Result<(), Error>
+    pub fn open(&mut self, in_array: bool, shape: Shape) -> Result<(), Refusal>
         ensures kept { Kept self.old self.new }
         ensures opened { (ts : Trees) → Room in_array shape self.old ts → opens in_array shape self.old (heads shape ts) result self.new }
         ensures none { shape ≡ Shape.Refused → is_err result ≡ true }
     {
         match shape {
-            Shape::Refused | Shape::Bare => Err(Error::InvalidValue),
+            Shape::Refused | Shape::Bare => Err(Refusal::InvalidValue),
             Shape::Transparent => Ok(()),
             Shape::List => self.open_plain(in_array, Style::List),
             Shape::Map => self.open_plain(in_array, Style::Map),

@@ -4,10 +4,9 @@ ghost use Rattle.std.specs.Prelude.{◌≡◌, ◌≤◌, ◌++◌, ◌∷◌, [
 ghost use Rattle.amqp_ser.specs.Tree.{Tree};
 
 use crate::table::{Header, Table};
-use amqp_data::Error;
 use amqp_ser::{Fixed, Kind, Mark, Serializer};
 use amqp_size::width::LONGEST;
-use amqp_size::{Open, SizeSerializer};
+use amqp_size::{Open, Refusal, SizeSerializer};
 use std::alloc::Global;
 
 /// Counts the bytes of values, and lists the headers of their compounds.
@@ -46,8 +45,8 @@ fn limited(sum: usize) -> u32
 }
 
 impl Headers {
-    ghost use Rattle.amqp_size.specs.declared.place.Under.TheVariants.{Plain};
-    ghost use Rattle.amqp_size.specs.declared.place.Place.TheVariants.{Root};
+    ghost use Rattle.amqp_size.specs.WholeUnder.{Plain};
+    ghost use Rattle.amqp_size.specs.WholePlace.{Root};
 
     /// A first walk that has met nothing.
     #[inline(always)]
@@ -85,18 +84,18 @@ impl Counting {
 
     /// The answer on a part, or the refusal of the compound's place.
     #[inline(always)]
-    fn answer(&self, part: Result<usize, Error>) -> Result<usize, Error>
+    fn answer(&self, part: Result<usize, Refusal>) -> Result<usize, Refusal>
         ensures { answered self.now part result }
     {
         if self.missed {
-            return Err(Error::OutOfMemory);
+            return Err(Refusal::OutOfMemory);
         }
         part
     }
 }
 
 impl Serializer for Headers {
-    ghost use Rattle.amqp_data.specs.declared.error.Error.TheVariants.{InvalidValue};
+    ghost use Rattle.amqp_size.specs.declared.refusal.Refusal.TheVariants.{InvalidValue};
     ghost use Rattle.amqp_wire.specs.Listed.{headers_permits, headers_has, headers_awaits, headers_awaits_descriptor};
     ghost use Rattle.amqp_ser.specs.Compounds.{whole};
     ghost use Rattle.amqp_ser.specs.Composites.{as_described, descriptor_of};
@@ -104,7 +103,7 @@ impl Serializer for Headers {
 
     type Ok = usize;
 
-    type Error = Error;
+    type Error = Refusal;
 
     type Open = Counting;
 
@@ -119,17 +118,22 @@ impl Serializer for Headers {
     ghost is_misuse = { λ e. e ≡ InvalidValue };
 
     #[inline(always)]
-    fn serialize_fixed(&mut self, fixed: Fixed) -> Result<usize, Error> {
+    fn serialize_fixed(&mut self, fixed: Fixed) -> Result<usize, Refusal> {
         self.size.serialize_fixed(fixed)
     }
 
     #[inline(always)]
-    fn serialize_str(&mut self, v: &str) -> Result<usize, Error> {
+    fn serialize_null(&mut self) -> Result<usize, Refusal> {
+        self.size.serialize_null()
+    }
+
+    #[inline(always)]
+    fn serialize_str(&mut self, v: &str) -> Result<usize, Refusal> {
         self.size.serialize_str(v)
     }
 
     #[inline(always)]
-    fn serialize_bytes(&mut self, v: &[u8]) -> Result<usize, Error> {
+    fn serialize_bytes(&mut self, v: &[u8]) -> Result<usize, Refusal> {
         self.size.serialize_bytes(v)
     }
 
@@ -154,13 +158,25 @@ impl Serializer for Headers {
     }
 
     #[inline(always)]
+    fn vacant(&self) -> Counting {
+        Counting {
+            size: self.size.vacant(),
+            at: 0,
+            missed: true,
+            before: 0,
+            last: 0,
+            parts: 0,
+        }
+    }
+
+    #[inline(always)]
     fn begin_part(&mut self, held: &mut Counting) {
         held.before = self.table.len();
         self.size.begin_part(&mut held.size);
     }
 
     #[inline(always)]
-    fn end_part(&mut self, held: &mut Counting, part: Result<usize, Error>) -> Result<(), Error>
+    fn end_part(&mut self, held: &mut Counting, part: Result<usize, Refusal>) -> Result<(), Refusal>
         ensures step { (start : Headers) (kind : Kind) (before : Headers) (ps : List (Option Tree)) (p : Option Tree) → headers_awaits start kind before held.old ps → headers_permits before p part self.old →
             MatchResult result
             (λ _. headers_has start kind self.new held.new (ps ++ (p ∷ [])))
@@ -192,11 +208,11 @@ impl Serializer for Headers {
     fn end_descriptor(
         &mut self,
         held: &mut Counting,
-        part: Result<usize, Error>,
-    ) -> Result<(), Error>
+        part: Result<usize, Refusal>,
+    ) -> Result<(), Refusal>
         ensures { (start before : Headers) (d : Option Tree) → headers_awaits_descriptor start before held.old → headers_permits before d part self.old →
             MatchResult result
-            (λ _. (mid : Headers) × (headers_has mid Kind.Bare self.new held.new [] × ((t : Option Tree) (r : Result ℕ Error) (after : Headers) →
+            (λ _. (mid : Headers) × (headers_has mid Kind.Bare self.new held.new [] × ((t : Option Tree) (r : Result ℕ Refusal) (after : Headers) →
             headers_permits mid t r after → headers_permits start (as_described (descriptor_of d) t) r after)))
             (λ e. headers_has start Kind.Bare self.new held.new [] × ((t : Option Tree) →
             headers_permits start (as_described (descriptor_of d) t) (Err e) self.new)) }
@@ -219,12 +235,12 @@ impl Serializer for Headers {
     }
 
     #[inline(always)]
-    fn misuse(&mut self, held: &mut Counting) -> Error {
+    fn misuse(&mut self, held: &mut Counting) -> Refusal {
         self.size.misuse(&mut held.size)
     }
 
     #[inline(always)]
-    fn end(&mut self, held: Counting) -> Result<usize, Error> {
+    fn end(&mut self, held: Counting) -> Result<usize, Refusal> {
         let Counting {
             size,
             at,
@@ -234,7 +250,7 @@ impl Serializer for Headers {
             parts,
         } = held;
         if missed {
-            return Err(Error::OutOfMemory);
+            return Err(Refusal::OutOfMemory);
         }
         let shape = size.shape();
         let header = Header {

@@ -4,9 +4,8 @@ ghost use Rattle.std.specs.Prelude.{◌≡◌, ◌≤◌, ◌++◌, ◌∷◌, [
 ghost use Rattle.std.specs.Vec.{vec_capacity};
 
 use crate::table::Header;
-use amqp_data::Error;
 use amqp_ser::Fixed;
-use amqp_size::Form;
+use amqp_size::{Form, Refusal};
 
 /// How far an output has come.
 #[derive(Clone, Copy, Debug)]
@@ -101,31 +100,31 @@ impl Output {
 
     /// Writes bytes, where there is room.
     #[inline(always)]
-    pub fn put(&mut self, bytes: &[u8]) -> Result<(), Error>
+    pub fn put(&mut self, bytes: &[u8]) -> Result<(), Refusal>
         ensures kept { Kept self.old self.new }
         ensures taken { self.new.taken ≡ self.old.taken }
         ensures written { puts self.old bytes.now result self.new }
-        ensures full { IfErr result (λ e. e ≡ Error.TooLong) }
+        ensures full { IfErr result (λ e. e ≡ Refusal.TooLong) }
     {
         if bytes.len() > self.out.capacity() - self.out.len() {
-            return Err(Error::TooLong);
+            return Err(Refusal::TooLong);
         }
         match self.out.extend_from_slice(bytes) {
             Ok(()) => Ok(()),
-            Err(_) => Err(Error::TooLong),
+            Err(_) => Err(Refusal::TooLong),
         }
     }
 
     /// Writes a few bytes one by one, where there is room.
     #[inline(always)]
-    pub fn put_few(&mut self, bytes: &[u8]) -> Result<(), Error>
+    pub fn put_few(&mut self, bytes: &[u8]) -> Result<(), Refusal>
         ensures kept { Kept self.old self.new }
         ensures taken { self.new.taken ≡ self.old.taken }
         ensures written { puts self.old bytes.now result self.new }
-        ensures full { IfErr result (λ e. e ≡ Error.TooLong) }
+        ensures full { IfErr result (λ e. e ≡ Refusal.TooLong) }
     {
         if bytes.len() > self.out.capacity() - self.out.len() {
-            return Err(Error::TooLong);
+            return Err(Refusal::TooLong);
         }
         for byte in bytes {
             self.out.push_reserved(*byte);
@@ -135,12 +134,12 @@ impl Output {
 
     /// Writes a form by itself.
     #[inline(always)]
-    fn put_form(&mut self, form: Form) -> Result<(), Error>
+    fn put_form(&mut self, form: Form) -> Result<(), Refusal>
         requires { form.width ≤ 8 }
         ensures kept { Kept self.old self.new }
         ensures taken { self.new.taken ≡ self.old.taken }
         ensures written { puts self.old (form_bytes form) result self.new }
-        ensures full { IfErr result (λ e. e ≡ Error.TooLong) }
+        ensures full { IfErr result (λ e. e ≡ Refusal.TooLong) }
     {
         let [a, b, c, d, e, f, g, h] = form.bits.to_be_bytes();
         match form.width {
@@ -158,12 +157,12 @@ impl Output {
 
     /// Writes the bytes after a form's code.
     #[inline(always)]
-    fn put_payload(&mut self, form: Form) -> Result<(), Error>
+    fn put_payload(&mut self, form: Form) -> Result<(), Refusal>
         requires { form.width ≤ 8 }
         ensures kept { Kept self.old self.new }
         ensures taken { self.new.taken ≡ self.old.taken }
         ensures written { puts self.old (form_payload form) result self.new }
-        ensures full { IfErr result (λ e. e ≡ Error.TooLong) }
+        ensures full { IfErr result (λ e. e ≡ Refusal.TooLong) }
     {
         let bytes = form.bits.to_be_bytes();
         self.put(&bytes[8 - form.width..])
@@ -171,11 +170,11 @@ impl Output {
 
     /// Writes a value of fixed width.
     #[inline(always)]
-    pub fn put_fixed(&mut self, in_array: bool, fixed: Fixed) -> Result<(), Error>
+    pub fn put_fixed(&mut self, in_array: bool, fixed: Fixed) -> Result<(), Refusal>
         ensures kept { Kept self.old self.new }
         ensures taken { self.new.taken ≡ self.old.taken }
         ensures written { puts self.old (pick in_array (scalar_form (fixed_scalar fixed)) (scalar_payload (fixed_scalar fixed))) result self.new }
-        ensures full { IfErr result (λ e. e ≡ Error.TooLong) }
+        ensures full { IfErr result (λ e. e ≡ Refusal.TooLong) }
     {
         if in_array {
             self.put_payload(Form::in_array(fixed))
@@ -186,12 +185,12 @@ impl Output {
 
     /// Writes the length of a text or a binary, with the code of a length of one byte or that of four.
     #[inline(always)]
-    fn put_length(&mut self, in_array: bool, short: u8, long: u8, n: usize) -> Result<(), Error>
+    fn put_length(&mut self, in_array: bool, short: u8, long: u8, n: usize) -> Result<(), Refusal>
         requires { n ≤ 4294967291 }
         ensures kept { Kept self.old self.new }
         ensures taken { self.new.taken ≡ self.old.taken }
         ensures written { puts self.old (text_head in_array short long n) result self.new }
-        ensures full { IfErr result (λ e. e ≡ Error.TooLong) }
+        ensures full { IfErr result (λ e. e ≡ Refusal.TooLong) }
     {
         let [a, b, c, d] = (n as u32).to_be_bytes();
         if in_array {
@@ -204,6 +203,20 @@ impl Output {
         }
     }
 
+    /// Writes null.
+    #[inline(always)]
+    pub fn put_null(&mut self, in_array: bool) -> Result<(), Refusal>
+        ensures kept { Kept self.old self.new }
+        ensures taken { self.new.taken ≡ self.old.taken }
+        ensures written { puts self.old (pick in_array (0x40 ∷ []) []) result self.new }
+        ensures full { IfErr result (λ e. e ≡ Refusal.TooLong) }
+    {
+        if in_array {
+            return Ok(());
+        }
+        self.put_few(&[0x40])
+    }
+
     /// Writes a text or a binary, with the code of a length of one byte or that of four.
     #[inline(always)]
     pub fn put_text(
@@ -212,12 +225,12 @@ impl Output {
         short: u8,
         long: u8,
         bytes: &[u8],
-    ) -> Result<(), Error>
+    ) -> Result<(), Refusal>
         requires { length bytes.now ≤ 4294967291 }
         ensures kept { Kept self.old self.new }
         ensures taken { self.new.taken ≡ self.old.taken }
         ensures written { puts self.old (text_at in_array short long bytes.now) result self.new }
-        ensures full { IfErr result (λ e. e ≡ Error.TooLong) }
+        ensures full { IfErr result (λ e. e ≡ Refusal.TooLong) }
     {
         self.put_length(in_array, short, long, bytes.len())?;
         self.put(bytes)
@@ -225,11 +238,11 @@ impl Output {
 
     /// Writes bytes after their code, or alone in an array.
     #[inline(always)]
-    pub fn put_exact(&mut self, in_array: bool, code: u8, bytes: &[u8]) -> Result<(), Error>
+    pub fn put_exact(&mut self, in_array: bool, code: u8, bytes: &[u8]) -> Result<(), Refusal>
         ensures kept { Kept self.old self.new }
         ensures taken { self.new.taken ≡ self.old.taken }
         ensures written { puts self.old (pick in_array (code ∷ bytes.now) bytes.now) result self.new }
-        ensures full { IfErr result (λ e. e ≡ Error.TooLong) }
+        ensures full { IfErr result (λ e. e ≡ Refusal.TooLong) }
     {
         if !in_array {
             self.put_few(&[code])?;

@@ -1,5 +1,6 @@
 //! A value's bytes.
 
+ghost use Rattle.std.specs.Prelude.{◌≡◌, Err, true, false};
 ghost use Rattle.amqp_ser.specs.Permitted.{AreBytesOf};
 ghost use Rattle.amqp_wire.specs.Answer.{contents};
 
@@ -7,6 +8,7 @@ use crate::headers::Headers;
 use crate::writer::Writer;
 use amqp_data::Error;
 use amqp_ser::Serialize;
+use amqp_size::Refusal;
 use std::alloc::Global;
 
 /// The value's bytes, exactly where its tree can be written.
@@ -29,12 +31,21 @@ pub fn to_vec<T: Serialize>(alloc: Global, value: &T) -> Result<Vec<u8>, Error>
 {
     let mut headers = Headers::new(alloc);
     let answer = value.serialize(&mut headers);
-    if headers.is_refused() {
-        return Err(Error::OutOfMemory);
-    }
-    let len = answer?;
+    let len = unless_refused(&headers, answer)?;
     let out = Vec::with_capacity(alloc, len)?;
     let mut writer = Writer::new(headers.into_headers(), out);
     value.serialize(&mut writer)?;
     Ok(writer.into_bytes())
+}
+
+// The first walk's answer, but out of memory where a growth of the table was refused, whatever came of that later.
+#[inline(always)]
+fn unless_refused(headers: &Headers, answer: Result<usize, Refusal>) -> Result<usize, Refusal>
+    ensures marked { headers.now.table.refused ≡ true → result ≡ Err Refusal.OutOfMemory }
+    ensures unmarked { headers.now.table.refused ≡ false → result ≡ answer }
+{
+    if headers.is_refused() {
+        return Err(Refusal::OutOfMemory);
+    }
+    answer
 }

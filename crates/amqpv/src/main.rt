@@ -4,25 +4,34 @@
 
 use serde_amqp::read::IoReader;
 use serde_amqp::{Error, IoWriter, run_cut, run_lines};
+use std::env::{Env, FillError};
+use std::io;
 use std::io::BufReader;
 use std::process::ExitCode;
-use std::{env, io};
 
-fn main(rt: HostRuntime) -> io::Result<ExitCode> {
-    let mut words = env::args(&rt)?.skip(1);
-    let cut = match words.next() {
-        None => Some(false),
-        Some(word) => (word.as_str() == "cut" && words.next().is_none()).then_some(true),
-    };
-    let Some(cut) = cut else {
-        eprintln!(rt; "usage: amqpv [cut]")?;
-        return Ok(ExitCode::from(2));
+fn main(rt: HostRuntime) -> ExitCode {
+    let Some(cut) = asks_for_cut(&rt) else {
+        let _ = eprintln!(rt; "usage: amqpv [cut]");
+        return ExitCode::from(2);
     };
     let Err(error) = run(&rt, cut) else {
-        return Ok(ExitCode::SUCCESS);
+        return ExitCode::SUCCESS;
     };
-    eprintln!(rt; "amqpv: {error}")?;
-    Ok(ExitCode::from(1))
+    let _ = eprintln!(rt; "amqpv: {error}");
+    ExitCode::from(1)
+}
+
+// Whether the one argument `cut` is there: none where there are any others.
+fn asks_for_cut(rt: &impl Env) -> Option<bool> {
+    let mut word = [0; 3];
+    match rt.arg(1, &mut word) {
+        Err(FillError::NotPresent) => Some(false),
+        Ok(3) if word == *b"cut" => match rt.arg(2, &mut word) {
+            Err(FillError::NotPresent) => Some(true),
+            _ => None,
+        },
+        _ => None,
+    }
 }
 
 fn run<R: Input + Print + AllocGlobal>(rt: &R, cut: bool) -> Result<(), Error> {

@@ -62,6 +62,10 @@ impl Serializer for NodeCounter {
         add(mem::replace(&mut self.front, 0), 1)
     }
 
+    fn serialize_null(&mut self) -> Result<u64, Error> {
+        add(mem::replace(&mut self.front, 0), 1)
+    }
+
     fn serialize_str(&mut self, _v: &str) -> Result<u64, Error> {
         add(mem::replace(&mut self.front, 0), 1)
     }
@@ -85,6 +89,15 @@ impl Serializer for NodeCounter {
             own,
             inner,
             count,
+            before: 0,
+        }
+    }
+
+    fn vacant(&self) -> Counting {
+        Counting {
+            own: 0,
+            inner: 0,
+            count: 0,
             before: 0,
         }
     }

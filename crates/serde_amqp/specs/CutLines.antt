@@ -2,7 +2,7 @@
 use Rattle.std.specs.Prelude.{ℕ, List, [], ◌∷◌, ◌++◌, length}
 use Rattle.std.specs.List.{flat_map}
 use Rattle.std.specs.Fmt.{decimal}
-use Rattle.serde_amqp.specs.Hexadecimal.{hex}
+use Rattle.amqp_data.specs.Hexadecimal.{hex}
 
 -- the line of a frame: its length, a space, its bytes in hexadecimal, and 0A
 unfoldable pub cut_line : List ℕ → List ℕ

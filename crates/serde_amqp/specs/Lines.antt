@@ -8,7 +8,7 @@ use Rattle.amqp_ser.specs.Tree.{string, Tree, scalar, list, trees_of}
 use Rattle.amqp_ser.specs.Encoding.{enc}
 use Rattle.amqp_value.specs.Image.{image}
 use Rattle.amqp_value.specs.Text.{text_of}
-use Rattle.serde_amqp.specs.Hexadecimal.{hex}
+use Rattle.amqp_data.specs.Hexadecimal.{hex}
 
 -- the texts that these point to
 abbrev pub texts : List (Bor (List ℕ)) → List (List ℕ)

@@ -15,7 +15,8 @@ use std::alloc::Global;
 
 /// Prints a line for each frame of the input, as it is taken, up to the input's end.
 ///
-/// The line is the frame's length in decimal, a space, its bytes in lower-case hexadecimal, and 0A.
+/// The line is the frame's length in decimal, a space, its bytes in lower-case hexadecimal, and 0A. At the
+/// input's end it flushes.
 ///
 /// # Encoding
 ///
@@ -47,6 +48,7 @@ pub fn run_cut<R: Read, W: Write>(
         Prints s (W.written writer.old) (W.written writer.new) (λ rest. rest ≡ []))) }
     ensures refused { IfErr result (λ e. IfSome (R.left reader.old) (λ s.
         CutRefuses s (W.written writer.old) (W.written writer.new) e)) }
+    ensures flushed { OnOk result (W.flushed writer.new) }
     // When each answer comes.
     ensures exact { IfSome (R.left reader.old) (λ s. CutDecidedBy s result) }
     ensures io { IsErrOf result Error.Io → Failed (R.failures reader.old) (R.failures reader.new)
@@ -71,6 +73,7 @@ fn print_frames<R: Read, W: Write>(
         Prints s (W.written writer.old) (W.written writer.new) (λ rest. rest ≡ []))) }
     ensures refused { IfErr result (λ e. IfSome (R.left reader.old) (λ s.
         CutRefuses s (W.written writer.old) (W.written writer.new) e)) }
+    ensures flushed { OnOk result (W.flushed writer.new) }
     ensures io { IsErrOf result Error.Io → Failed (R.failures reader.old) (R.failures reader.new)
         ⊎ Failed (W.failures writer.old) (W.failures writer.new) }
     ensures reads { R.failures reader.old ≤ R.failures reader.new }
@@ -97,6 +100,7 @@ fn print_next<R: Read, W: Write>(
     ensures done { result ≡ Ok false → IsAtEnd (R.left reader.old)
         × Keeps (R.left reader.old) (R.left reader.new)
         × Keeps (W.written writer.old) (W.written writer.new) }
+    ensures flushed { result ≡ Ok false → W.flushed writer.new }
     ensures refused { IfErr result (λ e. IfSome (R.left reader.old) (λ s.
         StepRefuses s (W.written writer.old) (W.written writer.new) e)) }
     ensures io { IsErrOf result Error.Io → Failed (R.failures reader.old) (R.failures reader.new)
@@ -117,6 +121,7 @@ fn print_next<R: Read, W: Write>(
 // Ends a run that took as many frames as it may.
 fn finish<R: Read, W: Write>(reader: &mut R, writer: &mut W) -> Result<(), Error>
     ensures done { OnOk result (IsAtEnd (R.left reader.old)) }
+    ensures flushed { OnOk result (W.flushed writer.new) }
     ensures left { Keeps (R.left reader.old) (R.left reader.new) }
     ensures written { Keeps (W.written writer.old) (W.written writer.new) }
     ensures more { IsErrOf result Error.TooLong → IfSome (R.left reader.old) (λ s. s ≢ []) }

@@ -1,9 +1,9 @@
 //! Lower-case hexadecimal.
 
-ghost use Rattle.std.specs.Prelude.{◌≡◌, ◌<◌, ◌++◌, OnOk, IsOkUnless};
-ghost use Rattle.serde_amqp.specs.Hexadecimal.{hex_digit, hex};
+ghost use Rattle.std.specs.Prelude.{◌≡◌, ◌++◌, OnOk, IsOkUnless};
+ghost use Rattle.amqp_data.specs.Hexadecimal.{hex};
 
-use amqp_data::Error;
+use amqp_data::{Error, hexadecimal_digit};
 
 // Appends two digits for each byte.
 pub(crate) fn push_hexadecimal(text: &mut Vec<u8>, bytes: &[u8]) -> Result<(), Error>
@@ -11,19 +11,8 @@ pub(crate) fn push_hexadecimal(text: &mut Vec<u8>, bytes: &[u8]) -> Result<(), E
     ensures memory { IsOkUnless result Error.OutOfMemory }
 {
     for byte in bytes {
-        text.push(digit(*byte / 16))?;
-        text.push(digit(*byte % 16))?;
+        text.push(hexadecimal_digit(*byte / 16))?;
+        text.push(hexadecimal_digit(*byte % 16))?;
     }
     Ok(())
-}
-
-fn digit(value: u8) -> u8
-    requires { value < 16 }
-    ensures { result ≡ hex_digit value }
-{
-    if value < 10 {
-        b'0' + value
-    } else {
-        b'a' + (value - 10)
-    }
 }

@@ -25,7 +25,7 @@ use std::str;
 ///
 /// The lines are the parts before each 0A, and a last part without 0A where it is not empty; 0D is kept.
 /// All input is read. Then it prints `size ` and the length in decimal, `bytes ` and the bytes in
-/// lower-case hexadecimal, and `text ` and the text of the list, each with 0A after it.
+/// lower-case hexadecimal, and `text ` and the text of the list, each with 0A after it, and flushes.
 ///
 /// # Encoding
 ///
@@ -55,6 +55,7 @@ pub fn run_lines<R: Read, W: Write>(
         Appends (W.written writer.old) (W.written writer.new) (lines_out s))) }
     ensures refused { IfErr result (λ e. IfSome (R.left reader.old) (λ s.
         LinesRefuses s (W.written writer.old) (W.written writer.new) e)) }
+    ensures flushed { OnOk result (W.flushed writer.new) }
     // When each answer comes.
     ensures exact { IfSome (R.left reader.old) (λ s. LinesDecidedBy s result) }
     ensures io { IsErrOf result Error.Io → Failed (R.failures reader.old) (R.failures reader.new)

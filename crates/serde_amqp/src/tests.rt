@@ -1,13 +1,19 @@
-//! Rows of the two runs, over readers and writers in memory that give little, or fail.
+//! Rows of the two runs, over readers and writers in memory that give little, or fail; and of the calls that are
+//! handed out.
 
 mod composites;
 mod compounds;
+mod conversions;
 mod cut_rows;
+mod errors;
+mod flushes;
 mod line_rows;
+mod marked;
 mod memory;
-mod refusals;
+mod paths;
 mod rows;
 mod streams;
+mod structs;
 mod transparent;
 mod value_rows;
 mod variants;

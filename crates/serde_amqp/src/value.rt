@@ -3,4 +3,4 @@
 pub mod ser;
 
 pub use amqp_to_value::{TryFromSerializable, to_value};
-pub use amqp_value::Value;
+pub use amqp_value::{ConvertFault, Value};

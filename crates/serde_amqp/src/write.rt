@@ -1,8 +1,8 @@
 //! The trait of what bytes are written to.
 
-ghost use Rattle.std.specs.Prelude.{◌≡◌, ◌≤◌, ◌⊎◌, ℕ, List, Option, OnOk, OnErr, IfErr, IsErrOf, IsOkUnless};
+ghost use Rattle.std.specs.Prelude.{◌≡◌, ◌≤◌, ◌⊎◌, ℕ, Bool, List, Option, OnOk, OnErr, IfErr, IsErrOf, IsOkUnless};
 ghost use Rattle.std.specs.Io.KnownBytes.{Keeps, Appends};
-ghost use Rattle.amqp_frame.specs.Reader.{last_count, Failed};
+ghost use Rattle.amqp_frame.specs.Reader.{last_count, Failed, answers_io};
 ghost use Rattle.serde_amqp.specs.Writer.{TakesFront};
 
 use amqp_data::Error;
@@ -18,6 +18,13 @@ pub trait Write {
 
     /// How many writes failed.
     ghost failures: { Self → ℕ };
+
+    /// What a call makes of the count, where the writer says more than the clauses do: from whether it
+    /// answered [`Error::Io`], the count before and the count after.
+    ghost counts: { Bool → ℕ → ℕ → Type 0 } = { λ _ _ _. Unit {0} };
+
+    /// Nothing that was taken is held back, where the writer can tell.
+    ghost flushed: { Self → Type 0 } = { λ _. Unit {0} };
 
     /// Takes the bytes.
     ///
@@ -36,6 +43,7 @@ pub trait Write {
         ensures io { IsErrOf result Error.Io → Failed (failures self.old) (failures self.new) }
         ensures others { IfErr result (λ e. (e ≡ Error.OutOfMemory) ⊎ (e ≡ Error.Io)) }
         ensures last { failures self.old ≡ last_count → IsErrOf result Error.Io }
+        ensures counts { counts (answers_io result) (failures self.old) (failures self.new) }
         ensures count { failures self.old ≤ failures self.new };
 
     /// Passes on what was taken.
@@ -48,9 +56,11 @@ pub trait Write {
     ///
     /// Takes none.
     fn flush(&mut self) -> Result<(), Error>
+        ensures ok { OnOk result (flushed self.new) }
         ensures io { IfErr result (λ e.
             (e ≡ Error.Io) × Failed (failures self.old) (failures self.new)) }
         ensures last { failures self.old ≡ last_count → IsErrOf result Error.Io }
         ensures kept { Keeps (written self.old) (written self.new) }
+        ensures counts { counts (answers_io result) (failures self.old) (failures self.new) }
         ensures count { failures self.old ≤ failures self.new };
 }

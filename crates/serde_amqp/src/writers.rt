@@ -2,7 +2,7 @@
 
 ghost use Rattle.std.specs.Prelude.{◌≡◌, ◌<◌, ◌+◌, [], Some, OnOk, OnErr, IsOkUnless};
 ghost use Rattle.std.specs.Io.KnownBytes.{Appends};
-ghost use Rattle.amqp_frame.specs.Reader.{last_count};
+ghost use Rattle.amqp_frame.specs.Reader.{last_count, CountsOne, answers_io};
 ghost use Rattle.serde_amqp.specs.Writer.{TakesFront};
 
 use crate::write::Write;
@@ -72,7 +72,8 @@ impl Write for VecWriter {
 
 /// The bytes go to a `std` writer.
 ///
-/// Each failed write counts one failure, and so does one that takes no bytes; no write is tried again.
+/// Each failed write counts one failure, and so does one that takes no bytes; no write is tried again. A
+/// call that does not fail counts none.
 #[derive(Drop)]
 pub struct IoWriter<W> {
     inner: W,
@@ -97,6 +98,8 @@ impl<W: io::Write> Write for IoWriter<W> {
     ghost written = { λ w. W.contents w.inner };
 
     ghost failures = { λ w. w.failures };
+
+    ghost counts = { CountsOne };
 
     fn put(&mut self, bytes: &[u8]) -> Result<(), Error> {
         if self.failures == u64::MAX {
@@ -126,7 +129,7 @@ fn put_all<W: io::Write>(inner: &mut W, bytes: &[u8], failures: &mut u64) -> Res
     ensures front { OnErr result
         (TakesFront (W.contents inner.old) (W.contents inner.new) bytes.now) }
     ensures io { IsOkUnless result Error.Io }
-    ensures same { OnOk result (failures.new ≡ failures.old) }
+    ensures counts { CountsOne (answers_io result) failures.old failures.new }
     ensures count { OnErr result (failures.new ≡ failures.old + 1) }
 {
     let mut at = 0;

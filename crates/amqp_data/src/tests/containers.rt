@@ -51,6 +51,7 @@ fn a_present_key_keeps_its_place(rt: HostRuntime) -> Result<(), Fail> {
 fn maps_are_walked_in_order(rt: HostRuntime) -> Result<(), Fail> {
     let pairs = [(3, 30), (1, 10), (2, 20)];
     let map = map_of(rt.alloc(), &pairs)?;
+    assert_eq!(rt; map.as_slice(), pairs.as_slice());
     let mut walk = map.iter();
     assert_eq!(rt; walk.size_hint(), (3, Some(3)));
     assert_eq!(rt;

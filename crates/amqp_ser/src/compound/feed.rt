@@ -3,6 +3,7 @@
 ghost use Rattle.std.specs.Prelude.{◌≡◌, ◌++◌, ◌∷◌, [], List, Option, Err, MatchResult, true};
 ghost use Rattle.amqp_ser.specs.Tree.{Tree};
 ghost use Rattle.amqp_ser.specs.Compounds.{whole, paired};
+ghost use Rattle.amqp_ser.specs.Feeding.{Feeds};
 
 use crate::kind::Kind;
 use crate::serialize::Serialize;
@@ -15,11 +16,7 @@ pub fn feed_part<S: Serializer, T: Serialize>(
     held: &mut S::Open,
     value: &T,
 ) -> Result<(), S::Error>
-    ensures { (start : S) (kind : Kind) (ps : List (Option Tree)) → S.has start kind serializer.old held.old ps →
-        MatchResult result
-        (λ _. S.has start kind serializer.new held.new (ps ++ (T.tree value.now ∷ [])))
-        (λ e. S.has start kind serializer.new held.new ps × ((rest : List (Option Tree)) →
-        S.permits start (whole kind (ps ++ (T.tree value.now ∷ rest))) (Err e) serializer.new)) }
+    ensures { (kind : Kind) → Feeds S.permits S.has kind (T.tree value.now) serializer.old held.old result serializer.new held.new }
 {
     serializer.begin_part(held);
     let part = value.serialize(serializer);

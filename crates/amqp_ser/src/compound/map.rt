@@ -1,8 +1,11 @@
 //! Maps, with a key that may be pending.
 
 ghost use Rattle.std.specs.Prelude.{◌≡◌, ◌++◌, ◌∷◌, [], List, Option, None, Err, MatchResult, IfErr, IsErr, not, true, false};
+ghost use mir.Syntax.{named};
+ghost use Rattle.std.specs.Borrow.{Lends, sem};
 ghost use Rattle.amqp_ser.specs.Tree.{Tree};
 ghost use Rattle.amqp_ser.specs.Compounds.{whole, paired};
+ghost use Rattle.amqp_ser.specs.Feeding.{Feeds};
 
 use super::feed::{feed_entry, feed_part};
 use crate::kind::Kind;
@@ -33,6 +36,8 @@ impl<S: Serializer> Drop for SerializeMap<'_, S> {
 }
 
 impl<'a, S: Serializer> SerializeMap<'a, S> {
+    ghost use Rattle.amqp_ser.specs.contracts.compound.map.SerializeMap.{the_row};
+
     #[inline(always)]
     pub(crate) fn new(serializer: &'a mut S, held: S::Open) -> SerializeMap<'a, S>
         ensures same_reference { result.serializer.ghost_name ≡ serializer.entry.ghost_name }
@@ -47,10 +52,12 @@ impl<'a, S: Serializer> SerializeMap<'a, S> {
         }
     }
 
-    /// The serializer behind the map.
+    /// The serializer behind the map, which goes on with what is left there; nothing else of it changes.
     #[inline(always)]
     pub fn as_mut(&mut self) -> &mut S
-        ensures { result.now ≡ self.old.serializer.now }
+        ensures* writes_back { sem 𝓛 (Lends (the_row (record { mir = named 1; lft = [] }) S.row S.Ok.row S.Error.row S.Open.row) S.row self.entry result
+            (λ w. record self.old { serializer = record self.old.serializer { now = w } })) }
+        ensures now { result.now ≡ self.old.serializer.now }
     {
         &mut *self.serializer
     }
@@ -63,11 +70,7 @@ impl<'a, S: Serializer> SerializeMap<'a, S> {
     pub fn serialize_key<T: Serialize>(&mut self, key: &T) -> Result<(), S::Error>
         ensures same { self.new.serializer.ghost_name ≡ self.old.serializer.ghost_name }
         ensures pending { MatchResult result (λ _. (self.old.pending ≡ false) × (self.new.pending ≡ true)) (λ _. self.new.pending ≡ self.old.pending) }
-        ensures step { self.old.pending ≡ false → (start : S) (ps : List (Option Tree)) → S.has start Kind.Map self.old.serializer.now self.old.held ps →
-            MatchResult result
-            (λ _. S.has start Kind.Map self.new.serializer.now self.new.held (ps ++ (T.tree key.now ∷ [])))
-            (λ e. S.has start Kind.Map self.new.serializer.now self.new.held ps × ((rest : List (Option Tree)) →
-            S.permits start (whole Kind.Map (ps ++ (T.tree key.now ∷ rest))) (Err e) self.new.serializer.now)) }
+        ensures step { self.old.pending ≡ false → Feeds S.permits S.has Kind.Map (T.tree key.now) self.old.serializer.now self.old.held result self.new.serializer.now self.new.held }
         ensures misuse { self.old.pending ≡ true → (start : S) (ps : List (Option Tree)) → S.has start Kind.Map self.old.serializer.now self.old.held ps →
             IfErr result (λ e. S.has start Kind.Map self.new.serializer.now self.new.held ps × S.permits start None (Err e) self.new.serializer.now) }
         ensures invalid { self.old.pending ≡ true → IfErr result S.is_misuse }
@@ -89,11 +92,7 @@ impl<'a, S: Serializer> SerializeMap<'a, S> {
     pub fn serialize_value<T: Serialize>(&mut self, value: &T) -> Result<(), S::Error>
         ensures same { self.new.serializer.ghost_name ≡ self.old.serializer.ghost_name }
         ensures pending { MatchResult result (λ _. (self.old.pending ≡ true) × (self.new.pending ≡ false)) (λ _. self.new.pending ≡ self.old.pending) }
-        ensures step { self.old.pending ≡ true → (start : S) (ps : List (Option Tree)) → S.has start Kind.Map self.old.serializer.now self.old.held ps →
-            MatchResult result
-            (λ _. S.has start Kind.Map self.new.serializer.now self.new.held (ps ++ (T.tree value.now ∷ [])))
-            (λ e. S.has start Kind.Map self.new.serializer.now self.new.held ps × ((rest : List (Option Tree)) →
-            S.permits start (whole Kind.Map (ps ++ (T.tree value.now ∷ rest))) (Err e) self.new.serializer.now)) }
+        ensures step { self.old.pending ≡ true → Feeds S.permits S.has Kind.Map (T.tree value.now) self.old.serializer.now self.old.held result self.new.serializer.now self.new.held }
         ensures misuse { self.old.pending ≡ false → (start : S) (ps : List (Option Tree)) → S.has start Kind.Map self.old.serializer.now self.old.held ps →
             IfErr result (λ e. S.has start Kind.Map self.new.serializer.now self.new.held ps × S.permits start None (Err e) self.new.serializer.now) }
         ensures invalid { self.old.pending ≡ false → IfErr result S.is_misuse }

@@ -1,8 +1,11 @@
 //! Lists: sequences and tuples.
 
 ghost use Rattle.std.specs.Prelude.{◌≡◌, ◌++◌, ◌∷◌, [], List, Option, Err, MatchResult};
+ghost use mir.Syntax.{named};
+ghost use Rattle.std.specs.Borrow.{Lends, sem};
 ghost use Rattle.amqp_ser.specs.Tree.{Tree};
 ghost use Rattle.amqp_ser.specs.Compounds.{whole};
+ghost use Rattle.amqp_ser.specs.Feeding.{Feeds};
 
 use super::feed::feed_part;
 use crate::kind::Kind;
@@ -31,6 +34,8 @@ impl<S: Serializer> Drop for SerializeSeq<'_, S> {
 }
 
 impl<'a, S: Serializer> SerializeSeq<'a, S> {
+    ghost use Rattle.amqp_ser.specs.contracts.compound.sequence.SerializeSeq.{the_row};
+
     #[inline(always)]
     pub(crate) fn new(serializer: &'a mut S, held: S::Open) -> SerializeSeq<'a, S>
         ensures same_reference { result.serializer.ghost_name ≡ serializer.entry.ghost_name }
@@ -40,10 +45,12 @@ impl<'a, S: Serializer> SerializeSeq<'a, S> {
         SerializeSeq { serializer, held }
     }
 
-    /// The serializer behind the list.
+    /// The serializer behind the list, which goes on with what is left there; nothing else of it changes.
     #[inline(always)]
     pub fn as_mut(&mut self) -> &mut S
-        ensures { result.now ≡ self.old.serializer.now }
+        ensures* writes_back { sem 𝓛 (Lends (the_row (record { mir = named 1; lft = [] }) S.row S.Ok.row S.Error.row S.Open.row) S.row self.entry result
+            (λ w. record self.old { serializer = record self.old.serializer { now = w } })) }
+        ensures now { result.now ≡ self.old.serializer.now }
     {
         &mut *self.serializer
     }
@@ -55,11 +62,7 @@ impl<'a, S: Serializer> SerializeSeq<'a, S> {
     #[inline(always)]
     pub fn serialize_element<T: Serialize>(&mut self, value: &T) -> Result<(), S::Error>
         ensures same { self.new.serializer.ghost_name ≡ self.old.serializer.ghost_name }
-        ensures step { (start : S) (ps : List (Option Tree)) → S.has start Kind.List self.old.serializer.now self.old.held ps →
-            MatchResult result
-            (λ _. S.has start Kind.List self.new.serializer.now self.new.held (ps ++ (T.tree value.now ∷ [])))
-            (λ e. S.has start Kind.List self.new.serializer.now self.new.held ps × ((rest : List (Option Tree)) →
-            S.permits start (whole Kind.List (ps ++ (T.tree value.now ∷ rest))) (Err e) self.new.serializer.now)) }
+        ensures step { Feeds S.permits S.has Kind.List (T.tree value.now) self.old.serializer.now self.old.held result self.new.serializer.now self.new.held }
     {
         feed_part(&mut *self.serializer, &mut self.held, value)
     }
@@ -79,69 +82,4 @@ impl<'a, S: Serializer> SerializeSeq<'a, S> {
 }
 
 /// A tuple whose elements are still fed: a list.
-///
-/// # Encoding
-/// AMQP 1.0 part 1, section 1.6.22.
-pub struct SerializeTuple<'a, S: Serializer> {
-    serializer: &'a mut S,
-    held: S::Open,
-}
-
-impl<S: Serializer> Drop for SerializeTuple<'_, S> {
-    #[inline(always)]
-    fn drop(self)
-        ensures { self.exit.0.now ≡ self.entry.serializer.now }
-    {
-        let SerializeTuple {
-            serializer: _,
-            held: _,
-        } = self;
-    }
-}
-
-impl<'a, S: Serializer> SerializeTuple<'a, S> {
-    #[inline(always)]
-    pub(crate) fn new(serializer: &'a mut S, held: S::Open) -> SerializeTuple<'a, S>
-        ensures same_reference { result.serializer.ghost_name ≡ serializer.entry.ghost_name }
-        ensures now { result.serializer.now ≡ serializer.old }
-        ensures held { result.held ≡ held }
-    {
-        SerializeTuple { serializer, held }
-    }
-
-    /// The serializer behind the tuple.
-    pub fn as_mut(&mut self) -> &mut S
-        ensures { result.now ≡ self.old.serializer.now }
-    {
-        &mut *self.serializer
-    }
-
-    /// Feeds one element more.
-    ///
-    /// # Errors
-    /// The serializer's refusal of the element; the tuple is then as it was and may be fed on.
-    #[inline(always)]
-    pub fn serialize_element<T: Serialize>(&mut self, value: &T) -> Result<(), S::Error>
-        ensures same { self.new.serializer.ghost_name ≡ self.old.serializer.ghost_name }
-        ensures step { (start : S) (ps : List (Option Tree)) → S.has start Kind.List self.old.serializer.now self.old.held ps →
-            MatchResult result
-            (λ _. S.has start Kind.List self.new.serializer.now self.new.held (ps ++ (T.tree value.now ∷ [])))
-            (λ e. S.has start Kind.List self.new.serializer.now self.new.held ps × ((rest : List (Option Tree)) →
-            S.permits start (whole Kind.List (ps ++ (T.tree value.now ∷ rest))) (Err e) self.new.serializer.now)) }
-    {
-        feed_part(&mut *self.serializer, &mut self.held, value)
-    }
-
-    /// Ends the tuple, with the serializer's answer on the tree of its elements.
-    ///
-    /// # Errors
-    /// The serializer's refusal of that tree.
-    #[inline(always)]
-    pub fn end(self) -> Result<S::Ok, S::Error>
-        ensures { (start : S) (ps : List (Option Tree)) → S.has start Kind.List self.entry.serializer.now self.entry.held ps →
-            S.permits start (whole Kind.List ps) result self.exit.0.now }
-    {
-        let SerializeTuple { serializer, held } = self;
-        serializer.end(held)
-    }
-}
+pub type SerializeTuple<'a, S> = SerializeSeq<'a, S>;

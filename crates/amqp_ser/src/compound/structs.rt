@@ -1,14 +1,15 @@
 //! Structs: a descriptor, if there is one, and a body of fields.
 
 ghost use Rattle.std.specs.Prelude.{◌≡◌, ◌++◌, ◌∷◌, ◌||◌, [], List, Option, Some, None, Err, Result, MatchResult, IfOk, IfErr, IsErr, not, true, false};
+ghost use mir.Syntax.{named};
+ghost use Rattle.std.specs.Borrow.{Lends, sem};
 ghost use Rattle.amqp_ser.specs.Tree.{Tree, scalar, string};
 ghost use Rattle.amqp_ser.specs.Compounds.{whole, paired};
 ghost use Rattle.amqp_ser.specs.Composites.{as_described, descriptor_of};
 ghost use Rattle.amqp_ser.specs.Marked.{is_descriptor};
 ghost use Rattle.amqp_ser.specs.Structs.{Stands, body_kind, open_kind, fronted, is_misplaced};
 
-use crate::body::{Body, end_fields, feed_alone, feed_descriptor, feed_first};
-use crate::compound::feed::{feed_entry, feed_part};
+use crate::body::{Body, end_fields, feed_listed, feed_moved};
 use crate::kind::Kind;
 use crate::mark::is_descriptor_key;
 use crate::serialize::Serialize;
@@ -45,6 +46,8 @@ impl<S: Serializer> Drop for SerializeStruct<'_, S> {
 }
 
 impl<'a, S: Serializer> SerializeStruct<'a, S> {
+    ghost use Rattle.amqp_ser.specs.contracts.compound.structs.SerializeStruct.{the_row};
+
     #[inline(always)]
     pub(crate) fn new(serializer: &'a mut S, held: S::Open, body: Body) -> SerializeStruct<'a, S>
         ensures same_reference { result.serializer.ghost_name ≡ serializer.entry.ghost_name }
@@ -63,23 +66,13 @@ impl<'a, S: Serializer> SerializeStruct<'a, S> {
         }
     }
 
-    /// The serializer behind the struct.
+    /// The serializer behind the struct, which goes on with what is left there; nothing else of it changes.
     pub fn as_mut(&mut self) -> &mut S
-        ensures { result.now ≡ self.old.serializer.now }
+        ensures* writes_back { sem 𝓛 (Lends (the_row (record { mir = named 1; lft = [] }) S.row S.Ok.row S.Error.row S.Open.row) S.row self.entry result
+            (λ w. record self.old { serializer = record self.old.serializer { now = w } })) }
+        ensures now { result.now ≡ self.old.serializer.now }
     {
         &mut *self.serializer
-    }
-
-    /// Whether a descriptor comes twice or late, or a second field where there is one alone.
-    #[inline(always)]
-    fn is_misplaced(&self, descriptor: bool) -> bool
-        ensures { result ≡ is_misplaced self.now.body self.now.described self.now.opened descriptor }
-    {
-        if descriptor {
-            self.described || self.opened
-        } else {
-            self.opened && matches!(self.body, Body::Bare)
-        }
     }
 
     /// Feeds one field more, or the descriptor.
@@ -140,27 +133,34 @@ impl<'a, S: Serializer> SerializeStruct<'a, S> {
         ensures invalid { is_misplaced self.old.body self.old.described self.old.opened (is_descriptor key.now) ≡ true → IfErr result S.is_misuse }
     {
         let descriptor = is_descriptor_key(key);
-        if self.is_misplaced(descriptor) {
-            return Err(self.serializer.misuse(&mut self.held));
-        }
-        if descriptor {
-            feed_descriptor(&mut *self.serializer, &mut self.held, value)?;
-            self.described = true;
-            return Ok(());
-        }
-        if self.opened {
-            return match self.body {
-                Body::Map => feed_entry(&mut *self.serializer, &mut self.held, &key, value),
-                _ => feed_part(&mut *self.serializer, &mut self.held, value),
+        if descriptor || !matches!(self.body, Body::List) {
+            return match feed_moved(
+                &mut *self.serializer,
+                &mut self.held,
+                self.body,
+                self.described,
+                self.opened,
+                key,
+                value,
+            ) {
+                Ok(()) => {
+                    if descriptor {
+                        self.described = true;
+                        return Ok(());
+                    }
+                    self.opened = true;
+                    Ok(())
+                }
+                Err(e) => Err(e),
             };
         }
-        match self.body {
-            Body::List => feed_first(&mut *self.serializer, &mut self.held, false, key, value)?,
-            Body::Map => feed_first(&mut *self.serializer, &mut self.held, true, key, value)?,
-            Body::Bare => feed_alone(&mut *self.serializer, &mut self.held, value)?,
+        match feed_listed(&mut *self.serializer, &mut self.held, self.opened, value) {
+            Ok(()) => {
+                self.opened = true;
+                Ok(())
+            }
+            Err(e) => Err(e),
         }
-        self.opened = true;
-        Ok(())
     }
 
     /// Ends the struct, with the serializer's answer on the tree of its fields.

@@ -1,6 +1,8 @@
 //! Tuple structs: lists of their fields, of which the first may be a descriptor.
 
 ghost use Rattle.std.specs.Prelude.{◌≡◌, ◌++◌, ◌∷◌, [], List, Option, Some, None, Err, Result, MatchResult, IfOk, IfErr, IsErr, ◌&&◌, ◌||◌, not, true, false};
+ghost use mir.Syntax.{named};
+ghost use Rattle.std.specs.Borrow.{Lends, sem};
 ghost use Rattle.amqp_ser.specs.Tree.{Tree};
 ghost use Rattle.amqp_ser.specs.Compounds.{whole};
 ghost use Rattle.amqp_ser.specs.Composites.{as_described, descriptor_of};
@@ -44,6 +46,8 @@ impl<S: Serializer> Drop for SerializeTupleStruct<'_, S> {
 }
 
 impl<'a, S: Serializer> SerializeTupleStruct<'a, S> {
+    ghost use Rattle.amqp_ser.specs.contracts.compound.tuple_struct.SerializeTupleStruct.{the_row};
+
     #[inline(always)]
     pub(crate) fn new(
         serializer: &'a mut S,
@@ -67,9 +71,11 @@ impl<'a, S: Serializer> SerializeTupleStruct<'a, S> {
         }
     }
 
-    /// The serializer behind the struct.
+    /// The serializer behind the struct, which goes on with what is left there; nothing else of it changes.
     pub fn as_mut(&mut self) -> &mut S
-        ensures { result.now ≡ self.old.serializer.now }
+        ensures* writes_back { sem 𝓛 (Lends (the_row (record { mir = named 1; lft = [] }) S.row S.Ok.row S.Error.row S.Open.row) S.row self.entry result
+            (λ w. record self.old { serializer = record self.old.serializer { now = w } })) }
+        ensures now { result.now ≡ self.old.serializer.now }
     {
         &mut *self.serializer
     }

@@ -1,8 +1,11 @@
 //! Variants with fields: an index and the list of the fields.
 
-ghost use Rattle.std.specs.Prelude.{◌≡◌, ◌++◌, ◌∷◌, [], List, Option, Err, MatchResult};
+ghost use Rattle.std.specs.Prelude.{ℕ, ◌≡◌, ◌++◌, ◌∷◌, [], List, Option, Err, MatchResult};
+ghost use mir.Syntax.{named};
+ghost use Rattle.std.specs.Borrow.{Lends, sem};
 ghost use Rattle.amqp_ser.specs.Tree.{Tree};
 ghost use Rattle.amqp_ser.specs.Compounds.{whole};
+ghost use Rattle.amqp_ser.specs.Feeding.{Feeds};
 
 use super::feed::feed_part;
 use crate::kind::Kind;
@@ -16,7 +19,6 @@ use crate::serializer::Serializer;
 pub struct SerializeTupleVariant<'a, S: Serializer> {
     serializer: &'a mut S,
     held: S::Open,
-    index: u32,
 }
 
 impl<S: Serializer> Drop for SerializeTupleVariant<'_, S> {
@@ -27,33 +29,27 @@ impl<S: Serializer> Drop for SerializeTupleVariant<'_, S> {
         let SerializeTupleVariant {
             serializer: _,
             held: _,
-            index: _,
         } = self;
     }
 }
 
 impl<'a, S: Serializer> SerializeTupleVariant<'a, S> {
+    ghost use Rattle.amqp_ser.specs.contracts.compound.variant.SerializeTupleVariant as tuple_variant;
+
     #[inline(always)]
-    pub(crate) fn new(
-        serializer: &'a mut S,
-        held: S::Open,
-        index: u32,
-    ) -> SerializeTupleVariant<'a, S>
+    pub(crate) fn new(serializer: &'a mut S, held: S::Open) -> SerializeTupleVariant<'a, S>
         ensures same_reference { result.serializer.ghost_name ≡ serializer.entry.ghost_name }
         ensures now { result.serializer.now ≡ serializer.old }
         ensures held { result.held ≡ held }
-        ensures index { result.index ≡ index }
     {
-        SerializeTupleVariant {
-            serializer,
-            held,
-            index,
-        }
+        SerializeTupleVariant { serializer, held }
     }
 
-    /// The serializer behind the variant.
+    /// The serializer behind the variant, which goes on with what is left there; nothing else of it changes.
     pub fn as_mut(&mut self) -> &mut S
-        ensures { result.now ≡ self.old.serializer.now }
+        ensures* writes_back { sem 𝓛 (Lends (tuple_variant.the_row (record { mir = named 1; lft = [] }) S.row S.Ok.row S.Error.row S.Open.row) S.row self.entry result
+            (λ w. record self.old { serializer = record self.old.serializer { now = w } })) }
+        ensures now { result.now ≡ self.old.serializer.now }
     {
         &mut *self.serializer
     }
@@ -65,12 +61,7 @@ impl<'a, S: Serializer> SerializeTupleVariant<'a, S> {
     #[inline(always)]
     pub fn serialize_field<T: Serialize>(&mut self, value: &T) -> Result<(), S::Error>
         ensures same { self.new.serializer.ghost_name ≡ self.old.serializer.ghost_name }
-        ensures index { self.new.index ≡ self.old.index }
-        ensures step { (start : S) (ps : List (Option Tree)) → S.has start (Kind.Fields self.old.index) self.old.serializer.now self.old.held ps →
-            MatchResult result
-            (λ _. S.has start (Kind.Fields self.old.index) self.new.serializer.now self.new.held (ps ++ (T.tree value.now ∷ [])))
-            (λ e. S.has start (Kind.Fields self.old.index) self.new.serializer.now self.new.held ps × ((rest : List (Option Tree)) →
-            S.permits start (whole (Kind.Fields self.old.index) (ps ++ (T.tree value.now ∷ rest))) (Err e) self.new.serializer.now)) }
+        ensures step { (i : ℕ) → Feeds S.permits S.has (Kind.Fields i) (T.tree value.now) self.old.serializer.now self.old.held result self.new.serializer.now self.new.held }
     {
         feed_part(&mut *self.serializer, &mut self.held, value)
     }
@@ -81,14 +72,10 @@ impl<'a, S: Serializer> SerializeTupleVariant<'a, S> {
     /// The serializer's refusal of that tree.
     #[inline(always)]
     pub fn end(self) -> Result<S::Ok, S::Error>
-        ensures { (start : S) (ps : List (Option Tree)) → S.has start (Kind.Fields self.entry.index) self.entry.serializer.now self.entry.held ps →
-            S.permits start (whole (Kind.Fields self.entry.index) ps) result self.exit.0.now }
+        ensures { (start : S) (i : ℕ) (ps : List (Option Tree)) → S.has start (Kind.Fields i) self.entry.serializer.now self.entry.held ps →
+            S.permits start (whole (Kind.Fields i) ps) result self.exit.0.now }
     {
-        let SerializeTupleVariant {
-            serializer,
-            held,
-            index: _,
-        } = self;
+        let SerializeTupleVariant { serializer, held } = self;
         serializer.end(held)
     }
 }
@@ -100,7 +87,6 @@ impl<'a, S: Serializer> SerializeTupleVariant<'a, S> {
 pub struct SerializeStructVariant<'a, S: Serializer> {
     serializer: &'a mut S,
     held: S::Open,
-    index: u32,
 }
 
 impl<S: Serializer> Drop for SerializeStructVariant<'_, S> {
@@ -111,33 +97,27 @@ impl<S: Serializer> Drop for SerializeStructVariant<'_, S> {
         let SerializeStructVariant {
             serializer: _,
             held: _,
-            index: _,
         } = self;
     }
 }
 
 impl<'a, S: Serializer> SerializeStructVariant<'a, S> {
+    ghost use Rattle.amqp_ser.specs.contracts.compound.variant.SerializeStructVariant as struct_variant;
+
     #[inline(always)]
-    pub(crate) fn new(
-        serializer: &'a mut S,
-        held: S::Open,
-        index: u32,
-    ) -> SerializeStructVariant<'a, S>
+    pub(crate) fn new(serializer: &'a mut S, held: S::Open) -> SerializeStructVariant<'a, S>
         ensures same_reference { result.serializer.ghost_name ≡ serializer.entry.ghost_name }
         ensures now { result.serializer.now ≡ serializer.old }
         ensures held { result.held ≡ held }
-        ensures index { result.index ≡ index }
     {
-        SerializeStructVariant {
-            serializer,
-            held,
-            index,
-        }
+        SerializeStructVariant { serializer, held }
     }
 
-    /// The serializer behind the variant.
+    /// The serializer behind the variant, which goes on with what is left there; nothing else of it changes.
     pub fn as_mut(&mut self) -> &mut S
-        ensures { result.now ≡ self.old.serializer.now }
+        ensures* writes_back { sem 𝓛 (Lends (struct_variant.the_row (record { mir = named 1; lft = [] }) S.row S.Ok.row S.Error.row S.Open.row) S.row self.entry result
+            (λ w. record self.old { serializer = record self.old.serializer { now = w } })) }
+        ensures now { result.now ≡ self.old.serializer.now }
     {
         &mut *self.serializer
     }
@@ -153,12 +133,7 @@ impl<'a, S: Serializer> SerializeStructVariant<'a, S> {
         value: &T,
     ) -> Result<(), S::Error>
         ensures same { self.new.serializer.ghost_name ≡ self.old.serializer.ghost_name }
-        ensures index { self.new.index ≡ self.old.index }
-        ensures step { (start : S) (ps : List (Option Tree)) → S.has start (Kind.Fields self.old.index) self.old.serializer.now self.old.held ps →
-            MatchResult result
-            (λ _. S.has start (Kind.Fields self.old.index) self.new.serializer.now self.new.held (ps ++ (T.tree value.now ∷ [])))
-            (λ e. S.has start (Kind.Fields self.old.index) self.new.serializer.now self.new.held ps × ((rest : List (Option Tree)) →
-            S.permits start (whole (Kind.Fields self.old.index) (ps ++ (T.tree value.now ∷ rest))) (Err e) self.new.serializer.now)) }
+        ensures step { (i : ℕ) → Feeds S.permits S.has (Kind.Fields i) (T.tree value.now) self.old.serializer.now self.old.held result self.new.serializer.now self.new.held }
     {
         feed_part(&mut *self.serializer, &mut self.held, value)
     }
@@ -169,14 +144,10 @@ impl<'a, S: Serializer> SerializeStructVariant<'a, S> {
     /// The serializer's refusal of that tree.
     #[inline(always)]
     pub fn end(self) -> Result<S::Ok, S::Error>
-        ensures { (start : S) (ps : List (Option Tree)) → S.has start (Kind.Fields self.entry.index) self.entry.serializer.now self.entry.held ps →
-            S.permits start (whole (Kind.Fields self.entry.index) ps) result self.exit.0.now }
+        ensures { (start : S) (i : ℕ) (ps : List (Option Tree)) → S.has start (Kind.Fields i) self.entry.serializer.now self.entry.held ps →
+            S.permits start (whole (Kind.Fields i) ps) result self.exit.0.now }
     {
-        let SerializeStructVariant {
-            serializer,
-            held,
-            index: _,
-        } = self;
+        let SerializeStructVariant { serializer, held } = self;
         serializer.end(held)
     }
 }

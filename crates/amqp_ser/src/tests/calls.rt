@@ -69,6 +69,11 @@ impl Serializer for Calls {
         Ok(())
     }
 
+    fn serialize_null(&mut self) -> Result<(), Refused> {
+        self.note("null");
+        Ok(())
+    }
+
     fn serialize_str(&mut self, v: &str) -> Result<(), Refused> {
         self.note(v);
         Ok(())
@@ -106,6 +111,10 @@ impl Serializer for Calls {
             Kind::Bare => "bare [",
         });
         kind
+    }
+
+    fn vacant(&self) -> Kind {
+        Kind::Bare
     }
 
     fn begin_part(&mut self, _held: &mut Kind) {

@@ -8,7 +8,7 @@ ghost use Rattle.amqp_ser.specs.Structs.{named_variant};
 ghost use Rattle.amqp_ser.specs.Tree.{code, scalar, string, ubyte, ushort, uint, bool};
 ghost use Rattle.amqp_ser.specs.declared.kind.Kind.TheVariants as kind;
 
-use crate::{Serialize, Serializer};
+use crate::{MapOf, Serialize, Serializer, fields};
 use amqp_data::markers;
 
 /// The performative that opens a connection: its first fields (AMQP 1.0 part 2, section 2.7.1).
@@ -43,11 +43,10 @@ impl Serialize for Properties {
     ghost tree = { λ p. as_described (Some (code 0x13)) (whole kind.Map (Some (scalar (string (codes "is_fool"))) ∷ (Some (scalar (bool p.is_fool)) ∷ (Some (scalar (string (codes "a"))) ∷ (Some (scalar (ubyte p.a)) ∷ []))))) };
 
     fn serialize<S: Serializer>(&self, serializer: &mut S) -> Result<S::Ok, S::Error> {
-        let mut fields = serializer.serialize_struct(markers::DESCRIBED_MAP, 3)?;
-        fields.serialize_field(markers::DESCRIPTOR, &0x13u64)?;
-        fields.serialize_field("is_fool", &self.is_fool)?;
-        fields.serialize_field("a", &self.a)?;
-        fields.end()
+        serializer.serialize_described(
+            &0x13u64,
+            &MapOf(fields! { "is_fool": &self.is_fool, "a": &self.a }),
+        )
     }
 }
 

@@ -156,7 +156,12 @@ fn basic_composites(rt: HostRuntime) -> Result<(), Fail> {
     drop(map.insert(SymbolRef::from("a"), 1i32)?);
     drop(map.insert(SymbolRef::from("b"), 2i32)?);
     let section = Section(map);
-    let image = to_value(a, &section)?;
+    let mut pairs = OrderedMap::new(a);
+    let key = Value::Symbol(Symbol::try_from_str(a, "a")?);
+    drop(pairs.insert(key, Value::Int(1))?);
+    let key = Value::Symbol(Symbol::try_from_str(a, "b")?);
+    drop(pairs.insert(key, Value::Int(2))?);
+    let image = described(a, 1, Value::Map(pairs))?;
     row(
         &rt,
         a,
@@ -185,7 +190,11 @@ fn described_values_by_name_and_code(rt: HostRuntime) -> Result<(), Fail> {
         descriptor: Descriptor::from(Symbol::try_from_str(a, "a:b")?),
         value: 5u8,
     };
-    let image = to_value(a, &named)?;
+    let image = Described {
+        descriptor: Descriptor::from(Symbol::try_from_str(a, "a:b")?),
+        value: Value::Ubyte(5),
+    };
+    let image = Value::Described(Box::new(a, image)?);
     row(&rt, a, "by name", &named, "00a303613a625005", &image)?;
     let inner = Described {
         descriptor: Descriptor::from(1u64),

@@ -8,9 +8,14 @@ use std::alloc::Global;
 use std::collections::BTreeMap;
 use std::test::Fail;
 
-fn list(alloc: Global, values: Vec<Value>) -> Value {
-    let _ = alloc;
-    Value::List(values)
+fn array(alloc: Global, first: Value) -> Result<Value, Fail> {
+    Ok(Value::Array(Array::from(vec![in alloc; first]?)))
+}
+
+fn map(alloc: Global, key: Value, value: Value) -> Result<Value, Fail> {
+    let mut pairs = OrderedMap::new(alloc);
+    drop(pairs.insert(key, value)?);
+    Ok(Value::Map(pairs))
 }
 
 #[test]
@@ -69,17 +74,17 @@ fn arrays_of_one_constructor(rt: HostRuntime) -> Result<(), Fail> {
         &Value::Array(Array::from(Vec::new(a))),
     )?;
     let truths = Array::from(vec![in a; true, false]?);
-    let image = to_value(a, &truths)?;
+    let image = Value::Array(Array::from(vec![in a; Value::Bool(true), Value::Bool(false)]?));
     row(&rt, a, "two truth values", &truths, "e00402560100", &image)?;
     let zero = Array::from(vec![in a; 0u32]?);
-    let image = to_value(a, &zero)?;
+    let image = array(a, Value::Uint(0))?;
     row(&rt, a, "the uint 0", &zero, "e006017000000000", &image)?;
     let text = Array::from(vec![in a; ""]?);
-    let image = to_value(a, &text)?;
+    let image = array(a, Value::String(String::new(a)))?;
     row(&rt, a, "an empty string", &text, "e00601b100000000", &image)?;
     let inner = Array::from(vec![in a; 1u8]?);
     let nested = Array::from(vec![in a; inner]?);
-    let image = to_value(a, &nested)?;
+    let image = array(a, array(a, Value::Ubyte(1))?)?;
     row(
         &rt,
         a,
@@ -89,7 +94,8 @@ fn arrays_of_one_constructor(rt: HostRuntime) -> Result<(), Fail> {
         &image,
     )?;
     let lists = Array::from(vec![in a; Vec::new(a), vec![in a; 1u8]?]?);
-    let image = to_value(a, &lists)?;
+    let one = Value::List(vec![in a; Value::Ubyte(1)]?);
+    let image = Value::Array(Array::from(vec![in a; Value::List(Vec::new(a)), one]?));
     row(
         &rt,
         a,
@@ -159,7 +165,8 @@ fn maps_keep_their_order(rt: HostRuntime) -> Result<(), Fail> {
     )?;
     let mut keyed = OrderedMap::new(a);
     drop(keyed.insert(Array::from(vec![in a; 1i32]?), vec![in a; 2i32]?)?);
-    let image = to_value(a, &keyed)?;
+    let two = Value::List(vec![in a; Value::Int(2)]?);
+    let image = map(a, array(a, Value::Int(1))?, two)?;
     row(
         &rt,
         a,
@@ -190,10 +197,7 @@ fn two_keys_of_one_image(rt: HostRuntime) -> Result<(), Fail> {
     let mut tree: BTreeMap<Option<Option<u8>>, u8> = BTreeMap::new(a);
     drop(tree.insert(None, 1u8)?);
     drop(tree.insert(Some(None), 2u8)?);
-    let mut image = OrderedMap::new(a);
-    drop(image.insert(Value::Null, Value::Ubyte(2))?);
-    let image = Value::Map(image);
+    let image = map(a, Value::Null, Value::Ubyte(2))?;
     row(&rt, a, "the map", &tree, "c10704405001405002", &image)?;
-    let again = to_value(a, &image)?;
-    row(&rt, a, "its image", &image, "c10402405002", &again)
+    row(&rt, a, "its image", &image, "c10402405002", &image)
 }

@@ -276,7 +276,7 @@ fn texts_and_binaries(rt: HostRuntime) -> Result<(), Fail> {
         &Value::Symbol(symbol),
     )?;
     let symbol = Symbol::try_from_str(a, "amqp")?;
-    let image = to_value(a, &symbol)?;
+    let image = Value::Symbol(Symbol::try_from_str(a, "amqp")?);
     row(&rt, a, "a symbol", &symbol, "a304616d7170", &image)?;
     let empty = ByteBuf::from(Vec::new(a));
     row(

@@ -1,4 +1,4 @@
-//! A reader of one byte a call and a writer of few, which fail at a call of choice.
+//! A reader of one byte a call and a writer of few, which fail at a call of choice; and a writer that holds bytes back.
 
 ghost use Rattle.std.specs.Prelude.{Some};
 
@@ -85,6 +85,52 @@ impl io::Write for Sip<'_> {
     }
 
     fn flush(&mut self) -> io::Result<()> {
+        Ok(())
+    }
+}
+
+/// Holds all bytes back until it is flushed; counts the flushes, and fails at each where it is made so.
+#[derive(Drop)]
+pub struct Held<'a> {
+    held: Vec<u8>,
+    passed: &'a mut Vec<u8>,
+    calls: &'a mut u64,
+    fails: bool,
+}
+
+impl<'a> Held<'a> {
+    pub fn new(held: Vec<u8>, passed: &'a mut Vec<u8>, calls: &'a mut u64) -> Held<'a> {
+        Held {
+            held,
+            passed,
+            calls,
+            fails: false,
+        }
+    }
+
+    pub fn failing(held: Vec<u8>, passed: &'a mut Vec<u8>, calls: &'a mut u64) -> Held<'a> {
+        Held {
+            held,
+            passed,
+            calls,
+            fails: true,
+        }
+    }
+}
+
+impl io::Write for Held<'_> {
+    fn write(&mut self, buf: &[u8]) -> io::Result<usize> {
+        self.held.extend_from_slice(buf)?;
+        Ok(buf.len())
+    }
+
+    fn flush(&mut self) -> io::Result<()> {
+        *self.calls = self.calls.saturating_add(1);
+        if self.fails {
+            return Err(io::Error::from(ErrorKind::Other));
+        }
+        self.passed.extend_from_slice(&self.held)?;
+        self.held.clear();
         Ok(())
     }
 }

@@ -6,7 +6,7 @@ ghost use Rattle.amqp_ser.specs.Tree.{scalar, bool, int, string, uint, ulong};
 ghost use Rattle.amqp_ser.specs.declared.kind.Kind.TheVariants as kind;
 
 use super::rows::row;
-use crate::{Value, to_value, to_vec};
+use crate::Value;
 use amqp_data::{Array, OrderedMap};
 use amqp_ser::{Serialize, Serializer};
 use std::alloc::Global;
@@ -104,10 +104,9 @@ fn variants_are_maps_of_one_pair(rt: HostRuntime) -> Result<(), Fail> {
 fn variants_in_arrays(rt: HostRuntime) -> Result<(), Fail> {
     let a = rt.alloc();
     let array = Array::from(vec![in a; Newtype(13)]?);
-    let image = to_value(a, &array)?;
+    let pair = one_pair(a, 1, Value::Ulong(13))?;
+    let image = Value::Array(Array::from(vec![in a; pair]?));
     let bytes = "e00e01d100000008000000025201530d";
     row(&rt, a, "an array of a newtype", &array, bytes, &image)?;
-    row(&rt, a, "its image", &image, bytes, &image)?;
-    assert!(rt; to_vec(a, &image)? == to_vec(a, &array)?);
-    Ok(())
+    row(&rt, a, "its image", &image, bytes, &image)
 }

@@ -1,5 +1,5 @@
 use Rattle.std.proofs.Common.{◌≡◌, ◌++◌, take}
-use Rattle.serde_amqp.specs.Hexadecimal.{hex}
+use Rattle.amqp_data.specs.Hexadecimal.{hex}
 use Rattle.serde_amqp.proofs.hexadecimal.push_hexadecimal.Given as goal
 
 abbrev pub invariant-loop-byte : goal.invariant-loop-byte

@@ -21,7 +21,7 @@ returns-in_err-size-clause-others c =
 
 pub returns-clause-ok : goal.returns-clause-ok
 returns-clause-ok c =
-    let told = reported c.args.lines.now.items c.in_ok-size.size c.in_ok-bytes.bytes.items c.in_ok-value.value c.in_ok-size.ensures c.in_ok-bytes.ensures c.in_ok-value.ensures in
+    let told = reported c.args.lines.now.items c.in_ok-size.size c.in_ok-bytes.bytes.items c.in_ok-value.value c.in_ok-size.ensures c.in_ok-bytes.ensures c.in_ok-value.ensures.image in
     let size = c.in_ok-size.size in
     let value = text_of (tree_of c.in_ok-value.value) in
     let t = strings_tree (texts c.args.lines.now.items) in

@@ -8,8 +8,8 @@ pub returns-in-Err : goal.returns-in-Err
 returns-in-Err g c = λ start ps h e.
     let k = g.K.Serialize.tree c.args.key.now in
     let v = g.V.Serialize.tree c.args.value.now in
-    let fed = c.in_ok-feed_part.ensures start Map ps h in
-    let refused = c.in-Err.ensures start Map (ps ++ (k ∷ [])) fed in (
+    let fed = c.in_ok-feed_part.ensures Map start ps h in
+    let refused = c.in-Err.ensures Map start (ps ++ (k ∷ [])) fed in (
       c.undo_part.ensures.back start ps k refused.0 e,
       λ rest. c.undo_part.ensures.refusals start ps k _ _ refused.0 e
           (subst (λ qs. g.S.Serializer.permits start (whole Map qs) (Err c.in-Err.e) c.feed_part-2.new.serializer) (append_assoc ps (k ∷ []) (v ∷ rest)) (refused.1 rest)),

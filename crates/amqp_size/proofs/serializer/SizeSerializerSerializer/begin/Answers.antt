@@ -3,12 +3,13 @@ use Rattle.amqp_ser.specs.Tree.{no_trees}
 use Rattle.amqp_ser.specs.Limits.{fits, is_count}
 use Rattle.amqp_ser.specs.declared.kind.Kind.{Kind}
 use Rattle.amqp_size.specs.Place.{outer, rest, shape_of, is_array, is_gathered, inner_under}
+use Rattle.amqp_size.specs.State.{under_at}
 use Rattle.amqp_size.specs.Counted.{content, counts, one_in, inner_of, Holding, Holds}
 use Rattle.amqp_size.specs.declared.open_compound.Open.{Open}
 use Rattle.amqp_size.specs.declared.place.Shape.{Shape}
 use Rattle.amqp_size.specs.declared.place.Shape.TheVariants as shapes
-use Rattle.amqp_size.specs.declared.place.Under.{Under}
-use Rattle.amqp_size.specs.declared.place.Under.TheVariants.{Plain}
+use Rattle.amqp_size.specs.WholeUnder.{Under}
+use Rattle.amqp_size.specs.WholeUnder.{Plain}
 use Rattle.amqp_size.specs.declared.serializer.SizeSerializer.{SizeSerializer}
 use Rattle.amqp_size.proofs.Transparent.{transparent_shape}
 use Rattle.amqp_size.proofs.Bare.{bare_kind}
@@ -88,7 +89,10 @@ pub returns : goal.returns
 returns c =
     let e = c.new.ensures in
     let start = c.args.self.now in
-    let shape = c.shape.ensures in (
-      opened start c.args.kind c.new.result e.place (e.shape ∙ shape) (e.inner ∙ ap (λ s. inner_under s start.place) shape) e.sum e.count (shape_of start.place c.args.kind) refl,
-      c.settle.ensures ∙ ap (λ q. Plain (rest q)) (sym e.place),
+    let head = c.self.inside.head in
+    let here : under_at c.self.inside.place head ≡ start.place = ap (λ (s : SizeSerializer). s.place) c.self.view_is in
+    let place = e.place ∙ ap outer here in
+    let shape = c.shape.ensures head ∙ ap (λ u. shape_of u c.args.kind) here in (
+      opened start c.args.kind c.new.result place (e.shape ∙ shape) (e.inner ∙ ap (λ s. inner_under s (under_at c.self.inside.place head)) shape ∙ ap (inner_under (shape_of start.place c.args.kind)) here) e.sum e.count (shape_of start.place c.args.kind) refl,
+      c.settle.ensures ∙ ap (λ q. Plain (rest q)) (sym place),
     )

@@ -1,4 +1,4 @@
-use Rattle.std.proofs.Common.{sym, refl, ◌∙◌, ap, arith, ◌&&◌, ◌++◌}
+use Rattle.std.proofs.Common.{◌≡◌, sym, refl, ◌∙◌, ap, arith, ◌&&◌, ◌++◌}
 use Rattle.amqp_ser.specs.Tree.{uint, map, variant, list}
 use Rattle.amqp_ser.specs.Limits.{fits}
 use Rattle.amqp_ser.specs.Scalars.{scalar_form}
@@ -6,8 +6,9 @@ use Rattle.amqp_ser.specs.Encoding.{enc}
 use Rattle.amqp_ser.specs.Writable.{within}
 use Rattle.amqp_ser.specs.Compounds.{whole, all_trees}
 use Rattle.amqp_size.specs.Width.{map_width, list_width}
+use Rattle.amqp_size.specs.State.{place_at}
 use Rattle.amqp_size.specs.Place.{rest, is_gathered}
-use Rattle.amqp_size.specs.declared.place.Under.TheVariants.{Plain}
+use Rattle.amqp_size.specs.WholeUnder.{Plain}
 use Rattle.amqp_size.proofs.Holding.{gathered_of}
 use Rattle.amqp_size.proofs.Lengths.{length-counted}
 use Rattle.amqp_size.proofs.Whole.{stands, stands_none, MapEnd, map_end, FieldsEnd, fields_end, refused_shape}
@@ -15,26 +16,29 @@ use Rattle.amqp_size.proofs.serializer.SizeSerializerSerializer.end.Goals as goa
 
 pub returns-in-Map : goal.returns-in-Map
 returns-in-Map c = λ start kind ps h done.
+    let there : place_at c.place-place.result c.head-head.result ≡ c.args.held.place = ap (place_at c.place-place.result) c.head-head.ensures ∙ c.place-place.ensures in
     let g = gathered_of start kind c.args.held ps h.0 (ap is_gathered (sym c.shape.ensures ∙ c.in-Map.is)) in
     let m : MapEnd start kind c.args.held ps = map_end start kind c.args.held ps g done (sym c.shape.ensures ∙ c.in-Map.is) in
     let sum = c.sum-sum.ensures.sum in
-    stands start.place c.place-place.result (whole kind ps) (map m.pairs) _ _ (sym g.place ∙ sym c.place-place.ensures) m.is
-    (c.accept-in-Map.ensures (h.1 ∙ ap (λ q. Plain (rest q)) (sym c.place-place.ensures)) (map m.pairs) refl m.within_it m.alike_it m.inside_it m.inside_it (m.ordinary ∙ ap map_width (sym sum) ∙ sym c.map_width.ensures) (let w = m.wide in omega arith))
+    stands start.place (place_at c.place-place.result c.head-head.result) (whole kind ps) (map m.pairs) _ _ (sym g.place ∙ sym there) m.is
+    (c.accept-in-Map.ensures (h.1 ∙ ap (λ q. Plain (rest q)) (sym there)) (map m.pairs) refl m.within_it m.alike_it m.inside_it m.inside_it (m.ordinary ∙ ap map_width (sym sum) ∙ sym c.map_width.ensures) (let w = m.wide in omega arith))
 
 pub returns-in-Fields : goal.returns-in-Fields
 returns-in-Fields c = λ start kind ps h done.
+    let there : place_at c.place-place.result c.head-head.result ≡ c.args.held.place = ap (place_at c.place-place.result) c.head-head.ensures ∙ c.place-place.ensures in
     let i = c.in-Fields.index in
     let g = gathered_of start kind c.args.held ps h.0 (ap is_gathered (sym c.shape.ensures ∙ c.in-Fields.is)) in
     let m : FieldsEnd i start kind ps c.list_width-in-Fields.result =
     fields_end i start kind c.args.held ps c.list_width-in-Fields.result g (sym c.shape.ensures ∙ c.in-Fields.is) (c.list_width-in-Fields.ensures ∙ ap list_width c.sum-sum.ensures.sum) in
     let bytes = m.bytes in
-    stands start.place c.place-place.result (whole kind ps) (variant i (list m.ts)) _ _ (sym g.place ∙ sym c.place-place.ensures) m.is
-    (c.variant.ensures (h.1 ∙ ap (λ q. Plain (rest q)) (sym c.place-place.ensures)) (variant i (list m.ts)) (list m.ts) refl m.alike_it m.inside_it m.inside_it m.within_it (ap (λ n. fits n && within (list m.ts)) bytes)
+    stands start.place (place_at c.place-place.result c.head-head.result) (whole kind ps) (variant i (list m.ts)) _ _ (sym g.place ∙ sym there) m.is
+    (c.variant.ensures (h.1 ∙ ap (λ q. Plain (rest q)) (sym there)) (variant i (list m.ts)) (list m.ts) refl m.alike_it m.inside_it m.inside_it m.within_it (ap (λ n. fits n && within (list m.ts)) bytes)
     (length-counted 0xc1 0xd1 2 (scalar_form (uint i) ++ enc (list m.ts)) ∙ ap map_width bytes) (omega (arith, bytes)))
 
 pub returns-in-Refused : goal.returns-in-Refused
 unfolding whole
 returns-in-Refused c = λ start kind ps h done.
+    let there : place_at c.place-place.result c.head-head.result ≡ c.args.held.place = ap (place_at c.place-place.result) c.head-head.ensures ∙ c.place-place.ensures in
     let g = gathered_of start kind c.args.held ps h.0 (ap is_gathered (sym c.shape.ensures ∙ c.in-Refused.is)) in
-    stands_none start.place c.place-place.result (whole kind ps) _ _ (sym g.place ∙ sym c.place-place.ensures)
-    (refused_shape start.place kind (all_trees ps) (sym g.shape ∙ sym c.shape.ensures ∙ c.in-Refused.is)) (tt, h.1 ∙ ap (λ q. Plain (rest q)) (sym c.place-place.ensures))
+    stands_none start.place (place_at c.place-place.result c.head-head.result) (whole kind ps) _ _ (sym g.place ∙ sym there)
+    (refused_shape start.place kind (all_trees ps) (sym g.shape ∙ sym c.shape.ensures ∙ c.in-Refused.is)) (tt, h.1 ∙ ap (λ q. Plain (rest q)) (sym there))

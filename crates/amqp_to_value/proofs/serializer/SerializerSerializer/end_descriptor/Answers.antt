@@ -1,9 +1,11 @@
-use Rattle.std.proofs.Common.{◌≡◌, [], ◌∷◌, ◌++◌, Ok, Err, ap, sym, ◌∙◌, subst, append-nil, rules}
-use Rattle.amqp_data.specs.declared.error.Error.TheVariants.{InvalidValue, OutOfMemory}
+use Rattle.std.proofs.Common.{◌≡◌, true, [], ◌∷◌, ◌++◌, Ok, Err, sym, ◌∙◌, subst, append-nil, rules}
+use Rattle.amqp_data.specs.declared.error.Error.TheVariants.{InvalidValue}
 use Rattle.amqp_ser.specs.Carried.{descriptor_content}
-use Rattle.amqp_to_value.specs.Around.{aside_of}
-use Rattle.amqp_to_value.specs.Holds.{value_permits}
-use Rattle.amqp_to_value.proofs.AnswerLemmas.{kept_all, kept_on}
+use Rattle.amqp_ser.specs.Composites.{as_described, descriptor_of}
+use Rattle.amqp_to_value.specs.Around.{standing}
+use Rattle.amqp_to_value.specs.Holds.{IsAside, meant_by, value_permits}
+use Rattle.amqp_to_value.specs.Permitted.{refuses}
+use Rattle.amqp_to_value.proofs.AnswerLemmas.{aside_again, kept_on, parted_again}
 use Rattle.amqp_to_value.proofs.HoldsLemmas.{plain_answer}
 use Rattle.amqp_to_value.proofs.DescriptorLemmas.{descriptor_refused, no_descriptor, permitted_before, same_descriptor}
 use Rattle.amqp_to_value.proofs.serializer.SerializerSerializer.end_descriptor.Goals as goal
@@ -11,51 +13,60 @@ use Rattle.amqp_to_value.proofs.serializer.SerializerSerializer.end_descriptor.G
 pub returns-in_err-part : goal.returns-in_err-part
 returns-in_err-part c = λ start before d h r.
     let e = c.in_err-part.field-0.0 in
+    let all = start.around.kept ++ standing start.around in
     let answer = subst (λ x. value_permits before d x c.args.self.now) c.in_err-part.was r in
-    let kept = kept_on (start.around.0 ++ start.around.1) before c.args.self.now (Err e) h.2 answer.1 in
-    let refused = plain_answer before (start.around.0 ++ start.around.1) d (Err e) h.2 answer.0 in
+    let kept = kept_on all before c.args.self.now (Err e) h.2 answer.1 in
+    let aside = aside_again start c.args.self.now c.release.new.self c.args.self.now.around.later kept.0 c.release.ensures.next
+    (c.release.ensures.parted start.around.kept (standing start.around) _ (parted_again start c.args.self.now kept) h.0) in
+    let refused = plain_answer before all d (Err e) h.2 answer.0 in
     let same : c.from_residual.result ≡ Err e = search rules in
-    rw same ((h.0, h.1, kept), λ t. (descriptor_refused start d e refused t, kept))
+    rw same ((h.0, h.1, aside), λ t. (descriptor_refused start d e refused t, aside))
 
 pub returns-in_err-descriptor : goal.returns-in_err-descriptor
 returns-in_err-descriptor c = λ start before d h r.
     let v = c.in_ok-part.field-0 in
+    let all = start.around.kept ++ standing start.around in
     let answer = subst (λ x. value_permits before d x c.args.self.now) c.in_ok-part.was r in
-    let kept = kept_on (start.around.0 ++ start.around.1) before c.args.self.now (Ok v) h.2 answer.1 in
-    let stands = plain_answer before (start.around.0 ++ start.around.1) d (Ok v) h.2 answer.0 in
+    let kept = kept_on all before c.args.self.now (Ok v) h.2 answer.1 in
+    let aside = aside_again start c.args.self.now c.release.new.self c.args.self.now.around.later kept.0 c.release.ensures.next
+    (c.release.ensures.parted start.around.kept (standing start.around) _ (parted_again start c.args.self.now kept) h.0) in
+    let stands = plain_answer before all d (Ok v) h.2 answer.0 in
     let none = c.in_err-descriptor.ensures in
     let same : c.from_residual-in_err-descriptor.result ≡ Err InvalidValue = search rules in
-    rw same ((h.0, h.1, kept), λ t. (no_descriptor start d t (same_descriptor v d stands ∙ none.0), kept))
+    rw same ((h.0, h.1, aside), λ t. (no_descriptor start d t (same_descriptor v d stands ∙ none.0), aside))
 
-pub returns-in_err-described : goal.returns-in_err-described
-returns-in_err-described c = λ start before d h r.
+pub returns-in_err-held : goal.returns-in_err-held
+returns-in_err-held c = λ start before d h r.
+    let v = c.in_ok-part.field-0 in
+    let e = c.in_err-held.field-0.0 in
+    let all = start.around.kept ++ standing start.around in
     let answer = subst (λ x. value_permits before d x c.args.self.now) c.in_ok-part.was r in
-    let kept = kept_on (start.around.0 ++ start.around.1) before c.args.self.now (Ok c.in_ok-part.field-0) h.2 answer.1 in
-    let back = c.take_back.ensures start.around.0 start.around.1 kept.1 kept.2 kept.0.1 h.0 in
-    let others = c.in_err-described.ensures.others ∙ back.0 in
-    let own = c.in_err-described.ensures.own.0 ∙ back.1 in
-    let aside = c.put_aside-held.ensures.aside ∙ (λ i. aside_of (others i) (own i)) in
-    let left = kept_all (start.around.0 ++ start.around.1) (record { alloc = c.args.self.now.alloc; under = c.args.self.now.under; around = c.put_aside-held.new.self })
-    kept.0.0 c.put_aside-held.ensures.none (c.put_aside-held.ensures.others ∙ (λ i. others i ++ own i)) in
-    let same : c.from_residual-in_err-described.result ≡ Err OutOfMemory = search rules in
-    rw same ((aside, h.1, left), λ t. (tt, left))
+    let kept = kept_on all before c.args.self.now (Ok v) h.2 answer.1 in
+    let rel = c.release.ensures.parted start.around.kept (standing start.around) _ (parted_again start c.args.self.now kept) h.0 in
+    let after = c.in_err-held.ensures start.around.kept (standing start.around) c.args.self.now.around.later rel.0 rel.1 (c.release.ensures.next ∙ kept.0.1) h.0 in
+    let aside : IsAside start (record { alloc = c.args.self.now.alloc; under = c.args.self.now.under; around = c.describe.new.self }) = (((kept.0.0, after.4), after.1), (after.2, after.3)) in
+    let same : c.from_residual-in_err-held.result ≡ Err e = search rules in
+    rw same ((h.0, h.1, aside), λ t. (subst (λ x. refuses x (meant_by start (as_described (descriptor_of d) t))) (sym after.0) tt, aside))
 
 pub returns : goal.returns
 returns c = λ start before d h r.
     let v = c.in_ok-part.field-0 in
     let x = descriptor_content c.in_ok-descriptor.descriptor in
+    let all = start.around.kept ++ standing start.around in
     let answer = subst (λ x. value_permits before d x c.args.self.now) c.in_ok-part.was r in
-    let kept = kept_on (start.around.0 ++ start.around.1) before c.args.self.now (Ok v) h.2 answer.1 in
-    let stands = plain_answer before (start.around.0 ++ start.around.1) d (Ok v) h.2 answer.0 in
-    let back = c.take_back.ensures start.around.0 start.around.1 kept.1 kept.2 kept.0.1 h.0 in
-    let others = c.in_ok-described.ensures.others ∙ back.0 in
-    let own = c.in_ok-described.ensures.own ∙ ap (λ ds. ds ++ (x ∷ [])) back.1 in
-    let inner = c.describe.ensures start.under h.1 in
-    let is = same_descriptor v d stands ∙ c.in_ok-descriptor.ensures in
-    let aside = c.put_aside-held.ensures.aside ∙ (λ i. aside_of (others i) (own i)) in (
-      record { alloc = start.alloc; under = inner.0; around = (start.around.0, start.around.1 ++ (x ∷ []), 0) },
+    let kept = kept_on all before c.args.self.now (Ok v) h.2 answer.1 in
+    let stands = plain_answer before all d (Ok v) h.2 answer.0 in
+    let rel = c.release.ensures.parted start.around.kept (standing start.around) _ (parted_again start c.args.self.now kept) h.0 in
+    let after = c.in_ok-held.ensures start.around.kept (standing start.around) c.args.self.now.around.later rel.0 rel.1 (c.release.ensures.next ∙ kept.0.1) h.0 in
+    let inner = c.describe-2.ensures start.under h.1 in
+    let is = same_descriptor v d stands ∙ c.in_ok-descriptor.ensures in (
+      record {
+        alloc = start.alloc;
+        under = inner.0;
+        around = record { kept = start.around.kept; later = standing start.around ++ (x ∷ []); next = true; room = 0 };
+      },
       (
-        (aside, inner.1, ((kept.0.0, c.put_aside-held.ensures.none), [], c.put_aside-held.ensures.others ∙ (λ i. others i ++ own i) ∙ sym (append-nil _))),
-        λ t r' after p. permitted_before start inner.0 x d t r' after is (inner.2 x t) p,
+        (after.0, inner.1, (((kept.0.0, after.3), after.1), ([], after.2 ∙ sym (append-nil _)))),
+        λ t r' after' p. permitted_before start inner.0 x d t r' after' is (inner.2 x t) p,
       ),
     )

@@ -1,7 +1,7 @@
 use Rattle.std.proofs.Common.{inl, inr, [], ◌∷◌, ◌++◌, refl, ap, ◌∙◌}
 use Rattle.amqp_ser.specs.declared.kind.Kind.TheVariants as kinds
 use Rattle.amqp_size.proofs.Holding.{at_rest, map_of}
-use Rattle.amqp_size.specs.declared.place.Under.TheVariants.{Plain}
+use Rattle.amqp_size.specs.WholeUnder.{Plain}
 use Rattle.amqp_wire.specs.declared.headers.Counting.{Counting}
 use Rattle.amqp_wire.proofs.Listing.{few_fed, table_undone}
 use Rattle.amqp_wire.proofs.headers.HeadersSerializer.undo_part.Goals as goal

@@ -1,17 +1,18 @@
 use Rattle.amqp_size.specs.Place.{outer}
 use Rattle.amqp_wire.specs.Standing.{taken_as}
 use Rattle.amqp_wire.specs.declared.output.Output.{Output}
+use Rattle.amqp_wire.specs.contracts.writer.Writing.{the_view as part_of}
 use Rattle.amqp_wire.proofs.Parts.{part_undone, still_refused}
 use Rattle.amqp_wire.proofs.writer.WriterSerializer.undo_part.Goals as goal
 
 pub returns-clause-back : goal.returns-clause-back
-returns-clause-back c = λ start ps p h even.
+returns-clause-back c = rw (← c.self.view_is, ← c.held.view_is) (λ start ps p h even.
     let n = c.restore.ensures in
-    (part_undone start c.args.self.now.output c.restore.new.self c.args.held.now ps p h.0 even n.table n.capacity n.taken n.out, h.1)
+    (part_undone start c.self.inside.output c.restore.new.self (part_of c.held.inside) ps p h.0 even n.table n.capacity n.taken n.out, h.1))
 
 pub returns-clause-refusals : goal.returns-clause-refusals
-returns-clause-refusals c = λ start ps p t e h even r.
+returns-clause-refusals c = rw (← c.self.view_is, ← c.held.view_is) (λ start ps p t e h even r.
     let n = c.restore.ensures in
     let out : Output = c.restore.new.self in
-    let back = part_undone start c.args.self.now.output out c.args.held.now ps p h.0 even n.table n.capacity n.taken n.out in
-    (back.kept, (r.1.0, still_refused (outer start.place) start.output c.args.self.now.output out (taken_as start.place t) e r.1.1))
+    let back = part_undone start c.self.inside.output out (part_of c.held.inside) ps p h.0 even n.table n.capacity n.taken n.out in
+    (back.kept, (r.1.0, still_refused (outer start.place) start.output c.self.inside.output out (taken_as start.place t) e r.1.1)))

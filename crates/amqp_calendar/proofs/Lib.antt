@@ -1,0 +1,6 @@
+pub mod SignedRules
+pub mod MonthLemmas
+pub mod YearLemmas
+pub mod OneDate
+pub mod DateOfLemmas
+pub mod PaddingLemmas

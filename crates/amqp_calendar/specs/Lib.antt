@@ -1,0 +1,5 @@
+pub mod Years
+pub mod Dates
+pub mod DateOf
+pub mod Cycles
+pub mod Moment

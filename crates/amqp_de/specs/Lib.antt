@@ -1,0 +1,6 @@
+pub mod Parts
+pub mod Reads
+pub mod Fields
+pub mod Answers
+pub mod Contents
+pub mod Enums

@@ -1,0 +1,188 @@
+//! The fields of a struct, read together.
+
+ghost use Rattle.std.specs.Prelude.{◌≡◌, List, [], ◌∷◌};
+ghost use Rattle.amqp_ser.specs.Tree.{Tree};
+ghost use Rattle.amqp_de.specs.Answers.{Answers, RestoresAll};
+ghost use Rattle.amqp_de.specs.Fields.{Body, by_place, by_name, must, may, end};
+ghost use Rattle.amqp_de.specs.Reads.{Always, image_option, RestorableOption, SameOption};
+
+use crate::de::{Deserialize, Deserializer, Refusal};
+use std::alloc::Global;
+use std::marker::PhantomData;
+
+/// The fields that are asked for, in order, with their names. Written by the macro [`named!`].
+///
+/// # Implementer notes
+/// `reads` is what the fields mean; the calls answer by it, and what stands for restorable fields comes back.
+pub trait Fields: Sized + Drop {
+    /// The fields' values, as nested pairs.
+    type Values: Drop;
+
+    /// Which elements or entries are read as which values.
+    ghost reads: { Self → Self.Values → Body → Type 0 };
+
+    /// The images of the fields, in order.
+    ghost images: { Self.Values → List Tree };
+
+    /// Whether each field comes back from its image.
+    ghost restorable: { Self.Values → Type 0 };
+
+    /// Whether the fields have the same contents.
+    ghost same: { Self.Values → Self.Values → Type 0 };
+
+    /// Reads the fields from elements, by their places. Elements left over are ignored.
+    ///
+    /// # Errors
+    /// Invalid where an element is missing or another than the field's; want of memory.
+    fn read_elements<D: Deserializer>(
+        &self,
+        alloc: Global,
+        elements: &mut D::Elements,
+    ) -> Result<Self::Values, D::Error>
+        ensures read { Answers D.Error.is_memory (λ x. reads self.now x (by_place (D.items elements.old))) result }
+        ensures law { RestoresAll images restorable same D.Error.is_memory (D.items elements.old) result };
+
+    /// Reads the fields from the entries of a map, by their names. Entries left over are ignored.
+    ///
+    /// # Errors
+    /// Invalid where an entry is missing or another than the field's; want of memory.
+    fn read_entries<D: Deserializer>(
+        &self,
+        alloc: Global,
+        entries: &mut D::Entries,
+    ) -> Result<Self::Values, D::Error>
+        ensures { Answers D.Error.is_memory (λ x. reads self.now x (by_name (D.pairs entries.old))) result };
+}
+
+#[tactic(auto, unfolding(crate::specs::Fields::end))]
+impl Fields for () {
+    type Values = ();
+
+    ghost reads = { λ _ _. end };
+
+    ghost images = { λ _. [] };
+
+    ghost restorable = { Always };
+
+    ghost same = { λ _ _. Unit {0} };
+
+    fn read_elements<D: Deserializer>(
+        &self,
+        _alloc: Global,
+        _elements: &mut D::Elements,
+    ) -> Result<(), D::Error> {
+        Ok(())
+    }
+
+    fn read_entries<D: Deserializer>(
+        &self,
+        _alloc: Global,
+        _entries: &mut D::Entries,
+    ) -> Result<(), D::Error> {
+        Ok(())
+    }
+}
+
+/// A field that must be there, and those after it.
+#[derive(Drop)]
+pub struct Must<V, R> {
+    /// The field's name.
+    pub name: &'static str,
+    /// The field's type.
+    pub of: PhantomData<V>,
+    /// The fields after it; `()` for none.
+    pub rest: R,
+}
+
+#[tactic(auto, unfolding(crate::specs::Fields::must))]
+impl<V: Deserialize, R: Fields> Fields for Must<V, R> {
+    type Values = (V, R::Values);
+
+    ghost reads = { λ f x. must f.name.now V.reads x.0 (R.reads f.rest x.1) };
+
+    ghost images = { λ x. V.image x.0 ∷ R.images x.1 };
+
+    ghost restorable = { λ x. V.restorable x.0 × R.restorable x.1 };
+
+    ghost same = { λ x y. V.same x.0 y.0 × R.same x.1 y.1 };
+
+    fn read_elements<D: Deserializer>(
+        &self,
+        alloc: Global,
+        elements: &mut D::Elements,
+    ) -> Result<(V, R::Values), D::Error> {
+        match D::next_element(&mut *elements) {
+            Some(element) => {
+                let value = V::deserialize(alloc, element)?;
+                let rest = self.rest.read_elements::<D>(alloc, elements)?;
+                Ok((value, rest))
+            }
+            None => Err(D::Error::invalid()),
+        }
+    }
+
+    fn read_entries<D: Deserializer>(
+        &self,
+        alloc: Global,
+        entries: &mut D::Entries,
+    ) -> Result<(V, R::Values), D::Error> {
+        match D::take_named(&mut *entries, self.name) {
+            Some(entry) => {
+                let value = V::deserialize(alloc, entry)?;
+                let rest = self.rest.read_entries::<D>(alloc, entries)?;
+                Ok((value, rest))
+            }
+            None => Err(D::Error::invalid()),
+        }
+    }
+}
+
+/// A field that may be absent or null, and those after it.
+#[derive(Drop)]
+pub struct May<V, R> {
+    /// The field's name.
+    pub name: &'static str,
+    /// The field's type, where it is there.
+    pub of: PhantomData<V>,
+    /// The fields after it; `()` for none.
+    pub rest: R,
+}
+
+#[tactic(auto, unfolding(crate::specs::Fields::may))]
+impl<V: Deserialize, R: Fields> Fields for May<V, R> {
+    type Values = (Option<V>, R::Values);
+
+    ghost reads = { λ f x. may f.name.now V.reads x.0 (R.reads f.rest x.1) };
+
+    ghost images = { λ x. image_option V.image x.0 ∷ R.images x.1 };
+
+    ghost restorable = { λ x. RestorableOption V.image V.restorable x.0 × R.restorable x.1 };
+
+    ghost same = { λ x y. SameOption V.same x.0 y.0 × R.same x.1 y.1 };
+
+    fn read_elements<D: Deserializer>(
+        &self,
+        alloc: Global,
+        elements: &mut D::Elements,
+    ) -> Result<(Option<V>, R::Values), D::Error> {
+        let value = match D::next_element(&mut *elements) {
+            Some(element) => Option::<V>::deserialize(alloc, element)?,
+            None => None,
+        };
+        let rest = self.rest.read_elements::<D>(alloc, elements)?;
+        Ok((value, rest))
+    }
+
+    fn read_entries<D: Deserializer>(
+        &self,
+        alloc: Global,
+        entries: &mut D::Entries,
+    ) -> Result<(Option<V>, R::Values), D::Error> {
+        let value = match D::take_named(&mut *entries, self.name) {
+            Some(entry) => Option::<V>::deserialize(alloc, entry)?,
+            None => None,
+        };
+        let rest = self.rest.read_entries::<D>(alloc, entries)?;
+        Ok((value, rest))
+    }
+}

@@ -1,0 +1,6 @@
+//! What is read by the types of std and of AMQP data.
+
+mod described;
+mod holders;
+mod scalars;
+mod tuples;

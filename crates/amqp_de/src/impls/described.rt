@@ -1,0 +1,56 @@
+//! Descriptors and described values.
+
+ghost use Rattle.std.specs.Prelude.{◌≡◌};
+ghost use Rattle.amqp_ser.specs.Carried.{descriptor_content};
+ghost use Rattle.amqp_ser.specs.Tree.{described};
+ghost use Rattle.amqp_de.specs.Fields.{OnDescribed};
+ghost use Rattle.amqp_de.specs.Reads.{Always, descriptor_tree};
+
+use crate::de::{Content, Deserialize, Deserializer, Refusal};
+use amqp_data::{Described, Descriptor};
+use std::alloc::Global;
+
+impl Deserialize for Descriptor {
+    ghost reads = { λ t d. t ≡ descriptor_tree (descriptor_content d) };
+
+    ghost image = { λ d. descriptor_tree (descriptor_content d) };
+
+    ghost restorable = { Always };
+
+    ghost same = { λ d e. descriptor_content d ≡ descriptor_content e };
+
+    fn deserialize<D: Deserializer>(
+        _alloc: Global,
+        deserializer: D,
+    ) -> Result<Descriptor, D::Error> {
+        match deserializer.open() {
+            Content::Ulong(code) => Ok(Descriptor::Code(code)),
+            Content::Symbol(name) => Ok(Descriptor::Name(name)),
+            _ => Err(D::Error::invalid()),
+        }
+    }
+}
+
+#[tactic(auto, unfolding(crate::specs::Fields::OnDescribed))]
+impl<T: Deserialize> Deserialize for Described<T> {
+    ghost reads = { λ t x. OnDescribed (descriptor_content x.descriptor) (λ u. T.reads u x.value) t };
+
+    ghost image = { λ x. described (descriptor_content x.descriptor) (T.image x.value) };
+
+    ghost restorable = { λ x. T.restorable x.value };
+
+    ghost same = { λ x y. (descriptor_content x.descriptor ≡ descriptor_content y.descriptor) × T.same x.value y.value };
+
+    fn deserialize<D: Deserializer>(
+        alloc: Global,
+        deserializer: D,
+    ) -> Result<Described<T>, D::Error> {
+        match deserializer.open() {
+            Content::Described(descriptor, value) => match T::deserialize(alloc, value) {
+                Ok(value) => Ok(Described { descriptor, value }),
+                Err(error) => Err(error),
+            },
+            _ => Err(D::Error::invalid()),
+        }
+    }
+}

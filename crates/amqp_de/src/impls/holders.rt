@@ -1,0 +1,57 @@
+//! Types that hold others: options and boxes; and untyped values.
+
+ghost use Rattle.std.specs.Prelude.{◌≡◌};
+ghost use Rattle.amqp_value.specs.TreeOf.{tree_of};
+ghost use Rattle.amqp_de.specs.Reads.{Always, ReadsOption, image_option, RestorableOption, SameOption};
+
+use crate::de::{Deserialize, Deserializer, Refusal};
+use amqp_value::Value;
+use std::alloc::Global;
+
+impl<T: Deserialize> Deserialize for Option<T> {
+    ghost reads = { ReadsOption T.reads };
+
+    ghost image = { image_option T.image };
+
+    ghost restorable = { RestorableOption T.image T.restorable };
+
+    ghost same = { SameOption T.same };
+
+    fn deserialize<D: Deserializer>(alloc: Global, deserializer: D) -> Result<Option<T>, D::Error> {
+        if deserializer.is_null() {
+            return Ok(None);
+        }
+        Ok(Some(T::deserialize(alloc, deserializer)?))
+    }
+}
+
+impl<T: Deserialize> Deserialize for Box<T> {
+    ghost reads = { λ t b. T.reads t b.value };
+
+    ghost image = { λ b. T.image b.value };
+
+    ghost restorable = { λ b. T.restorable b.value };
+
+    ghost same = { λ x y. T.same x.value y.value };
+
+    fn deserialize<D: Deserializer>(alloc: Global, deserializer: D) -> Result<Box<T>, D::Error> {
+        match Box::new(alloc, T::deserialize(alloc, deserializer)?) {
+            Ok(boxed) => Ok(boxed),
+            Err(_) => Err(D::Error::memory()),
+        }
+    }
+}
+
+impl Deserialize for Value {
+    ghost reads = { λ t v. tree_of v ≡ t };
+
+    ghost image = { tree_of };
+
+    ghost restorable = { Always };
+
+    ghost same = { λ v w. tree_of v ≡ tree_of w };
+
+    fn deserialize<D: Deserializer>(_alloc: Global, deserializer: D) -> Result<Value, D::Error> {
+        Ok(deserializer.into_value())
+    }
+}

@@ -1,0 +1,113 @@
+//! Tuples: lists of their parts. Elements left over are ignored.
+
+ghost use Rattle.std.specs.Prelude.{[], ◌∷◌};
+ghost use Rattle.amqp_ser.specs.Tree.{list, trees_of};
+ghost use Rattle.amqp_de.specs.Fields.{OnFields, must, end};
+
+use crate::de::{Deserialize, Deserializer};
+use crate::record::{Record, read};
+use crate::seed::ListOf;
+use crate::{fields, named};
+use std::alloc::Global;
+
+impl<A: Deserialize> Record for (A,) {
+    type Parts = (A, ());
+
+    ghost parts = { λ x. (x.0, tt) };
+}
+
+impl<A: Deserialize> Deserialize for (A,) {
+    ghost reads = { λ t x. OnFields (must [] A.reads x.0 end) t };
+
+    ghost image = { λ x. list (trees_of (A.image x.0 ∷ [])) };
+
+    ghost restorable = { λ x. A.restorable x.0 };
+
+    ghost same = { λ x y. A.same x.0 y.0 };
+
+    fn deserialize<De: Deserializer>(alloc: Global, deserializer: De) -> Result<(A,), De::Error> {
+        let fields! { a } = read::<(A,), De, _>(alloc, deserializer, ListOf(named! { "" }))?;
+        Ok((a,))
+    }
+}
+
+impl<A: Deserialize, B: Deserialize> Record for (A, B) {
+    type Parts = (A, (B, ()));
+
+    ghost parts = { λ x. (x.0, (x.1, tt)) };
+}
+
+impl<A: Deserialize, B: Deserialize> Deserialize for (A, B) {
+    ghost reads = { λ t x. OnFields (must [] A.reads x.0 (must [] B.reads x.1 end)) t };
+
+    ghost image = { λ x. list (trees_of (A.image x.0 ∷ B.image x.1 ∷ [])) };
+
+    ghost restorable = { λ x. A.restorable x.0 × B.restorable x.1 };
+
+    ghost same = { λ x y. A.same x.0 y.0 × B.same x.1 y.1 };
+
+    fn deserialize<De: Deserializer>(alloc: Global, deserializer: De) -> Result<(A, B), De::Error> {
+        let fields! { a, b } = read::<(A, B), De, _>(
+            alloc,
+            deserializer,
+            ListOf(named! { "", "" }),
+        )?;
+        Ok((a, b))
+    }
+}
+
+impl<A: Deserialize, B: Deserialize, C: Deserialize> Record for (A, B, C) {
+    type Parts = (A, (B, (C, ())));
+
+    ghost parts = { λ x. (x.0, (x.1, (x.2, tt))) };
+}
+
+impl<A: Deserialize, B: Deserialize, C: Deserialize> Deserialize for (A, B, C) {
+    ghost reads = { λ t x. OnFields (must [] A.reads x.0 (must [] B.reads x.1 (must [] C.reads x.2 end))) t };
+
+    ghost image = { λ x. list (trees_of (A.image x.0 ∷ B.image x.1 ∷ C.image x.2 ∷ [])) };
+
+    ghost restorable = { λ x. A.restorable x.0 × B.restorable x.1 × C.restorable x.2 };
+
+    ghost same = { λ x y. A.same x.0 y.0 × B.same x.1 y.1 × C.same x.2 y.2 };
+
+    fn deserialize<De: Deserializer>(
+        alloc: Global,
+        deserializer: De,
+    ) -> Result<(A, B, C), De::Error> {
+        let fields! { a, b, c } = read::<(A, B, C), De, _>(
+            alloc,
+            deserializer,
+            ListOf(named! { "", "", "" }),
+        )?;
+        Ok((a, b, c))
+    }
+}
+
+impl<A: Deserialize, B: Deserialize, C: Deserialize, D: Deserialize> Record for (A, B, C, D) {
+    type Parts = (A, (B, (C, (D, ()))));
+
+    ghost parts = { λ x. (x.0, (x.1, (x.2, (x.3, tt)))) };
+}
+
+impl<A: Deserialize, B: Deserialize, C: Deserialize, D: Deserialize> Deserialize for (A, B, C, D) {
+    ghost reads = { λ t x. OnFields (must [] A.reads x.0 (must [] B.reads x.1 (must [] C.reads x.2 (must [] D.reads x.3 end)))) t };
+
+    ghost image = { λ x. list (trees_of (A.image x.0 ∷ B.image x.1 ∷ C.image x.2 ∷ D.image x.3 ∷ [])) };
+
+    ghost restorable = { λ x. A.restorable x.0 × B.restorable x.1 × C.restorable x.2 × D.restorable x.3 };
+
+    ghost same = { λ x y. A.same x.0 y.0 × B.same x.1 y.1 × C.same x.2 y.2 × D.same x.3 y.3 };
+
+    fn deserialize<De: Deserializer>(
+        alloc: Global,
+        deserializer: De,
+    ) -> Result<(A, B, C, D), De::Error> {
+        let fields! { a, b, c, d } = read::<(A, B, C, D), De, _>(
+            alloc,
+            deserializer,
+            ListOf(named! { "", "", "", "" }),
+        )?;
+        Ok((a, b, c, d))
+    }
+}

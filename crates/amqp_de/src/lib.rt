@@ -1,0 +1,84 @@
+//! What can be read out of a deserializer, and how.
+#![tactic(auto)]
+
+mod content;
+pub mod de;
+mod enums;
+mod fields;
+mod impls;
+mod record;
+mod refusal;
+mod seed;
+
+pub use enums::{DataOr, EnumOf, Never, OneOf, UnitOr, Variants};
+pub use fields::{Fields, May, Must};
+pub use record::{Describes, Record, read, read_described};
+pub use seed::{ListOf, NamedOf, Of, Seed};
+
+/// The fields of a struct, in order: `named! { "name", "other"?, .. }`.
+///
+/// A `?` marks one that may be absent or null. Wrapped in [`ListOf`] or [`NamedOf`] it reads the fields' values, which
+/// the pattern [`fields!`] takes apart.
+#[macro_export]
+macro_rules! named {
+    () => { () };
+    ($name:literal $(, $($rest:tt)*)?) => {
+        $crate::Must { name: $name, of: std::marker::PhantomData, rest: $crate::named!($($($rest)*)?) }
+    };
+    ($name:literal ? $(, $($rest:tt)*)?) => {
+        $crate::May { name: $name, of: std::marker::PhantomData, rest: $crate::named!($($($rest)*)?) }
+    };
+}
+
+/// The pattern of fields that were read, in order: `let fields! { name, other } = read(..)?;`.
+#[macro_export]
+macro_rules! fields {
+    () => { () };
+    ($value:ident $(, $($rest:tt)*)?) => {
+        ($value, $crate::fields!($($($rest)*)?))
+    };
+}
+
+/// The variants of an enum, in order: `variants! { unit, newtype, named! { "side", "note"? }, .. }`.
+///
+/// `unit` has no value, `newtype` has one, and a variant of fields has the list of them. Wrapped in [`EnumOf`] it reads
+/// one of the variants, which the pattern [`variant!`] tells.
+#[macro_export]
+macro_rules! variants {
+    () => { () };
+    (unit $(, $($rest:tt)*)?) => {
+        $crate::UnitOr { rest: $crate::variants!($($($rest)*)?) }
+    };
+    (newtype $(, $($rest:tt)*)?) => {
+        $crate::DataOr {
+            seed: $crate::Of(std::marker::PhantomData),
+            missing: "Expecting a value",
+            rest: $crate::variants!($($($rest)*)?),
+        }
+    };
+    ($fields:expr $(, $($rest:tt)*)?) => {
+        $crate::DataOr {
+            seed: $crate::ListOf($fields),
+            missing: "Expecting Value::List",
+            rest: $crate::variants!($($($rest)*)?),
+        }
+    };
+}
+
+/// The pattern of a variant that was read, by its place, and of none after the last: `variant!(none 4, never)`.
+#[macro_export]
+macro_rules! variant {
+    (0, $value:pat) => { $crate::OneOf::This($value) };
+    (1, $value:pat) => { $crate::OneOf::Other($crate::variant!(0, $value)) };
+    (2, $value:pat) => { $crate::OneOf::Other($crate::variant!(1, $value)) };
+    (3, $value:pat) => { $crate::OneOf::Other($crate::variant!(2, $value)) };
+    (4, $value:pat) => { $crate::OneOf::Other($crate::variant!(3, $value)) };
+    (5, $value:pat) => { $crate::OneOf::Other($crate::variant!(4, $value)) };
+    (none 0, $value:pat) => { $value };
+    (none 1, $value:pat) => { $crate::OneOf::Other($crate::variant!(none 0, $value)) };
+    (none 2, $value:pat) => { $crate::OneOf::Other($crate::variant!(none 1, $value)) };
+    (none 3, $value:pat) => { $crate::OneOf::Other($crate::variant!(none 2, $value)) };
+    (none 4, $value:pat) => { $crate::OneOf::Other($crate::variant!(none 3, $value)) };
+    (none 5, $value:pat) => { $crate::OneOf::Other($crate::variant!(none 4, $value)) };
+    (none 6, $value:pat) => { $crate::OneOf::Other($crate::variant!(none 5, $value)) };
+}

@@ -1,0 +1,100 @@
+//! The two calls by which a type of fields is read.
+
+ghost use Rattle.std.specs.Prelude.{◌≡◌, ◌↔◌, IsTrue};
+ghost use Rattle.amqp_data.specs.Text.{symbol_ref_text, symbol_text};
+ghost use Rattle.amqp_ser.specs.Carried.{descriptor_content};
+ghost use Rattle.amqp_ser.specs.Tree.{Descriptor, code, name, described};
+ghost use Rattle.amqp_de.specs.Answers.{PartsOf, RestoresParts};
+ghost use Rattle.amqp_de.specs.Fields.{OnDescribed};
+
+use crate::de::{Content, Deserializer, Refusal};
+use crate::seed::Seed;
+use amqp_data::{Descriptor, SymbolRef};
+use std::alloc::Global;
+
+/// A type whose values are known by their parts.
+pub trait Record: Sized {
+    /// The parts, as what reads them gives them.
+    type Parts;
+
+    /// The parts of a value.
+    ghost parts: { Self → Self.Parts };
+}
+
+/// What a descriptor has to be.
+pub trait Describes {
+    /// The descriptor.
+    ghost wanted: { Self → Descriptor };
+
+    /// Whether it is this one.
+    fn is(&self, descriptor: &Descriptor) -> bool
+        ensures { IsTrue result ↔ descriptor_content descriptor.now ≡ wanted self.now };
+}
+
+impl Describes for u64 {
+    ghost wanted = { code };
+
+    fn is(&self, descriptor: &Descriptor) -> bool {
+        match descriptor {
+            Descriptor::Code(code) => *code == *self,
+            Descriptor::Name(_) => false,
+        }
+    }
+}
+
+impl Describes for SymbolRef<'_> {
+    ghost wanted = { λ s. name (symbol_ref_text s) };
+
+    fn is(&self, descriptor: &Descriptor) -> bool {
+        match descriptor {
+            Descriptor::Code(_) => false,
+            Descriptor::Name(symbol) => symbol.as_inner().as_str() == self.as_inner(),
+        }
+    }
+}
+
+/// Reads the parts of a value.
+///
+/// # Errors
+/// As the seed, and only where nothing is read.
+pub fn read<T: Record, D: Deserializer, S: Seed<Value = T::Parts>>(
+    alloc: Global,
+    deserializer: D,
+    seed: S,
+) -> Result<T::Parts, D::Error>
+    ensures read { PartsOf T.parts D.Error.is_memory (S.reads seed (D.value deserializer)) result }
+    ensures law { RestoresParts T.parts (λ v. S.image (T.parts v)) S.restorable S.same D.Error.is_memory (D.value deserializer) result }
+{
+    match seed.read(alloc, deserializer) {
+        Ok(parts) => Ok(parts),
+        Err(error) => Err(error),
+    }
+}
+
+/// Reads the parts of a value that stands after this descriptor.
+///
+/// # Errors
+/// Invalid where there is another descriptor, or none; as the seed otherwise. Only where nothing is read.
+#[tactic(auto, unfolding(crate::specs::Fields::OnDescribed))]
+pub fn read_described<T: Record, D: Deserializer, K: Describes, S: Seed<Value = T::Parts>>(
+    alloc: Global,
+    deserializer: D,
+    descriptor: &K,
+    seed: S,
+) -> Result<T::Parts, D::Error>
+    ensures read { PartsOf T.parts D.Error.is_memory (λ x. OnDescribed (K.wanted descriptor.now) (λ t. S.reads seed t x) (D.value deserializer)) result }
+    ensures law { RestoresParts T.parts (λ v. described (K.wanted descriptor.now) (S.image (T.parts v))) S.restorable S.same D.Error.is_memory (D.value deserializer) result }
+{
+    match deserializer.open() {
+        Content::Described(found, value) => {
+            if !descriptor.is(&found) {
+                return Err(D::Error::invalid());
+            }
+            match seed.read(alloc, value) {
+                Ok(parts) => Ok(parts),
+                Err(error) => Err(error),
+            }
+        }
+        _ => Err(D::Error::invalid()),
+    }
+}

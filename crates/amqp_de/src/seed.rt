@@ -1,0 +1,116 @@
+//! What is read of one value: a type, a list of fields, fields by name.
+
+ghost use Rattle.std.specs.Prelude.{◌≡◌};
+ghost use Rattle.amqp_ser.specs.Tree.{Tree, list, trees_of};
+ghost use Rattle.amqp_de.specs.Answers.{Answers, Restores};
+ghost use Rattle.amqp_de.specs.Fields.{OnFields, OnNamed};
+
+use crate::de::{Content, Deserialize, Deserializer, Refusal};
+use crate::fields::Fields;
+use std::alloc::Global;
+use std::marker::PhantomData;
+
+/// What is read of one value.
+pub trait Seed: Sized + Drop {
+    /// What comes of it.
+    type Value: Drop;
+
+    /// Which trees are read as what.
+    ghost reads: { Self → Tree → Self.Value → Type 0 };
+
+    /// The tree of the untyped value that stands for it.
+    ghost image: { Self.Value → Tree };
+
+    /// Whether it comes back from its image.
+    ghost restorable: { Self.Value → Type 0 };
+
+    /// Whether two have the same contents.
+    ghost same: { Self.Value → Self.Value → Type 0 };
+
+    /// Reads it.
+    fn read<D: Deserializer>(self, alloc: Global, deserializer: D) -> Result<Self::Value, D::Error>
+        ensures read { Answers D.Error.is_memory (λ x. reads self (D.value deserializer) x) result }
+        ensures law { Restores image restorable same D.Error.is_memory (D.value deserializer) result };
+}
+
+/// A value of this type.
+#[derive(Drop)]
+pub struct Of<T>(pub PhantomData<T>);
+
+impl<T: Deserialize> Seed for Of<T> {
+    type Value = T;
+
+    ghost reads = { λ _. T.reads };
+
+    ghost image = { T.image };
+
+    ghost restorable = { T.restorable };
+
+    ghost same = { T.same };
+
+    fn read<D: Deserializer>(self, alloc: Global, deserializer: D) -> Result<T, D::Error> {
+        T::deserialize(alloc, deserializer)
+    }
+}
+
+/// A list of fields.
+#[derive(Drop)]
+pub struct ListOf<F>(pub F);
+
+#[tactic(auto, using(crate::proofs::Lists::list_of_trees, crate::proofs::Lists::same_trees), unfolding(crate::specs::Fields::OnFields))]
+impl<F: Fields> Seed for ListOf<F> {
+    type Value = F::Values;
+
+    ghost reads = { λ s t x. OnFields (F.reads s.0 x) t };
+
+    ghost image = { λ x. list (trees_of (F.images x)) };
+
+    ghost restorable = { F.restorable };
+
+    ghost same = { F.same };
+
+    fn read<D: Deserializer>(self, alloc: Global, deserializer: D) -> Result<F::Values, D::Error> {
+        match deserializer.open() {
+            Content::List(mut elements) => {
+                match self.0.read_elements::<D>(alloc, &mut elements) {
+                    Ok(values) => Ok(values),
+                    Err(error) => Err(error),
+                }
+            }
+            _ => Err(D::Error::invalid()),
+        }
+    }
+}
+
+/// Fields of these names: a list or an array of them, by their places, or a map, by their names.
+#[derive(Drop)]
+pub struct NamedOf<F>(pub F);
+
+#[tactic(auto, using(crate::proofs::Lists::list_of_trees, crate::proofs::Lists::same_trees, crate::proofs::Lists::entries_in_pairs), unfolding(crate::specs::Fields::OnNamed))]
+impl<F: Fields> Seed for NamedOf<F> {
+    type Value = F::Values;
+
+    ghost reads = { λ s t x. OnNamed (F.reads s.0 x) t };
+
+    ghost image = { λ x. list (trees_of (F.images x)) };
+
+    ghost restorable = { F.restorable };
+
+    ghost same = { F.same };
+
+    fn read<D: Deserializer>(self, alloc: Global, deserializer: D) -> Result<F::Values, D::Error> {
+        match deserializer.open() {
+            Content::List(mut elements) | Content::Array(mut elements) => {
+                match self.0.read_elements::<D>(alloc, &mut elements) {
+                    Ok(values) => Ok(values),
+                    Err(error) => Err(error),
+                }
+            }
+            Content::Map(mut entries) => match self.0.read_entries::<D>(alloc, &mut entries) {
+                Ok(values) => Ok(values),
+                Err(error) => Err(error),
+            },
+            _ => Err(D::Error::invalid()),
+        }
+    }
+}

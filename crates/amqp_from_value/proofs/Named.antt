@@ -1,0 +1,74 @@
+-- The value of a name, by its place in the list of pairs.
+use Rattle.std.proofs.Common.{◌≡◌, ℕ, zero, suc, ◌<◌, ◌≤◌, Bool, true, false, cond, nat_lt, List, [], ◌∷◌, length, get_or, map, position, Some, None, refl, sym, ap, ◌∙◌, arith}
+use Rattle.std.proofs.lemmas.List.Quantifiers.{position-Some}
+use Rattle.std.proofs.lemmas.Bool.Decides.{nat_tests}
+use Rattle.std.specs.List.{position_or_len, remove}
+use Rattle.amqp_ser.specs.Tree.{Tree}
+use Rattle.amqp_value.specs.TreeOf.{tree_of}
+use Rattle.amqp_value.specs.declared.value.Value.{Value}
+use Rattle.amqp_de.specs.Fields.{is_name, value_at, without}
+
+-- the test fails at each element
+abbrev AllFail : {X : Type 0} → (X → Bool) → List X → Type 0
+AllFail p [] = Unit {0}
+AllFail p (x ∷ xs) = (p x ≡ false) × AllFail p xs
+
+module _ {X : Type 0} (p : X → Bool) where
+  head_fails : (b : Bool) (x : X) (xs : List X) → p x ≡ b → length (x ∷ xs) ≤ position_or_len p (x ∷ xs)
+      → (p x ≡ false) × (length xs ≤ position_or_len p xs)
+  head_fails true x xs is past = absurd (omega (arith, rw is at past))
+  head_fails false x xs is past = (is, omega (arith, rw is at past))
+
+  all_fail : (xs : List X) → length xs ≤ position_or_len p xs → AllFail p xs
+  all_fail [] past = tt
+  all_fail (x ∷ xs) past = let s = head_fails (p x) x xs refl past in (s.0, all_fail xs s.1)
+
+  not_below : (b : Bool) (m n : ℕ) → nat_lt m n ≡ b → cond b (Some m) None ≡ None → n ≤ m
+  not_below true m n is none = absurd (cc)
+  not_below false m n is none = grind (arith, nat_tests)
+
+  fail_by_position : (xs : List X) → position p xs ≡ None → AllFail p xs
+  fail_by_position xs none = all_fail xs (not_below (nat_lt (position_or_len p xs) (length xs)) _ _ refl none)
+
+abbrev pub both : Value × Value → Tree × Tree
+both e = (tree_of e.0, tree_of e.1)
+
+module _ (n : List ℕ) where
+  abbrev named : Value × Value → Bool
+  named e = is_name n (tree_of e.0)
+
+  -- the pair at place i is the first of this name
+  abbrev IsFirst : List (Value × Value) → ℕ → Value × Value → Type 0
+  IsFirst es i d = (i < length es) × (named (get_or es i d) ≡ true) × ((j : ℕ) → j < i → named (get_or es j d) ≡ false)
+
+  tail_first : (e : Value × Value) (es : List (Value × Value)) (i : ℕ) (d : Value × Value) → IsFirst (e ∷ es) (suc i) d → IsFirst es i d
+  tail_first e es i d first = (omega arith, first.1, λ j below. first.2 (suc j) (omega arith))
+
+  value_absent : (es : List (Value × Value)) → AllFail named es → value_at n (map both es) ≡ None
+  value_absent [] fails = refl
+  value_absent (e ∷ es) fails = rw fails.0 (value_absent es fails.1)
+
+  without_absent : (es : List (Value × Value)) → AllFail named es → map both es ≡ without n (map both es)
+  without_absent [] fails = refl
+  without_absent (e ∷ es) fails = rw fails.0 (ap (λ r. both e ∷ r) (without_absent es fails.1))
+
+  value_first : (es : List (Value × Value)) (i : ℕ) (d : Value × Value) → IsFirst es i d → value_at n (map both es) ≡ Some (tree_of (get_or es i d).1)
+  value_first [] i d first = absurd (omega (arith, first.0))
+  value_first (e ∷ es) zero d first = rw first.1 refl
+  value_first (e ∷ es) (suc i) d first = rw (first.2 0 (omega arith)) (value_first es i d (tail_first e es i d first))
+
+  without_first : (es : List (Value × Value)) (i : ℕ) (d : Value × Value) → IsFirst es i d → map both (remove es i) ≡ without n (map both es)
+  without_first [] i d first = absurd (omega (arith, first.0))
+  without_first (e ∷ es) zero d first = rw first.1 refl
+  without_first (e ∷ es) (suc i) d first =
+      rw (first.2 0 (omega arith)) (ap (λ r. both e ∷ r) (without_first es i d (tail_first e es i d first)))
+
+  -- by the place that a search gives
+  pub absent : (es : List (Value × Value)) → position named es ≡ None → (value_at n (map both es) ≡ None) × (map both es ≡ without n (map both es))
+  absent es none = let fails = fail_by_position named es none in (value_absent es fails, without_absent es fails)
+
+  pub present : (es : List (Value × Value)) (i : ℕ) (d : Value × Value) → position named es ≡ Some i
+      → (value_at n (map both es) ≡ Some (tree_of (get_or es i d).1)) × (map both (remove es i) ≡ without n (map both es))
+  present es i d found =
+      let first : IsFirst es i d = position-Some named es i d found in
+      (value_first es i d first, without_first es i d first)

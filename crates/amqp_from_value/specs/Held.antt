@@ -1,0 +1,17 @@
+-- The trees of what a deserializer of a `Value` holds.
+use Rattle.std.specs.Prelude.{List, map}
+use Rattle.std.specs.Vec.Iter.{into_iter_items}
+use Rattle.amqp_ser.specs.Tree.{Tree}
+use Rattle.amqp_value.specs.TreeOf.{tree_of}
+use Rattle.amqp_from_value.specs.declared.deserializer.Deserializer.{Deserializer}
+use Rattle.amqp_from_value.specs.declared.deserializer.Elements.{Elements}
+use Rattle.amqp_from_value.specs.declared.deserializer.Entries.{Entries}
+
+abbrev pub held : Deserializer → Tree
+held d = tree_of d.value
+
+abbrev pub elements_left : Elements → List Tree
+elements_left e = map tree_of (into_iter_items e.values)
+
+abbrev pub entries_left : Entries → List (Tree × Tree)
+entries_left e = map (λ p. (tree_of p.0, tree_of p.1)) e.pairs.items

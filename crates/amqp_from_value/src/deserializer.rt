@@ -1,0 +1,191 @@
+//! The deserializer of a `Value`.
+
+ghost use Rattle.std.specs.Prelude.{◌≡◌, position};
+ghost use Rattle.amqp_data.specs.declared.error.Error.TheVariants.{OutOfMemory};
+ghost use Rattle.amqp_value.specs.TreeOf.{tree_of};
+ghost use Rattle.amqp_de.specs.Answers.{Answers, Restores};
+ghost use Rattle.amqp_de.specs.Fields.{is_name};
+
+use amqp_data::Error;
+use amqp_de::de::{self, Content, Deserialize};
+use amqp_value::Value;
+use std::alloc::Global;
+use std::collections::VecDeque;
+use std::vec::IntoIter;
+
+/// Reads a type out of a value.
+#[derive(Drop)]
+pub struct Deserializer {
+    alloc: Global,
+    value: Value,
+}
+
+/// The elements of a list or an array that were not taken yet.
+#[derive(Drop)]
+pub struct Elements {
+    alloc: Global,
+    values: IntoIter<Value>,
+}
+
+/// The pairs of a map that were not taken yet.
+#[derive(Drop)]
+pub struct Entries {
+    alloc: Global,
+    pairs: VecDeque<(Value, Value)>,
+}
+
+impl Deserializer {
+    ghost use Rattle.amqp_from_value.specs.Held.{held};
+
+    /// A deserializer that holds the value.
+    ///
+    /// # Memory
+    /// Takes none.
+    pub fn new(alloc: Global, value: Value) -> Deserializer
+        ensures { held result ≡ tree_of value }
+    {
+        Deserializer { alloc, value }
+    }
+}
+
+impl de::Deserializer for Deserializer {
+    ghost use Rattle.amqp_from_value.specs.Held.{held, elements_left, entries_left};
+
+    type Error = Error;
+
+    type Elements = Elements;
+
+    type Entries = Entries;
+
+    ghost value = { held };
+
+    ghost items = { elements_left };
+
+    ghost pairs = { entries_left };
+
+    fn is_null(&self) -> bool {
+        matches!(&self.value, Value::Null)
+    }
+
+    fn open(self) -> Content<Deserializer, Elements, Entries> {
+        let Deserializer { alloc, value } = self;
+        match value {
+            Value::Described(described) => {
+                let described = Box::into_inner(described);
+                Content::Described(
+                    described.descriptor,
+                    Deserializer {
+                        alloc,
+                        value: described.value,
+                    },
+                )
+            }
+            Value::Null => Content::Null,
+            Value::Bool(v) => Content::Bool(v),
+            Value::Ubyte(v) => Content::Ubyte(v),
+            Value::Ushort(v) => Content::Ushort(v),
+            Value::Uint(v) => Content::Uint(v),
+            Value::Ulong(v) => Content::Ulong(v),
+            Value::Byte(v) => Content::Byte(v),
+            Value::Short(v) => Content::Short(v),
+            Value::Int(v) => Content::Int(v),
+            Value::Long(v) => Content::Long(v),
+            Value::Float(v) => Content::Float(v),
+            Value::Double(v) => Content::Double(v),
+            Value::Decimal32(v) => Content::Decimal32(v),
+            Value::Decimal64(v) => Content::Decimal64(v),
+            Value::Decimal128(v) => Content::Decimal128(v),
+            Value::Char(v) => Content::Char(v),
+            Value::Timestamp(v) => Content::Timestamp(v),
+            Value::Uuid(v) => Content::Uuid(v),
+            Value::Binary(v) => Content::Binary(v),
+            Value::String(v) => Content::String(v),
+            Value::Symbol(v) => Content::Symbol(v),
+            Value::List(values) => Content::List(Elements {
+                alloc,
+                values: values.into_iter(),
+            }),
+            Value::Map(map) => Content::Map(Entries {
+                alloc,
+                pairs: VecDeque::from_vec(map.into_inner()),
+            }),
+            Value::Array(array) => Content::Array(Elements {
+                alloc,
+                values: array.into_inner().into_iter(),
+            }),
+        }
+    }
+
+    fn into_value(self) -> Value {
+        let Deserializer { value, .. } = self;
+        value
+    }
+
+    fn next_element(elements: &mut Elements) -> Option<Deserializer> {
+        match elements.values.next() {
+            Some(value) => Some(Deserializer {
+                alloc: elements.alloc,
+                value,
+            }),
+            None => None,
+        }
+    }
+
+    fn next_pair(entries: &mut Entries) -> Option<(Deserializer, Deserializer)> {
+        match entries.pairs.pop_front() {
+            Some((key, value)) => Some((
+                Deserializer {
+                    alloc: entries.alloc,
+                    value: key,
+                },
+                Deserializer {
+                    alloc: entries.alloc,
+                    value,
+                },
+            )),
+            None => None,
+        }
+    }
+
+    fn take_named(entries: &mut Entries, name: &str) -> Option<Deserializer> {
+        match find(&entries.pairs, name) {
+            Some(at) => match entries.pairs.remove(at) {
+                Some((_, value)) => Some(Deserializer {
+                    alloc: entries.alloc,
+                    value,
+                }),
+                None => None,
+            },
+            None => None,
+        }
+    }
+}
+
+/// Whether the key is the string of this name.
+fn is_name(key: &Value, name: &str) -> bool
+    ensures { result ≡ is_name name.now (tree_of key.now) }
+{
+    match key {
+        Value::String(text) => text.as_str() == name,
+        _ => false,
+    }
+}
+
+/// The place of the first key that is the string of this name.
+fn find(pairs: &VecDeque<(Value, Value)>, name: &str) -> Option<usize>
+    ensures { result ≡ position (λ e. is_name name.now (tree_of e.0)) pairs.now.items }
+{
+    pairs.iter().position(|pair| is_name(&pair.0, name))
+}
+
+/// Reads a `T` out of the value.
+///
+/// # Errors
+/// `OutOfMemory`; otherwise what `T` refuses with, and only where the value is not read as a `T`: `InvalidValue` or
+/// `Message`. The value is dropped then.
+pub fn from_value<T: Deserialize>(alloc: Global, value: Value) -> Result<T, Error>
+    ensures read { Answers (λ e. e ≡ OutOfMemory) (T.reads (tree_of value)) result }
+    ensures law { Restores T.image T.restorable T.same (λ e. e ≡ OutOfMemory) (tree_of value) result }
+{
+    T::deserialize(alloc, Deserializer::new(alloc, value))
+}

@@ -1,0 +1,85 @@
+//! Arrays of lists, and composites that are lists and maps: headers of more than one compound, filled at their ends.
+
+ghost use Rattle.std.specs.Prelude.{◌∷◌, [], codes};
+ghost use Rattle.amqp_ser.specs.Tree.{code};
+ghost use Rattle.amqp_ser.specs.Words.{list_composite, map_composite, of_bool, of_i32};
+
+use crate::report::report;
+use amqp_data::{Array, Error};
+use amqp_ser::{ListOf, MapOf, Serialize, Serializer, fields};
+use amqp_to_value::to_value;
+use amqp_wire::to_vec;
+use std::alloc::Global;
+
+/// A composite of a truth value and a number, as a list.
+#[derive(Drop)]
+struct AsList(bool, i32);
+
+impl Serialize for AsList {
+    ghost tree = { λ v. list_composite (code 0x13) (of_bool v.0 ∷ of_i32 v.1 ∷ []) };
+
+    fn serialize<S: Serializer>(&self, serializer: &mut S) -> Result<S::Ok, S::Error> {
+        serializer.serialize_described(
+            &0x13u64,
+            &ListOf(fields! { "is_fool": &self.0, "a": &self.1 }),
+        )
+    }
+}
+
+/// The same as a map.
+#[derive(Drop)]
+struct AsMap(bool, i32);
+
+impl Serialize for AsMap {
+    ghost tree = { λ v. map_composite (code 0x13) ((codes "is_fool", of_bool v.0) ∷ (codes "a", of_i32 v.1) ∷ []) };
+
+    fn serialize<S: Serializer>(&self, serializer: &mut S) -> Result<S::Ok, S::Error> {
+        serializer.serialize_described(
+            &0x13u64,
+            &MapOf(fields! { "is_fool": &self.0, "a": &self.1 }),
+        )
+    }
+}
+
+/// Makes each call once.
+pub fn all(rt: &(impl Print + AllocGlobal)) -> Result<(), Error> {
+    let alloc = rt.alloc();
+    report(rt, "an array of lists", array_of_lists(alloc)?);
+    report(rt, "a list composite", list_composite(alloc)?);
+    report(rt, "a map composite", map_composite(alloc)?);
+    Ok(())
+}
+
+// The value and its image are written as these bytes.
+fn writes<T: Serialize>(alloc: Global, value: &T, bytes: &[u8]) -> Result<bool, Error> {
+    let written = to_vec(alloc, value)?;
+    let image = to_value(alloc, value)?;
+    let again = to_vec(alloc, &image)?;
+    Ok(written.as_slice() == bytes && again.as_slice() == bytes)
+}
+
+fn array_of_lists(alloc: Global) -> Result<bool, Error> {
+    let one = vec![in alloc; 1u8]?;
+    let lists = Array::from(vec![in alloc; Vec::new(alloc), one]?);
+    writes(
+        alloc,
+        &lists,
+        b"\xe0\x14\x02\xd0\0\0\0\x04\0\0\0\0\0\0\0\x06\0\0\0\x01\x50\x01",
+    )
+}
+
+fn list_composite(alloc: Global) -> Result<bool, Error> {
+    writes(
+        alloc,
+        &AsList(true, 3),
+        b"\0\x53\x13\xc0\x04\x02\x41\x54\x03",
+    )
+}
+
+fn map_composite(alloc: Global) -> Result<bool, Error> {
+    writes(
+        alloc,
+        &AsMap(true, 9),
+        b"\0\x53\x13\xc1\x10\x04\xa1\x07is_fool\x41\xa1\x01a\x54\x09",
+    )
+}

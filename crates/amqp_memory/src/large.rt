@@ -1,0 +1,111 @@
+//! The calls that take memory, each with about a mebibyte.
+
+use crate::report::report;
+use amqp_data::{Array, ByteBuf, Error, OrderedMap, Symbol, TransparentVec};
+use amqp_frame::{LazyValue, SliceReader};
+use amqp_to_value::{TryFromSerializable, to_value};
+use amqp_value::Value;
+use amqp_wire::to_vec;
+use serde_amqp::{VecWriter, run_cut, run_lines};
+use std::alloc::Global;
+use std::collections::BTreeMap;
+use std::str;
+
+const MEBIBYTE: usize = 1 << 20;
+
+/// Makes each call once.
+pub fn all(rt: &(impl Print + AllocGlobal)) -> Result<(), Error> {
+    let alloc = rt.alloc();
+    report(rt, "a long name", name(alloc)?);
+    report(rt, "a large map", map(alloc)?);
+    report(rt, "many elements", collected(alloc)?);
+    report(rt, "long bytes", bytes(alloc)?);
+    report(rt, "many compounds", compounds(alloc)?);
+    report(rt, "many keys", keys(alloc)?);
+    report(rt, "a long frame", frame(alloc)?);
+    report(rt, "a long line", line(alloc)?);
+    report(rt, "a run over a long frame", run_of_frame(alloc)?);
+    Ok(())
+}
+
+fn name(alloc: Global) -> Result<bool, Error> {
+    let bytes = Vec::from_elem(alloc, b'a', MEBIBYTE)?;
+    let Ok(text) = str::from_utf8(&bytes) else {
+        return Ok(false);
+    };
+    let symbol = Symbol::try_from_str(alloc, text)?;
+    Ok(symbol.as_inner().as_str() == text)
+}
+
+fn map(alloc: Global) -> Result<bool, Error> {
+    let mut map = OrderedMap::new(alloc);
+    for key in 0..1024u16 {
+        drop(map.insert(key, [1u8; 1024])?);
+    }
+    Ok(map.len() == 1024)
+}
+
+fn collected(alloc: Global) -> Result<bool, Error> {
+    let vector = TransparentVec::try_collect(alloc, 0..262_144u32)?;
+    Ok(vector.as_slice().len() == 262_144)
+}
+
+fn bytes(alloc: Global) -> Result<bool, Error> {
+    let binary = ByteBuf::from(Vec::from_elem(alloc, 1u8, MEBIBYTE)?);
+    let written = to_vec(alloc, &binary)?;
+    let image = to_value(alloc, &binary)?;
+    let again = Value::try_from_serializable(alloc, &image)?;
+    let starts = written.starts_with(&[0xb0, 0, 0x10, 0, 0, 1]);
+    Ok(starts && written.len() == MEBIBYTE + 5 && again == Value::Binary(binary))
+}
+
+// More than a mebibyte of headers, and of values.
+fn compounds(alloc: Global) -> Result<bool, Error> {
+    let lists = Array::from(Vec::from_elem(alloc, (1u8,), 100_000)?);
+    let written = to_vec(alloc, &lists)?;
+    let image = to_value(alloc, &lists)?;
+    let starts = written.starts_with(&[0xf0, 0, 0x0f, 0x42, 0x45, 0, 1, 0x86, 0xa0, 0xd0]);
+    Ok(starts && written.len() == 1_000_010 && to_vec(alloc, &image)? == written)
+}
+
+fn keys(alloc: Global) -> Result<bool, Error> {
+    let mut map = BTreeMap::new(alloc);
+    for key in 0..20_000u32 {
+        drop(map.insert(key, ())?);
+    }
+    let image = to_value(alloc, &map)?;
+    Ok(to_vec(alloc, &image)? == to_vec(alloc, &map)?)
+}
+
+// A binary of a mebibyte, as a frame.
+fn long_frame(alloc: Global) -> Result<Vec<u8>, Error> {
+    let payload = Vec::from_elem(alloc, 1u8, MEBIBYTE)?;
+    let mut frame = Vec::new(alloc);
+    frame.extend_from_slice(&[0xb0, 0, 0x10, 0, 0])?;
+    frame.extend_from_slice(&payload)?;
+    Ok(frame)
+}
+
+fn frame(alloc: Global) -> Result<bool, Error> {
+    let bytes = long_frame(alloc)?;
+    let value = LazyValue::from_reader(alloc, &mut SliceReader::new(&bytes))?;
+    Ok(value.try_into_vec(alloc)? == bytes)
+}
+
+fn line(alloc: Global) -> Result<bool, Error> {
+    let mut writer = VecWriter::new(alloc);
+    let input = Vec::from_elem(alloc, b'a', MEBIBYTE)?;
+    run_lines(alloc, &mut SliceReader::new(&input), &mut writer)?;
+    let printed = writer.into_inner();
+    let starts = printed.starts_with(b"size 1048590\nbytes d00010000900000001b1001000006161");
+    Ok(starts && printed.ends_with(b"aa\"]\n") && printed.len() == 3_145_786)
+}
+
+fn run_of_frame(alloc: Global) -> Result<bool, Error> {
+    let mut writer = VecWriter::new(alloc);
+    let bytes = long_frame(alloc)?;
+    run_cut(alloc, &mut SliceReader::new(&bytes), &mut writer)?;
+    let printed = writer.into_inner();
+    let starts = printed.starts_with(b"1048581 b0001000000101");
+    Ok(starts && printed.len() == 8 + 2 * (MEBIBYTE + 5) + 1)
+}

@@ -1,0 +1,53 @@
+//! False lengths: frames that claim four gigabytes, and end. They take no more memory than they have bytes, so the
+//! answer is the end of the input, also where each request for much at once is refused.
+
+use crate::report::report;
+use amqp_data::Error;
+use amqp_frame::{LazyValue, SliceReader};
+use serde_amqp::{VecWriter, run_cut};
+
+// Frames of all forms with a size of four bytes, which are cut short.
+const FRAMES: [&[u8]; 9] = [
+    b"\xb0\xff\xff\xff\xff",
+    b"\xb0\xff\xff\xff\xff\x61\x62\x63",
+    b"\xb1\xff\xff\xff\xff\x61",
+    b"\xb3\xff\xff\xff\xff\x61",
+    b"\xd0\xff\xff\xff\xff\x00",
+    b"\xd1\xff\xff\xff\xff\x00\x00\x00\x02",
+    b"\xf0\xff\xff\xff\xff\x00\x00\x00\x01\x50",
+    b"\x00\xb0\xff\xff\xff\xff",
+    b"\x00\x40\xf0\x7f\xff\xff\xff",
+];
+
+/// Makes each call once.
+pub fn all(rt: &(impl Print + AllocGlobal)) -> Result<(), Error> {
+    for frame in FRAMES {
+        report(rt, "a false length", is_end(taken(rt, frame))?);
+        report(rt, "a false length in a run", is_end(run(rt, frame))?);
+    }
+    Ok(())
+}
+
+fn taken(rt: &impl AllocGlobal, frame: &[u8]) -> Result<(), Error> {
+    let mut reader = SliceReader::new(frame);
+    LazyValue::from_reader(rt.alloc(), &mut reader)?;
+    Ok(())
+}
+
+fn run(rt: &impl AllocGlobal, frame: &[u8]) -> Result<(), Error> {
+    let alloc = rt.alloc();
+    run_cut(
+        alloc,
+        &mut SliceReader::new(frame),
+        &mut VecWriter::new(alloc),
+    )
+}
+
+// Whether the answer is the end of the input; want of memory is passed on.
+fn is_end(answer: Result<(), Error>) -> Result<bool, Error> {
+    match answer {
+        Err(Error::UnexpectedEof) => Ok(true),
+        Err(Error::OutOfMemory) => Err(Error::OutOfMemory),
+        _ => Ok(false),
+    }
+}

@@ -1,0 +1,32 @@
+-- The trees of elements in order: a list, an array and a transparent tree of them.
+use Rattle.std.proofs.Common.{◌≡◌, List, Option, Some, None, option_map, refl}
+use Rattle.amqp_ser.specs.Tree as tree
+use Rattle.amqp_ser.specs.Tree.{Tree, Trees}
+use Rattle.amqp_ser.specs.Compounds.{all_trees, as_kind, whole}
+use Rattle.amqp_ser.specs.Marked.{marked}
+use Rattle.amqp_ser.specs.declared.kind.Kind.TheVariants as kind
+use Rattle.amqp_ser.specs.declared.mark.Mark.TheVariants as mark
+
+list_kind : (o : Option Trees) → as_kind kind.List o ≡ option_map tree.list o
+list_kind None = refl
+list_kind (Some ts) = refl
+
+array_kind : (o : Option Trees) → marked mark.Array (as_kind kind.List o) ≡ option_map tree.array o
+array_kind None = refl
+array_kind (Some ts) = refl
+
+transparent_kind : (o : Option Trees) → marked mark.Transparent (as_kind kind.List o) ≡ option_map tree.transparent o
+transparent_kind None = refl
+transparent_kind (Some ts) = refl
+
+pub whole_list : (ps : List (Option Tree)) → whole kind.List ps ≡ option_map tree.list (all_trees ps)
+unfolding whole
+whole_list ps = list_kind (all_trees ps)
+
+pub whole_array : (ps : List (Option Tree)) → marked mark.Array (whole kind.List ps) ≡ option_map tree.array (all_trees ps)
+unfolding whole
+whole_array ps = array_kind (all_trees ps)
+
+pub whole_transparent : (ps : List (Option Tree)) → marked mark.Transparent (whole kind.List ps) ≡ option_map tree.transparent (all_trees ps)
+unfolding whole
+whole_transparent ps = transparent_kind (all_trees ps)

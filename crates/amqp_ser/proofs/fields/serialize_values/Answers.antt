@@ -1,0 +1,10 @@
+use Rattle.std.proofs.Common.{rules, [], ap, append-nil}
+use Rattle.amqp_ser.specs.Compounds.{whole}
+use Rattle.amqp_ser.proofs.Feeding.{moved}
+use Rattle.amqp_ser.proofs.fields.serialize_values.Goals as goal
+
+-- a refusal of the fields is one of their list
+pub returns-in_err-feed : goal.returns-in_err-feed
+returns-in_err-feed g c =
+    moved (g.S.Serializer.permits c.args.serializer.now) (ap (whole c.args.kind) (append-nil _)) (search rules) (search rules)
+    (c.in_err-feed.ensures c.args.serializer.now c.args.kind [] c.begin-held.ensures [])

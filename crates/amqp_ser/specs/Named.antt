@@ -1,0 +1,36 @@
+-- Fields that are handed over together: a name, whether the field is there, and its tree (AMQP 1.0 part 1, section 1.4).
+use Rattle.std.specs.Prelude.{ℕ, List, [], ◌∷◌, Option, Some, Bool, false, ◌||◌, if◌then◌else◌}
+use Rattle.amqp_ser.specs.Tree.{Tree, scalar, string, symbol}
+use Rattle.amqp_ser.specs.declared.fields.Keys.{Keys}
+use Rattle.amqp_ser.specs.declared.fields.Keys.TheVariants as keys
+
+-- the fields without their names
+abbrev pub values_of : List (List ℕ × (Bool × Option Tree)) → List (Bool × Option Tree)
+values_of [] = []
+values_of (f ∷ fs) = f.1 ∷ values_of fs
+
+-- one of the fields is there
+abbrev pub any_there : List (Bool × Option Tree) → Bool
+any_there [] = false
+any_there (f ∷ fs) = f.0 || any_there fs
+
+-- the parts of a list: the fields up to the last that is there
+abbrev pub up_to_last : List (Bool × Option Tree) → List (Option Tree)
+up_to_last [] = []
+up_to_last (f ∷ fs) = if f.0 || any_there fs then f.1 ∷ up_to_last fs else []
+
+-- a name as a map's key: a string, or a symbol
+abbrev pub string_key : List ℕ → Option Tree
+string_key n = Some (scalar (string n))
+
+abbrev pub symbol_key : List ℕ → Option Tree
+symbol_key n = Some (scalar (symbol n))
+
+abbrev pub key_of : Keys → List ℕ → Option Tree
+key_of keys.Strings n = string_key n
+key_of keys.Symbols n = symbol_key n
+
+-- the parts of a map: key and tree, in turn, of each field that is there
+abbrev pub entries_of : (List ℕ → Option Tree) → List (List ℕ × (Bool × Option Tree)) → List (Option Tree)
+entries_of key [] = []
+entries_of key (f ∷ fs) = if f.1.0 then key f.0 ∷ f.1.1 ∷ entries_of key fs else entries_of key fs

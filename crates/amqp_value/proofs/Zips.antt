@@ -1,0 +1,68 @@
+-- Lists whose items are related place by place, and what an iterator of a vector has given.
+use Rattle.std.proofs.Common.{◌≡◌, List, [], ◌∷◌, ◌++◌, ◌∙◌, ap, sym, subst, refl, fold, Option, Some, Bool, true, false, Result, Ok, Err, is_ok, OnOk, true≢false}
+use Rattle.std.specs.Iterator.{Yields}
+use Rattle.std.specs.List.{AllZip}
+use Rattle.std.specs.Vec.Iter.{into_iter_items, into_iter_steps}
+use Rattle.std.specs.declared.vec.IntoIter.{IntoIter}
+use Rattle.amqp_value.specs.Converts.{FirstFits, StopsAt, ConvertsAll, PairFits, PairFails, PairGives, PairsGive}
+use Rattle.amqp_value.specs.declared.try_from.ConvertFault.{ConvertFault}
+use Rattle.amqp_value.specs.declared.try_from.ConvertFault.TheVariants.{Unfit, Memory}
+use Rattle.amqp_value.specs.declared.value.Value.{Value}
+
+pub zip_push : {A B : Type 0} (R : A → B → Type 0) (xs : List A) (ys : List B) (x : A) (y : B) → AllZip R xs ys → R x y → AllZip R (xs ++ x ∷ []) (ys ++ y ∷ [])
+zip_push R [] [] x y h r = (r, tt)
+zip_push R [] (z ∷ ys) x y h r = absurd h
+zip_push R (w ∷ xs) [] x y h r = absurd h
+zip_push R (w ∷ xs) (z ∷ ys) x y h r = (h.0, zip_push R xs ys x y h.1 r)
+
+taken_front : {X A : Type 0} (s : IntoIter X A) (xs : List X) (t : IntoIter X A) → Yields into_iter_steps s xs t → into_iter_items s ≡ xs ++ into_iter_items t
+taken_front s [] t y = ap into_iter_items y
+taken_front s (x ∷ xs) t y = y.1.0 ∙ ap (λ ys. x ∷ ys) (taken_front y.0 xs t y.2)
+
+-- the items given so far, this one, and those that are left
+pub taken_one : {X A : Type 0} (s : IntoIter X A) (xs : List X) (t : IntoIter X A) (x : X) (u : IntoIter X A) → Yields into_iter_steps s xs t → into_iter_steps t (Some x) u → into_iter_items s ≡ xs ++ x ∷ into_iter_items u
+taken_one s xs t x u y z = taken_front s xs t y ∙ ap (λ r. xs ++ r) z.0
+
+pub stops : {A B Z : Type 0} (Fits : A → B → Type 0) (Fails : A → Value → Type 0) (all : List A) (s : IntoIter A Z) (xs : List A) (t : IntoIter A Z) (x : A) (u : IntoIter A Z) (done : List B) (v : Value)
+    → into_iter_items s ≡ all → Yields into_iter_steps s xs t → into_iter_steps t (Some x) u → AllZip Fits xs done → Fails x v → StopsAt Fits Fails all v
+stops Fits Fails all s xs t x u done v is y z fit unfit = record {
+  before = xs;
+  done = done;
+  at = x;
+  after = into_iter_items u;
+  split = sym is ∙ taken_one s xs t x u y z;
+  fit = fit;
+  fails = unfit;
+}
+
+front : {A B : Type 0} (Fits : A → B → Type 0) (xs : List A) (x : A) (rest : List A) (done : List B) (y : B) → AllZip Fits xs done → Fits x y → FirstFits Fits (xs ++ x ∷ rest)
+front Fits [] x rest done y fit here = (y, here)
+front Fits (w ∷ xs) x rest [] y fit here = absurd fit
+front Fits (w ∷ xs) x rest (d ∷ done) y fit here = (d, fit.0)
+
+-- those so far fit, and so does this one
+pub first_fits : {A B Z : Type 0} (Fits : A → B → Type 0) (all : List A) (s : IntoIter A Z) (xs : List A) (t : IntoIter A Z) (x : A) (u : IntoIter A Z) (done : List B) (y : B)
+    → into_iter_items s ≡ all → Yields into_iter_steps s xs t → into_iter_steps t (Some x) u → AllZip Fits xs done → Fits x y → FirstFits Fits all
+first_fits Fits all s xs t x u done y is yields step fit here =
+    subst (FirstFits Fits) (sym (taken_one s xs t x u yields step) ∙ is) (front Fits xs x (into_iter_items u) done y fit here)
+
+-- want of memory, once this part fits
+pub wants_memory : {A B R Z : Type 0} (Fits : A → B → Type 0) (Fails : A → Value → Type 0) (Made : List B → R → Type 0) (all : List A) (s : IntoIter A Z) (xs : List A) (t : IntoIter A Z) (x : A) (u : IntoIter A Z) (done : List B) (y : B) (r : Result R ConvertFault)
+    → into_iter_items s ≡ all → Yields into_iter_steps s xs t → into_iter_steps t (Some x) u → AllZip Fits xs done → Fits x y → r ≡ Err Memory → ConvertsAll Fits Fails Made all r
+wants_memory Fits Fails Made all s xs t x u done y r is yields step fit here e =
+    subst (ConvertsAll Fits Fails Made all) (sym e) (first_fits Fits all s xs t x u done y is yields step fit here)
+
+pub fold_push : {A B : Type 0} (f : B → A → B) (b : B) (xs : List A) (x : A) → fold f b (xs ++ x ∷ []) ≡ f (fold f b xs) x
+fold_push f b [] x = refl
+fold_push f b (y ∷ xs) x = fold_push f (f b y) xs x
+
+-- a pair that does not fit, where the fault says which value it was
+pub pair_stops : {K X A R : Type 0} (kg : Value → Result K Value → Type 0) (vg : Value → Result X Value → Type 0) (Made : List (K × X) → R → Type 0)
+    (all : List (Value × Value)) (s : IntoIter (Value × Value) A) (xs : List (Value × Value)) (t : IntoIter (Value × Value) A) (p : Value × Value) (u : IntoIter (Value × Value) A) (done : List (K × X)) (fault : ConvertFault) (r : Result R ConvertFault)
+    → into_iter_items s ≡ all → Yields into_iter_steps s xs t → into_iter_steps t (Some p) u → AllZip (PairFits kg vg) xs done → PairGives kg vg p (Err fault) → r ≡ Err fault → PairsGive kg vg Made all r
+pair_stops kg vg Made all s xs t p u done (Unfit v) r is y z fit unfit e = subst (PairsGive kg vg Made all) (sym e) (stops (PairFits kg vg) (PairFails kg vg) all s xs t p u done v is y z fit unfit)
+pair_stops kg vg Made all s xs t p u done Memory r is y z fit unfit e = absurd unfit
+
+pub on_ok : {T E : Type 0} (r : Result T E) (P : Type 0) → OnOk r P → is_ok r ≡ true → P
+on_ok (Ok x) P h e = h
+on_ok (Err x) P h e = absurd (true≢false (sym e))

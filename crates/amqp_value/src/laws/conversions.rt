@@ -1,0 +1,48 @@
+//! Laws of conversions and format codes.
+
+ghost use Rattle.std.specs.Prelude.{◌≡◌, true};
+ghost use Rattle.amqp_ser.specs.Tree.{Tree, Trees, array, more};
+ghost use Rattle.amqp_ser.specs.Writable.{writable};
+ghost use Rattle.amqp_value.specs.ComesBack.{ComesBack};
+ghost use Rattle.amqp_value.specs.FormatCode.{HasOneCode};
+
+use crate::Value;
+use amqp_data::{ByteBuf, Dec32, Dec64, Dec128, F32Bits, F64Bits, Symbol, Timestamp, Uuid};
+use amqp_ser::Serialize;
+
+/// `TryFrom` after `From` gives the scalar back, and the value between them has the scalar's tree, as the one that
+/// `to_value` gives has.
+///
+/// # Memory
+/// Takes none.
+pub fn scalars_come_back()
+    ensures bools { ComesBack ⟦<bool as Serialize>⟧.tree ⟦<Value as From<bool>>⟧.from_gives ⟦<bool as TryFrom<Value>>⟧.try_from_gives }
+    ensures ubytes { ComesBack ⟦<u8 as Serialize>⟧.tree ⟦<Value as From<u8>>⟧.from_gives ⟦<u8 as TryFrom<Value>>⟧.try_from_gives }
+    ensures ushorts { ComesBack ⟦<u16 as Serialize>⟧.tree ⟦<Value as From<u16>>⟧.from_gives ⟦<u16 as TryFrom<Value>>⟧.try_from_gives }
+    ensures uints { ComesBack ⟦<u32 as Serialize>⟧.tree ⟦<Value as From<u32>>⟧.from_gives ⟦<u32 as TryFrom<Value>>⟧.try_from_gives }
+    ensures ulongs { ComesBack ⟦<u64 as Serialize>⟧.tree ⟦<Value as From<u64>>⟧.from_gives ⟦<u64 as TryFrom<Value>>⟧.try_from_gives }
+    ensures bytes { ComesBack ⟦<i8 as Serialize>⟧.tree ⟦<Value as From<i8>>⟧.from_gives ⟦<i8 as TryFrom<Value>>⟧.try_from_gives }
+    ensures shorts { ComesBack ⟦<i16 as Serialize>⟧.tree ⟦<Value as From<i16>>⟧.from_gives ⟦<i16 as TryFrom<Value>>⟧.try_from_gives }
+    ensures ints { ComesBack ⟦<i32 as Serialize>⟧.tree ⟦<Value as From<i32>>⟧.from_gives ⟦<i32 as TryFrom<Value>>⟧.try_from_gives }
+    ensures longs { ComesBack ⟦<i64 as Serialize>⟧.tree ⟦<Value as From<i64>>⟧.from_gives ⟦<i64 as TryFrom<Value>>⟧.try_from_gives }
+    ensures floats { ComesBack ⟦<F32Bits as Serialize>⟧.tree ⟦<Value as From<F32Bits>>⟧.from_gives ⟦<F32Bits as TryFrom<Value>>⟧.try_from_gives }
+    ensures doubles { ComesBack ⟦<F64Bits as Serialize>⟧.tree ⟦<Value as From<F64Bits>>⟧.from_gives ⟦<F64Bits as TryFrom<Value>>⟧.try_from_gives }
+    ensures decimal32s { ComesBack ⟦<Dec32 as Serialize>⟧.tree ⟦<Value as From<Dec32>>⟧.from_gives ⟦<Dec32 as TryFrom<Value>>⟧.try_from_gives }
+    ensures decimal64s { ComesBack ⟦<Dec64 as Serialize>⟧.tree ⟦<Value as From<Dec64>>⟧.from_gives ⟦<Dec64 as TryFrom<Value>>⟧.try_from_gives }
+    ensures decimal128s { ComesBack ⟦<Dec128 as Serialize>⟧.tree ⟦<Value as From<Dec128>>⟧.from_gives ⟦<Dec128 as TryFrom<Value>>⟧.try_from_gives }
+    ensures chars { ComesBack ⟦<char as Serialize>⟧.tree ⟦<Value as From<char>>⟧.from_gives ⟦<char as TryFrom<Value>>⟧.try_from_gives }
+    ensures timestamps { ComesBack ⟦<Timestamp as Serialize>⟧.tree ⟦<Value as From<Timestamp>>⟧.from_gives ⟦<Timestamp as TryFrom<Value>>⟧.try_from_gives }
+    ensures uuids { ComesBack ⟦<Uuid as Serialize>⟧.tree ⟦<Value as From<Uuid>>⟧.from_gives ⟦<Uuid as TryFrom<Value>>⟧.try_from_gives }
+    ensures binaries { ComesBack ⟦<ByteBuf as Serialize>⟧.tree ⟦<Value as From<ByteBuf>>⟧.from_gives ⟦<ByteBuf as TryFrom<Value>>⟧.try_from_gives }
+    ensures strings { ComesBack ⟦<String as Serialize>⟧.tree ⟦<Value as From<String>>⟧.from_gives ⟦<String as TryFrom<Value>>⟧.try_from_gives }
+    ensures symbols { ComesBack ⟦<Symbol as Serialize>⟧.tree ⟦<Value as From<Symbol>>⟧.from_gives ⟦<Symbol as TryFrom<Value>>⟧.try_from_gives }
+{}
+
+/// The elements of an array that is written, and their images, all have one format code, and it is the array's
+/// constructor.
+///
+/// # Memory
+/// Takes none.
+pub fn elements_have_one_format_code()
+    ensures { (first : Tree) (rest : Trees) → writable (array (more first rest)) ≡ true → HasOneCode (more first rest) }
+{}

@@ -1,0 +1,5 @@
+pub mod Restricted
+pub mod Values
+pub mod Outcomes
+pub mod Termini
+pub mod Shapes

@@ -1,0 +1,44 @@
+//! Conversions, format codes and order, by the names that are handed out.
+
+use crate::format_code::EncodingCodes;
+use crate::primitives::{Array, OrderedMap, Symbol};
+use crate::value::{ConvertFault, Value, to_value};
+use std::collections::BTreeMap;
+use std::test::Fail;
+
+#[test]
+fn a_scalar_and_its_untyped_value_are_one(rt: HostRuntime) -> Result<(), Fail> {
+    let alloc = rt.alloc();
+    assert_eq!(rt; Value::from(7u32), to_value(alloc, &7u32)?);
+    let symbol = Symbol::try_from_str(alloc, "a")?;
+    assert_eq!(rt; to_value(alloc, &symbol)?, Value::from(symbol));
+    Ok(())
+}
+
+#[test]
+fn a_container_and_its_untyped_value_are_one(rt: HostRuntime) -> Result<(), Fail> {
+    let alloc = rt.alloc();
+    let items = vec![in alloc; 1u8, 2u8]?;
+    let image = to_value(alloc, &items)?;
+    assert_eq!(rt; Value::try_from_vec(alloc, items)?, image);
+    let array = Array::from(vec![in alloc; 1u8, 2u8]?);
+    let image = to_value(alloc, &array)?;
+    assert_eq!(rt; Value::try_from_array(alloc, array)?, image);
+    let mut map = BTreeMap::new(alloc);
+    let _ = map.insert(1u8, true)?;
+    let image = to_value(alloc, &map)?;
+    assert_eq!(rt; Value::try_from_btree_map(alloc, map)?, image);
+    Ok(())
+}
+
+#[test]
+fn what_does_not_fit_comes_back(rt: HostRuntime) -> Result<(), Fail> {
+    let alloc = rt.alloc();
+    let text = Value::try_from_str(alloc, "a")?;
+    assert_eq!(rt; text.format_code(), u8::from(EncodingCodes::Str32));
+    assert_eq!(rt; u8::try_from(text), Err(Value::try_from_str(alloc, "a")?));
+    let map = OrderedMap::<u8, u8>::try_from(Value::Null);
+    assert_eq!(rt; map, Err(ConvertFault::Unfit(Value::Null)));
+    assert!(rt; Value::from(-1i64) < Value::from(0i64));
+    Ok(())
+}

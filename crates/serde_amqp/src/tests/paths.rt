@@ -1,0 +1,141 @@
+//! Each item that is handed out, by its path: an alias of another module would have another type or another answer.
+
+use super::rows::decoded;
+use crate::ser::{Serialize, Serializer as _};
+use crate::{
+    Error, Value, described, descriptor, extensions, format_code, lazy, primitives, read, ser,
+    size_ser, value,
+};
+use std::alloc::Global;
+use std::process::Abort;
+use std::test::Fail;
+
+fn written<R: Abort, T: Serialize>(rt: &R, alloc: Global, bytes: &str, v: &T) -> Result<(), Fail> {
+    let expected = decoded(alloc, bytes)?;
+    assert!(rt; ser::to_vec(alloc, v)? == expected, "{bytes}");
+    assert_eq!(rt; size_ser::serialized_size(v), Ok(expected.len()), "{bytes}");
+    Ok(())
+}
+
+#[test]
+fn types_of_data(rt: HostRuntime) -> Result<(), Fail> {
+    let a = rt.alloc();
+    let tagged = described::Described {
+        descriptor: descriptor::Descriptor::Code(1),
+        value: true,
+    };
+    written(&rt, a, "00530141", &tagged)?;
+    let bare = extensions::TransparentVec::from(vec![in a; true, false]?);
+    written(&rt, a, "4142", &bare)?;
+    let array = primitives::Array::from(vec![in a; 1u8]?);
+    written(&rt, a, "e003015001", &array)?;
+    let binary = primitives::ByteBuf::from(vec![in a; 1u8]?);
+    written(&rt, a, "a00101", &binary)?;
+    let mut map = primitives::OrderedMap::new(a);
+    drop(map.insert(1u8, 2u8)?);
+    written(&rt, a, "c1050250015002", &map)?;
+    written(&rt, a, "7401010101", &primitives::Dec32::from([1; 4]))?;
+    written(
+        &rt,
+        a,
+        "840101010101010101",
+        &primitives::Dec64::from([1; 8]),
+    )?;
+    let sixteen = "01010101010101010101010101010101";
+    let text = format!(in a; "94{sixteen}")?;
+    written(&rt, a, &text, &primitives::Dec128::from([1; 16]))?;
+    let text = format!(in a; "98{sixteen}")?;
+    written(&rt, a, &text, &primitives::Uuid::from([1; 16]))?;
+    written(&rt, a, "7200000001", &primitives::F32Bits::from(1))?;
+    written(&rt, a, "820000000000000001", &primitives::F64Bits::from(1))?;
+    written(&rt, a, "a30161", &primitives::Symbol::try_from_str(a, "a")?)?;
+    written(&rt, a, "a30161", &primitives::SymbolRef::from("a"))?;
+    let moment = primitives::Timestamp::from_milliseconds(1);
+    written(&rt, a, "830000000000000001", &moment)
+}
+
+#[test]
+fn readers_frames_and_codes(rt: HostRuntime) -> Result<(), Fail> {
+    let bytes: &[u8] = b"\x40\x41";
+    assert_eq!(rt; lazy::frame_len(bytes), Some(1));
+    let mut slice = read::SliceReader::new(bytes);
+    let frame = lazy::LazyValue::from_reader(rt.alloc(), &mut slice)?;
+    assert_eq!(rt; frame.as_slice(), b"\x40".as_slice());
+    let mut reader = read::IoReader::new(bytes);
+    assert_eq!(rt; read::Read::next(&mut reader), Ok(Some(0x40)));
+    let code = format_code::EncodingCodes::try_from(0x40)?;
+    assert!(rt; code == format_code::EncodingCodes::Null);
+    Ok(())
+}
+
+#[test]
+fn values_and_widths(rt: HostRuntime) -> Result<(), Fail> {
+    let a = rt.alloc();
+    assert!(rt; value::to_value(a, &1u8)? == value::Value::Ubyte(1));
+    let called = <Value as value::TryFromSerializable>::try_from_serializable(a, &1u8)?;
+    assert!(rt; called == Value::Ubyte(1));
+    let mut images = value::ser::Serializer::new(a);
+    assert!(rt; images.serialize_u8(1)? == Value::Ubyte(1));
+    let mut lengths = size_ser::SizeSerializer::new();
+    assert_eq!(rt; lengths.serialize_u8(1), Ok(2));
+    assert_eq!(rt; size_ser::width::text_len(255, false), Ok(260));
+    assert_eq!(rt; size_ser::width::list_len(0, false), Ok(1));
+    assert_eq!(rt; size_ser::width::map_len(0, false), Ok(3));
+    assert_eq!(rt; size_ser::width::array_len(1, 256, false), Ok(10));
+    assert!(rt; matches!(ser::mark_named(ser::markers::UUID), ser::Mark::Uuid));
+    Ok(())
+}
+
+// Each alias of the size module ends with a length.
+
+fn length_of_list(parts: size_ser::SeqSerializer<'_>) -> Result<usize, size_ser::Refusal> {
+    parts.end()
+}
+
+fn length_of_tuple(parts: size_ser::TupleSerializer<'_>) -> Result<usize, size_ser::Refusal> {
+    parts.end()
+}
+
+fn length_of_map(parts: size_ser::MapSerializer<'_>) -> Result<usize, size_ser::Refusal> {
+    parts.end()
+}
+
+fn length_of_tuple_struct(
+    parts: size_ser::TupleStructSerializer<'_>,
+) -> Result<usize, size_ser::Refusal> {
+    parts.end()
+}
+
+fn length_of_struct(parts: size_ser::StructSerializer<'_>) -> Result<usize, size_ser::Refusal> {
+    parts.end()
+}
+
+fn length_of_variant(parts: size_ser::VariantSerializer<'_>) -> Result<usize, size_ser::Refusal> {
+    parts.end()
+}
+
+fn length_of_struct_variant(
+    parts: size_ser::StructVariantSerializer<'_>,
+) -> Result<usize, size_ser::Refusal> {
+    parts.end()
+}
+
+#[test]
+fn compounds_that_count(rt: HostRuntime) -> Result<(), Fail> {
+    let mut s = size_ser::SizeSerializer::new();
+    assert_eq!(rt; length_of_list(s.serialize_seq(None)?), Ok(1));
+    assert_eq!(rt; length_of_tuple(s.serialize_tuple(0)?), Ok(1));
+    assert_eq!(rt; length_of_map(s.serialize_map(None)?), Ok(3));
+    assert_eq!(rt;
+        length_of_tuple_struct(s.serialize_tuple_struct("T", 0)?),
+        Ok(1)
+    );
+    assert_eq!(rt; length_of_struct(s.serialize_struct("S", 0)?), Ok(1));
+    assert_eq!(rt;
+        length_of_variant(s.serialize_tuple_variant("E", 0, "V", 0)?),
+        Ok(5)
+    );
+    let variant = s.serialize_struct_variant("E", 1, "V", 0)?;
+    assert_eq!(rt; length_of_struct_variant(variant), Ok(6));
+    Ok(())
+}

@@ -1,0 +1,52 @@
+//! Structs by their fields, and newtypes of no marker's name.
+
+ghost use Rattle.std.specs.Prelude.{◌∷◌, [], Some};
+ghost use Rattle.amqp_ser.specs.Tree.{scalar, int};
+ghost use Rattle.amqp_ser.specs.Compounds.{whole};
+ghost use Rattle.amqp_ser.specs.declared.kind.Kind.TheVariants.{List};
+
+use super::rows::row;
+use crate::Value;
+use amqp_ser::{Serialize, Serializer};
+use std::test::Fail;
+
+/// A newtype of no marker's name.
+struct Wrapped(i32);
+
+impl Serialize for Wrapped {
+    ghost tree = { λ w. Some (scalar (int w.0)) };
+
+    fn serialize<S: Serializer>(&self, serializer: &mut S) -> Result<S::Ok, S::Error> {
+        serializer.serialize_newtype_struct("Wrapped", &self.0)
+    }
+}
+
+/// A struct with one field.
+struct Outer {
+    inner: Wrapped,
+}
+
+impl Serialize for Outer {
+    ghost tree = { λ o. whole List (Some (scalar (int o.inner.0)) ∷ []) };
+
+    fn serialize<S: Serializer>(&self, serializer: &mut S) -> Result<S::Ok, S::Error> {
+        let mut fields = serializer.serialize_struct("Outer", 1)?;
+        fields.serialize_field("inner", &self.inner)?;
+        fields.end()
+    }
+}
+
+#[test]
+fn structs_are_lists_of_their_fields(rt: HostRuntime) -> Result<(), Fail> {
+    let a = rt.alloc();
+    let fields = Value::List(vec![in a; Value::Int(3)]?);
+    let image = Value::List(vec![in a; fields]?);
+    row(
+        &rt,
+        a,
+        "a tuple of a struct",
+        &(Outer { inner: Wrapped(3) },),
+        "c00601c003015403",
+        &image,
+    )
+}
