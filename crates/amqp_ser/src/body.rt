@@ -34,11 +34,12 @@ pub fn feed_descriptor<S: Serializer, T: Serialize>(
     held: &mut S::Open,
     value: &T,
 ) -> Result<(), S::Error>
-    ensures { (start : S) → S.has start Kind.Bare serializer.old held.old [] →
+    ensures fed { (start : S) → S.has start Kind.Bare serializer.old held.old [] →
         MatchResult result
         (λ _. Stands S.permits S.has start (Some (T.tree value.now)) Kind.Bare serializer.new held.new [])
         (λ e. S.has start Kind.Bare serializer.new held.new [] × ((t : Option Tree) →
         S.permits start (as_described (descriptor_of (T.tree value.now)) t) (Err e) serializer.new)) }
+    ensures other_kinds { (start : S) → S.has start Kind.Bare serializer.old held.old [] → descriptor_of (T.tree value.now) ≡ None → IsErr result }
 {
     serializer.begin_descriptor(held);
     let part = value.serialize(serializer);
@@ -254,6 +255,8 @@ pub fn feed_otherwise<S: Serializer, T: Serialize>(
         Stands S.permits S.has start front (open_kind opened body) serializer.old held ps →
         IfErr result.1 (λ e. Stands S.permits S.has start front (open_kind opened body) serializer.new result.0 ps × S.permits start None (Err e) serializer.new)) }
     ensures invalid { is_misplaced body described opened (is_descriptor key.now) ≡ true → IfErr result.1 S.is_misuse }
+    ensures other_kinds { is_descriptor key.now ≡ true → described ≡ false → opened ≡ false → (start : S) →
+        Stands S.permits S.has start None Kind.Bare serializer.old held [] → descriptor_of (T.tree value.now) ≡ None → IsErr result.1 }
 {
     let mut held = held;
     let descriptor = is_descriptor_key(key);
@@ -343,6 +346,8 @@ pub fn feed_moved<S: Serializer, T: Serialize>(
         Stands S.permits S.has start front (open_kind opened body) serializer.old held.old ps →
         IfErr result (λ e. Stands S.permits S.has start front (open_kind opened body) serializer.new held.new ps × S.permits start None (Err e) serializer.new)) }
     ensures invalid { is_misplaced body described opened (is_descriptor key.now) ≡ true → IfErr result S.is_misuse }
+    ensures other_kinds { is_descriptor key.now ≡ true → described ≡ false → opened ≡ false → (start : S) →
+        Stands S.permits S.has start None Kind.Bare serializer.old held.old [] → descriptor_of (T.tree value.now) ≡ None → IsErr result }
 {
     let vacant = serializer.vacant();
     let moved = mem::replace(held, vacant);

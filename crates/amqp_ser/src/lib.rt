@@ -15,8 +15,6 @@ pub mod laws;
 mod mark;
 mod serialize;
 mod serializer;
-#[cfg(test)]
-mod tests;
 
 pub use body::Body;
 pub use compound::{

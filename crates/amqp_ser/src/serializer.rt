@@ -60,6 +60,9 @@ pub trait Serializer {
     /// The refusal of a misuse, as of a value without a key.
     ghost is_misuse: { Self.Error → Type 0 };
 
+    /// Where there is no tree there is no answer but a refusal.
+    ghost refuses_none: { (before : Self) (answer : Self.Ok) (after : Self) → permits before None (Ok answer) after → ⊥ };
+
     /// Answers on null or a scalar of fixed width.
     fn serialize_fixed(&mut self, fixed: Fixed) -> Result<Self::Ok, Self::Error>
         ensures { permits self.old (Some (scalar (fixed_scalar fixed))) result self.new };
@@ -128,19 +131,23 @@ pub trait Serializer {
     fn begin_descriptor(&mut self, held: &mut Self::Open)
         ensures { (start : Self) → has start Kind.Bare self.old held.old [] → awaits_descriptor start self.new held.new };
 
-    /// Takes the answer on a descriptor: the value to come is described by it, or the compound is as it was.
+    /// Takes the answer on a descriptor: the value to come is described by it, or the compound is as it was. A refused
+    /// one is never taken, nor one that is no ulong and no symbol.
     fn end_descriptor(
         &mut self,
         held: &mut Self::Open,
         part: Result<Self::Ok, Self::Error>,
     ) -> Result<(), Self::Error>
-        ensures { (start before : Self) (d : Option Tree) →
+        ensures step { (start before : Self) (d : Option Tree) →
             awaits_descriptor start before held.old → permits before d part self.old →
             MatchResult result
             (λ _. (mid : Self) × (has mid Kind.Bare self.new held.new [] × ((t : Option Tree) (r : Result Self.Ok Self.Error) (after : Self) →
             permits mid t r after → permits start (as_described (descriptor_of d) t) r after)))
             (λ e. has start Kind.Bare self.new held.new [] × ((t : Option Tree) →
-            permits start (as_described (descriptor_of d) t) (Err e) self.new)) };
+            permits start (as_described (descriptor_of d) t) (Err e) self.new)) }
+        ensures refused { IfErr part (λ _. IsErr result) }
+        ensures other_kinds { (start before : Self) (d : Option Tree) →
+            awaits_descriptor start before held.old → permits before d part self.old → descriptor_of d ≡ None → IsErr result };
 
     /// Ends the compound.
     fn end(&mut self, held: Self::Open) -> Result<Self::Ok, Self::Error>

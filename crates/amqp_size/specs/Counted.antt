@@ -15,6 +15,7 @@ use Rattle.amqp_size.specs.WholePlace.{Place}
 use Rattle.amqp_size.specs.WholePlace.{Root, Inside, First, Descriptor}
 use Rattle.amqp_size.specs.WholeUnder.{Under}
 use Rattle.amqp_size.specs.WholeUnder.{Plain}
+use Rattle.amqp_size.specs.WholeUnder as under
 use Rattle.amqp_size.specs.declared.place.Shape.TheVariants as shapes
 use Rattle.amqp_size.specs.declared.serializer.SizeSerializer.{SizeSerializer}
 use Rattle.amqp_size.specs.declared.open_compound.Open.{Open}
@@ -132,3 +133,14 @@ size_awaits start kind s held ps = Holding start kind held ps × (s.place ≡ he
 
 abbrev pub size_awaits_descriptor : SizeSerializer → SizeSerializer → Open → Type 0
 size_awaits_descriptor start s held = HoldsBare start kinds.Bare held [] × (s.place ≡ Plain Descriptor)
+
+none_at : (u : Under) (n : ℕ) (after : Under) → at_place (outer u) (meant u None) (Ok n) after → ⊥
+none_at (under.Plain p) n after h = h
+none_at (under.Array p) n after h = h
+none_at (under.Transparent p) n after h = h
+none_at (under.Scalar m p) n after h = h
+none_at (under.Nothing p) n after h = h
+
+-- where there is no tree there is no length
+pub no_count_on_none : (s : SizeSerializer) (n : ℕ) (after : SizeSerializer) → size_permits s None (Ok n) after → ⊥
+no_count_on_none s n after h = none_at s.place n after.place h

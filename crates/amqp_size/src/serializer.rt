@@ -68,8 +68,10 @@ impl Default for SizeSerializer {
 impl Serializer for SizeSerializer {
     ghost use Rattle.amqp_size.specs.declared.refusal.Refusal.TheVariants.{InvalidValue};
     ghost use Rattle.amqp_size.specs.Place.{outer, meant, rest, described_under};
-    ghost use Rattle.amqp_size.specs.Counted.{size_permits, size_has, size_awaits, size_awaits_descriptor};
-    ghost use Rattle.amqp_ser.specs.Compounds.{whole};
+    ghost use Rattle.amqp_size.specs.Counted.{size_permits, size_has, size_awaits, size_awaits_descriptor, no_count_on_none};
+    ghost use Rattle.amqp_ser.specs.Compounds.{whole, complete};
+    ghost use Rattle.amqp_ser.specs.Fixed.{fixed_scalar};
+    ghost use Rattle.amqp_ser.specs.Tree.{scalar, null, string, binary};
     ghost use Rattle.amqp_ser.specs.Marked.{marked};
     ghost use Rattle.amqp_ser.specs.declared.kind.Kind.{Kind};
 
@@ -89,8 +91,13 @@ impl Serializer for SizeSerializer {
 
     ghost is_misuse = { λ e. e ≡ InvalidValue };
 
+    ghost refuses_none = { no_count_on_none };
+
     #[inline(always)]
-    fn serialize_fixed(&mut self, fixed: Fixed) -> Result<usize, Refusal> {
+    fn serialize_fixed(&mut self, fixed: Fixed) -> Result<usize, Refusal>
+        ensures answered { size_permits self.old (Some (scalar (fixed_scalar fixed))) result self.new }
+        ensures no_tree { meant self.old.place (Some (scalar (fixed_scalar fixed))) ≡ None → result ≡ Err InvalidValue }
+    {
         let under = self.place;
         let head = self.head;
         self.settle();
@@ -109,7 +116,10 @@ impl Serializer for SizeSerializer {
     }
 
     #[inline(always)]
-    fn serialize_null(&mut self) -> Result<usize, Refusal> {
+    fn serialize_null(&mut self) -> Result<usize, Refusal>
+        ensures answered { size_permits self.old (Some (scalar null)) result self.new }
+        ensures no_tree { meant self.old.place (Some (scalar null)) ≡ None → result ≡ Err InvalidValue }
+    {
         let under = self.place;
         let head = self.head;
         self.settle();
@@ -120,7 +130,10 @@ impl Serializer for SizeSerializer {
     }
 
     #[inline(always)]
-    fn serialize_str(&mut self, v: &str) -> Result<usize, Refusal> {
+    fn serialize_str(&mut self, v: &str) -> Result<usize, Refusal>
+        ensures answered { size_permits self.old (Some (scalar (string v.now))) result self.new }
+        ensures no_tree { meant self.old.place (Some (scalar (string v.now))) ≡ None → result ≡ Err InvalidValue }
+    {
         let under = self.place;
         let head = self.head;
         self.settle();
@@ -132,7 +145,10 @@ impl Serializer for SizeSerializer {
     }
 
     #[inline(always)]
-    fn serialize_bytes(&mut self, v: &[u8]) -> Result<usize, Refusal> {
+    fn serialize_bytes(&mut self, v: &[u8]) -> Result<usize, Refusal>
+        ensures answered { size_permits self.old (Some (scalar (binary v.now))) result self.new }
+        ensures no_tree { meant self.old.place (Some (scalar (binary v.now))) ≡ None → result ≡ Err InvalidValue }
+    {
         let under = self.place;
         let head = self.head;
         self.settle();
@@ -224,6 +240,8 @@ impl Serializer for SizeSerializer {
             size_permits mid t r after → size_permits start (as_described (descriptor_of d) t) r after)))
             (λ e. size_has start Kind.Bare self.new held.new [] × ((t : Option Tree) →
             size_permits start (as_described (descriptor_of d) t) (Err e) self.new)) }
+        ensures refused { IfErr part (λ _. IsErr result) }
+        ensures other_kinds { (start before : SizeSerializer) (d : Option Tree) → size_awaits_descriptor start before held.old → size_permits before d part self.old → descriptor_of d ≡ None → IsErr result }
         ensures described { IfOk part (λ n. IfOk result (λ _. described_under held.old.inner n ≡ Some held.new.inner)) }
         ensures same { IfErr part (λ e. (result ≡ Err e) × ((held.new ≡ held.old) × (self.new.place ≡ Plain (rest held.old.place)))) }
     {
@@ -244,7 +262,10 @@ impl Serializer for SizeSerializer {
 
     #[tactic(auto, unfolding(amqp_ser::specs::Compounds::whole))]
     #[inline(always)]
-    fn end(&mut self, held: Open) -> Result<usize, Refusal> {
+    fn end(&mut self, held: Open) -> Result<usize, Refusal>
+        ensures answered { (start : SizeSerializer) (kind : Kind) (ps : List (Option Tree)) → size_has start kind self.old held ps → complete kind ps ≡ true → size_permits start (whole kind ps) result self.new }
+        ensures no_tree { (start : SizeSerializer) (kind : Kind) (ps : List (Option Tree)) → size_has start kind self.old held ps → complete kind ps ≡ true → meant start.place (whole kind ps) ≡ None → result ≡ Err InvalidValue }
+    {
         let place = held.place();
         let head = held.head();
         let sum = held.sum();

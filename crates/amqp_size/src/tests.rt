@@ -4,6 +4,8 @@ ghost use Rattle.std.specs.Prelude.{None};
 ghost use Rattle.amqp_ser.specs.Permitted.{IsSizeOf};
 ghost use Rattle.amqp_size.specs.Refused.{told};
 
+mod calls;
+
 use super::width::{array_len, list_len, map_len, text_len};
 use super::{Refusal, SizeSerializer, serialized_size};
 use amqp_data::markers::SYMBOL;

@@ -1,6 +1,8 @@
 -- What the value serializer may answer, and what its compounds were fed.
 use Rattle.std.specs.Prelude.{◌≡◌, ◌≤◌, false, List, [], ◌∷◌, ◌++◌, length, Option, Some, None, Result, Ok, Err}
+use Rattle.std.proofs.Common.{refl, ap, ◌∙◌, subst}
 use Rattle.amqp_data.specs.declared.error.Error.{Error}
+use Rattle.amqp_ser.specs.Composites.{as_described}
 use Rattle.amqp_ser.specs.Tree.{Descriptor, Tree, Trees}
 use Rattle.amqp_ser.specs.Compounds.{all_trees, as_kind}
 use Rattle.amqp_ser.specs.declared.kind.Kind.{Kind}
@@ -86,3 +88,16 @@ value_awaits start k s held ps = (held.aside ≡ aside_of start.around.kept (sta
 -- a bare compound is ready for a descriptor
 abbrev pub value_awaits_descriptor : Serializer → Serializer → Open → Type 0
 value_awaits_descriptor start s held = (held.aside ≡ aside_of start.around.kept (standing start.around)) × HasParts start.under kind.Bare held.body [] × IsKeeping start s
+
+described_none : (ds : List Descriptor) → described_by ds None ≡ None
+described_none [] = refl
+described_none (d ∷ ds) = ap (as_described (Some d)) (described_none ds)
+
+none_meant : (u : Under) → meant u None ≡ None
+none_meant (under.Mark m) = refl
+none_meant under.Nothing = refl
+
+-- where there is no tree there is no value
+pub no_value_of_none : (s : Serializer) (v : Value) (after : Serializer) → value_permits s None (Ok v) after → ⊥
+no_value_of_none s v after h =
+    let none : meant_by s None ≡ None = ap (described_by (standing s.around)) (none_meant s.under) ∙ described_none (standing s.around) in subst (StandsFor v) none h.0

@@ -100,7 +100,7 @@ impl amqp_ser::Serializer for Serializer {
     ghost use Rattle.amqp_ser.specs.Composites.{as_described, descriptor_of};
     ghost use Rattle.amqp_ser.specs.Compounds.{whole};
     ghost use Rattle.amqp_ser.specs.declared.kind.Kind.{Kind};
-    ghost use Rattle.amqp_to_value.specs.Holds.{value_permits, value_has, value_awaits, value_awaits_descriptor};
+    ghost use Rattle.amqp_to_value.specs.Holds.{value_permits, value_has, value_awaits, value_awaits_descriptor, no_value_of_none};
 
     type Ok = Value;
 
@@ -117,6 +117,8 @@ impl amqp_ser::Serializer for Serializer {
     ghost awaits_descriptor = { value_awaits_descriptor };
 
     ghost is_misuse = { λ e. e ≡ InvalidValue };
+
+    ghost refuses_none = { no_value_of_none };
 
     #[inline(always)]
     fn serialize_fixed(&mut self, fixed: Fixed) -> Result<Value, Error> {
@@ -215,12 +217,14 @@ impl amqp_ser::Serializer for Serializer {
 
     #[inline(always)]
     fn end_descriptor(&mut self, held: &mut Open, part: Result<Value, Error>) -> Result<(), Error>
-        ensures { (start before : Serializer) (d : Option Tree) → value_awaits_descriptor start before held.old → value_permits before d part self.old →
+        ensures step { (start before : Serializer) (d : Option Tree) → value_awaits_descriptor start before held.old → value_permits before d part self.old →
             MatchResult result
             (λ _. (mid : Serializer) × (value_has mid Kind.Bare self.new held.new [] × ((t : Option Tree) (r : Result Value Error) (after : Serializer) →
             value_permits mid t r after → value_permits start (as_described (descriptor_of d) t) r after)))
             (λ e. value_has start Kind.Bare self.new held.new [] × ((t : Option Tree) →
             value_permits start (as_described (descriptor_of d) t) (Err e) self.new)) }
+        ensures refused { IfErr part (λ _. IsErr result) }
+        ensures other_kinds { (start before : Serializer) (d : Option Tree) → value_awaits_descriptor start before held.old → value_permits before d part self.old → descriptor_of d ≡ None → IsErr result }
     {
         self.around.release(held.aside);
         let descriptor = descriptor_from(part?)?;

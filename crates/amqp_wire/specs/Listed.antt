@@ -6,7 +6,7 @@ use Rattle.amqp_ser.specs.Tree.{Tree, Trees, count}
 use Rattle.amqp_ser.specs.Compounds.{all_trees, paired}
 use Rattle.amqp_ser.specs.declared.kind.Kind.{Kind}
 use Rattle.amqp_size.specs.Place.{outer, meant, rest, shape_of}
-use Rattle.amqp_size.specs.Counted.{size_permits, size_has, size_awaits, size_awaits_descriptor}
+use Rattle.amqp_size.specs.Counted.{size_permits, size_has, size_awaits, size_awaits_descriptor, no_count_on_none}
 use Rattle.amqp_size.specs.WholePlace.{Root}
 use Rattle.amqp_size.specs.WholeUnder.{Plain}
 use Rattle.amqp_wire.specs.Entries.{entries, entries_each, places}
@@ -85,3 +85,7 @@ headers_awaits_descriptor start s held = (size_awaits_descriptor start.size s.si
 abbrev pub answered : Counting → Result ℕ Refusal → Result ℕ Refusal → Type 0
 answered held part (Ok n) = (part ≡ Ok n) × (held.missed ≡ false)
 answered held part (Err e) = (e ≡ OutOfMemory) ⊎ (part ≡ Err e)
+
+-- where there is no tree there is no length
+pub no_headers_of_none : (s : Headers) (n : ℕ) (after : Headers) → headers_permits s None (Ok n) after → ⊥
+no_headers_of_none s n after h = no_count_on_none s.size n after.size h.1.0

@@ -10,13 +10,14 @@ use Rattle.amqp_ser.proofs.Joins.{join}
 use Rattle.amqp_size.specs.Place.{outer, inner_under}
 use Rattle.amqp_size.specs.WholePlace.{Place}
 use Rattle.amqp_size.specs.WholePlace as places
-use Rattle.amqp_size.specs.WholeUnder.{Plain, Nothing}
+use Rattle.amqp_size.specs.WholeUnder.{Under, Plain, Nothing}
+use Rattle.amqp_size.specs.WholeUnder as under
 use Rattle.amqp_size.specs.declared.place.Shape.{Shape}
 use Rattle.amqp_size.specs.declared.place.Shape.TheVariants.{Refused}
 use Rattle.amqp_wire.specs.Entries.{entries, entries_each, heads}
 use Rattle.amqp_wire.specs.Heads.{in_array, bytes_at, opening, after_opening, small_heads}
 use Rattle.amqp_wire.specs.Solid.{solid_at, solid_each}
-use Rattle.amqp_wire.specs.Standing.{taken_as, opened_as, part_place, takes_described, is_bare}
+use Rattle.amqp_wire.specs.Standing.{standing, taken_as, opened_as, part_place, takes_described, is_bare}
 use Rattle.amqp_wire.specs.declared.table.Header.{Header}
 use Rattle.amqp_wire.specs.declared.output.Output.{Output}
 use Rattle.amqp_wire.specs.declared.writer.Writer.{Writer}
@@ -150,3 +151,22 @@ pub record AwaitsDescriptor (start s : Writer) (held : Writing) : Type 0 where
   pub opened : held.refused ≡ false
   pub stands : stands_at held start.output
   pub head : headed start s
+
+stands_none : (p : Place) (s after : Output) → writes_tree p s (standing p None) (Ok tt) after → ⊥
+stands_none places.Root s after h = h
+stands_none places.Inside s after h = h
+stands_none places.First s after h = h
+stands_none (places.Element c) s after h = h
+stands_none places.Descriptor s after h = h
+stands_none (places.Value n b) s after h = h
+
+writes_none : (u : Under) (s after : Output) → writes_tree (outer u) s (taken_as u None) (Ok tt) after → ⊥
+writes_none (under.Plain p) s after h = stands_none p s after h
+writes_none (under.Array p) s after h = stands_none p s after h
+writes_none (under.Transparent p) s after h = stands_none p s after h
+writes_none (under.Scalar m p) s after h = stands_none p s after h
+writes_none (under.Nothing p) s after h = stands_none p s after h
+
+-- where there is no tree nothing is written
+pub nothing_of_none : (s : Writer) (u : Unit {0}) (after : Writer) → writer_permits s None (Ok u) after → ⊥
+nothing_of_none s u after h = writes_none s.place s.output after.output h.1.1

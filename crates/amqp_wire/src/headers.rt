@@ -96,7 +96,7 @@ impl Counting {
 
 impl Serializer for Headers {
     ghost use Rattle.amqp_size.specs.declared.refusal.Refusal.TheVariants.{InvalidValue};
-    ghost use Rattle.amqp_wire.specs.Listed.{headers_permits, headers_has, headers_awaits, headers_awaits_descriptor};
+    ghost use Rattle.amqp_wire.specs.Listed.{headers_permits, headers_has, headers_awaits, headers_awaits_descriptor, no_headers_of_none};
     ghost use Rattle.amqp_ser.specs.Compounds.{whole};
     ghost use Rattle.amqp_ser.specs.Composites.{as_described, descriptor_of};
     ghost use Rattle.amqp_ser.specs.declared.kind.Kind.{Kind};
@@ -116,6 +116,8 @@ impl Serializer for Headers {
     ghost awaits_descriptor = { headers_awaits_descriptor };
 
     ghost is_misuse = { λ e. e ≡ InvalidValue };
+
+    ghost refuses_none = { no_headers_of_none };
 
     #[inline(always)]
     fn serialize_fixed(&mut self, fixed: Fixed) -> Result<usize, Refusal> {
@@ -210,12 +212,14 @@ impl Serializer for Headers {
         held: &mut Counting,
         part: Result<usize, Refusal>,
     ) -> Result<(), Refusal>
-        ensures { (start before : Headers) (d : Option Tree) → headers_awaits_descriptor start before held.old → headers_permits before d part self.old →
+        ensures step { (start before : Headers) (d : Option Tree) → headers_awaits_descriptor start before held.old → headers_permits before d part self.old →
             MatchResult result
             (λ _. (mid : Headers) × (headers_has mid Kind.Bare self.new held.new [] × ((t : Option Tree) (r : Result ℕ Refusal) (after : Headers) →
             headers_permits mid t r after → headers_permits start (as_described (descriptor_of d) t) r after)))
             (λ e. headers_has start Kind.Bare self.new held.new [] × ((t : Option Tree) →
             headers_permits start (as_described (descriptor_of d) t) (Err e) self.new)) }
+        ensures refused { IfErr part (λ _. IsErr result) }
+        ensures other_kinds { (start before : Headers) (d : Option Tree) → headers_awaits_descriptor start before held.old → headers_permits before d part self.old → descriptor_of d ≡ None → IsErr result }
     {
         match self.size.end_descriptor(&mut held.size, part) {
             Ok(()) => Ok(()),

@@ -116,7 +116,7 @@ impl Writer {
 
 impl Serializer for Writer {
     ghost use Rattle.amqp_size.specs.declared.refusal.Refusal.TheVariants.{InvalidValue};
-    ghost use Rattle.amqp_wire.specs.Written.{writer_permits, writer_has, writer_awaits, AwaitsDescriptor};
+    ghost use Rattle.amqp_wire.specs.Written.{writer_permits, writer_has, writer_awaits, AwaitsDescriptor, nothing_of_none};
     ghost use Rattle.amqp_ser.specs.Compounds.{whole};
     ghost use Rattle.amqp_ser.specs.Composites.{as_described, descriptor_of};
     ghost use Rattle.amqp_ser.specs.declared.kind.Kind.{Kind};
@@ -136,6 +136,8 @@ impl Serializer for Writer {
     ghost awaits_descriptor = { AwaitsDescriptor };
 
     ghost is_misuse = { λ e. e ≡ InvalidValue };
+
+    ghost refuses_none = { nothing_of_none };
 
     #[inline(always)]
     fn serialize_fixed(&mut self, fixed: Fixed) -> Result<(), Refusal> {
@@ -298,12 +300,14 @@ impl Serializer for Writer {
         held: &mut Writing,
         part: Result<(), Refusal>,
     ) -> Result<(), Refusal>
-        ensures { (start before : Writer) (d : Option Tree) → AwaitsDescriptor start before held.old → writer_permits before d part self.old →
+        ensures step { (start before : Writer) (d : Option Tree) → AwaitsDescriptor start before held.old → writer_permits before d part self.old →
             MatchResult result
             (λ _. (mid : Writer) × (writer_has mid Kind.Bare self.new held.new [] × ((t : Option Tree) (r : Result (Unit {0}) Refusal) (after : Writer) →
             writer_permits mid t r after → writer_permits start (as_described (descriptor_of d) t) r after)))
             (λ e. writer_has start Kind.Bare self.new held.new [] × ((t : Option Tree) →
             writer_permits start (as_described (descriptor_of d) t) (Err e) self.new)) }
+        ensures refused { IfErr part (λ _. IsErr result) }
+        ensures other_kinds { (start before : Writer) (d : Option Tree) → AwaitsDescriptor start before held.old → writer_permits before d part self.old → descriptor_of d ≡ None → IsErr result }
     {
         let place = held.place;
         self.place = Under::Plain(place);

@@ -131,6 +131,8 @@ impl<'a, S: Serializer> SerializeStruct<'a, S> {
             Stands S.permits S.has start front (open_kind self.old.opened self.old.body) self.old.serializer.now self.old.held ps →
             IfErr result (λ e. Stands S.permits S.has start front (open_kind self.old.opened self.old.body) self.new.serializer.now self.new.held ps × S.permits start None (Err e) self.new.serializer.now)) }
         ensures invalid { is_misplaced self.old.body self.old.described self.old.opened (is_descriptor key.now) ≡ true → IfErr result S.is_misuse }
+        ensures other_kinds { is_descriptor key.now ≡ true → self.old.described ≡ false → self.old.opened ≡ false → (start : S) →
+            Stands S.permits S.has start None Kind.Bare self.old.serializer.now self.old.held [] → descriptor_of (T.tree value.now) ≡ None → IsErr result }
     {
         let descriptor = is_descriptor_key(key);
         if descriptor || !matches!(self.body, Body::List) {

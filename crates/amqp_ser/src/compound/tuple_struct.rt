@@ -119,6 +119,8 @@ impl<'a, S: Serializer> SerializeTupleStruct<'a, S> {
             Stands S.permits S.has start front (open_kind self.old.opened (bare_or_list self.old.bare)) self.old.serializer.now self.old.held ps →
             IfErr result (λ e. Stands S.permits S.has start front (open_kind self.old.opened (bare_or_list self.old.bare)) self.new.serializer.now self.new.held ps × S.permits start None (Err e) self.new.serializer.now)) }
         ensures invalid { (not self.old.awaits && is_misplaced (bare_or_list self.old.bare) true self.old.opened false) ≡ true → IfErr result S.is_misuse }
+        ensures other_kinds { self.old.awaits ≡ true → (start : S) →
+            Stands S.permits S.has start None Kind.Bare self.old.serializer.now self.old.held [] → descriptor_of (T.tree value.now) ≡ None → IsErr result }
     {
         if self.awaits {
             feed_descriptor(&mut *self.serializer, &mut self.held, value)?;

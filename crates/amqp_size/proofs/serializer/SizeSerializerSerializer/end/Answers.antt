@@ -14,8 +14,8 @@ use Rattle.amqp_size.proofs.Lengths.{length-counted}
 use Rattle.amqp_size.proofs.Whole.{stands, stands_none, MapEnd, map_end, FieldsEnd, fields_end, refused_shape}
 use Rattle.amqp_size.proofs.serializer.SizeSerializerSerializer.end.Goals as goal
 
-pub returns-in-Map : goal.returns-in-Map
-returns-in-Map c = λ start kind ps h done.
+pub returns-in-Map-clause-answered : goal.returns-in-Map-clause-answered
+returns-in-Map-clause-answered c = λ start kind ps h done.
     let there : place_at c.place-place.result c.head-head.result ≡ c.args.held.place = ap (place_at c.place-place.result) c.head-head.ensures ∙ c.place-place.ensures in
     let g = gathered_of start kind c.args.held ps h.0 (ap is_gathered (sym c.shape.ensures ∙ c.in-Map.is)) in
     let m : MapEnd start kind c.args.held ps = map_end start kind c.args.held ps g done (sym c.shape.ensures ∙ c.in-Map.is) in
@@ -23,8 +23,8 @@ returns-in-Map c = λ start kind ps h done.
     stands start.place (place_at c.place-place.result c.head-head.result) (whole kind ps) (map m.pairs) _ _ (sym g.place ∙ sym there) m.is
     (c.accept-in-Map.ensures (h.1 ∙ ap (λ q. Plain (rest q)) (sym there)) (map m.pairs) refl m.within_it m.alike_it m.inside_it m.inside_it (m.ordinary ∙ ap map_width (sym sum) ∙ sym c.map_width.ensures) (let w = m.wide in omega arith))
 
-pub returns-in-Fields : goal.returns-in-Fields
-returns-in-Fields c = λ start kind ps h done.
+pub returns-in-Fields-clause-answered : goal.returns-in-Fields-clause-answered
+returns-in-Fields-clause-answered c = λ start kind ps h done.
     let there : place_at c.place-place.result c.head-head.result ≡ c.args.held.place = ap (place_at c.place-place.result) c.head-head.ensures ∙ c.place-place.ensures in
     let i = c.in-Fields.index in
     let g = gathered_of start kind c.args.held ps h.0 (ap is_gathered (sym c.shape.ensures ∙ c.in-Fields.is)) in
@@ -35,9 +35,9 @@ returns-in-Fields c = λ start kind ps h done.
     (c.variant.ensures (h.1 ∙ ap (λ q. Plain (rest q)) (sym there)) (variant i (list m.ts)) (list m.ts) refl m.alike_it m.inside_it m.inside_it m.within_it (ap (λ n. fits n && within (list m.ts)) bytes)
     (length-counted 0xc1 0xd1 2 (scalar_form (uint i) ++ enc (list m.ts)) ∙ ap map_width bytes) (omega (arith, bytes)))
 
-pub returns-in-Refused : goal.returns-in-Refused
+pub returns-in-Refused-clause-answered : goal.returns-in-Refused-clause-answered
 unfolding whole
-returns-in-Refused c = λ start kind ps h done.
+returns-in-Refused-clause-answered c = λ start kind ps h done.
     let there : place_at c.place-place.result c.head-head.result ≡ c.args.held.place = ap (place_at c.place-place.result) c.head-head.ensures ∙ c.place-place.ensures in
     let g = gathered_of start kind c.args.held ps h.0 (ap is_gathered (sym c.shape.ensures ∙ c.in-Refused.is)) in
     stands_none start.place (place_at c.place-place.result c.head-head.result) (whole kind ps) _ _ (sym g.place ∙ sym there)

@@ -10,8 +10,8 @@ use Rattle.amqp_size.specs.WholeUnder.{Plain}
 use Rattle.amqp_size.proofs.Fixed.{length-ordinary, length-payload, fixed_fits}
 use Rattle.amqp_size.proofs.serializer.SizeSerializerSerializer.serialize_fixed.Goals as goal
 
-pub returns-in-Plain : goal.returns-in-Plain
-returns-in-Plain c =
+pub returns-in-Plain-clause-answered : goal.returns-in-Plain-clause-answered
+returns-in-Plain-clause-answered c =
     let v = c.args.fixed in
     let stood : c.args.self.now.place ≡ Plain (place_at c.in-Plain.place c.self.inside.head) = sym (ap (λ (s : SizeSerializer). s.place) c.self.view_is) ∙ ap (λ u. under_at u c.self.inside.head) c.in-Plain.is in
     let counted = c.accept.ensures (c.settle.ensures ∙ ap (λ u. Plain (rest (outer u))) stood) (scalar (fixed_scalar v)) (ap Some (sym c.in_array-wide.ensures.code)) (fixed_fits v) refl refl refl

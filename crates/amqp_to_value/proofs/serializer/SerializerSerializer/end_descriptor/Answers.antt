@@ -10,8 +10,8 @@ use Rattle.amqp_to_value.proofs.HoldsLemmas.{plain_answer}
 use Rattle.amqp_to_value.proofs.DescriptorLemmas.{descriptor_refused, no_descriptor, permitted_before, same_descriptor}
 use Rattle.amqp_to_value.proofs.serializer.SerializerSerializer.end_descriptor.Goals as goal
 
-pub returns-in_err-part : goal.returns-in_err-part
-returns-in_err-part c = λ start before d h r.
+pub returns-in_err-part-clause-step : goal.returns-in_err-part-clause-step
+returns-in_err-part-clause-step c = λ start before d h r.
     let e = c.in_err-part.field-0.0 in
     let all = start.around.kept ++ standing start.around in
     let answer = subst (λ x. value_permits before d x c.args.self.now) c.in_err-part.was r in
@@ -22,8 +22,8 @@ returns-in_err-part c = λ start before d h r.
     let same : c.from_residual.result ≡ Err e = search rules in
     rw same ((h.0, h.1, aside), λ t. (descriptor_refused start d e refused t, aside))
 
-pub returns-in_err-descriptor : goal.returns-in_err-descriptor
-returns-in_err-descriptor c = λ start before d h r.
+pub returns-in_err-descriptor-clause-step : goal.returns-in_err-descriptor-clause-step
+returns-in_err-descriptor-clause-step c = λ start before d h r.
     let v = c.in_ok-part.field-0 in
     let all = start.around.kept ++ standing start.around in
     let answer = subst (λ x. value_permits before d x c.args.self.now) c.in_ok-part.was r in
@@ -35,8 +35,8 @@ returns-in_err-descriptor c = λ start before d h r.
     let same : c.from_residual-in_err-descriptor.result ≡ Err InvalidValue = search rules in
     rw same ((h.0, h.1, aside), λ t. (no_descriptor start d t (same_descriptor v d stands ∙ none.0), aside))
 
-pub returns-in_err-held : goal.returns-in_err-held
-returns-in_err-held c = λ start before d h r.
+pub returns-in_err-held-clause-step : goal.returns-in_err-held-clause-step
+returns-in_err-held-clause-step c = λ start before d h r.
     let v = c.in_ok-part.field-0 in
     let e = c.in_err-held.field-0.0 in
     let all = start.around.kept ++ standing start.around in
@@ -48,8 +48,8 @@ returns-in_err-held c = λ start before d h r.
     let same : c.from_residual-in_err-held.result ≡ Err e = search rules in
     rw same ((h.0, h.1, aside), λ t. (subst (λ x. refuses x (meant_by start (as_described (descriptor_of d) t))) (sym after.0) tt, aside))
 
-pub returns : goal.returns
-returns c = λ start before d h r.
+pub returns-clause-step : goal.returns-clause-step
+returns-clause-step c = λ start before d h r.
     let v = c.in_ok-part.field-0 in
     let x = descriptor_content c.in_ok-descriptor.descriptor in
     let all = start.around.kept ++ standing start.around in

@@ -6,16 +6,16 @@ use Rattle.amqp_wire.proofs.Lists.{take_front}
 use Rattle.amqp_wire.proofs.Tabling.{lone_open}
 use Rattle.amqp_wire.proofs.headers.HeadersSerializer.end_descriptor.Goals as goal
 
-pub returns-in-Ok : goal.returns-in-Ok
-returns-in-Ok c = λ start before d w r.
+pub returns-in-Ok-clause-step : goal.returns-in-Ok-clause-step
+returns-in-Ok-clause-step c = λ start before d w r.
     let old : Counting = c.args.held.now in
     let new : Counting = record { size = c.end_descriptor.new.held; at = old.at; missed = old.missed; before = old.before; last = old.last; parts = old.parts } in
     let after : Headers = record { size = c.end_descriptor.new.self; table = c.args.self.now.table } in
     described_value start before c.args.self.now after old new d c.args.part c.end_descriptor.result c.in-Ok.field-0 _ w.0.0.0 w.0.0.1 w.0.1 r.1 refl
     c.end_descriptor.ensures.same c.in-Ok.is c.in-Ok.ensures.described (c.in-Ok.ensures.step start.size before.size d w.0.0)
 
-pub returns-in-Err : goal.returns-in-Err
-returns-in-Err c = λ start before d w r.
+pub returns-in-Err-clause-step : goal.returns-in-Err-clause-step
+returns-in-Err-clause-step c = λ start before d w r.
     let old : Counting = c.args.held.now in
     let cut : Headers = record { size = c.end_descriptor.new.self; table = c.cut.new.self } in
     let same : cut.table.headers.items ≡ start.table.headers.items =

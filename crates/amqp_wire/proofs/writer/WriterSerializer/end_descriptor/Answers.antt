@@ -8,11 +8,11 @@ use Rattle.amqp_wire.proofs.Headed.{value_described, described_refused}
 use Rattle.amqp_wire.proofs.Parts.{kept_back, kept-more}
 use Rattle.amqp_wire.proofs.writer.WriterSerializer.end_descriptor.Goals as goal
 
-pub returns-in-Ok : goal.returns-in-Ok
-returns-in-Ok c = rw (← c.self.view_is, ← c.held.view_is) (λ start before d w r. value_described start before (stance c.self.inside) (part_of c.held.inside) d c.args.part w r c.in-Ok.is)
+pub returns-in-Ok-clause-step : goal.returns-in-Ok-clause-step
+returns-in-Ok-clause-step c = rw (← c.self.view_is, ← c.held.view_is) (λ start before d w r. value_described start before (stance c.self.inside) (part_of c.held.inside) d c.args.part w r c.in-Ok.is)
 
-pub returns : goal.returns
-returns c = rw (← c.self.view_is, ← c.held.view_is) (λ start before d w r.
+pub returns-clause-step : goal.returns-clause-step
+returns-clause-step c = rw (← c.self.view_is, ← c.held.view_is) (λ start before d w r.
     let held : Writing = (part_of c.held.inside) in
     let out : Output = c.restore.new.self in
     let n = c.restore.ensures in

@@ -5,7 +5,7 @@ ghost use Rattle.amqp_ser.specs.Compounds.{whole};
 ghost use Rattle.amqp_ser.specs.Tree.{scalar, string, ubyte};
 ghost use Rattle.amqp_ser.specs.declared.kind.Kind.TheVariants as kind;
 
-use crate::Serializer;
+use amqp_ser::Serializer;
 
 /// Feeds a key, looks at the serializer, and feeds the value: the answer is that on the map of the two.
 pub fn looks_between<S: Serializer>(serializer: &mut S) -> Result<S::Ok, S::Error>

@@ -8,7 +8,7 @@ ghost use Rattle.amqp_ser.specs.declared.kind.Kind.TheVariants as kind;
 ghost use Rattle.amqp_data.specs.Text.{symbol_text};
 ghost use Rattle.amqp_data.specs.Fixed.{milliseconds_of};
 
-use crate::{Serialize, Serializer};
+use amqp_ser::{Serialize, Serializer};
 use amqp_data::{Symbol, Timestamp, markers};
 
 /// A struct of three fields: a list of them.

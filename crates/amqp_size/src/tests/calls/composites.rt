@@ -8,7 +8,7 @@ ghost use Rattle.amqp_ser.specs.Structs.{named_variant};
 ghost use Rattle.amqp_ser.specs.Tree.{code, scalar, string, ubyte, ushort, uint, bool};
 ghost use Rattle.amqp_ser.specs.declared.kind.Kind.TheVariants as kind;
 
-use crate::{MapOf, Serialize, Serializer, fields};
+use amqp_ser::{MapOf, Serialize, Serializer, fields};
 use amqp_data::markers;
 
 /// The performative that opens a connection: its first fields (AMQP 1.0 part 2, section 2.7.1).
