@@ -4,6 +4,7 @@ pub mod Fixed
 pub mod Holding
 pub mod Joined
 pub mod Lengths
+pub mod NoTree
 pub mod Part
 pub mod Places
 pub mod Refusing

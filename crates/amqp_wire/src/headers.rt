@@ -95,9 +95,12 @@ impl Counting {
 }
 
 impl Serializer for Headers {
-    ghost use Rattle.amqp_size.specs.declared.refusal.Refusal.TheVariants.{InvalidValue};
+    ghost use Rattle.amqp_size.specs.declared.refusal.Refusal.TheVariants.{InvalidValue, TooLong};
     ghost use Rattle.amqp_wire.specs.Listed.{headers_permits, headers_has, headers_awaits, headers_awaits_descriptor, no_headers_of_none};
-    ghost use Rattle.amqp_ser.specs.Compounds.{whole};
+    ghost use Rattle.amqp_ser.specs.Compounds.{whole, complete};
+    ghost use Rattle.amqp_ser.specs.Fixed.{fixed_scalar};
+    ghost use Rattle.amqp_ser.specs.Tree.{scalar, null, string, binary};
+    ghost use Rattle.amqp_size.specs.Place.{meant};
     ghost use Rattle.amqp_ser.specs.Composites.{as_described, descriptor_of};
     ghost use Rattle.amqp_ser.specs.declared.kind.Kind.{Kind};
 
@@ -120,22 +123,34 @@ impl Serializer for Headers {
     ghost refuses_none = { no_headers_of_none };
 
     #[inline(always)]
-    fn serialize_fixed(&mut self, fixed: Fixed) -> Result<usize, Refusal> {
+    fn serialize_fixed(&mut self, fixed: Fixed) -> Result<usize, Refusal>
+        ensures answered { headers_permits self.old (Some (scalar (fixed_scalar fixed))) result self.new }
+        ensures no_tree { meant self.old.size.place (Some (scalar (fixed_scalar fixed))) ≡ None → result ≡ Err InvalidValue }
+    {
         self.size.serialize_fixed(fixed)
     }
 
     #[inline(always)]
-    fn serialize_null(&mut self) -> Result<usize, Refusal> {
+    fn serialize_null(&mut self) -> Result<usize, Refusal>
+        ensures answered { headers_permits self.old (Some (scalar null)) result self.new }
+        ensures no_tree { meant self.old.size.place (Some (scalar null)) ≡ None → result ≡ Err InvalidValue }
+    {
         self.size.serialize_null()
     }
 
     #[inline(always)]
-    fn serialize_str(&mut self, v: &str) -> Result<usize, Refusal> {
+    fn serialize_str(&mut self, v: &str) -> Result<usize, Refusal>
+        ensures answered { headers_permits self.old (Some (scalar (string v.now))) result self.new }
+        ensures no_tree { meant self.old.size.place (Some (scalar (string v.now))) ≡ None → result ≡ Err InvalidValue }
+    {
         self.size.serialize_str(v)
     }
 
     #[inline(always)]
-    fn serialize_bytes(&mut self, v: &[u8]) -> Result<usize, Refusal> {
+    fn serialize_bytes(&mut self, v: &[u8]) -> Result<usize, Refusal>
+        ensures answered { headers_permits self.old (Some (scalar (binary v.now))) result self.new }
+        ensures no_tree { meant self.old.size.place (Some (scalar (binary v.now))) ≡ None → result ≡ Err InvalidValue }
+    {
         self.size.serialize_bytes(v)
     }
 
@@ -244,7 +259,10 @@ impl Serializer for Headers {
     }
 
     #[inline(always)]
-    fn end(&mut self, held: Counting) -> Result<usize, Refusal> {
+    fn end(&mut self, held: Counting) -> Result<usize, Refusal>
+        ensures answered { (start : Headers) (kind : Kind) (ps : List (Option Tree)) → headers_has start kind self.old held ps → complete kind ps ≡ true → headers_permits start (whole kind ps) result self.new }
+        ensures no_tree { (start : Headers) (kind : Kind) (ps : List (Option Tree)) → headers_has start kind self.old held ps → complete kind ps ≡ true → meant start.size.place (whole kind ps) ≡ None → result ≡ Err TooLong → ⊥ }
+    {
         let Counting {
             size,
             at,

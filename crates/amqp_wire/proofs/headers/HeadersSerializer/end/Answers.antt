@@ -12,12 +12,12 @@ use Rattle.amqp_wire.proofs.Listing.{listed_extends}
 use Rattle.amqp_wire.proofs.Tabling.{whole_tabled}
 use Rattle.amqp_wire.proofs.headers.HeadersSerializer.end.Goals as goal
 
-pub returns : goal.returns
-returns c = λ start kind ps h done.
+pub returns-clause-answered : goal.returns-clause-answered
+returns-clause-answered c = λ start kind ps h done.
     let held : Counting = c.args.held in
     let table = c.args.self.now.table.headers.items in
     let after : Headers = record { size = c.end.new.self; table = c.fill.new.self } in
-    let p = subst (λ r. size_permits start.size (whole kind ps) r after.size) c.in_ok-len.was (c.end.ensures start.size kind ps h.0 done) in
+    let p = subst (λ r. size_permits start.size (whole kind ps) r after.size) c.in_ok-len.was (c.end.ensures.answered start.size kind ps h.0 done) in
     let n = c.limited.result in
     let filled = subst (λ (s : Shape). made_fits s n → held.at + places s ≤ length table → after.table.headers.items ≡ fills (made s (header n held.parts c.constructor.result)) held.at table) c.shape-shape.ensures c.fill.ensures.filled in
     let none = subst (λ (s : Shape). places s ≡ 0 → after.table.headers.items ≡ table) c.shape-shape.ensures c.fill.ensures.none in
