@@ -140,10 +140,7 @@ impl Serializer for Calls {
             size_permits start.inner (whole kind (ps ++ (p ∷ rest))) (Err e) self.new.inner)) }
         ensures refused { IfErr part (λ _. IsErr result) }
     {
-        match part {
-            Ok(_) => self.note(","),
-            Err(_) => self.note("refused,"),
-        }
+        self.note(if part.is_ok() { "," } else { "refused," });
         self.inner.end_part(held, part)
     }
 

@@ -68,6 +68,7 @@ impl Serialize for Inner {
 }
 
 /// A newtype that asks for a symbol over a number: it has no tree.
+#[derive(Drop)]
 pub struct NoName(pub u8);
 
 impl Serialize for NoName {
