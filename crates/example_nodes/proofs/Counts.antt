@@ -1,5 +1,5 @@
 -- Counts of parts, and of the whole that they make.
-use Rattle.std.proofs.Common.{◌≡◌, ℕ, ◌+◌, ◌^◌, ◌≤◌, List, [], ◌∷◌, ◌++◌, Option, Some, None, Result, Ok, Err, MatchResult, true, false, not, refl, ap, sym, ◌∙◌, subst, arith}
+use Rattle.std.proofs.Common.{◌≡◌, ℕ, ◌+◌, ◌^◌, ◌≤◌, inr, List, [], ◌∷◌, ◌++◌, Option, Some, None, Result, Ok, Err, Bool, true, false, is_some, not, refl, ap, sym, ◌∙◌, subst, arith}
 use Rattle.amqp_data.specs.declared.error.Error.{Error}
 use Rattle.amqp_data.specs.declared.error.Error.TheVariants.{TooLong}
 use Rattle.amqp_ser.specs.Tree.{Tree, Trees, Pairs, list, map, variant, no_trees, more}
@@ -8,8 +8,13 @@ use Rattle.amqp_ser.specs.declared.kind.Kind.{Kind}
 use Rattle.amqp_ser.specs.declared.kind.Kind.TheVariants as kinds
 use Rattle.amqp_ser.proofs.Joins.{join, joined, all_trees-append, kind_none}
 use Rattle.amqp_ser.proofs.Last.{last_off, paired-last}
-use Rattle.example_nodes.specs.Nodes.{nodes, nodes_each, nodes_of_pairs, CountsFrom, CountsParts, Holds, own_nodes, for_part}
+use Rattle.amqp_ser.proofs.Pairing.{even, paired-even, pairing}
+use Rattle.example_nodes.specs.Nodes.{nodes, nodes_each, nodes_of_pairs, CountsFrom, CountsParts, Holds, IsRefusal, fresh, own_nodes, for_part, meant_parts}
+use Rattle.example_nodes.specs.Under.{fits, meant}
+use Rattle.example_nodes.proofs.Meanings.{Sums, as_it_is, barred, is_refusal, never, through}
 use Rattle.example_nodes.specs.declared.counter.Counting.{Counting}
+use Rattle.example_nodes.specs.declared.counter.NodeCounter.{NodeCounter}
+use Rattle.example_nodes.specs.declared.under.Under.{Under}
 
 nodes_each-join : (ts us : Trees) → nodes_each (join ts us) ≡ nodes_each ts + nodes_each us
 nodes_each-join no_trees us = omega arith
@@ -36,67 +41,70 @@ among (Some ts) (Some t) (Some rs) us e =
 among_parts : (ps rest : List (Option Tree)) (p : Option Tree) (us : Trees) → all_trees (ps ++ (p ∷ rest)) ≡ Some us → Among (all_trees ps) p (all_trees rest) us
 among_parts ps rest p us e = among (all_trees ps) p (all_trees rest) us (sym (all_trees-append ps (p ∷ rest)) ∙ e)
 
--- the answer on a part that has a tree
-answer : (front : ℕ) (p : Option Tree) (r : Result ℕ Error) (t : Tree) → CountsFrom front p r → p ≡ Some t → CountsFrom front (Some t) r
-answer front p r t h e = subst (λ q. CountsFrom front q r) e h
-
 -- one part more is counted
-one_more : (front n : ℕ) (kind : Kind) (held : Counting) (ps : List (Option Tree)) (p : Option Tree) → Holds front kind held ps →
-    CountsFrom held.inner p (Ok n) → CountsParts front (ps ++ (p ∷ [])) (held.count + n)
-one_more front n kind held ps p h g us e =
-    let a = among_parts ps [] p us e in
-    let k = h.count a.ts a.first in
-    let j = answer held.inner p (Ok n) a.t g a.it in
-    let none : nodes_each a.rs ≡ 0 = ap nodes_each (rest a.rs a.others) in
-    let s = a.sum in
-    omega arith
-  where
-    rest : (rs : Trees) → all_trees [] ≡ Some rs → rs ≡ no_trees
-    rest rs q = cc
+one_more : (front m n inner : ℕ) (o : Option Trees) (q : Option Tree) → CountsParts front o (m + inner) → CountsFrom inner q (Ok n) → CountsParts front (joined o (before q (Some no_trees))) (m + n)
+one_more front m n inner None q h g = h
+one_more front m n inner (Some ts) None h g = g
+one_more front m n inner (Some ts) (Some t) h g = let e = nodes_each-join ts (more t no_trees) in omega arith
 
--- of the parts of a map none counts what stands before it
-map_inner : (front n m : ℕ) (kind : Kind) (ps : List (Option Tree)) → kind ≡ kinds.Map → n ≡ for_part kind ps front → m ≡ 0 → m ≡ n
-map_inner front n m kind ps e h k = k ∙ sym (h ∙ ap (λ a. for_part a ps front) e)
+at_parts : (front m n : ℕ) (o p : Option Trees) → o ≡ p → m ≡ n → CountsParts front o m → CountsParts front p n
+at_parts front m n o p e f h = subst (λ x. CountsParts front x n) e (subst (λ k. CountsParts front o k) f h)
 
-for_next : (front : ℕ) (kind : Kind) (ps : List (Option Tree)) (p : Option Tree) → 0 ≡ for_part kind (ps ++ (p ∷ [])) front
-for_next front kinds.List ps p = refl
-for_next front kinds.Map ps p = refl
-for_next front (kinds.Fields i) ps p = refl
-for_next front (kinds.Only i) ps p = refl
-for_next front kinds.Bare [] p = refl
-for_next front kinds.Bare (q ∷ ps) p = refl
+counted_at : (front n : ℕ) (o : Option Trees) (ts : Trees) → CountsParts front o n → o ≡ Some ts → n ≡ nodes_each ts + front
+counted_at front n o ts h e = subst (λ x. CountsParts front x n) e h
 
-pub taken : (front n : ℕ) (kind : Kind) (held new : Counting) (ps : List (Option Tree)) (p : Option Tree) → Holds front kind held ps →
-    CountsFrom held.inner p (Ok n) → new.own ≡ held.own → new.inner ≡ 0 → new.count ≡ held.count + n → new.before ≡ held.count →
-    Holds front kind new (ps ++ (p ∷ []))
-taken front n kind held new ps p h g a b c d = record {
+-- one part more, as it is meant
+meant_more : (kind : Kind) (start : NodeCounter) (ps rest : List (Option Tree)) (p : Option Tree) →
+    meant_parts kind start.under (ps ++ (p ∷ rest)) ≡ meant_parts kind start.under ps ++ (meant (for_part kind ps start).under p ∷ rest)
+meant_more kinds.Bare start [] rest p = refl
+meant_more kinds.Bare start (q ∷ ps) rest p = ap (λ x. meant start.under q ∷ (ps ++ (x ∷ rest))) (as_it_is p)
+meant_more kind start ps rest p = ap (λ x. ps ++ (x ∷ rest)) (as_it_is p)
+
+held_more : (start : NodeCounter) (kind : Kind) (held : Counting) (ps rest : List (Option Tree)) (p : Option Tree) → Holds start kind held ps →
+    meant_parts kind start.under (ps ++ (p ∷ rest)) ≡ meant_parts kind start.under ps ++ (meant held.next.under p ∷ rest)
+held_more start kind held ps rest p h =
+    meant_more kind start ps rest p ∙ ap (λ (a : NodeCounter). meant_parts kind start.under ps ++ (meant a.under p ∷ rest)) (sym h.next)
+
+for_next : (start : NodeCounter) (kind : Kind) (ps : List (Option Tree)) (p : Option Tree) → fresh ≡ for_part kind (ps ++ (p ∷ [])) start
+for_next start kinds.Bare [] p = refl
+for_next start kinds.Bare (q ∷ ps) p = refl
+for_next start kind ps p = refl
+
+-- the parts of a map as they are
+map_count : (start : NodeCounter) (kind : Kind) (held : Counting) (ps : List (Option Tree)) → kind ≡ kinds.Map → Holds start kind held ps → CountsParts start.front (all_trees ps) (held.count + 0)
+map_count start kind held ps is h =
+    subst (λ k. CountsParts start.front (all_trees (meant_parts k start.under ps)) (held.count + (for_part k ps start).front)) is
+    (subst (λ (a : NodeCounter). CountsParts start.front (all_trees (meant_parts kind start.under ps)) (held.count + a.front)) h.next h.count)
+
+pub taken : (start : NodeCounter) (n : ℕ) (kind : Kind) (held new : Counting) (ps : List (Option Tree)) (p : Option Tree) → Holds start kind held ps →
+    CountsFrom held.next.front (meant held.next.under p) (Ok n) → new.own ≡ held.own → new.fits ≡ held.fits → new.next ≡ fresh → new.count ≡ held.count + n → new.before ≡ held.count →
+    Holds start kind new (ps ++ (p ∷ []))
+taken start n kind held new ps p h g a b c d f = record {
   own = a ∙ h.own;
-  inner = b ∙ for_next front kind ps p;
-  count = λ us e. let k = one_more front n kind held ps p h g us e in omega arith;
-  before = λ is odd qs q e us f.
-      let k = h.count us (ap all_trees (last_off ps qs p q e) ∙ f) in
-      let i = map_inner front held.inner 0 kind ps is h.inner refl in
-      omega arith;
+  fits = b ∙ h.fits;
+  next = c ∙ for_next start kind ps p;
+  count =
+      let qs = meant_parts kind start.under ps in
+      let q = meant held.next.under p in
+      let i : new.next.front ≡ 0 = ap (λ (a : NodeCounter). a.front) c in
+      at_parts start.front (held.count + n) (new.count + new.next.front) (joined (all_trees qs) (before q (Some no_trees))) (all_trees (meant_parts kind start.under (ps ++ (p ∷ []))))
+      (sym (all_trees-append qs (q ∷ [])) ∙ ap all_trees (sym (held_more start kind held ps [] p h)))
+      (omega arith)
+      (one_more start.front held.count n held.next.front (all_trees qs) q h.count g);
+  before = λ is odd qs q e. at_parts start.front (held.count + 0) new.before (all_trees ps) (all_trees qs) (ap all_trees (last_off ps qs p q e)) (omega arith) (map_count start kind held ps is h);
 }
 
-pub undone : (front : ℕ) (held new : Counting) (ps : List (Option Tree)) (p : Option Tree) → Holds front kinds.Map held (ps ++ (p ∷ [])) → paired ps ≡ true →
-    new.own ≡ held.own → new.inner ≡ held.inner → new.count ≡ held.before → Holds front kinds.Map new ps
-undone front held new ps p h even a b c = record {
+pub undone : (start : NodeCounter) (held new : Counting) (ps : List (Option Tree)) (p : Option Tree) → Holds start kinds.Map held (ps ++ (p ∷ [])) → paired ps ≡ true →
+    new.own ≡ held.own → new.fits ≡ held.fits → new.next ≡ held.next → new.count ≡ held.before → Holds start kinds.Map new ps
+undone start held new ps p h even a b c d = record {
   own = a ∙ h.own;
-  inner = b ∙ h.inner;
-  count = λ us e.
-      let k = h.before refl (paired-last ps p ∙ ap not even) ps p refl us e in
-      let i : held.inner ≡ 0 = h.inner in
-      omega arith;
+  fits = b ∙ h.fits;
+  next = c ∙ h.next;
+  count =
+      let i : new.next.front ≡ 0 = ap (λ (a : NodeCounter). a.front) (c ∙ h.next) in
+      at_parts start.front held.before (new.count + new.next.front) (all_trees ps) (all_trees ps) refl (omega arith) (h.before refl (paired-last ps p ∙ ap not even) ps p refl);
   before = λ is odd. absurd (never (sym even ∙ odd));
 }
-  where
-    never : true ≡ false → ⊥
-    never q = cc
-
--- a checked sum
-abbrev pub Sums : ℕ → Result ℕ Error → Type 0
-Sums m r = MatchResult r (λ n. n ≡ m) (λ e. (e ≡ TooLong) × (2 ^ 64 ≤ m))
 
 abbrev PairsCount : Option Pairs → ℕ → Type 0
 PairsCount None n = Unit {0}
@@ -141,58 +149,100 @@ whole_nodes : (kind : Kind) (o : Option Trees) (w : Tree) → as_kind kind o ≡
 whole_nodes kind None w e = let k = kind_none kind in cc
 whole_nodes kind (Some ts) w e = (ts, (refl, kind_nodes kind ts w e))
 
--- an answer is on the tree, where there is one
-on_tree : (front : ℕ) (o : Option Tree) (r : Result ℕ Error) → ((w : Tree) → o ≡ Some w → CountsFrom front (Some w) r) → CountsFrom front o r
-on_tree front None r f = tt
-on_tree front (Some w) r f = f w refl
+-- the parts of a complete compound make a tree
+only_tree : (p : Option Tree) (ts : Trees) → all_trees (p ∷ []) ≡ Some ts → is_some (only ts) ≡ true
+only_tree None ts e = cc
+only_tree (Some t) ts e = let same : more t no_trees ≡ ts = cc in subst (λ x. is_some (only x) ≡ true) same refl
 
-nothing_left : (front : ℕ) (kind : Kind) (ps : List (Option Tree)) → complete kind ps ≡ true → for_part kind ps front ≡ 0
-nothing_left front kinds.List ps e = refl
-nothing_left front kinds.Map ps e = refl
-nothing_left front (kinds.Fields i) ps e = refl
-nothing_left front (kinds.Only i) ps e = refl
-nothing_left front kinds.Bare [] e = cc
-nothing_left front kinds.Bare (p ∷ ps) e = refl
+only_variant : (i : ℕ) (o : Option Tree) → is_some o ≡ true → is_some (as_variant i o) ≡ true
+only_variant i None h = h
+only_variant i (Some t) h = refl
+
+makes_tree : (kind : Kind) (ps : List (Option Tree)) (ts : Trees) → complete kind ps ≡ true → all_trees ps ≡ Some ts → is_some (as_kind kind (Some ts)) ≡ true
+makes_tree kinds.List ps ts done e = refl
+makes_tree kinds.Map ps ts done e = ap (λ o. is_some (as_map o)) ((pairing ts (sym (paired-even ps ts e) ∙ done)).are)
+makes_tree (kinds.Fields i) ps ts done e = refl
+makes_tree (kinds.Only i) [] ts done e = absurd (never (sym done))
+makes_tree (kinds.Only i) (p ∷ []) ts done e = only_variant i (only ts) (only_tree p ts e)
+makes_tree (kinds.Only i) (p ∷ (q ∷ ps)) ts done e = absurd (never (sym done))
+makes_tree kinds.Bare [] ts done e = absurd (never (sym done))
+makes_tree kinds.Bare (p ∷ []) ts done e = only_tree p ts e
+makes_tree kinds.Bare (p ∷ (q ∷ ps)) ts done e = absurd (never (sym done))
+
+complete_meant : (kind : Kind) (u : Under) (ps : List (Option Tree)) → complete kind (meant_parts kind u ps) ≡ complete kind ps
+complete_meant kinds.Bare u [] = refl
+complete_meant kinds.Bare u (p ∷ []) = refl
+complete_meant kinds.Bare u (p ∷ (q ∷ ps)) = refl
+complete_meant kind u ps = refl
+
+nothing_left : (start : NodeCounter) (kind : Kind) (ps : List (Option Tree)) → complete kind ps ≡ true → (for_part kind ps start).front ≡ 0
+nothing_left start kinds.Bare [] e = absurd (never (sym e))
+nothing_left start kinds.Bare (p ∷ ps) e = refl
+nothing_left start kind ps e = refl
 
 -- a checked sum is the count of the nodes, or they are too many
-summed : (front m : ℕ) (w : Tree) (r : Result ℕ Error) → Sums m r → m ≡ nodes w + front → CountsFrom front (Some w) r
-summed front m w (Ok n) h e = h ∙ e
-summed front m w (Err x) h e = (h.0, let k = h.1 in omega arith)
+summed : (front m : ℕ) (o : Option Tree) (r : Result ℕ Error) → is_some o ≡ true → Sums m r → ((w : Tree) → o ≡ Some w → m ≡ nodes w + front) → CountsFrom front o r
+summed front m None r is h f = absurd (never (sym is))
+summed front m (Some w) (Ok n) is h f = h ∙ f w refl
+summed front m (Some w) (Err x) is h f = (h.0, let k = h.1 in let e = f w refl in omega arith)
 
-pub ended : (front : ℕ) (kind : Kind) (held : Counting) (ps : List (Option Tree)) (r : Result ℕ Error) → Holds front kind held ps → complete kind ps ≡ true →
-    Sums (held.count + held.own) r → CountsFrom front (whole kind ps) r
+ended_on : (front m own : ℕ) (kind : Kind) (o : Option Trees) (r : Result ℕ Error) → CountsParts front o m → own ≡ own_nodes kind → ((ts : Trees) → o ≡ Some ts → is_some (as_kind kind (Some ts)) ≡ true) →
+    Sums (m + own) r → CountsFrom front (as_kind kind o) r
+ended_on front m own kind None r h e f sum = absurd h
+ended_on front m own kind (Some ts) r h e f sum = summed front (m + own) (as_kind kind (Some ts)) r (f ts refl) sum (λ w is. let k = kind_nodes kind ts w is in omega arith)
+
+pub ended : (start : NodeCounter) (kind : Kind) (held : Counting) (ps : List (Option Tree)) (r : Result ℕ Error) → Holds start kind held ps → complete kind ps ≡ true → held.fits ≡ true →
+    Sums (held.count + held.own) r → CountsFrom start.front (meant start.under (whole kind ps)) r
 unfolding whole
-ended front kind held ps r h done sum = on_tree front (whole kind ps) r (λ w e.
-    let a = whole_nodes kind (all_trees ps) w e in
-    let k = h.count a.0 a.1.0 in
-    let i : held.inner ≡ 0 = h.inner ∙ nothing_left front kind ps done in
-    let j = h.own in
-    let n = a.1.1 in
-    summed front (held.count + held.own) w r sum (omega arith))
+ended start kind held ps r h done fit sum =
+    let qs = meant_parts kind start.under ps in
+    let i : held.next.front ≡ 0 = ap (λ (a : NodeCounter). a.front) h.next ∙ nothing_left start kind ps done in
+    through start.under kind start.front ps r (sym h.fits ∙ fit)
+    (ended_on start.front held.count held.own kind (all_trees qs) r (at_parts start.front (held.count + held.next.front) held.count (all_trees qs) (all_trees qs) refl (omega arith) h.count) h.own
+    (λ ts e. makes_tree kind qs ts (complete_meant kind start.under ps ∙ done) e) sum)
+
+-- an answer is on the tree, where there is one
+on_tree : (front : ℕ) (o : Option Tree) (e : Error) → IsRefusal e → ((w : Tree) → o ≡ Some w → CountsFrom front (Some w) (Err e)) → CountsFrom front o (Err e)
+on_tree front None e h f = h
+on_tree front (Some w) e h f = f w refl
 
 -- a refusal of a part, whatever others would have come
-past : (front : ℕ) (kind : Kind) (held : Counting) (ps : List (Option Tree)) (p : Option Tree) (rest : List (Option Tree)) (e : Error) → Holds front kind held ps →
-    ((t : Tree) → p ≡ Some t → (e ≡ TooLong) × (2 ^ 64 ≤ held.count + (nodes t + held.inner))) → CountsFrom front (whole kind (ps ++ (p ∷ rest))) (Err e)
+past : (front m inner : ℕ) (kind : Kind) (qs rest : List (Option Tree)) (q : Option Tree) (e : Error) → CountsParts front (all_trees qs) (m + inner) → IsRefusal e →
+    ((t : Tree) → q ≡ Some t → (e ≡ TooLong) × (2 ^ 64 ≤ m + (nodes t + inner))) → CountsFrom front (whole kind (qs ++ (q ∷ rest))) (Err e)
 unfolding whole
-past front kind held ps p rest e h f = on_tree front (whole kind (ps ++ (p ∷ rest))) (Err e) (λ w is.
-    let b = whole_nodes kind (all_trees (ps ++ (p ∷ rest))) w is in
-    let a = among_parts ps rest p b.0 b.1.0 in
-    let k = h.count a.ts a.first in
+past front m inner kind qs rest q e h refusal f = on_tree front (whole kind (qs ++ (q ∷ rest))) e refusal (λ w is.
+    let b = whole_nodes kind (all_trees (qs ++ (q ∷ rest))) w is in
+    let a = among_parts qs rest q b.0 b.1.0 in
+    let k = counted_at front (m + inner) (all_trees qs) a.ts h a.first in
     let g = f a.t a.it in
     let n = b.1.1 in
     let s = a.sum in
-    let m = g.1 in
+    let j = g.1 in
     (g.0, omega arith))
 
-pub refused : (front : ℕ) (kind : Kind) (held : Counting) (ps : List (Option Tree)) (p : Option Tree) (e : Error) → Holds front kind held ps → CountsFrom held.inner p (Err e) →
-    (rest : List (Option Tree)) → CountsFrom front (whole kind (ps ++ (p ∷ rest))) (Err e)
-refused front kind held ps p e h g rest = past front kind held ps p rest e h (λ t is.
-    let a = answer held.inner p (Err e) t g is in
+-- the same of the compound as it is meant
+past_held : (b : Bool) (start : NodeCounter) (kind : Kind) (held : Counting) (ps rest : List (Option Tree)) (p : Option Tree) (e : Error) → fits start.under kind ≡ b → Holds start kind held ps → IsRefusal e →
+    ((t : Tree) → meant held.next.under p ≡ Some t → (e ≡ TooLong) × (2 ^ 64 ≤ held.count + (nodes t + held.next.front))) →
+    CountsFrom start.front (meant start.under (whole kind (ps ++ (p ∷ rest)))) (Err e)
+past_held true start kind held ps rest p e fit h refusal f =
+    through start.under kind start.front (ps ++ (p ∷ rest)) (Err e) fit
+    (subst (λ xs. CountsFrom start.front (whole kind xs) (Err e)) (sym (held_more start kind held ps rest p h))
+    (past start.front held.count held.next.front kind (meant_parts kind start.under ps) rest (meant held.next.under p) e h.count refusal f))
+past_held false start kind held ps rest p e fit h refusal f = barred start.under kind start.front (ps ++ (p ∷ rest)) e fit refusal
+
+-- the answer on a part that has a tree
+answer : (front : ℕ) (o : Option Tree) (r : Result ℕ Error) (t : Tree) → CountsFrom front o r → o ≡ Some t → CountsFrom front (Some t) r
+answer front o r t h e = subst (λ q. CountsFrom front q r) e h
+
+pub refused : (start : NodeCounter) (kind : Kind) (held : Counting) (ps : List (Option Tree)) (p : Option Tree) (e : Error) → Holds start kind held ps → CountsFrom held.next.front (meant held.next.under p) (Err e) →
+    (rest : List (Option Tree)) → CountsFrom start.front (meant start.under (whole kind (ps ++ (p ∷ rest)))) (Err e)
+refused start kind held ps p e h g rest = past_held (fits start.under kind) start kind held ps rest p e refl h (is_refusal held.next.front (meant held.next.under p) e g) (λ t is.
+    let a = answer held.next.front (meant held.next.under p) (Err e) t g is in
     let m = a.1 in
     (a.0, omega arith))
 
-pub too_many : (front n : ℕ) (kind : Kind) (held : Counting) (ps : List (Option Tree)) (p : Option Tree) → Holds front kind held ps → CountsFrom held.inner p (Ok n) → 2 ^ 64 ≤ held.count + n →
-    (rest : List (Option Tree)) → CountsFrom front (whole kind (ps ++ (p ∷ rest))) (Err TooLong)
-too_many front n kind held ps p h g m rest = past front kind held ps p rest TooLong h (λ t is.
-    let a = answer held.inner p (Ok n) t g is in
+pub too_many : (start : NodeCounter) (n : ℕ) (kind : Kind) (held : Counting) (ps : List (Option Tree)) (p : Option Tree) → Holds start kind held ps → CountsFrom held.next.front (meant held.next.under p) (Ok n) →
+    2 ^ 64 ≤ held.count + n → (rest : List (Option Tree)) → CountsFrom start.front (meant start.under (whole kind (ps ++ (p ∷ rest)))) (Err TooLong)
+too_many start n kind held ps p h g m rest = past_held (fits start.under kind) start kind held ps rest p TooLong refl h (inr refl) (λ t is.
+    let a = answer held.next.front (meant held.next.under p) (Ok n) t g is in
     (refl, omega arith))

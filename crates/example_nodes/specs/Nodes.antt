@@ -1,13 +1,17 @@
 -- How many nodes a tree has: one for each scalar, compound, described value and variant.
-use Rattle.std.specs.Prelude.{◌≡◌, ℕ, ◌+◌, ◌^◌, ◌≤◌, List, [], ◌∷◌, ◌++◌, Option, Some, None, Result, Ok, Err, false}
+use Rattle.std.specs.Prelude.{◌≡◌, ℕ, ◌+◌, ◌^◌, ◌≤◌, ◌⊎◌, List, [], ◌∷◌, ◌++◌, Option, Some, None, Result, Ok, Err, false}
 use Rattle.amqp_data.specs.declared.error.Error.{Error}
-use Rattle.amqp_data.specs.declared.error.Error.TheVariants.{TooLong}
+use Rattle.amqp_data.specs.declared.error.Error.TheVariants.{InvalidValue, TooLong}
 use Rattle.amqp_ser.specs.Tree.{Tree, Trees, Pairs, scalar, list, array, map, described, variant, lazy, transparent, no_trees, more, no_pairs, pair}
 use Rattle.amqp_ser.specs.Compounds.{all_trees, paired}
 use Rattle.amqp_ser.specs.declared.kind.Kind.{Kind}
 use Rattle.amqp_ser.specs.declared.kind.Kind.TheVariants as kinds
+use Rattle.amqp_ser.specs.declared.mark.Mark.TheVariants as mark
+use Rattle.example_nodes.specs.Under.{fits, meant}
 use Rattle.example_nodes.specs.declared.counter.Counting.{Counting}
 use Rattle.example_nodes.specs.declared.counter.NodeCounter.{NodeCounter}
+use Rattle.example_nodes.specs.declared.under.Under.{Under}
+use Rattle.example_nodes.specs.declared.under.Under.TheVariants as under
 
 abbrev mutual
   pub nodes : Tree → ℕ
@@ -28,16 +32,33 @@ abbrev mutual
   nodes_of_pairs no_pairs = 0
   nodes_of_pairs (pair k v ps) = nodes k + (nodes v + nodes_of_pairs ps)
 
+-- a value is refused as invalid or as too long
+abbrev pub IsRefusal : Error → Type 0
+IsRefusal e = (e ≡ InvalidValue) ⊎ (e ≡ TooLong)
+
 -- an answer on a tree behind so many descriptors: all their nodes, or too long where these are 2^64 or more;
--- on none any answer
+-- on none a refusal
 abbrev pub CountsFrom : ℕ → Option Tree → Result ℕ Error → Type 0
 CountsFrom front (Some t) (Ok n) = n ≡ nodes t + front
 CountsFrom front (Some t) (Err e) = (e ≡ TooLong) × (2 ^ 64 ≤ nodes t + front)
-CountsFrom front None r = Unit {0}
+CountsFrom front None (Ok n) = ⊥
+CountsFrom front None (Err e) = IsRefusal e
 
 -- an answer on a tree by itself
 abbrev pub CountsNodes : Option Tree → Result ℕ Error → Type 0
 CountsNodes t r = CountsFrom 0 t r
+
+-- before a tree by itself: after no descriptor and under no marker
+abbrev pub fresh : NodeCounter
+fresh = record { front = 0; under = under.Mark mark.Other }
+
+-- the counter's answer on a tree; it is fresh after it
+abbrev pub Permits : NodeCounter → Option Tree → Result ℕ Error → NodeCounter → Type 0
+Permits before t r after = CountsFrom before.front (meant before.under t) r × (after ≡ fresh)
+
+-- a value without a tree is not counted
+pub no_count_on_none : (before : NodeCounter) (n : ℕ) (after : NodeCounter) → Permits before None (Ok n) after → ⊥
+no_count_on_none before n after h = h.0
 
 -- how many nodes a compound adds to those of its parts
 abbrev pub own_nodes : Kind → ℕ
@@ -45,30 +66,37 @@ own_nodes (kinds.Fields i) = 2
 own_nodes kinds.Bare = 0
 own_nodes k = 1
 
--- the descriptors before the next part: those before a bare compound are counted by its one part
-abbrev pub for_part : Kind → List (Option Tree) → ℕ → ℕ
-for_part kinds.Bare [] front = front
-for_part k ps front = 0
+-- where the next part stands: the one part of a bare compound where that was opened
+abbrev pub for_part : Kind → List (Option Tree) → NodeCounter → NodeCounter
+for_part kinds.Bare [] start = start
+for_part k ps start = fresh
+
+-- the parts as they are meant
+abbrev pub meant_parts : Kind → Under → List (Option Tree) → List (Option Tree)
+meant_parts kinds.Bare u (p ∷ ps) = meant u p ∷ ps
+meant_parts k u ps = ps
 
 -- a count of the nodes of these parts and of the descriptors before the compound
-abbrev pub CountsParts : ℕ → List (Option Tree) → ℕ → Type 0
-CountsParts front ps n = (ts : Trees) → all_trees ps ≡ Some ts → n ≡ nodes_each ts + front
+abbrev pub CountsParts : ℕ → Option Trees → ℕ → Type 0
+CountsParts front None n = ⊥
+CountsParts front (Some ts) n = n ≡ nodes_each ts + front
 
 -- an open compound that was fed these parts
-pub record Holds (front : ℕ) (kind : Kind) (held : Counting) (ps : List (Option Tree)) : Type 0 where
+pub record Holds (start : NodeCounter) (kind : Kind) (held : Counting) (ps : List (Option Tree)) : Type 0 where
   pub own : held.own ≡ own_nodes kind
-  pub inner : held.inner ≡ for_part kind ps front
-  pub count : CountsParts front ps (held.count + held.inner)
-  pub before : kind ≡ kinds.Map → paired ps ≡ false → (qs : List (Option Tree)) (q : Option Tree) → ps ≡ qs ++ (q ∷ []) → CountsParts front qs held.before
-
--- the counter's answer on a tree; it is fresh after it
-abbrev pub Permits : NodeCounter → Option Tree → Result ℕ Error → NodeCounter → Type 0
-Permits before t r after = CountsFrom before.front t r × (after.front ≡ 0)
+  pub fits : held.fits ≡ fits start.under kind
+  pub next : held.next ≡ for_part kind ps start
+  pub count : CountsParts start.front (all_trees (meant_parts kind start.under ps)) (held.count + held.next.front)
+  pub before : kind ≡ kinds.Map → paired ps ≡ false → (qs : List (Option Tree)) (q : Option Tree) → ps ≡ qs ++ (q ∷ []) → CountsParts start.front (all_trees qs) held.before
 
 -- a compound that the counter opened first, and the counter between its parts
 abbrev pub Has : NodeCounter → Kind → NodeCounter → Counting → List (Option Tree) → Type 0
-Has start kind now held ps = Holds start.front kind held ps × (now.front ≡ 0)
+Has start kind now held ps = Holds start kind held ps × (now ≡ fresh)
 
 -- the same, and the counter before the next part
 abbrev pub Awaits : NodeCounter → Kind → NodeCounter → Counting → List (Option Tree) → Type 0
-Awaits start kind now held ps = Holds start.front kind held ps × (now.front ≡ held.inner)
+Awaits start kind now held ps = Holds start kind held ps × (now ≡ held.next)
+
+-- a bare compound, and the counter in the place of its value's descriptor
+abbrev pub AwaitsDescriptor : NodeCounter → NodeCounter → Counting → Type 0
+AwaitsDescriptor start now held = Holds start kinds.Bare held [] × (now ≡ record { front = 0; under = under.Descriptor })

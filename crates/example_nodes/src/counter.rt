@@ -1,28 +1,33 @@
 //! A serializer of one's own: the answer on a tree is how many nodes it has.
 
-ghost use Rattle.std.specs.Prelude.{◌≡◌, ◌≤◌, ◌+◌, ◌^◌, ◌++◌, ◌∷◌, [], ℕ, List, Option, Some, Result, Ok, Err, MatchResult, IfErr, IsErr};
+ghost use Rattle.std.specs.Prelude.{◌≡◌, ◌≤◌, ◌+◌, ◌^◌, ◌++◌, ◌∷◌, [], ℕ, List, Option, Some, None, Result, Ok, Err, MatchResult, IfErr, IsErr, true, false};
 ghost use Rattle.amqp_data.specs.declared.error.Error.TheVariants.{InvalidValue, TooLong};
 ghost use Rattle.amqp_ser.specs.Tree.{Tree};
-ghost use Rattle.example_nodes.specs.Nodes.{CountsNodes};
+ghost use Rattle.example_nodes.specs.Nodes.{CountsNodes, fresh};
 
+use crate::under::Under;
 use amqp_data::Error;
 use amqp_ser::{Fixed, Kind, Mark, Serialize, Serializer};
 use std::mem;
 
-/// Counts nodes. It is fresh after every call.
-#[derive(Debug, Drop)]
+/// Counts nodes: what stands before the next tree. It is fresh after every call.
+#[derive(Clone, Copy)]
 pub struct NodeCounter {
-    /// The descriptors before the next tree: each is one node more. Fresh: none.
-    pub front: u64,
+    /// The descriptors before the next tree: each is one node more.
+    front: u64,
+    /// The marker that the next tree stands under.
+    under: Under,
 }
 
 /// A compound whose parts are still counted.
-#[derive(Debug, Drop)]
+#[derive(Drop)]
 pub struct Counting {
     /// The nodes that it adds itself.
     own: u64,
-    /// The descriptors before its next part.
-    inner: u64,
+    /// Whether a compound of its kind may stand where it was opened.
+    fits: bool,
+    /// What stands before its next part.
+    next: NodeCounter,
     /// The nodes so far.
     count: u64,
     /// The nodes before the last part.
@@ -36,11 +41,45 @@ fn add(a: u64, b: u64) -> Result<u64, Error>
     a.checked_add(b).ok_or(Error::TooLong)
 }
 
+impl NodeCounter {
+    /// A counter before a tree by itself.
+    pub fn new() -> NodeCounter
+        ensures { result ≡ fresh }
+    {
+        NodeCounter {
+            front: 0,
+            under: Under::Mark(Mark::Other),
+        }
+    }
+
+    /// What stood before this tree, which is used up.
+    fn take(&mut self) -> NodeCounter
+        ensures taken { result ≡ self.old }
+        ensures fresh { self.new ≡ fresh }
+    {
+        mem::replace(self, NodeCounter::new())
+    }
+
+    /// Counts one node and the descriptors before it, if a tree like it may stand here.
+    fn count_one(&mut self, fits: bool) -> Result<u64, Error>
+        ensures fresh { self.new ≡ fresh }
+        ensures counts { fits ≡ true → MatchResult result (λ n. n ≡ self.old.front + 1) (λ e. (e ≡ TooLong) × (2 ^ 64 ≤ self.old.front + 1)) }
+        ensures refuses { fits ≡ false → result ≡ Err InvalidValue }
+    {
+        let front = self.take().front;
+        if fits {
+            add(front, 1)
+        } else {
+            Err(Error::InvalidValue)
+        }
+    }
+}
+
 impl Serializer for NodeCounter {
     ghost use Rattle.amqp_ser.specs.declared.kind.Kind.{Kind};
     ghost use Rattle.amqp_ser.specs.Compounds.{whole};
     ghost use Rattle.amqp_ser.specs.Composites.{as_described, descriptor_of};
-    ghost use Rattle.example_nodes.specs.Nodes.{Awaits, Has, Permits};
+    ghost use Rattle.example_nodes.specs.Nodes.{Awaits, AwaitsDescriptor, Has, Permits};
 
     type Ok = u64;
 
@@ -54,40 +93,43 @@ impl Serializer for NodeCounter {
 
     ghost awaits = { Awaits };
 
-    ghost awaits_descriptor = { λ start now held. Has start Kind.Bare now held [] };
+    ghost awaits_descriptor = { AwaitsDescriptor };
 
     ghost is_misuse = { λ e. e ≡ InvalidValue };
 
-    fn serialize_fixed(&mut self, _fixed: Fixed) -> Result<u64, Error> {
-        add(mem::replace(&mut self.front, 0), 1)
+    fn serialize_fixed(&mut self, fixed: Fixed) -> Result<u64, Error> {
+        self.count_one(self.under.takes_fixed(fixed))
     }
 
     fn serialize_null(&mut self) -> Result<u64, Error> {
-        add(mem::replace(&mut self.front, 0), 1)
+        self.serialize_fixed(Fixed::Null)
     }
 
     fn serialize_str(&mut self, _v: &str) -> Result<u64, Error> {
-        add(mem::replace(&mut self.front, 0), 1)
+        self.count_one(self.under.takes_str())
     }
 
-    fn serialize_bytes(&mut self, _v: &[u8]) -> Result<u64, Error> {
-        add(mem::replace(&mut self.front, 0), 1)
+    fn serialize_bytes(&mut self, v: &[u8]) -> Result<u64, Error> {
+        self.count_one(self.under.takes_bytes(v.len()))
     }
 
-    /// A marked tree has as many nodes as the tree that it was.
-    fn mark(&mut self, _mark: Mark) {}
+    /// A marked tree has as many nodes as the tree that it was, but not every tree can be marked so.
+    fn mark(&mut self, mark: Mark) {
+        self.under = self.under.with(mark);
+    }
 
-    /// The descriptors before a bare compound are counted by its one part.
+    /// What stands before a bare compound stands before its one part.
     fn begin(&mut self, kind: Kind) -> Counting {
-        let front = mem::replace(&mut self.front, 0);
-        let (own, inner, count) = match kind {
-            Kind::Bare => (0, front, 0),
-            Kind::Fields(_) => (2, 0, front),
-            _ => (1, 0, front),
+        let start = self.take();
+        let (own, next, count) = match kind {
+            Kind::Bare => (0, start, 0),
+            Kind::Fields(_) => (2, *self, start.front),
+            _ => (1, *self, start.front),
         };
         Counting {
             own,
-            inner,
+            fits: start.under.takes(kind),
+            next,
             count,
             before: 0,
         }
@@ -96,14 +138,15 @@ impl Serializer for NodeCounter {
     fn vacant(&self) -> Counting {
         Counting {
             own: 0,
-            inner: 0,
+            fits: false,
+            next: *self,
             count: 0,
             before: 0,
         }
     }
 
     fn begin_part(&mut self, held: &mut Counting) {
-        self.front = held.inner;
+        *self = held.next;
     }
 
     fn end_part(&mut self, held: &mut Counting, part: Result<u64, Error>) -> Result<(), Error>
@@ -119,7 +162,7 @@ impl Serializer for NodeCounter {
         let count = add(held.count, nodes)?;
         held.before = held.count;
         held.count = count;
-        held.inner = 0;
+        held.next = NodeCounter::new();
         Ok(())
     }
 
@@ -131,37 +174,49 @@ impl Serializer for NodeCounter {
         Error::InvalidValue
     }
 
-    fn begin_descriptor(&mut self, _held: &mut Counting) {}
+    fn begin_descriptor(&mut self, _held: &mut Counting) {
+        self.under = Under::Descriptor;
+    }
 
     fn end_descriptor(&mut self, held: &mut Counting, part: Result<u64, Error>) -> Result<(), Error>
-        ensures { (start before : NodeCounter) (d : Option Tree) →
-            Has start Kind.Bare before held.old [] → Permits before d part self.old →
+        ensures step { (start before : NodeCounter) (d : Option Tree) →
+            AwaitsDescriptor start before held.old → Permits before d part self.old →
             MatchResult result
             (λ _. (mid : NodeCounter) × (Has mid Kind.Bare self.new held.new [] ×
             ((t : Option Tree) (r : Result ℕ Error) (after : NodeCounter) →
             Permits mid t r after → Permits start (as_described (descriptor_of d) t) r after)))
             (λ e. Has start Kind.Bare self.new held.new [] ×
             ((t : Option Tree) → Permits start (as_described (descriptor_of d) t) (Err e) self.new)) }
+        ensures refused { IfErr part (λ _. IsErr result) }
+        ensures other_kinds { (start before : NodeCounter) (d : Option Tree) →
+            AwaitsDescriptor start before held.old → Permits before d part self.old →
+            descriptor_of d ≡ None → IsErr result }
     {
         part?;
-        held.inner = add(held.inner, 1)?;
+        held.next.front = add(held.next.front, 1)?;
+        held.next.under = held.next.under.with_descriptor();
         Ok(())
     }
 
     fn end(&mut self, held: Counting) -> Result<u64, Error> {
-        add(held.count, held.own)
+        if held.fits {
+            add(held.count, held.own)
+        } else {
+            Err(Error::InvalidValue)
+        }
     }
 }
 
 /// How many nodes the value's tree has.
 ///
 /// # Errors
-/// Of a value with a tree: `TooLong`, where it has 2^64 nodes or more. A value without one may be refused or counted.
+/// Of a value with a tree: `TooLong`, where it has 2^64 nodes or more. A value without one is refused, as `InvalidValue`
+/// or `TooLong`.
 ///
 /// # Memory
 /// Takes none.
 pub fn count_nodes<T: Serialize>(value: &T) -> Result<u64, Error>
     ensures { CountsNodes (T.tree value.now) result }
 {
-    value.serialize(&mut NodeCounter { front: 0 })
+    value.serialize(&mut NodeCounter::new())
 }

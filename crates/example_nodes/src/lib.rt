@@ -8,6 +8,8 @@ mod counter;
 mod reading;
 #[cfg(test)]
 mod tests;
+mod under;
 
 pub use counter::{Counting, NodeCounter, count_nodes};
 pub use reading::Reading;
+pub use under::Under;
