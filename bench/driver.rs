@@ -25,8 +25,8 @@ use Source::{Data, Rule};
 const SHAPES: [(&str, Source); 12] = [
     ("14 fields", Rule(0)),
     ("14 fields, described", Rule(7)),
-    ("14 fields, one by one", Rule(8)),
-    ("14 fields, described, one by one", Rule(9)),
+    ("7 fields, one by one", Rule(8)),
+    ("7 fields, described, one by one", Rule(9)),
     ("1,000 ints", Rule(1)),
     ("1,000 rows of 10", Rule(2)),
     ("chain of 256", Rule(3)),
@@ -95,10 +95,27 @@ impl Serialize for Attach {
     }
 }
 
-/// The fields under the descriptor of that performative.
-struct Described(Attach);
+/// The first seven of the fields.
+struct Front(Attach);
 
-impl Serialize for Described {
+impl Serialize for Front {
+    fn serialize<S: Serializer>(&self, serializer: S) -> Result<S::Ok, Error> {
+        let mut fields = serializer.serialize_struct("Attach", 7)?;
+        fields.serialize_field("name", &self.0.name)?;
+        fields.serialize_field("handle", &self.0.handle)?;
+        fields.serialize_field("role", &self.0.role)?;
+        fields.serialize_field("snd-settle-mode", &self.0.sender_settles)?;
+        fields.serialize_field("rcv-settle-mode", &self.0.receiver_settles)?;
+        fields.serialize_field("source", &self.0.source)?;
+        fields.serialize_field("target", &self.0.target)?;
+        fields.end()
+    }
+}
+
+/// Fields under the descriptor of that performative.
+struct Described<T>(T);
+
+impl<T: Serialize> Serialize for Described<T> {
     fn serialize<S: Serializer>(&self, serializer: S) -> Result<S::Ok, Error> {
         serializer.serialize_described(0x12, &self.0)
     }
@@ -183,8 +200,10 @@ fn answer(who: Who, shape: usize, op: u32, times: u64) -> u64 {
         };
     }
     match source {
-        Rule(0 | 8) => repeat(who, &attach(), op, times),
-        Rule(7 | 9) => repeat(who, &Described(attach()), op, times),
+        Rule(0) => repeat(who, &attach(), op, times),
+        Rule(7) => repeat(who, &Described(attach()), op, times),
+        Rule(8) => repeat(who, &Front(attach()), op, times),
+        Rule(9) => repeat(who, &Described(Front(attach())), op, times),
         Rule(1) => repeat(who, &ints(0, 1000), op, times),
         Rule(2) => repeat(who, &(0..1000).map(|i| ints(i, 10)).collect::<Vec<_>>(), op, times),
         Rule(3) => repeat(who, &(0..255).fold(Chain::End, |c, _| Chain::Link(Box::new(c))), op, times),

@@ -17,6 +17,12 @@ number n = Some (scalar (uint n))
 abbrev pub small : ℕ → Option Tree
 small n = Some (scalar (ubyte n))
 
+-- its first seven fields
+abbrev pub front_tree : Attach → Option Tree
+front_tree a = whole kind.List
+    (text a.name ∷ number a.handle ∷ Some (scalar (bool a.role)) ∷ optional small a.sender_settles
+    ∷ optional small a.receiver_settles ∷ optional text a.source ∷ optional text a.target ∷ [])
+
 -- its fields in order
 abbrev pub attach_tree : Attach → Option Tree
 attach_tree a = whole kind.List

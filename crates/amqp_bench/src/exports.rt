@@ -4,7 +4,7 @@ ghost use Rattle.std.specs.Prelude.{◌≡◌, ◌≤◌};
 
 use crate::attach::{Attach, DescribedAttach};
 use crate::chain::Chain;
-use crate::fed::{FedAttach, FedDescribedAttach};
+use crate::fed::{FedFields, FedDescribedFields};
 use crate::inputs::{blob, ints, lines, numbered, numbers, rows};
 use crate::repeat::repeat;
 use amqp_data::Error;
@@ -21,7 +21,7 @@ fn answer<T: Serialize + Drop>(alloc: Global, built: Result<T, Error>, op: u32, 
     }
 }
 
-/// The answer on the fourteen fields in one of three other forms.
+/// The answer on the fields in one of three other forms.
 fn attached(alloc: Global, form: u32, op: u32, times: u64) -> u64
     ensures { 5 ≤ op → result ≡ 0 }
 {
@@ -30,8 +30,8 @@ fn attached(alloc: Global, form: u32, op: u32, times: u64) -> u64
     };
     match form {
         7 => repeat(alloc, &DescribedAttach(attach), op, times),
-        8 => repeat(alloc, &FedAttach(attach), op, times),
-        _ => repeat(alloc, &FedDescribedAttach(attach), op, times),
+        8 => repeat(alloc, &FedFields(attach), op, times),
+        _ => repeat(alloc, &FedDescribedFields(attach), op, times),
     }
 }
 
@@ -53,8 +53,8 @@ pub extern "C" fn amqp_bench(alloc: Global, work: u32, op: u32, data: &[u8], tim
 
 /// Answers on a value made by a rule: 0 is a list of fourteen fields, 1 a list of 1,000 ints, 2 1,000 rows of ten
 /// ints, 3 a chain of 256 lists, 4 a binary of 65,536 bytes, 5 and 6 maps of 1,000 and 10,000 keys; 7 is the list of
-/// fields under a descriptor, 8 and 9 are the two with the fields fed one by one; any other is 0. The operations are those
-/// of `amqp_bench`.
+/// fields under a descriptor, 8 and 9 are those two of the first seven fields, fed one by one; any other is 0. The
+/// operations are those of `amqp_bench`.
 #[unsafe(no_mangle)]
 pub extern "C" fn amqp_shape(alloc: Global, shape: u32, op: u32, times: u64) -> u64
     ensures shapes { 10 ≤ shape → result ≡ 0 }

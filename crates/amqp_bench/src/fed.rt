@@ -1,4 +1,4 @@
-//! The same fourteen fields, fed one by one.
+//! The first seven of the fields, fed one by one.
 
 use crate::attach::Attach;
 use amqp_data::markers;
@@ -6,15 +6,15 @@ use amqp_ser::{Serialize, Serializer};
 
 /// The fields, fed one by one.
 #[derive(Drop)]
-pub struct FedAttach(pub Attach);
+pub struct FedFields(pub Attach);
 
-impl Serialize for FedAttach {
-    ghost use Rattle.amqp_bench.specs.Attached.{attach_tree};
+impl Serialize for FedFields {
+    ghost use Rattle.amqp_bench.specs.Attached.{front_tree};
 
-    ghost tree = { λ f. attach_tree f.0 };
+    ghost tree = { λ f. front_tree f.0 };
 
     fn serialize<S: Serializer>(&self, serializer: &mut S) -> Result<S::Ok, S::Error> {
-        let mut fields = serializer.serialize_struct("Attach", 14)?;
+        let mut fields = serializer.serialize_struct("Attach", 7)?;
         fields.serialize_field("name", &self.0.name)?;
         fields.serialize_field("handle", &self.0.handle)?;
         fields.serialize_field("role", &self.0.role)?;
@@ -22,31 +22,24 @@ impl Serialize for FedAttach {
         fields.serialize_field("rcv-settle-mode", &self.0.receiver_settles)?;
         fields.serialize_field("source", &self.0.source)?;
         fields.serialize_field("target", &self.0.target)?;
-        fields.serialize_field("unsettled", &self.0.unsettled)?;
-        fields.serialize_field("incomplete-unsettled", &self.0.incomplete)?;
-        fields.serialize_field("initial-delivery-count", &self.0.delivery_count)?;
-        fields.serialize_field("max-message-size", &self.0.longest_message)?;
-        fields.serialize_field("offered-capabilities", &self.0.offered)?;
-        fields.serialize_field("desired-capabilities", &self.0.desired)?;
-        fields.serialize_field("properties", &self.0.properties)?;
         fields.end()
     }
 }
 
 /// The descriptor and the fields, fed one by one.
 #[derive(Drop)]
-pub struct FedDescribedAttach(pub Attach);
+pub struct FedDescribedFields(pub Attach);
 
-impl Serialize for FedDescribedAttach {
+impl Serialize for FedDescribedFields {
     ghost use Rattle.std.specs.Prelude.{Some};
     ghost use Rattle.amqp_ser.specs.Composites.{as_described};
     ghost use Rattle.amqp_ser.specs.Tree.{code};
-    ghost use Rattle.amqp_bench.specs.Attached.{attach_tree};
+    ghost use Rattle.amqp_bench.specs.Attached.{front_tree};
 
-    ghost tree = { λ f. as_described (Some (code 0x12)) (attach_tree f.0) };
+    ghost tree = { λ f. as_described (Some (code 0x12)) (front_tree f.0) };
 
     fn serialize<S: Serializer>(&self, serializer: &mut S) -> Result<S::Ok, S::Error> {
-        let mut fields = serializer.serialize_struct(markers::DESCRIBED_LIST, 15)?;
+        let mut fields = serializer.serialize_struct(markers::DESCRIBED_LIST, 8)?;
         fields.serialize_field(markers::DESCRIPTOR, &0x12u64)?;
         fields.serialize_field("name", &self.0.name)?;
         fields.serialize_field("handle", &self.0.handle)?;
@@ -55,13 +48,6 @@ impl Serialize for FedDescribedAttach {
         fields.serialize_field("rcv-settle-mode", &self.0.receiver_settles)?;
         fields.serialize_field("source", &self.0.source)?;
         fields.serialize_field("target", &self.0.target)?;
-        fields.serialize_field("unsettled", &self.0.unsettled)?;
-        fields.serialize_field("incomplete-unsettled", &self.0.incomplete)?;
-        fields.serialize_field("initial-delivery-count", &self.0.delivery_count)?;
-        fields.serialize_field("max-message-size", &self.0.longest_message)?;
-        fields.serialize_field("offered-capabilities", &self.0.offered)?;
-        fields.serialize_field("desired-capabilities", &self.0.desired)?;
-        fields.serialize_field("properties", &self.0.properties)?;
         fields.end()
     }
 }

@@ -66,14 +66,12 @@ fn each_shape_is_written_and_made(rt: HostRuntime) {
 }
 
 #[test]
-fn forms_of_the_fields_are_written_alike(rt: HostRuntime) {
+fn fields_that_are_fed_have_worked_bytes(rt: HostRuntime) {
     let alloc = rt.alloc();
-    for (one, other) in [(0, 8), (7, 9)] {
-        assert_eq!(rt;
-            amqp_shape(alloc, one, 2, 1),
-            amqp_shape(alloc, other, 2, 1),
-            "shapes {one} and {other}"
-        );
-    }
+    let list = b"\xc0\x5c\x07\xa1\x1csender-7f3a9c21-queue-orders\x52\x03\x42\x50\x02\x40\xa1\x16client/orders/outgoing\xa1\x1dbroker/queues/orders/incoming";
+    assert_eq!(rt; amqp_shape(alloc, 8, 2, 1), hash_of(list));
+    assert_eq!(rt; amqp_shape(alloc, 8, 0, 1), 94);
+    let described = b"\0\x53\x12\xc0\x5c\x07\xa1\x1csender-7f3a9c21-queue-orders\x52\x03\x42\x50\x02\x40\xa1\x16client/orders/outgoing\xa1\x1dbroker/queues/orders/incoming";
+    assert_eq!(rt; amqp_shape(alloc, 9, 2, 1), hash_of(described));
     assert_eq!(rt; amqp_shape(alloc, 7, 0, 1), 133);
 }

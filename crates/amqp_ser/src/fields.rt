@@ -198,7 +198,6 @@ impl<V: Serialize, R: Fields> Fields for OptionalField<'_, V, R> {
 }
 
 /// Answers on the list, or on the variant, of the fields up to the last that is there.
-#[inline(always)]
 fn serialize_values<S: Serializer, F: Fields>(
     serializer: &mut S,
     kind: Kind,

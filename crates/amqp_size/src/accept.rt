@@ -15,8 +15,6 @@ use crate::serializer::SizeSerializer;
 use crate::width::{LONGEST, map_width, text_width, uint_width};
 
 /// The answer on a descriptor with this constructor and length: only a ulong or a symbol is one.
-#[cold]
-#[inline(never)]
 fn descriptor(code: u8, ordinary: usize) -> Result<usize, Refusal>
     ensures { (t : Tree) → con t ≡ Some code → MatchResult result
         (λ n. (is_some (descriptor_of (Some t)) ≡ true) × (n ≡ ordinary))
@@ -30,8 +28,6 @@ fn descriptor(code: u8, ordinary: usize) -> Result<usize, Refusal>
 }
 
 /// The answer on the value after descriptors, with them.
-#[cold]
-#[inline(never)]
 fn described(head: usize, base: Base, ordinary: usize) -> Result<usize, Refusal>
     ensures { MatchResult result
         (λ n. (takes_described base ≡ true) × ((is_length (head + ordinary) ≡ true) × (n ≡ head + ordinary)))
