@@ -79,7 +79,7 @@ impl Serializer for NodeCounter {
     ghost use Rattle.amqp_ser.specs.declared.kind.Kind.{Kind};
     ghost use Rattle.amqp_ser.specs.Compounds.{whole};
     ghost use Rattle.amqp_ser.specs.Composites.{as_described, descriptor_of};
-    ghost use Rattle.example_nodes.specs.Nodes.{Awaits, AwaitsDescriptor, Has, Permits};
+    ghost use Rattle.example_nodes.specs.Nodes.{Awaits, AwaitsDescriptor, Has, Permits, no_count_on_none};
 
     type Ok = u64;
 
@@ -96,6 +96,8 @@ impl Serializer for NodeCounter {
     ghost awaits_descriptor = { AwaitsDescriptor };
 
     ghost is_misuse = { λ e. e ≡ InvalidValue };
+
+    ghost refuses_none = { no_count_on_none };
 
     fn serialize_fixed(&mut self, fixed: Fixed) -> Result<u64, Error> {
         self.count_one(self.under.takes_fixed(fixed))
