@@ -4,7 +4,7 @@ ghost use Rattle.std.specs.Prelude.{◌≡◌, ◌≤◌};
 
 use crate::attach::{Attach, DescribedAttach};
 use crate::chain::Chain;
-use crate::fed::{FedFields, FedDescribedFields};
+use crate::fed::{FedDescribedFields, FedFields};
 use crate::inputs::{blob, ints, lines, numbered, numbers, rows};
 use crate::repeat::repeat;
 use amqp_data::Error;

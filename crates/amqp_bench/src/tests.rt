@@ -68,10 +68,12 @@ fn each_shape_is_written_and_made(rt: HostRuntime) {
 #[test]
 fn fields_that_are_fed_have_worked_bytes(rt: HostRuntime) {
     let alloc = rt.alloc();
-    let list = b"\xc0\x5c\x07\xa1\x1csender-7f3a9c21-queue-orders\x52\x03\x42\x50\x02\x40\xa1\x16client/orders/outgoing\xa1\x1dbroker/queues/orders/incoming";
+    let list =
+        b"\xc0\x5c\x07\xa1\x1csender-7f3a9c21-queue-orders\x52\x03\x42\x50\x02\x40\xa1\x16client/orders/outgoing\xa1\x1dbroker/queues/orders/incoming";
     assert_eq!(rt; amqp_shape(alloc, 8, 2, 1), hash_of(list));
     assert_eq!(rt; amqp_shape(alloc, 8, 0, 1), 94);
-    let described = b"\0\x53\x12\xc0\x5c\x07\xa1\x1csender-7f3a9c21-queue-orders\x52\x03\x42\x50\x02\x40\xa1\x16client/orders/outgoing\xa1\x1dbroker/queues/orders/incoming";
+    let described =
+        b"\0\x53\x12\xc0\x5c\x07\xa1\x1csender-7f3a9c21-queue-orders\x52\x03\x42\x50\x02\x40\xa1\x16client/orders/outgoing\xa1\x1dbroker/queues/orders/incoming";
     assert_eq!(rt; amqp_shape(alloc, 9, 2, 1), hash_of(described));
     assert_eq!(rt; amqp_shape(alloc, 7, 0, 1), 133);
 }

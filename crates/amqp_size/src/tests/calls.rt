@@ -9,11 +9,11 @@ use self::composites::{Body, Named, Opens, Properties, Tuple, bad_descriptor, tw
 use self::looks::looks_between;
 use self::recorder::{calls_of, new_calls};
 use self::samples::{Inner, Name, NoName, Pair, Reading};
-use amqp_ser::{ListOf, MapOf, SymbolMapOf, VariantOf, fields};
 use amqp_data::{
     Array, ByteBuf, Dec32, Described, Descriptor, F64Bits, OrderedMap, Symbol, SymbolRef,
     Timestamp, TransparentVec, Uuid, markers,
 };
+use amqp_ser::{ListOf, MapOf, SymbolMapOf, VariantOf, fields};
 use std::collections::BTreeMap;
 use std::test::Fail;
 

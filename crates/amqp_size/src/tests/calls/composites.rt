@@ -8,8 +8,8 @@ ghost use Rattle.amqp_ser.specs.Structs.{named_variant};
 ghost use Rattle.amqp_ser.specs.Tree.{code, scalar, string, ubyte, ushort, uint, bool};
 ghost use Rattle.amqp_ser.specs.declared.kind.Kind.TheVariants as kind;
 
-use amqp_ser::{MapOf, Serialize, Serializer, fields};
 use amqp_data::markers;
+use amqp_ser::{MapOf, Serialize, Serializer, fields};
 
 /// The performative that opens a connection: its first fields (AMQP 1.0 part 2, section 2.7.1).
 #[derive(Drop)]

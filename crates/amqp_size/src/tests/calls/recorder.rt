@@ -149,7 +149,11 @@ impl Serializer for Calls {
         self.inner.begin_descriptor(held);
     }
 
-    fn end_descriptor(&mut self, held: &mut Open, part: Result<usize, Refusal>) -> Result<(), Refusal>
+    fn end_descriptor(
+        &mut self,
+        held: &mut Open,
+        part: Result<usize, Refusal>,
+    ) -> Result<(), Refusal>
         ensures step { (start before : Calls) (d : Option Tree) → size_awaits_descriptor start.inner before.inner held.old → size_permits before.inner d part self.old.inner →
             MatchResult result
             (λ _. (mid : Calls) × (size_has mid.inner Kind.Bare self.new.inner held.new [] × ((t : Option Tree) (r : Result ℕ Refusal) (after : Calls) →

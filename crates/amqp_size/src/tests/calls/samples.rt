@@ -8,8 +8,8 @@ ghost use Rattle.amqp_ser.specs.declared.kind.Kind.TheVariants as kind;
 ghost use Rattle.amqp_data.specs.Text.{symbol_text};
 ghost use Rattle.amqp_data.specs.Fixed.{milliseconds_of};
 
-use amqp_ser::{Serialize, Serializer};
 use amqp_data::{Symbol, Timestamp, markers};
+use amqp_ser::{Serialize, Serializer};
 
 /// A struct of three fields: a list of them.
 #[derive(Drop)]
