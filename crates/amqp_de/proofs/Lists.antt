@@ -1,6 +1,6 @@
 -- Parts of compounds, as lists and back.
 use Rattle.std.proofs.Common.{◌≡◌, List, [], ◌∷◌, refl, sym, ap, ◌∙◌}
-use Rattle.amqp_ser.specs.Tree.{Tree, Trees, no_trees, more, trees_of}
+use Rattle.amqp_ser.specs.Tree.{Tree, trees_of}
 use Rattle.amqp_value.specs.TreeOf.{pairs_of}
 use Rattle.amqp_de.specs.Parts.{list_of, entries_in}
 

@@ -1,6 +1,6 @@
 -- What an enum is read from: a variant's index, and what comes with it (AMQP 1.0 part 1, sections 1.6.5, 1.6.22 and 1.6.23).
 use Rattle.std.specs.Prelude.{◌≡◌, ℕ, List, [], ◌∷◌, Option, Some, None, ◌≤◌, ◌+◌, ◌-◌}
-use Rattle.amqp_ser.specs.Tree.{Scalar, uint, Tree, Trees, Pairs, no_trees, more, no_pairs, pair, scalar, list, map}
+use Rattle.amqp_ser.specs.Tree.{Scalar, uint, Tree, scalar, list, map}
 use Rattle.amqp_value.specs.Image.{variant_map}
 use Rattle.amqp_de.specs.Parts.{list_of, entries_in}
 use Rattle.amqp_de.specs.Fields.{There}

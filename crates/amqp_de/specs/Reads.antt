@@ -1,6 +1,6 @@
 -- What types that hold others read (AMQP 1.0 part 1, sections 1.2 and 1.6).
 use Rattle.std.specs.Prelude.{◌≡◌, List, Option, Some, None}
-use Rattle.amqp_ser.specs.Tree.{Scalar, null, ulong, symbol, Descriptor, name, code, Tree, scalar, list, array}
+use Rattle.amqp_ser.specs.Tree.{null, ulong, symbol, Descriptor, name, code, Tree, scalar, list, array}
 use Rattle.amqp_de.specs.Parts.{list_of}
 
 -- always

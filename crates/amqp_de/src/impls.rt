@@ -2,5 +2,6 @@
 
 mod described;
 mod holders;
+mod lists;
 mod scalars;
 mod tuples;

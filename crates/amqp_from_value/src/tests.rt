@@ -1,4 +1,5 @@
 //! What is read of untyped values, row by row.
 
+mod lists;
 mod rows;
 mod variants;

@@ -1,0 +1,107 @@
+//! Vectors and arrays: all the elements, by their places.
+
+ghost use Rattle.std.specs.Prelude.{◌≡◌, List, map, MatchResult};
+ghost use Rattle.std.specs.List.{AllZip, AllByRecursion};
+ghost use Rattle.amqp_data.specs.Items.{array_items, transparent_items};
+ghost use Rattle.amqp_ser.specs.Tree.{list, array, trees_of};
+ghost use Rattle.amqp_de.specs.Answers.{Refuses};
+ghost use Rattle.amqp_de.specs.Reads.{OnList, OnArray};
+
+use crate::de::{Content, Deserialize, Deserializer, Refusal};
+use amqp_data::{Array, TransparentVec};
+use std::alloc::Global;
+
+/// Reads all the elements that are left, in order.
+///
+/// # Errors
+/// What the first refused element is refused with; want of memory.
+fn read_all<T: Deserialize, D: Deserializer>(
+    alloc: Global,
+    elements: &mut D::Elements,
+) -> Result<Vec<T>, D::Error>
+    ensures read { MatchResult result (λ v. AllZip T.reads (D.items elements.old) v.items)
+        (Refuses D.Error.is_memory (λ (xs : List T). AllZip T.reads (D.items elements.old) xs)) }
+    ensures law { (xs : List T) → AllByRecursion T.restorable xs → D.items elements.old ≡ map T.image xs →
+        MatchResult result (λ v. AllZip T.same v.items xs) D.Error.is_memory }
+{
+    let mut values = Vec::new(alloc);
+    'elements: loop {
+        match D::next_element(&mut *elements) {
+            Some(element) => match T::deserialize(alloc, element) {
+                Ok(value) => {
+                    if values.push(value).is_err() {
+                        return Err(D::Error::memory());
+                    }
+                }
+                Err(error) => return Err(error),
+            },
+            None => return Ok(values),
+        }
+    }
+}
+
+#[tactic(auto, using(crate::proofs::Lists::list_of_trees, crate::proofs::Lists::same_trees), unfolding(crate::specs::Reads::OnList))]
+impl<T: Deserialize> Deserialize for Vec<T> {
+    ghost reads = { λ t v. OnList (λ ts. AllZip T.reads ts v.items) t };
+
+    ghost image = { λ v. list (trees_of (map T.image v.items)) };
+
+    ghost restorable = { λ v. AllByRecursion T.restorable v.items };
+
+    ghost same = { λ v w. AllZip T.same v.items w.items };
+
+    fn deserialize<D: Deserializer>(alloc: Global, deserializer: D) -> Result<Vec<T>, D::Error> {
+        match deserializer.open() {
+            Content::List(mut elements) => match read_all::<T, D>(alloc, &mut elements) {
+                Ok(values) => Ok(values),
+                Err(error) => Err(error),
+            },
+            _ => Err(D::Error::invalid()),
+        }
+    }
+}
+
+#[tactic(auto, using(crate::proofs::Lists::list_of_trees, crate::proofs::Lists::same_trees), unfolding(crate::specs::Reads::OnArray))]
+impl<T: Deserialize> Deserialize for Array<T> {
+    ghost reads = { λ t a. OnArray (λ ts. AllZip T.reads ts (array_items a)) t };
+
+    ghost image = { λ a. array (trees_of (map T.image (array_items a))) };
+
+    ghost restorable = { λ a. AllByRecursion T.restorable (array_items a) };
+
+    ghost same = { λ a b. AllZip T.same (array_items a) (array_items b) };
+
+    fn deserialize<D: Deserializer>(alloc: Global, deserializer: D) -> Result<Array<T>, D::Error> {
+        match deserializer.open() {
+            Content::Array(mut elements) => match read_all::<T, D>(alloc, &mut elements) {
+                Ok(values) => Ok(Array::from(values)),
+                Err(error) => Err(error),
+            },
+            _ => Err(D::Error::invalid()),
+        }
+    }
+}
+
+#[tactic(auto, using(crate::proofs::Lists::list_of_trees, crate::proofs::Lists::same_trees), unfolding(crate::specs::Reads::OnList))]
+impl<T: Deserialize> Deserialize for TransparentVec<T> {
+    ghost reads = { λ t v. OnList (λ ts. AllZip T.reads ts (transparent_items v)) t };
+
+    ghost image = { λ v. list (trees_of (map T.image (transparent_items v))) };
+
+    ghost restorable = { λ v. AllByRecursion T.restorable (transparent_items v) };
+
+    ghost same = { λ v w. AllZip T.same (transparent_items v) (transparent_items w) };
+
+    fn deserialize<D: Deserializer>(
+        alloc: Global,
+        deserializer: D,
+    ) -> Result<TransparentVec<T>, D::Error> {
+        match deserializer.open() {
+            Content::List(mut elements) => match read_all::<T, D>(alloc, &mut elements) {
+                Ok(values) => Ok(TransparentVec::new(values)),
+                Err(error) => Err(error),
+            },
+            _ => Err(D::Error::invalid()),
+        }
+    }
+}
