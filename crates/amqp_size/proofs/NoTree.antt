@@ -1,5 +1,5 @@
 -- A whole whose parts have their trees has a tree, unless it was refused when it was opened.
-use Rattle.std.proofs.Common.{◌≡◌, ℕ, List, [], ◌∷◌, Option, Some, None, true, false, Ok, refl, ap, sym, ◌∙◌, subst}
+use Rattle.std.proofs.Common.{◌≡◌, ℕ, List, [], ◌∷◌, Option, Some, None, true, false, Ok, refl, ap, sym, ◌∙◌, subst, inl, inr}
 use Rattle.amqp_ser.specs.Tree.{Tree, Trees, list, array, map, variant, transparent}
 use Rattle.amqp_ser.specs.Compounds.{as_kind, as_map, all_trees, complete, whole}
 use Rattle.amqp_ser.specs.Marked.{marked}
@@ -8,7 +8,7 @@ use Rattle.amqp_ser.specs.declared.kind.Kind.TheVariants as kinds
 use Rattle.amqp_ser.specs.declared.mark.Mark.TheVariants as mark
 use Rattle.amqp_ser.proofs.Pairing.{Pairing, pairing, paired-even}
 use Rattle.amqp_size.specs.Place.{outer, meant, shape_of, is_gathered}
-use Rattle.amqp_size.specs.Counted.{at_place, bare_parts, Holds, HoldsTransparent, HoldsBare}
+use Rattle.amqp_size.specs.Counted.{at_place, bare_parts, Holds, HoldsTransparent, HoldsBare, Holding}
 use Rattle.amqp_size.specs.WholeUnder.{Under}
 use Rattle.amqp_size.specs.WholeUnder as under
 use Rattle.amqp_size.specs.declared.place.Shape.TheVariants as shapes
@@ -56,10 +56,10 @@ not_bare start kind held ps h k =
     let e : false ≡ true = sym (ap is_gathered q) ∙ h.gathered in cc
 
 -- of each shape
-pub gathered_none : (start : SizeSerializer) (kind : Kind) (held : Open) (ps : List (Option Tree)) → Holds start kind held ps → complete kind ps ≡ true → meant start.place (whole kind ps) ≡ None → held.shape ≡ shapes.Refused
+gathered_none : (start : SizeSerializer) (kind : Kind) (held : Open) (ps : List (Option Tree)) → Holds start kind held ps → complete kind ps ≡ true → meant start.place (whole kind ps) ≡ None → held.shape ≡ shapes.Refused
 gathered_none start kind held ps h done n = h.shape ∙ refused_when_opened start.place kind ps h.ts h.trees done (not_bare start kind held ps h) n
 
-pub transparent_none : (start : SizeSerializer) (kind : Kind) (held : Open) (ps : List (Option Tree)) → HoldsTransparent start kind held ps → meant start.place (whole kind ps) ≡ None → ⊥
+transparent_none : (start : SizeSerializer) (kind : Kind) (held : Open) (ps : List (Option Tree)) → HoldsTransparent start kind held ps → meant start.place (whole kind ps) ≡ None → ⊥
 unfolding whole
 transparent_none start kind held ps h n =
     let at = transparent_shape start.place kind h.shaped in
@@ -70,6 +70,12 @@ one_part start held [] q done n = cc
 one_part start held (p ∷ []) q done n = subst (λ o. at_place (outer start.place) o (Ok held.sum) held.inner) (sym (ap (meant start.place) (whole_one p)) ∙ n) q.1
 one_part start held (p ∷ (q ∷ ps)) r done n = cc
 
-pub bare_none : (start : SizeSerializer) (kind : Kind) (held : Open) (ps : List (Option Tree)) → HoldsBare start kind held ps → complete kind ps ≡ true → meant start.place (whole kind ps) ≡ None → ⊥
+bare_none : (start : SizeSerializer) (kind : Kind) (held : Open) (ps : List (Option Tree)) → HoldsBare start kind held ps → complete kind ps ≡ true → meant start.place (whole kind ps) ≡ None → ⊥
 bare_none start kind held ps h done n =
     one_part start held ps h.parts (subst (λ k. complete k ps ≡ true) h.kind_is done) (ap (λ k. meant start.place (whole k ps)) (sym h.kind_is) ∙ n)
+
+-- of every shape
+pub open_none : (start : SizeSerializer) (kind : Kind) (held : Open) (ps : List (Option Tree)) → Holding start kind held ps → complete kind ps ≡ true → meant start.place (whole kind ps) ≡ None → held.shape ≡ shapes.Refused
+open_none start kind held ps (inl h) done n = gathered_none start kind held ps h done n
+open_none start kind held ps (inr (inl h)) done n = absurd (transparent_none start kind held ps h n)
+open_none start kind held ps (inr (inr h)) done n = absurd (bare_none start kind held ps h done n)

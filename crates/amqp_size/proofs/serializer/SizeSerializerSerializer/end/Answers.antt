@@ -9,11 +9,9 @@ use Rattle.amqp_size.specs.Width.{map_width, list_width}
 use Rattle.amqp_size.specs.State.{place_at}
 use Rattle.amqp_size.specs.Place.{rest, is_gathered}
 use Rattle.amqp_size.specs.WholeUnder.{Plain}
-use Rattle.amqp_size.specs.declared.place.Shape.{Shape}
-use Rattle.amqp_size.specs.declared.place.Shape.TheVariants as shape
-use Rattle.amqp_size.proofs.Holding.{gathered_of, transparent_of, bare_shape}
+use Rattle.amqp_size.proofs.Holding.{gathered_of}
 use Rattle.amqp_size.proofs.Lengths.{length-counted}
-use Rattle.amqp_size.proofs.NoTree.{gathered_none, transparent_none, bare_none}
+use Rattle.amqp_size.proofs.NoTree.{open_none}
 use Rattle.amqp_size.proofs.Whole.{stands, stands_none, MapEnd, map_end, FieldsEnd, fields_end, refused_shape}
 use Rattle.amqp_size.proofs.serializer.SizeSerializerSerializer.end.Goals as goal
 
@@ -47,34 +45,22 @@ returns-in-Refused-clause-answered c = λ start kind ps h done.
     (refused_shape start.place kind (all_trees ps) (sym g.shape ∙ sym c.shape.ensures ∙ c.in-Refused.is)) (tt, h.1 ∙ ap (λ q. Plain (rest q)) (sym there))
 
 pub returns-in-List-clause-no_tree : goal.returns-in-List-clause-no_tree
-returns-in-List-clause-no_tree c = λ start kind ps h done none.
-    let g = gathered_of start kind c.args.held ps h.0 (ap is_gathered (sym c.shape.ensures ∙ c.in-List.is)) in
-    let other = sym c.in-List.is ∙ c.shape.ensures ∙ gathered_none start kind c.args.held ps g done none in cc
+returns-in-List-clause-no_tree c = λ start kind ps h done none. let other = sym c.in-List.is ∙ c.shape.ensures ∙ open_none start kind c.args.held ps h.0 done none in cc
 
 pub returns-in-Map-clause-no_tree : goal.returns-in-Map-clause-no_tree
-returns-in-Map-clause-no_tree c = λ start kind ps h done none.
-    let g = gathered_of start kind c.args.held ps h.0 (ap is_gathered (sym c.shape.ensures ∙ c.in-Map.is)) in
-    let other = sym c.in-Map.is ∙ c.shape.ensures ∙ gathered_none start kind c.args.held ps g done none in cc
+returns-in-Map-clause-no_tree c = λ start kind ps h done none. let other = sym c.in-Map.is ∙ c.shape.ensures ∙ open_none start kind c.args.held ps h.0 done none in cc
 
 pub returns-in-Fields-clause-no_tree : goal.returns-in-Fields-clause-no_tree
-returns-in-Fields-clause-no_tree c = λ start kind ps h done none.
-    let g = gathered_of start kind c.args.held ps h.0 (ap is_gathered (sym c.shape.ensures ∙ c.in-Fields.is)) in
-    let other = sym c.in-Fields.is ∙ c.shape.ensures ∙ gathered_none start kind c.args.held ps g done none in cc
+returns-in-Fields-clause-no_tree c = λ start kind ps h done none. let other = sym c.in-Fields.is ∙ c.shape.ensures ∙ open_none start kind c.args.held ps h.0 done none in cc
 
 pub returns-in-Only-clause-no_tree : goal.returns-in-Only-clause-no_tree
-returns-in-Only-clause-no_tree c = λ start kind ps h done none.
-    let g = gathered_of start kind c.args.held ps h.0 (ap is_gathered (sym c.shape.ensures ∙ c.in-Only.is)) in
-    let other = sym c.in-Only.is ∙ c.shape.ensures ∙ gathered_none start kind c.args.held ps g done none in cc
+returns-in-Only-clause-no_tree c = λ start kind ps h done none. let other = sym c.in-Only.is ∙ c.shape.ensures ∙ open_none start kind c.args.held ps h.0 done none in cc
 
 pub returns-in-Array-clause-no_tree : goal.returns-in-Array-clause-no_tree
-returns-in-Array-clause-no_tree c = λ start kind ps h done none.
-    let g = gathered_of start kind c.args.held ps h.0 (ap is_gathered (sym c.shape.ensures ∙ c.in-Array.is)) in
-    let other = sym c.in-Array.is ∙ c.shape.ensures ∙ gathered_none start kind c.args.held ps g done none in cc
+returns-in-Array-clause-no_tree c = λ start kind ps h done none. let other = sym c.in-Array.is ∙ c.shape.ensures ∙ open_none start kind c.args.held ps h.0 done none in cc
 
 pub returns-in-Transparent-clause-no_tree : goal.returns-in-Transparent-clause-no_tree
-returns-in-Transparent-clause-no_tree c = λ start kind ps h done none.
-    absurd (transparent_none start kind c.args.held ps (transparent_of start kind c.args.held ps h.0 (sym c.shape.ensures ∙ c.in-Transparent.is)) none)
+returns-in-Transparent-clause-no_tree c = λ start kind ps h done none. let other = sym c.in-Transparent.is ∙ c.shape.ensures ∙ open_none start kind c.args.held ps h.0 done none in cc
 
 pub returns-in-Bare-clause-no_tree : goal.returns-in-Bare-clause-no_tree
-returns-in-Bare-clause-no_tree c = λ start kind ps h done none.
-    absurd (bare_none start kind c.args.held ps (bare_shape start kind c.args.held ps h.0 (sym c.shape.ensures ∙ c.in-Bare.is)) done none)
+returns-in-Bare-clause-no_tree c = λ start kind ps h done none. let other = sym c.in-Bare.is ∙ c.shape.ensures ∙ open_none start kind c.args.held ps h.0 done none in cc
