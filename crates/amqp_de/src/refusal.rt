@@ -1,6 +1,6 @@
 //! Errors that a reader may answer.
 
-ghost use Rattle.std.specs.Prelude.{◌≡◌};
+ghost use Rattle.std.specs.Prelude.{◌≡◌, ¬};
 ghost use Rattle.amqp_data.specs.declared.error.Error.TheVariants as error;
 
 use amqp_data::Error;
@@ -15,10 +15,12 @@ pub trait Refusal: Sized + Drop {
         ensures { is_memory result };
 
     /// The value is of another kind than the one that is read.
-    fn invalid() -> Self;
+    fn invalid() -> Self
+        ensures { ¬ (is_memory result) };
 
     /// A reader's own words.
-    fn message(words: &'static str) -> Self;
+    fn message(words: &'static str) -> Self
+        ensures { ¬ (is_memory result) };
 }
 
 impl Refusal for Error {

@@ -10,8 +10,6 @@ mod from;
 pub mod laws;
 mod serialize;
 mod show;
-#[cfg(test)]
-mod tests;
 mod try_from;
 mod value;
 

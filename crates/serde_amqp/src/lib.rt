@@ -23,8 +23,6 @@ pub mod primitives;
 pub mod read;
 pub mod ser;
 pub mod size_ser;
-#[cfg(test)]
-mod tests;
 pub mod value;
 mod write;
 mod writers;

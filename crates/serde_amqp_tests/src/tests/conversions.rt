@@ -1,8 +1,8 @@
 //! Conversions, format codes and order, by the names that are handed out.
 
-use crate::format_code::EncodingCodes;
-use crate::primitives::{Array, OrderedMap, Symbol};
-use crate::value::{ConvertFault, Value, to_value};
+use serde_amqp::format_code::EncodingCodes;
+use serde_amqp::primitives::{Array, OrderedMap, Symbol};
+use serde_amqp::value::{ConvertFault, Value, to_value};
 use std::collections::BTreeMap;
 use std::test::Fail;
 

@@ -1,7 +1,7 @@
 //! Rows of the calls that are handed out, from what they give together.
 
-use crate::value::to_value;
-use crate::{serialized_size, to_vec};
+use serde_amqp::value::to_value;
+use serde_amqp::{serialized_size, to_vec};
 use std::test::Fail;
 
 #[test]

@@ -1,6 +1,6 @@
 //! The texts of `Error`.
 
-use crate::Error;
+use serde_amqp::Error;
 use std::test::Fail;
 
 #[test]

@@ -1,9 +1,9 @@
 //! Worked rows of lists, options, tuples, arrays and maps.
 
 use super::rows::{refused, row};
-use crate::{Error, Value, serialized_size, to_value, to_vec};
 use amqp_data::{Array, OrderedMap};
 use amqp_ser::{Serialize, Serializer};
+use serde_amqp::{Error, Value, serialized_size, to_value, to_vec};
 use std::alloc::Global;
 use std::collections::BTreeMap;
 use std::test::Fail;

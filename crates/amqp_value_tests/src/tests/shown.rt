@@ -1,11 +1,11 @@
 //! Values and their texts, each through `Display` into a string.
 
 use super::{described, list, string, strings};
-use crate::Value;
 use amqp_data::{
     Array, ByteBuf, Dec32, Dec64, Dec128, Descriptor, F32Bits, F64Bits, OrderedMap, Symbol,
     Timestamp, Uuid,
 };
+use amqp_value::Value;
 use std::alloc::Global;
 use std::process::Abort;
 use std::test::Fail;

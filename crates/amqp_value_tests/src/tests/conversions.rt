@@ -1,11 +1,11 @@
 //! Each conversion once, both ways, and what does not fit.
 
 use super::{described, string, strings};
-use crate::{ConvertFault, Value};
 use amqp_data::{
     Array, ByteBuf, Dec32, Dec64, Dec128, Described, Descriptor, F32Bits, F64Bits, OrderedMap,
     Symbol, Timestamp, Uuid,
 };
+use amqp_value::{ConvertFault, Value};
 use indexmap::IndexMap;
 use std::alloc::Global;
 use std::collections::{BTreeMap, HashMap};

@@ -4,15 +4,15 @@ ghost use Rattle.std.specs.Prelude.{Some};
 ghost use Rattle.amqp_ser.specs.Marked.{marked, mark_of};
 
 use super::rows::refused;
-use crate::described::Described;
-use crate::descriptor::Descriptor;
-use crate::extensions::TransparentVec;
-use crate::primitives::{
+use serde_amqp::described::Described;
+use serde_amqp::descriptor::Descriptor;
+use serde_amqp::extensions::TransparentVec;
+use serde_amqp::primitives::{
     Array, ByteBuf, Dec32, Dec64, Dec128, F32Bits, F64Bits, OrderedMap, Symbol, Timestamp, Uuid,
 };
-use crate::ser::{Serialize, Serializer, markers};
-use crate::value::to_value;
-use crate::{Error, Value};
+use serde_amqp::ser::{Serialize, Serializer, markers};
+use serde_amqp::value::to_value;
+use serde_amqp::{Error, Value};
 use std::alloc::Global;
 use std::process::Abort;
 use std::test::Fail;

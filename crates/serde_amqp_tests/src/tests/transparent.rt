@@ -4,9 +4,9 @@ ghost use Rattle.std.specs.Prelude.{None, Some};
 ghost use Rattle.amqp_ser.specs.Tree.{scalar, ubyte};
 
 use super::rows::{refused, row};
-use crate::{Error, Value, to_value};
 use amqp_data::{OrderedMap, TransparentVec, markers};
 use amqp_ser::{Serialize, Serializer};
+use serde_amqp::{Error, Value, to_value};
 use std::test::Fail;
 
 /// A variant of the enum named `VALUE`.

@@ -1,9 +1,9 @@
 //! Rows of `run_cut`.
 
 use super::streams::{Drip, Fault, Sip};
-use crate::{IoWriter, VecWriter, run_cut};
 use amqp_data::Error;
 use amqp_frame::{IoReader, Read, SliceReader};
+use serde_amqp::{IoWriter, VecWriter, run_cut};
 use std::alloc::Global;
 use std::io::ErrorKind;
 use std::test::Fail;

@@ -4,11 +4,11 @@ mod conversions;
 mod order;
 mod shown;
 
-use crate::{Value, laws};
 use amqp_data::{
     Array, ByteBuf, Dec32, Dec64, Dec128, Described, Descriptor, F32Bits, F64Bits, OrderedMap,
     Symbol, Timestamp, Uuid,
 };
+use amqp_value::{Value, laws};
 use std::alloc::Global;
 use std::test::Fail;
 

@@ -1,8 +1,8 @@
 //! Rows of `run_lines`.
 
 use super::streams::{Drip, Fault, Sip};
-use crate::read::{IoReader, Read, SliceReader};
-use crate::{Error, IoWriter, VecWriter, run_lines};
+use serde_amqp::read::{IoReader, Read, SliceReader};
+use serde_amqp::{Error, IoWriter, VecWriter, run_lines};
 use std::alloc::Global;
 use std::io::ErrorKind;
 use std::test::Fail;

@@ -1,10 +1,10 @@
 //! Worked rows: a value's length, bytes and image, by the encoding tables (AMQP 1.0 part 1, section 1.6).
 
-use crate::{Error, Value, serialized_size, to_value, to_vec};
 use amqp_data::{
     ByteBuf, Dec32, Dec64, Dec128, F32Bits, F64Bits, Symbol, SymbolRef, Timestamp, Uuid,
 };
 use amqp_ser::Serialize;
+use serde_amqp::{Error, Value, serialized_size, to_value, to_vec};
 use std::alloc::{AllocError, Global};
 use std::process::Abort;
 use std::test::Fail;

@@ -6,9 +6,9 @@ ghost use Rattle.amqp_ser.specs.Tree.{scalar, bool, int, string, uint, ulong};
 ghost use Rattle.amqp_ser.specs.declared.kind.Kind.TheVariants as kind;
 
 use super::rows::row;
-use crate::Value;
 use amqp_data::{Array, OrderedMap};
 use amqp_ser::{Serialize, Serializer};
+use serde_amqp::Value;
 use std::alloc::Global;
 use std::test::Fail;
 

@@ -6,8 +6,8 @@ ghost use Rattle.amqp_ser.specs.Compounds.{whole};
 ghost use Rattle.amqp_ser.specs.declared.kind.Kind.TheVariants.{List};
 
 use super::rows::row;
-use crate::Value;
 use amqp_ser::{Serialize, Serializer};
+use serde_amqp::Value;
 use std::test::Fail;
 
 /// A newtype of no marker's name.

@@ -1,8 +1,8 @@
 //! Format codes, and the order of worked values.
 
 use super::{described, list, one_of_each, string};
-use crate::Value;
 use amqp_data::{Descriptor, F32Bits, F64Bits, OrderedMap, Symbol};
+use amqp_value::Value;
 use std::alloc::Global;
 use std::test::Fail;
 

@@ -3,8 +3,8 @@
 //! `rt try --test --fail-alloc N` refuses the growth of number N. A run then answers out of memory, and
 //! what it printed is a beginning of its output; where no growth of it was refused, it succeeds.
 
-use crate::read::SliceReader;
-use crate::{Error, VecWriter, run_cut, run_lines};
+use serde_amqp::read::SliceReader;
+use serde_amqp::{Error, VecWriter, run_cut, run_lines};
 
 #[test]
 fn lines_succeed_or_want_memory(rt: HostRuntime) {

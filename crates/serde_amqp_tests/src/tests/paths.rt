@@ -1,8 +1,8 @@
 //! Each item that is handed out, by its path: an alias of another module would have another type or another answer.
 
 use super::rows::decoded;
-use crate::ser::{Serialize, Serializer as _};
-use crate::{
+use serde_amqp::ser::{Serialize, Serializer as _};
+use serde_amqp::{
     Error, Value, described, descriptor, extensions, format_code, lazy, primitives, read, ser,
     size_ser, value,
 };
@@ -137,5 +137,55 @@ fn compounds_that_count(rt: HostRuntime) -> Result<(), Fail> {
     );
     let variant = s.serialize_struct_variant("E", 1, "V", 0)?;
     assert_eq!(rt; length_of_struct_variant(variant), Ok(6));
+    Ok(())
+}
+
+// Each alias of the value module ends with a value.
+
+fn value_of_list(parts: value::ser::SeqSerializer<'_>) -> Result<Value, Error> {
+    parts.end()
+}
+
+fn value_of_tuple(parts: value::ser::TupleSerializer<'_>) -> Result<Value, Error> {
+    parts.end()
+}
+
+fn value_of_map(parts: value::ser::MapSerializer<'_>) -> Result<Value, Error> {
+    parts.end()
+}
+
+fn value_of_tuple_struct(parts: value::ser::TupleStructSerializer<'_>) -> Result<Value, Error> {
+    parts.end()
+}
+
+fn value_of_struct(parts: value::ser::StructSerializer<'_>) -> Result<Value, Error> {
+    parts.end()
+}
+
+fn value_of_variant(parts: value::ser::VariantSerializer<'_>) -> Result<Value, Error> {
+    parts.end()
+}
+
+fn value_of_struct_variant(parts: value::ser::StructVariantSerializer<'_>) -> Result<Value, Error> {
+    parts.end()
+}
+
+#[test]
+fn compounds_that_gather(rt: HostRuntime) -> Result<(), Fail> {
+    let a = rt.alloc();
+    let mut s = value::ser::Serializer::new(a);
+    let list = Value::List(Vec::new(a));
+    assert!(rt; value_of_list(s.serialize_seq(None)?)? == list);
+    assert!(rt; value_of_tuple(s.serialize_tuple(0)?)? == list);
+    let map = Value::Map(primitives::OrderedMap::new(a));
+    assert!(rt; value_of_map(s.serialize_map(None)?)? == map);
+    assert!(rt; value_of_tuple_struct(s.serialize_tuple_struct("T", 0)?)? == list);
+    assert!(rt; value_of_struct(s.serialize_struct("S", 0)?)? == list);
+    let mut pair = primitives::OrderedMap::new(a);
+    drop(pair.insert(Value::Uint(1), Value::List(Vec::new(a)))?);
+    let pair = Value::Map(pair);
+    assert!(rt; value_of_variant(s.serialize_tuple_variant("E", 1, "V", 0)?)? == pair);
+    let variant = s.serialize_struct_variant("E", 1, "V", 0)?;
+    assert!(rt; value_of_struct_variant(variant)? == pair);
     Ok(())
 }

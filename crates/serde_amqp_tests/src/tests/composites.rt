@@ -7,9 +7,9 @@ ghost use Rattle.amqp_ser.specs.Tree.{code, scalar, ubyte, bool};
 ghost use Rattle.amqp_ser.specs.declared.kind.Kind.TheVariants.{List};
 
 use super::rows::{refused, row};
-use crate::{Error, Value, serialized_size, to_value, to_vec};
 use amqp_data::{Array, Described, Descriptor, OrderedMap, Symbol, SymbolRef, markers};
 use amqp_ser::{Serialize, Serializer};
+use serde_amqp::{Error, Value, serialized_size, to_value, to_vec};
 use std::alloc::Global;
 use std::test::Fail;
 

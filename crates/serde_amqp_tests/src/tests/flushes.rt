@@ -1,8 +1,8 @@
 //! What the two runs do with a writer that holds bytes back until it is flushed.
 
 use super::streams::Held;
-use crate::read::SliceReader;
-use crate::{Error, IoWriter, Write, run_cut, run_lines};
+use serde_amqp::read::SliceReader;
+use serde_amqp::{Error, IoWriter, Write, run_cut, run_lines};
 use std::alloc::Global;
 
 // One of the two runs, on its input.
