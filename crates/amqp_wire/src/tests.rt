@@ -2,6 +2,7 @@
 
 mod described;
 mod feeding;
+mod goes_on;
 mod memory;
 mod refused;
 mod rows;
