@@ -3,5 +3,6 @@
 mod described;
 mod holders;
 mod lists;
+mod maps;
 mod scalars;
 mod tuples;
