@@ -1,3 +1,4 @@
+pub mod Firsts
 pub mod Gathered
 pub mod Inserted
 pub mod Lists

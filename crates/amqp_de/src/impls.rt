@@ -1,5 +1,6 @@
 //! What is read by the types of std and of AMQP data.
 
+mod arrays;
 mod described;
 mod holders;
 mod lists;

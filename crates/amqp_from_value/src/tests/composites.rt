@@ -97,10 +97,13 @@ fn list<const N: usize>(alloc: Global, items: [Value; N]) -> Result<Value, Fail>
     Ok(Value::List(Vec::from_array(alloc, items)?))
 }
 
-fn map<const N: usize>(alloc: Global, pairs: [(&str, Value); N]) -> Result<Value, Fail> {
+fn string(alloc: Global, text: &str) -> Result<Value, Fail> {
+    Ok(Value::String(String::from_str(alloc, text)?))
+}
+
+fn map<const N: usize>(alloc: Global, pairs: [(Value, Value); N]) -> Result<Value, Fail> {
     let mut map = OrderedMap::new(alloc);
-    for (name, value) in Vec::from_array(alloc, pairs)? {
-        let key = Value::String(String::from_str(alloc, name)?);
+    for (key, value) in Vec::from_array(alloc, pairs)? {
         drop(map.insert(key, value)?);
     }
     Ok(Value::Map(map))
@@ -127,7 +130,7 @@ fn a_list_composite_is_read_from_its_list(rt: HostRuntime) -> Result<(), Fail> {
             credit: None
         }
     );
-    let named = map(alloc, [("handle", Value::Uint(4))])?;
+    let named = map(alloc, [(string(alloc, "handle")?, Value::Uint(4))])?;
     let read: Result<Flow, Error> = from_value(alloc, described(alloc, 0x13, named)?);
     assert!(rt; matches!(read, Err(Error::InvalidValue)));
     Ok(())
@@ -145,7 +148,13 @@ fn a_composite_of_names_is_read_from_its_list_and_its_map(rt: HostRuntime) -> Re
             high: Some(8)
         }
     );
-    let by_name = map(alloc, [("high", Value::Uint(8)), ("low", Value::Int(-3))])?;
+    let by_name = map(
+        alloc,
+        [
+            (string(alloc, "high")?, Value::Uint(8)),
+            (string(alloc, "low")?, Value::Int(-3)),
+        ],
+    )?;
     let limits: Limits = from_value(alloc, described(alloc, 0x15, by_name)?)?;
     assert_eq!(rt;
         limits,
@@ -154,7 +163,7 @@ fn a_composite_of_names_is_read_from_its_list_and_its_map(rt: HostRuntime) -> Re
             high: Some(8)
         }
     );
-    let one = map(alloc, [("low", Value::Int(-3))])?;
+    let one = map(alloc, [(string(alloc, "low")?, Value::Int(-3))])?;
     let limits: Limits = from_value(alloc, described(alloc, 0x15, one)?)?;
     assert_eq!(rt;
         limits,
