@@ -1,8 +1,7 @@
--- Elements that are read one after another.
+-- Elements, or pairs, that are read one after another.
 use Rattle.std.proofs.Common.{◌≡◌, inl, inr, List, [], ◌∷◌, ◌++◌, map, refl, sym, ap, ◌∙◌, append_assoc}
 use Rattle.std.proofs.lemmas.List.{append-nil}
 use Rattle.std.specs.List.{AllZip, AllByRecursion}
-use Rattle.amqp_ser.specs.Tree.{Tree}
 use Rattle.amqp_de.specs.Answers.{Refuses}
 
 all_zip_more : {A B : Type 0} (R : A → B → Type 0) (ts : List A) (xs : List B) (t : A) (x : B) → AllZip R ts xs → R t x → AllZip R (ts ++ t ∷ []) (xs ++ x ∷ [])
@@ -11,30 +10,30 @@ all_zip_more R [] (y ∷ ys) t x h r = absurd h
 all_zip_more R (u ∷ us) [] t x h r = absurd h
 all_zip_more R (u ∷ us) (y ∷ ys) t x h r = (h.0, all_zip_more R us ys t x h.1 r)
 
-module _ {T : Type 0} (R : Tree → T → Type 0) where
+module _ {A T : Type 0} (R : A → T → Type 0) where
   -- what was read before the rest
-  abbrev pub ReadSoFar : List Tree → List Tree → List T → Type 0
-  ReadSoFar whole rest xs = (done : List Tree) × (whole ≡ done ++ rest) × AllZip R done xs
+  abbrev pub ReadSoFar : List A → List A → List T → Type 0
+  ReadSoFar whole rest xs = (done : List A) × (whole ≡ done ++ rest) × AllZip R done xs
 
-  pub read_none : (whole : List Tree) → ReadSoFar whole whole []
+  pub read_none : (whole : List A) → ReadSoFar whole whole []
   read_none whole = ([], refl, tt)
 
-  pub read_more : (whole rest after : List Tree) (xs : List T) (t : Tree) (x : T) → ReadSoFar whole rest xs → rest ≡ t ∷ after → R t x
+  pub read_more : (whole rest after : List A) (xs : List T) (t : A) (x : T) → ReadSoFar whole rest xs → rest ≡ t ∷ after → R t x
       → ReadSoFar whole after (xs ++ x ∷ [])
   read_more whole rest after xs t x (done, e, h) f r =
       (done ++ t ∷ [], rw append_assoc (e ∙ ap (λ ts. done ++ ts) f), all_zip_more R done xs t x h r)
 
-  pub read_whole : (whole : List Tree) (xs : List T) → ReadSoFar whole [] xs → AllZip R whole xs
+  pub read_whole : (whole : List A) (xs : List T) → ReadSoFar whole [] xs → AllZip R whole xs
   read_whole whole xs (done, e, h) = let p : done ≡ whole = sym (append-nil done) ∙ sym e in rw p at h
 
   -- where one of them has no reading, the list has none
-  all_zip_none : (done : List Tree) (t : Tree) (rest : List Tree) → ((x : T) → ¬ R t x) → (xs : List T) → ¬ AllZip R (done ++ t ∷ rest) xs
+  all_zip_none : (done : List A) (t : A) (rest : List A) → ((x : T) → ¬ R t x) → (xs : List T) → ¬ AllZip R (done ++ t ∷ rest) xs
   all_zip_none [] t rest n [] h = h
   all_zip_none [] t rest n (x ∷ xs) h = n x h.0
   all_zip_none (u ∷ us) t rest n [] h = h
   all_zip_none (u ∷ us) t rest n (x ∷ xs) h = all_zip_none us t rest n xs h.1
 
-  pub read_refused : {E : Type 0} (Memory : E → Type 0) (e : E) (whole rest after : List Tree) (xs : List T) (t : Tree) → ReadSoFar whole rest xs
+  pub read_refused : {E : Type 0} (Memory : E → Type 0) (e : E) (whole rest after : List A) (xs : List T) (t : A) → ReadSoFar whole rest xs
       → rest ≡ t ∷ after → Refuses Memory (R t) e → Refuses Memory (λ ys. AllZip R whole ys) e
   read_refused Memory e whole rest after xs t (done, p, h) f r =
       elim r [
@@ -44,18 +43,18 @@ module _ {T : Type 0} (R : Tree → T → Type 0) where
             all_zip_none done t after n ys all)
       ]
 
-module _ {T : Type 0} (image : T → Tree) (P : T → Type 0) (S : T → T → Type 0) where
+module _ {A T : Type 0} (image : T → A) (P : T → Type 0) (S : T → T → Type 0) where
   -- of restorable values whose images are the whole, the first are the same as those that were read
-  abbrev pub Halves : List Tree → List T → List T → Type 0
+  abbrev pub Halves : List A → List T → List T → Type 0
   Halves rest ys xs = (done : List T) × (left : List T) × (rest ≡ map image left) × (xs ≡ done ++ left) × AllByRecursion P left × AllZip S ys done
 
-  abbrev pub SameSoFar : List Tree → List Tree → List T → Type 0
+  abbrev pub SameSoFar : List A → List A → List T → Type 0
   SameSoFar whole rest ys = (xs : List T) → AllByRecursion P xs → whole ≡ map image xs → Halves rest ys xs
 
-  pub same_none : (whole : List Tree) → SameSoFar whole whole []
+  pub same_none : (whole : List A) → SameSoFar whole whole []
   same_none whole xs all p = ([], xs, p, refl, all, tt)
 
-  next_half : (t : Tree) (after : List Tree) (ys : List T) (y : T) (xs done left : List T) → ((x : T) → P x → t ≡ image x → S y x)
+  next_half : (t : A) (after : List A) (ys : List T) (y : T) (xs done left : List T) → ((x : T) → P x → t ≡ image x → S y x)
       → t ∷ after ≡ map image left → xs ≡ done ++ left → AllByRecursion P left → AllZip S ys done → Halves after (ys ++ y ∷ []) xs
   next_half t after ys y xs done [] s p q all z = absurd (cc)
   next_half t after ys y xs done (x ∷ left) s p q all z =
@@ -63,7 +62,7 @@ module _ {T : Type 0} (image : T → Tree) (P : T → Type 0) (S : T → T → T
       let tail : after ≡ map image left = cc in
       (done ++ x ∷ [], left, tail, rw append_assoc q, all.1, all_zip_more S ys done y x z (s x all.0 head))
 
-  pub same_more : (whole rest after : List Tree) (ys : List T) (t : Tree) (y : T) → SameSoFar whole rest ys → rest ≡ t ∷ after
+  pub same_more : (whole rest after : List A) (ys : List T) (t : A) (y : T) → SameSoFar whole rest ys → rest ≡ t ∷ after
       → ((x : T) → P x → t ≡ image x → S y x) → SameSoFar whole after (ys ++ y ∷ [])
   same_more whole rest after ys t y so f s xs all p =
       let (done, left, q, r, some, z) = so xs all p in
@@ -73,16 +72,16 @@ module _ {T : Type 0} (image : T → Tree) (P : T → Type 0) (S : T → T → T
   whole_half ys xs done [] p q z = let same : done ≡ xs = sym (append-nil done) ∙ sym q in rw same at z
   whole_half ys xs done (x ∷ left) p q z = absurd (cc)
 
-  pub same_whole : (whole : List Tree) (ys : List T) → SameSoFar whole [] ys → (xs : List T) → AllByRecursion P xs → whole ≡ map image xs → AllZip S ys xs
+  pub same_whole : (whole : List A) (ys : List T) → SameSoFar whole [] ys → (xs : List T) → AllByRecursion P xs → whole ≡ map image xs → AllZip S ys xs
   same_whole whole ys so xs all p =
       let (done, left, q, r, some, z) = so xs all p in
       whole_half ys xs done left q r z
 
-  refused_half : {M : Type 0} (t : Tree) (after : List Tree) (left : List T) → ((x : T) → P x → t ≡ image x → M) → t ∷ after ≡ map image left → AllByRecursion P left → M
+  refused_half : {M : Type 0} (t : A) (after : List A) (left : List T) → ((x : T) → P x → t ≡ image x → M) → t ∷ after ≡ map image left → AllByRecursion P left → M
   refused_half t after [] m p all = absurd (cc)
   refused_half t after (x ∷ left) m p all = let head : t ≡ image x = cc in m x all.0 head
 
-  pub same_refused : {M : Type 0} (whole rest after : List Tree) (ys : List T) (t : Tree) → SameSoFar whole rest ys → rest ≡ t ∷ after
+  pub same_refused : {M : Type 0} (whole rest after : List A) (ys : List T) (t : A) → SameSoFar whole rest ys → rest ≡ t ∷ after
       → ((x : T) → P x → t ≡ image x → M) → (xs : List T) → AllByRecursion P xs → whole ≡ map image xs → M
   same_refused whole rest after ys t so f m xs all p =
       let (done, left, q, r, some, z) = so xs all p in

@@ -1,2 +1,4 @@
+pub mod Firsts
 pub mod Gathered
+pub mod Inserted
 pub mod Lists

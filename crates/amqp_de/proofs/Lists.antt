@@ -1,6 +1,6 @@
 -- Parts of compounds, as lists and back.
 use Rattle.std.proofs.Common.{◌≡◌, List, [], ◌∷◌, refl, sym, ap, ◌∙◌}
-use Rattle.amqp_ser.specs.Tree.{Tree, trees_of}
+use Rattle.amqp_ser.specs.Tree.{Tree, map, trees_of}
 use Rattle.amqp_value.specs.TreeOf.{pairs_of}
 use Rattle.amqp_de.specs.Parts.{list_of, entries_in}
 
@@ -17,3 +17,6 @@ same_trees us ts p = sym (list_of_trees us) ∙ ap list_of p ∙ list_of_trees t
 
 pub same_pairs : (ds es : List (Tree × Tree)) → pairs_of ds ≡ pairs_of es → ds ≡ es
 same_pairs ds es p = sym (entries_in_pairs ds) ∙ ap entries_in p ∙ entries_in_pairs es
+
+pub same_maps : (ds es : List (Tree × Tree)) (t : Tree) → map (pairs_of ds) ≡ t → t ≡ map (pairs_of es) → ds ≡ es
+same_maps ds es t p q = let same : pairs_of ds ≡ pairs_of es = cc in same_pairs ds es same

@@ -1,4 +1,5 @@
 pub mod Parts
+pub mod Maps
 pub mod Reads
 pub mod Fields
 pub mod Answers

@@ -1,5 +1,6 @@
 -- What types that hold others read (AMQP 1.0 part 1, sections 1.2 and 1.6).
-use Rattle.std.specs.Prelude.{◌≡◌, List, Option, Some, None}
+use Rattle.std.specs.Prelude.{◌≡◌, ℕ, List, Option, Some, None, length, take}
+use Rattle.std.specs.List.{AllZip}
 use Rattle.amqp_ser.specs.Tree.{null, ulong, symbol, Descriptor, name, code, Tree, scalar, list, array}
 use Rattle.amqp_de.specs.Parts.{list_of}
 
@@ -36,6 +37,10 @@ OnList K t = ⊥
 unfoldable pub OnArray : (List Tree → Type 0) → Tree → Type 0
 OnArray K (array ts) = K (list_of ts)
 OnArray K t = ⊥
+
+-- so many values are read from the first of the trees, which may be more
+abbrev pub ReadsFirst : {T : Type 0} → (Tree → T → Type 0) → ℕ → List Tree → List T → Type 0
+ReadsFirst R n ts xs = (length xs ≡ n) × AllZip R (take n ts) xs
 
 -- a descriptor by itself is an ulong or a symbol
 abbrev pub descriptor_tree : Descriptor → Tree

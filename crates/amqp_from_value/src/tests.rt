@@ -1,5 +1,7 @@
 //! What is read of untyped values, row by row.
 
+mod composites;
 mod lists;
+mod maps;
 mod rows;
 mod variants;

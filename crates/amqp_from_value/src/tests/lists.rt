@@ -1,4 +1,4 @@
-//! Worked rows of vectors and arrays: from a list, and from an array.
+//! Worked rows of vectors, arrays and arrays of a fixed length: from a list, and from an array.
 
 use crate::from_value;
 use amqp_data::{Array, Error, TransparentVec};
@@ -66,5 +66,32 @@ fn transparent_vectors_are_read_from_lists(rt: HostRuntime) -> Result<(), Fail> 
         array(alloc, [Value::Bool(true)])?,
     );
     assert!(rt; matches!(read, Err(Error::InvalidValue)));
+    Ok(())
+}
+
+#[test]
+fn arrays_of_a_fixed_length_are_the_first_elements(rt: HostRuntime) -> Result<(), Fail> {
+    let alloc = rt.alloc();
+    let value = list(alloc, [Value::Uint(3), Value::Uint(1)])?;
+    assert_eq!(rt; from_value::<[u32; 2]>(alloc, value), Ok([3, 1]));
+    let value = list(alloc, [Value::Uint(3), Value::Uint(1), Value::Null])?;
+    assert_eq!(rt; from_value::<[u32; 2]>(alloc, value), Ok([3, 1]));
+    let value = list(alloc, [Value::Uint(3)])?;
+    assert_eq!(rt;
+        from_value::<[u32; 2]>(alloc, value),
+        Err(Error::InvalidValue)
+    );
+    let value = list(alloc, [Value::Uint(3), Value::Ulong(1)])?;
+    assert_eq!(rt;
+        from_value::<[u32; 2]>(alloc, value),
+        Err(Error::InvalidValue)
+    );
+    let value = array(alloc, [Value::Uint(3), Value::Uint(1)])?;
+    assert_eq!(rt;
+        from_value::<[u32; 2]>(alloc, value),
+        Err(Error::InvalidValue)
+    );
+    let value = list(alloc, [Value::Null])?;
+    assert_eq!(rt; from_value::<[u32; 0]>(alloc, value), Ok([]));
     Ok(())
 }

@@ -67,6 +67,16 @@ fn untyped_values_come_back_as_they_are(rt: HostRuntime) -> Result<(), Fail> {
 }
 
 #[test]
+fn boxes_hold_what_they_are_read_from(rt: HostRuntime) -> Result<(), Fail> {
+    let alloc = rt.alloc();
+    let boxed: Box<u32> = from_value(alloc, Value::Uint(7))?;
+    assert_eq!(rt; *boxed, 7);
+    let read: Result<Box<u32>, Error> = from_value(alloc, Value::Ulong(7));
+    assert!(rt; matches!(read, Err(Error::InvalidValue)));
+    Ok(())
+}
+
+#[test]
 fn tuples_want_their_parts_and_ignore_more(rt: HostRuntime) -> Result<(), Fail> {
     let alloc = rt.alloc();
     let short = list(alloc, [Value::Ubyte(1)])?;

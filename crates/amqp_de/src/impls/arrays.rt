@@ -1,0 +1,65 @@
+//! Arrays of a fixed length: the first elements of a list.
+
+ghost use Rattle.std.specs.Prelude.{◌≡◌, List, length, map, MatchResult};
+ghost use Rattle.std.specs.List.{AllZip, AllByRecursion};
+ghost use Rattle.amqp_ser.specs.Tree.{list, trees_of};
+ghost use Rattle.amqp_de.specs.Answers.{Refuses};
+ghost use Rattle.amqp_de.specs.Reads.{OnList, ReadsFirst};
+
+use crate::de::{Content, Deserialize, Deserializer, Refusal};
+use std::alloc::Global;
+
+/// Reads this many elements, in order. Elements left over are ignored.
+///
+/// # Errors
+/// Invalid where there are fewer; what the first refused element is refused with; want of memory.
+fn read_first<T: Deserialize, D: Deserializer>(
+    alloc: Global,
+    elements: &mut D::Elements,
+    count: usize,
+) -> Result<Vec<T>, D::Error>
+    ensures read { MatchResult result (λ v. ReadsFirst T.reads count (D.items elements.old) v.items)
+        (Refuses D.Error.is_memory (λ (xs : List T). ReadsFirst T.reads count (D.items elements.old) xs)) }
+    ensures law { (xs : List T) → AllByRecursion T.restorable xs → length xs ≡ count → D.items elements.old ≡ map T.image xs →
+        MatchResult result (λ v. AllZip T.same v.items xs) D.Error.is_memory }
+{
+    let mut values = Vec::new(alloc);
+    'elements: while values.len() < count {
+        match D::next_element(&mut *elements) {
+            Some(element) => match T::deserialize(alloc, element) {
+                Ok(value) => {
+                    if values.push(value).is_err() {
+                        return Err(D::Error::memory());
+                    }
+                }
+                Err(error) => return Err(error),
+            },
+            None => return Err(D::Error::invalid()),
+        }
+    }
+    Ok(values)
+}
+
+#[tactic(auto, using(crate::proofs::Lists::list_of_trees, crate::proofs::Lists::same_trees), unfolding(crate::specs::Reads::OnList))]
+impl<T: Deserialize, const N: usize> Deserialize for [T; N] {
+    ghost reads = { λ t a. OnList (λ ts. ReadsFirst T.reads N ts a) t };
+
+    ghost image = { λ a. list (trees_of (map T.image a)) };
+
+    ghost restorable = { λ a. (length a ≡ N) × AllByRecursion T.restorable a };
+
+    ghost same = { λ a b. AllZip T.same a b };
+
+    fn deserialize<D: Deserializer>(alloc: Global, deserializer: D) -> Result<[T; N], D::Error> {
+        match deserializer.open() {
+            Content::List(mut elements) => match read_first::<T, D>(alloc, &mut elements, N) {
+                Ok(values) => match <[T; N]>::try_from(values) {
+                    Ok(array) => Ok(array),
+                    Err(_) => Err(D::Error::invalid()),
+                },
+                Err(error) => Err(error),
+            },
+            _ => Err(D::Error::invalid()),
+        }
+    }
+}

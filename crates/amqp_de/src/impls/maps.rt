@@ -1,0 +1,193 @@
+//! Maps: every key and its value, inserted in turn.
+
+ghost use Rattle.std.specs.Prelude.{◌≡◌, List, [], ◌∷◌, ◌++◌, IsTrue, map, MatchResult};
+ghost use Rattle.std.specs.List.{AllZip, AllByRecursion};
+ghost use Rattle.std.specs.HashMap as hashed;
+ghost use Rattle.std.specs.Map.{keys_of};
+ghost use Rattle.amqp_data.specs.Pairs.{entries_of};
+ghost use Rattle.amqp_ser.specs.Tree as tree;
+ghost use Rattle.amqp_value.specs.TreeOf.{pairs_of};
+ghost use Rattle.amqp_de.specs.Answers.{Answers, Refuses};
+ghost use Rattle.amqp_de.specs.Maps.{OnMap, ReadsPair, ReadsPairs, pair_image, IsPair, SamePair};
+ghost use Rattle.amqp_de.specs.Maps.{HoldsInOrder, HoldsSorted, HoldsHashed, SameInSomeOrder, AreDistinct, Ascend};
+
+use crate::de::{Content, Deserialize, Deserializer, Refusal};
+use amqp_data::OrderedMap;
+use std::alloc::Global;
+use std::collections::{BTreeMap, HashMap};
+use std::hash::Hash;
+
+/// A map that pairs are inserted into.
+trait Inserts<K, V>: Sized + Drop {
+    /// Which maps hold these pairs, inserted in turn.
+    ghost holds: { List (K × V) → Self → Type 0 };
+
+    /// A map of no pairs.
+    fn empty(alloc: Global) -> Self
+        ensures { holds [] result };
+
+    /// Inserts a pair, and says whether there was memory for it.
+    fn put(&mut self, key: K, value: V) -> bool
+        ensures { (done : List (K × V)) → IsTrue result → holds done self.old → holds (done ++ (key, value) ∷ []) self.new };
+}
+
+/// Reads a key, and then its value.
+fn read_pair<K: Deserialize, V: Deserialize, D: Deserializer>(
+    alloc: Global,
+    key: D,
+    value: D,
+) -> Result<(K, V), D::Error>
+    ensures read { Answers D.Error.is_memory (ReadsPair K.reads V.reads (D.value key, D.value value)) result }
+    ensures law { (x : K × V) → IsPair K.restorable V.restorable x → (D.value key, D.value value) ≡ pair_image K.image V.image x →
+        MatchResult result (λ y. SamePair K.same V.same y x) D.Error.is_memory }
+{
+    let key = K::deserialize(alloc, key)?;
+    let value = V::deserialize(alloc, value)?;
+    Ok((key, value))
+}
+
+/// Reads all the pairs that are left, and inserts them in turn.
+///
+/// # Errors
+/// What the first refused key or value is refused with; want of memory.
+fn read_pairs<K: Deserialize, V: Deserialize, M: Inserts<K, V>, D: Deserializer>(
+    alloc: Global,
+    entries: &mut D::Entries,
+) -> Result<M, D::Error>
+    ensures read { MatchResult result (ReadsPairs K.reads V.reads M.holds (D.pairs entries.old))
+        (Refuses D.Error.is_memory (λ (ps : List (K × V)). AllZip (ReadsPair K.reads V.reads) (D.pairs entries.old) ps)) }
+    ensures law { (xs : List (K × V)) → AllByRecursion (IsPair K.restorable V.restorable) xs → D.pairs entries.old ≡ map (pair_image K.image V.image) xs →
+        MatchResult result (λ m. (ys : List (K × V)) × AllZip (SamePair K.same V.same) ys xs × M.holds ys m) D.Error.is_memory }
+{
+    let mut map = M::empty(alloc);
+    'entries: loop {
+        match D::next_pair(&mut *entries) {
+            Some((key, value)) => match read_pair::<K, V, D>(alloc, key, value) {
+                Ok((key, value)) => {
+                    if !map.put(key, value) {
+                        return Err(D::Error::memory());
+                    }
+                }
+                Err(error) => return Err(error),
+            },
+            None => return Ok(map),
+        }
+    }
+}
+
+impl<K: Hash + Eq + Drop, V: Drop> Inserts<K, V> for OrderedMap<K, V> {
+    ghost holds = { HoldsInOrder K.eq };
+
+    fn empty(alloc: Global) -> OrderedMap<K, V> {
+        OrderedMap::new(alloc)
+    }
+
+    fn put(&mut self, key: K, value: V) -> bool {
+        OrderedMap::insert(self, key, value).is_ok()
+    }
+}
+
+impl<K: Ord + Drop, V: Drop> Inserts<K, V> for BTreeMap<K, V> {
+    ghost holds = { HoldsSorted K.cmp };
+
+    fn empty(alloc: Global) -> BTreeMap<K, V> {
+        BTreeMap::new(alloc)
+    }
+
+    fn put(&mut self, key: K, value: V) -> bool {
+        BTreeMap::insert(self, key, value).is_ok()
+    }
+}
+
+impl<K: Hash + Eq + Drop, V: Drop> Inserts<K, V> for HashMap<K, V> {
+    ghost holds = { HoldsHashed K.eq };
+
+    fn empty(alloc: Global) -> HashMap<K, V> {
+        HashMap::new(alloc)
+    }
+
+    fn put(&mut self, key: K, value: V) -> bool {
+        HashMap::insert(self, key, value).is_ok()
+    }
+}
+
+#[tactic(auto, using(crate::proofs::Lists::entries_in_pairs, crate::proofs::Lists::same_maps), unfolding(crate::specs::Maps::OnMap))]
+impl<K: Deserialize + Hash + Eq, V: Deserialize> Deserialize for OrderedMap<K, V> {
+    ghost reads = { λ t m. OnMap (λ ts. ReadsPairs K.reads V.reads (HoldsInOrder K.eq) ts m) t };
+
+    ghost image = { λ m. tree.map (pairs_of (map (pair_image K.image V.image) (entries_of m))) };
+
+    ghost restorable = { λ m. AllByRecursion (IsPair K.restorable V.restorable) (entries_of m)
+        × AreDistinct K.same K.eq (keys_of (entries_of m)) };
+
+    ghost same = { λ m n. AllZip (SamePair K.same V.same) (entries_of m) (entries_of n) };
+
+    fn deserialize<D: Deserializer>(
+        alloc: Global,
+        deserializer: D,
+    ) -> Result<OrderedMap<K, V>, D::Error> {
+        match deserializer.open() {
+            Content::Map(mut entries) => {
+                match read_pairs::<K, V, OrderedMap<K, V>, D>(alloc, &mut entries) {
+                    Ok(map) => Ok(map),
+                    Err(error) => Err(error),
+                }
+            }
+            _ => Err(D::Error::invalid()),
+        }
+    }
+}
+
+#[tactic(auto, using(crate::proofs::Lists::entries_in_pairs, crate::proofs::Lists::same_maps), unfolding(crate::specs::Maps::OnMap))]
+impl<K: Deserialize + Ord, V: Deserialize> Deserialize for BTreeMap<K, V> {
+    ghost reads = { λ t m. OnMap (λ ts. ReadsPairs K.reads V.reads (HoldsSorted K.cmp) ts m) t };
+
+    ghost image = { λ m. tree.map (pairs_of (map (pair_image K.image V.image) m.entries)) };
+
+    ghost restorable = { λ m. AllByRecursion (IsPair K.restorable V.restorable) m.entries
+        × Ascend K.same K.cmp (keys_of m.entries) };
+
+    ghost same = { λ m n. AllZip (SamePair K.same V.same) m.entries n.entries };
+
+    fn deserialize<D: Deserializer>(
+        alloc: Global,
+        deserializer: D,
+    ) -> Result<BTreeMap<K, V>, D::Error> {
+        match deserializer.open() {
+            Content::Map(mut entries) => {
+                match read_pairs::<K, V, BTreeMap<K, V>, D>(alloc, &mut entries) {
+                    Ok(map) => Ok(map),
+                    Err(error) => Err(error),
+                }
+            }
+            _ => Err(D::Error::invalid()),
+        }
+    }
+}
+
+#[tactic(auto, using(crate::proofs::Lists::entries_in_pairs, crate::proofs::Lists::same_maps), unfolding(crate::specs::Maps::OnMap))]
+impl<K: Deserialize + Hash + Eq, V: Deserialize> Deserialize for HashMap<K, V> {
+    ghost reads = { λ t m. OnMap (λ ts. ReadsPairs K.reads V.reads (hashed.IsFromIterResult K.eq) ts m) t };
+
+    ghost image = { λ m. tree.map (pairs_of (map (pair_image K.image V.image) m.entries)) };
+
+    ghost restorable = { λ m. AllByRecursion (IsPair K.restorable V.restorable) m.entries
+        × AreDistinct K.same K.eq (keys_of m.entries) };
+
+    ghost same = { SameInSomeOrder (SamePair K.same V.same) };
+
+    fn deserialize<D: Deserializer>(
+        alloc: Global,
+        deserializer: D,
+    ) -> Result<HashMap<K, V>, D::Error> {
+        match deserializer.open() {
+            Content::Map(mut entries) => {
+                match read_pairs::<K, V, HashMap<K, V>, D>(alloc, &mut entries) {
+                    Ok(map) => Ok(map),
+                    Err(error) => Err(error),
+                }
+            }
+            _ => Err(D::Error::invalid()),
+        }
+    }
+}
