@@ -4,3 +4,4 @@ pub mod Fields
 pub mod Answers
 pub mod Contents
 pub mod Enums
+pub mod Access
