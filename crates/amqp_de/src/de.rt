@@ -6,6 +6,7 @@ ghost use Rattle.amqp_value.specs.TreeOf.{tree_of};
 ghost use Rattle.amqp_de.specs.Answers.{Answers, Restores, Takes, TakesPair, TakesNamed};
 ghost use Rattle.amqp_de.specs.Contents.{content_tree};
 
+pub use crate::access::{MapAccess, SeqAccess};
 pub use crate::content::Content;
 pub use crate::refusal::Refusal;
 use amqp_value::Value;

@@ -1,6 +1,7 @@
 //! What can be read out of a deserializer, and how.
 #![tactic(auto)]
 
+mod access;
 mod content;
 pub mod de;
 mod enums;
@@ -10,6 +11,7 @@ mod record;
 mod refusal;
 mod seed;
 
+pub use access::{ElementsOf, EntriesOf};
 pub use enums::{DataOr, EnumOf, Never, OneOf, UnitOr, Variants};
 pub use fields::{Fields, May, Must};
 pub use record::{Describes, Record, read, read_described};

@@ -1,12 +1,13 @@
 //! The deserializer of a `Value`.
 
-ghost use Rattle.std.specs.Prelude.{◌≡◌, position};
+ghost use Rattle.std.specs.Prelude.{◌≡◌, map, position};
 ghost use Rattle.amqp_data.specs.declared.error.Error.TheVariants.{OutOfMemory};
+ghost use Rattle.amqp_data.specs.Pairs.{entries_of};
 ghost use Rattle.amqp_value.specs.TreeOf.{tree_of};
 ghost use Rattle.amqp_de.specs.Answers.{Answers, Restores};
 ghost use Rattle.amqp_de.specs.Fields.{is_name};
 
-use amqp_data::Error;
+use amqp_data::{Error, OrderedMap};
 use amqp_de::de::{self, Content, Deserialize};
 use amqp_value::Value;
 use std::alloc::Global;
@@ -45,6 +46,40 @@ impl Deserializer {
         ensures { held result ≡ tree_of value }
     {
         Deserializer { alloc, value }
+    }
+}
+
+impl Elements {
+    ghost use Rattle.amqp_from_value.specs.Held.{elements_left};
+
+    /// The elements of a list or an array.
+    ///
+    /// # Memory
+    /// Takes none.
+    pub fn new(alloc: Global, values: Vec<Value>) -> Elements
+        ensures { elements_left result ≡ map tree_of values.items }
+    {
+        Elements {
+            alloc,
+            values: values.into_iter(),
+        }
+    }
+}
+
+impl Entries {
+    ghost use Rattle.amqp_from_value.specs.Held.{entries_left};
+
+    /// The keys and values of a map.
+    ///
+    /// # Memory
+    /// Takes none.
+    pub fn new(alloc: Global, pairs: OrderedMap<Value, Value>) -> Entries
+        ensures { entries_left result ≡ map (λ p. (tree_of p.0, tree_of p.1)) (entries_of pairs) }
+    {
+        Entries {
+            alloc,
+            pairs: VecDeque::from_vec(pairs.into_inner()),
+        }
     }
 }
 

@@ -1,5 +1,6 @@
 //! What is read of untyped values, row by row.
 
+mod access;
 mod composites;
 mod lists;
 mod maps;

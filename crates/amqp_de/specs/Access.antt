@@ -1,0 +1,58 @@
+-- What the accessors of a list and of a map may answer, and what they leave (AMQP 1.0 part 1, sections 1.6.22 and 1.6.23).
+use Rattle.std.specs.Prelude.{◌≡◌, ◌⊎◌, List, [], ◌∷◌, Option, Some, None, Result, Ok, Err, IsSome, MatchResult}
+use Rattle.amqp_ser.specs.Tree.{Tree}
+use Rattle.amqp_de.specs.Answers.{Refuses}
+
+-- one that is there and is so
+abbrev pub OnSome : {T : Type 0} → (T → Type 0) → Option T → Type 0
+OnSome P None = ⊥
+OnSome P (Some x) = P x
+
+-- the next element is taken, and read or refused; after the last there is none
+abbrev pub ReadsNext : {T E : Type 0} → (E → Type 0) → (Tree → T → Type 0) → List Tree → List Tree → Result (Option T) E → Type 0
+ReadsNext Memory R old new (Ok None) = (old ≡ []) × (new ≡ [])
+ReadsNext Memory R old new (Ok (Some x)) = (t : Tree) × (old ≡ t ∷ new) × R t x
+ReadsNext Memory R old new (Err e) = (t : Tree) × (old ≡ t ∷ new) × Refuses Memory (R t) e
+
+-- the image of a restorable x is read as the same as x, unless memory is wanted
+abbrev pub RestoresNext : {T E : Type 0} → (T → Tree) → (T → Type 0) → (T → T → Type 0) → (E → Type 0) → List Tree → Result (Option T) E → Type 0
+RestoresNext {T} image P S Memory old r = (x : T) (ts : List Tree) → P x → old ≡ image x ∷ ts → MatchResult r (OnSome (λ y. S y x)) Memory
+
+-- what is owed and left stays as it is
+abbrev pub Stays : Option Tree → List (Tree × Tree) → Option Tree → List (Tree × Tree) → Type 0
+Stays owed left owed' left' = (owed' ≡ owed) × (left' ≡ left)
+
+-- the next pair is taken, and its key read: the value is owed then, and of a refused key it is not;
+-- while a value is owed no key is taken
+abbrev pub ReadsKey : {T E : Type 0} → (E → Type 0) → (Tree → T → Type 0) → Option Tree → List (Tree × Tree) → Option Tree → List (Tree × Tree)
+    → Result (Option T) E → Type 0
+ReadsKey Memory R owed left owed' left' (Ok None) = (owed ≡ None) × (left ≡ []) × Stays owed left owed' left'
+ReadsKey Memory R owed left owed' left' (Ok (Some x)) = (owed ≡ None) × ((e : Tree × Tree) × (left ≡ e ∷ left') × (owed' ≡ Some e.1) × R e.0 x)
+ReadsKey Memory R owed left owed' left' (Err r) =
+    (IsSome owed × Stays owed left owed' left') ⊎ ((owed ≡ None) × (owed' ≡ None) × ((e : Tree × Tree) × (left ≡ e ∷ left') × Refuses Memory (R e.0) r))
+
+-- the value that is owed is read, or there is none; none is owed after it
+abbrev pub ReadsValue : {T E : Type 0} → (E → Type 0) → (Tree → T → Type 0) → Option Tree → List (Tree × Tree) → Option Tree → List (Tree × Tree)
+    → Result T E → Type 0
+ReadsValue Memory R owed left owed' left' (Ok x) = (owed' ≡ None) × (left' ≡ left) × ((t : Tree) × (owed ≡ Some t) × R t x)
+ReadsValue Memory R owed left owed' left' (Err r) =
+    (owed' ≡ None) × (left' ≡ left) × ((owed ≡ None) ⊎ ((t : Tree) × (owed ≡ Some t) × Refuses Memory (R t) r))
+
+-- the next pair is taken, and read or refused whole; while a value is owed none is taken
+abbrev pub ReadsEntry : {K V E : Type 0} → (E → Type 0) → (Tree → K → Type 0) → (Tree → V → Type 0) → Option Tree → List (Tree × Tree) → Option Tree
+    → List (Tree × Tree) → Result (Option (K × V)) E → Type 0
+ReadsEntry Memory R S owed left owed' left' (Ok None) = (owed ≡ None) × (left ≡ []) × Stays owed left owed' left'
+ReadsEntry Memory R S owed left owed' left' (Ok (Some x)) =
+    (owed ≡ None) × (owed' ≡ None) × ((e : Tree × Tree) × (left ≡ e ∷ left') × R e.0 x.0 × S e.1 x.1)
+ReadsEntry {K} {V} Memory R S owed left owed' left' (Err r) =
+    (IsSome owed × Stays owed left owed' left')
+    ⊎ ((owed ≡ None) × (owed' ≡ None) × ((e : Tree × Tree) × (left ≡ e ∷ left') × Refuses Memory (λ (x : K × V). R e.0 x.0 × S e.1 x.1) r))
+
+-- images of restorable keys, values and pairs are read as the same, unless memory is wanted
+abbrev pub RestoresKey : {T E : Type 0} → (T → Tree) → (T → Type 0) → (T → T → Type 0) → (E → Type 0) → Option Tree → List (Tree × Tree)
+    → Result (Option T) E → Type 0
+RestoresKey {T} image P S Memory owed left r =
+    (x : T) (t : Tree) (es : List (Tree × Tree)) → P x → owed ≡ None → left ≡ (image x, t) ∷ es → MatchResult r (OnSome (λ y. S y x)) Memory
+
+abbrev pub RestoresOwed : {T E : Type 0} → (T → Tree) → (T → Type 0) → (T → T → Type 0) → (E → Type 0) → Option Tree → Result T E → Type 0
+RestoresOwed {T} image P S Memory owed r = (x : T) → P x → owed ≡ Some (image x) → MatchResult r (λ y. S y x) Memory

@@ -1,0 +1,7 @@
+//! Reading element by element and entry by entry.
+
+mod map;
+mod seq;
+
+pub use map::{EntriesOf, MapAccess};
+pub use seq::{ElementsOf, SeqAccess};

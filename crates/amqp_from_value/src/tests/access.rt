@@ -1,0 +1,90 @@
+//! Worked rows of the accessors: what they answer, and what they leave.
+
+use crate::{Elements, Entries, MapAccess, SeqAccess};
+use amqp_data::{Error, OrderedMap};
+use amqp_de::de::{MapAccess as _, SeqAccess as _};
+use amqp_value::Value;
+use std::alloc::Global;
+use std::test::Fail;
+
+fn elements<const N: usize>(alloc: Global, items: [Value; N]) -> Result<SeqAccess, Fail> {
+    Ok(SeqAccess::new(Elements::new(alloc, Vec::from_array(alloc, items)?)))
+}
+
+fn entries<const N: usize>(alloc: Global, pairs: [(Value, Value); N]) -> Result<MapAccess, Fail> {
+    let mut map = OrderedMap::new(alloc);
+    for (key, value) in Vec::from_array(alloc, pairs)? {
+        drop(map.insert(key, value)?);
+    }
+    Ok(MapAccess::new(Entries::new(alloc, map)))
+}
+
+#[test]
+fn a_refused_element_is_taken(rt: HostRuntime) -> Result<(), Fail> {
+    let alloc = rt.alloc();
+    let text = Value::String(String::from_str(alloc, "a")?);
+    let mut access = elements(alloc, [text, Value::Ubyte(2)])?;
+    assert_eq!(rt; access.next_element::<u8>(alloc), Err(Error::InvalidValue));
+    assert_eq!(rt; access.next_element::<u8>(alloc), Ok(Some(2)));
+    assert_eq!(rt; access.next_element::<u8>(alloc), Ok(None));
+    Ok(())
+}
+
+#[test]
+fn a_value_comes_after_its_key_alone(rt: HostRuntime) -> Result<(), Fail> {
+    let alloc = rt.alloc();
+    let mut access = entries(alloc, [(Value::Uint(1), Value::Ubyte(2))])?;
+    assert_eq!(rt; access.next_value::<u8>(alloc), Err(Error::InvalidValue));
+    assert_eq!(rt; access.next_key::<u32>(alloc), Ok(Some(1)));
+    assert_eq!(rt; access.next_key::<u32>(alloc), Err(Error::InvalidValue));
+    assert_eq!(rt;
+        access.next_entry::<u32, u8>(alloc),
+        Err(Error::InvalidValue)
+    );
+    assert_eq!(rt; access.next_value::<u8>(alloc), Ok(2));
+    assert_eq!(rt; access.next_value::<u8>(alloc), Err(Error::InvalidValue));
+    assert_eq!(rt; access.next_key::<u32>(alloc), Ok(None));
+    Ok(())
+}
+
+#[test]
+fn a_refused_key_takes_its_value_with_it(rt: HostRuntime) -> Result<(), Fail> {
+    let alloc = rt.alloc();
+    let mut access = entries(
+        alloc,
+        [
+            (Value::Null, Value::Ubyte(2)),
+            (Value::Uint(3), Value::Ubyte(4)),
+        ],
+    )?;
+    assert_eq!(rt; access.next_key::<u32>(alloc), Err(Error::InvalidValue));
+    assert_eq!(rt; access.next_value::<u8>(alloc), Err(Error::InvalidValue));
+    assert_eq!(rt; access.next_entry::<u32, u8>(alloc), Ok(Some((3, 4))));
+    assert_eq!(rt; access.next_entry::<u32, u8>(alloc), Ok(None));
+    Ok(())
+}
+
+#[test]
+fn a_refused_entry_is_taken_whole(rt: HostRuntime) -> Result<(), Fail> {
+    let alloc = rt.alloc();
+    let mut access = entries(
+        alloc,
+        [
+            (Value::Null, Value::Ubyte(2)),
+            (Value::Uint(3), Value::Null),
+            (Value::Uint(5), Value::Ubyte(6)),
+        ],
+    )?;
+    assert_eq!(rt;
+        access.next_entry::<u32, u8>(alloc),
+        Err(Error::InvalidValue)
+    );
+    assert_eq!(rt;
+        access.next_entry::<u32, u8>(alloc),
+        Err(Error::InvalidValue)
+    );
+    assert_eq!(rt; access.next_key::<u32>(alloc), Ok(Some(5)));
+    assert_eq!(rt; access.next_value::<bool>(alloc), Err(Error::InvalidValue));
+    assert_eq!(rt; access.next_value::<u8>(alloc), Err(Error::InvalidValue));
+    Ok(())
+}
