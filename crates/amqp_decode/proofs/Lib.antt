@@ -1,0 +1,9 @@
+pub mod CodeLemmas
+pub mod TextLemmas
+pub mod DescriptorLemmas
+pub mod MapLemmas
+pub mod Steps
+pub mod Finds
+pub mod Means
+pub mod Whole
+pub mod Framed

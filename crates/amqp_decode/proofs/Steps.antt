@@ -1,0 +1,107 @@
+-- What the functions are at each step of the reader.
+use Rattle.std.proofs.Common.{◌≡◌, ℕ, zero, suc, ◌+◌, ◌-◌, ◌/◌, ◌%◌, ◌<◌, ◌≤◌, Bool, true, false, List, [], ◌∷◌, ◌++◌, map, Option, Some, None, if◌then◌else◌, ◌==◌, refl, sym, ap, ◌∙◌, arith, subst}
+use Rattle.amqp_data.specs.declared.format_code.EncodingCodes.{EncodingCodes}
+use Rattle.amqp_ser.specs.Tree as tree
+use Rattle.amqp_ser.specs.Tree.{Tree, Pairs, trees_of, no_pairs}
+use Rattle.amqp_value.specs.Image.{insert_tree}
+use Rattle.amqp_value.specs.TreeOf.{tree_of}
+use Rattle.amqp_value.specs.declared.value.Value.{Value}
+use Rattle.amqp_decode.specs.Codes.{primitive_of}
+use Rattle.amqp_decode.specs.Scalars.{next}
+use Rattle.amqp_decode.specs.Parsed.{FrameReader, ContentReader, gather, insert, all, list_in, map_in, items_in, array_in, payload_in, content_of, frame_in, parse, held}
+
+pub held-zero : (d : ℕ) (c : EncodingCodes) (s : List ℕ) → d ≡ 0 → held d c s ≡ None
+unfolding held
+held-zero zero c s e = refl
+held-zero (suc d) c s e = absurd (omega arith)
+
+pub held-at : (d : ℕ) (c : EncodingCodes) (s : List ℕ) → 0 < d → held d c s ≡ content_of (parse (d - 1)) (held (d - 1)) c s
+unfolding held parse
+held-at zero c s lt = absurd (omega arith)
+held-at (suc d) c s lt =
+    let e : suc d - 1 ≡ d = omega arith in
+    rw e refl
+
+pub parse-zero : (d : ℕ) (s : List ℕ) → d ≡ 0 → parse d s ≡ None
+unfolding parse
+parse-zero zero s e = refl
+parse-zero (suc d) s e = absurd (omega arith)
+
+pub parse-at : (d : ℕ) (s : List ℕ) → 0 < d → parse d s ≡ frame_in (parse (d - 1)) (held (d - 1)) s
+unfolding held parse
+parse-at zero s lt = absurd (omega arith)
+parse-at (suc d) s lt =
+    let e : suc d - 1 ≡ d = omega arith in
+    rw e refl
+
+pub trees-push : (vs : List Value) (v : Value) → map tree_of (vs ++ v ∷ []) ≡ map tree_of vs ++ tree_of v ∷ []
+trees-push [] v = refl
+trees-push (x ∷ vs) v = ap (λ r. tree_of x ∷ r) (trees-push vs v)
+
+module _ (f : FrameReader) where
+  one-more : (m : ℕ) (s rest : List ℕ) (t : Tree) (done : List Tree) → f s ≡ Some (t, rest) → gather f (suc m) s done ≡ gather f m rest (done ++ t ∷ [])
+  one-more m s rest t done e = rw e refl
+
+  none-more : (m : ℕ) (s : List ℕ) (done : List Tree) → f s ≡ None → gather f (suc m) s done ≡ None
+  none-more m s done e = rw e refl
+
+  gather-next : (n i : ℕ) (s rest : List ℕ) (t : Tree) (done : List Tree) → i < n → f s ≡ Some (t, rest) → gather f (n - (i + 1)) rest (done ++ t ∷ []) ≡ gather f (n - i) s done
+  gather-next n i s rest t done lt e =
+      let same : n - i ≡ suc (n - (i + 1)) = omega arith in
+      sym (ap (λ m. gather f m s done) same ∙ one-more (n - (i + 1)) s rest t done e)
+
+  gather-none : (n i : ℕ) (s : List ℕ) (done : List Tree) → i < n → f s ≡ None → gather f (n - i) s done ≡ None
+  gather-none n i s done lt e =
+      let same : n - i ≡ suc (n - (i + 1)) = omega arith in
+      ap (λ m. gather f m s done) same ∙ none-more (n - (i + 1)) s done e
+
+  pub values-next : (n i : ℕ) (s rest : List ℕ) (v : Value) (vs : List Value) → i < n → f s ≡ Some (tree_of v, rest)
+      → gather f (n - (i + 1)) rest (map tree_of (vs ++ v ∷ [])) ≡ gather f (n - i) s (map tree_of vs)
+  values-next n i s rest v vs lt e = ap (gather f (n - (i + 1)) rest) (trees-push vs v) ∙ gather-next n i s rest (tree_of v) (map tree_of vs) lt e
+
+  -- an element that is not read leaves no list
+  pub list-none : (n i : ℕ) (s body : List ℕ) (done : List Tree) → i < n → gather f (n - i) s done ≡ gather f n body [] → f s ≡ None → list_in f (n, body) ≡ None
+  list-none n i s body done lt same e =
+      let no : gather f n body [] ≡ None = sym same ∙ gather-none n i s done lt e in
+      rw no refl
+
+  entry-more : (m : ℕ) (s mid rest : List ℕ) (k v : Tree) (done : Pairs) → f s ≡ Some (k, mid) → f mid ≡ Some (v, rest) → insert f (suc m) s done ≡ insert f m rest (insert_tree done k v)
+  entry-more m s mid rest k v done ek ev = rw (ek, ev) refl
+
+  key-none : (m : ℕ) (s : List ℕ) (done : Pairs) → f s ≡ None → insert f (suc m) s done ≡ None
+  key-none m s done e = rw e refl
+
+  value-none : (m : ℕ) (s mid : List ℕ) (k : Tree) (done : Pairs) → f s ≡ Some (k, mid) → f mid ≡ None → insert f (suc m) s done ≡ None
+  value-none m s mid k done ek ev = rw (ek, ev) refl
+
+  pub insert-next : (n i : ℕ) (s mid rest : List ℕ) (k v : Tree) (done : Pairs) → i < n → f s ≡ Some (k, mid) → f mid ≡ Some (v, rest)
+      → insert f (n - (i + 1)) rest (insert_tree done k v) ≡ insert f (n - i) s done
+  insert-next n i s mid rest k v done lt ek ev =
+      let same : n - i ≡ suc (n - (i + 1)) = omega arith in
+      sym (ap (λ m. insert f m s done) same ∙ entry-more (n - (i + 1)) s mid rest k v done ek ev)
+
+  pub insert-no_key : (n i : ℕ) (s : List ℕ) (done : Pairs) → i < n → f s ≡ None → insert f (n - i) s done ≡ None
+  insert-no_key n i s done lt e =
+      let same : n - i ≡ suc (n - (i + 1)) = omega arith in
+      ap (λ m. insert f m s done) same ∙ key-none (n - (i + 1)) s done e
+
+  pub insert-no_value : (n i : ℕ) (s mid : List ℕ) (k : Tree) (done : Pairs) → i < n → f s ≡ Some (k, mid) → f mid ≡ None → insert f (n - i) s done ≡ None
+  insert-no_value n i s mid k done lt ek ev =
+      let same : n - i ≡ suc (n - (i + 1)) = omega arith in
+      ap (λ m. insert f m s done) same ∙ value-none (n - (i + 1)) s mid k done ek ev
+
+  -- pairs that are not read leave no map
+  pub map-none : (n : ℕ) (body : List ℕ) → insert f (n / 2) body no_pairs ≡ None → map_in f (n, body) ≡ None
+  map-none n body e = by_parity (n % 2 == 0)
+    where
+      by_parity : (b : Bool) → (if b then next (next (insert f (n / 2) body no_pairs) all) (λ ps. Some (tree.map ps)) else None) ≡ None
+      by_parity true = rw e refl
+      by_parity false = refl
+
+-- an item that is not read leaves no array
+pub array-none : (h : ContentReader) (c : ℕ) (code : EncodingCodes) (n i : ℕ) (s body rest : List ℕ) (done : List Tree) → i < n → primitive_of c ≡ Some code → body ≡ c ∷ rest
+    → gather (payload_in h code) (n - i) s done ≡ gather (payload_in h code) n rest [] → payload_in h code s ≡ None → array_in h (n, body) ≡ None
+array-none h c code zero i s body rest done lt ok is same e = absurd (omega arith)
+array-none h c code (suc n) i s body rest done lt ok is same e =
+    let no : gather (payload_in h code) (suc n) rest [] ≡ None = sym same ∙ gather-none (payload_in h code) (suc n) i s done lt e in
+    rw (is, ok, no) refl

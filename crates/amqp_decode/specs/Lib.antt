@@ -1,0 +1,4 @@
+pub mod Codes
+pub mod Scalars
+pub mod Spells
+pub mod Parsed

@@ -1,0 +1,136 @@
+-- The tree at the front of a byte string and the bytes after it, as a function of the depth that is left.
+use Rattle.std.specs.Prelude.{ℕ, zero, suc, ◌/◌, ◌%◌, Bool, true, false, List, [], ◌∷◌, ◌++◌, length, take, drop, Option, Some, None, if◌then◌else◌, ◌==◌, nat_le}
+use Rattle.std.specs.Int.{from_be_bytes, w32}
+use Rattle.amqp_data.specs.FormatCode.{code_of}
+use Rattle.amqp_data.specs.declared.format_code.EncodingCodes.{EncodingCodes}
+use Rattle.amqp_frame.specs.Code.{category}
+use Rattle.amqp_frame.specs.declared.code.Category.{Category}
+use Rattle.amqp_frame.specs.declared.code.Category.TheVariants.{Fixed, OneByteSize, FourByteSize}
+use Rattle.amqp_ser.specs.Tree as tree
+use Rattle.amqp_ser.specs.Tree.{Scalar, Descriptor, Tree, Pairs, trees_of, no_pairs}
+use Rattle.amqp_value.specs.Image.{insert_tree}
+use Rattle.amqp_decode.specs.Codes.{primitive_of, shape_of_code}
+use Rattle.amqp_decode.specs.Scalars.{next, scalar_in, scalar_tree}
+use Rattle.amqp_decode.specs.declared.shape.Count.{Count}
+use Rattle.amqp_decode.specs.declared.shape.Count.TheVariants.{Absent, OneByte, FourBytes}
+use Rattle.amqp_decode.specs.declared.shape.Shape.{Shape}
+use Rattle.amqp_decode.specs.declared.shape.Shape.TheVariants as shape
+
+-- so many bytes and the rest
+abbrev pub cut : ℕ → List ℕ → Option (List ℕ × List ℕ)
+cut n s = if nat_le n (length s) then Some (take n s, drop n s) else None
+
+-- the byte at the front and the rest
+abbrev pub head : List ℕ → Option (ℕ × List ℕ)
+head [] = None
+head (b ∷ s) = Some (b, s)
+
+-- the number in four bytes at the front, or in one, and the rest
+abbrev pub number_at : Bool → List ℕ → Option (ℕ × List ℕ)
+number_at false s = head s
+number_at true s = next (cut 4 s) (λ p. Some (from_be_bytes w32 p.0, p.1))
+
+-- as many bytes as the number at the front says, and the rest
+unfoldable pub sized_at : Bool → List ℕ → Option (List ℕ × List ℕ)
+sized_at wide s = next (number_at wide s) (λ n. cut n.0 n.1)
+
+-- the content of the payload at the front, and the rest
+abbrev pub content_at : Category → List ℕ → Option (List ℕ × List ℕ)
+content_at (Fixed n) s = cut n s
+content_at OneByteSize s = sized_at false s
+content_at FourByteSize s = sized_at true s
+
+-- a content's count and what follows it
+unfoldable pub counted_in : Count → List ℕ → Option (ℕ × List ℕ)
+counted_in Absent s = Some (0, s)
+counted_in OneByte s = number_at false s
+counted_in FourBytes s = number_at true s
+
+-- a ulong or a symbol as a descriptor
+abbrev pub tree_descriptor : Tree → Option Descriptor
+tree_descriptor (tree.scalar (tree.ulong n)) = Some (tree.code n)
+tree_descriptor (tree.scalar (tree.symbol bs)) = Some (tree.name bs)
+tree_descriptor _ = None
+
+-- the descriptor at the front and the rest
+abbrev pub descriptor_of : EncodingCodes → List ℕ × List ℕ → Option (Descriptor × List ℕ)
+descriptor_of code p = next (next (next (scalar_in code p.0) scalar_tree) tree_descriptor) (λ d. Some (d, p.1))
+
+unfoldable pub descriptor_at : List ℕ → Option (Descriptor × List ℕ)
+descriptor_at [] = None
+descriptor_at (byte ∷ s) = next (primitive_of byte) (λ code. next (content_at (category (code_of code)) s) (descriptor_of code))
+
+-- how a frame is read, and the content of a code's payload
+abbrev pub FrameReader : Type 0
+FrameReader = List ℕ → Option (Tree × List ℕ)
+
+abbrev pub ContentReader : Type 0
+ContentReader = EncodingCodes → List ℕ → Option Tree
+
+-- the payload of a code at the front
+abbrev pub with_rest : List ℕ → Tree → Option (Tree × List ℕ)
+with_rest rest t = Some (t, rest)
+
+abbrev pub payload_in : ContentReader → EncodingCodes → FrameReader
+payload_in h code s = next (content_at (category (code_of code)) s) (λ p. next (h code p.0) (with_rest p.1))
+
+-- so many of them, after those that are there
+abbrev pub gather : FrameReader → ℕ → List ℕ → List Tree → Option (List Tree × List ℕ)
+gather f zero s done = Some (done, s)
+gather f (suc n) s done = next (f s) (λ r. gather f n r.1 (done ++ r.0 ∷ []))
+
+-- so many keys and values in turn
+abbrev pub insert : FrameReader → ℕ → List ℕ → Pairs → Option (Pairs × List ℕ)
+insert f zero s done = Some (done, s)
+insert f (suc n) s done = next (f s) (λ k. next (f k.1) (λ v. insert f n v.1 (insert_tree done k.0 v.0)))
+
+-- nothing may be left
+abbrev pub all : {A : Type 0} → A × List ℕ → Option A
+all (a, []) = Some a
+all (a, b ∷ s) = None
+
+abbrev pub list_in : FrameReader → ℕ × List ℕ → Option Tree
+list_in f p = next (next (gather f p.0 p.1 []) all) (λ ts. Some (tree.list (trees_of ts)))
+
+abbrev pub map_in : FrameReader → ℕ × List ℕ → Option Tree
+map_in f p = if p.0 % 2 == 0 then next (next (insert f (p.0 / 2) p.1 no_pairs) all) (λ ps. Some (tree.map ps)) else None
+
+-- payloads of the constructor at the front
+abbrev pub items_in : ContentReader → ℕ → List ℕ → Option (List Tree)
+items_in h zero [] = Some []
+items_in h (suc n) [] = None
+items_in h n (c ∷ s) = next (primitive_of c) (λ code. next (gather (payload_in h code) n s []) all)
+
+abbrev pub array_in : ContentReader → ℕ × List ℕ → Option Tree
+array_in h p = next (items_in h p.0 p.1) (λ ts. Some (tree.array (trees_of ts)))
+
+-- a content, with f for the frames in it and h for the items
+abbrev pub content_in : FrameReader → ContentReader → Shape → ContentReader
+content_in f h shape.Described code s = None
+content_in f h shape.Scalar code s = next (scalar_in code s) scalar_tree
+content_in f h (shape.List count) code s = next (counted_in count s) (list_in f)
+content_in f h (shape.Map count) code s = next (counted_in count s) (map_in f)
+content_in f h (shape.Array count) code s = next (counted_in count s) (array_in h)
+
+abbrev pub content_of : FrameReader → ContentReader → ContentReader
+content_of f h code s = content_in f h (shape_of_code code) code s
+
+abbrev pub described_in : FrameReader → Descriptor × List ℕ → Option (Tree × List ℕ)
+described_in f d = next (f d.1) (λ r. Some (tree.described d.0 r.0, r.1))
+
+-- a frame at the front
+abbrev pub frame_in : FrameReader → ContentReader → FrameReader
+frame_in f h [] = None
+frame_in f h (byte ∷ s) =
+    if byte == 0 then next (descriptor_at s) (described_in f) else next (primitive_of byte) (λ code. payload_in (content_of f h) code s)
+
+unfoldable mutual
+  -- a frame at most so deep at the front
+  pub parse : ℕ → List ℕ → Option (Tree × List ℕ)
+  parse zero s = None
+  parse (suc depth) s = frame_in (parse depth) (held depth) s
+
+  -- a content at most so deep
+  pub held : ℕ → EncodingCodes → List ℕ → Option Tree
+  held zero code s = None
+  held (suc depth) code s = content_of (parse depth) (held depth) code s

@@ -1,0 +1,81 @@
+-- The scalar that the content of a code's payload stands for (AMQP 1.0 part 1, sections 1.6.1 to 1.6.21).
+use Rattle.std.specs.Prelude.{ℕ, Bool, true, false, ◌==◌, ◌&&◌, ◌||◌, nat_lt, nat_le, if◌then◌else◌, List, [], ◌∷◌, length, Option, Some, None}
+use Rattle.std.specs.Int.{Width, w8, w16, w32, w64, from_be_bytes, cast_signed}
+use Rattle.std.specs.Str.{is_utf8}
+use Rattle.amqp_data.specs.declared.format_code.EncodingCodes.{EncodingCodes}
+use Rattle.amqp_data.specs.declared.format_code.EncodingCodes.TheVariants as code
+use Rattle.amqp_ser.specs.Tree.{Tree, scalar, Scalar, null, bool, ubyte, ushort, uint, ulong, byte, short, int, long, float, double, decimal32, decimal64, decimal128, char, timestamp, uuid, binary, string, symbol}
+
+-- the second step where there was a first
+abbrev pub next : {A B : Type 0} → Option A → (A → Option B) → Option B
+next None f = None
+next (Some a) f = f a
+
+-- a scalar of what was read
+abbrev pub made : {A : Type 0} → (A → Scalar) → Option A → Option Scalar
+made k None = None
+made k (Some a) = Some (k a)
+
+-- one byte
+abbrev pub single : List ℕ → Option ℕ
+single (b ∷ []) = Some b
+single _ = None
+
+-- so many bytes
+abbrev pub exact : ℕ → List ℕ → Option (List ℕ)
+exact n bs = if length bs == n then Some bs else None
+
+-- a truth value, as the byte 00 or 01
+abbrev pub truth : ℕ → Option Scalar
+truth b = if b == 0 then Some (bool false) else if b == 1 then Some (bool true) else None
+
+-- a character, by a number that is a Unicode scalar value
+abbrev pub is_scalar_value : ℕ → Bool
+is_scalar_value n = nat_lt n 0xD800 || (nat_le 0xE000 n && nat_le n 0x10FFFF)
+
+abbrev pub character : ℕ → Option Scalar
+character n = if is_scalar_value n then Some (char n) else None
+
+-- a text in UTF-8
+abbrev pub text : (List ℕ → Scalar) → List ℕ → Option Scalar
+text k bs = if is_utf8 bs then Some (k bs) else None
+
+-- numbers are big-endian, signed ones in two's complement; codes of other shapes have none
+unfoldable pub scalar_in : EncodingCodes → List ℕ → Option Scalar
+scalar_in code.Null bs = Some null
+scalar_in code.BooleanTrue bs = Some (bool true)
+scalar_in code.BooleanFalse bs = Some (bool false)
+scalar_in code.Uint0 bs = Some (uint 0)
+scalar_in code.Ulong0 bs = Some (ulong 0)
+scalar_in code.Ubyte bs = made ubyte (single bs)
+scalar_in code.Byte bs = made (λ b. byte (cast_signed w8 b)) (single bs)
+scalar_in code.SmallUint bs = made uint (single bs)
+scalar_in code.SmallUlong bs = made ulong (single bs)
+scalar_in code.SmallInt bs = made (λ b. int (cast_signed w8 b)) (single bs)
+scalar_in code.SmallLong bs = made (λ b. long (cast_signed w8 b)) (single bs)
+scalar_in code.Boolean bs = next (single bs) truth
+scalar_in code.Ushort bs = made (λ b. ushort (from_be_bytes w16 b)) (exact 2 bs)
+scalar_in code.Short bs = made (λ b. short (cast_signed w16 (from_be_bytes w16 b))) (exact 2 bs)
+scalar_in code.Uint bs = made (λ b. uint (from_be_bytes w32 b)) (exact 4 bs)
+scalar_in code.Int bs = made (λ b. int (cast_signed w32 (from_be_bytes w32 b))) (exact 4 bs)
+scalar_in code.Float bs = made (λ b. float (from_be_bytes w32 b)) (exact 4 bs)
+scalar_in code.Char bs = next (exact 4 bs) (λ b. character (from_be_bytes w32 b))
+scalar_in code.Decimal32 bs = made decimal32 (exact 4 bs)
+scalar_in code.Ulong bs = made (λ b. ulong (from_be_bytes w64 b)) (exact 8 bs)
+scalar_in code.Long bs = made (λ b. long (cast_signed w64 (from_be_bytes w64 b))) (exact 8 bs)
+scalar_in code.Double bs = made (λ b. double (from_be_bytes w64 b)) (exact 8 bs)
+scalar_in code.Timestamp bs = made (λ b. timestamp (cast_signed w64 (from_be_bytes w64 b))) (exact 8 bs)
+scalar_in code.Decimal64 bs = made decimal64 (exact 8 bs)
+scalar_in code.Decimal128 bs = made decimal128 (exact 16 bs)
+scalar_in code.Uuid bs = made uuid (exact 16 bs)
+scalar_in code.Vbin8 bs = Some (binary bs)
+scalar_in code.Vbin32 bs = Some (binary bs)
+scalar_in code.Str8 bs = text string bs
+scalar_in code.Str32 bs = text string bs
+scalar_in code.Sym8 bs = text symbol bs
+scalar_in code.Sym32 bs = text symbol bs
+scalar_in _ bs = None
+
+-- a scalar as a tree
+abbrev pub scalar_tree : Scalar → Option Tree
+scalar_tree s = Some (scalar s)

@@ -1,0 +1,88 @@
+-- Which data tree a frame stands for, in any spelling (AMQP 1.0 part 1, sections 1.2 to 1.2.4 and 1.6).
+use Rattle.std.specs.Prelude.{◌≡◌, ℕ, suc, ◌*◌, IsTrue, List, [], ◌∷◌, ◌++◌, length, Some}
+use Rattle.std.specs.Int.{from_be_bytes, w32}
+use Rattle.amqp_data.specs.FormatCode.{code_of}
+use Rattle.amqp_data.specs.declared.format_code.EncodingCodes.{EncodingCodes}
+use Rattle.amqp_frame.specs.Code.{category}
+use Rattle.amqp_frame.specs.declared.code.Category.{Category}
+use Rattle.amqp_frame.specs.declared.code.Category.TheVariants.{Fixed, OneByteSize, FourByteSize}
+use Rattle.amqp_ser.specs.Tree as tree
+use Rattle.amqp_ser.specs.Tree.{Scalar, Descriptor, Tree, Pairs, trees_of, no_pairs}
+use Rattle.amqp_value.specs.Image.{insert_tree}
+use Rattle.amqp_decode.specs.Codes.{is_primitive, shape_of_code}
+use Rattle.amqp_decode.specs.Scalars.{scalar_in}
+use Rattle.amqp_decode.specs.declared.shape.Count.{Count}
+use Rattle.amqp_decode.specs.declared.shape.Count.TheVariants.{Absent, OneByte, FourBytes}
+use Rattle.amqp_decode.specs.declared.shape.Shape.TheVariants as shape
+
+-- a number in four bytes
+pub data IsNumber : List ℕ → ℕ → Type 0 where
+  four_bytes : (a b c d : ℕ) → IsNumber (a ∷ b ∷ c ∷ d ∷ []) (from_be_bytes w32 (a ∷ b ∷ c ∷ d ∷ []))
+
+-- a payload of a category and its content: all of it (section 1.2.1), or what follows a size of one or four bytes
+-- (sections 1.2.2 to 1.2.4)
+pub data IsPayload : Category → List ℕ → List ℕ → Type 0 where
+  of_width : (content : List ℕ) → IsPayload (Fixed (length content)) content content
+  of_one_byte : (content : List ℕ) → IsPayload OneByteSize (length content ∷ content) content
+  of_four_bytes : (size content : List ℕ) → IsNumber size (length content) → IsPayload FourByteSize (size ++ content) content
+
+-- a content's count and what follows it (sections 1.2.3 and 1.2.4)
+pub data IsCounted : Count → List ℕ → ℕ → List ℕ → Type 0 where
+  in_none : (body : List ℕ) → IsCounted Absent body 0 body
+  in_one_byte : (n : ℕ) (body : List ℕ) → IsCounted OneByte (n ∷ body) n body
+  in_four_bytes : (bytes : List ℕ) (n : ℕ) (body : List ℕ) → IsNumber bytes n → IsCounted FourBytes (bytes ++ body) n body
+
+-- a descriptor is a ulong or a symbol (section 1.5)
+abbrev pub descriptor_scalar : Descriptor → Scalar
+descriptor_scalar (tree.name bs) = tree.symbol bs
+descriptor_scalar (tree.code n) = tree.ulong n
+
+pub data IsDescriptor : List ℕ → Descriptor → Type 0 where
+  spelled : (code : EncodingCodes) (payload content : List ℕ) (d : Descriptor) → IsTrue (is_primitive code)
+      → IsPayload (category (code_of code)) payload content → scalar_in code content ≡ Some (descriptor_scalar d)
+      → IsDescriptor (code_of code ∷ payload) d
+
+mutual
+  -- the bytes stand for the tree, which is at most so deep: a scalar or an empty compound has depth 1, another one more
+  -- than its deepest part, a described value one more than its value
+  pub data Spells : ℕ → List ℕ → Tree → Type 0 where
+    primitive : (depth : ℕ) (code : EncodingCodes) (payload content : List ℕ) (t : Tree) → IsTrue (is_primitive code)
+        → IsPayload (category (code_of code)) payload content → Holds depth code content t → Spells depth (code_of code ∷ payload) t
+    described : (depth : ℕ) (a b : List ℕ) (d : Descriptor) (t : Tree)
+        → IsDescriptor a d → Spells depth b t → Spells (suc depth) (0 ∷ (a ++ b)) (tree.described d t)
+
+  -- the content of the code's payload stands for the tree: elements, pairs and items fill it
+  pub data Holds : ℕ → EncodingCodes → List ℕ → Tree → Type 0 where
+    a_scalar : (depth : ℕ) (code : EncodingCodes) (content : List ℕ) (s : Scalar)
+        → shape_of_code code ≡ shape.Scalar → scalar_in code content ≡ Some s → Holds (suc depth) code content (tree.scalar s)
+    a_list : (depth : ℕ) (code : EncodingCodes) (count : Count) (content : List ℕ) (n : ℕ) (body : List ℕ) (ts : List Tree)
+        → shape_of_code code ≡ shape.List count → IsCounted count content n body → Elements depth n body ts
+        → Holds (suc depth) code content (tree.list (trees_of ts))
+    a_map : (depth : ℕ) (code : EncodingCodes) (count : Count) (content : List ℕ) (n : ℕ) (body : List ℕ) (ps : Pairs)
+        → shape_of_code code ≡ shape.Map count → IsCounted count content (2 * n) body → Entries depth n body no_pairs ps
+        → Holds (suc depth) code content (tree.map ps)
+    a_bare_array : (depth : ℕ) (code : EncodingCodes) (count : Count) (content : List ℕ)
+        → shape_of_code code ≡ shape.Array count → IsCounted count content 0 [] → Holds (suc depth) code content (tree.array (trees_of []))
+    an_array : (depth : ℕ) (code : EncodingCodes) (count : Count) (content : List ℕ) (n : ℕ) (constructor : EncodingCodes) (items : List ℕ) (ts : List Tree)
+        → shape_of_code code ≡ shape.Array count → IsCounted count content n (code_of constructor ∷ items) → IsTrue (is_primitive constructor)
+        → Items depth constructor n items ts → Holds (suc depth) code content (tree.array (trees_of ts))
+
+  -- so many frames one after another
+  pub data Elements : ℕ → ℕ → List ℕ → List Tree → Type 0 where
+    no_element : (depth : ℕ) → Elements depth 0 [] []
+    element : (depth n : ℕ) (a b : List ℕ) (t : Tree) (ts : List Tree)
+        → Spells depth a t → Elements depth n b ts → Elements depth (suc n) (a ++ b) (t ∷ ts)
+
+  -- so many payloads of one code
+  pub data Items : ℕ → EncodingCodes → ℕ → List ℕ → List Tree → Type 0 where
+    no_item : (depth : ℕ) (code : EncodingCodes) → Items depth code 0 [] []
+    item : (depth : ℕ) (code : EncodingCodes) (n : ℕ) (payload content b : List ℕ) (t : Tree) (ts : List Tree)
+        → IsPayload (category (code_of code)) payload content → Holds depth code content t → Items depth code n b ts
+        → Items depth code (suc n) (payload ++ b) (t ∷ ts)
+
+  -- so many keys and values in turn, inserted into the pairs that are there: a present key keeps its place
+  pub data Entries : ℕ → ℕ → List ℕ → Pairs → Pairs → Type 0 where
+    no_entry : (depth : ℕ) (done : Pairs) → Entries depth 0 [] done done
+    entry : (depth n : ℕ) (a b rest : List ℕ) (k v : Tree) (done ps : Pairs)
+        → Spells depth a k → Spells depth b v → Entries depth n rest (insert_tree done k v) ps
+        → Entries depth (suc n) (a ++ (b ++ rest)) done ps

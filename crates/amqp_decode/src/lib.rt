@@ -1,0 +1,17 @@
+//! The untyped value that the bytes of one frame stand for.
+//!
+//! Every spelling of AMQP data is taken, short or long, inside arrays too, not only the one that this library writes.
+//! What bytes stand for is one relation, and `decode_value` answers by it in both directions: with the value that the
+//! bytes spell, or with a refusal where they spell none.
+#![tactic(auto)]
+
+mod cut;
+mod gathered;
+pub mod laws;
+mod read;
+mod scalar;
+mod shape;
+#[cfg(test)]
+mod tests;
+
+pub use read::decode_value;
