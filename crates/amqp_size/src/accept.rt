@@ -103,6 +103,10 @@ impl SizeSerializer {
         ensures { self.old.place ≡ Plain (rest (place_at place head)) → (t : Tree) → con t ≡ Some code → alike t ≡ true → inside t ≡ true → placed t ≡ true → within t ≡ fits n →
             length (enc t) ≡ text_width n → length (payload t) ≡ n + 4 → at_place (place_at place head) (Some t) result self.new.place }
     {
+        // A short text passes no limit: it is looked at once.
+        if n <= 254 {
+            return self.accept(place, head, code, text_width(n), n + 4);
+        }
         if n > LONGEST {
             return Err(Refusal::TooLong);
         }

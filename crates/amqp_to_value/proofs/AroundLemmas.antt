@@ -1,7 +1,7 @@
 -- Values after their descriptors.
 use Rattle.std.proofs.Common.{◌≡◌, if◌then◌else◌, Bool, true, false, true≢false, ℕ, ◌+◌, ◌≤◌, ◌<◌, List, [], ◌∷◌, ◌++◌, Option, Some, None, Result, Ok, Err, MatchResult, Box, Global, length, take, drop, refl, ap, sym, ◌∙◌, subst, append-nil, append_assoc, arith, rules}
-use Rattle.std.proofs.lemmas.List.{map-append, length-map, take-map, drop-map, take-append-drop, take-append-le, drop-append-le, length-append}
-use Rattle.std.proofs.Math.Seq.{take-append_seam, drop-append_seam, take-length, drop-length}
+use Rattle.std.proofs.lemmas.List.{map-append, take-map, drop-map, take-append-drop, take-append-le, drop-append-le, length-append}
+use Rattle.std.proofs.Math.Seq.{take-append_seam, drop-append_seam}
 use Rattle.amqp_data.specs.declared.described.Described.{Described}
 use Rattle.amqp_data.specs.declared.error.Error.{Error}
 use Rattle.amqp_data.specs.declared.error.Error.TheVariants as error

@@ -1,5 +1,6 @@
 -- Parts fed one after another.
 use Rattle.std.proofs.Common.{◌≡◌, ℕ, List, [], ◌∷◌, ◌++◌, Option, Some, None, Result, Ok, Err, MatchResult, refl, ap, sym, ◌∙◌, subst}
+use Rattle.std.specs.declared.alloc.AllocError.{AllocError}
 use Rattle.amqp_data.specs.declared.error.Error.{Error}
 use Rattle.amqp_data.specs.declared.error.Error.TheVariants as error
 use Rattle.amqp_ser.specs.Tree.{Tree, Trees, Pairs, map, no_trees, more, no_pairs}
@@ -93,18 +94,18 @@ key_back ts ps t old new p was is =
     ∙ fed_key (fed_onto ts no_pairs) (image t) (even_end (in_pairs ts) (fed_onto ts no_pairs) no_pairs ps (ends ts no_pairs) p)
 
 -- one element more, or none
-pub item_taken : (r : Result (Unit {0}) Error) (old new : List Value) (v : Value) (ts : Trees) (t : Tree)
-    → MatchResult r (λ _. new ≡ old ++ (v ∷ [])) (λ e. (new ≡ old) × (e ≡ error.OutOfMemory)) → all_of old ≡ images ts → tree_of v ≡ image t
-    → MatchResult r (λ _. all_of new ≡ images (then ts t)) (λ e. (all_of new ≡ images ts) × (e ≡ error.OutOfMemory))
+pub item_taken : (r : Result (Unit {0}) AllocError) (old new : List Value) (v : Value) (ts : Trees) (t : Tree)
+    → MatchResult r (λ _. new ≡ old ++ (v ∷ [])) (λ _. new ≡ old) → all_of old ≡ images ts → tree_of v ≡ image t
+    → MatchResult r (λ _. all_of new ≡ images (then ts t)) (λ _. all_of new ≡ images ts)
 item_taken (Ok u) old new v ts t is h e = ap all_of is ∙ all_of-then old v ts t h e
-item_taken (Err e) old new v ts t is h k = (ap all_of is.0 ∙ h, is.1)
+item_taken (Err e) old new v ts t is h k = ap all_of is ∙ h
 
 -- one key or value more, or none
-pub pair_taken : (r : Result (Unit {0}) Error) (old new : Pairs × Option Tree) (v : Value) (ts : Trees) (t : Tree)
-    → MatchResult r (λ _. new ≡ feed old (tree_of v)) (λ e. (new ≡ old) × (e ≡ error.OutOfMemory)) → old ≡ fed_onto ts no_pairs → tree_of v ≡ image t
-    → MatchResult r (λ _. new ≡ fed_onto (then ts t) no_pairs) (λ e. (new ≡ fed_onto ts no_pairs) × (e ≡ error.OutOfMemory))
+pub pair_taken : (r : Result (Unit {0}) AllocError) (old new : Pairs × Option Tree) (v : Value) (ts : Trees) (t : Tree)
+    → MatchResult r (λ _. new ≡ feed old (tree_of v)) (λ _. new ≡ old) → old ≡ fed_onto ts no_pairs → tree_of v ≡ image t
+    → MatchResult r (λ _. new ≡ fed_onto (then ts t) no_pairs) (λ _. new ≡ fed_onto ts no_pairs)
 pair_taken (Ok u) old new v ts t is h e = is ∙ (λ i. feed (h i) (e i)) ∙ sym (fed_onto-then ts t no_pairs)
-pair_taken (Err e) old new v ts t is h k = (is.0 ∙ h, is.1)
+pair_taken (Err e) old new v ts t is h k = is ∙ h
 
 -- parts that are not one make no variant of one value
 pub not_one : (vs : List Value) (ts : Trees) (i : ℕ) → all_of vs ≡ images ts → ((v : Value) → vs ≡ v ∷ [] → ⊥) → refuses error.InvalidValue (as_variant i (only ts))

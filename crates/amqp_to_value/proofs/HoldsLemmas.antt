@@ -1,5 +1,5 @@
 -- What an open compound holds after one part more, or one less.
-use Rattle.std.proofs.Common.{◌≡◌, List, [], ◌∷◌, ◌++◌, Option, Some, None, Result, Ok, Err, MatchResult, ok_or, true, true≢false, refl, ap, sym, ◌∙◌, subst}
+use Rattle.std.proofs.Common.{◌≡◌, List, [], ◌∷◌, ◌++◌, Option, Some, None, Result, ok_or, true, true≢false, refl, ap, sym, ◌∙◌, subst}
 use Rattle.amqp_data.specs.declared.error.Error.{Error}
 use Rattle.amqp_data.specs.declared.error.Error.TheVariants as error
 use Rattle.amqp_ser.specs.Tree.{Descriptor, Tree, Trees, Pairs, null, scalar, list, array, map, described, variant, lazy, transparent, no_trees, more}
@@ -75,21 +75,20 @@ module _ (u : Under) (kind : Kind) (old new : Parts) (ps : List (Option Tree)) (
   kept : Fed new h.ts → Holds u kind new ps
   kept fed = record { ts = h.ts; trees = h.trees; fed = fed; makes = λ o. h.makes o ∙ sym (makes o) }
 
-  -- one part more, or want of memory
-  pub part_taken : (p : Option Tree) (v : Value) → StandsFor v p → (r : Result (Unit {0}) Error)
-      → ((ts : Trees) (t : Tree) → Fed old ts → tree_of v ≡ image t → MatchResult r (λ _. Fed new (then ts t)) (λ e. Fed new ts × (e ≡ error.OutOfMemory)))
-      → MatchResult r (λ _. Holds u kind new (ps ++ (p ∷ [])))
-      (λ e. Holds u kind new ps × ((rest : List (Option Tree)) → refuses e (meant u (whole kind (ps ++ (p ∷ rest))))))
-  part_taken None v s r step = absurd s
-  part_taken (Some t) v s (Ok u) step = record {
+  -- one part more
+  pub part_taken : (p : Option Tree) (v : Value) → StandsFor v p → ((ts : Trees) (t : Tree) → Fed old ts → tree_of v ≡ image t → Fed new (then ts t)) → Holds u kind new (ps ++ (p ∷ []))
+  part_taken None v s step = absurd s
+  part_taken (Some t) v s step = record {
     ts = then h.ts t;
     trees = all_trees-then ps h.ts t h.trees;
     fed = step h.ts t h.fed s;
     makes = λ o. h.makes o ∙ sym (makes o);
   }
-  part_taken (Some t) v s (Err e) step =
-      let after = step h.ts t h.fed s in
-      (kept after.0, λ rest. subst (λ x. refuses x (meant u (whole kind (ps ++ (Some t ∷ rest))))) (sym after.1) tt)
+
+  -- no part more
+  pub part_left : (p : Option Tree) (v : Value) → StandsFor v p → ((ts : Trees) (t : Tree) → Fed old ts → tree_of v ≡ image t → Fed new ts) → Holds u kind new ps
+  part_left None v s step = absurd s
+  part_left (Some t) v s step = kept (step h.ts t h.fed s)
 
 -- a compound of the kind map takes keys and values in turn
 takes_pairs : (u : Under) (o : Parts) → ((ts : Option Trees) → meant u (as_kind kinds.Map ts) ≡ made o ts) → TakesPairs o

@@ -1,5 +1,5 @@
 -- What an open compound has after the answer on a part.
-use Rattle.std.proofs.Common.{◌≡◌, ◌≤◌, false, List, [], ◌∷◌, ◌++◌, Option, Some, None, Result, Ok, Err, MatchResult, length, ap, sym, ◌∙◌, subst, append-nil}
+use Rattle.std.proofs.Common.{◌≡◌, ◌≤◌, false, List, [], ◌∷◌, ◌++◌, Option, Some, None, Ok, Err, length, ap, sym, ◌∙◌, subst, append-nil}
 use Rattle.amqp_data.specs.declared.error.Error.{Error}
 use Rattle.amqp_data.specs.declared.error.Error.TheVariants as error
 use Rattle.amqp_ser.specs.Tree.{Descriptor, Tree}
@@ -9,17 +9,14 @@ use Rattle.amqp_ser.specs.declared.mark.Mark.TheVariants as mark
 use Rattle.amqp_value.specs.Image.{image}
 use Rattle.amqp_value.specs.TreeOf.{tree_of}
 use Rattle.amqp_value.specs.declared.value.Value.{Value}
-use Rattle.amqp_to_value.specs.Around.{aside_of, described_in, described_by, standing}
-use Rattle.amqp_to_value.specs.Fed.{is_bare}
-use Rattle.amqp_to_value.specs.Holds.{Holds, HasParts, IsAside, IsFresh, IsReady, Leaves, meant_by, value_has, value_permits}
+use Rattle.amqp_to_value.specs.Around.{described_in, described_by, standing}
+use Rattle.amqp_to_value.specs.Holds.{HasParts, IsAside, IsFresh, IsReady, Leaves, meant_by, value_permits}
 use Rattle.amqp_to_value.specs.Permitted.{refuses, StandsFor}
 use Rattle.amqp_to_value.specs.Under.{meant}
-use Rattle.amqp_to_value.specs.declared.around.Aside.{Aside}
 use Rattle.amqp_to_value.specs.declared.under.Under.{Under}
 use Rattle.amqp_to_value.specs.declared.under.Under.TheVariants as under
 use Rattle.amqp_to_value.specs.declared.open.Body.{Body}
 use Rattle.amqp_to_value.specs.declared.open.Body.TheVariants as body
-use Rattle.amqp_to_value.specs.declared.parts.Parts.{Parts}
 use Rattle.amqp_to_value.specs.declared.serializer.Serializer.{Serializer}
 use Rattle.amqp_to_value.proofs.AroundLemmas.{refuses_in, stood}
 use Rattle.amqp_to_value.proofs.AnswerLemmas.{bare_refused, kept_on, parted_again, refuses_too, second_refused}
@@ -88,13 +85,3 @@ pub bare_taken : (start after : Serializer) (k : Kind) (u : Under) (v : Value) (
     → HasParts start.under k (body.Bare u (Some v)) (ps ++ (p ∷ [])) × IsAside start after
 bare_taken start after k u v [] p t h m fresh is = ((h.0, h.1, subst (StandsFor v) (sym m) is.0), (((fresh, is.3), is.1), ([], is.2 ∙ sym (append-nil _))))
 bare_taken start after k u v (q ∷ ps) p t h m fresh is = absurd h.2
-
--- after a part of another compound
-pub part_answered : (start after : Serializer) (k : Kind) (a : Aside) (parts : Parts) (ps : List (Option Tree)) (p : Option Tree) (r : Result (Unit {0}) Error)
-    → a ≡ aside_of start.around.kept (standing start.around) → is_bare k ≡ false → IsAside start after
-    → MatchResult r (λ _. Holds start.under k parts (ps ++ (p ∷ []))) (λ e. Holds start.under k parts ps × ((rest : List (Option Tree)) → refuses e (meant start.under (whole k (ps ++ (p ∷ rest))))))
-    → MatchResult r (λ _. value_has start k after (record { aside = a; body = body.Parts parts }) (ps ++ (p ∷ [])))
-    (λ e. value_has start k after (record { aside = a; body = body.Parts parts }) ps × ((rest : List (Option Tree)) → value_permits start (whole k (ps ++ (p ∷ rest))) (Err e) after))
-part_answered start after k a parts ps p (Ok u) is bare kept h = (is, (bare, h), kept)
-part_answered start after k a parts ps p (Err e) is bare kept h =
-    ((is, (bare, h.0), kept), λ rest. (refuses_in (standing start.around) (meant start.under (whole k (ps ++ (p ∷ rest)))) e (h.1 rest), kept))

@@ -10,7 +10,7 @@ ghost use Rattle.amqp_to_value.specs.Permitted.{IsImageOf};
 use amqp_data::{Error, OrderedMap};
 use amqp_value::Value;
 use indexmap::IndexMap;
-use std::alloc::Global;
+use std::alloc::{AllocError, Global};
 
 /// The pairs of a map, in order, and the key whose value comes next.
 #[derive(Drop)]
@@ -32,10 +32,10 @@ impl Gathered {
 
     /// Takes a key, or the value of the pending key.
     #[inline(never)]
-    pub fn take(&mut self, part: Value) -> Result<(), Error>
+    pub fn take(&mut self, part: Value) -> Result<(), AllocError>
         ensures { MatchResult result
             (λ _. held_pairs self.new ≡ feed (held_pairs self.old) (tree_of part))
-            (λ e. (held_pairs self.new ≡ held_pairs self.old) × (e ≡ Error.OutOfMemory)) }
+            (λ _. held_pairs self.new ≡ held_pairs self.old) }
     {
         match self.key.take() {
             None => {
@@ -47,7 +47,7 @@ impl Gathered {
                 Err(refused) => {
                     let (key, _part) = refused.value;
                     self.key = Some(key);
-                    Err(Error::OutOfMemory)
+                    Err(AllocError)
                 }
             },
         }

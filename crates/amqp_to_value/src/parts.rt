@@ -14,7 +14,7 @@ use crate::under::Under;
 use amqp_data::{Array, Error, OrderedMap};
 use amqp_ser::{Kind, Mark};
 use amqp_value::Value;
-use std::alloc::Global;
+use std::alloc::{AllocError, Global};
 
 /// What a compound makes of its parts, with the values of those that it was fed.
 #[derive(Drop)]
@@ -58,10 +58,10 @@ impl Parts {
 
     /// Takes one part more.
     #[inline(always)]
-    pub fn take(&mut self, part: Value) -> Result<(), Error>
+    pub fn take(&mut self, part: Value) -> Result<(), AllocError>
         ensures makes { (o : Option Trees) → made self.new o ≡ made self.old o }
         ensures step { (ts : Trees) (t : Tree) → Fed self.old ts → tree_of part ≡ image t →
-            MatchResult result (λ _. Fed self.new (then ts t)) (λ e. Fed self.new ts × (e ≡ Error.OutOfMemory)) }
+            MatchResult result (λ _. Fed self.new (then ts t)) (λ _. Fed self.new ts) }
     {
         match self {
             Parts::List(items) => gather(items, part),
@@ -70,7 +70,10 @@ impl Parts {
             Parts::Map(pairs) => pairs.take(part),
             Parts::Fields(_, items) => gather(items, part),
             Parts::Only(_, items) => gather(items, part),
-            Parts::Refused => Ok(()),
+            Parts::Refused => {
+                let_go(part);
+                Ok(())
+            }
         }
     }
 
@@ -107,18 +110,23 @@ impl Parts {
 
 // Puts a value last.
 #[inline(always)]
-fn gather(items: &mut Vec<Value>, value: Value) -> Result<(), Error>
+fn gather(items: &mut Vec<Value>, value: Value) -> Result<(), AllocError>
     ensures { MatchResult result
         (λ _. items.new.items ≡ items.old.items ++ (value ∷ []))
-        (λ e. (items.new.items ≡ items.old.items) × (e ≡ Error.OutOfMemory)) }
+        (λ _. items.new.items ≡ items.old.items) }
 {
-    if items.len() < items.capacity() {
-        items.push_reserved(value);
-        return Ok(());
+    if items.len() == items.capacity() && items.reserve(1).is_err() {
+        let_go(value);
+        return Err(AllocError);
     }
-    items.reserve(1)?;
     items.push_reserved(value);
     Ok(())
+}
+
+// Lets a value go, in a call of its own: what that takes is not in the way of values that stay.
+#[inline(never)]
+pub fn let_go(value: Value) {
+    drop(value);
 }
 
 // The one value, where there is one and no more.

@@ -9,6 +9,7 @@ ghost use Rattle.amqp_to_value.specs.Under.{meant};
 
 use crate::around::Around;
 use crate::open::{Body, Open};
+use crate::parts::let_go;
 use crate::scalars::{descriptor_from, marked_bytes, marked_fixed, marked_text};
 use crate::under::Under;
 use amqp_data::Error;
@@ -194,9 +195,15 @@ impl amqp_ser::Serializer for Serializer {
                     *first = Some(self.around.unwrap(held.aside, value)?);
                     Ok(())
                 }
-                Some(_) => Err(Error::InvalidValue),
+                Some(_) => {
+                    let_go(value);
+                    Err(Error::InvalidValue)
+                }
             },
-            Body::Parts(parts) => parts.take(value),
+            Body::Parts(parts) => match parts.take(value) {
+                Ok(()) => Ok(()),
+                Err(_) => Err(Error::OutOfMemory),
+            },
         }
     }
 

@@ -1,4 +1,4 @@
-use Rattle.std.proofs.Common.{◌≡◌, [], ◌∷◌, ◌++◌, length, refl, ap, sym, ◌∙◌, append_assoc, append-nil, rules}
+use Rattle.std.proofs.Common.{◌≡◌, [], ◌∷◌, ◌++◌, length, ap, sym, ◌∙◌, append_assoc, rules}
 use Rattle.std.proofs.lemmas.List.{length-map, map-append}
 use Rattle.amqp_ser.specs.Carried.{descriptor_content}
 use Rattle.amqp_to_value.specs.Around.{contents}

@@ -1,4 +1,4 @@
-use Rattle.std.proofs.Common.{◌++◌, ap, ◌∙◌}
+use Rattle.std.proofs.Common.{ap, ◌∙◌}
 use Rattle.amqp_to_value.proofs.AroundLemmas.{all_contents, parted}
 use Rattle.amqp_to_value.proofs.around.Around.release.Goals as goal
 

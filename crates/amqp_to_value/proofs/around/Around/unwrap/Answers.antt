@@ -1,4 +1,4 @@
-use Rattle.std.proofs.Common.{◌≡◌, ◌-◌, ◌++◌, length, vec_len, ap, sym, ◌∙◌, rules, arith}
+use Rattle.std.proofs.Common.{◌≡◌, ◌-◌, length, vec_len, ap, sym, ◌∙◌, rules, arith}
 use Rattle.std.proofs.lemmas.List.{length-append, length-map}
 use Rattle.amqp_to_value.proofs.AroundLemmas.{all_contents, front, put_again}
 use Rattle.amqp_to_value.proofs.around.Around.unwrap.Goals as goal

@@ -4,8 +4,8 @@ use Rattle.amqp_to_value.specs.Around.{standing}
 use Rattle.amqp_to_value.specs.Holds.{HasParts, IsReady, value_permits}
 use Rattle.amqp_to_value.specs.declared.open.Body.TheVariants as body
 use Rattle.amqp_to_value.proofs.AnswerLemmas.{aside_again, kept_on, parted_again}
-use Rattle.amqp_to_value.proofs.HoldsLemmas.{part_taken, plain_answer}
-use Rattle.amqp_to_value.proofs.PartLemmas.{bare_taken, left_by_refusal, part_answered, part_refused, second_part, stands}
+use Rattle.amqp_to_value.proofs.HoldsLemmas.{part_left, part_taken, plain_answer}
+use Rattle.amqp_to_value.proofs.PartLemmas.{bare_taken, left_by_refusal, part_refused, second_part, stands}
 use Rattle.amqp_to_value.proofs.serializer.SerializerSerializer.end_part.Goals as goal
 
 pub returns-in_err-value-clause-step : goal.returns-in_err-value-clause-step
@@ -52,13 +52,39 @@ returns-in-Some-clause-step c = λ start kind before ps p h r.
     let second = second_part start (record { alloc = c.args.self.now.alloc; under = c.args.self.now.under; around = c.release.new.self }) kind c.in-Bare.field-0 _ ps p has aside in
     ((h.0, subst (λ b. HasParts start.under kind b ps) c.in-Bare.is h.1, second.0), second.1)
 
-pub returns-in-Parts-clause-step : goal.returns-in-Parts-clause-step
-returns-in-Parts-clause-step c = λ start kind before ps p h r.
+pub returns-in-Ok-clause-step : goal.returns-in-Ok-clause-step
+returns-in-Ok-clause-step c = λ start kind before ps p h r.
     let has = subst (λ b. HasParts start.under kind b ps) c.in-Parts.is h.1 in
     let ready = subst (IsReady start before) c.in-Parts.is h.2 in
     let answer = subst (λ x. value_permits before p x c.args.self.now) c.in_ok-value.was r in
     let kept = kept_on _ before c.args.self.now (Ok c.in_ok-value.value) ready answer.1 in
     let aside = aside_again start c.args.self.now c.release.new.self c.args.self.now.around.later kept.0 c.release.ensures.next
-    (c.release.ensures.parted start.around.kept (standing start.around) _ (parted_again start c.args.self.now kept) h.0) in
-    part_answered start (record { alloc = c.args.self.now.alloc; under = c.args.self.now.under; around = c.release.new.self }) kind c.args.held.now.aside _ ps p _ h.0 has.0 aside
-    (part_taken start.under kind c.in-Parts.parts _ ps has.1 c.take.ensures.makes p c.in_ok-value.value (plain_answer before _ p (Ok c.in_ok-value.value) ready answer.0) c.take.result c.take.ensures.step)
+    (c.release.ensures.parted start.around.kept (standing start.around) _ (parted_again start c.args.self.now kept) h.0) in (
+      h.0,
+      (
+        has.0,
+        part_taken start.under kind c.in-Parts.parts _ ps has.1 c.take.ensures.makes p c.in_ok-value.value
+            (plain_answer before _ p (Ok c.in_ok-value.value) ready answer.0) c.in-Ok.ensures.step,
+      ),
+      aside,
+    )
+
+pub returns-in-Err-clause-step : goal.returns-in-Err-clause-step
+returns-in-Err-clause-step c = λ start kind before ps p h r.
+    let has = subst (λ b. HasParts start.under kind b ps) c.in-Parts.is h.1 in
+    let ready = subst (IsReady start before) c.in-Parts.is h.2 in
+    let answer = subst (λ x. value_permits before p x c.args.self.now) c.in_ok-value.was r in
+    let kept = kept_on _ before c.args.self.now (Ok c.in_ok-value.value) ready answer.1 in
+    let aside = aside_again start c.args.self.now c.release.new.self c.args.self.now.around.later kept.0 c.release.ensures.next
+    (c.release.ensures.parted start.around.kept (standing start.around) _ (parted_again start c.args.self.now kept) h.0) in (
+      (
+        h.0,
+        (
+          has.0,
+          part_left start.under kind c.in-Parts.parts _ ps has.1 c.take.ensures.makes p c.in_ok-value.value
+              (plain_answer before _ p (Ok c.in_ok-value.value) ready answer.0) c.in-Err.ensures.step,
+        ),
+        aside,
+      ),
+      λ rest. (tt, aside),
+    )
