@@ -1,4 +1,5 @@
 pub mod Firsts
 pub mod Gathered
 pub mod Inserted
+pub mod Keys
 pub mod Lists

@@ -40,7 +40,7 @@ module _ {K V : Type 0} where
   abbrev pub HoldsInOrder : (K → K → Bool) → List (K × V) → OrderedMap K V → Type 0
   HoldsInOrder eq ps m = entries_of m ≡ inserted eq ps
 
-  -- the same where each key has its place
+  -- the map has the pairs inserted in turn, each key at its place
   abbrev pub HoldsSorted : (K → K → Ordering) → List (K × V) → tree.BTreeMap K V → Type 0
   HoldsSorted cmp ps m = m.entries ≡ inserted_sorted cmp ps
 
@@ -62,7 +62,7 @@ abbrev pub Ascend : {K : Type 0} → (K → K → Type 0) → (K → K → Order
 Ascend S cmp = EachBefore (IsSoToAll S (λ x y. cmp y x ≡ Greater))
 
 module _ {K V H : Type 0} where
-  -- the same where the order is open; where no two keys are equal, the map has the pairs themselves
+  -- the map has the pairs inserted in turn, in an open order; where no two keys are equal, it has the pairs themselves
   abbrev pub HoldsHashed : (K → K → Bool) → List (K × V) → hashed.HashMap K V H → Type 0
   HoldsHashed eq ps m = hashed.IsFromIterResult eq ps m × (EachBefore (λ p q. eq q.0 p.0 ≡ false) ps → IsPermutation ps m.entries)
 

@@ -7,6 +7,7 @@ pub mod de;
 mod enums;
 mod fields;
 mod impls;
+pub mod laws;
 mod record;
 mod refusal;
 mod seed;

@@ -134,6 +134,7 @@ fn maps_nest(rt: HostRuntime) -> Result<(), Fail> {
         alloc,
         map(alloc, [(key, inner)])?,
     )?;
+    assert_eq!(rt; read.len(), 1);
     let entry = &read.as_slice()[0];
     assert_eq!(rt; entry.0.as_inner().as_str(), "k");
     match entry.1.get(&-1) {
