@@ -199,3 +199,9 @@ named-ok byte (Err e) some h = tt
 pub unnamed-err : (byte : ℕ) (r : Result EncodingCodes Error) → GivesName byte r → IfErr r (λ e. primitive_of byte ≡ None)
 unnamed-err byte (Ok c) h = tt
 unnamed-err byte (Err e) h = unnamed byte (λ c is. let no = h.0 c is in absurd cc)
+
+-- two primitive codes with one byte are one
+pub code-is : (c e : EncodingCodes) → IsTrue (is_primitive c) → IsTrue (is_primitive e) → code_of c ≡ code_of e → c ≡ e
+code-is c e pc pe same =
+    let found : Some c ≡ Some e = sym (primitive-found c pc) ∙ ap primitive_of same ∙ primitive-found e pe in
+    cc

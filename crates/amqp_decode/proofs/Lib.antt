@@ -7,3 +7,6 @@ pub mod Finds
 pub mod Means
 pub mod Whole
 pub mod Framed
+pub mod ScalarBytes
+pub mod Encodes
+pub mod Worked

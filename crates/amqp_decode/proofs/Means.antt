@@ -78,7 +78,7 @@ abbrev IsDigits : Bool → List ℕ → ℕ → Type 0
 IsDigits false a n = a ≡ n ∷ []
 IsDigits true a n = IsNumber a n
 
-is_number : (b : List ℕ) → length b ≡ 4 → IsNumber b (from_be_bytes w32 b)
+pub is_number : (b : List ℕ) → length b ≡ 4 → IsNumber b (from_be_bytes w32 b)
 is_number [] e = absurd (omega arith)
 is_number (a ∷ []) e = absurd (omega arith)
 is_number (a ∷ b ∷ []) e = absurd (omega arith)
