@@ -81,3 +81,11 @@ impl Body {
         }
     }
 }
+
+/// Keeps the one value, in a call of its own: what was there is let go.
+#[inline(never)]
+pub fn keep(first: &mut Option<Value>, value: Value)
+    ensures { first.new ≡ Some value }
+{
+    *first = Some(value);
+}

@@ -8,7 +8,7 @@ ghost use Rattle.amqp_to_value.specs.Permitted.{IsImageOf};
 ghost use Rattle.amqp_to_value.specs.Under.{meant};
 
 use crate::around::Around;
-use crate::open::{Body, Open};
+use crate::open::{Body, Open, keep};
 use crate::parts::let_go;
 use crate::scalars::{descriptor_from, marked_bytes, marked_fixed, marked_text};
 use crate::under::Under;
@@ -192,7 +192,7 @@ impl amqp_ser::Serializer for Serializer {
         match &mut held.body {
             Body::Bare(_, first) => match first {
                 None => {
-                    *first = Some(self.around.unwrap(held.aside, value)?);
+                    keep(first, self.around.unwrap(held.aside, value)?);
                     Ok(())
                 }
                 Some(_) => {

@@ -1,4 +1,4 @@
-use Rattle.std.proofs.Common.{◌≡◌, ◌≤◌, ◌++◌, Ok, Err, length, ap, sym, ◌∙◌, subst, rules}
+use Rattle.std.proofs.Common.{◌≡◌, ◌≤◌, [], ◌∷◌, ◌++◌, Ok, Err, length, ap, sym, ◌∙◌, subst, rules}
 use Rattle.amqp_value.specs.Image.{image}
 use Rattle.amqp_to_value.specs.Around.{standing}
 use Rattle.amqp_to_value.specs.Holds.{HasParts, IsReady, value_permits}
@@ -38,7 +38,7 @@ returns-in_ok-unwrap-in-None-clause-step c = λ start kind before ps p h r.
     c.in_ok-unwrap-in-None.field-0 ps p s.tree (subst (λ b. HasParts start.under kind b ps) is h.1) s.means answer.1.0.0.0
     (c.in_ok-unwrap-in-None.ensures start.around.kept (standing start.around) (image s.tree) rel.0 (c.release.ensures.next ∙ s.none) h.0
     (subst (λ n. length (start.around.kept ++ standing start.around) ≤ n) (sym c.release.ensures.room) s.room) s.within) in
-    (h.0, taken.0, taken.1)
+    (h.0, subst (λ o. HasParts start.under kind (body.Bare c.in-Bare.field-0 o) (ps ++ (p ∷ []))) (sym c.keep.ensures) taken.0, taken.1)
 
 pub returns-in-Some-clause-step : goal.returns-in-Some-clause-step
 returns-in-Some-clause-step c = λ start kind before ps p h r.
