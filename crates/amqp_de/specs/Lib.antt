@@ -5,3 +5,4 @@ pub mod Answers
 pub mod Contents
 pub mod Enums
 pub mod Access
+pub mod Events

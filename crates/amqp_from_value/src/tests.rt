@@ -4,3 +4,4 @@ mod access;
 mod lists;
 mod rows;
 mod variants;
+mod visitors;

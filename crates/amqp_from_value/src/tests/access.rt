@@ -1,6 +1,6 @@
 //! Worked rows of the accessors: what they answer, and what they leave.
 
-use crate::{Elements, Entries, MapAccess, SeqAccess};
+use crate::{MapAccess, SeqAccess};
 use amqp_data::{Error, OrderedMap};
 use amqp_de::de::{MapAccess as _, SeqAccess as _};
 use amqp_value::Value;
@@ -8,7 +8,7 @@ use std::alloc::Global;
 use std::test::Fail;
 
 fn elements<const N: usize>(alloc: Global, items: [Value; N]) -> Result<SeqAccess, Fail> {
-    Ok(SeqAccess::new(Elements::new(alloc, Vec::from_array(alloc, items)?)))
+    Ok(SeqAccess::new(alloc, Vec::from_array(alloc, items)?))
 }
 
 fn entries<const N: usize>(alloc: Global, pairs: [(Value, Value); N]) -> Result<MapAccess, Fail> {
@@ -16,7 +16,7 @@ fn entries<const N: usize>(alloc: Global, pairs: [(Value, Value); N]) -> Result<
     for (key, value) in Vec::from_array(alloc, pairs)? {
         drop(map.insert(key, value)?);
     }
-    Ok(MapAccess::new(Entries::new(alloc, map)))
+    Ok(MapAccess::new(alloc, map))
 }
 
 #[test]
