@@ -1,9 +1,11 @@
 -- What a visitor is shown of a value, and which trees are shown so (AMQP 1.0 part 1, section 1.6).
-use Rattle.std.specs.Prelude.{◌≡◌, ◌≢◌, ◌⊎◌, ◌||◌, ℕ, Bool, true, false, List, [], ◌∷◌, Option, Some, None, Result, MatchResult, string_bytes}
+use Rattle.std.specs.Prelude.{◌≡◌, ◌≢◌, ◌⊎◌, ◌||◌, ℕ, ℤ, Bool, true, false, List, [], ◌∷◌, Option, Some, None, Result, MatchResult, string_bytes}
 use Rattle.amqp_data.specs.Fixed.{f32_bits, f64_bits}
 use Rattle.amqp_data.specs.Items.{byte_buf_bytes}
 use Rattle.amqp_ser.specs.Tree as tree
 use Rattle.amqp_ser.specs.Tree.{Tree, Trees, Pairs, Scalar, Descriptor, scalar, list, array, map, described}
+use Rattle.amqp_ser.specs.declared.mark.Mark.{Mark}
+use Rattle.amqp_ser.specs.declared.mark.Mark.TheVariants as mark
 use Rattle.amqp_ser.specs.Structs.{is_basic_name, is_list_name, is_map_name}
 use Rattle.amqp_de.specs.Enums.{first}
 use Rattle.amqp_de.specs.Parts.{list_of, entries_in}
@@ -134,6 +136,36 @@ module _ {T : Type 0} (G : Event → T → Type 0) where
   ByEnum true b = ByValue
   ByEnum false true = ByDescriptor
   ByEnum false false = ByVariant
+
+  -- a symbol as a text, a timestamp as a number, another scalar as an untyped value
+  abbrev pub BySymbol : Tree → T → Type 0
+  BySymbol t x = (s : List ℕ) × (t ≡ scalar (tree.symbol s)) × G (plain_event (tree.string s)) x
+
+  abbrev pub ByTimestamp : Tree → T → Type 0
+  ByTimestamp t x = (z : ℤ) × (t ≡ scalar (tree.timestamp z)) × G (plain_event (tree.long z)) x
+
+  abbrev pub ByKind : {A : Type 0} → (A → Scalar) → Tree → T → Type 0
+  ByKind {A} kind t x = (a : A) × (t ≡ scalar (kind a)) × G (value_event (scalar (kind a))) x
+
+  -- anything, in a newtype
+  abbrev pub ByNewtype : Tree → T → Type 0
+  ByNewtype t x = G (newtype_event t) x
+
+  abbrev pub ByNothing : Tree → T → Type 0
+  ByNothing t x = ⊥
+
+  -- a newtype by what its name asks for
+  abbrev pub ByMark : Mark → Tree → T → Type 0
+  ByMark mark.Symbol = BySymbol
+  ByMark mark.Timestamp = ByTimestamp
+  ByMark mark.Decimal32 = ByKind tree.decimal32
+  ByMark mark.Decimal64 = ByKind tree.decimal64
+  ByMark mark.Decimal128 = ByKind tree.decimal128
+  ByMark mark.Uuid = ByKind tree.uuid
+  ByMark mark.Array = ByArray
+  ByMark mark.Transparent = ByNewtype
+  ByMark mark.Lazy = ByNothing
+  ByMark mark.Other = ByNewtype
 
 -- whether a tree is the index of a variant by itself
 abbrev pub is_index_scalar : Scalar → Bool

@@ -1,12 +1,12 @@
 //! The traits of reading.
 
 ghost use Rattle.std.specs.Prelude.{◌≡◌, ◌↔◌, IsTrue, List};
-ghost use Rattle.amqp_ser.specs.Marked.{is_descriptor, is_value};
+ghost use Rattle.amqp_ser.specs.Marked.{is_descriptor, is_value, mark_of};
 ghost use Rattle.amqp_ser.specs.Tree.{Tree, scalar, null, bool, ubyte, ushort, uint, ulong, byte, short, int, long, float, double, char, string, binary};
 ghost use Rattle.amqp_value.specs.TreeOf.{tree_of};
 ghost use Rattle.amqp_de.specs.Answers.{Answers, Restores, Takes, TakesPair, TakesNamed};
 ghost use Rattle.amqp_de.specs.Contents.{content_tree};
-ghost use Rattle.amqp_de.specs.Events.{plain_event, any_event, is_index, is_described_name, Returns, ByPlain, ByOption, ByUnit, ByList, ByMap, ByIdentifier, ByDescribed, ByStruct, ByDescriptor, ByVariant, ByEnum};
+ghost use Rattle.amqp_de.specs.Events.{plain_event, any_event, is_index, is_described_name, Returns, ByPlain, ByOption, ByUnit, ByList, ByMap, ByIdentifier, ByDescribed, ByStruct, ByDescriptor, ByVariant, ByEnum, ByArray, ByMark};
 
 pub use crate::access::{EnumAccess, MapAccess, SeqAccess, VariantAccess};
 use crate::access::{ElementsOf, EntriesOf, VariantOf};
@@ -16,6 +16,7 @@ pub use crate::refusal::Refusal;
 pub use crate::shown::{Plain, Visit};
 use crate::untyped;
 pub use crate::visitor::Visitor;
+use amqp_ser::{Mark, mark_named};
 use amqp_value::Value;
 use std::alloc::Global;
 
@@ -420,6 +421,72 @@ pub trait Deserializer: Sized + Drop {
         } else {
             self.deserialize_variant(visitor)
         }
+    }
+
+    /// Shows the elements of an array.
+    #[tactic(auto, using(crate::proofs::Lists::list_of_trees))]
+    final fn deserialize_array<V: Visitor>(self, visitor: V) -> Result<V::Value, Self::Error>
+        ensures read { Answers Self.Error.is_memory (ByArray (V.gives visitor) (value self)) result }
+        ensures law { Returns (ByArray (V.stands visitor) (value self)) V.same Self.Error.is_memory result }
+    {
+        match self.open() {
+            Content::Array(elements) => visitor.visit_seq(ElementsOf::<Self>::new(elements)),
+            _ => Err(Self::Error::invalid()),
+        }
+    }
+
+    /// Shows what a newtype's name asks for.
+    final fn deserialize_marked<V: Visitor>(
+        self,
+        mark: Mark,
+        visitor: V,
+    ) -> Result<V::Value, Self::Error>
+        ensures read { Answers Self.Error.is_memory (ByMark (V.gives visitor) mark (value self)) result }
+        ensures law { Returns (ByMark (V.stands visitor) mark (value self)) V.same Self.Error.is_memory result }
+    {
+        match mark {
+            Mark::Transparent | Mark::Other => visitor.visit_newtype_struct(self),
+            Mark::Array => self.deserialize_array(visitor),
+            Mark::Lazy => Err(Self::Error::invalid()),
+            Mark::Symbol => match self.open() {
+                Content::Symbol(name) => visitor.visit_string(name.into_inner()),
+                _ => Err(Self::Error::invalid()),
+            },
+            Mark::Timestamp => match self.open() {
+                Content::Timestamp(moment) => visitor.visit_i64(moment.milliseconds()),
+                _ => Err(Self::Error::invalid()),
+            },
+            Mark::Decimal32 => match self.open() {
+                Content::Decimal32(value) => visitor.visit_value(untyped::decimal32_value(value)),
+                _ => Err(Self::Error::invalid()),
+            },
+            Mark::Decimal64 => match self.open() {
+                Content::Decimal64(value) => visitor.visit_value(untyped::decimal64_value(value)),
+                _ => Err(Self::Error::invalid()),
+            },
+            Mark::Decimal128 => match self.open() {
+                Content::Decimal128(value) => {
+                    visitor.visit_value(untyped::decimal128_value(value))
+                }
+                _ => Err(Self::Error::invalid()),
+            },
+            Mark::Uuid => match self.open() {
+                Content::Uuid(value) => visitor.visit_value(untyped::uuid_value(value)),
+                _ => Err(Self::Error::invalid()),
+            },
+        }
+    }
+
+    /// Shows anything, in a newtype; under a marker's name, what that asks for.
+    final fn deserialize_newtype_struct<V: Visitor>(
+        self,
+        name: &str,
+        visitor: V,
+    ) -> Result<V::Value, Self::Error>
+        ensures read { Answers Self.Error.is_memory (ByMark (V.gives visitor) (mark_of name.now) (value self)) result }
+        ensures law { Returns (ByMark (V.stands visitor) (mark_of name.now) (value self)) V.same Self.Error.is_memory result }
+    {
+        self.deserialize_marked(mark_named(name), visitor)
     }
 
     /// Shows a value by its kind. A symbol, a timestamp, a uuid and a decimal are shown as untyped values.

@@ -5,10 +5,12 @@ ghost use Rattle.amqp_ser.specs.Tree.{Tree};
 ghost use Rattle.amqp_de.specs.Access.{Picks, RestoresPicked, RestoresOwed};
 ghost use Rattle.amqp_de.specs.Answers.{Answers};
 ghost use Rattle.amqp_de.specs.Enums.{value_of};
+ghost use Rattle.amqp_de.specs.Events.{ByList, Returns};
 ghost use Rattle.amqp_de.specs.Fields.{There};
 
 use crate::de::{Deserialize, Deserializer, Refusal};
 use crate::seed::{Of, Seed};
+use crate::visitor::Visitor;
 use std::alloc::Global;
 use std::marker::PhantomData;
 
@@ -124,6 +126,29 @@ pub trait VariantAccess: Sized + Drop {
         ensures law { RestoresOwed T.image T.restorable T.same Self.Error.is_memory (content self) result }
     {
         self.newtype_variant_seed(alloc, Of(PhantomData::<T>))
+    }
+
+    /// Shows the list of a variant of fields.
+    ///
+    /// # Errors
+    /// The message `Expecting Value::List` where nothing comes with the index; invalid where it is no list; as the
+    /// visitor otherwise.
+    final fn tuple_variant<V: Visitor>(self, visitor: V) -> Result<V::Value, Self::Error>
+        ensures read { Answers Self.Error.is_memory (There (ByList (V.gives visitor)) (content self)) result }
+        ensures law { Returns (There (ByList (V.stands visitor)) (content self)) V.same Self.Error.is_memory result }
+    {
+        match self.into_item() {
+            Some(item) => item.deserialize_seq(visitor),
+            None => Err(Self::Error::message("Expecting Value::List")),
+        }
+    }
+
+    /// Shows the list of a variant of fields. As [`VariantAccess::tuple_variant`].
+    final fn struct_variant<V: Visitor>(self, visitor: V) -> Result<V::Value, Self::Error>
+        ensures read { Answers Self.Error.is_memory (There (ByList (V.gives visitor)) (content self)) result }
+        ensures law { Returns (There (ByList (V.stands visitor)) (content self)) V.same Self.Error.is_memory result }
+    {
+        self.tuple_variant(visitor)
     }
 }
 
