@@ -6,7 +6,7 @@ ghost use Rattle.amqp_value.specs.TreeOf.{tree_of};
 
 use crate::deserializer::{Deserializer, Elements, Entries};
 use amqp_data::{Error, OrderedMap};
-use amqp_de::de;
+use amqp_de::{ContentOf, de};
 use amqp_value::Value;
 use std::alloc::Global;
 
@@ -98,3 +98,6 @@ impl de::MapAccess for MapAccess {
         self.owed.take()
     }
 }
+
+/// What comes with a variant's index, read by the calls of `amqp_de::de::VariantAccess`.
+pub type VariantAccess = ContentOf<Deserializer>;

@@ -1,12 +1,13 @@
 //! Types that are read by a visitor, and which visit each value comes by.
 
-ghost use Rattle.std.specs.Prelude.{◌≡◌, List, [], ◌∷◌, None, Some};
-ghost use Rattle.amqp_ser.specs.Tree.{Tree, scalar, uint, ulong, list, trees_of};
-ghost use Rattle.amqp_de.specs.Events.{Event, seq_event, enum_event, visit_of, ByList, ByVariant};
+ghost use Rattle.std.specs.Prelude.{◌≡◌, List, [], ◌∷◌};
+ghost use Rattle.amqp_ser.specs.Tree.{Tree, scalar, uint, list, trees_of};
+ghost use Rattle.amqp_de.specs.Events.{seq_event, visit_of, ByList};
 ghost use Rattle.amqp_de.specs.Reads.{Always};
 
 use crate::{Deserializer, from_value};
 use amqp_data::{Described, Descriptor, Error, OrderedMap, Symbol};
+use amqp_de::VariantOf;
 use amqp_de::de::{
     self, Deserialize, Deserializer as _, EnumAccess, MapAccess, Plain, Refusal, SeqAccess,
     VariantAccess, Visit, Visitor,
@@ -228,6 +229,28 @@ fn each_call_has_its_visit(rt: HostRuntime) -> Result<(), Fail> {
             of(Value::Null).deserialize_ignored_any(Which),
             Ok(Visit::Plain)
         )
+    );
+    Ok(())
+}
+
+#[test]
+fn a_variant_of_fields_is_a_list(rt: HostRuntime) -> Result<(), Fail> {
+    let alloc = rt.alloc();
+    let index = Deserializer::new(alloc, Value::Uint(1));
+    let (_index, content) = VariantOf::new(index, None).variant::<u32>(alloc)?;
+    assert!(rt;
+        matches!(
+            content.tuple_variant(PointVisitor { alloc }),
+            Err(Error::Message("Expecting Value::List"))
+        )
+    );
+    let fields = list(alloc, [Value::Uint(1), Value::Uint(2)])?;
+    let index = Deserializer::new(alloc, Value::Uint(1));
+    let item = Some(Deserializer::new(alloc, fields));
+    let (_index, content) = VariantOf::new(index, item).variant::<u32>(alloc)?;
+    assert_eq!(rt;
+        content.struct_variant(PointVisitor { alloc }),
+        Ok(Point { x: 1, y: 2 })
     );
     Ok(())
 }
