@@ -1,12 +1,7 @@
 -- What the accessors of a list and of a map may answer, and what they leave (AMQP 1.0 part 1, sections 1.6.22 and 1.6.23).
-use Rattle.std.specs.Prelude.{◌≡◌, ◌⊎◌, List, [], ◌∷◌, Option, Some, None, Result, Ok, Err, IsSome, MatchResult}
+use Rattle.std.specs.Prelude.{◌≡◌, ◌⊎◌, List, [], ◌∷◌, Option, Some, None, Result, Ok, Err, IsSome, IsSomeAnd, MatchResult}
 use Rattle.amqp_ser.specs.Tree.{Tree}
 use Rattle.amqp_de.specs.Answers.{Refuses}
-
--- one that is there and is so
-abbrev pub OnSome : {T : Type 0} → (T → Type 0) → Option T → Type 0
-OnSome P None = ⊥
-OnSome P (Some x) = P x
 
 -- the next element is taken, and read or refused; after the last there is none
 abbrev pub ReadsNext : {T E : Type 0} → (E → Type 0) → (Tree → T → Type 0) → List Tree → List Tree → Result (Option T) E → Type 0
@@ -16,7 +11,7 @@ ReadsNext Memory R old new (Err e) = (t : Tree) × (old ≡ t ∷ new) × Refuse
 
 -- the image of a restorable x is read as the same as x, unless memory is wanted
 abbrev pub RestoresNext : {T E : Type 0} → (T → Tree) → (T → Type 0) → (T → T → Type 0) → (E → Type 0) → List Tree → Result (Option T) E → Type 0
-RestoresNext {T} image P S Memory old r = (x : T) (ts : List Tree) → P x → old ≡ image x ∷ ts → MatchResult r (OnSome (λ y. S y x)) Memory
+RestoresNext {T} image P S Memory old r = (x : T) (ts : List Tree) → P x → old ≡ image x ∷ ts → MatchResult r (λ o. IsSomeAnd o (λ y. S y x)) Memory
 
 -- what is owed and left stays as it is
 abbrev pub Stays : Option Tree → List (Tree × Tree) → Option Tree → List (Tree × Tree) → Type 0
@@ -52,7 +47,16 @@ ReadsEntry {K} {V} Memory R S owed left owed' left' (Err r) =
 abbrev pub RestoresKey : {T E : Type 0} → (T → Tree) → (T → Type 0) → (T → T → Type 0) → (E → Type 0) → Option Tree → List (Tree × Tree)
     → Result (Option T) E → Type 0
 RestoresKey {T} image P S Memory owed left r =
-    (x : T) (t : Tree) (es : List (Tree × Tree)) → P x → owed ≡ None → left ≡ (image x, t) ∷ es → MatchResult r (OnSome (λ y. S y x)) Memory
+    (x : T) (t : Tree) (es : List (Tree × Tree)) → P x → owed ≡ None → left ≡ (image x, t) ∷ es → MatchResult r (λ o. IsSomeAnd o (λ y. S y x)) Memory
 
 abbrev pub RestoresOwed : {T E : Type 0} → (T → Tree) → (T → Type 0) → (T → T → Type 0) → (E → Type 0) → Option Tree → Result T E → Type 0
 RestoresOwed {T} image P S Memory owed r = (x : T) → P x → owed ≡ Some (image x) → MatchResult r (λ y. S y x) Memory
+
+-- a variant's index is read, and what comes with it is left
+abbrev pub Picks : {T V E : Type 0} → (E → Type 0) → (Tree → T → Type 0) → (V → Option Tree) → Tree → Option Tree → Result (T × V) E → Type 0
+Picks Memory R content index held (Ok x) = R index x.0 × (content x.1 ≡ held)
+Picks Memory R content index held (Err r) = Refuses Memory (R index) r
+
+-- the image of a restorable index is read as the same, unless memory is wanted
+abbrev pub RestoresPicked : {T V E : Type 0} → (T → Tree) → (T → Type 0) → (T → T → Type 0) → (E → Type 0) → Tree → Result (T × V) E → Type 0
+RestoresPicked {T} image P S Memory index r = (x : T) → P x → index ≡ image x → MatchResult r (λ y. S y.0 x) Memory

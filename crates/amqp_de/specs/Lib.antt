@@ -6,3 +6,4 @@ pub mod Answers
 pub mod Contents
 pub mod Enums
 pub mod Access
+pub mod Events

@@ -2,6 +2,8 @@
 
 mod map;
 mod seq;
+mod variant;
 
 pub use map::{EntriesOf, MapAccess};
 pub use seq::{ElementsOf, SeqAccess};
+pub use variant::{ContentOf, EnumAccess, VariantAccess, VariantOf};

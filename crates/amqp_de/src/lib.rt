@@ -8,11 +8,15 @@ mod enums;
 mod fields;
 mod impls;
 pub mod laws;
+mod names;
 mod record;
 mod refusal;
 mod seed;
+mod shown;
+mod untyped;
+mod visitor;
 
-pub use access::{ElementsOf, EntriesOf};
+pub use access::{ContentOf, ElementsOf, EntriesOf, VariantOf};
 pub use enums::{DataOr, EnumOf, Never, OneOf, UnitOr, Variants};
 pub use fields::{Fields, May, Must};
 pub use record::{Describes, Record, read, read_described};

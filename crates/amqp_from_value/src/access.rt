@@ -1,10 +1,103 @@
 //! The accessors of a value's parts.
 
-use crate::deserializer::Deserializer;
-use amqp_de::{ElementsOf, EntriesOf};
+ghost use Rattle.std.specs.Prelude.{◌≡◌, None, map};
+ghost use Rattle.amqp_data.specs.Pairs.{entries_of};
+ghost use Rattle.amqp_value.specs.TreeOf.{tree_of};
 
-/// The elements of a list or an array of a value, read one after another by the calls of `amqp_de::de::SeqAccess`.
-pub type SeqAccess = ElementsOf<Deserializer>;
+use crate::deserializer::{Deserializer, Elements, Entries};
+use amqp_data::{Error, OrderedMap};
+use amqp_de::{ContentOf, de};
+use amqp_value::Value;
+use std::alloc::Global;
 
-/// The keys and values of a map of a value, read one after another by the calls of `amqp_de::de::MapAccess`.
-pub type MapAccess = EntriesOf<Deserializer>;
+/// The elements of a list or an array, read one after another by the calls of `amqp_de::de::SeqAccess`.
+#[derive(Drop)]
+pub struct SeqAccess {
+    elements: Elements,
+}
+
+impl SeqAccess {
+    ghost use Rattle.amqp_from_value.specs.Access.{seq_left};
+
+    /// An accessor of these elements.
+    ///
+    /// # Memory
+    /// Takes none.
+    pub fn new(alloc: Global, values: Vec<Value>) -> SeqAccess
+        ensures { seq_left result ≡ map tree_of values.items }
+    {
+        SeqAccess {
+            elements: Elements::new(alloc, values),
+        }
+    }
+}
+
+impl de::SeqAccess for SeqAccess {
+    ghost use Rattle.amqp_from_value.specs.Access.{seq_left};
+
+    type Error = Error;
+
+    type Item = Deserializer;
+
+    ghost left = { seq_left };
+
+    fn next_item(&mut self) -> Option<Deserializer> {
+        <Deserializer as de::Deserializer>::next_element(&mut self.elements)
+    }
+}
+
+/// The keys and values of a map, read one after another by the calls of `amqp_de::de::MapAccess`.
+#[derive(Drop)]
+pub struct MapAccess {
+    entries: Entries,
+    owed: Option<Deserializer>,
+}
+
+impl MapAccess {
+    ghost use Rattle.amqp_from_value.specs.Access.{map_left, map_owed};
+
+    /// An accessor of these pairs, which owes no value.
+    ///
+    /// # Memory
+    /// Takes none.
+    pub fn new(alloc: Global, pairs: OrderedMap<Value, Value>) -> MapAccess
+        ensures left { map_left result ≡ map (λ p. (tree_of p.0, tree_of p.1)) (entries_of pairs) }
+        ensures owed { map_owed result ≡ None }
+    {
+        MapAccess {
+            entries: Entries::new(alloc, pairs),
+            owed: None,
+        }
+    }
+}
+
+impl de::MapAccess for MapAccess {
+    ghost use Rattle.amqp_from_value.specs.Access.{map_left, map_owed};
+
+    type Error = Error;
+
+    type Item = Deserializer;
+
+    ghost owed = { map_owed };
+
+    ghost left = { map_left };
+
+    fn owes(&self) -> bool {
+        self.owed.is_some()
+    }
+
+    fn next_pair(&mut self) -> Option<(Deserializer, Deserializer)> {
+        <Deserializer as de::Deserializer>::next_pair(&mut self.entries)
+    }
+
+    fn owe(&mut self, value: Deserializer) {
+        self.owed = Some(value);
+    }
+
+    fn take_owed(&mut self) -> Option<Deserializer> {
+        self.owed.take()
+    }
+}
+
+/// What comes with a variant's index, read by the calls of `amqp_de::de::VariantAccess`.
+pub type VariantAccess = ContentOf<Deserializer>;

@@ -102,6 +102,10 @@ impl de::Deserializer for Deserializer {
         matches!(&self.value, Value::Null)
     }
 
+    fn is_index(&self) -> bool {
+        matches!(&self.value, Value::Uint(_) | Value::Symbol(_))
+    }
+
     fn open(self) -> Content<Deserializer, Elements, Entries> {
         let Deserializer { alloc, value } = self;
         match value {

@@ -1,7 +1,7 @@
 //! Reading a type out of an untyped value.
 //!
 //! `from_value` reads any `amqp_de::de::Deserialize` out of a `Value`. `Deserializer` is what it reads from;
-//! `SeqAccess` and `MapAccess` read a value's parts one after another.
+//! `SeqAccess`, `MapAccess` and `VariantAccess` read a value's parts one after another.
 #![tactic(auto)]
 
 mod access;
@@ -9,5 +9,5 @@ mod deserializer;
 #[cfg(test)]
 mod tests;
 
-pub use access::{MapAccess, SeqAccess};
+pub use access::{MapAccess, SeqAccess, VariantAccess};
 pub use deserializer::{Deserializer, Elements, Entries, from_value};

@@ -6,3 +6,4 @@ mod lists;
 mod maps;
 mod rows;
 mod variants;
+mod visitors;

@@ -1,14 +1,15 @@
 //! Worked rows of the accessors: what they answer, and what they leave.
 
-use crate::{Elements, Entries, MapAccess, SeqAccess};
+use crate::{Deserializer, MapAccess, SeqAccess, VariantAccess};
 use amqp_data::{Error, OrderedMap};
-use amqp_de::de::{MapAccess as _, SeqAccess as _};
+use amqp_de::VariantOf;
+use amqp_de::de::{EnumAccess as _, MapAccess as _, SeqAccess as _, VariantAccess as _};
 use amqp_value::Value;
 use std::alloc::Global;
 use std::test::Fail;
 
 fn elements<const N: usize>(alloc: Global, items: [Value; N]) -> Result<SeqAccess, Fail> {
-    Ok(SeqAccess::new(Elements::new(alloc, Vec::from_array(alloc, items)?)))
+    Ok(SeqAccess::new(alloc, Vec::from_array(alloc, items)?))
 }
 
 fn entries<const N: usize>(alloc: Global, pairs: [(Value, Value); N]) -> Result<MapAccess, Fail> {
@@ -16,7 +17,7 @@ fn entries<const N: usize>(alloc: Global, pairs: [(Value, Value); N]) -> Result<
     for (key, value) in Vec::from_array(alloc, pairs)? {
         drop(map.insert(key, value)?);
     }
-    Ok(MapAccess::new(Entries::new(alloc, map)))
+    Ok(MapAccess::new(alloc, map))
 }
 
 #[test]
@@ -86,5 +87,33 @@ fn a_refused_entry_is_taken_whole(rt: HostRuntime) -> Result<(), Fail> {
     assert_eq!(rt; access.next_key::<u32>(alloc), Ok(Some(5)));
     assert_eq!(rt; access.next_value::<bool>(alloc), Err(Error::InvalidValue));
     assert_eq!(rt; access.next_value::<u8>(alloc), Err(Error::InvalidValue));
+    Ok(())
+}
+
+// What comes with the index 1.
+fn content(alloc: Global, item: Option<Value>) -> Result<VariantAccess, Fail> {
+    let item = match item {
+        Some(value) => Some(Deserializer::new(alloc, value)),
+        None => None,
+    };
+    let index = Deserializer::new(alloc, Value::Uint(1));
+    let (_index, content) = VariantOf::new(index, item).variant::<u32>(alloc)?;
+    Ok(content)
+}
+
+#[test]
+fn a_variant_tells_what_it_misses(rt: HostRuntime) -> Result<(), Fail> {
+    let alloc = rt.alloc();
+    assert_eq!(rt;
+        content(alloc, None)?.newtype_variant::<u64>(alloc),
+        Err(Error::Message("Expecting a value"))
+    );
+    let value = Some(Value::Ulong(13));
+    assert_eq!(rt;
+        content(alloc, value)?.newtype_variant::<u64>(alloc),
+        Ok(13)
+    );
+    let value = Some(Value::Ulong(13));
+    assert_eq!(rt; content(alloc, value)?.unit_variant(), Ok(()));
     Ok(())
 }

@@ -1,0 +1,200 @@
+-- What a visitor is shown of a value, and which trees are shown so (AMQP 1.0 part 1, section 1.6).
+use Rattle.std.specs.Prelude.{◌≡◌, ◌≢◌, ◌⊎◌, ◌||◌, ℕ, ℤ, Bool, true, false, List, [], ◌∷◌, Option, Some, None, Result, MatchResult, string_bytes}
+use Rattle.amqp_data.specs.Fixed.{f32_bits, f64_bits}
+use Rattle.amqp_data.specs.Items.{byte_buf_bytes}
+use Rattle.amqp_ser.specs.Tree as tree
+use Rattle.amqp_ser.specs.Tree.{Tree, Trees, Pairs, Scalar, Descriptor, scalar, list, array, map, described}
+use Rattle.amqp_ser.specs.declared.mark.Mark.{Mark}
+use Rattle.amqp_ser.specs.declared.mark.Mark.TheVariants as mark
+use Rattle.amqp_ser.specs.Structs.{is_basic_name, is_list_name, is_map_name}
+use Rattle.amqp_de.specs.Enums.{first}
+use Rattle.amqp_de.specs.Parts.{list_of, entries_in}
+use Rattle.amqp_de.specs.declared.shown.Visit.{Visit}
+use Rattle.amqp_de.specs.declared.shown.Visit.TheVariants as visit
+use Rattle.amqp_de.specs.declared.shown.Plain.{Plain}
+use Rattle.amqp_de.specs.declared.shown.Plain.TheVariants as plain
+
+-- what a visitor is shown: of an enum the index, and what comes with it
+pub data Event : Type 0 where
+  plain_event : Scalar → Event
+  none_event : Event
+  some_event : Tree → Event
+  newtype_event : Tree → Event
+  seq_event : List Tree → Event
+  map_event : List (Tree × Tree) → Event
+  enum_event : Tree → Option Tree → Event
+  described_event : Descriptor → Tree → Event
+  value_event : Tree → Event
+
+-- the visit that an event comes by
+abbrev pub visit_of : Event → Visit
+visit_of (plain_event s) = visit.Plain
+visit_of none_event = visit.Plain
+visit_of (some_event t) = visit.Some
+visit_of (newtype_event t) = visit.Newtype
+visit_of (seq_event ts) = visit.Seq
+visit_of (map_event es) = visit.Map
+visit_of (enum_event t d) = visit.Enum
+visit_of (described_event d t) = visit.Described
+visit_of (value_event t) = visit.Value
+
+-- the event of what has no parts
+abbrev pub plain_shown : Plain → Event
+plain_shown plain.None = none_event
+plain_shown plain.Unit = plain_event tree.null
+plain_shown (plain.Bool b) = plain_event (tree.bool b)
+plain_shown (plain.U8 n) = plain_event (tree.ubyte n)
+plain_shown (plain.U16 n) = plain_event (tree.ushort n)
+plain_shown (plain.U32 n) = plain_event (tree.uint n)
+plain_shown (plain.U64 n) = plain_event (tree.ulong n)
+plain_shown (plain.I8 z) = plain_event (tree.byte z)
+plain_shown (plain.I16 z) = plain_event (tree.short z)
+plain_shown (plain.I32 z) = plain_event (tree.int z)
+plain_shown (plain.I64 z) = plain_event (tree.long z)
+plain_shown (plain.F32 x) = plain_event (tree.float (f32_bits x))
+plain_shown (plain.F64 x) = plain_event (tree.double (f64_bits x))
+plain_shown (plain.Char c) = plain_event (tree.char c)
+plain_shown (plain.String s) = plain_event (tree.string (string_bytes s))
+plain_shown (plain.ByteBuf b) = plain_event (tree.binary (byte_buf_bytes b))
+
+-- what stands for a value x that comes back gives the same as x, unless memory is wanted
+abbrev pub Returns : {T E : Type 0} → (T → Type 0) → (T → T → Type 0) → (E → Type 0) → Result T E → Type 0
+Returns {T} P S Memory r = (x : T) → P x → MatchResult r (λ y. S y x) Memory
+
+module _ {T : Type 0} (G : Event → T → Type 0) where
+  -- a scalar of this kind is shown as it is
+  abbrev pub ByPlain : {A : Type 0} → (A → Scalar) → Tree → T → Type 0
+  ByPlain {A} kind t x = (a : A) × (t ≡ scalar (kind a)) × G (plain_event (kind a)) x
+
+  -- null alone
+  abbrev pub ByUnit : Tree → T → Type 0
+  ByUnit t x = (t ≡ scalar tree.null) × G (plain_event tree.null) x
+
+  -- null is shown as nothing, and any other tree as something
+  abbrev pub ByOption : Tree → T → Type 0
+  ByOption t x = (t ≡ scalar tree.null → G none_event x) × (t ≢ scalar tree.null → G (some_event t) x)
+
+  -- the elements of a list, and of an array
+  abbrev pub ByList : Tree → T → Type 0
+  ByList t x = (ts : Trees) × (t ≡ list ts) × G (seq_event (list_of ts)) x
+
+  abbrev pub ByArray : Tree → T → Type 0
+  ByArray t x = (ts : Trees) × (t ≡ array ts) × G (seq_event (list_of ts)) x
+
+  -- the pairs of a map
+  abbrev pub ByMap : Tree → T → Type 0
+  ByMap t x = (ps : Pairs) × (t ≡ map ps) × G (map_event (entries_in ps)) x
+
+  -- a descriptor and the value that it describes
+  abbrev pub ByDescribed : Tree → T → Type 0
+  ByDescribed t x = (d : Descriptor) × (u : Tree) × (t ≡ described d u) × G (described_event d u) x
+
+  -- a value with a descriptor where one is asked for, and else a list
+  abbrev pub ByStruct : Bool → Tree → T → Type 0
+  ByStruct true = ByDescribed
+  ByStruct false = ByList
+
+  -- an uint or a symbol, which is shown as a text
+  abbrev pub ByIdentifier : Tree → T → Type 0
+  ByIdentifier t x = ((n : ℕ) × (t ≡ scalar (tree.uint n)) × G (plain_event (tree.uint n)) x)
+      ⊎ ((s : List ℕ) × (t ≡ scalar (tree.symbol s)) × G (plain_event (tree.string s)) x)
+
+  -- a variant by itself: its index alone
+  abbrev pub ScalarVariant : Scalar → T → Type 0
+  ScalarVariant (tree.uint n) x = G (enum_event (scalar (tree.uint n)) None) x
+  ScalarVariant (tree.symbol s) x = G (enum_event (scalar (tree.symbol s)) None) x
+  ScalarVariant s x = ⊥
+
+  -- in a list its index, and then what comes with it: what is left over is ignored
+  abbrev pub ListedVariant : List Tree → T → Type 0
+  ListedVariant [] x = ⊥
+  ListedVariant (t ∷ ts) x = G (enum_event t (first ts)) x
+
+  -- a map has the one key that is the index
+  abbrev pub KeyedVariant : List (Tree × Tree) → T → Type 0
+  KeyedVariant [] x = ⊥
+  KeyedVariant (e ∷ []) x = G (enum_event e.0 (Some e.1)) x
+  KeyedVariant (e ∷ f ∷ es) x = ⊥
+
+  abbrev pub ByVariant : Tree → T → Type 0
+  ByVariant (scalar s) x = ScalarVariant s x
+  ByVariant (list ts) x = ListedVariant (list_of ts) x
+  ByVariant (map ps) x = KeyedVariant (entries_in ps) x
+  ByVariant t x = ⊥
+
+  -- a descriptor: an ulong, or a symbol, which is shown as a text
+  abbrev pub ByDescriptor : Tree → T → Type 0
+  ByDescriptor t x = ((n : ℕ) × (t ≡ scalar (tree.ulong n)) × G (plain_event (tree.ulong n)) x)
+      ⊎ ((s : List ℕ) × (t ≡ scalar (tree.symbol s)) × G (plain_event (tree.string s)) x)
+
+  -- anything, as an untyped value
+  abbrev pub ByValue : Tree → T → Type 0
+  ByValue t x = G (value_event t) x
+
+  -- an enum by its name: an untyped value, a descriptor, or a variant
+  abbrev pub ByEnum : Bool → Bool → Tree → T → Type 0
+  ByEnum true b = ByValue
+  ByEnum false true = ByDescriptor
+  ByEnum false false = ByVariant
+
+  -- a symbol as a text, a timestamp as a number, another scalar as an untyped value
+  abbrev pub BySymbol : Tree → T → Type 0
+  BySymbol t x = (s : List ℕ) × (t ≡ scalar (tree.symbol s)) × G (plain_event (tree.string s)) x
+
+  abbrev pub ByTimestamp : Tree → T → Type 0
+  ByTimestamp t x = (z : ℤ) × (t ≡ scalar (tree.timestamp z)) × G (plain_event (tree.long z)) x
+
+  abbrev pub ByKind : {A : Type 0} → (A → Scalar) → Tree → T → Type 0
+  ByKind {A} kind t x = (a : A) × (t ≡ scalar (kind a)) × G (value_event (scalar (kind a))) x
+
+  -- anything, in a newtype
+  abbrev pub ByNewtype : Tree → T → Type 0
+  ByNewtype t x = G (newtype_event t) x
+
+  abbrev pub ByNothing : Tree → T → Type 0
+  ByNothing t x = ⊥
+
+  -- a newtype by what its name asks for
+  abbrev pub ByMark : Mark → Tree → T → Type 0
+  ByMark mark.Symbol = BySymbol
+  ByMark mark.Timestamp = ByTimestamp
+  ByMark mark.Decimal32 = ByKind tree.decimal32
+  ByMark mark.Decimal64 = ByKind tree.decimal64
+  ByMark mark.Decimal128 = ByKind tree.decimal128
+  ByMark mark.Uuid = ByKind tree.uuid
+  ByMark mark.Array = ByArray
+  ByMark mark.Transparent = ByNewtype
+  ByMark mark.Lazy = ByNothing
+  ByMark mark.Other = ByNewtype
+
+-- whether a tree is the index of a variant by itself
+abbrev pub is_index_scalar : Scalar → Bool
+is_index_scalar (tree.uint n) = true
+is_index_scalar (tree.symbol s) = true
+is_index_scalar s = false
+
+abbrev pub is_index : Tree → Bool
+is_index (scalar s) = is_index_scalar s
+is_index t = false
+
+-- the names of structs that stand after a descriptor
+abbrev pub is_described_name : List ℕ → Bool
+is_described_name n = is_basic_name n || is_list_name n || is_map_name n
+
+-- what any value is shown as: scalars that have no visit of their own as untyped values
+abbrev pub scalar_event : Scalar → Event
+scalar_event (tree.symbol s) = value_event (scalar (tree.symbol s))
+scalar_event (tree.timestamp z) = value_event (scalar (tree.timestamp z))
+scalar_event (tree.uuid b) = value_event (scalar (tree.uuid b))
+scalar_event (tree.decimal32 b) = value_event (scalar (tree.decimal32 b))
+scalar_event (tree.decimal64 b) = value_event (scalar (tree.decimal64 b))
+scalar_event (tree.decimal128 b) = value_event (scalar (tree.decimal128 b))
+scalar_event s = plain_event s
+
+abbrev pub any_event : Tree → Event
+any_event (scalar s) = scalar_event s
+any_event (list ts) = seq_event (list_of ts)
+any_event (array ts) = seq_event (list_of ts)
+any_event (map ps) = map_event (entries_in ps)
+any_event (described d t) = described_event d t
+any_event t = value_event t

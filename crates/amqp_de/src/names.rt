@@ -1,0 +1,30 @@
+//! The names that ask for a form of their own.
+
+ghost use Rattle.std.specs.Prelude.{◌≡◌};
+ghost use Rattle.amqp_ser.specs.Marked.{is_descriptor, is_value};
+ghost use Rattle.amqp_de.specs.Events.{is_described_name};
+
+use amqp_data::markers;
+
+/// Whether a struct of this name stands after a descriptor.
+pub fn is_described_name(name: &str) -> bool
+    ensures { result ≡ is_described_name name.now }
+{
+    name == markers::DESCRIBED_BASIC
+        || name == markers::DESCRIBED_LIST
+        || name == markers::DESCRIBED_MAP
+}
+
+/// Whether an enum of this name is an untyped value.
+pub fn is_value_name(name: &str) -> bool
+    ensures { result ≡ is_value name.now }
+{
+    name == markers::VALUE
+}
+
+/// Whether an enum of this name is a descriptor.
+pub fn is_descriptor_name(name: &str) -> bool
+    ensures { result ≡ is_descriptor name.now }
+{
+    name == markers::DESCRIPTOR
+}

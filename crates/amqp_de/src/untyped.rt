@@ -1,0 +1,52 @@
+//! The untyped values of what a visitor has no visit for.
+
+ghost use Rattle.std.specs.Prelude.{◌≡◌};
+ghost use Rattle.amqp_data.specs.Fixed.{dec32_bytes, dec64_bytes, dec128_bytes, milliseconds_of, uuid_bytes};
+ghost use Rattle.amqp_data.specs.Text.{symbol_text};
+ghost use Rattle.amqp_ser.specs.Tree.{scalar, decimal32, decimal64, decimal128, timestamp, uuid, symbol};
+ghost use Rattle.amqp_value.specs.TreeOf.{tree_of};
+
+use amqp_data::{Dec32, Dec64, Dec128, Symbol, Timestamp, Uuid};
+use amqp_value::Value;
+
+#[tactic(auto, using(crate::proofs::Values::of_decimal32))]
+pub fn decimal32_value(value: Dec32) -> Value
+    ensures { tree_of result ≡ scalar (decimal32 (dec32_bytes value)) }
+{
+    Value::Decimal32(value)
+}
+
+#[tactic(auto, using(crate::proofs::Values::of_decimal64))]
+pub fn decimal64_value(value: Dec64) -> Value
+    ensures { tree_of result ≡ scalar (decimal64 (dec64_bytes value)) }
+{
+    Value::Decimal64(value)
+}
+
+#[tactic(auto, using(crate::proofs::Values::of_decimal128))]
+pub fn decimal128_value(value: Dec128) -> Value
+    ensures { tree_of result ≡ scalar (decimal128 (dec128_bytes value)) }
+{
+    Value::Decimal128(value)
+}
+
+#[tactic(auto, using(crate::proofs::Values::of_timestamp))]
+pub fn timestamp_value(value: Timestamp) -> Value
+    ensures { tree_of result ≡ scalar (timestamp (milliseconds_of value)) }
+{
+    Value::Timestamp(value)
+}
+
+#[tactic(auto, using(crate::proofs::Values::of_uuid))]
+pub fn uuid_value(value: Uuid) -> Value
+    ensures { tree_of result ≡ scalar (uuid (uuid_bytes value)) }
+{
+    Value::Uuid(value)
+}
+
+#[tactic(auto, using(crate::proofs::Values::of_symbol))]
+pub fn symbol_value(value: Symbol) -> Value
+    ensures { tree_of result ≡ scalar (symbol (symbol_text value)) }
+{
+    Value::Symbol(value)
+}

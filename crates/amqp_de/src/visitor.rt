@@ -1,0 +1,237 @@
+//! What a type is made of, as it is shown part by part.
+
+ghost use Rattle.std.specs.Prelude.{◌≡◌, IsTrue, None, string_bytes};
+ghost use Rattle.amqp_data.specs.Fixed.{f32_bits, f64_bits};
+ghost use Rattle.amqp_data.specs.Items.{byte_buf_bytes};
+ghost use Rattle.amqp_ser.specs.Carried.{descriptor_content};
+ghost use Rattle.amqp_ser.specs.Tree.{null, bool, ubyte, ushort, uint, ulong, byte, short, int, long, float, double, char, binary, string};
+ghost use Rattle.amqp_value.specs.TreeOf.{tree_of};
+ghost use Rattle.amqp_de.specs.Answers.{Answers};
+ghost use Rattle.amqp_de.specs.Events.{Event, Returns, visit_of, plain_shown, plain_event, none_event, some_event, newtype_event, seq_event, map_event, enum_event, described_event, value_event};
+
+use crate::access::{EnumAccess, MapAccess, SeqAccess};
+use crate::de::{Deserializer, Refusal};
+use crate::shown::{Plain, Visit, unwritten};
+use amqp_data::{ByteBuf, Descriptor, F32Bits, F64Bits};
+use amqp_value::Value;
+
+/// What a deserializer shows a value to, to make another of it.
+///
+/// # Implementer notes
+/// Write `refuses`, and the visits that give a value; the others are refused. All that has no parts comes by
+/// `visit_plain`.
+pub trait Visitor: Sized + Drop {
+    /// What is made.
+    type Value: Drop;
+
+    /// Which events give which value.
+    ghost gives: { Self → Event → Self.Value → Type 0 };
+
+    /// Which event stands for a value that comes back from it.
+    ghost stands: { Self → Event → Self.Value → Type 0 };
+
+    /// Whether two values have the same contents.
+    ghost same: { Self.Value → Self.Value → Type 0 };
+
+    /// Whether no event of this visit gives a value. The visits that are not written ask it.
+    fn refuses(&self, visit: Visit) -> bool
+        ensures gives { IsTrue result → (e : Event) (x : Self.Value) → visit_of e ≡ visit → ¬ gives self.now e x }
+        ensures stands { IsTrue result → (e : Event) (x : Self.Value) → visit_of e ≡ visit → ¬ stands self.now e x };
+
+    /// What has no parts.
+    fn visit_plain<E: Refusal>(self, plain: Plain) -> Result<Self::Value, E>
+        ensures read { Answers E.is_memory (gives self (plain_shown plain)) result }
+        ensures law { Returns (stands self (plain_shown plain)) same E.is_memory result }
+    {
+        Err(unwritten(self.refuses(Visit::Plain)))
+    }
+
+    /// Something that may be absent.
+    fn visit_some<D: Deserializer>(self, deserializer: D) -> Result<Self::Value, D::Error>
+        ensures read { Answers D.Error.is_memory (gives self (some_event (D.value deserializer))) result }
+        ensures law { Returns (stands self (some_event (D.value deserializer))) same D.Error.is_memory result }
+    {
+        Err(unwritten(self.refuses(Visit::Some)))
+    }
+
+    /// What stands in a newtype.
+    fn visit_newtype_struct<D: Deserializer>(self, deserializer: D) -> Result<Self::Value, D::Error>
+        ensures read { Answers D.Error.is_memory (gives self (newtype_event (D.value deserializer))) result }
+        ensures law { Returns (stands self (newtype_event (D.value deserializer))) same D.Error.is_memory result }
+    {
+        Err(unwritten(self.refuses(Visit::Newtype)))
+    }
+
+    /// The elements of a list or an array.
+    fn visit_seq<A: SeqAccess>(self, elements: A) -> Result<Self::Value, A::Error>
+        ensures read { Answers A.Error.is_memory (gives self (seq_event (A.left elements))) result }
+        ensures law { Returns (stands self (seq_event (A.left elements))) same A.Error.is_memory result }
+    {
+        Err(unwritten(self.refuses(Visit::Seq)))
+    }
+
+    /// The keys and values of a map.
+    fn visit_map<A: MapAccess>(self, entries: A) -> Result<Self::Value, A::Error>
+        requires { A.owed entries ≡ None }
+        ensures read { Answers A.Error.is_memory (gives self (map_event (A.left entries))) result }
+        ensures law { Returns (stands self (map_event (A.left entries))) same A.Error.is_memory result }
+    {
+        Err(unwritten(self.refuses(Visit::Map)))
+    }
+
+    /// One of the variants of an enum.
+    fn visit_enum<A: EnumAccess>(self, variant: A) -> Result<Self::Value, A::Error>
+        ensures read { Answers A.Error.is_memory (gives self (enum_event (A.index variant) (A.content variant))) result }
+        ensures law { Returns (stands self (enum_event (A.index variant) (A.content variant))) same A.Error.is_memory result }
+    {
+        Err(unwritten(self.refuses(Visit::Enum)))
+    }
+
+    /// A value after its descriptor.
+    fn visit_described<D: Deserializer>(
+        self,
+        descriptor: Descriptor,
+        deserializer: D,
+    ) -> Result<Self::Value, D::Error>
+        ensures read { Answers D.Error.is_memory (gives self (described_event (descriptor_content descriptor) (D.value deserializer))) result }
+        ensures law { Returns (stands self (described_event (descriptor_content descriptor) (D.value deserializer))) same D.Error.is_memory result }
+    {
+        Err(unwritten(self.refuses(Visit::Described)))
+    }
+
+    /// An untyped value.
+    fn visit_value<E: Refusal>(self, value: Value) -> Result<Self::Value, E>
+        ensures read { Answers E.is_memory (gives self (value_event (tree_of value))) result }
+        ensures law { Returns (stands self (value_event (tree_of value))) same E.is_memory result }
+    {
+        Err(unwritten(self.refuses(Visit::Value)))
+    }
+
+    /// Null.
+    final fn visit_unit<E: Refusal>(self) -> Result<Self::Value, E>
+        ensures read { Answers E.is_memory (gives self (plain_event null)) result }
+        ensures law { Returns (stands self (plain_event null)) same E.is_memory result }
+    {
+        self.visit_plain(Plain::Unit)
+    }
+
+    /// Nothing, where something may be absent.
+    final fn visit_none<E: Refusal>(self) -> Result<Self::Value, E>
+        ensures read { Answers E.is_memory (gives self none_event) result }
+        ensures law { Returns (stands self none_event) same E.is_memory result }
+    {
+        self.visit_plain(Plain::None)
+    }
+
+    /// A truth value.
+    final fn visit_bool<E: Refusal>(self, value: bool) -> Result<Self::Value, E>
+        ensures read { Answers E.is_memory (gives self (plain_event (bool value))) result }
+        ensures law { Returns (stands self (plain_event (bool value))) same E.is_memory result }
+    {
+        self.visit_plain(Plain::Bool(value))
+    }
+
+    /// An unsigned number of 8 bits.
+    final fn visit_u8<E: Refusal>(self, value: u8) -> Result<Self::Value, E>
+        ensures read { Answers E.is_memory (gives self (plain_event (ubyte value))) result }
+        ensures law { Returns (stands self (plain_event (ubyte value))) same E.is_memory result }
+    {
+        self.visit_plain(Plain::U8(value))
+    }
+
+    /// An unsigned number of 16 bits.
+    final fn visit_u16<E: Refusal>(self, value: u16) -> Result<Self::Value, E>
+        ensures read { Answers E.is_memory (gives self (plain_event (ushort value))) result }
+        ensures law { Returns (stands self (plain_event (ushort value))) same E.is_memory result }
+    {
+        self.visit_plain(Plain::U16(value))
+    }
+
+    /// An unsigned number of 32 bits.
+    final fn visit_u32<E: Refusal>(self, value: u32) -> Result<Self::Value, E>
+        ensures read { Answers E.is_memory (gives self (plain_event (uint value))) result }
+        ensures law { Returns (stands self (plain_event (uint value))) same E.is_memory result }
+    {
+        self.visit_plain(Plain::U32(value))
+    }
+
+    /// An unsigned number of 64 bits.
+    final fn visit_u64<E: Refusal>(self, value: u64) -> Result<Self::Value, E>
+        ensures read { Answers E.is_memory (gives self (plain_event (ulong value))) result }
+        ensures law { Returns (stands self (plain_event (ulong value))) same E.is_memory result }
+    {
+        self.visit_plain(Plain::U64(value))
+    }
+
+    /// A signed number of 8 bits.
+    final fn visit_i8<E: Refusal>(self, value: i8) -> Result<Self::Value, E>
+        ensures read { Answers E.is_memory (gives self (plain_event (byte value))) result }
+        ensures law { Returns (stands self (plain_event (byte value))) same E.is_memory result }
+    {
+        self.visit_plain(Plain::I8(value))
+    }
+
+    /// A signed number of 16 bits.
+    final fn visit_i16<E: Refusal>(self, value: i16) -> Result<Self::Value, E>
+        ensures read { Answers E.is_memory (gives self (plain_event (short value))) result }
+        ensures law { Returns (stands self (plain_event (short value))) same E.is_memory result }
+    {
+        self.visit_plain(Plain::I16(value))
+    }
+
+    /// A signed number of 32 bits.
+    final fn visit_i32<E: Refusal>(self, value: i32) -> Result<Self::Value, E>
+        ensures read { Answers E.is_memory (gives self (plain_event (int value))) result }
+        ensures law { Returns (stands self (plain_event (int value))) same E.is_memory result }
+    {
+        self.visit_plain(Plain::I32(value))
+    }
+
+    /// A signed number of 64 bits.
+    final fn visit_i64<E: Refusal>(self, value: i64) -> Result<Self::Value, E>
+        ensures read { Answers E.is_memory (gives self (plain_event (long value))) result }
+        ensures law { Returns (stands self (plain_event (long value))) same E.is_memory result }
+    {
+        self.visit_plain(Plain::I64(value))
+    }
+
+    /// The bits of a float.
+    final fn visit_f32<E: Refusal>(self, value: F32Bits) -> Result<Self::Value, E>
+        ensures read { Answers E.is_memory (gives self (plain_event (float (f32_bits value)))) result }
+        ensures law { Returns (stands self (plain_event (float (f32_bits value)))) same E.is_memory result }
+    {
+        self.visit_plain(Plain::F32(value))
+    }
+
+    /// The bits of a double.
+    final fn visit_f64<E: Refusal>(self, value: F64Bits) -> Result<Self::Value, E>
+        ensures read { Answers E.is_memory (gives self (plain_event (double (f64_bits value)))) result }
+        ensures law { Returns (stands self (plain_event (double (f64_bits value)))) same E.is_memory result }
+    {
+        self.visit_plain(Plain::F64(value))
+    }
+
+    /// A character.
+    final fn visit_char<E: Refusal>(self, value: char) -> Result<Self::Value, E>
+        ensures read { Answers E.is_memory (gives self (plain_event (char value))) result }
+        ensures law { Returns (stands self (plain_event (char value))) same E.is_memory result }
+    {
+        self.visit_plain(Plain::Char(value))
+    }
+
+    /// A text.
+    final fn visit_string<E: Refusal>(self, value: String) -> Result<Self::Value, E>
+        ensures read { Answers E.is_memory (gives self (plain_event (string (string_bytes value)))) result }
+        ensures law { Returns (stands self (plain_event (string (string_bytes value)))) same E.is_memory result }
+    {
+        self.visit_plain(Plain::String(value))
+    }
+
+    /// A binary.
+    final fn visit_byte_buf<E: Refusal>(self, value: ByteBuf) -> Result<Self::Value, E>
+        ensures read { Answers E.is_memory (gives self (plain_event (binary (byte_buf_bytes value)))) result }
+        ensures law { Returns (stands self (plain_event (binary (byte_buf_bytes value)))) same E.is_memory result }
+    {
+        self.visit_plain(Plain::ByteBuf(value))
+    }
+}
