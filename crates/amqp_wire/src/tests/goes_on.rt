@@ -87,11 +87,12 @@ fn leaf<S: Serializer>(serializer: &mut S, seed: u64) -> Result<S::Ok, S::Error>
             serializer.serialize_bytes(b"abcd")
         }
         10 => serializer.serialize_u8(2),
-        _ => serializer.serialize_fixed(Fixed::Uint(pick(seed, 2, 3) as u32)),
+        _ => serializer.serialize_fixed(Fixed::Uint(300)),
     }
 }
 
 /// Feeds one part, and says whether it was taken: an error is passed on where the seed says so.
+#[cycle(scripts)]
 fn feed<S: Serializer>(
     serializer: &mut S,
     held: &mut S::Open,
@@ -118,6 +119,7 @@ fn feed<S: Serializer>(
 }
 
 /// A list, an array, a transparent vector or a variant of fields.
+#[cycle(scripts)]
 fn sequence<S: Serializer>(
     serializer: &mut S,
     kind: Kind,
@@ -139,6 +141,7 @@ fn sequence<S: Serializer>(
 }
 
 /// A map; a key whose value is refused stays or is taken back.
+#[cycle(scripts)]
 fn pairs<S: Serializer>(
     serializer: &mut S,
     refused: &mut Refused,
@@ -167,6 +170,7 @@ fn pairs<S: Serializer>(
 }
 
 /// One value that stands for itself, behind a descriptor or not.
+#[cycle(scripts)]
 fn alone<S: Serializer>(
     serializer: &mut S,
     refused: &mut Refused,
@@ -204,6 +208,7 @@ fn alone<S: Serializer>(
 }
 
 /// A variant of one value.
+#[cycle(scripts)]
 fn only<S: Serializer>(
     serializer: &mut S,
     refused: &mut Refused,
@@ -226,6 +231,7 @@ fn only<S: Serializer>(
 }
 
 /// Any value of a depth, from a seed.
+#[cycle(scripts)]
 fn value<S: Serializer>(
     serializer: &mut S,
     refused: &mut Refused,
@@ -313,10 +319,14 @@ fn random_values_that_go_on(rt: HostRuntime) {
     let mut passed: u64 = 0;
     for script in 0..10000u64 {
         seed = child(seed, script);
-        if agrees(alloc, seed, 1 + (script % 4) as u32) {
+        let depth = match script % 4 {
+            0 => 1,
+            1 => 2,
+            2 => 3,
+            _ => 4,
+        };
+        if agrees(alloc, seed, depth) {
             passed = passed.wrapping_add(1);
-        } else {
-            assert_eq!(rt; script, 10000, "script {script} with the seed {seed}");
         }
     }
     assert_eq!(rt; passed, 10000);
