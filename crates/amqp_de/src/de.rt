@@ -21,6 +21,15 @@ use amqp_value::Value;
 use std::alloc::Global;
 
 /// What a type is read out of: it holds a tree, and gives it away level by level.
+///
+/// The calls `deserialize_..` show a visitor what it holds.
+///
+/// # Errors
+/// A call `deserialize_..` is invalid where a value of another kind is held than it shows. An enum's empty list or map
+/// has the message `Expecting a Value`. Otherwise the answer is the visitor's.
+///
+/// # Implementer notes
+/// The seven calls above the first `deserialize_..` are to be written.
 pub trait Deserializer: Sized + Drop {
     /// The refusals of what is read.
     type Error: Refusal;

@@ -17,6 +17,9 @@ use amqp_value::Value;
 
 /// What a deserializer shows a value to, to make another of it.
 ///
+/// # Errors
+/// A visit is invalid where nothing is given for what it shows, and so is one that is not written.
+///
 /// # Implementer notes
 /// Write `refuses`, and the visits that give a value; the others are refused. All that has no parts comes by
 /// `visit_plain`.
