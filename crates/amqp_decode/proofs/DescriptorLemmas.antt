@@ -1,7 +1,7 @@
 -- Which values are descriptors.
-use Rattle.std.proofs.Common.{◌≡◌, ℕ, Option, Some, None, map, refl, sym, ap, ◌∙◌, subst}
+use Rattle.std.proofs.Common.{◌≡◌, ℕ, None, refl, ap, ◌∙◌, subst}
 use Rattle.amqp_data.specs.declared.symbol.Symbol.{Symbol}
-use Rattle.amqp_ser.specs.Tree.{Tree, Descriptor}
+use Rattle.amqp_ser.specs.Tree.{Tree}
 use Rattle.amqp_value.specs.TreeOf.{tree_of, tree_step}
 use Rattle.amqp_value.specs.declared.value.Value.{Value, roll-Value, ind-Value, map-Value, fold-roll-Value}
 use Rattle.amqp_value.specs.declared.value.Value.TheVariants as kind

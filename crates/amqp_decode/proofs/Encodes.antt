@@ -1,29 +1,27 @@
 -- The bytes of a tree spell its image.
-use Rattle.std.proofs.Common.{◌≡◌, ℕ, zero, suc, ◌+◌, ◌*◌, ◌<◌, ◌≤◌, max, Bool, true, false, ◌&&◌, IsTrue, List, [], ◌∷◌, ◌++◌, length, Option, Some, None, refl, sym, ap, ◌∙◌, subst, append_assoc, arith, length-append, if◌then◌else◌, ◌==◌, nat_le, nat_lt}
+use Rattle.std.proofs.Common.{◌≡◌, ℕ, zero, suc, ◌+◌, ◌*◌, ◌<◌, ◌≤◌, Bool, true, false, ◌&&◌, IsTrue, List, [], ◌∷◌, ◌++◌, length, Option, Some, None, refl, sym, ap, ◌∙◌, subst, arith, length-append, if◌then◌else◌, nat_le}
 use Rattle.std.proofs.lemmas.List.{append-nil}
 use Rattle.std.proofs.lemmas.Bool.Decides.{nat_tests}
-use Rattle.std.specs.Int.{to_be_bytes, w8, w32}
+use Rattle.std.specs.Int.{to_be_bytes, w32}
 use Rattle.amqp_data.specs.FormatCode.{code_of}
 use Rattle.amqp_data.specs.declared.format_code.EncodingCodes.{EncodingCodes}
 use Rattle.amqp_data.specs.declared.format_code.EncodingCodes.TheVariants as code
 use Rattle.amqp_frame.specs.Code.{category}
 use Rattle.amqp_frame.specs.declared.code.Category.TheVariants.{OneByteSize, FourByteSize}
-use Rattle.amqp_ser.specs.Encoding.{con, code_list, first_con, wide, counted, list_form, map_form, array_form, descriptor_form, enc, payload, enc_each, payload_each, enc_pairs}
+use Rattle.amqp_ser.specs.Encoding.{con, code_list, first_con, wide, list_form, map_form, array_form, descriptor_form, enc, payload, enc_each, payload_each, enc_pairs}
 use Rattle.amqp_ser.specs.Limits.{is_short, fits, is_count}
-use Rattle.amqp_ser.specs.Ranged.{IsRanged, AreRanged, HasRangedPairs, IsRangedDescriptor}
-use Rattle.amqp_ser.specs.Scalars.{scalar_code, scalar_payload, scalar_form}
-use Rattle.amqp_ser.specs.Tree.{Scalar, uint, ulong, symbol, Descriptor, name, Tree, Trees, Pairs, scalar, list, array, map, described, variant, lazy, transparent, no_trees, more, no_pairs, pair, count, pair_count, trees_of}
-use Rattle.amqp_ser.specs.Tree as tree
+use Rattle.amqp_ser.specs.Ranged.{IsRanged, AreRanged, HasRangedPairs}
+use Rattle.amqp_ser.specs.Scalars.{scalar_code, scalar_form}
+use Rattle.amqp_ser.specs.Tree.{uint, Tree, Trees, Pairs, scalar, list, array, map, described, variant, lazy, transparent, no_trees, more, no_pairs, pair, count, pair_count, trees_of}
 use Rattle.amqp_ser.specs.Writable.{descriptor_fits, within, within_each, within_pairs, same_con, each_con, one_con, alike, alike_each, alike_pairs}
-use Rattle.amqp_value.specs.Image.{image, images, images_onto, insert_tree, variant_map}
-use Rattle.amqp_decode.specs.Codes.{is_primitive, shape_of_code}
+use Rattle.amqp_value.specs.Image.{image, images, images_onto, insert_tree}
+use Rattle.amqp_decode.specs.Codes.{is_primitive}
 use Rattle.amqp_decode.specs.Depth.{depth_of, depth_of_each, depth_of_pairs, IsOrdinary, AreOrdinary, HasOrdinaryPairs}
-use Rattle.amqp_decode.specs.Spells.{IsNumber, IsPayload, IsCounted, IsDescriptor, Spells, Holds, Elements, Items, Entries}
+use Rattle.amqp_decode.specs.Spells.{IsNumber, IsPayload, IsCounted, Spells, Holds, Elements, Items, Entries}
 use Rattle.amqp_decode.specs.declared.shape.Count.TheVariants.{Absent, OneByte, FourBytes}
-use Rattle.amqp_decode.specs.declared.shape.Shape.TheVariants as shape
 use Rattle.amqp_decode.proofs.CodeLemmas.{code-is, same-number}
 use Rattle.amqp_decode.proofs.Means.{pick}
-use Rattle.amqp_decode.proofs.ScalarBytes.{widest, widest-code, widest-primitive, HeldBy, scalar-held, scalar-bytes, descriptor-bytes, four-number}
+use Rattle.amqp_decode.proofs.ScalarBytes.{widest, widest-code, widest-primitive, scalar-held, scalar-bytes, descriptor-bytes, four-number}
 
 pub both : (a b : Bool) → (a && b) ≡ true → (a ≡ true) × (b ≡ true)
 both true b h = (refl, h)

@@ -1,20 +1,15 @@
 -- What the relation says, the function finds.
-use Rattle.std.proofs.Common.{◌≡◌, ℕ, zero, suc, ◌+◌, ◌*◌, ◌/◌, ◌%◌, ◌<◌, ◌≤◌, Bool, true, false, eqb, leb, IsTrue, List, [], ◌∷◌, ◌++◌, length, take, drop, Option, Some, None, refl, sym, ap, ◌∙◌, append_assoc, arith, length-append, add-one}
+use Rattle.std.proofs.Common.{◌≡◌, ℕ, zero, suc, ◌*◌, ◌/◌, ◌%◌, ◌<◌, ◌≤◌, true, eqb, leb, List, [], ◌∷◌, ◌++◌, length, Some, refl, sym, ◌∙◌, append_assoc, arith, length-append}
 use Rattle.std.proofs.Math.Seq.{take-append_seam, drop-append_seam}
 use Rattle.std.proofs.lemmas.List.{append-nil}
-use Rattle.std.proofs.lemmas.Bool.{le-leb, lt-leb, leb-true, leb-false}
+use Rattle.std.proofs.lemmas.Bool.{le-leb}
 use Rattle.std.proofs.lemmas.Bool.Decides.{nat_tests}
-use Rattle.amqp_data.specs.FormatCode.{code_of}
 use Rattle.amqp_data.specs.declared.format_code.EncodingCodes.{EncodingCodes}
-use Rattle.amqp_frame.specs.Code.{category}
 use Rattle.amqp_frame.specs.declared.code.Category.{Category}
 use Rattle.amqp_ser.specs.Tree as tree
 use Rattle.amqp_ser.specs.Tree.{Scalar, Descriptor, Tree, Pairs, trees_of, no_pairs}
-use Rattle.amqp_value.specs.Image.{insert_tree}
-use Rattle.amqp_decode.specs.Codes.{is_primitive, primitive_of, shape_of_code}
-use Rattle.amqp_decode.specs.Scalars.{next, scalar_in, scalar_tree}
 use Rattle.amqp_decode.specs.Spells.{IsNumber, IsPayload, IsCounted, IsDescriptor, descriptor_scalar, Spells, Holds, Elements, Items, Entries}
-use Rattle.amqp_decode.specs.Parsed.{FrameReader, ContentReader, cut, head, number_at, sized_at, content_at, counted_in, tree_descriptor, descriptor_of, descriptor_at, gather, insert, all, list_in, map_in, items_in, array_in, payload_in, with_rest, content_in, content_of, described_in, frame_in, parse, held}
+use Rattle.amqp_decode.specs.Parsed.{cut, number_at, sized_at, content_at, counted_in, tree_descriptor, descriptor_at, gather, insert, payload_in, content_of, parse, held}
 use Rattle.amqp_decode.specs.declared.shape.Count.{Count}
 use Rattle.amqp_decode.proofs.CodeLemmas.{primitive-found, primitive-nonzero}
 

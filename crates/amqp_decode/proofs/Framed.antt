@@ -1,10 +1,10 @@
 -- What spells a tree is a frame.
-use Rattle.std.proofs.Common.{◌≡◌, ℕ, ◌+◌, IsTrue, true, false, List, [], ◌∷◌, ◌++◌, length, refl, sym, ap, ◌∙◌, subst, arith, length-append}
+use Rattle.std.proofs.Common.{◌≡◌, ℕ, IsTrue, List, ◌++◌, length, refl, arith, length-append}
 use Rattle.std.specs.Int.{from_be_bytes, w32}
 use Rattle.amqp_data.specs.FormatCode.{code_of}
 use Rattle.amqp_data.specs.declared.format_code.EncodingCodes.{EncodingCodes}
 use Rattle.amqp_data.specs.declared.format_code.EncodingCodes.TheVariants as code
-use Rattle.amqp_frame.specs.Code.{is_primitive_code, category, size_width, body_len, payload_len}
+use Rattle.amqp_frame.specs.Code.{is_primitive_code, size_width, body_len, payload_len}
 use Rattle.amqp_frame.specs.Frame.{IsFrame}
 use Rattle.amqp_frame.specs.declared.code.Category.{Category}
 use Rattle.amqp_ser.specs.Tree.{Tree, Descriptor}

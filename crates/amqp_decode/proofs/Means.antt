@@ -1,7 +1,7 @@
 -- What the function finds, the relation says.
-use Rattle.std.proofs.Common.{◌≡◌, ℕ, zero, suc, ◌+◌, ◌*◌, ◌/◌, ◌%◌, ◌<◌, ◌≤◌, Bool, true, false, eqb, leb, IsTrue, List, [], ◌∷◌, ◌++◌, length, take, drop, Option, Some, None, refl, sym, ap, ◌∙◌, subst, append_assoc, arith, length-append, length-take, if◌then◌else◌, ◌==◌, nat_le}
+use Rattle.std.proofs.Common.{◌≡◌, ℕ, zero, suc, ◌*◌, ◌/◌, ◌%◌, ◌≤◌, Bool, true, false, IsTrue, List, [], ◌∷◌, ◌++◌, length, take, drop, Option, Some, None, refl, sym, ap, ◌∙◌, subst, append_assoc, arith, length-take, if◌then◌else◌, ◌==◌, nat_le}
 use Rattle.std.proofs.lemmas.List.{append-nil, take-append-drop}
-use Rattle.std.proofs.lemmas.Bool.{le-leb, lt-leb, leb-true, leb-false}
+use Rattle.std.proofs.lemmas.Bool.{leb-true}
 use Rattle.std.specs.Int.{from_be_bytes, w32}
 use Rattle.amqp_data.specs.FormatCode.{code_of}
 use Rattle.amqp_data.specs.declared.format_code.EncodingCodes.{EncodingCodes}
@@ -14,7 +14,7 @@ use Rattle.amqp_value.specs.Image.{insert_tree}
 use Rattle.amqp_decode.specs.Codes.{is_primitive, primitive_of, shape_of_code}
 use Rattle.amqp_decode.specs.Scalars.{next, scalar_in, scalar_tree}
 use Rattle.amqp_decode.specs.Spells.{IsNumber, IsPayload, IsCounted, IsDescriptor, descriptor_scalar, Spells, Holds, Elements, Items, Entries}
-use Rattle.amqp_decode.specs.Parsed.{FrameReader, ContentReader, cut, head, number_at, sized_at, content_at, counted_in, tree_descriptor, descriptor_of, descriptor_at, gather, insert, all, list_in, map_in, items_in, array_in, payload_in, with_rest, content_in, content_of, described_in, frame_in, parse, held}
+use Rattle.amqp_decode.specs.Parsed.{FrameReader, ContentReader, cut, number_at, sized_at, content_at, counted_in, tree_descriptor, descriptor_of, descriptor_at, gather, insert, all, list_in, map_in, items_in, array_in, payload_in, with_rest, content_in, content_of, described_in, frame_in, parse, held}
 use Rattle.amqp_decode.specs.declared.shape.Count.{Count}
 use Rattle.amqp_decode.specs.declared.shape.Count.TheVariants.{Absent, OneByte, FourBytes}
 use Rattle.amqp_decode.specs.declared.shape.Shape.{Shape}

@@ -1,5 +1,5 @@
 -- The bytes of a scalar spell it.
-use Rattle.std.proofs.Common.{◌≡◌, ℕ, zero, suc, ℤ, ◌+◌, ◌*◌, ◌<◌, ◌≤◌, ◌^◌, Bool, true, false, ◌&&◌, ◌||◌, IsTrue, List, [], ◌∷◌, ◌++◌, length, slice_index, Option, Some, None, refl, sym, ap, ◌∙◌, subst, arith, if◌then◌else◌, ◌==◌, nat_le, nat_lt}
+use Rattle.std.proofs.Common.{◌≡◌, ℕ, suc, ℤ, ◌<◌, ◌≤◌, ◌^◌, true, false, IsTrue, List, [], ◌∷◌, ◌++◌, length, slice_index, Some, refl, sym, ap, ◌∙◌, subst, arith, ◌==◌, nat_le, nat_lt}
 use Rattle.std.proofs.lemmas.Bool.Decides.{nat_tests}
 use Rattle.std.proofs.lemmas.Nat.{from_be_bytes-to_be_bytes_2, from_be_bytes-to_be_bytes_4, from_be_bytes-to_be_bytes_8}
 use Rattle.std.proofs.lemmas.Str.{is_utf8-from_IsUtf8}
@@ -9,24 +9,22 @@ use Rattle.std.proofs.Math.Facts.{Fits-of_z, Fits-lt-pow, to_z-of_z}
 use Rattle.std.specs.Int.{Width, w8, w16, w32, w64, to_be_bytes, from_be_bytes, cast_signed, cast_unsigned}
 use Rattle.std.specs.Prelude.{FitsSigned}
 use Rattle.std.specs.Char.{IsScalar}
-use Rattle.std.specs.Str.{is_utf8}
 use Rattle.amqp_data.specs.FormatCode.{code_of}
 use Rattle.amqp_data.specs.declared.format_code.EncodingCodes.{EncodingCodes}
 use Rattle.amqp_data.specs.declared.format_code.EncodingCodes.TheVariants as code
 use Rattle.amqp_frame.specs.Code.{category}
-use Rattle.amqp_frame.specs.declared.code.Category.TheVariants.{Fixed, OneByteSize, FourByteSize}
+use Rattle.amqp_frame.specs.declared.code.Category.TheVariants.{Fixed, OneByteSize}
 use Rattle.amqp_ser.specs.Limits.{is_short, fits}
-use Rattle.amqp_ser.specs.Ranged.{AreExactly, IsRangedScalar, IsRangedDescriptor}
-use Rattle.amqp_ser.specs.Scalars.{signed_bytes, is_small, scalar_code, scalar_payload, scalar_form, sized}
+use Rattle.amqp_ser.specs.Ranged.{IsRangedScalar, IsRangedDescriptor}
+use Rattle.amqp_ser.specs.Scalars.{signed_bytes, is_small, scalar_code, scalar_payload, scalar_form}
 use Rattle.amqp_ser.specs.Tree as tree
 use Rattle.amqp_ser.specs.Tree.{Descriptor, Scalar, null, bool, ubyte, ushort, uint, ulong, byte, short, int, long, float, double, decimal32, decimal64, decimal128, char, timestamp, uuid, binary, string, symbol}
 use Rattle.amqp_ser.specs.Writable.{scalar_fits, descriptor_fits}
 use Rattle.amqp_ser.specs.Encoding.{descriptor_form}
 use Rattle.amqp_decode.specs.Codes.{is_primitive, shape_of_code}
-use Rattle.amqp_decode.specs.Scalars.{next, made, single, exact, character, is_scalar_value, text, scalar_in}
+use Rattle.amqp_decode.specs.Scalars.{made, single, exact, character, is_scalar_value, scalar_in}
 use Rattle.amqp_decode.specs.Spells.{IsNumber, IsPayload, IsDescriptor, Spells, Holds}
 use Rattle.amqp_decode.specs.declared.shape.Shape.TheVariants as shape
-use Rattle.amqp_decode.proofs.CodeLemmas.{same-number}
 use Rattle.amqp_decode.proofs.Means.{pick, is_number}
 
 -- the code that a scalar has in an array

@@ -1,5 +1,5 @@
 -- What the functions are at each step of the reader.
-use Rattle.std.proofs.Common.{◌≡◌, ℕ, zero, suc, ◌+◌, ◌-◌, ◌/◌, ◌%◌, ◌<◌, ◌≤◌, Bool, true, false, List, [], ◌∷◌, ◌++◌, map, Option, Some, None, if◌then◌else◌, ◌==◌, refl, sym, ap, ◌∙◌, arith, subst}
+use Rattle.std.proofs.Common.{◌≡◌, ℕ, zero, suc, ◌+◌, ◌-◌, ◌/◌, ◌%◌, ◌<◌, Bool, true, false, List, [], ◌∷◌, ◌++◌, map, Some, None, if◌then◌else◌, ◌==◌, refl, sym, ap, ◌∙◌, arith}
 use Rattle.amqp_data.specs.declared.format_code.EncodingCodes.{EncodingCodes}
 use Rattle.amqp_ser.specs.Tree as tree
 use Rattle.amqp_ser.specs.Tree.{Tree, Pairs, trees_of, no_pairs}
@@ -8,7 +8,7 @@ use Rattle.amqp_value.specs.TreeOf.{tree_of}
 use Rattle.amqp_value.specs.declared.value.Value.{Value}
 use Rattle.amqp_decode.specs.Codes.{primitive_of}
 use Rattle.amqp_decode.specs.Scalars.{next}
-use Rattle.amqp_decode.specs.Parsed.{FrameReader, ContentReader, gather, insert, all, list_in, map_in, items_in, array_in, payload_in, content_of, frame_in, parse, held}
+use Rattle.amqp_decode.specs.Parsed.{FrameReader, ContentReader, gather, insert, all, list_in, map_in, array_in, payload_in, content_of, frame_in, parse, held}
 
 pub held-zero : (d : ℕ) (c : EncodingCodes) (s : List ℕ) → d ≡ 0 → held d c s ≡ None
 unfolding held

@@ -1,7 +1,7 @@
 -- The test for UTF-8.
-use Rattle.std.proofs.Common.{◌≡◌, ℕ, Bool, true, false, List, refl, sym, ap, ◌∙◌}
+use Rattle.std.proofs.Common.{◌≡◌, ℕ, Bool, true, false, List, refl}
 use Rattle.std.specs.Str.{is_utf8, IsUtf8}
-use Rattle.std.proofs.lemmas.Str.{IsUtf8-from_is_utf8, is_utf8-from_IsUtf8}
+use Rattle.std.proofs.lemmas.Str.{IsUtf8-from_is_utf8}
 
 pub is_utf8-refuted : (b : List ℕ) → (IsUtf8 b → ⊥) → is_utf8 b ≡ false
 is_utf8-refuted b fails = by_test (is_utf8 b) refl

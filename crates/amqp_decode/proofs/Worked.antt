@@ -1,6 +1,6 @@
 -- Worked rows: bytes and the trees that they spell, computed.
-use Rattle.std.proofs.Common.{◌≡◌, ℕ, pos, negsuc, ◌+◌, ◌*◌, ◌-◌, List, [], ◌∷◌, true, false, nat_le, if◌then◌else◌, codes, refl}
-use Rattle.amqp_ser.specs.Tree.{null, bool, uint, ulong, ubyte, int, binary, code, Tree, scalar, list, array, map, described, no_pairs, pair, trees_of}
+use Rattle.std.proofs.Common.{ℕ, pos, negsuc, ◌+◌, ◌*◌, ◌-◌, List, [], ◌∷◌, true, nat_le, if◌then◌else◌, codes, refl}
+use Rattle.amqp_ser.specs.Tree.{null, bool, uint, ubyte, int, binary, code, Tree, scalar, list, array, map, described, no_pairs, pair, trees_of}
 use Rattle.amqp_frame.specs.Code.{category}
 use Rattle.amqp_decode.specs.Codes.{primitive_of}
 use Rattle.amqp_decode.specs.Parsed.{parse, held, sized_at, counted_in, descriptor_at}

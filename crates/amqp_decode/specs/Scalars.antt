@@ -1,6 +1,6 @@
 -- The scalar that the content of a code's payload stands for (AMQP 1.0 part 1, sections 1.6.1 to 1.6.21).
 use Rattle.std.specs.Prelude.{ℕ, Bool, true, false, ◌==◌, ◌&&◌, ◌||◌, nat_lt, nat_le, if◌then◌else◌, List, [], ◌∷◌, length, Option, Some, None}
-use Rattle.std.specs.Int.{Width, w8, w16, w32, w64, from_be_bytes, cast_signed}
+use Rattle.std.specs.Int.{w8, w16, w32, w64, from_be_bytes, cast_signed}
 use Rattle.std.specs.Str.{is_utf8}
 use Rattle.amqp_data.specs.declared.format_code.EncodingCodes.{EncodingCodes}
 use Rattle.amqp_data.specs.declared.format_code.EncodingCodes.TheVariants as code

@@ -1,4 +1,4 @@
-use Rattle.std.proofs.Common.{◌≡◌, true, ◌&&◌}
+use Rattle.std.proofs.Common.{◌&&◌}
 use Rattle.amqp_ser.specs.Writable.{within, alike, placed}
 use Rattle.amqp_decode.proofs.Encodes.{both, enc-spells}
 use Rattle.amqp_decode.proofs.laws.own_bytes.Goals as goal

@@ -1,4 +1,4 @@
-use Rattle.std.proofs.Common.{◌≡◌, ◌+◌, ℕ, true, ◌&&◌, sym, subst, arith}
+use Rattle.std.proofs.Common.{◌&&◌, sym, subst, arith}
 use Rattle.amqp_ser.specs.Encoding.{enc}
 use Rattle.amqp_ser.specs.Writable.{within, alike, placed}
 use Rattle.amqp_value.specs.Image.{image}

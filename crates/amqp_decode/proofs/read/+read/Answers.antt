@@ -1,7 +1,7 @@
-use Rattle.std.proofs.Common.{rules, ◌≡◌, ℕ, List, [], ◌∷◌, ◌++◌, Some, None, sym, ap, ◌∙◌, map, ◌+◌, ◌-◌, ◌/◌, arith}
+use Rattle.std.proofs.Common.{rules, ◌≡◌, [], ◌∷◌, ◌++◌, Some, None, sym, ap, ◌∙◌, map, ◌+◌, ◌-◌, ◌/◌, arith}
 use Rattle.amqp_value.specs.TreeOf.{tree_of, pairs_trees}
 use Rattle.amqp_decode.specs.Codes.{primitive_of}
-use Rattle.amqp_decode.specs.Parsed.{parse, held, payload_in, list_in, map_in, array_in, gather, insert}
+use Rattle.amqp_decode.specs.Parsed.{parse, held, payload_in, list_in, map_in, array_in, insert}
 use Rattle.amqp_decode.proofs.MapLemmas.{pairs_trees-insert_entry}
 use Rattle.amqp_decode.proofs.Steps.{held-zero, held-at, parse-zero, parse-at, values-next, insert-next, insert-no_key, insert-no_value, list-none, map-none, array-none}
 use Rattle.amqp_decode.proofs.read.+read.Goals as goal

@@ -1,4 +1,4 @@
-use Rattle.std.proofs.Common.{◌≡◌, ℕ, List, [], map, ◌+◌, ◌-◌, ◌*◌, ◌/◌}
+use Rattle.std.proofs.Common.{◌≡◌, [], map, ◌+◌, ◌-◌, ◌*◌, ◌/◌}
 use Rattle.amqp_ser.specs.Tree.{no_pairs}
 use Rattle.amqp_value.specs.TreeOf.{tree_of, pairs_trees}
 use Rattle.amqp_decode.specs.Parsed.{parse, held, payload_in, gather, insert}

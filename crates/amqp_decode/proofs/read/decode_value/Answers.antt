@@ -1,4 +1,4 @@
-use Rattle.std.proofs.Common.{rules, ◌≡◌, List, [], Some, None, ap, ◌∙◌, arith, length}
+use Rattle.std.proofs.Common.{rules, ◌≡◌, [], Some, None, ap, ◌∙◌, arith, length}
 use Rattle.std.proofs.lemmas.Grind.{common_steps}
 use Rattle.amqp_ser.specs.Tree.{Tree}
 use Rattle.amqp_value.specs.TreeOf.{tree_of}
