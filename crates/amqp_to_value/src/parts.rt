@@ -123,7 +123,7 @@ fn gather(items: &mut Vec<Value>, value: Value) -> Result<(), AllocError>
     Ok(())
 }
 
-// Lets a value go, in a call of its own: what that takes is not in the way of values that stay.
+/// Lets a value go, in a call of its own: what that takes is not in the way of values that stay.
 #[inline(never)]
 pub fn let_go(value: Value) {
     drop(value);
