@@ -1,6 +1,6 @@
 //! Errors that a reader may answer.
 
-ghost use Rattle.std.specs.Prelude.{◌≡◌, ¬};
+ghost use Rattle.std.specs.Prelude.{◌≡◌};
 ghost use Rattle.amqp_data.specs.declared.error.Error.TheVariants as error;
 
 use amqp_data::Error;
