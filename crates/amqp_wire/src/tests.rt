@@ -2,9 +2,7 @@
 
 mod described;
 mod feeding;
-mod goes_on;
 mod memory;
-mod passed_over;
 mod refused;
 mod rows;
 
