@@ -29,7 +29,8 @@ pub fn civil_from_days(days: i64) -> (i64, u32, u32)
     requires high { days ≤ℤ pos 106_751_991_167 }
     ensures valid { IsDate result.0 result.1 result.2 }
     ensures value { day_number result.0 result.1 result.2 ≡ days }
-    ensures only { (y : ℤ) (m d : ℕ) → IsDate y m d → day_number y m d ≡ days → (y ≡ result.0) × (m ≡ result.1) × (d ≡ result.2) }
+    ensures only { (y : ℤ) (m d : ℕ) → IsDate y m d → day_number y m d ≡ days →
+        (y ≡ result.0) × (m ≡ result.1) × (d ≡ result.2) }
 {
     let (years, day) = year_of(day_count(days));
     let year = year_number(years);

@@ -18,6 +18,7 @@ pub fn each_day_has_a_date()
 /// # Memory
 /// Takes none.
 pub fn a_day_has_one_date()
-    ensures { (y : ℤ) (m d : ℕ) (z : ℤ) (n e : ℕ) → IsDate y m d → IsDate z n e → day_number y m d ≡ day_number z n e
-        → (y ≡ z) × (m ≡ n) × (d ≡ e) }
+    ensures { (y : ℤ) (m d : ℕ) (z : ℤ) (n e : ℕ) → IsDate y m d → IsDate z n e →
+        day_number y m d ≡ day_number z n e →
+        (y ≡ z) × (m ≡ n) × (d ≡ e) }
 {}

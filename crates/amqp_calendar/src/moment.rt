@@ -51,7 +51,8 @@ fn write_parts<W: Write>(
     time: u32,
     f: &mut Formatter<W>,
 ) -> fmt::Result
-    ensures { WritesOnOk W.write_str_gives f.old result (date_and_time_text year month day time) f.new }
+    ensures { WritesOnOk W.write_str_gives f.old result
+        (date_and_time_text year month day time) f.new }
 {
     write_year(year, f)?;
     f.write_str("-")?;

@@ -29,14 +29,16 @@ pub fn symbols_go_by_text(a: &Symbol, b: &Symbol)
 /// Borrowed symbols go by the texts that they point to.
 pub fn symbol_refs_go_by_text(a: &SymbolRef<'_>, b: &SymbolRef<'_>)
     ensures equality { EqualBy symbol_ref_text ⟦<SymbolRef<'static> as PartialEq>⟧.eq a.now b.now }
-    ensures order { ComparesBy symbol_ref_text (slice_cmp nat_cmp) ⟦<SymbolRef<'static> as Ord>⟧.cmp a.now b.now }
+    ensures order { ComparesBy symbol_ref_text (slice_cmp nat_cmp)
+        ⟦<SymbolRef<'static> as Ord>⟧.cmp a.now b.now }
     ensures hash { HashesBy symbol_ref_text ⟦<SymbolRef<'static> as Hash>⟧.hash_input a.now b.now }
 {}
 
 /// Binaries go by their bytes.
 pub fn binaries_go_by_bytes(a: &ByteBuf, b: &ByteBuf)
     ensures equality { EqualBy byte_buf_bytes ⟦<ByteBuf as PartialEq>⟧.eq a.now b.now }
-    ensures order { ComparesBy byte_buf_bytes (slice_cmp nat_cmp) ⟦<ByteBuf as Ord>⟧.cmp a.now b.now }
+    ensures order { ComparesBy byte_buf_bytes (slice_cmp nat_cmp)
+        ⟦<ByteBuf as Ord>⟧.cmp a.now b.now }
     ensures hash { HashesBy byte_buf_bytes ⟦<ByteBuf as Hash>⟧.hash_input a.now b.now }
 {}
 
@@ -91,7 +93,8 @@ pub fn uuids_go_by_bytes(a: &Uuid, b: &Uuid)
 
 /// Descriptors of one kind go by their name or code.
 pub fn descriptors_go_by_content(a: &Symbol, b: &Symbol, m: u64, n: u64)
-    ensures names { ComparesBy Descriptor.Name ⟦<Descriptor as Ord>⟧.cmp ⟦<Symbol as Ord>⟧.cmp a.now b.now }
+    ensures names { ComparesBy Descriptor.Name
+        ⟦<Descriptor as Ord>⟧.cmp ⟦<Symbol as Ord>⟧.cmp a.now b.now }
     ensures codes { ComparesBy Descriptor.Code ⟦<Descriptor as Ord>⟧.cmp nat_cmp m n }
 {}
 
@@ -103,22 +106,27 @@ pub fn names_come_before_codes(name: &Symbol, code: u64)
 /// Described values go by the descriptor, and then by the value.
 pub fn described_values_go_by_content<T: Ord + Hash>(a: &Described<T>, b: &Described<T>)
     ensures equality { ⟦<Described<T> as PartialEq>⟧.eq a.now b.now
-        ≡ (⟦<Descriptor as PartialEq>⟧.eq a.now.descriptor b.now.descriptor && T.eq a.now.value b.now.value) }
+        ≡ (⟦<Descriptor as PartialEq>⟧.eq a.now.descriptor b.now.descriptor
+        && T.eq a.now.value b.now.value) }
     ensures order { ⟦<Described<T> as Ord>⟧.cmp a.now b.now
-        ≡ ordering_then (⟦<Descriptor as Ord>⟧.cmp a.now.descriptor b.now.descriptor) (T.cmp a.now.value b.now.value) }
+        ≡ ordering_then (⟦<Descriptor as Ord>⟧.cmp a.now.descriptor b.now.descriptor)
+        (T.cmp a.now.value b.now.value) }
 {}
 
 /// Arrays go by their elements, in order.
 pub fn arrays_go_by_elements<T: Ord + Hash>(a: &Array<T>, b: &Array<T>)
-    ensures equality { ComparesBy array_items (pointwise T.eq) ⟦<Array<T> as PartialEq>⟧.eq a.now b.now }
+    ensures equality { ComparesBy array_items (pointwise T.eq)
+        ⟦<Array<T> as PartialEq>⟧.eq a.now b.now }
     ensures order { ComparesBy array_items (slice_cmp T.cmp) ⟦<Array<T> as Ord>⟧.cmp a.now b.now }
     ensures hash { HashesBy array_items ⟦<Array<T> as Hash>⟧.hash_input a.now b.now }
 {}
 
 /// Transparent vectors go by their elements, in order.
 pub fn transparent_vecs_go_by_elements<T: Ord + Hash>(a: &TransparentVec<T>, b: &TransparentVec<T>)
-    ensures equality { ComparesBy transparent_items (pointwise T.eq) ⟦<TransparentVec<T> as PartialEq>⟧.eq a.now b.now }
-    ensures order { ComparesBy transparent_items (slice_cmp T.cmp) ⟦<TransparentVec<T> as Ord>⟧.cmp a.now b.now }
+    ensures equality { ComparesBy transparent_items (pointwise T.eq)
+        ⟦<TransparentVec<T> as PartialEq>⟧.eq a.now b.now }
+    ensures order { ComparesBy transparent_items (slice_cmp T.cmp)
+        ⟦<TransparentVec<T> as Ord>⟧.cmp a.now b.now }
     ensures hash { HashesBy transparent_items ⟦<TransparentVec<T> as Hash>⟧.hash_input a.now b.now }
 {}
 
@@ -126,7 +134,8 @@ pub fn transparent_vecs_go_by_elements<T: Ord + Hash>(a: &TransparentVec<T>, b: 
 pub fn maps_go_by_pairs<K: Ord + Hash, V: Ord + Hash>(a: &OrderedMap<K, V>, b: &OrderedMap<K, V>)
     ensures equality { ComparesBy entries_of (pointwise (λ p q. K.eq p.0 q.0 && V.eq p.1 q.1))
         ⟦<OrderedMap<K, V> as PartialEq>⟧.eq a.now b.now }
-    ensures order { ComparesBy entries_of (slice_cmp (λ p q. ordering_then (K.cmp p.0 q.0) (V.cmp p.1 q.1)))
+    ensures order { ComparesBy entries_of
+        (slice_cmp (λ p q. ordering_then (K.cmp p.0 q.0) (V.cmp p.1 q.1)))
         ⟦<OrderedMap<K, V> as Ord>⟧.cmp a.now b.now }
     ensures hash { HashesBy entries_of ⟦<OrderedMap<K, V> as Hash>⟧.hash_input a.now b.now }
 {}

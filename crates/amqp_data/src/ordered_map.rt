@@ -119,7 +119,8 @@ impl<K: Hash + Eq, V> OrderedMap<K, V> {
         V: Drop,
         // What `Ok` holds, and what it leaves.
         ensures replaced { IfOk result (λ old. old ≡ lookup (K.eq key) (entries_of self.old)) }
-        ensures entries { OnOk result (entries_of self.new ≡ insert_pair K.eq (entries_of self.old) key value) }
+        ensures entries { OnOk result
+            (entries_of self.new ≡ insert_pair K.eq (entries_of self.old) key value) }
 
         // When it comes, and what a refusal leaves.
         ensures present_succeeds { IsSome (lookup (K.eq key) (entries_of self.old)) → IsOk result }
@@ -127,8 +128,8 @@ impl<K: Hash + Eq, V> OrderedMap<K, V> {
         ensures unchanged { OnErr result (entries_of self.new ≡ entries_of self.old) }
 
         // What holds either way.
-        ensures distinct { AreDistinct K.eq (keys_of (entries_of self.old))
-            → AreDistinct K.eq (keys_of (entries_of self.new)) }
+        ensures distinct { AreDistinct K.eq (keys_of (entries_of self.old)) →
+            AreDistinct K.eq (keys_of (entries_of self.new)) }
     {
         match self.find(&key) {
             Some(at) => Ok(Some(mem::replace(&mut self.entries[at].1, value))),
@@ -169,7 +170,8 @@ impl<'a, K, V> Iterator for Iter<'a, K, V> {
     fn size_hint(&self) -> (usize, Option<usize>)
         ensures lower { IsWithinCount result.0 (item_count entries_left self.now) }
         ensures upper { IfSome result.1 (UpTo (item_count entries_left self.now)) }
-        ensures exact { result ≡ (length (entries_left self.now), Some (length (entries_left self.now))) }
+        ensures exact { result
+            ≡ (length (entries_left self.now), Some (length (entries_left self.now))) }
     {
         let len = self.rest.len();
         (len, Some(len))

@@ -88,7 +88,8 @@ impl<T> TransparentVec<T> {
         T: Drop,
         requires can { I.can_next iter }
         requires ends { IsFinite (I.remaining iter) }
-        ensures items { IfOk result (λ vector. WholeRun I.next_gives iter (λ run. transparent_items vector ≡ run.items)) }
+        ensures items { IfOk result (λ vector. WholeRun I.next_gives iter (λ run.
+            transparent_items vector ≡ run.items)) }
         ensures memory { IfErr result (λ e. e ≡ Error.OutOfMemory) }
     {
         let items: Vec<T> = iter.collect(alloc)?;

@@ -79,8 +79,10 @@ pub trait Deserializer: Sized + Drop {
 
     /// Shows a truth value.
     final fn deserialize_bool<V: Visitor>(self, visitor: V) -> Result<V::Value, Self::Error>
-        ensures read { Answers Self.Error.is_memory (ByPlain (V.gives visitor) bool (value self)) result }
-        ensures law { Returns (ByPlain (V.stands visitor) bool (value self)) V.same Self.Error.is_memory result }
+        ensures read { Answers Self.Error.is_memory
+            (ByPlain (V.gives visitor) bool (value self)) result }
+        ensures law { Returns (ByPlain (V.stands visitor) bool (value self))
+            V.same Self.Error.is_memory result }
     {
         match self.open() {
             Content::Bool(value) => visitor.visit_bool(value),
@@ -90,8 +92,10 @@ pub trait Deserializer: Sized + Drop {
 
     /// Shows an unsigned number of 8 bits.
     final fn deserialize_u8<V: Visitor>(self, visitor: V) -> Result<V::Value, Self::Error>
-        ensures read { Answers Self.Error.is_memory (ByPlain (V.gives visitor) ubyte (value self)) result }
-        ensures law { Returns (ByPlain (V.stands visitor) ubyte (value self)) V.same Self.Error.is_memory result }
+        ensures read { Answers Self.Error.is_memory
+            (ByPlain (V.gives visitor) ubyte (value self)) result }
+        ensures law { Returns (ByPlain (V.stands visitor) ubyte (value self))
+            V.same Self.Error.is_memory result }
     {
         match self.open() {
             Content::Ubyte(value) => visitor.visit_u8(value),
@@ -101,8 +105,10 @@ pub trait Deserializer: Sized + Drop {
 
     /// Shows an unsigned number of 16 bits.
     final fn deserialize_u16<V: Visitor>(self, visitor: V) -> Result<V::Value, Self::Error>
-        ensures read { Answers Self.Error.is_memory (ByPlain (V.gives visitor) ushort (value self)) result }
-        ensures law { Returns (ByPlain (V.stands visitor) ushort (value self)) V.same Self.Error.is_memory result }
+        ensures read { Answers Self.Error.is_memory
+            (ByPlain (V.gives visitor) ushort (value self)) result }
+        ensures law { Returns (ByPlain (V.stands visitor) ushort (value self))
+            V.same Self.Error.is_memory result }
     {
         match self.open() {
             Content::Ushort(value) => visitor.visit_u16(value),
@@ -112,8 +118,10 @@ pub trait Deserializer: Sized + Drop {
 
     /// Shows an unsigned number of 32 bits.
     final fn deserialize_u32<V: Visitor>(self, visitor: V) -> Result<V::Value, Self::Error>
-        ensures read { Answers Self.Error.is_memory (ByPlain (V.gives visitor) uint (value self)) result }
-        ensures law { Returns (ByPlain (V.stands visitor) uint (value self)) V.same Self.Error.is_memory result }
+        ensures read { Answers Self.Error.is_memory
+            (ByPlain (V.gives visitor) uint (value self)) result }
+        ensures law { Returns (ByPlain (V.stands visitor) uint (value self))
+            V.same Self.Error.is_memory result }
     {
         match self.open() {
             Content::Uint(value) => visitor.visit_u32(value),
@@ -123,8 +131,10 @@ pub trait Deserializer: Sized + Drop {
 
     /// Shows an unsigned number of 64 bits.
     final fn deserialize_u64<V: Visitor>(self, visitor: V) -> Result<V::Value, Self::Error>
-        ensures read { Answers Self.Error.is_memory (ByPlain (V.gives visitor) ulong (value self)) result }
-        ensures law { Returns (ByPlain (V.stands visitor) ulong (value self)) V.same Self.Error.is_memory result }
+        ensures read { Answers Self.Error.is_memory
+            (ByPlain (V.gives visitor) ulong (value self)) result }
+        ensures law { Returns (ByPlain (V.stands visitor) ulong (value self))
+            V.same Self.Error.is_memory result }
     {
         match self.open() {
             Content::Ulong(value) => visitor.visit_u64(value),
@@ -134,8 +144,10 @@ pub trait Deserializer: Sized + Drop {
 
     /// Shows a signed number of 8 bits.
     final fn deserialize_i8<V: Visitor>(self, visitor: V) -> Result<V::Value, Self::Error>
-        ensures read { Answers Self.Error.is_memory (ByPlain (V.gives visitor) byte (value self)) result }
-        ensures law { Returns (ByPlain (V.stands visitor) byte (value self)) V.same Self.Error.is_memory result }
+        ensures read { Answers Self.Error.is_memory
+            (ByPlain (V.gives visitor) byte (value self)) result }
+        ensures law { Returns (ByPlain (V.stands visitor) byte (value self))
+            V.same Self.Error.is_memory result }
     {
         match self.open() {
             Content::Byte(value) => visitor.visit_i8(value),
@@ -145,8 +157,10 @@ pub trait Deserializer: Sized + Drop {
 
     /// Shows a signed number of 16 bits.
     final fn deserialize_i16<V: Visitor>(self, visitor: V) -> Result<V::Value, Self::Error>
-        ensures read { Answers Self.Error.is_memory (ByPlain (V.gives visitor) short (value self)) result }
-        ensures law { Returns (ByPlain (V.stands visitor) short (value self)) V.same Self.Error.is_memory result }
+        ensures read { Answers Self.Error.is_memory
+            (ByPlain (V.gives visitor) short (value self)) result }
+        ensures law { Returns (ByPlain (V.stands visitor) short (value self))
+            V.same Self.Error.is_memory result }
     {
         match self.open() {
             Content::Short(value) => visitor.visit_i16(value),
@@ -156,8 +170,10 @@ pub trait Deserializer: Sized + Drop {
 
     /// Shows a signed number of 32 bits.
     final fn deserialize_i32<V: Visitor>(self, visitor: V) -> Result<V::Value, Self::Error>
-        ensures read { Answers Self.Error.is_memory (ByPlain (V.gives visitor) int (value self)) result }
-        ensures law { Returns (ByPlain (V.stands visitor) int (value self)) V.same Self.Error.is_memory result }
+        ensures read { Answers Self.Error.is_memory
+            (ByPlain (V.gives visitor) int (value self)) result }
+        ensures law { Returns (ByPlain (V.stands visitor) int (value self))
+            V.same Self.Error.is_memory result }
     {
         match self.open() {
             Content::Int(value) => visitor.visit_i32(value),
@@ -167,8 +183,10 @@ pub trait Deserializer: Sized + Drop {
 
     /// Shows a signed number of 64 bits.
     final fn deserialize_i64<V: Visitor>(self, visitor: V) -> Result<V::Value, Self::Error>
-        ensures read { Answers Self.Error.is_memory (ByPlain (V.gives visitor) long (value self)) result }
-        ensures law { Returns (ByPlain (V.stands visitor) long (value self)) V.same Self.Error.is_memory result }
+        ensures read { Answers Self.Error.is_memory
+            (ByPlain (V.gives visitor) long (value self)) result }
+        ensures law { Returns (ByPlain (V.stands visitor) long (value self))
+            V.same Self.Error.is_memory result }
     {
         match self.open() {
             Content::Long(value) => visitor.visit_i64(value),
@@ -178,8 +196,10 @@ pub trait Deserializer: Sized + Drop {
 
     /// Shows the bits of a float.
     final fn deserialize_f32<V: Visitor>(self, visitor: V) -> Result<V::Value, Self::Error>
-        ensures read { Answers Self.Error.is_memory (ByPlain (V.gives visitor) float (value self)) result }
-        ensures law { Returns (ByPlain (V.stands visitor) float (value self)) V.same Self.Error.is_memory result }
+        ensures read { Answers Self.Error.is_memory
+            (ByPlain (V.gives visitor) float (value self)) result }
+        ensures law { Returns (ByPlain (V.stands visitor) float (value self))
+            V.same Self.Error.is_memory result }
     {
         match self.open() {
             Content::Float(value) => visitor.visit_f32(value),
@@ -189,8 +209,10 @@ pub trait Deserializer: Sized + Drop {
 
     /// Shows the bits of a double.
     final fn deserialize_f64<V: Visitor>(self, visitor: V) -> Result<V::Value, Self::Error>
-        ensures read { Answers Self.Error.is_memory (ByPlain (V.gives visitor) double (value self)) result }
-        ensures law { Returns (ByPlain (V.stands visitor) double (value self)) V.same Self.Error.is_memory result }
+        ensures read { Answers Self.Error.is_memory
+            (ByPlain (V.gives visitor) double (value self)) result }
+        ensures law { Returns (ByPlain (V.stands visitor) double (value self))
+            V.same Self.Error.is_memory result }
     {
         match self.open() {
             Content::Double(value) => visitor.visit_f64(value),
@@ -200,8 +222,10 @@ pub trait Deserializer: Sized + Drop {
 
     /// Shows a character.
     final fn deserialize_char<V: Visitor>(self, visitor: V) -> Result<V::Value, Self::Error>
-        ensures read { Answers Self.Error.is_memory (ByPlain (V.gives visitor) char (value self)) result }
-        ensures law { Returns (ByPlain (V.stands visitor) char (value self)) V.same Self.Error.is_memory result }
+        ensures read { Answers Self.Error.is_memory
+            (ByPlain (V.gives visitor) char (value self)) result }
+        ensures law { Returns (ByPlain (V.stands visitor) char (value self))
+            V.same Self.Error.is_memory result }
     {
         match self.open() {
             Content::Char(value) => visitor.visit_char(value),
@@ -211,8 +235,10 @@ pub trait Deserializer: Sized + Drop {
 
     /// Shows a text.
     final fn deserialize_string<V: Visitor>(self, visitor: V) -> Result<V::Value, Self::Error>
-        ensures read { Answers Self.Error.is_memory (ByPlain (V.gives visitor) string (value self)) result }
-        ensures law { Returns (ByPlain (V.stands visitor) string (value self)) V.same Self.Error.is_memory result }
+        ensures read { Answers Self.Error.is_memory
+            (ByPlain (V.gives visitor) string (value self)) result }
+        ensures law { Returns (ByPlain (V.stands visitor) string (value self))
+            V.same Self.Error.is_memory result }
     {
         match self.open() {
             Content::String(value) => visitor.visit_string(value),
@@ -222,16 +248,20 @@ pub trait Deserializer: Sized + Drop {
 
     /// Shows a text. As `deserialize_string`.
     final fn deserialize_str<V: Visitor>(self, visitor: V) -> Result<V::Value, Self::Error>
-        ensures read { Answers Self.Error.is_memory (ByPlain (V.gives visitor) string (value self)) result }
-        ensures law { Returns (ByPlain (V.stands visitor) string (value self)) V.same Self.Error.is_memory result }
+        ensures read { Answers Self.Error.is_memory
+            (ByPlain (V.gives visitor) string (value self)) result }
+        ensures law { Returns (ByPlain (V.stands visitor) string (value self))
+            V.same Self.Error.is_memory result }
     {
         self.deserialize_string(visitor)
     }
 
     /// Shows a binary.
     final fn deserialize_byte_buf<V: Visitor>(self, visitor: V) -> Result<V::Value, Self::Error>
-        ensures read { Answers Self.Error.is_memory (ByPlain (V.gives visitor) binary (value self)) result }
-        ensures law { Returns (ByPlain (V.stands visitor) binary (value self)) V.same Self.Error.is_memory result }
+        ensures read { Answers Self.Error.is_memory
+            (ByPlain (V.gives visitor) binary (value self)) result }
+        ensures law { Returns (ByPlain (V.stands visitor) binary (value self))
+            V.same Self.Error.is_memory result }
     {
         match self.open() {
             Content::Binary(value) => visitor.visit_byte_buf(value),
@@ -241,16 +271,20 @@ pub trait Deserializer: Sized + Drop {
 
     /// Shows a binary. As `deserialize_byte_buf`.
     final fn deserialize_bytes<V: Visitor>(self, visitor: V) -> Result<V::Value, Self::Error>
-        ensures read { Answers Self.Error.is_memory (ByPlain (V.gives visitor) binary (value self)) result }
-        ensures law { Returns (ByPlain (V.stands visitor) binary (value self)) V.same Self.Error.is_memory result }
+        ensures read { Answers Self.Error.is_memory
+            (ByPlain (V.gives visitor) binary (value self)) result }
+        ensures law { Returns (ByPlain (V.stands visitor) binary (value self))
+            V.same Self.Error.is_memory result }
     {
         self.deserialize_byte_buf(visitor)
     }
 
     /// Shows null as nothing, and anything else as something.
     final fn deserialize_option<V: Visitor>(self, visitor: V) -> Result<V::Value, Self::Error>
-        ensures read { Answers Self.Error.is_memory (ByOption (V.gives visitor) (value self)) result }
-        ensures law { Returns (ByOption (V.stands visitor) (value self)) V.same Self.Error.is_memory result }
+        ensures read { Answers Self.Error.is_memory
+            (ByOption (V.gives visitor) (value self)) result }
+        ensures law { Returns (ByOption (V.stands visitor) (value self))
+            V.same Self.Error.is_memory result }
     {
         if self.is_null() {
             visitor.visit_none()
@@ -262,7 +296,8 @@ pub trait Deserializer: Sized + Drop {
     /// Shows null.
     final fn deserialize_unit<V: Visitor>(self, visitor: V) -> Result<V::Value, Self::Error>
         ensures read { Answers Self.Error.is_memory (ByUnit (V.gives visitor) (value self)) result }
-        ensures law { Returns (ByUnit (V.stands visitor) (value self)) V.same Self.Error.is_memory result }
+        ensures law { Returns (ByUnit (V.stands visitor) (value self))
+            V.same Self.Error.is_memory result }
     {
         if self.is_null() {
             visitor.visit_unit()
@@ -278,7 +313,8 @@ pub trait Deserializer: Sized + Drop {
         visitor: V,
     ) -> Result<V::Value, Self::Error>
         ensures read { Answers Self.Error.is_memory (ByUnit (V.gives visitor) (value self)) result }
-        ensures law { Returns (ByUnit (V.stands visitor) (value self)) V.same Self.Error.is_memory result }
+        ensures law { Returns (ByUnit (V.stands visitor) (value self))
+            V.same Self.Error.is_memory result }
     {
         self.deserialize_unit(visitor)
     }
@@ -287,7 +323,8 @@ pub trait Deserializer: Sized + Drop {
     #[tactic(auto, using(crate::proofs::Lists::list_of_trees))]
     final fn deserialize_seq<V: Visitor>(self, visitor: V) -> Result<V::Value, Self::Error>
         ensures read { Answers Self.Error.is_memory (ByList (V.gives visitor) (value self)) result }
-        ensures law { Returns (ByList (V.stands visitor) (value self)) V.same Self.Error.is_memory result }
+        ensures law { Returns (ByList (V.stands visitor) (value self))
+            V.same Self.Error.is_memory result }
     {
         match self.open() {
             Content::List(elements) => visitor.visit_seq(ElementsOf::<Self>::new(elements)),
@@ -298,7 +335,8 @@ pub trait Deserializer: Sized + Drop {
     /// Shows the elements of a list. As `deserialize_seq`.
     final fn deserialize_tuple<V: Visitor>(self, visitor: V) -> Result<V::Value, Self::Error>
         ensures read { Answers Self.Error.is_memory (ByList (V.gives visitor) (value self)) result }
-        ensures law { Returns (ByList (V.stands visitor) (value self)) V.same Self.Error.is_memory result }
+        ensures law { Returns (ByList (V.stands visitor) (value self))
+            V.same Self.Error.is_memory result }
     {
         self.deserialize_seq(visitor)
     }
@@ -307,7 +345,8 @@ pub trait Deserializer: Sized + Drop {
     #[tactic(auto, using(crate::proofs::Lists::entries_in_pairs))]
     final fn deserialize_map<V: Visitor>(self, visitor: V) -> Result<V::Value, Self::Error>
         ensures read { Answers Self.Error.is_memory (ByMap (V.gives visitor) (value self)) result }
-        ensures law { Returns (ByMap (V.stands visitor) (value self)) V.same Self.Error.is_memory result }
+        ensures law { Returns (ByMap (V.stands visitor) (value self))
+            V.same Self.Error.is_memory result }
     {
         match self.open() {
             Content::Map(entries) => visitor.visit_map(EntriesOf::<Self>::new(entries)),
@@ -317,8 +356,10 @@ pub trait Deserializer: Sized + Drop {
 
     /// Shows an uint, or the text of a symbol.
     final fn deserialize_identifier<V: Visitor>(self, visitor: V) -> Result<V::Value, Self::Error>
-        ensures read { Answers Self.Error.is_memory (ByIdentifier (V.gives visitor) (value self)) result }
-        ensures law { Returns (ByIdentifier (V.stands visitor) (value self)) V.same Self.Error.is_memory result }
+        ensures read { Answers Self.Error.is_memory
+            (ByIdentifier (V.gives visitor) (value self)) result }
+        ensures law { Returns (ByIdentifier (V.stands visitor) (value self))
+            V.same Self.Error.is_memory result }
     {
         match self.open() {
             Content::Uint(value) => visitor.visit_u32(value),
@@ -330,15 +371,18 @@ pub trait Deserializer: Sized + Drop {
     /// Shows anything as null.
     final fn deserialize_ignored_any<V: Visitor>(self, visitor: V) -> Result<V::Value, Self::Error>
         ensures read { Answers Self.Error.is_memory (V.gives visitor (plain_event null)) result }
-        ensures law { Returns (V.stands visitor (plain_event null)) V.same Self.Error.is_memory result }
+        ensures law { Returns (V.stands visitor (plain_event null))
+            V.same Self.Error.is_memory result }
     {
         visitor.visit_unit()
     }
 
     /// Shows a descriptor and the value after it.
     final fn deserialize_described<V: Visitor>(self, visitor: V) -> Result<V::Value, Self::Error>
-        ensures read { Answers Self.Error.is_memory (ByDescribed (V.gives visitor) (value self)) result }
-        ensures law { Returns (ByDescribed (V.stands visitor) (value self)) V.same Self.Error.is_memory result }
+        ensures read { Answers Self.Error.is_memory
+            (ByDescribed (V.gives visitor) (value self)) result }
+        ensures law { Returns (ByDescribed (V.stands visitor) (value self))
+            V.same Self.Error.is_memory result }
     {
         match self.open() {
             Content::Described(descriptor, value) => visitor.visit_described(descriptor, value),
@@ -352,8 +396,11 @@ pub trait Deserializer: Sized + Drop {
         name: &str,
         visitor: V,
     ) -> Result<V::Value, Self::Error>
-        ensures read { Answers Self.Error.is_memory (ByStruct (V.gives visitor) (is_described_name name.now) (value self)) result }
-        ensures law { Returns (ByStruct (V.stands visitor) (is_described_name name.now) (value self)) V.same Self.Error.is_memory result }
+        ensures read { Answers Self.Error.is_memory
+            (ByStruct (V.gives visitor) (is_described_name name.now) (value self)) result }
+        ensures law { Returns
+            (ByStruct (V.stands visitor) (is_described_name name.now) (value self))
+            V.same Self.Error.is_memory result }
     {
         if is_described_name(name) {
             self.deserialize_described(visitor)
@@ -368,16 +415,21 @@ pub trait Deserializer: Sized + Drop {
         name: &str,
         visitor: V,
     ) -> Result<V::Value, Self::Error>
-        ensures read { Answers Self.Error.is_memory (ByStruct (V.gives visitor) (is_described_name name.now) (value self)) result }
-        ensures law { Returns (ByStruct (V.stands visitor) (is_described_name name.now) (value self)) V.same Self.Error.is_memory result }
+        ensures read { Answers Self.Error.is_memory
+            (ByStruct (V.gives visitor) (is_described_name name.now) (value self)) result }
+        ensures law { Returns
+            (ByStruct (V.stands visitor) (is_described_name name.now) (value self))
+            V.same Self.Error.is_memory result }
     {
         self.deserialize_struct(name, visitor)
     }
 
     /// Shows an ulong, or the text of a symbol.
     final fn deserialize_descriptor<V: Visitor>(self, visitor: V) -> Result<V::Value, Self::Error>
-        ensures read { Answers Self.Error.is_memory (ByDescriptor (V.gives visitor) (value self)) result }
-        ensures law { Returns (ByDescriptor (V.stands visitor) (value self)) V.same Self.Error.is_memory result }
+        ensures read { Answers Self.Error.is_memory
+            (ByDescriptor (V.gives visitor) (value self)) result }
+        ensures law { Returns (ByDescriptor (V.stands visitor) (value self))
+            V.same Self.Error.is_memory result }
     {
         match self.open() {
             Content::Ulong(value) => visitor.visit_u64(value),
@@ -389,8 +441,10 @@ pub trait Deserializer: Sized + Drop {
     /// Shows a variant: its index alone, a list of the index and what comes with it, or a map from the one to the other.
     #[tactic(auto, using(crate::proofs::Lists::list_of_trees, crate::proofs::Lists::entries_in_pairs))]
     final fn deserialize_variant<V: Visitor>(self, visitor: V) -> Result<V::Value, Self::Error>
-        ensures read { Answers Self.Error.is_memory (ByVariant (V.gives visitor) (value self)) result }
-        ensures law { Returns (ByVariant (V.stands visitor) (value self)) V.same Self.Error.is_memory result }
+        ensures read { Answers Self.Error.is_memory
+            (ByVariant (V.gives visitor) (value self)) result }
+        ensures law { Returns (ByVariant (V.stands visitor) (value self))
+            V.same Self.Error.is_memory result }
     {
         if self.is_index() {
             return visitor.visit_enum(VariantOf::<Self>::new(self, None));
@@ -420,8 +474,12 @@ pub trait Deserializer: Sized + Drop {
         name: &str,
         visitor: V,
     ) -> Result<V::Value, Self::Error>
-        ensures read { Answers Self.Error.is_memory (ByEnum (V.gives visitor) (is_value name.now) (is_descriptor name.now) (value self)) result }
-        ensures law { Returns (ByEnum (V.stands visitor) (is_value name.now) (is_descriptor name.now) (value self)) V.same Self.Error.is_memory result }
+        ensures read { Answers Self.Error.is_memory
+            (ByEnum (V.gives visitor) (is_value name.now) (is_descriptor name.now) (value self))
+            result }
+        ensures law { Returns
+            (ByEnum (V.stands visitor) (is_value name.now) (is_descriptor name.now) (value self))
+            V.same Self.Error.is_memory result }
     {
         if is_value_name(name) {
             visitor.visit_value(self.into_value())
@@ -435,8 +493,10 @@ pub trait Deserializer: Sized + Drop {
     /// Shows the elements of an array.
     #[tactic(auto, using(crate::proofs::Lists::list_of_trees))]
     final fn deserialize_array<V: Visitor>(self, visitor: V) -> Result<V::Value, Self::Error>
-        ensures read { Answers Self.Error.is_memory (ByArray (V.gives visitor) (value self)) result }
-        ensures law { Returns (ByArray (V.stands visitor) (value self)) V.same Self.Error.is_memory result }
+        ensures read { Answers Self.Error.is_memory
+            (ByArray (V.gives visitor) (value self)) result }
+        ensures law { Returns (ByArray (V.stands visitor) (value self))
+            V.same Self.Error.is_memory result }
     {
         match self.open() {
             Content::Array(elements) => visitor.visit_seq(ElementsOf::<Self>::new(elements)),
@@ -450,8 +510,10 @@ pub trait Deserializer: Sized + Drop {
         mark: Mark,
         visitor: V,
     ) -> Result<V::Value, Self::Error>
-        ensures read { Answers Self.Error.is_memory (ByMark (V.gives visitor) mark (value self)) result }
-        ensures law { Returns (ByMark (V.stands visitor) mark (value self)) V.same Self.Error.is_memory result }
+        ensures read { Answers Self.Error.is_memory
+            (ByMark (V.gives visitor) mark (value self)) result }
+        ensures law { Returns (ByMark (V.stands visitor) mark (value self))
+            V.same Self.Error.is_memory result }
     {
         match mark {
             Mark::Transparent | Mark::Other => visitor.visit_newtype_struct(self),
@@ -492,8 +554,10 @@ pub trait Deserializer: Sized + Drop {
         name: &str,
         visitor: V,
     ) -> Result<V::Value, Self::Error>
-        ensures read { Answers Self.Error.is_memory (ByMark (V.gives visitor) (mark_of name.now) (value self)) result }
-        ensures law { Returns (ByMark (V.stands visitor) (mark_of name.now) (value self)) V.same Self.Error.is_memory result }
+        ensures read { Answers Self.Error.is_memory
+            (ByMark (V.gives visitor) (mark_of name.now) (value self)) result }
+        ensures law { Returns (ByMark (V.stands visitor) (mark_of name.now) (value self))
+            V.same Self.Error.is_memory result }
     {
         self.deserialize_marked(mark_named(name), visitor)
     }
@@ -501,8 +565,10 @@ pub trait Deserializer: Sized + Drop {
     /// Shows a value by its kind. A symbol, a timestamp, a uuid and a decimal are shown as untyped values.
     #[tactic(auto, using(crate::proofs::Lists::list_of_trees, crate::proofs::Lists::entries_in_pairs))]
     final fn deserialize_any<V: Visitor>(self, visitor: V) -> Result<V::Value, Self::Error>
-        ensures read { Answers Self.Error.is_memory (V.gives visitor (any_event (value self))) result }
-        ensures law { Returns (V.stands visitor (any_event (value self))) V.same Self.Error.is_memory result }
+        ensures read { Answers Self.Error.is_memory
+            (V.gives visitor (any_event (value self))) result }
+        ensures law { Returns (V.stands visitor (any_event (value self)))
+            V.same Self.Error.is_memory result }
     {
         match self.open() {
             Content::Null => visitor.visit_unit(),
@@ -552,5 +618,6 @@ pub trait Deserialize: Sized + Drop {
     /// Reads a value.
     fn deserialize<D: Deserializer>(alloc: Global, deserializer: D) -> Result<Self, D::Error>
         ensures read { Answers D.Error.is_memory (reads (D.value deserializer)) result }
-        ensures law { Restores image restorable same D.Error.is_memory (D.value deserializer) result };
+        ensures law { Restores image restorable same
+            D.Error.is_memory (D.value deserializer) result };
 }

@@ -53,8 +53,10 @@ pub trait Variants: Sized + Drop {
         index: u32,
         value: Option<D>,
     ) -> Result<Self::Value, D::Error>
-        ensures read { Answers D.Error.is_memory (λ x. reads self index (value_of D.value value) x) result }
-        ensures law { (x : Self.Value) → restorable x → index ≡ position x → value_of D.value value ≡ content x →
+        ensures read { Answers D.Error.is_memory
+            (λ x. reads self index (value_of D.value value) x) result }
+        ensures law { (x : Self.Value) → restorable x →
+            index ≡ position x → value_of D.value value ≡ content x →
             MatchResult result (λ y. same y x) D.Error.is_memory };
 }
 
@@ -174,8 +176,10 @@ fn read_at<D: Deserializer, V: Variants>(
     index: D,
     value: Option<D>,
 ) -> Result<V::Value, D::Error>
-    ensures read { Answers D.Error.is_memory (λ x. AtIndex (V.reads variants) (index_of_tree (D.value index)) (value_of D.value value) x) result }
-    ensures law { (x : V.Value) → V.restorable x → D.value index ≡ scalar (uint (V.position x)) → value_of D.value value ≡ V.content x →
+    ensures read { Answers D.Error.is_memory (λ x. AtIndex (V.reads variants)
+        (index_of_tree (D.value index)) (value_of D.value value) x) result }
+    ensures law { (x : V.Value) → V.restorable x →
+        D.value index ≡ scalar (uint (V.position x)) → value_of D.value value ≡ V.content x →
         MatchResult result (λ y. V.same y x) D.Error.is_memory }
 {
     match index.open() {
@@ -193,7 +197,8 @@ fn read_listed<D: Deserializer, V: Variants>(
     variants: V,
     elements: &mut D::Elements,
 ) -> Result<V::Value, D::Error>
-    ensures { Answers D.Error.is_memory (OnListed (V.reads variants) (D.items elements.old)) result }
+    ensures { Answers D.Error.is_memory
+        (OnListed (V.reads variants) (D.items elements.old)) result }
 {
     match D::next_element(&mut *elements) {
         Some(index) => {
@@ -213,8 +218,10 @@ fn read_keyed<D: Deserializer, V: Variants>(
     variants: V,
     entries: &mut D::Entries,
 ) -> Result<V::Value, D::Error>
-    ensures read { Answers D.Error.is_memory (OnKeyed (V.reads variants) (D.pairs entries.old)) result }
-    ensures law { (x : V.Value) (t : Tree) → V.restorable x → V.content x ≡ Some t → D.pairs entries.old ≡ (scalar (uint (V.position x)), t) ∷ [] →
+    ensures read { Answers D.Error.is_memory
+        (OnKeyed (V.reads variants) (D.pairs entries.old)) result }
+    ensures law { (x : V.Value) (t : Tree) → V.restorable x → V.content x ≡ Some t →
+        D.pairs entries.old ≡ (scalar (uint (V.position x)), t) ∷ [] →
         MatchResult result (λ y. V.same y x) D.Error.is_memory }
 {
     match D::next_pair(&mut *entries) {

@@ -39,8 +39,10 @@ pub trait Fields: Sized + Drop {
         alloc: Global,
         elements: &mut D::Elements,
     ) -> Result<Self::Values, D::Error>
-        ensures read { Answers D.Error.is_memory (λ x. reads self.now x (by_place (D.items elements.old))) result }
-        ensures law { RestoresAll images restorable same D.Error.is_memory (D.items elements.old) result };
+        ensures read { Answers D.Error.is_memory
+            (λ x. reads self.now x (by_place (D.items elements.old))) result }
+        ensures law { RestoresAll images restorable same
+            D.Error.is_memory (D.items elements.old) result };
 
     /// Reads the fields from the entries of a map, by their names. Entries left over are ignored.
     ///
@@ -51,7 +53,8 @@ pub trait Fields: Sized + Drop {
         alloc: Global,
         entries: &mut D::Entries,
     ) -> Result<Self::Values, D::Error>
-        ensures { Answers D.Error.is_memory (λ x. reads self.now x (by_name (D.pairs entries.old))) result };
+        ensures { Answers D.Error.is_memory
+            (λ x. reads self.now x (by_name (D.pairs entries.old))) result };
 }
 
 #[tactic(auto, unfolding(crate::specs::Fields::end))]

@@ -30,10 +30,18 @@ pub use seed::{ListOf, NamedOf, Of, Seed};
 macro_rules! named {
     () => { () };
     ($name:literal $(, $($rest:tt)*)?) => {
-        $crate::Must { name: $name, of: std::marker::PhantomData, rest: $crate::named!($($($rest)*)?) }
+        $crate::Must {
+            name: $name,
+            of: std::marker::PhantomData,
+            rest: $crate::named!($($($rest)*)?)
+        }
     };
     ($name:literal ? $(, $($rest:tt)*)?) => {
-        $crate::May { name: $name, of: std::marker::PhantomData, rest: $crate::named!($($($rest)*)?) }
+        $crate::May {
+            name: $name,
+            of: std::marker::PhantomData,
+            rest: $crate::named!($($($rest)*)?)
+        }
     };
 }
 

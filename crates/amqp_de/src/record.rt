@@ -63,7 +63,8 @@ pub fn read<T: Record, D: Deserializer, S: Seed<Value = T::Parts>>(
     seed: S,
 ) -> Result<T::Parts, D::Error>
     ensures read { PartsOf T.parts D.Error.is_memory (S.reads seed (D.value deserializer)) result }
-    ensures law { RestoresParts T.parts (λ v. S.image (T.parts v)) S.restorable S.same D.Error.is_memory (D.value deserializer) result }
+    ensures law { RestoresParts T.parts (λ v. S.image (T.parts v))
+        S.restorable S.same D.Error.is_memory (D.value deserializer) result }
 {
     match seed.read(alloc, deserializer) {
         Ok(parts) => Ok(parts),
@@ -82,8 +83,12 @@ pub fn read_described<T: Record, D: Deserializer, K: Describes, S: Seed<Value = 
     descriptor: &K,
     seed: S,
 ) -> Result<T::Parts, D::Error>
-    ensures read { PartsOf T.parts D.Error.is_memory (λ x. OnDescribed (K.wanted descriptor.now) (λ t. S.reads seed t x) (D.value deserializer)) result }
-    ensures law { RestoresParts T.parts (λ v. described (K.wanted descriptor.now) (S.image (T.parts v))) S.restorable S.same D.Error.is_memory (D.value deserializer) result }
+    ensures read { PartsOf T.parts D.Error.is_memory
+        (λ x. OnDescribed (K.wanted descriptor.now) (λ t. S.reads seed t x) (D.value deserializer))
+        result }
+    ensures law { RestoresParts T.parts
+        (λ v. described (K.wanted descriptor.now) (S.image (T.parts v)))
+        S.restorable S.same D.Error.is_memory (D.value deserializer) result }
 {
     match deserializer.open() {
         Content::Described(found, value) => {

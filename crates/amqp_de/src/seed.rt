@@ -30,7 +30,8 @@ pub trait Seed: Sized + Drop {
     /// Reads it.
     fn read<D: Deserializer>(self, alloc: Global, deserializer: D) -> Result<Self::Value, D::Error>
         ensures read { Answers D.Error.is_memory (λ x. reads self (D.value deserializer) x) result }
-        ensures law { Restores image restorable same D.Error.is_memory (D.value deserializer) result };
+        ensures law { Restores image restorable same
+            D.Error.is_memory (D.value deserializer) result };
 }
 
 /// A value of this type.

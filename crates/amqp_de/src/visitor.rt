@@ -38,8 +38,10 @@ pub trait Visitor: Sized + Drop {
 
     /// Whether no event of this visit gives a value. The visits that are not written ask it.
     fn refuses(&self, visit: Visit) -> bool
-        ensures gives { IsTrue result → (e : Event) (x : Self.Value) → visit_of e ≡ visit → ¬ gives self.now e x }
-        ensures stands { IsTrue result → (e : Event) (x : Self.Value) → visit_of e ≡ visit → ¬ stands self.now e x };
+        ensures gives { IsTrue result → (e : Event) (x : Self.Value) →
+            visit_of e ≡ visit → ¬ gives self.now e x }
+        ensures stands { IsTrue result → (e : Event) (x : Self.Value) →
+            visit_of e ≡ visit → ¬ stands self.now e x };
 
     /// What has no parts.
     fn visit_plain<E: Refusal>(self, plain: Plain) -> Result<Self::Value, E>
@@ -51,16 +53,20 @@ pub trait Visitor: Sized + Drop {
 
     /// Something that may be absent.
     fn visit_some<D: Deserializer>(self, deserializer: D) -> Result<Self::Value, D::Error>
-        ensures read { Answers D.Error.is_memory (gives self (some_event (D.value deserializer))) result }
-        ensures law { Returns (stands self (some_event (D.value deserializer))) same D.Error.is_memory result }
+        ensures read { Answers D.Error.is_memory
+            (gives self (some_event (D.value deserializer))) result }
+        ensures law { Returns (stands self (some_event (D.value deserializer)))
+            same D.Error.is_memory result }
     {
         Err(unwritten(self.refuses(Visit::Some)))
     }
 
     /// What stands in a newtype.
     fn visit_newtype_struct<D: Deserializer>(self, deserializer: D) -> Result<Self::Value, D::Error>
-        ensures read { Answers D.Error.is_memory (gives self (newtype_event (D.value deserializer))) result }
-        ensures law { Returns (stands self (newtype_event (D.value deserializer))) same D.Error.is_memory result }
+        ensures read { Answers D.Error.is_memory
+            (gives self (newtype_event (D.value deserializer))) result }
+        ensures law { Returns (stands self (newtype_event (D.value deserializer)))
+            same D.Error.is_memory result }
     {
         Err(unwritten(self.refuses(Visit::Newtype)))
     }
@@ -68,7 +74,8 @@ pub trait Visitor: Sized + Drop {
     /// The elements of a list or an array.
     fn visit_seq<A: SeqAccess>(self, elements: A) -> Result<Self::Value, A::Error>
         ensures read { Answers A.Error.is_memory (gives self (seq_event (A.left elements))) result }
-        ensures law { Returns (stands self (seq_event (A.left elements))) same A.Error.is_memory result }
+        ensures law { Returns (stands self (seq_event (A.left elements)))
+            same A.Error.is_memory result }
     {
         Err(unwritten(self.refuses(Visit::Seq)))
     }
@@ -77,15 +84,18 @@ pub trait Visitor: Sized + Drop {
     fn visit_map<A: MapAccess>(self, entries: A) -> Result<Self::Value, A::Error>
         requires { A.owed entries ≡ None }
         ensures read { Answers A.Error.is_memory (gives self (map_event (A.left entries))) result }
-        ensures law { Returns (stands self (map_event (A.left entries))) same A.Error.is_memory result }
+        ensures law { Returns (stands self (map_event (A.left entries)))
+            same A.Error.is_memory result }
     {
         Err(unwritten(self.refuses(Visit::Map)))
     }
 
     /// One of the variants of an enum.
     fn visit_enum<A: EnumAccess>(self, variant: A) -> Result<Self::Value, A::Error>
-        ensures read { Answers A.Error.is_memory (gives self (enum_event (A.index variant) (A.content variant))) result }
-        ensures law { Returns (stands self (enum_event (A.index variant) (A.content variant))) same A.Error.is_memory result }
+        ensures read { Answers A.Error.is_memory
+            (gives self (enum_event (A.index variant) (A.content variant))) result }
+        ensures law { Returns (stands self (enum_event (A.index variant) (A.content variant)))
+            same A.Error.is_memory result }
     {
         Err(unwritten(self.refuses(Visit::Enum)))
     }
@@ -96,8 +106,12 @@ pub trait Visitor: Sized + Drop {
         descriptor: Descriptor,
         deserializer: D,
     ) -> Result<Self::Value, D::Error>
-        ensures read { Answers D.Error.is_memory (gives self (described_event (descriptor_content descriptor) (D.value deserializer))) result }
-        ensures law { Returns (stands self (described_event (descriptor_content descriptor) (D.value deserializer))) same D.Error.is_memory result }
+        ensures read { Answers D.Error.is_memory
+            (gives self (described_event (descriptor_content descriptor) (D.value deserializer)))
+            result }
+        ensures law { Returns
+            (stands self (described_event (descriptor_content descriptor) (D.value deserializer)))
+            same D.Error.is_memory result }
     {
         Err(unwritten(self.refuses(Visit::Described)))
     }
@@ -200,16 +214,20 @@ pub trait Visitor: Sized + Drop {
 
     /// The bits of a float.
     final fn visit_f32<E: Refusal>(self, value: F32Bits) -> Result<Self::Value, E>
-        ensures read { Answers E.is_memory (gives self (plain_event (float (f32_bits value)))) result }
-        ensures law { Returns (stands self (plain_event (float (f32_bits value)))) same E.is_memory result }
+        ensures read { Answers E.is_memory
+            (gives self (plain_event (float (f32_bits value)))) result }
+        ensures law { Returns (stands self (plain_event (float (f32_bits value))))
+            same E.is_memory result }
     {
         self.visit_plain(Plain::F32(value))
     }
 
     /// The bits of a double.
     final fn visit_f64<E: Refusal>(self, value: F64Bits) -> Result<Self::Value, E>
-        ensures read { Answers E.is_memory (gives self (plain_event (double (f64_bits value)))) result }
-        ensures law { Returns (stands self (plain_event (double (f64_bits value)))) same E.is_memory result }
+        ensures read { Answers E.is_memory
+            (gives self (plain_event (double (f64_bits value)))) result }
+        ensures law { Returns (stands self (plain_event (double (f64_bits value))))
+            same E.is_memory result }
     {
         self.visit_plain(Plain::F64(value))
     }
@@ -224,16 +242,20 @@ pub trait Visitor: Sized + Drop {
 
     /// A text.
     final fn visit_string<E: Refusal>(self, value: String) -> Result<Self::Value, E>
-        ensures read { Answers E.is_memory (gives self (plain_event (string (string_bytes value)))) result }
-        ensures law { Returns (stands self (plain_event (string (string_bytes value)))) same E.is_memory result }
+        ensures read { Answers E.is_memory
+            (gives self (plain_event (string (string_bytes value)))) result }
+        ensures law { Returns (stands self (plain_event (string (string_bytes value))))
+            same E.is_memory result }
     {
         self.visit_plain(Plain::String(value))
     }
 
     /// A binary.
     final fn visit_byte_buf<E: Refusal>(self, value: ByteBuf) -> Result<Self::Value, E>
-        ensures read { Answers E.is_memory (gives self (plain_event (binary (byte_buf_bytes value)))) result }
-        ensures law { Returns (stands self (plain_event (binary (byte_buf_bytes value)))) same E.is_memory result }
+        ensures read { Answers E.is_memory
+            (gives self (plain_event (binary (byte_buf_bytes value)))) result }
+        ensures law { Returns (stands self (plain_event (binary (byte_buf_bytes value))))
+            same E.is_memory result }
     {
         self.visit_plain(Plain::ByteBuf(value))
     }

@@ -53,7 +53,8 @@ fn read_sized(wide: bool, bytes: &[u8]) -> Result<(&[u8], &[u8]), Error>
 /// `UnexpectedEof` where the bytes end before the payload does.
 #[tactic(auto, unfolding(amqp_frame::specs::Code::category))]
 pub fn read_payload(code: EncodingCodes, bytes: &[u8]) -> Result<(&[u8], &[u8]), Error>
-    ensures ok { IfOk result (λ r. content_at (category (code_of code)) bytes.now ≡ Some (r.0.now, r.1.now)) }
+    ensures ok { IfOk result (λ r.
+        content_at (category (code_of code)) bytes.now ≡ Some (r.0.now, r.1.now)) }
     ensures err { IfErr result (λ e. content_at (category (code_of code)) bytes.now ≡ None) }
 {
     match u8::from(code) / 16 {

@@ -13,7 +13,8 @@ ghost use Rattle.amqp_decode.specs.Spells.{Spells};
 
 /// No bytes spell two trees, at whatever depths.
 pub fn one_tree()
-    ensures { (d e : ℕ) (bytes : List ℕ) (t u : Tree) → Spells d bytes t → Spells e bytes u → t ≡ u }
+    ensures { (d e : ℕ) (bytes : List ℕ) (t u : Tree) →
+        Spells d bytes t → Spells e bytes u → t ≡ u }
 {}
 
 /// What spells a tree is one frame.
@@ -23,14 +24,15 @@ pub fn spelled_frame()
 
 /// The bytes of a tree spell its image, where the tree can be written and nothing in it is lazy or transparent.
 pub fn own_bytes()
-    ensures { (t : Tree) (d : ℕ) → IsRanged t → writable t ≡ true → IsOrdinary t → depth_of t ≤ d → Spells d (enc t) (image t) }
+    ensures { (t : Tree) (d : ℕ) → IsRanged t → writable t ≡ true →
+        IsOrdinary t → depth_of t ≤ d → Spells d (enc t) (image t) }
 {}
 
 /// Two trees that can be written and have nothing lazy or transparent in them have one image where they have the same
 /// bytes, at whatever depths.
 pub fn same_bytes_same_image()
-    ensures { (t u : Tree) → IsRanged t → IsRanged u → writable t ≡ true → writable u ≡ true
-        → IsOrdinary t → IsOrdinary u → enc t ≡ enc u → image t ≡ image u }
+    ensures { (t u : Tree) → IsRanged t → IsRanged u → writable t ≡ true → writable u ≡ true →
+        IsOrdinary t → IsOrdinary u → enc t ≡ enc u → image t ≡ image u }
 {}
 
 /// Plain trees have the same bytes where they have one image.

@@ -67,8 +67,10 @@ fn read_frame_over<'a>(
     bytes: &'a [u8],
     depth: u16,
 ) -> Result<(Value, &'a [u8]), Error>
-    ensures ok { IfOk result (λ r. frame_in (parse depth) (held depth) bytes.now ≡ Some (tree_of r.0, r.1.now)) }
-    ensures err { IfErr result (λ e. ¬ (e ≡ OutOfMemory) → frame_in (parse depth) (held depth) bytes.now ≡ None) }
+    ensures ok { IfOk result (λ r.
+        frame_in (parse depth) (held depth) bytes.now ≡ Some (tree_of r.0, r.1.now)) }
+    ensures err { IfErr result (λ e. ¬ (e ≡ OutOfMemory) →
+        frame_in (parse depth) (held depth) bytes.now ≡ None) }
 {
     match bytes.split_first() {
         None => Err(Error::UnexpectedEof),
@@ -95,8 +97,10 @@ fn read_item<'a>(
     bytes: &'a [u8],
     depth: u16,
 ) -> Result<(Value, &'a [u8]), Error>
-    ensures ok { IfOk result (λ r. payload_in (held depth) code bytes.now ≡ Some (tree_of r.0, r.1.now)) }
-    ensures err { IfErr result (λ e. ¬ (e ≡ OutOfMemory) → payload_in (held depth) code bytes.now ≡ None) }
+    ensures ok { IfOk result (λ r.
+        payload_in (held depth) code bytes.now ≡ Some (tree_of r.0, r.1.now)) }
+    ensures err { IfErr result (λ e. ¬ (e ≡ OutOfMemory) →
+        payload_in (held depth) code bytes.now ≡ None) }
 {
     let (content, rest) = read_payload(code, bytes)?;
     let value = read_content(alloc, code, content, depth)?;
@@ -128,8 +132,10 @@ fn read_content_over(
     content: &[u8],
     depth: u16,
 ) -> Result<Value, Error>
-    ensures ok { IfOk result (λ v. content_of (parse depth) (held depth) code content.now ≡ Some (tree_of v)) }
-    ensures err { IfErr result (λ e. ¬ (e ≡ OutOfMemory) → content_of (parse depth) (held depth) code content.now ≡ None) }
+    ensures ok { IfOk result (λ v.
+        content_of (parse depth) (held depth) code content.now ≡ Some (tree_of v)) }
+    ensures err { IfErr result (λ e. ¬ (e ≡ OutOfMemory) →
+        content_of (parse depth) (held depth) code content.now ≡ None) }
 {
     match shape_of(code) {
         Shape::Described => Err(Error::InvalidValue),
@@ -153,7 +159,8 @@ fn read_content_over(
 #[cycle(read)]
 fn read_list(alloc: Global, count: u32, body: &[u8], depth: u16) -> Result<Value, Error>
     ensures ok { IfOk result (λ v. list_in (parse depth) (count, body.now) ≡ Some (tree_of v)) }
-    ensures err { IfErr result (λ e. ¬ (e ≡ OutOfMemory) → list_in (parse depth) (count, body.now) ≡ None) }
+    ensures err { IfErr result (λ e. ¬ (e ≡ OutOfMemory) →
+        list_in (parse depth) (count, body.now) ≡ None) }
 {
     let mut items = Vec::new(alloc);
     let mut rest = body;
@@ -173,7 +180,8 @@ fn read_list(alloc: Global, count: u32, body: &[u8], depth: u16) -> Result<Value
 #[cycle(read)]
 fn read_map(alloc: Global, count: u32, body: &[u8], depth: u16) -> Result<Value, Error>
     ensures ok { IfOk result (λ v. map_in (parse depth) (count, body.now) ≡ Some (tree_of v)) }
-    ensures err { IfErr result (λ e. ¬ (e ≡ OutOfMemory) → map_in (parse depth) (count, body.now) ≡ None) }
+    ensures err { IfErr result (λ e. ¬ (e ≡ OutOfMemory) →
+        map_in (parse depth) (count, body.now) ≡ None) }
 {
     if count % 2 != 0 {
         return Err(Error::InvalidValue);
@@ -197,7 +205,8 @@ fn read_map(alloc: Global, count: u32, body: &[u8], depth: u16) -> Result<Value,
 #[cycle(read)]
 fn read_array(alloc: Global, count: u32, body: &[u8], depth: u16) -> Result<Value, Error>
     ensures ok { IfOk result (λ v. array_in (held depth) (count, body.now) ≡ Some (tree_of v)) }
-    ensures err { IfErr result (λ e. ¬ (e ≡ OutOfMemory) → array_in (held depth) (count, body.now) ≡ None) }
+    ensures err { IfErr result (λ e. ¬ (e ≡ OutOfMemory) →
+        array_in (held depth) (count, body.now) ≡ None) }
 {
     let mut items = Vec::new(alloc);
     match body.split_first() {

@@ -91,7 +91,8 @@ fn character_of(number: u32) -> Result<Value, Error>
 /// `InvalidValue` where the code is of another shape, and for a content that is no truth value, no character or no text.
 #[tactic(auto, unfolding(crate::specs::Scalars::scalar_in))]
 pub fn read_scalar(alloc: Global, code: EncodingCodes, content: &[u8]) -> Result<Value, Error>
-    ensures ok { IfOk result (λ v. next (scalar_in code content.now) scalar_tree ≡ Some (tree_of v)) }
+    ensures ok { IfOk result (λ v.
+        next (scalar_in code content.now) scalar_tree ≡ Some (tree_of v)) }
     ensures err { IfErr result (λ e. ¬ (e ≡ OutOfMemory) → scalar_in code content.now ≡ None) }
 {
     match code {
@@ -168,7 +169,8 @@ fn descriptor_of(value: Value) -> Result<Descriptor, Error>
 /// `InvalidValue` where it is neither a ulong nor a symbol.
 #[tactic(auto, unfolding(crate::specs::Parsed::descriptor_at))]
 pub fn read_descriptor(alloc: Global, bytes: &[u8]) -> Result<(Descriptor, &[u8]), Error>
-    ensures ok { IfOk result (λ r. descriptor_at bytes.now ≡ Some (descriptor_content r.0, r.1.now)) }
+    ensures ok { IfOk result (λ r.
+        descriptor_at bytes.now ≡ Some (descriptor_content r.0, r.1.now)) }
     ensures err { IfErr result (λ e. ¬ (e ≡ OutOfMemory) → descriptor_at bytes.now ≡ None) }
 {
     let Some((byte, bytes)) = bytes.split_first() else {

@@ -21,8 +21,8 @@ use crate::code::{body_len_of, category_of, is_primitive, size_width_of};
 /// `4010`: `Some(1)`. `00a1016145`: `Some(5)`. `10`, `a10561` and no bytes: `None`.
 pub fn frame_len(bytes: &[u8]) -> Option<usize>
     ensures found { IfSome result (λ n. (n ≤ length bytes.now) × IsFrame (take n bytes.now)) }
-    ensures only { (front rest : List ℕ) → IsFrame front → bytes.now ≡ front ++ rest
-        → result ≡ Some (length front) }
+    ensures only { (front rest : List ℕ) → IsFrame front → bytes.now ≡ front ++ rest →
+        result ≡ Some (length front) }
     ensures none { IfNone result (¬ HasFrame bytes.now) }
 {
     let mut at = 0;

@@ -32,12 +32,12 @@ pub fn some_cut()
 
 /// No string has two cuts.
 pub fn one_cut()
-    ensures { (s rest last : List ℕ) (frames others : List (List ℕ))
-        → IsCut s frames rest → IsCut s others last → (frames ≡ others) × (rest ≡ last) }
+    ensures { (s rest last : List ℕ) (frames others : List (List ℕ)) →
+        IsCut s frames rest → IsCut s others last → (frames ≡ others) × (rest ≡ last) }
 {}
 
 /// Frames joined are cut back into the single ones.
 pub fn cut_back()
-    ensures { (frames : List (List ℕ)) → AllByRecursion IsFrame frames
-        → IsCut (concat frames) frames [] }
+    ensures { (frames : List (List ℕ)) → AllByRecursion IsFrame frames →
+        IsCut (concat frames) frames [] }
 {}

@@ -73,10 +73,10 @@ pub trait Read {
     /// Takes none.
     fn read_exact(&mut self, buf: &mut [u8]) -> Result<(), Error>
         ensures ok { OnOk result (Consumes (left self.old) (left self.new) buf.new) }
-        ensures end { IsErrOf result Error.UnexpectedEof
-            → RunsOut (left self.old) (left self.new) (length buf.old) }
-        ensures io { IsErrOf result Error.Io
-            → Takes (left self.old) (left self.new)
+        ensures end { IsErrOf result Error.UnexpectedEof →
+            RunsOut (left self.old) (left self.new) (length buf.old) }
+        ensures io { IsErrOf result Error.Io →
+            Takes (left self.old) (left self.new)
             × Failed (failures self.old) (failures self.new) }
         ensures others { IfErr result (λ e. (e ≡ Error.UnexpectedEof) ⊎ (e ≡ Error.Io)) }
         ensures last { failures self.old ≡ last_count → IsErrOf result Error.Io }

@@ -178,10 +178,10 @@ fn read_byte<R: io::Read>(inner: &mut R, failures: &mut u64) -> Result<Option<u8
 fn fill<R: io::Read>(inner: &mut R, buf: &mut [u8], failures: &mut u64) -> Result<(), Error>
     requires { failures.old < last_count }
     ensures ok { OnOk result (Consumes (R.remaining inner.old) (R.remaining inner.new) buf.new) }
-    ensures end { IsErrOf result Error.UnexpectedEof
-        → RunsOut (R.remaining inner.old) (R.remaining inner.new) (length buf.old) }
-    ensures io { IsErrOf result Error.Io
-        → Takes (R.remaining inner.old) (R.remaining inner.new) × (failures.old < failures.new) }
+    ensures end { IsErrOf result Error.UnexpectedEof →
+        RunsOut (R.remaining inner.old) (R.remaining inner.new) (length buf.old) }
+    ensures io { IsErrOf result Error.Io →
+        Takes (R.remaining inner.old) (R.remaining inner.new) × (failures.old < failures.new) }
     ensures others { IfErr result (λ e. (e ≡ Error.UnexpectedEof) ⊎ (e ≡ Error.Io)) }
     ensures counts { CountsOne (answers_io result) failures.old failures.new }
     ensures count { failures.old ≤ failures.new }

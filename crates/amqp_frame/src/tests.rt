@@ -173,9 +173,9 @@ fn each_read_fails(rt: HostRuntime) {
 fn looks_once<R: io::Read>(reader: &mut IoReader<R>) -> Result<Option<u8>, Error>
     ensures stays { OnOk result (⟦<IoReader<R> as Read>⟧.failures reader.new
         ≡ ⟦<IoReader<R> as Read>⟧.failures reader.old) }
-    ensures rises { IsErrOf result Error.Io
-        → ⟦<IoReader<R> as Read>⟧.failures reader.old < last_count
-        → ⟦<IoReader<R> as Read>⟧.failures reader.new
+    ensures rises { IsErrOf result Error.Io →
+        ⟦<IoReader<R> as Read>⟧.failures reader.old < last_count →
+        ⟦<IoReader<R> as Read>⟧.failures reader.new
         ≡ ⟦<IoReader<R> as Read>⟧.failures reader.old + 1 }
 {
     reader.peek()

@@ -224,7 +224,8 @@ fn find(pairs: &VecDeque<(Value, Value)>, name: &str) -> Option<usize>
 /// `Message`. The value is dropped then.
 pub fn from_value<T: Deserialize>(alloc: Global, value: Value) -> Result<T, Error>
     ensures read { Answers (λ e. e ≡ OutOfMemory) (T.reads (tree_of value)) result }
-    ensures law { Restores T.image T.restorable T.same (λ e. e ≡ OutOfMemory) (tree_of value) result }
+    ensures law { Restores T.image T.restorable T.same
+        (λ e. e ≡ OutOfMemory) (tree_of value) result }
 {
     T::deserialize(alloc, Deserializer::new(alloc, value))
 }

@@ -31,7 +31,8 @@ impl Serialize for AsList {
 struct AsMap(bool, i32);
 
 impl Serialize for AsMap {
-    ghost tree = { λ v. map_composite (code 0x13) ((codes "is_fool", of_bool v.0) ∷ (codes "a", of_i32 v.1) ∷ []) };
+    ghost tree = { λ v.
+        map_composite (code 0x13) ((codes "is_fool", of_bool v.0) ∷ (codes "a", of_i32 v.1) ∷ []) };
 
     fn serialize<S: Serializer>(&self, serializer: &mut S) -> Result<S::Ok, S::Error> {
         serializer.serialize_described(

@@ -13,7 +13,8 @@ use std::alloc::{AllocError, Global};
 // Takes all bytes up to the end.
 pub(crate) fn read_to_end<R: Read>(alloc: Global, reader: &mut R) -> Result<Vec<u8>, Error>
     ensures ok { IfOk result (λ bytes.
-        Consumes (R.left reader.old) (R.left reader.new) bytes.items × IsAtEnd (R.left reader.new)) }
+        Consumes (R.left reader.old) (R.left reader.new) bytes.items
+        × IsAtEnd (R.left reader.new)) }
     ensures io { IsErrOf result Error.Io → Failed (R.failures reader.old) (R.failures reader.new) }
     ensures others { IfErr result (λ e. (e ≡ Error.OutOfMemory) ⊎ (e ≡ Error.Io)) }
     ensures count { R.failures reader.old ≤ R.failures reader.new }

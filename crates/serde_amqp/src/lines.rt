@@ -71,7 +71,8 @@ pub fn run_lines<R: Read, W: Write>(
 
 // What is printed for an input.
 fn report_on(alloc: Global, input: &[u8]) -> Result<Vec<u8>, Error>
-    ensures ok { IfOk result (λ report. IsReportable input.now × (report.items ≡ lines_out input.now)) }
+    ensures ok { IfOk result (λ report. IsReportable input.now
+        × (report.items ≡ lines_out input.now)) }
     ensures invalid { IsErrOf result Error.InvalidValue → ¬ IsUtf8 input.now }
     ensures too_long { IsErrOf result Error.TooLong → IsTooLong input.now }
     ensures others { IfErr result (λ e.

@@ -60,8 +60,10 @@ pub trait MapAccess: Sized + Drop {
         alloc: Global,
         seed: K,
     ) -> Result<Option<K::Value>, Self::Error>
-        ensures read { ReadsKey Self.Error.is_memory (K.reads seed) (owed self.old) (left self.old) (owed self.new) (left self.new) result }
-        ensures law { RestoresKey K.image K.restorable K.same Self.Error.is_memory (owed self.old) (left self.old) result }
+        ensures read { ReadsKey Self.Error.is_memory (K.reads seed)
+            (owed self.old) (left self.old) (owed self.new) (left self.new) result }
+        ensures law { RestoresKey K.image K.restorable K.same
+            Self.Error.is_memory (owed self.old) (left self.old) result }
     {
         if self.owes() {
             return Err(Self::Error::invalid());
@@ -87,8 +89,10 @@ pub trait MapAccess: Sized + Drop {
         alloc: Global,
         seed: V,
     ) -> Result<V::Value, Self::Error>
-        ensures read { ReadsValue Self.Error.is_memory (V.reads seed) (owed self.old) (left self.old) (owed self.new) (left self.new) result }
-        ensures law { RestoresOwed V.image V.restorable V.same Self.Error.is_memory (owed self.old) result }
+        ensures read { ReadsValue Self.Error.is_memory (V.reads seed)
+            (owed self.old) (left self.old) (owed self.new) (left self.new) result }
+        ensures law { RestoresOwed V.image V.restorable V.same
+            Self.Error.is_memory (owed self.old) result }
     {
         match self.take_owed() {
             Some(value) => match seed.read(alloc, value) {
@@ -109,7 +113,8 @@ pub trait MapAccess: Sized + Drop {
         key_seed: K,
         value_seed: V,
     ) -> Result<Option<(K::Value, V::Value)>, Self::Error>
-        ensures { ReadsEntry Self.Error.is_memory (K.reads key_seed) (V.reads value_seed) (owed self.old) (left self.old) (owed self.new) (left self.new) result }
+        ensures { ReadsEntry Self.Error.is_memory (K.reads key_seed) (V.reads value_seed)
+            (owed self.old) (left self.old) (owed self.new) (left self.new) result }
     {
         if self.owes() {
             return Err(Self::Error::invalid());
@@ -131,8 +136,10 @@ pub trait MapAccess: Sized + Drop {
     /// # Errors
     /// Invalid while a value is owed; as the type otherwise.
     final fn next_key<K: Deserialize>(&mut self, alloc: Global) -> Result<Option<K>, Self::Error>
-        ensures read { ReadsKey Self.Error.is_memory K.reads (owed self.old) (left self.old) (owed self.new) (left self.new) result }
-        ensures law { RestoresKey K.image K.restorable K.same Self.Error.is_memory (owed self.old) (left self.old) result }
+        ensures read { ReadsKey Self.Error.is_memory K.reads
+            (owed self.old) (left self.old) (owed self.new) (left self.new) result }
+        ensures law { RestoresKey K.image K.restorable K.same
+            Self.Error.is_memory (owed self.old) (left self.old) result }
     {
         self.next_key_seed(alloc, Of(PhantomData::<K>))
     }
@@ -142,8 +149,10 @@ pub trait MapAccess: Sized + Drop {
     /// # Errors
     /// Invalid where none is owed; as the type otherwise.
     final fn next_value<V: Deserialize>(&mut self, alloc: Global) -> Result<V, Self::Error>
-        ensures read { ReadsValue Self.Error.is_memory V.reads (owed self.old) (left self.old) (owed self.new) (left self.new) result }
-        ensures law { RestoresOwed V.image V.restorable V.same Self.Error.is_memory (owed self.old) result }
+        ensures read { ReadsValue Self.Error.is_memory V.reads
+            (owed self.old) (left self.old) (owed self.new) (left self.new) result }
+        ensures law { RestoresOwed V.image V.restorable V.same
+            Self.Error.is_memory (owed self.old) result }
     {
         self.next_value_seed(alloc, Of(PhantomData::<V>))
     }
@@ -156,7 +165,8 @@ pub trait MapAccess: Sized + Drop {
         &mut self,
         alloc: Global,
     ) -> Result<Option<(K, V)>, Self::Error>
-        ensures { ReadsEntry Self.Error.is_memory K.reads V.reads (owed self.old) (left self.old) (owed self.new) (left self.new) result }
+        ensures { ReadsEntry Self.Error.is_memory K.reads V.reads
+            (owed self.old) (left self.old) (owed self.new) (left self.new) result }
     {
         self.next_entry_seed(alloc, Of(PhantomData::<K>), Of(PhantomData::<V>))
     }

@@ -37,8 +37,10 @@ pub trait SeqAccess: Sized + Drop {
         alloc: Global,
         seed: S,
     ) -> Result<Option<S::Value>, Self::Error>
-        ensures read { ReadsNext Self.Error.is_memory (S.reads seed) (left self.old) (left self.new) result }
-        ensures law { RestoresNext S.image S.restorable S.same Self.Error.is_memory (left self.old) result }
+        ensures read { ReadsNext Self.Error.is_memory (S.reads seed)
+            (left self.old) (left self.new) result }
+        ensures law { RestoresNext S.image S.restorable S.same
+            Self.Error.is_memory (left self.old) result }
     {
         match self.next_item() {
             Some(item) => match seed.read(alloc, item) {
@@ -57,8 +59,10 @@ pub trait SeqAccess: Sized + Drop {
         &mut self,
         alloc: Global,
     ) -> Result<Option<T>, Self::Error>
-        ensures read { ReadsNext Self.Error.is_memory T.reads (left self.old) (left self.new) result }
-        ensures law { RestoresNext T.image T.restorable T.same Self.Error.is_memory (left self.old) result }
+        ensures read { ReadsNext Self.Error.is_memory T.reads
+            (left self.old) (left self.new) result }
+        ensures law { RestoresNext T.image T.restorable T.same
+            Self.Error.is_memory (left self.old) result }
     {
         self.next_element_seed(alloc, Of(PhantomData::<T>))
     }

@@ -48,8 +48,10 @@ pub trait EnumAccess: Sized + Drop {
         alloc: Global,
         seed: S,
     ) -> Result<(S::Value, Self::Variant), Self::Error>
-        ensures read { Picks Self.Error.is_memory (S.reads seed) Self.Variant.content (index self) (content self) result }
-        ensures law { RestoresPicked S.image S.restorable S.same Self.Error.is_memory (index self) result }
+        ensures read { Picks Self.Error.is_memory (S.reads seed)
+            Self.Variant.content (index self) (content self) result }
+        ensures law { RestoresPicked S.image S.restorable S.same
+            Self.Error.is_memory (index self) result }
     {
         let (item, variant) = self.split();
         match seed.read(alloc, item) {
@@ -63,8 +65,10 @@ pub trait EnumAccess: Sized + Drop {
     /// # Errors
     /// As the type, and only where the index is not read.
     final fn variant<T: Deserialize>(self, alloc: Global) -> Result<(T, Self::Variant), Self::Error>
-        ensures read { Picks Self.Error.is_memory T.reads Self.Variant.content (index self) (content self) result }
-        ensures law { RestoresPicked T.image T.restorable T.same Self.Error.is_memory (index self) result }
+        ensures read { Picks Self.Error.is_memory T.reads
+            Self.Variant.content (index self) (content self) result }
+        ensures law { RestoresPicked T.image T.restorable T.same
+            Self.Error.is_memory (index self) result }
     {
         self.variant_seed(alloc, Of(PhantomData::<T>))
     }
@@ -106,7 +110,8 @@ pub trait VariantAccess: Sized + Drop {
         seed: S,
     ) -> Result<S::Value, Self::Error>
         ensures read { Answers Self.Error.is_memory (There (S.reads seed) (content self)) result }
-        ensures law { RestoresOwed S.image S.restorable S.same Self.Error.is_memory (content self) result }
+        ensures law { RestoresOwed S.image S.restorable S.same
+            Self.Error.is_memory (content self) result }
     {
         match self.into_item() {
             Some(item) => match seed.read(alloc, item) {
@@ -123,7 +128,8 @@ pub trait VariantAccess: Sized + Drop {
     /// As [`VariantAccess::newtype_variant_seed`].
     final fn newtype_variant<T: Deserialize>(self, alloc: Global) -> Result<T, Self::Error>
         ensures read { Answers Self.Error.is_memory (There T.reads (content self)) result }
-        ensures law { RestoresOwed T.image T.restorable T.same Self.Error.is_memory (content self) result }
+        ensures law { RestoresOwed T.image T.restorable T.same
+            Self.Error.is_memory (content self) result }
     {
         self.newtype_variant_seed(alloc, Of(PhantomData::<T>))
     }
@@ -134,8 +140,10 @@ pub trait VariantAccess: Sized + Drop {
     /// The message `Expecting Value::List` where nothing comes with the index; invalid where it is no list; as the
     /// visitor otherwise.
     final fn tuple_variant<V: Visitor>(self, visitor: V) -> Result<V::Value, Self::Error>
-        ensures read { Answers Self.Error.is_memory (There (ByList (V.gives visitor)) (content self)) result }
-        ensures law { Returns (There (ByList (V.stands visitor)) (content self)) V.same Self.Error.is_memory result }
+        ensures read { Answers Self.Error.is_memory
+            (There (ByList (V.gives visitor)) (content self)) result }
+        ensures law { Returns (There (ByList (V.stands visitor)) (content self))
+            V.same Self.Error.is_memory result }
     {
         match self.into_item() {
             Some(item) => item.deserialize_seq(visitor),
@@ -145,8 +153,10 @@ pub trait VariantAccess: Sized + Drop {
 
     /// Shows the list of a variant of fields. As [`VariantAccess::tuple_variant`].
     final fn struct_variant<V: Visitor>(self, visitor: V) -> Result<V::Value, Self::Error>
-        ensures read { Answers Self.Error.is_memory (There (ByList (V.gives visitor)) (content self)) result }
-        ensures law { Returns (There (ByList (V.stands visitor)) (content self)) V.same Self.Error.is_memory result }
+        ensures read { Answers Self.Error.is_memory
+            (There (ByList (V.gives visitor)) (content self)) result }
+        ensures law { Returns (There (ByList (V.stands visitor)) (content self))
+            V.same Self.Error.is_memory result }
     {
         self.tuple_variant(visitor)
     }

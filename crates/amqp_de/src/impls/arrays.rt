@@ -19,8 +19,10 @@ fn read_first<T: Deserialize, D: Deserializer>(
     count: usize,
 ) -> Result<Vec<T>, D::Error>
     ensures read { MatchResult result (λ v. ReadsFirst T.reads count (D.items elements.old) v.items)
-        (Refuses D.Error.is_memory (λ (xs : List T). ReadsFirst T.reads count (D.items elements.old) xs)) }
-    ensures law { (xs : List T) → AllByRecursion T.restorable xs → length xs ≡ count → D.items elements.old ≡ map T.image xs →
+        (Refuses D.Error.is_memory (λ (xs : List T).
+        ReadsFirst T.reads count (D.items elements.old) xs)) }
+    ensures law { (xs : List T) → AllByRecursion T.restorable xs →
+        length xs ≡ count → D.items elements.old ≡ map T.image xs →
         MatchResult result (λ v. AllZip T.same v.items xs) D.Error.is_memory }
 {
     let mut values = Vec::new(alloc);

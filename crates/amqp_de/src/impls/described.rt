@@ -33,13 +33,15 @@ impl Deserialize for Descriptor {
 
 #[tactic(auto, unfolding(crate::specs::Fields::OnDescribed))]
 impl<T: Deserialize> Deserialize for Described<T> {
-    ghost reads = { λ t x. OnDescribed (descriptor_content x.descriptor) (λ u. T.reads u x.value) t };
+    ghost reads = { λ t x.
+        OnDescribed (descriptor_content x.descriptor) (λ u. T.reads u x.value) t };
 
     ghost image = { λ x. described (descriptor_content x.descriptor) (T.image x.value) };
 
     ghost restorable = { λ x. T.restorable x.value };
 
-    ghost same = { λ x y. (descriptor_content x.descriptor ≡ descriptor_content y.descriptor) × T.same x.value y.value };
+    ghost same = { λ x y. (descriptor_content x.descriptor ≡ descriptor_content y.descriptor)
+        × T.same x.value y.value };
 
     fn deserialize<D: Deserializer>(
         alloc: Global,

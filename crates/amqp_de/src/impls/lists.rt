@@ -21,7 +21,8 @@ fn read_all<T: Deserialize, D: Deserializer>(
 ) -> Result<Vec<T>, D::Error>
     ensures read { MatchResult result (λ v. AllZip T.reads (D.items elements.old) v.items)
         (Refuses D.Error.is_memory (λ (xs : List T). AllZip T.reads (D.items elements.old) xs)) }
-    ensures law { (xs : List T) → AllByRecursion T.restorable xs → D.items elements.old ≡ map T.image xs →
+    ensures law { (xs : List T) → AllByRecursion T.restorable xs →
+        D.items elements.old ≡ map T.image xs →
         MatchResult result (λ v. AllZip T.same v.items xs) D.Error.is_memory }
 {
     let mut values = Vec::new(alloc);

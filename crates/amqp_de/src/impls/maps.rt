@@ -28,7 +28,8 @@ trait Inserts<K, V>: Sized + Drop {
 
     /// Inserts a pair, and says whether there was memory for it.
     fn put(&mut self, key: K, value: V) -> bool
-        ensures { (done : List (K × V)) → IsTrue result → holds done self.old → holds (done ++ (key, value) ∷ []) self.new };
+        ensures { (done : List (K × V)) → IsTrue result →
+            holds done self.old → holds (done ++ (key, value) ∷ []) self.new };
 }
 
 /// Reads a key, and then its value.
@@ -37,8 +38,10 @@ fn read_pair<K: Deserialize, V: Deserialize, D: Deserializer>(
     key: D,
     value: D,
 ) -> Result<(K, V), D::Error>
-    ensures read { Answers D.Error.is_memory (ReadsPair K.reads V.reads (D.value key, D.value value)) result }
-    ensures law { (x : K × V) → IsPair K.restorable V.restorable x → (D.value key, D.value value) ≡ pair_image K.image V.image x →
+    ensures read { Answers D.Error.is_memory
+        (ReadsPair K.reads V.reads (D.value key, D.value value)) result }
+    ensures law { (x : K × V) → IsPair K.restorable V.restorable x →
+        (D.value key, D.value value) ≡ pair_image K.image V.image x →
         MatchResult result (λ y. SamePair K.same V.same y x) D.Error.is_memory }
 {
     let key = K::deserialize(alloc, key)?;
@@ -55,9 +58,12 @@ fn read_pairs<K: Deserialize, V: Deserialize, M: Inserts<K, V>, D: Deserializer>
     entries: &mut D::Entries,
 ) -> Result<M, D::Error>
     ensures read { MatchResult result (ReadsPairs K.reads V.reads M.holds (D.pairs entries.old))
-        (Refuses D.Error.is_memory (λ (ps : List (K × V)). AllZip (ReadsPair K.reads V.reads) (D.pairs entries.old) ps)) }
-    ensures law { (xs : List (K × V)) → AllByRecursion (IsPair K.restorable V.restorable) xs → D.pairs entries.old ≡ map (pair_image K.image V.image) xs →
-        MatchResult result (λ m. (ys : List (K × V)) × AllZip (SamePair K.same V.same) ys xs × M.holds ys m) D.Error.is_memory }
+        (Refuses D.Error.is_memory (λ (ps : List (K × V)).
+        AllZip (ReadsPair K.reads V.reads) (D.pairs entries.old) ps)) }
+    ensures law { (xs : List (K × V)) → AllByRecursion (IsPair K.restorable V.restorable) xs →
+        D.pairs entries.old ≡ map (pair_image K.image V.image) xs →
+        MatchResult result (λ m. (ys : List (K × V))
+        × AllZip (SamePair K.same V.same) ys xs × M.holds ys m) D.Error.is_memory }
 {
     let mut map = M::empty(alloc);
     'entries: loop {
@@ -167,7 +173,8 @@ impl<K: Deserialize + Ord, V: Deserialize> Deserialize for BTreeMap<K, V> {
 
 #[tactic(auto, using(crate::proofs::Lists::entries_in_pairs, crate::proofs::Lists::same_maps), unfolding(crate::specs::Maps::OnMap))]
 impl<K: Deserialize + Hash + Eq, V: Deserialize> Deserialize for HashMap<K, V> {
-    ghost reads = { λ t m. OnMap (λ ts. ReadsPairs K.reads V.reads (hashed.IsFromIterResult K.eq) ts m) t };
+    ghost reads = { λ t m.
+        OnMap (λ ts. ReadsPairs K.reads V.reads (hashed.IsFromIterResult K.eq) ts m) t };
 
     ghost image = { λ m. tree.map (pairs_of (map (pair_image K.image V.image) m.entries)) };
 

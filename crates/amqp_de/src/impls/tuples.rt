@@ -63,7 +63,8 @@ impl<A: Deserialize, B: Deserialize, C: Deserialize> Record for (A, B, C) {
 }
 
 impl<A: Deserialize, B: Deserialize, C: Deserialize> Deserialize for (A, B, C) {
-    ghost reads = { λ t x. OnFields (must [] A.reads x.0 (must [] B.reads x.1 (must [] C.reads x.2 end))) t };
+    ghost reads = { λ t x.
+        OnFields (must [] A.reads x.0 (must [] B.reads x.1 (must [] C.reads x.2 end))) t };
 
     ghost image = { λ x. list (trees_of (A.image x.0 ∷ B.image x.1 ∷ C.image x.2 ∷ [])) };
 
@@ -91,11 +92,14 @@ impl<A: Deserialize, B: Deserialize, C: Deserialize, D: Deserialize> Record for 
 }
 
 impl<A: Deserialize, B: Deserialize, C: Deserialize, D: Deserialize> Deserialize for (A, B, C, D) {
-    ghost reads = { λ t x. OnFields (must [] A.reads x.0 (must [] B.reads x.1 (must [] C.reads x.2 (must [] D.reads x.3 end)))) t };
+    ghost reads = { λ t x. OnFields (must [] A.reads x.0
+        (must [] B.reads x.1 (must [] C.reads x.2 (must [] D.reads x.3 end)))) t };
 
-    ghost image = { λ x. list (trees_of (A.image x.0 ∷ B.image x.1 ∷ C.image x.2 ∷ D.image x.3 ∷ [])) };
+    ghost image = { λ x.
+        list (trees_of (A.image x.0 ∷ B.image x.1 ∷ C.image x.2 ∷ D.image x.3 ∷ [])) };
 
-    ghost restorable = { λ x. A.restorable x.0 × B.restorable x.1 × C.restorable x.2 × D.restorable x.3 };
+    ghost restorable = { λ x. A.restorable x.0 × B.restorable x.1
+        × C.restorable x.2 × D.restorable x.3 };
 
     ghost same = { λ x y. A.same x.0 y.0 × B.same x.1 y.1 × C.same x.2 y.2 × D.same x.3 y.3 };
 

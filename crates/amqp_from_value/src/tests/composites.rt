@@ -32,11 +32,14 @@ impl Deserialize for Flow {
         may (codes "credit") ⟦<u32 as Deserialize>⟧.reads x.credit end))) t };
 
     ghost image = { λ x. described (code 0x13) (list (trees_of (
-        ⟦<u32 as Deserialize>⟧.image x.handle ∷ image_option ⟦<u32 as Deserialize>⟧.image x.credit ∷ []))) };
+        ⟦<u32 as Deserialize>⟧.image x.handle
+        ∷ image_option ⟦<u32 as Deserialize>⟧.image x.credit ∷ []))) };
 
-    ghost restorable = { λ x. RestorableOption ⟦<u32 as Deserialize>⟧.image ⟦<u32 as Deserialize>⟧.restorable x.credit };
+    ghost restorable = { λ x.
+        RestorableOption ⟦<u32 as Deserialize>⟧.image ⟦<u32 as Deserialize>⟧.restorable x.credit };
 
-    ghost same = { λ x y. (x.handle ≡ y.handle) × SameOption ⟦<u32 as Deserialize>⟧.same x.credit y.credit };
+    ghost same = { λ x y. (x.handle ≡ y.handle)
+        × SameOption ⟦<u32 as Deserialize>⟧.same x.credit y.credit };
 
     fn deserialize<D: Deserializer>(alloc: Global, deserializer: D) -> Result<Flow, D::Error> {
         let fields! { handle, credit } = read_described::<Flow, D, _, _>(
@@ -68,9 +71,11 @@ impl Deserialize for Limits {
         may (codes "high") ⟦<u32 as Deserialize>⟧.reads x.high end))) t };
 
     ghost image = { λ x. described (code 0x15) (list (trees_of (
-        ⟦<i32 as Deserialize>⟧.image x.low ∷ image_option ⟦<u32 as Deserialize>⟧.image x.high ∷ []))) };
+        ⟦<i32 as Deserialize>⟧.image x.low
+        ∷ image_option ⟦<u32 as Deserialize>⟧.image x.high ∷ []))) };
 
-    ghost restorable = { λ x. RestorableOption ⟦<u32 as Deserialize>⟧.image ⟦<u32 as Deserialize>⟧.restorable x.high };
+    ghost restorable = { λ x.
+        RestorableOption ⟦<u32 as Deserialize>⟧.image ⟦<u32 as Deserialize>⟧.restorable x.high };
 
     ghost same = { λ x y. (x.low ≡ y.low) × SameOption ⟦<u32 as Deserialize>⟧.same x.high y.high };
 

@@ -31,7 +31,8 @@ struct PointVisitor {
 impl Visitor for PointVisitor {
     type Value = Point;
 
-    ghost gives = { λ _ e p. (ts : List Tree) × (e ≡ seq_event (scalar (uint p.x) ∷ scalar (uint p.y) ∷ ts)) };
+    ghost gives = { λ _ e p. (ts : List Tree)
+        × (e ≡ seq_event (scalar (uint p.x) ∷ scalar (uint p.y) ∷ ts)) };
 
     ghost stands = { λ _ e p. e ≡ seq_event (scalar (uint p.x) ∷ scalar (uint p.y) ∷ []) };
 
@@ -53,7 +54,8 @@ impl Visitor for PointVisitor {
 }
 
 impl Deserialize for Point {
-    ghost reads = { ByList (λ e p. (ts : List Tree) × (e ≡ seq_event (scalar (uint p.x) ∷ scalar (uint p.y) ∷ ts))) };
+    ghost reads = { ByList (λ e p. (ts : List Tree)
+        × (e ≡ seq_event (scalar (uint p.x) ∷ scalar (uint p.y) ∷ ts))) };
 
     ghost image = { λ p. list (trees_of (scalar (uint p.x) ∷ scalar (uint p.y) ∷ [])) };
 

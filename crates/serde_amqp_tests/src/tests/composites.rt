@@ -18,7 +18,8 @@ use std::test::Fail;
 struct Pair<A, B>(A, B);
 
 impl<A: Serialize, B: Serialize> Serialize for Pair<A, B> {
-    ghost tree = { λ p. as_described (Some (code 0x13)) (whole List (A.tree p.0 ∷ (B.tree p.1 ∷ []))) };
+    ghost tree = { λ p.
+        as_described (Some (code 0x13)) (whole List (A.tree p.0 ∷ (B.tree p.1 ∷ []))) };
 
     fn serialize<S: Serializer>(&self, serializer: &mut S) -> Result<S::Ok, S::Error> {
         let mut fields = serializer.serialize_struct(markers::DESCRIBED_LIST, 3)?;

@@ -29,7 +29,8 @@ impl Serialize for Newtype {
 struct Tuple(i32, &'static str);
 
 impl Serialize for Tuple {
-    ghost tree = { λ t. whole (kind.Fields 1) (Some (scalar (int t.0)) ∷ (Some (scalar (string t.1.now)) ∷ [])) };
+    ghost tree = { λ t.
+        whole (kind.Fields 1) (Some (scalar (int t.0)) ∷ (Some (scalar (string t.1.now)) ∷ [])) };
 
     fn serialize<S: Serializer>(&self, serializer: &mut S) -> Result<S::Ok, S::Error> {
         let mut fields = serializer.serialize_tuple_variant("Sample", 1, "Tuple", 2)?;
@@ -44,7 +45,8 @@ impl Serialize for Tuple {
 struct Struct(u32, bool);
 
 impl Serialize for Struct {
-    ghost tree = { λ s. whole (kind.Fields 0) (Some (scalar (uint s.0)) ∷ (Some (scalar (bool s.1)) ∷ [])) };
+    ghost tree = { λ s.
+        whole (kind.Fields 0) (Some (scalar (uint s.0)) ∷ (Some (scalar (bool s.1)) ∷ [])) };
 
     fn serialize<S: Serializer>(&self, serializer: &mut S) -> Result<S::Ok, S::Error> {
         let mut fields = serializer.serialize_struct_variant("Sample", 0, "Struct", 2)?;
