@@ -1,4 +1,4 @@
--- What was taken of a frame, where it goes on and where it ends.
+-- What was taken of an encoded value, where it goes on and where it ends.
 use Rattle.std.proofs.Common.{◌≡◌, ℕ, ◌-◌, ◌<◌, ◌≤◌, false, IsTrue, List, [], ◌∷◌, ◌++◌, inl, inr, Option, None, Some, IfSome, Result, Ok, Err, IfOk, IfErr, OnErr, length, refl, sym, ap, ◌∙◌, arith, append_assoc, length-append}
 use Rattle.std.proofs.lemmas.List.{append-nil}
 use Rattle.std.specs.Io.KnownBytes.{Consumes}

@@ -1,4 +1,5 @@
--- The first frame of a byte string, or why there is none: one function from which the laws of the grammar follow.
+-- The first encoded value of a byte string, or why there is none: one function from which the laws of the grammar
+-- follow.
 use Rattle.std.proofs.Common.{◌≡◌, ℕ, zero, suc, ◌+◌, ◌<◌, ◌≤◌, Bool, true, false, cond, eqb, leb, IsTrue, List, [], ◌∷◌, ◌++◌, length, take, drop, refl, sym, ap, ◌∙◌, append_assoc, arith, length-append, length-take}
 use Rattle.std.proofs.lemmas.List.{take-append-drop, get_or-take}
 use Rattle.std.proofs.Math.Seq.{take-append_seam, drop-append_seam}
@@ -14,7 +15,7 @@ pub data Outcome : Type 0 where
   broken : List ℕ → List ℕ → Outcome
   partial : Outcome
 
--- more bytes in front of what was taken
+-- more bytes before what was taken
 abbrev pub shift : List ℕ → Outcome → Outcome
 shift d (whole f r) = whole (d ++ f) r
 shift d (broken f r) = broken (d ++ f) r

@@ -1,4 +1,4 @@
--- What the fronts of a byte string can be.
+-- What the prefixes of a byte string can be.
 use Rattle.std.proofs.Common.{◌≡◌, ℕ, ◌+◌, inl, inr, List, ◌++◌, length, sym, ap, ◌∙◌, arith}
 use Rattle.amqp_frame.specs.Frame.{IsFrame, IsBeginning, IsBroken, HasFrame, HasBroken, ExactlyOne}
 use Rattle.amqp_frame.proofs.FirstFrame.{Outcome, cut, cut-frame, cut-broken, cut-beginning, cut-means, Means}

@@ -1,4 +1,4 @@
--- One code and its payload at the front of a byte string.
+-- One code and its payload as a prefix of a byte string.
 use Rattle.std.proofs.Common.{◌≡◌, ◌≢◌, ℕ, suc, ◌+◌, ◌-◌, ◌<◌, ◌≤◌, ◌⊎◌, inl, inr, false, IsTrue, List, [], ◌∷◌, ◌++◌, length, take, drop, slice_index, refl, sym, ap, ◌∙◌, arith, length-take, length-drop, append_assoc, take_all, get_or}
 use Rattle.std.proofs.lemmas.List.{take-append-drop, take_more}
 use Rattle.std.proofs.Math.Seq.{take-add}
@@ -28,7 +28,7 @@ front-frame (c ∷ p) n some ok len fits =
     let e : 1 + n ≡ suc n = omega arith in
     rw e (IsFrame.primitive c (take n p) ok (omega arith))
 
--- where no frame can come
+-- where no encoded value can come
 pub open-none : (s : List ℕ) (at n : ℕ) → 0 < n → Open (take at s) n → HasBroken (drop at s) ⊎ IsBeginning (drop at s)
     → ¬ HasFrame s
 open-none s at n pos o (inl (b, r, br, e)) has =
@@ -39,7 +39,7 @@ open-none s at n pos o (inr be) has =
     let whole : IsBeginning s = rw (take-append-drop at s) at (open-beginning (take at s) (drop at s) n pos be o) in
     frame-beginning s has whole
 
--- a frame at the front is that front
+-- an encoded value that is a prefix is that prefix
 pub only-length : (s front rest : List ℕ) (n : ℕ) → n ≤ length s → IsFrame (take n s) → IsFrame front
     → s ≡ front ++ rest → n ≡ length front
 only-length s front rest n within f g e =

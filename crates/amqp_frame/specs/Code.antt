@@ -1,4 +1,4 @@
--- The codes that begin a frame, and how long their payloads are (AMQP 1.0 part 1, sections 1.2.1 to 1.2.4).
+-- The codes that begin an encoded value, and how long their payloads are (AMQP 1.0 part 1, sections 1.2.1 to 1.2.4).
 use Rattle.std.specs.Prelude.{ℕ, ◌+◌, ◌/◌, ◌%◌, Bool, ◌&&◌, nat_lt, nat_le, ◌==◌, if◌then◌else◌, List, slice_index}
 use Rattle.std.specs.Int.{from_be_bytes, w32}
 use Rattle.amqp_frame.specs.declared.code.Category.{Category}
@@ -20,7 +20,7 @@ category code =
     if code / 16 == 9 then Fixed 16 else
     if code / 16 % 2 == 0 then OneByteSize else FourByteSize
 
--- how many bytes at the front of a payload are its size (none in section 1.2.1, one or four in 1.2.2 to 1.2.4)
+-- how many bytes of a payload, from its first on, are its size (none in section 1.2.1, one or four in 1.2.2 to 1.2.4)
 unfoldable pub size_width : Category → ℕ
 size_width (Fixed n) = 0
 size_width OneByteSize = 1

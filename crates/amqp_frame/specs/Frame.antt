@@ -1,15 +1,15 @@
--- The grammar of frames on whole byte strings (AMQP 1.0 part 1, sections 1.2 to 1.2.4).
+-- The grammar of encoded values on whole byte strings (AMQP 1.0 part 1, sections 1.2 to 1.2.4).
 use Rattle.std.specs.Prelude.{◌≡◌, ℕ, ◌<◌, ◌⊎◌, IsTrue, IsFalse, List, [], ◌∷◌, ◌++◌, length}
 use Rattle.amqp_frame.specs.Code.{is_primitive_code, category, payload_len}
 
 -- one encoded value: a primitive code with the payload of its category (sections 1.2.1 to 1.2.4), or 00 with two
--- frames, the descriptor and the value (section 1.2)
+-- more, the descriptor and the value (section 1.2)
 pub data IsFrame : List ℕ → Type 0 where
   primitive : (code : ℕ) (payload : List ℕ) → IsTrue (is_primitive_code code)
       → length payload ≡ payload_len (category code) payload → IsFrame (code ∷ payload)
   described : (descriptor value : List ℕ) → IsFrame descriptor → IsFrame value → IsFrame (0 ∷ descriptor ++ value)
 
--- less than a frame, which more bytes can complete (sections 1.2.1 to 1.2.4)
+-- incomplete: less than an encoded value, which more bytes can complete (sections 1.2.1 to 1.2.4)
 pub data IsBeginning : List ℕ → Type 0 where
   nothing : IsBeginning []
   short : (code : ℕ) (payload : List ℕ) → IsTrue (is_primitive_code code)
@@ -18,18 +18,18 @@ pub data IsBeginning : List ℕ → Type 0 where
   in_value : (descriptor bytes : List ℕ) → IsFrame descriptor → IsBeginning bytes
       → IsBeginning (0 ∷ descriptor ++ bytes)
 
--- a refused code stands where a frame was to begin, and ends the bytes (section 1.2)
+-- malformed: a refused code stands where a value was to begin, and ends the bytes (section 1.2)
 pub data IsBroken : List ℕ → Type 0 where
   refused : (code : ℕ) → 0 < code → IsFalse (is_primitive_code code) → IsBroken (code ∷ [])
   in_descriptor : (bytes : List ℕ) → IsBroken bytes → IsBroken (0 ∷ bytes)
   in_value : (descriptor bytes : List ℕ) → IsFrame descriptor → IsBroken bytes
       → IsBroken (0 ∷ descriptor ++ bytes)
 
--- a front of the bytes is a frame
+-- a prefix of the bytes is an encoded value
 abbrev pub HasFrame : List ℕ → Type 0
 HasFrame s = (front rest : List ℕ) × IsFrame front × (s ≡ front ++ rest)
 
--- a front of the bytes is broken
+-- a prefix of the bytes is malformed
 abbrev pub HasBroken : List ℕ → Type 0
 HasBroken s = (front rest : List ℕ) × IsBroken front × (s ≡ front ++ rest)
 

@@ -32,7 +32,7 @@ abbrev pub CountsOne : Bool → ℕ → ℕ → Type 0
 CountsOne true before after = before < last_count → after ≡ before + 1
 CountsOne false before after = after ≡ before
 
--- some front of the bytes was taken: it and what is left are together what was left before
+-- some prefix of the bytes was taken: it and what is left are together what was left before
 abbrev pub Takes : Option (List ℕ) → Option (List ℕ) → Type 0
 Takes old new = (taken : List ℕ) × Consumes old new taken
 

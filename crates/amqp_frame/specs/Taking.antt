@@ -1,4 +1,4 @@
--- What a reader loses to a frame, or to one that did not come (AMQP 1.0 part 1, section 1.2).
+-- What a reader loses to an encoded value, or to one that did not come (AMQP 1.0 part 1, section 1.2).
 use Rattle.std.specs.Prelude.{◌≡◌, ℕ, ◌⊎◌, ◌↔◌, List, [], ◌++◌, Option, Some, IfSome, Result, IsOk, IsErrOf}
 use Rattle.std.specs.Io.KnownBytes.{Consumes}
 use Rattle.amqp_data.specs.declared.error.Error.{Error}
@@ -10,11 +10,11 @@ use Rattle.amqp_frame.specs.Reader.{Takes, Failed}
 abbrev pub Moves : Option (List ℕ) → Option (List ℕ) → List ℕ → List ℕ → (List ℕ → Type 0) → Type 0
 Moves old new before after P = (bytes : List ℕ) × Consumes old new bytes × (after ≡ before ++ bytes) × P bytes
 
--- only the beginning of a frame was left, and all of it was taken
+-- what was left was incomplete, and all of it was taken
 abbrev pub TakesBeginning : Option (List ℕ) → Option (List ℕ) → Type 0
 TakesBeginning old new = IfSome old (λ s. IsBeginning s × (new ≡ Some []))
 
--- just a broken front was taken, which ends with the refused code
+-- just a malformed prefix was taken, which ends with the refused code
 abbrev pub TakesBroken : Option (List ℕ) → Option (List ℕ) → Type 0
 TakesBroken old new = (front : List ℕ) × IsBroken front × Consumes old new front
 
@@ -28,7 +28,7 @@ Refuses old new before after at_end at_code TooLong = ⊥
 Refuses old new before after at_end at_code InvalidValue = ⊥
 Refuses old new before after at_end at_code (Message words) = ⊥
 
--- want of memory and failed reads aside, the bytes that were left decide the answer
+-- out of memory and failed reads aside, the bytes that were left decide the answer
 abbrev pub DecidedBy : {T : Type 0} → List ℕ → Result T Error → Type 0
 DecidedBy s r =
     IsErrOf r OutOfMemory ⊎ (IsErrOf r Io ⊎ ((IsOk r ↔ HasFrame s)

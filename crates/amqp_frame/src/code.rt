@@ -1,4 +1,4 @@
-//! The codes that begin a frame, and how long their payloads are.
+//! The codes that begin an encoded value, and how long their payloads are.
 
 ghost use Rattle.std.specs.Prelude.{◌≡◌, ◌≤◌, length};
 ghost use Rattle.amqp_frame.specs.Code.{is_primitive_code, category, size_width, body_len};
@@ -39,7 +39,7 @@ pub fn category_of(code: u8) -> Category
     }
 }
 
-/// How many bytes at the front of a payload are its size.
+/// How many bytes of a payload, from its first on, are its size.
 #[tactic(auto, unfolding(crate::specs::Code::size_width))]
 pub fn size_width_of(category: Category) -> usize
     ensures width { result ≡ size_width category }

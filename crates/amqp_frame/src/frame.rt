@@ -1,11 +1,14 @@
-//! Where the first frame of a slice ends.
+//! Where the first encoded value of a slice ends.
 
 ghost use Rattle.std.specs.Prelude.{◌≡◌, ◌≢◌, ◌≤◌, ◌<◌, ◌⊎◌, ◌++◌, ℕ, List, IfSome, IfNone, Some, length, take, slice_index};
 ghost use Rattle.amqp_frame.specs.Frame.{IsFrame, IsBeginning, HasFrame, HasBroken};
 
 use crate::code::{body_len_of, category_of, is_primitive, size_width_of};
 
-/// The length of the frame that the bytes begin with: none where no front of them is a frame.
+/// The length of the encoded value that the bytes begin with: none where no prefix of them is one.
+///
+/// The name says frame, as the crate `serde_amqp` does. A frame of the transport, with its header of
+/// eight bytes (AMQP 1.0 part 2, section 2.3), is another thing.
 ///
 /// # Encoding
 ///
@@ -14,7 +17,7 @@ use crate::code::{body_len_of, category_of, is_primitive, size_width_of};
 ///
 /// # Memory
 ///
-/// Takes none. Frames inside one another are counted, with no call for each.
+/// Takes none. Encoded values inside one another are counted, with no call for each.
 ///
 /// # Example
 ///

@@ -5,22 +5,24 @@ ghost use Rattle.std.specs.List.{AllByRecursion, concat};
 ghost use Rattle.amqp_frame.specs.Cut.{IsCut};
 ghost use Rattle.amqp_frame.specs.Frame.{IsFrame, IsBeginning, IsBroken, HasFrame, HasBroken, ExactlyOne};
 
-/// Of the fronts of a string at most one is a frame, so no frame is a proper front of another.
+/// Of the prefixes of a string at most one is an encoded value, so no encoded value is a proper prefix
+/// of another.
 pub fn one_frame()
     ensures { (a b x y : List ℕ) → IsFrame a → IsFrame b → a ++ x ≡ b ++ y → (a ≡ b) × (x ≡ y) }
 {}
 
-/// Of the fronts of a string at most one is broken.
+/// Of the prefixes of a string at most one is malformed.
 pub fn one_broken()
     ensures { (a b x y : List ℕ) → IsBroken a → IsBroken b → a ++ x ≡ b ++ y → (a ≡ b) × (x ≡ y) }
 {}
 
-/// Every string has exactly one of a frame as a front, a broken front, being itself a beginning.
+/// Every string has exactly one of three: an encoded value as a prefix, a malformed prefix, being
+/// itself incomplete.
 pub fn one_case()
     ensures { (s : List ℕ) → ExactlyOne (HasFrame s) (HasBroken s) (IsBeginning s) }
 {}
 
-/// A frame has a byte at least.
+/// An encoded value has a byte at least.
 pub fn some_byte()
     ensures { (frame : List ℕ) → IsFrame frame → 0 < length frame }
 {}
@@ -36,7 +38,7 @@ pub fn one_cut()
         IsCut s frames rest → IsCut s others last → (frames ≡ others) × (rest ≡ last) }
 {}
 
-/// Frames joined are cut back into the single ones.
+/// Encoded values joined are cut back into the single ones.
 pub fn cut_back()
     ensures { (frames : List (List ℕ)) → AllByRecursion IsFrame frames →
         IsCut (concat frames) frames [] }

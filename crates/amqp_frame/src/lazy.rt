@@ -1,4 +1,4 @@
-//! The bytes of one frame.
+//! The bytes of one encoded value.
 
 ghost use Rattle.std.specs.Prelude.{◌≡◌, ◌≤◌, IfOk, IfErr, OnErr, IfSome, IsOkUnless};
 ghost use Rattle.std.specs.Io.KnownBytes.{Consumes};
@@ -14,7 +14,7 @@ use bytes::Bytes;
 use std::alloc::Global;
 use std::marker::Model;
 
-/// The bytes of exactly one frame, not looked into.
+/// The bytes of exactly one encoded value, not looked into.
 ///
 /// Equality, order and hash go by the bytes. A contract sees a `LazyValue` as its bytes.
 #[derive(Debug, Drop, PartialEq, Eq, PartialOrd, Ord, Hash)]
@@ -36,7 +36,10 @@ impl Model for LazyValue {
 }
 
 impl LazyValue {
-    /// Takes exactly the next frame, and leaves what follows it.
+    /// Takes exactly the next encoded value, and leaves what follows it.
+    ///
+    /// The contracts say frame, as the crate `serde_amqp` does. A frame of the transport, with its
+    /// header of eight bytes (AMQP 1.0 part 2, section 2.3), is another thing.
     ///
     /// # Encoding
     ///
@@ -45,15 +48,15 @@ impl LazyValue {
     ///
     /// # Errors
     ///
-    /// [`Error::InvalidFormatCode`] where a refused code stands where a frame was to begin; it is the
-    /// last byte taken. [`Error::UnexpectedEof`] where the input ends before the frame does; nothing is
-    /// left. [`Error::Io`] where a read failed, and [`Error::OutOfMemory`]. After each of them, what was
-    /// taken and what is left are together what was left before.
+    /// [`Error::InvalidFormatCode`] where a refused code stands where a value was to begin; it is the
+    /// last byte taken. [`Error::UnexpectedEof`] where the input ends before the value does; nothing
+    /// is left. [`Error::Io`] where a read failed, and [`Error::OutOfMemory`]. After each of them,
+    /// what was taken and what is left are together what was left before.
     ///
     /// # Memory
     ///
     /// Takes `alloc`. It grows with the bytes that come, by pieces of at most 4,096, and not with the
-    /// sizes that they claim. Frames inside one another are counted, with no call for each.
+    /// sizes that they claim. Encoded values inside one another are counted, with no call for each.
     ///
     /// # Example
     ///
@@ -137,7 +140,7 @@ impl From<LazyValue> for Bytes {
     }
 }
 
-// The next frame, code by code, with a count of the frames that are still open.
+// The next encoded value, code by code, with a count of those that are still open.
 fn take_frame<R: Read>(alloc: Global, reader: &mut R) -> Result<LazyValue, Error>
     ensures frame { IfOk result (λ value.
         IsFrame value × Consumes (R.left reader.old) (R.left reader.new) value) }

@@ -16,7 +16,7 @@ pub struct SliceReader<'a> {
 }
 
 impl<'a> SliceReader<'a> {
-    /// Reads the slice from its front.
+    /// Reads the slice from its first byte on.
     ///
     /// # Memory
     ///

@@ -1,4 +1,4 @@
-//! Rows of frames, through readers that give a slice, one byte a call, or fail.
+//! Rows of encoded values, through readers that give a slice, one byte a call, or fail.
 
 ghost use Rattle.std.specs.Prelude.{◌≡◌, ◌+◌, ◌<◌, ◌↔◌, IsErrOf, IsTrue, OnOk, Some};
 ghost use Rattle.std.specs.Cmp.Lexicographic.{slice_cmp};
@@ -44,7 +44,7 @@ fn by_bytes(bytes: &[u8], failing: u64, kind: ErrorKind) -> IoReader<Drip<'_>> {
     })
 }
 
-// The length of the next frame, or why there is none, and how many bytes are left.
+// The length of the next encoded value, or why there is none, and how many bytes are left.
 fn cut<R: Read>(alloc: Global, reader: &mut R) -> (Result<usize, Error>, usize) {
     let length = match LazyValue::from_reader(alloc, reader) {
         Ok(value) => Ok(value.as_slice().len()),
@@ -73,8 +73,8 @@ fn cut_by_bytes(
     cut(alloc, &mut by_bytes(bytes, failing, kind))
 }
 
-// Inputs, the length of the frame that each begins with or why there is none, and how many bytes are
-// left.
+// Inputs, the length of the encoded value that each begins with or why there is none, and how many
+// bytes are left.
 const ROWS: [(&[u8], Result<usize, Error>, usize); 14] = [
     (b"\x50\x01\x40", Ok(2), 1),
     (b"\x00\xa1\x01\x61\x45", Ok(5), 0),
