@@ -1,3 +1,4 @@
+-- Contracts of public items rest on all of these.
 pub mod Compares
 pub mod Fixed
 pub mod FormatCode

@@ -1,3 +1,4 @@
+-- Contracts of public items rest on all of these.
 pub mod Parts
 pub mod Maps
 pub mod Reads

@@ -1,9 +1,12 @@
+-- What contracts of public items rest on, but for `texts` in Lines.
 pub mod Writer
 pub mod CutLines
 pub mod CutRun
-pub mod CutSteps
 pub mod Lines
 pub mod LinesRun
+-- What contracts of private functions alone cite, with that one.
+pub mod CutSteps
+-- Definitions of the crates below that contracts of what is handed out cite.
 pub use Rattle.amqp_data.specs.FormatCode
 pub use Rattle.amqp_data.specs.Items
 pub use Rattle.amqp_data.specs.Pairs
