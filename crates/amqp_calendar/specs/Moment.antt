@@ -3,7 +3,7 @@ use Rattle.std.specs.Prelude.{ℕ, ◌+◌, ◌-◌, ◌/◌, ◌%◌, List, ◌
 use Rattle.std.specs.Int.{int_div_euclid, int_rem_euclid}
 use Rattle.amqp_calendar.specs.DateOf.{date_of}
 
--- a number of at least that many digits, with zeros in front
+-- a number of at least that many digits, with leading zeros
 abbrev pub padded : ℕ → ℕ → List ℕ
 padded width n = replicate (width - length (decimal n)) 48 ++ decimal n
 

@@ -16,7 +16,7 @@ const DAY: i64 = 86_400_000;
 /// Years from 0 to 9999 have four digits, others a sign and at least six.
 ///
 /// # Errors
-/// The formatter's, where its writer refuses; a beginning of the text was written then.
+/// The formatter's, where its writer refuses; a prefix of the text was written then.
 ///
 /// # Memory
 /// What the formatter's writer takes.

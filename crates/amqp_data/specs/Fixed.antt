@@ -38,7 +38,7 @@ milliseconds_of timestamp = timestamp.0
 abbrev pub uuid_bytes : Uuid → List ℕ
 uuid_bytes uuid = uuid.0
 
--- what comes of bytes where `width` of them are wanted: a value of these bytes, or a refusal of their number
+-- what comes of bytes where `width` of them are asked for: a value of these bytes, or a refusal of their number
 abbrev pub GivesFixed : {T : Type 0} → ℕ → (T → List ℕ) → List ℕ → Result T Error → Type 0
 GivesFixed width bytes_of bytes result =
     (length bytes ≡ width → IsOk result)

@@ -9,7 +9,7 @@ use thiserror::Error as ThisError;
 /// Why a call refused.
 #[derive(Debug, PartialEq, Eq, Drop, ThisError)]
 pub enum Error {
-    /// A growth of memory was refused.
+    /// A request for memory was refused.
     #[error("out of memory")]
     OutOfMemory,
     /// A length or a count is past its limit.

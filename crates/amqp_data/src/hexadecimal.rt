@@ -10,7 +10,7 @@ use std::fmt::{Formatter, Write};
 /// Writes two digits for each byte.
 ///
 /// # Errors
-/// The formatter's, where its writer refuses; a beginning of the digits was written then.
+/// The formatter's, where its writer refuses; a prefix of the digits was written then.
 ///
 /// # Memory
 /// What the formatter's writer takes.

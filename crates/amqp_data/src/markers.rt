@@ -21,7 +21,7 @@ pub const DECIMAL128: &str = "__DECIMAL128";
 pub const ARRAY: &str = "__ARRAY";
 /// A newtype over a list: its elements one after another, with no header.
 pub const TRANSPARENT_VEC: &str = "__TRANSPARENT_VEC";
-/// A newtype over a binary that is one frame: that frame.
+/// A newtype over a binary that is one encoded value: that value.
 pub const LAZY_VALUE: &str = "__LAZY_VALUE";
 /// The key of a field that holds a descriptor.
 pub const DESCRIPTOR: &str = "__DESCRIPTOR";

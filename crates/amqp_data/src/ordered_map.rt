@@ -109,7 +109,8 @@ impl<K: Hash + Eq, V> OrderedMap<K, V> {
     /// searched in order.
     ///
     /// # Errors
-    /// `OutOfMemory` where a new key finds no room. Nothing is changed then, and the pair is dropped.
+    /// `OutOfMemory` where memory for a new key is refused. Nothing is changed then, and the pair is
+    /// dropped.
     ///
     /// # Memory
     /// Takes none where the key is present.

@@ -24,7 +24,7 @@ impl Symbol {
     /// A symbol with a copy of the text.
     ///
     /// # Errors
-    /// `OutOfMemory` where the copy finds no room.
+    /// `OutOfMemory` where memory for the copy is refused.
     ///
     /// # Memory
     /// Takes `alloc`.

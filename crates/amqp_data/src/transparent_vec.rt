@@ -76,7 +76,7 @@ impl<T> TransparentVec<T> {
     /// A transparent vector of what an iterator gives, which ends.
     ///
     /// # Errors
-    /// `OutOfMemory` where the elements find no room. What was gathered is dropped then.
+    /// `OutOfMemory` where memory for the elements is refused. What was gathered is dropped then.
     ///
     /// # Memory
     /// Takes `alloc`.

@@ -90,7 +90,7 @@ module _ (d n : ℕ) (body : List ℕ) (t : Tree) (ok : fits (length body) ≡ t
       (λ _. Spells.primitive d c8 ((length body + 1) ∷ n ∷ body) (n ∷ body) t p8 (subst (λ k. IsPayload k ((length body + 1) ∷ n ∷ body) (n ∷ body)) (sym is8) (short-payload n body)) h8)
       (λ _. Spells.primitive d c32 (wide n body) (to_be_bytes w32 n ++ body) t p32 (subst (λ k. IsPayload k (wide n body) (to_be_bytes w32 n ++ body)) (sym is32) (wide-payload n body ok)) h32)
 
--- each frame has a byte at least
+-- each encoded value has a byte at least
 some-byte : {d : ℕ} {a : List ℕ} {t : Tree} → Spells d a t → 0 < length a
 some-byte (Spells.primitive d c p s t ok is h) = omega arith
 some-byte (Spells.described d a b l t is sp) = omega arith

@@ -23,7 +23,7 @@ number-four (IsNumber.four_bytes a b c e) x =
     let h : cut 4 ((a ∷ b ∷ c ∷ e ∷ []) ++ x) ≡ Some (a ∷ b ∷ c ∷ e ∷ [], x) = cut-seam (a ∷ b ∷ c ∷ e ∷ []) x in
     rw h refl
 
--- the content of a payload at the front
+-- the content of a payload, which comes first
 pub payload-found : {k : Category} {p content : List ℕ} → IsPayload k p content → (x : List ℕ) → content_at k (p ++ x) ≡ Some (content, x)
 unfolding sized_at
 payload-found (IsPayload.of_width content) x = cut-seam content x

@@ -1,4 +1,4 @@
--- What spells a tree is a frame.
+-- What spells a tree is an encoded value.
 use Rattle.std.proofs.Common.{◌≡◌, ℕ, IsTrue, List, ◌++◌, length, refl, arith, length-append}
 use Rattle.std.specs.Int.{from_be_bytes, w32}
 use Rattle.amqp_data.specs.FormatCode.{code_of}

@@ -53,12 +53,12 @@ found-next P (Some x) h a e =
     subst P same h
 
 module _ {A : Type 0} (S T : List ℕ → A → Type 0) where
-  -- more bytes in front
+  -- more bytes before them
   pub says-under : (s a rest : List ℕ) (o : Option (A × List ℕ)) → s ≡ a ++ rest → Says S rest o → ((b : List ℕ) (x : A) → S b x → T (a ++ b) x) → Says T s o
   says-under s a rest None e h k = tt
   says-under s a rest (Some r) e h k = (a ++ h.0, (e ∙ ap (λ z. a ++ z) h.1 ∙ sym (append_assoc a h.0 r.1)), k h.0 r.0 h.2)
 
--- with a byte in front
+-- with a byte before them
 pub fronted : {A : Type 0} (S : List ℕ → A → Type 0) (c : ℕ) (s : List ℕ) (o : Option (A × List ℕ)) → Says (λ b t. S (c ∷ b) t) s o → Says S (c ∷ s) o
 fronted S c s None h = tt
 fronted S c s (Some r) h = (c ∷ h.0, ap (λ z. c ∷ z) h.1, h.2)
@@ -164,7 +164,7 @@ descriptor-from (Some (tree.uuid bs)) d e = absurd cc
 descriptor-from (Some (tree.binary bs)) d e = absurd cc
 descriptor-from (Some (tree.string bs)) d e = absurd cc
 
--- a byte in front that has this primitive code
+-- a first byte that has this primitive code
 under-code : {A : Type 0} (S : List ℕ → A → Type 0) (byte : ℕ) (c : EncodingCodes) (s : List ℕ) (o : Option (A × List ℕ)) → code_of c ≡ byte
     → Says (λ b t. S (code_of c ∷ b) t) s o → Says S (byte ∷ s) o
 under-code S byte c s o is h = subst (λ z. Says S (z ∷ s) o) is (fronted S (code_of c) s o h)

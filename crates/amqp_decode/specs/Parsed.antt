@@ -1,4 +1,4 @@
--- The tree at the front of a byte string and the bytes after it, as a function of the depth that is left.
+-- The tree that a prefix of a byte string spells and the bytes after it, as a function of the depth that is left.
 use Rattle.std.specs.Prelude.{ℕ, zero, suc, ◌/◌, ◌%◌, Bool, true, false, List, [], ◌∷◌, ◌++◌, length, take, drop, Option, Some, None, if◌then◌else◌, ◌==◌, nat_le}
 use Rattle.std.specs.Int.{from_be_bytes, w32}
 use Rattle.amqp_data.specs.FormatCode.{code_of}
@@ -20,21 +20,21 @@ use Rattle.amqp_decode.specs.declared.shape.Shape.TheVariants as shape
 abbrev pub cut : ℕ → List ℕ → Option (List ℕ × List ℕ)
 cut n s = if nat_le n (length s) then Some (take n s, drop n s) else None
 
--- the byte at the front and the rest
+-- the first byte and the rest
 abbrev pub head : List ℕ → Option (ℕ × List ℕ)
 head [] = None
 head (b ∷ s) = Some (b, s)
 
--- the number in four bytes at the front, or in one, and the rest
+-- the number in the first four bytes, or in the first, and the rest
 abbrev pub number_at : Bool → List ℕ → Option (ℕ × List ℕ)
 number_at false s = head s
 number_at true s = next (cut 4 s) (λ p. Some (from_be_bytes w32 p.0, p.1))
 
--- as many bytes as the number at the front says, and the rest
+-- as many bytes as the number before them says, and the rest
 unfoldable pub sized_at : Bool → List ℕ → Option (List ℕ × List ℕ)
 sized_at wide s = next (number_at wide s) (λ n. cut n.0 n.1)
 
--- the content of the payload at the front, and the rest
+-- the content of the payload, which comes first, and the rest
 abbrev pub content_at : Category → List ℕ → Option (List ℕ × List ℕ)
 content_at (Fixed n) s = cut n s
 content_at OneByteSize s = sized_at false s
@@ -52,7 +52,7 @@ tree_descriptor (tree.scalar (tree.ulong n)) = Some (tree.code n)
 tree_descriptor (tree.scalar (tree.symbol bs)) = Some (tree.name bs)
 tree_descriptor _ = None
 
--- the descriptor at the front and the rest
+-- the descriptor, which comes first, and the rest
 abbrev pub descriptor_of : EncodingCodes → List ℕ × List ℕ → Option (Descriptor × List ℕ)
 descriptor_of code p = next (next (next (scalar_in code p.0) scalar_tree) tree_descriptor) (λ d. Some (d, p.1))
 
@@ -60,14 +60,14 @@ unfoldable pub descriptor_at : List ℕ → Option (Descriptor × List ℕ)
 descriptor_at [] = None
 descriptor_at (byte ∷ s) = next (primitive_of byte) (λ code. next (content_at (category (code_of code)) s) (descriptor_of code))
 
--- how a frame is read, and the content of a code's payload
+-- how an encoded value is read, and the content of a code's payload
 abbrev pub FrameReader : Type 0
 FrameReader = List ℕ → Option (Tree × List ℕ)
 
 abbrev pub ContentReader : Type 0
 ContentReader = EncodingCodes → List ℕ → Option Tree
 
--- the payload of a code at the front
+-- the payload of a code, which comes first
 abbrev pub with_rest : List ℕ → Tree → Option (Tree × List ℕ)
 with_rest rest t = Some (t, rest)
 
@@ -95,7 +95,7 @@ list_in f p = next (next (gather f p.0 p.1 []) all) (λ ts. Some (tree.list (tre
 abbrev pub map_in : FrameReader → ℕ × List ℕ → Option Tree
 map_in f p = if p.0 % 2 == 0 then next (next (insert f (p.0 / 2) p.1 no_pairs) all) (λ ps. Some (tree.map ps)) else None
 
--- payloads of the constructor at the front
+-- payloads of the constructor, which comes first
 abbrev pub items_in : ContentReader → ℕ → List ℕ → Option (List Tree)
 items_in h zero [] = Some []
 items_in h (suc n) [] = None
@@ -104,7 +104,7 @@ items_in h n (c ∷ s) = next (primitive_of c) (λ code. next (gather (payload_i
 abbrev pub array_in : ContentReader → ℕ × List ℕ → Option Tree
 array_in h p = next (items_in h p.0 p.1) (λ ts. Some (tree.array (trees_of ts)))
 
--- a content, with f for the frames in it and h for the items
+-- a content, with f for the encoded values in it and h for the items
 abbrev pub content_in : FrameReader → ContentReader → Shape → ContentReader
 content_in f h shape.Described code s = None
 content_in f h shape.Scalar code s = next (scalar_in code s) scalar_tree
@@ -118,14 +118,14 @@ content_of f h code s = content_in f h (shape_of_code code) code s
 abbrev pub described_in : FrameReader → Descriptor × List ℕ → Option (Tree × List ℕ)
 described_in f d = next (f d.1) (λ r. Some (tree.described d.0 r.0, r.1))
 
--- a frame at the front
+-- the first encoded value
 abbrev pub frame_in : FrameReader → ContentReader → FrameReader
 frame_in f h [] = None
 frame_in f h (byte ∷ s) =
     if byte == 0 then next (descriptor_at s) (described_in f) else next (primitive_of byte) (λ code. payload_in (content_of f h) code s)
 
 unfoldable mutual
-  -- a frame at most so deep at the front
+  -- the first encoded value, at most so deep
   pub parse : ℕ → List ℕ → Option (Tree × List ℕ)
   parse zero s = None
   parse (suc depth) s = frame_in (parse depth) (held depth) s

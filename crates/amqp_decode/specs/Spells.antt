@@ -1,4 +1,4 @@
--- Which data tree a frame stands for, in any spelling (AMQP 1.0 part 1, sections 1.2 to 1.2.4 and 1.6).
+-- Which data tree an encoded value stands for, in any spelling (AMQP 1.0 part 1, sections 1.2 to 1.2.4 and 1.6).
 use Rattle.std.specs.Prelude.{◌≡◌, ℕ, suc, ◌*◌, IsTrue, List, [], ◌∷◌, ◌++◌, length, Some}
 use Rattle.std.specs.Int.{from_be_bytes, w32}
 use Rattle.amqp_data.specs.FormatCode.{code_of}
@@ -67,7 +67,7 @@ mutual
         → shape_of_code code ≡ shape.Array count → IsCounted count content n (code_of constructor ∷ items) → IsTrue (is_primitive constructor)
         → Items depth constructor n items ts → Holds (suc depth) code content (tree.array (trees_of ts))
 
-  -- so many frames one after another
+  -- so many encoded values one after another
   pub data Elements : ℕ → ℕ → List ℕ → List Tree → Type 0 where
     no_element : (depth : ℕ) → Elements depth 0 [] []
     element : (depth n : ℕ) (a b : List ℕ) (t : Tree) (ts : List Tree)

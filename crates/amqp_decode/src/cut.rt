@@ -37,7 +37,7 @@ fn read_number(wide: bool, bytes: &[u8]) -> Result<(u32, &[u8]), Error>
     }
 }
 
-// As many bytes as the number in front of them says, and those after them.
+// As many bytes as the number before them says, and those after them.
 #[tactic(auto, unfolding(crate::specs::Parsed::sized_at))]
 fn read_sized(wide: bool, bytes: &[u8]) -> Result<(&[u8], &[u8]), Error>
     ensures ok { IfOk result (λ r. sized_at wide bytes.now ≡ Some (r.0.now, r.1.now)) }
@@ -47,7 +47,7 @@ fn read_sized(wide: bool, bytes: &[u8]) -> Result<(&[u8], &[u8]), Error>
     cut_at(rest, len as usize)
 }
 
-/// The content of the code's payload at the front, and the bytes after it.
+/// The content of the code's payload, which comes first, and the bytes after it.
 ///
 /// # Errors
 /// `UnexpectedEof` where the bytes end before the payload does.

@@ -17,7 +17,7 @@ pub fn one_tree()
         Spells d bytes t → Spells e bytes u → t ≡ u }
 {}
 
-/// What spells a tree is one frame.
+/// What spells a tree is one encoded value.
 pub fn spelled_frame()
     ensures { (d : ℕ) (bytes : List ℕ) (t : Tree) → Spells d bytes t → IsFrame bytes }
 {}

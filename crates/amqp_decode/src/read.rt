@@ -1,4 +1,4 @@
-//! A value from the bytes of a frame.
+//! A value from its encoded bytes.
 
 ghost use Rattle.std.specs.Prelude.{◌≡◌, ℕ, IfOk, IfErr, Some, None};
 ghost use Rattle.amqp_data.specs.declared.error.Error.TheVariants.{OutOfMemory};
@@ -16,7 +16,7 @@ use amqp_value::Value;
 use indexmap::IndexMap;
 use std::alloc::Global;
 
-/// The value that the bytes of one frame spell.
+/// The value that the bytes of one encoded value spell.
 ///
 /// # Encoding
 /// Every code of AMQP 1.0 part 1, section 1.6, in every spelling, as an array's constructor too. Texts are UTF-8,
@@ -48,7 +48,7 @@ pub fn decode_value(alloc: Global, bytes: &[u8]) -> Result<Value, Error>
     }
 }
 
-// The value of the frame at the front, and the bytes after it.
+// The value that the bytes spell first, and the bytes after it.
 #[cycle(read)]
 fn read_frame<'a>(alloc: Global, bytes: &'a [u8], depth: u16) -> Result<(Value, &'a [u8]), Error>
     ensures ok { IfOk result (λ r. parse depth bytes.now ≡ Some (tree_of r.0, r.1.now)) }
@@ -89,7 +89,7 @@ fn read_frame_over<'a>(
     }
 }
 
-// The value of the code's payload at the front, and the bytes after it.
+// The value of the code's payload, which comes first, and the bytes after it.
 #[cycle(read)]
 fn read_item<'a>(
     alloc: Global,
@@ -155,7 +155,7 @@ fn read_content_over(
     }
 }
 
-// The list of the values of so many frames, which fill the body.
+// The list of so many encoded values, which fill the body.
 #[cycle(read)]
 fn read_list(alloc: Global, count: u32, body: &[u8], depth: u16) -> Result<Value, Error>
     ensures ok { IfOk result (λ v. list_in (parse depth) (count, body.now) ≡ Some (tree_of v)) }
@@ -176,7 +176,7 @@ fn read_list(alloc: Global, count: u32, body: &[u8], depth: u16) -> Result<Value
     }
 }
 
-// The map of the values of so many frames, keys and values in turn, which fill the body.
+// The map of so many encoded values, keys and values in turn, which fill the body.
 #[cycle(read)]
 fn read_map(alloc: Global, count: u32, body: &[u8], depth: u16) -> Result<Value, Error>
     ensures ok { IfOk result (λ v. map_in (parse depth) (count, body.now) ≡ Some (tree_of v)) }

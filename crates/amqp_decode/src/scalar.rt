@@ -163,7 +163,7 @@ fn descriptor_of(value: Value) -> Result<Descriptor, Error>
     }
 }
 
-/// The descriptor at the front, and the bytes after it.
+/// The descriptor, which comes first, and the bytes after it.
 ///
 /// # Errors
 /// `InvalidValue` where it is neither a ulong nor a symbol.

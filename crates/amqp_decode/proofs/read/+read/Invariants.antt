@@ -4,7 +4,7 @@ use Rattle.amqp_value.specs.TreeOf.{tree_of, pairs_trees}
 use Rattle.amqp_decode.specs.Parsed.{parse, held, payload_in, gather, insert}
 use Rattle.amqp_decode.proofs.read.+read.Given as goal
 
--- what stands in a compound has a lesser depth, and calls for frames and items of that same depth
+-- what stands in a compound has a lesser depth, and calls for encoded values and items of that same depth
 abbrev pub decreases-read_content : goal.decreases-read_content
 decreases-read_content l = 6 * l.depth
 
