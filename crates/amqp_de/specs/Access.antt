@@ -9,7 +9,7 @@ ReadsNext Memory R old new (Ok None) = (old ≡ []) × (new ≡ [])
 ReadsNext Memory R old new (Ok (Some x)) = (t : Tree) × (old ≡ t ∷ new) × R t x
 ReadsNext Memory R old new (Err e) = (t : Tree) × (old ≡ t ∷ new) × Refuses Memory (R t) e
 
--- the image of a restorable x is read as the same as x, unless memory is wanted
+-- the image of a restorable x is read as the same as x, unless out of memory
 abbrev pub RestoresNext : {T E : Type 0} → (T → Tree) → (T → Type 0) → (T → T → Type 0) → (E → Type 0) → List Tree → Result (Option T) E → Type 0
 RestoresNext {T} image P S Memory old r = (x : T) (ts : List Tree) → P x → old ≡ image x ∷ ts → MatchResult r (λ o. IsSomeAnd o (λ y. S y x)) Memory
 
@@ -43,7 +43,7 @@ ReadsEntry {K} {V} Memory R S owed left owed' left' (Err r) =
     (IsSome owed × Stays owed left owed' left')
     ⊎ ((owed ≡ None) × (owed' ≡ None) × ((e : Tree × Tree) × (left ≡ e ∷ left') × Refuses Memory (λ (x : K × V). R e.0 x.0 × S e.1 x.1) r))
 
--- images of restorable keys, values and pairs are read as the same, unless memory is wanted
+-- images of restorable keys, values and pairs are read as the same, unless out of memory
 abbrev pub RestoresKey : {T E : Type 0} → (T → Tree) → (T → Type 0) → (T → T → Type 0) → (E → Type 0) → Option Tree → List (Tree × Tree)
     → Result (Option T) E → Type 0
 RestoresKey {T} image P S Memory owed left r =
@@ -57,6 +57,6 @@ abbrev pub Picks : {T V E : Type 0} → (E → Type 0) → (Tree → T → Type 
 Picks Memory R content index held (Ok x) = R index x.0 × (content x.1 ≡ held)
 Picks Memory R content index held (Err r) = Refuses Memory (R index) r
 
--- the image of a restorable index is read as the same, unless memory is wanted
+-- the image of a restorable index is read as the same, unless out of memory
 abbrev pub RestoresPicked : {T V E : Type 0} → (T → Tree) → (T → Type 0) → (T → T → Type 0) → (E → Type 0) → Tree → Result (T × V) E → Type 0
 RestoresPicked {T} image P S Memory index r = (x : T) → P x → index ≡ image x → MatchResult r (λ y. S y.0 x) Memory

@@ -1,9 +1,9 @@
--- What a call that reads may answer. `Memory` says which refusals are want of memory.
+-- What a call that reads may answer. `Memory` says which refusals are out of memory.
 use Rattle.std.specs.Prelude.{◌≡◌, ◌⊎◌, ℕ, List, [], ◌∷◌, Option, Some, None, Result, Ok, Err, MatchResult}
 use Rattle.amqp_ser.specs.Tree.{Tree}
 use Rattle.amqp_de.specs.Fields.{value_at, without}
 
--- memory was wanted, or nothing is read
+-- out of memory, or nothing is read
 abbrev pub Refuses : {T E : Type 0} → (E → Type 0) → (T → Type 0) → E → Type 0
 Refuses {T} Memory P e = Memory e ⊎ ((x : T) → ¬ P x)
 
@@ -22,7 +22,7 @@ abbrev pub TakesPair : {D : Type 0} → (D → Tree) → List (Tree × Tree) →
 TakesPair value old new None = (old ≡ []) × (new ≡ [])
 TakesPair value old new (Some e) = old ≡ (value e.0, value e.1) ∷ new
 
--- what stands for x is read as the same as x, unless memory is wanted
+-- what stands for x is read as the same as x, unless out of memory
 abbrev pub Restores : {T E : Type 0} → (T → Tree) → (T → Type 0) → (T → T → Type 0) → (E → Type 0) → Tree → Result T E → Type 0
 Restores {T} image P S Memory t r = (x : T) → P x → t ≡ image x → MatchResult r (λ y. S y x) Memory
 
@@ -35,7 +35,7 @@ abbrev pub PartsOf : {V T E : Type 0} → (V → T) → (E → Type 0) → (T �
 PartsOf parts Memory P (Ok x) = P x
 PartsOf parts Memory P (Err e) = Refuses Memory (λ v. P (parts v)) e
 
--- what stands for v is read as parts that are the same as v's, unless memory is wanted
+-- what stands for v is read as parts that are the same as v's, unless out of memory
 abbrev pub RestoresParts : {V T E : Type 0} → (V → T) → (V → Tree) → (T → Type 0) → (T → T → Type 0) → (E → Type 0) → Tree → Result T E → Type 0
 RestoresParts {V} parts image P S Memory t r = (v : V) → P (parts v) → t ≡ image v → MatchResult r (λ y. S y (parts v)) Memory
 

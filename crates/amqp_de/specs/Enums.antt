@@ -12,7 +12,7 @@ abbrev pub first : List Tree → Option Tree
 first [] = None
 first (t ∷ ts) = Some t
 
--- the index of a variant is an uint
+-- the index of a variant is a uint
 abbrev pub index_of_scalar : Scalar → Option ℕ
 index_of_scalar (uint n) = Some n
 index_of_scalar s = None

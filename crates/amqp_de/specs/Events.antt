@@ -57,7 +57,7 @@ plain_shown (plain.Char c) = plain_event (tree.char c)
 plain_shown (plain.String s) = plain_event (tree.string (string_bytes s))
 plain_shown (plain.ByteBuf b) = plain_event (tree.binary (byte_buf_bytes b))
 
--- what stands for a value x that comes back gives the same as x, unless memory is wanted
+-- what stands for a value x that comes back gives the same as x, unless out of memory
 abbrev pub Returns : {T E : Type 0} → (T → Type 0) → (T → T → Type 0) → (E → Type 0) → Result T E → Type 0
 Returns {T} P S Memory r = (x : T) → P x → MatchResult r (λ y. S y x) Memory
 
@@ -94,7 +94,7 @@ module _ {T : Type 0} (G : Event → T → Type 0) where
   ByStruct true = ByDescribed
   ByStruct false = ByList
 
-  -- an uint or a symbol, which is shown as a text
+  -- a uint or a symbol, which is shown as a text
   abbrev pub ByIdentifier : Tree → T → Type 0
   ByIdentifier t x = ((n : ℕ) × (t ≡ scalar (tree.uint n)) × G (plain_event (tree.uint n)) x)
       ⊎ ((s : List ℕ) × (t ≡ scalar (tree.symbol s)) × G (plain_event (tree.string s)) x)
@@ -122,7 +122,7 @@ module _ {T : Type 0} (G : Event → T → Type 0) where
   ByVariant (map ps) x = KeyedVariant (entries_in ps) x
   ByVariant t x = ⊥
 
-  -- a descriptor: an ulong, or a symbol, which is shown as a text
+  -- a descriptor: a ulong, or a symbol, which is shown as a text
   abbrev pub ByDescriptor : Tree → T → Type 0
   ByDescriptor t x = ((n : ℕ) × (t ≡ scalar (tree.ulong n)) × G (plain_event (tree.ulong n)) x)
       ⊎ ((s : List ℕ) × (t ≡ scalar (tree.symbol s)) × G (plain_event (tree.string s)) x)

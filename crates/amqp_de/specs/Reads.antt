@@ -42,7 +42,7 @@ OnArray K t = ⊥
 abbrev pub ReadsFirst : {T : Type 0} → (Tree → T → Type 0) → ℕ → List Tree → List T → Type 0
 ReadsFirst R n ts xs = (length xs ≡ n) × AllZip R (take n ts) xs
 
--- a descriptor by itself is an ulong or a symbol
+-- a descriptor by itself is a ulong or a symbol
 abbrev pub descriptor_tree : Descriptor → Tree
 descriptor_tree (code n) = scalar (ulong n)
 descriptor_tree (name s) = scalar (symbol s)

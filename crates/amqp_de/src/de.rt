@@ -53,7 +53,7 @@ pub trait Deserializer: Sized + Drop {
     fn is_null(&self) -> bool
         ensures { IsTrue result ↔ value self.now ≡ scalar null };
 
-    /// Whether it holds what a variant's index may be: an uint or a symbol.
+    /// Whether it holds what a variant's index may be: a uint or a symbol.
     fn is_index(&self) -> bool
         ensures { result ≡ is_index (value self.now) };
 
@@ -77,7 +77,7 @@ pub trait Deserializer: Sized + Drop {
     fn take_named(entries: &mut Self::Entries, name: &str) -> Option<Self>
         ensures { TakesNamed value name.now (pairs entries.old) (pairs entries.new) result };
 
-    /// Shows a truth value.
+    /// Deserializes a `bool`.
     final fn deserialize_bool<V: Visitor>(self, visitor: V) -> Result<V::Value, Self::Error>
         ensures read { Answers Self.Error.is_memory
             (ByPlain (V.gives visitor) bool (value self)) result }
@@ -90,7 +90,7 @@ pub trait Deserializer: Sized + Drop {
         }
     }
 
-    /// Shows an unsigned number of 8 bits.
+    /// Deserializes a `u8`.
     final fn deserialize_u8<V: Visitor>(self, visitor: V) -> Result<V::Value, Self::Error>
         ensures read { Answers Self.Error.is_memory
             (ByPlain (V.gives visitor) ubyte (value self)) result }
@@ -103,7 +103,7 @@ pub trait Deserializer: Sized + Drop {
         }
     }
 
-    /// Shows an unsigned number of 16 bits.
+    /// Deserializes a `u16`.
     final fn deserialize_u16<V: Visitor>(self, visitor: V) -> Result<V::Value, Self::Error>
         ensures read { Answers Self.Error.is_memory
             (ByPlain (V.gives visitor) ushort (value self)) result }
@@ -116,7 +116,7 @@ pub trait Deserializer: Sized + Drop {
         }
     }
 
-    /// Shows an unsigned number of 32 bits.
+    /// Deserializes a `u32`.
     final fn deserialize_u32<V: Visitor>(self, visitor: V) -> Result<V::Value, Self::Error>
         ensures read { Answers Self.Error.is_memory
             (ByPlain (V.gives visitor) uint (value self)) result }
@@ -129,7 +129,7 @@ pub trait Deserializer: Sized + Drop {
         }
     }
 
-    /// Shows an unsigned number of 64 bits.
+    /// Deserializes a `u64`.
     final fn deserialize_u64<V: Visitor>(self, visitor: V) -> Result<V::Value, Self::Error>
         ensures read { Answers Self.Error.is_memory
             (ByPlain (V.gives visitor) ulong (value self)) result }
@@ -142,7 +142,7 @@ pub trait Deserializer: Sized + Drop {
         }
     }
 
-    /// Shows a signed number of 8 bits.
+    /// Deserializes an `i8`.
     final fn deserialize_i8<V: Visitor>(self, visitor: V) -> Result<V::Value, Self::Error>
         ensures read { Answers Self.Error.is_memory
             (ByPlain (V.gives visitor) byte (value self)) result }
@@ -155,7 +155,7 @@ pub trait Deserializer: Sized + Drop {
         }
     }
 
-    /// Shows a signed number of 16 bits.
+    /// Deserializes an `i16`.
     final fn deserialize_i16<V: Visitor>(self, visitor: V) -> Result<V::Value, Self::Error>
         ensures read { Answers Self.Error.is_memory
             (ByPlain (V.gives visitor) short (value self)) result }
@@ -168,7 +168,7 @@ pub trait Deserializer: Sized + Drop {
         }
     }
 
-    /// Shows a signed number of 32 bits.
+    /// Deserializes an `i32`.
     final fn deserialize_i32<V: Visitor>(self, visitor: V) -> Result<V::Value, Self::Error>
         ensures read { Answers Self.Error.is_memory
             (ByPlain (V.gives visitor) int (value self)) result }
@@ -181,7 +181,7 @@ pub trait Deserializer: Sized + Drop {
         }
     }
 
-    /// Shows a signed number of 64 bits.
+    /// Deserializes an `i64`.
     final fn deserialize_i64<V: Visitor>(self, visitor: V) -> Result<V::Value, Self::Error>
         ensures read { Answers Self.Error.is_memory
             (ByPlain (V.gives visitor) long (value self)) result }
@@ -194,7 +194,7 @@ pub trait Deserializer: Sized + Drop {
         }
     }
 
-    /// Shows the bits of a float.
+    /// Deserializes an `f32`, by its bits.
     final fn deserialize_f32<V: Visitor>(self, visitor: V) -> Result<V::Value, Self::Error>
         ensures read { Answers Self.Error.is_memory
             (ByPlain (V.gives visitor) float (value self)) result }
@@ -207,7 +207,7 @@ pub trait Deserializer: Sized + Drop {
         }
     }
 
-    /// Shows the bits of a double.
+    /// Deserializes an `f64`, by its bits.
     final fn deserialize_f64<V: Visitor>(self, visitor: V) -> Result<V::Value, Self::Error>
         ensures read { Answers Self.Error.is_memory
             (ByPlain (V.gives visitor) double (value self)) result }
@@ -220,7 +220,7 @@ pub trait Deserializer: Sized + Drop {
         }
     }
 
-    /// Shows a character.
+    /// Deserializes a `char`.
     final fn deserialize_char<V: Visitor>(self, visitor: V) -> Result<V::Value, Self::Error>
         ensures read { Answers Self.Error.is_memory
             (ByPlain (V.gives visitor) char (value self)) result }
@@ -233,7 +233,7 @@ pub trait Deserializer: Sized + Drop {
         }
     }
 
-    /// Shows a text.
+    /// Deserializes a `String`.
     final fn deserialize_string<V: Visitor>(self, visitor: V) -> Result<V::Value, Self::Error>
         ensures read { Answers Self.Error.is_memory
             (ByPlain (V.gives visitor) string (value self)) result }
@@ -246,7 +246,7 @@ pub trait Deserializer: Sized + Drop {
         }
     }
 
-    /// Shows a text. As `deserialize_string`.
+    /// Deserializes a string. As `deserialize_string`.
     final fn deserialize_str<V: Visitor>(self, visitor: V) -> Result<V::Value, Self::Error>
         ensures read { Answers Self.Error.is_memory
             (ByPlain (V.gives visitor) string (value self)) result }
@@ -256,7 +256,7 @@ pub trait Deserializer: Sized + Drop {
         self.deserialize_string(visitor)
     }
 
-    /// Shows a binary.
+    /// Deserializes a binary.
     final fn deserialize_byte_buf<V: Visitor>(self, visitor: V) -> Result<V::Value, Self::Error>
         ensures read { Answers Self.Error.is_memory
             (ByPlain (V.gives visitor) binary (value self)) result }
@@ -269,7 +269,7 @@ pub trait Deserializer: Sized + Drop {
         }
     }
 
-    /// Shows a binary. As `deserialize_byte_buf`.
+    /// Deserializes a binary. As `deserialize_byte_buf`.
     final fn deserialize_bytes<V: Visitor>(self, visitor: V) -> Result<V::Value, Self::Error>
         ensures read { Answers Self.Error.is_memory
             (ByPlain (V.gives visitor) binary (value self)) result }
@@ -279,7 +279,7 @@ pub trait Deserializer: Sized + Drop {
         self.deserialize_byte_buf(visitor)
     }
 
-    /// Shows null as nothing, and anything else as something.
+    /// Deserializes an `Option`: null as nothing, and anything else as something.
     final fn deserialize_option<V: Visitor>(self, visitor: V) -> Result<V::Value, Self::Error>
         ensures read { Answers Self.Error.is_memory
             (ByOption (V.gives visitor) (value self)) result }
@@ -293,7 +293,7 @@ pub trait Deserializer: Sized + Drop {
         }
     }
 
-    /// Shows null.
+    /// Deserializes `()`, from null.
     final fn deserialize_unit<V: Visitor>(self, visitor: V) -> Result<V::Value, Self::Error>
         ensures read { Answers Self.Error.is_memory (ByUnit (V.gives visitor) (value self)) result }
         ensures law { Returns (ByUnit (V.stands visitor) (value self))
@@ -306,7 +306,7 @@ pub trait Deserializer: Sized + Drop {
         }
     }
 
-    /// Shows null. As `deserialize_unit`.
+    /// Deserializes a unit struct. As `deserialize_unit`.
     final fn deserialize_unit_struct<V: Visitor>(
         self,
         _name: &str,
@@ -319,7 +319,7 @@ pub trait Deserializer: Sized + Drop {
         self.deserialize_unit(visitor)
     }
 
-    /// Shows the elements of a list.
+    /// Deserializes the elements of a list.
     #[tactic(auto, using(crate::proofs::Lists::list_of_trees))]
     final fn deserialize_seq<V: Visitor>(self, visitor: V) -> Result<V::Value, Self::Error>
         ensures read { Answers Self.Error.is_memory (ByList (V.gives visitor) (value self)) result }
@@ -332,7 +332,7 @@ pub trait Deserializer: Sized + Drop {
         }
     }
 
-    /// Shows the elements of a list. As `deserialize_seq`.
+    /// Deserializes a tuple. As `deserialize_seq`.
     final fn deserialize_tuple<V: Visitor>(self, visitor: V) -> Result<V::Value, Self::Error>
         ensures read { Answers Self.Error.is_memory (ByList (V.gives visitor) (value self)) result }
         ensures law { Returns (ByList (V.stands visitor) (value self))
@@ -341,7 +341,7 @@ pub trait Deserializer: Sized + Drop {
         self.deserialize_seq(visitor)
     }
 
-    /// Shows the keys and values of a map.
+    /// Deserializes the keys and values of a map.
     #[tactic(auto, using(crate::proofs::Lists::entries_in_pairs))]
     final fn deserialize_map<V: Visitor>(self, visitor: V) -> Result<V::Value, Self::Error>
         ensures read { Answers Self.Error.is_memory (ByMap (V.gives visitor) (value self)) result }
@@ -354,7 +354,7 @@ pub trait Deserializer: Sized + Drop {
         }
     }
 
-    /// Shows an uint, or the text of a symbol.
+    /// Deserializes an identifier: a uint, or the text of a symbol.
     final fn deserialize_identifier<V: Visitor>(self, visitor: V) -> Result<V::Value, Self::Error>
         ensures read { Answers Self.Error.is_memory
             (ByIdentifier (V.gives visitor) (value self)) result }
@@ -368,7 +368,7 @@ pub trait Deserializer: Sized + Drop {
         }
     }
 
-    /// Shows anything as null.
+    /// Deserializes anything, as null.
     final fn deserialize_ignored_any<V: Visitor>(self, visitor: V) -> Result<V::Value, Self::Error>
         ensures read { Answers Self.Error.is_memory (V.gives visitor (plain_event null)) result }
         ensures law { Returns (V.stands visitor (plain_event null))
@@ -377,7 +377,7 @@ pub trait Deserializer: Sized + Drop {
         visitor.visit_unit()
     }
 
-    /// Shows a descriptor and the value after it.
+    /// Deserializes a described value: a descriptor and the value after it.
     final fn deserialize_described<V: Visitor>(self, visitor: V) -> Result<V::Value, Self::Error>
         ensures read { Answers Self.Error.is_memory
             (ByDescribed (V.gives visitor) (value self)) result }
@@ -390,7 +390,8 @@ pub trait Deserializer: Sized + Drop {
         }
     }
 
-    /// Shows the elements of a list; under a name that asks for a descriptor, that and the value after it.
+    /// Deserializes a struct: the elements of a list; under a name that asks for a descriptor, that and
+    /// the value after it.
     final fn deserialize_struct<V: Visitor>(
         self,
         name: &str,
@@ -409,7 +410,7 @@ pub trait Deserializer: Sized + Drop {
         }
     }
 
-    /// Shows the same as `deserialize_struct`.
+    /// Deserializes a tuple struct. As `deserialize_struct`.
     final fn deserialize_tuple_struct<V: Visitor>(
         self,
         name: &str,
@@ -424,7 +425,7 @@ pub trait Deserializer: Sized + Drop {
         self.deserialize_struct(name, visitor)
     }
 
-    /// Shows an ulong, or the text of a symbol.
+    /// Deserializes a descriptor: a ulong, or the text of a symbol.
     final fn deserialize_descriptor<V: Visitor>(self, visitor: V) -> Result<V::Value, Self::Error>
         ensures read { Answers Self.Error.is_memory
             (ByDescriptor (V.gives visitor) (value self)) result }
@@ -438,7 +439,8 @@ pub trait Deserializer: Sized + Drop {
         }
     }
 
-    /// Shows a variant: its index alone, a list of the index and what comes with it, or a map from the one to the other.
+    /// Deserializes a variant: its index alone, a list of the index and what comes with it, or a map from
+    /// the one to the other.
     #[tactic(auto, using(crate::proofs::Lists::list_of_trees, crate::proofs::Lists::entries_in_pairs))]
     final fn deserialize_variant<V: Visitor>(self, visitor: V) -> Result<V::Value, Self::Error>
         ensures read { Answers Self.Error.is_memory
@@ -468,7 +470,7 @@ pub trait Deserializer: Sized + Drop {
         }
     }
 
-    /// Shows an enum by its name: an untyped value, a descriptor, or a variant.
+    /// Deserializes an enum by its name: an untyped value, a descriptor, or a variant.
     final fn deserialize_enum<V: Visitor>(
         self,
         name: &str,
@@ -490,7 +492,7 @@ pub trait Deserializer: Sized + Drop {
         }
     }
 
-    /// Shows the elements of an array.
+    /// Deserializes the elements of an array.
     #[tactic(auto, using(crate::proofs::Lists::list_of_trees))]
     final fn deserialize_array<V: Visitor>(self, visitor: V) -> Result<V::Value, Self::Error>
         ensures read { Answers Self.Error.is_memory
@@ -504,7 +506,7 @@ pub trait Deserializer: Sized + Drop {
         }
     }
 
-    /// Shows what a newtype's name asks for.
+    /// Deserializes what a newtype's name asks for.
     final fn deserialize_marked<V: Visitor>(
         self,
         mark: Mark,
@@ -548,7 +550,7 @@ pub trait Deserializer: Sized + Drop {
         }
     }
 
-    /// Shows anything, in a newtype; under a marker's name, what that asks for.
+    /// Deserializes a newtype struct: anything; under a marker's name, what that asks for.
     final fn deserialize_newtype_struct<V: Visitor>(
         self,
         name: &str,
@@ -562,7 +564,8 @@ pub trait Deserializer: Sized + Drop {
         self.deserialize_marked(mark_named(name), visitor)
     }
 
-    /// Shows a value by its kind. A symbol, a timestamp, a uuid and a decimal are shown as untyped values.
+    /// Deserializes a value by its kind. A symbol, a timestamp, a uuid and a decimal are shown as
+    /// untyped values.
     #[tactic(auto, using(crate::proofs::Lists::list_of_trees, crate::proofs::Lists::entries_in_pairs))]
     final fn deserialize_any<V: Visitor>(self, visitor: V) -> Result<V::Value, Self::Error>
         ensures read { Answers Self.Error.is_memory

@@ -33,7 +33,7 @@ pub trait Fields: Sized + Drop {
     /// Reads the fields from elements, by their places. Elements left over are ignored.
     ///
     /// # Errors
-    /// Invalid where an element is missing or another than the field's; want of memory.
+    /// Invalid where an element is missing or another than the field's; out of memory.
     fn read_elements<D: Deserializer>(
         &self,
         alloc: Global,
@@ -47,7 +47,7 @@ pub trait Fields: Sized + Drop {
     /// Reads the fields from the entries of a map, by their names. Entries left over are ignored.
     ///
     /// # Errors
-    /// Invalid where an entry is missing or another than the field's; want of memory.
+    /// Invalid where an entry is missing or another than the field's; out of memory.
     fn read_entries<D: Deserializer>(
         &self,
         alloc: Global,

@@ -7,10 +7,10 @@ use amqp_data::Error;
 
 /// An error that a deserializer may answer.
 pub trait Refusal: Sized + Drop {
-    /// Whether it says that memory was wanted.
+    /// Whether it says out of memory.
     ghost is_memory: { Self → Type 0 };
 
-    /// A growth of memory was refused.
+    /// A request for memory was refused.
     fn memory() -> Self
         ensures { is_memory result };
 

@@ -43,7 +43,7 @@ pub trait Visitor: Sized + Drop {
         ensures stands { IsTrue result → (e : Event) (x : Self.Value) →
             visit_of e ≡ visit → ¬ stands self.now e x };
 
-    /// What has no parts.
+    /// Visits what has no parts.
     fn visit_plain<E: Refusal>(self, plain: Plain) -> Result<Self::Value, E>
         ensures read { Answers E.is_memory (gives self (plain_shown plain)) result }
         ensures law { Returns (stands self (plain_shown plain)) same E.is_memory result }
@@ -51,7 +51,7 @@ pub trait Visitor: Sized + Drop {
         Err(unwritten(self.refuses(Visit::Plain)))
     }
 
-    /// Something that may be absent.
+    /// Visits something that may be absent.
     fn visit_some<D: Deserializer>(self, deserializer: D) -> Result<Self::Value, D::Error>
         ensures read { Answers D.Error.is_memory
             (gives self (some_event (D.value deserializer))) result }
@@ -61,7 +61,7 @@ pub trait Visitor: Sized + Drop {
         Err(unwritten(self.refuses(Visit::Some)))
     }
 
-    /// What stands in a newtype.
+    /// Visits what stands in a newtype.
     fn visit_newtype_struct<D: Deserializer>(self, deserializer: D) -> Result<Self::Value, D::Error>
         ensures read { Answers D.Error.is_memory
             (gives self (newtype_event (D.value deserializer))) result }
@@ -71,7 +71,7 @@ pub trait Visitor: Sized + Drop {
         Err(unwritten(self.refuses(Visit::Newtype)))
     }
 
-    /// The elements of a list or an array.
+    /// Visits the elements of a list or an array.
     fn visit_seq<A: SeqAccess>(self, elements: A) -> Result<Self::Value, A::Error>
         ensures read { Answers A.Error.is_memory (gives self (seq_event (A.left elements))) result }
         ensures law { Returns (stands self (seq_event (A.left elements)))
@@ -80,7 +80,7 @@ pub trait Visitor: Sized + Drop {
         Err(unwritten(self.refuses(Visit::Seq)))
     }
 
-    /// The keys and values of a map.
+    /// Visits the keys and values of a map.
     fn visit_map<A: MapAccess>(self, entries: A) -> Result<Self::Value, A::Error>
         requires { A.owed entries ≡ None }
         ensures read { Answers A.Error.is_memory (gives self (map_event (A.left entries))) result }
@@ -90,7 +90,7 @@ pub trait Visitor: Sized + Drop {
         Err(unwritten(self.refuses(Visit::Map)))
     }
 
-    /// One of the variants of an enum.
+    /// Visits one of the variants of an enum.
     fn visit_enum<A: EnumAccess>(self, variant: A) -> Result<Self::Value, A::Error>
         ensures read { Answers A.Error.is_memory
             (gives self (enum_event (A.index variant) (A.content variant))) result }
@@ -100,7 +100,7 @@ pub trait Visitor: Sized + Drop {
         Err(unwritten(self.refuses(Visit::Enum)))
     }
 
-    /// A value after its descriptor.
+    /// Visits a value after its descriptor.
     fn visit_described<D: Deserializer>(
         self,
         descriptor: Descriptor,
@@ -116,7 +116,7 @@ pub trait Visitor: Sized + Drop {
         Err(unwritten(self.refuses(Visit::Described)))
     }
 
-    /// An untyped value.
+    /// Visits an untyped value.
     fn visit_value<E: Refusal>(self, value: Value) -> Result<Self::Value, E>
         ensures read { Answers E.is_memory (gives self (value_event (tree_of value))) result }
         ensures law { Returns (stands self (value_event (tree_of value))) same E.is_memory result }
@@ -124,7 +124,7 @@ pub trait Visitor: Sized + Drop {
         Err(unwritten(self.refuses(Visit::Value)))
     }
 
-    /// Null.
+    /// Visits `()`, from null.
     final fn visit_unit<E: Refusal>(self) -> Result<Self::Value, E>
         ensures read { Answers E.is_memory (gives self (plain_event null)) result }
         ensures law { Returns (stands self (plain_event null)) same E.is_memory result }
@@ -132,7 +132,7 @@ pub trait Visitor: Sized + Drop {
         self.visit_plain(Plain::Unit)
     }
 
-    /// Nothing, where something may be absent.
+    /// Visits nothing, where something may be absent.
     final fn visit_none<E: Refusal>(self) -> Result<Self::Value, E>
         ensures read { Answers E.is_memory (gives self none_event) result }
         ensures law { Returns (stands self none_event) same E.is_memory result }
@@ -140,7 +140,7 @@ pub trait Visitor: Sized + Drop {
         self.visit_plain(Plain::None)
     }
 
-    /// A truth value.
+    /// Visits a `bool`.
     final fn visit_bool<E: Refusal>(self, value: bool) -> Result<Self::Value, E>
         ensures read { Answers E.is_memory (gives self (plain_event (bool value))) result }
         ensures law { Returns (stands self (plain_event (bool value))) same E.is_memory result }
@@ -148,7 +148,7 @@ pub trait Visitor: Sized + Drop {
         self.visit_plain(Plain::Bool(value))
     }
 
-    /// An unsigned number of 8 bits.
+    /// Visits a `u8`.
     final fn visit_u8<E: Refusal>(self, value: u8) -> Result<Self::Value, E>
         ensures read { Answers E.is_memory (gives self (plain_event (ubyte value))) result }
         ensures law { Returns (stands self (plain_event (ubyte value))) same E.is_memory result }
@@ -156,7 +156,7 @@ pub trait Visitor: Sized + Drop {
         self.visit_plain(Plain::U8(value))
     }
 
-    /// An unsigned number of 16 bits.
+    /// Visits a `u16`.
     final fn visit_u16<E: Refusal>(self, value: u16) -> Result<Self::Value, E>
         ensures read { Answers E.is_memory (gives self (plain_event (ushort value))) result }
         ensures law { Returns (stands self (plain_event (ushort value))) same E.is_memory result }
@@ -164,7 +164,7 @@ pub trait Visitor: Sized + Drop {
         self.visit_plain(Plain::U16(value))
     }
 
-    /// An unsigned number of 32 bits.
+    /// Visits a `u32`.
     final fn visit_u32<E: Refusal>(self, value: u32) -> Result<Self::Value, E>
         ensures read { Answers E.is_memory (gives self (plain_event (uint value))) result }
         ensures law { Returns (stands self (plain_event (uint value))) same E.is_memory result }
@@ -172,7 +172,7 @@ pub trait Visitor: Sized + Drop {
         self.visit_plain(Plain::U32(value))
     }
 
-    /// An unsigned number of 64 bits.
+    /// Visits a `u64`.
     final fn visit_u64<E: Refusal>(self, value: u64) -> Result<Self::Value, E>
         ensures read { Answers E.is_memory (gives self (plain_event (ulong value))) result }
         ensures law { Returns (stands self (plain_event (ulong value))) same E.is_memory result }
@@ -180,7 +180,7 @@ pub trait Visitor: Sized + Drop {
         self.visit_plain(Plain::U64(value))
     }
 
-    /// A signed number of 8 bits.
+    /// Visits an `i8`.
     final fn visit_i8<E: Refusal>(self, value: i8) -> Result<Self::Value, E>
         ensures read { Answers E.is_memory (gives self (plain_event (byte value))) result }
         ensures law { Returns (stands self (plain_event (byte value))) same E.is_memory result }
@@ -188,7 +188,7 @@ pub trait Visitor: Sized + Drop {
         self.visit_plain(Plain::I8(value))
     }
 
-    /// A signed number of 16 bits.
+    /// Visits an `i16`.
     final fn visit_i16<E: Refusal>(self, value: i16) -> Result<Self::Value, E>
         ensures read { Answers E.is_memory (gives self (plain_event (short value))) result }
         ensures law { Returns (stands self (plain_event (short value))) same E.is_memory result }
@@ -196,7 +196,7 @@ pub trait Visitor: Sized + Drop {
         self.visit_plain(Plain::I16(value))
     }
 
-    /// A signed number of 32 bits.
+    /// Visits an `i32`.
     final fn visit_i32<E: Refusal>(self, value: i32) -> Result<Self::Value, E>
         ensures read { Answers E.is_memory (gives self (plain_event (int value))) result }
         ensures law { Returns (stands self (plain_event (int value))) same E.is_memory result }
@@ -204,7 +204,7 @@ pub trait Visitor: Sized + Drop {
         self.visit_plain(Plain::I32(value))
     }
 
-    /// A signed number of 64 bits.
+    /// Visits an `i64`.
     final fn visit_i64<E: Refusal>(self, value: i64) -> Result<Self::Value, E>
         ensures read { Answers E.is_memory (gives self (plain_event (long value))) result }
         ensures law { Returns (stands self (plain_event (long value))) same E.is_memory result }
@@ -212,7 +212,7 @@ pub trait Visitor: Sized + Drop {
         self.visit_plain(Plain::I64(value))
     }
 
-    /// The bits of a float.
+    /// Visits an `f32`, by its bits.
     final fn visit_f32<E: Refusal>(self, value: F32Bits) -> Result<Self::Value, E>
         ensures read { Answers E.is_memory
             (gives self (plain_event (float (f32_bits value)))) result }
@@ -222,7 +222,7 @@ pub trait Visitor: Sized + Drop {
         self.visit_plain(Plain::F32(value))
     }
 
-    /// The bits of a double.
+    /// Visits an `f64`, by its bits.
     final fn visit_f64<E: Refusal>(self, value: F64Bits) -> Result<Self::Value, E>
         ensures read { Answers E.is_memory
             (gives self (plain_event (double (f64_bits value)))) result }
@@ -232,7 +232,7 @@ pub trait Visitor: Sized + Drop {
         self.visit_plain(Plain::F64(value))
     }
 
-    /// A character.
+    /// Visits a `char`.
     final fn visit_char<E: Refusal>(self, value: char) -> Result<Self::Value, E>
         ensures read { Answers E.is_memory (gives self (plain_event (char value))) result }
         ensures law { Returns (stands self (plain_event (char value))) same E.is_memory result }
@@ -240,7 +240,7 @@ pub trait Visitor: Sized + Drop {
         self.visit_plain(Plain::Char(value))
     }
 
-    /// A text.
+    /// Visits a `String`.
     final fn visit_string<E: Refusal>(self, value: String) -> Result<Self::Value, E>
         ensures read { Answers E.is_memory
             (gives self (plain_event (string (string_bytes value)))) result }
@@ -250,7 +250,7 @@ pub trait Visitor: Sized + Drop {
         self.visit_plain(Plain::String(value))
     }
 
-    /// A binary.
+    /// Visits a binary.
     final fn visit_byte_buf<E: Refusal>(self, value: ByteBuf) -> Result<Self::Value, E>
         ensures read { Answers E.is_memory
             (gives self (plain_event (binary (byte_buf_bytes value)))) result }

@@ -88,7 +88,8 @@ fn character_of(number: u32) -> Result<Value, Error>
 /// The scalar that the content of the code's payload is.
 ///
 /// # Errors
-/// `InvalidValue` where the code is of another shape, and for a content that is no truth value, no character or no text.
+/// `InvalidValue` where the code is of another shape, and for a content that is no truth value, no character or no
+/// text.
 #[tactic(auto, unfolding(crate::specs::Scalars::scalar_in))]
 pub fn read_scalar(alloc: Global, code: EncodingCodes, content: &[u8]) -> Result<Value, Error>
     ensures ok { IfOk result (λ v.

@@ -39,7 +39,7 @@ fn maps(alloc: Global) -> Result<bool, Error> {
     Ok(first.is_none() && second.is_none() && third == Some(true) && map.len() == 2)
 }
 
-/// Arrays within a list: more compounds than the table first has room for.
+/// Arrays within a list: more compounds than the table can first hold.
 fn nested(alloc: Global) -> Result<Value, Error> {
     let mut lists = Vec::new(alloc);
     for number in 0u8..12 {

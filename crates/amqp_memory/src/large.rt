@@ -77,7 +77,7 @@ fn keys(alloc: Global) -> Result<bool, Error> {
     Ok(to_vec(alloc, &image)? == to_vec(alloc, &map)?)
 }
 
-// A binary of a mebibyte, as a frame.
+// The encoded value of a binary of a mebibyte.
 fn long_frame(alloc: Global) -> Result<Vec<u8>, Error> {
     let payload = Vec::from_elem(alloc, 1u8, MEBIBYTE)?;
     let mut frame = Vec::new(alloc);

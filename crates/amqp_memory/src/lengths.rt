@@ -1,12 +1,12 @@
-//! False lengths: frames that claim four gigabytes, and end. They take no more memory than they have bytes, so the
-//! answer is the end of the input, also where each request for much at once is refused.
+//! False lengths: encoded values that claim four gigabytes, and end. They take no more memory than they have bytes,
+//! so the answer is the end of the input, also where each request for much at once is refused.
 
 use crate::report::report;
 use amqp_data::Error;
 use amqp_frame::{LazyValue, SliceReader};
 use serde_amqp::{VecWriter, run_cut};
 
-// Frames of all forms with a size of four bytes, which are cut short.
+// Encoded values of all forms with a size of four bytes, which are cut short.
 const FRAMES: [&[u8]; 9] = [
     b"\xb0\xff\xff\xff\xff",
     b"\xb0\xff\xff\xff\xff\x61\x62\x63",
@@ -43,7 +43,7 @@ fn run(rt: &impl AllocGlobal, frame: &[u8]) -> Result<(), Error> {
     )
 }
 
-// Whether the answer is the end of the input; want of memory is passed on.
+// Whether the answer is the end of the input; out of memory is passed on.
 fn is_end(answer: Result<(), Error>) -> Result<bool, Error> {
     match answer {
         Err(Error::UnexpectedEof) => Ok(true),

@@ -1,4 +1,4 @@
-//! The two runs: what was put is a beginning of the output, also where memory is wanted.
+//! The two runs: what was put is a prefix of the output, also where they are out of memory.
 
 use crate::report::report;
 use amqp_data::Error;
@@ -14,7 +14,7 @@ pub fn all(rt: &(impl Print + AllocGlobal)) -> Result<(), Error> {
     Ok(())
 }
 
-// The run's answer, and whether it put what it was to put, or after a refusal a beginning of that.
+// The run's answer, and whether it put what it was to put, or after a refusal a prefix of that.
 fn ended(answer: Result<(), Error>, writer: &VecWriter, output: &[u8]) -> Result<bool, Error> {
     if answer.is_err() && !output.starts_with(writer.as_slice()) {
         return Ok(false);

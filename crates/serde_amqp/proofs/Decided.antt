@@ -41,7 +41,7 @@ module _ (one_case : (s : List ℕ) → ExactlyOne (HasFrame s) (HasBroken s) (I
     ((λ h. short), (λ h. refl)),
   )
 
--- as many frames as a run may take, and more bytes, are 2 ^ 64 bytes at least
+-- as many encoded values as a run may take, and more bytes, are 2 ^ 64 bytes at least
 module _ (some_byte : (frame : List ℕ) → IsFrame frame → 0 < length frame) where
   concat-long : (frames : List (List ℕ)) → AllByRecursion IsFrame frames → length frames ≤ length (concat frames)
   concat-long [] each = omega arith

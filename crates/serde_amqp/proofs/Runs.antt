@@ -1,4 +1,4 @@
--- A run over the frames of a byte string, from step to step.
+-- A run over the encoded values of a byte string, from step to step.
 use Rattle.std.proofs.Common.{◌≡◌, ◌≢◌, ℕ, ◌+◌, ◌-◌, ◌^◌, ◌≤◌, ◌<◌, ◌⊎◌, inl, inr, min, List, [], ◌∷◌, ◌++◌, Option, None, Some, Result, Ok, Err, IfSome, IfErr, IsErrOf, length, take, refl, sym, ap, ◌∙◌, subst, append_assoc, length-append, arith}
 use Rattle.std.specs.List.{AllByRecursion, concat}
 use Rattle.std.proofs.lemmas.List.{append-nil, take-append-le, take_min}
@@ -17,7 +17,7 @@ use Rattle.serde_amqp.specs.CutLines.{cut_line, cut_lines}
 use Rattle.serde_amqp.specs.CutRun.{Prints, PrintsFront, IsCutShort, CutRefuses}
 use Rattle.serde_amqp.specs.CutSteps.{PrintsNext, StopsInLine, StepRefuses}
 
--- so many frames were taken, and their lines were put
+-- so many encoded values were taken, and their lines were put
 abbrev pub Progress : Option (List ℕ) → Option (List ℕ) → Option (List ℕ) → Option (List ℕ) → ℕ → Type 0
 Progress a b w v n = (frames : List (List ℕ)) × (length frames ≡ n) × AllByRecursion IsFrame frames × Consumes a b (concat frames) × Appends w v (cut_lines frames)
 
@@ -46,7 +46,7 @@ none-in-nothing some_byte (f, r, h, e) =
     let len = ap length e in
     omega (arith, length-append f r)
 
--- the input ended between frames
+-- the input ended between encoded values
 pub run-ends : ((f : List ℕ) → IsFrame f → 0 < length f) → (a b w v u : Option (List ℕ)) (n : ℕ) → Progress a b w v n → IsAtEnd b → Keeps v u → IfSome a (λ s. Prints s w u (λ rest. rest ≡ []))
 run-ends some_byte None b w v u n p over kept = tt
 run-ends some_byte (Some s) None w v u n p over kept = absurd p.3
@@ -105,7 +105,7 @@ module _ (some_cut : (s : List ℕ) → (frames : List (List ℕ)) × (rest : Li
   run-refused (Some s) None w v u n e p h = absurd p.3
   run-refused (Some s) (Some t) w v u n e p h = step-refused s t w v u n e p h
 
-  -- too many frames, or a failure after as many as may be
+  -- too many encoded values, or a failure after as many as may be
   at-most : (s t : List ℕ) (w v u : Option (List ℕ)) (e : Error) → Progress (Some s) (Some t) w v (2 ^ 64 - 1) → Keeps v u → (e ≡ TooLong → t ≢ []) → (e ≡ TooLong) ⊎ (e ≡ Io) → CutRefuses s w u e
   at-most s t w v u e (frames, size, each, read, put) kept more (inl m) =
       rw m (frames, t, size, each, read, more m, Appends-kept w v u _ put kept)

@@ -34,7 +34,7 @@ frame-refused-at T s c f g w TooLong some d h = h
 frame-refused-at T s c f g w InvalidValue some d h = h
 frame-refused-at T s c f g w (Message words) some d h = h
 
--- no frame came after a byte was seen
+-- no encoded value came after a byte was seen
 pub frame-refused : (T : Type 0) (a b c : Option (List ℕ)) (f g : ℕ) (w : Option (List ℕ)) (o : Option ℕ) (e : Error) → is_some o ≡ true → IfSome a (λ s. o ≡ slice_get s 0) → Keeps a b → IfSome b (λ s. DecidedBy {T = T} s (Err e)) → Refuses b c f g (TakesBeginning b c) (TakesBroken b c) e → IfSome a (λ s. StepRefuses s w w e)
 frame-refused T None b c f g w o e some first kept d h = tt
 frame-refused T (Some s) None c f g w o e some first kept d h = absurd kept
@@ -42,7 +42,7 @@ frame-refused T (Some s) (Some t) c f g w o e some first kept d h =
     let P : List ℕ → Type 0 = λ l. StepRefuses l w w e in
     subst P kept (frame-refused-at T t c f g w e (λ none. some-byte s o some first (sym kept ∙ none)) d h)
 
--- the line of a frame was not put whole
+-- the line of an encoded value was not put whole
 pub put-refused : (a b c w v : Option (List ℕ)) (frame line : List ℕ) (e : Error) → Keeps a b → IsFrame frame → Consumes b c frame → line ≡ cut_line frame → TakesFront w v line → (e ≡ OutOfMemory) ⊎ (e ≡ Io) → IfSome a (λ s. StepRefuses s w v e)
 put-refused None b c w v frame line e kept h t is put why = tt
 put-refused (Some s) None c w v frame line e kept h t is put why = absurd kept

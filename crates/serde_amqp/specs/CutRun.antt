@@ -1,4 +1,4 @@
--- What a run over the frames of a byte string puts, and why it refuses (AMQP 1.0 part 1, section 1.2).
+-- What a run over the encoded values of a byte string puts, and why it refuses (AMQP 1.0 part 1, section 1.2).
 use Rattle.std.specs.Prelude.{◌≡◌, ◌≢◌, ℕ, ◌-◌, ◌^◌, ◌≤◌, ◌⊎◌, ◌↔◌, List, [], ◌++◌, length, Option, Result, IsOk, IsErrOf}
 use Rattle.std.specs.List.{AllByRecursion, concat}
 use Rattle.std.specs.Io.KnownBytes.{Appends}
@@ -9,21 +9,21 @@ use Rattle.amqp_frame.specs.Frame.{IsFrame, IsBeginning, HasBroken}
 use Rattle.serde_amqp.specs.Writer.{TakesFront}
 use Rattle.serde_amqp.specs.CutLines.{cut_lines}
 
--- the lines of all frames of the cut were put, and P holds of its rest
+-- the lines of all values of the cut were put, and P holds of its rest
 abbrev pub Prints : List ℕ → Option (List ℕ) → Option (List ℕ) → (List ℕ → Type 0) → Type 0
 Prints s old new P = (frames : List (List ℕ)) × (rest : List ℕ) × IsCut s frames rest × Appends old new (cut_lines frames) × P rest
 
--- a beginning of the lines of the cut was put
+-- a prefix of the lines of the cut was put
 abbrev pub PrintsFront : List ℕ → Option (List ℕ) → Option (List ℕ) → Type 0
 PrintsFront s old new = (frames : List (List ℕ)) × (rest : List ℕ) × IsCut s frames rest × TakesFront old new (cut_lines frames)
 
--- the lines of as many frames as a run may take were put, and more bytes follow them
+-- the lines of as many values as a run may take were put, and more bytes follow them
 abbrev pub PrintsMost : List ℕ → Option (List ℕ) → Option (List ℕ) → Type 0
 PrintsMost s old new =
     (frames : List (List ℕ)) × (rest : List ℕ) × (length frames ≡ 2 ^ 64 - 1) × AllByRecursion IsFrame frames
     × (s ≡ concat frames ++ rest) × (rest ≢ []) × Appends old new (cut_lines frames)
 
--- a beginning that has a byte at least
+-- an incomplete value that has a byte at least
 abbrev pub IsCutShort : List ℕ → Type 0
 IsCutShort rest = (rest ≢ []) × IsBeginning rest
 
@@ -37,7 +37,7 @@ CutRefuses s old new Io = PrintsFront s old new
 CutRefuses s old new InvalidValue = ⊥
 CutRefuses s old new (Message words) = ⊥
 
--- want of memory and failures aside, and on fewer than 2 ^ 64 bytes, the rest of the cut decides the answer
+-- out of memory and failures aside, and on fewer than 2 ^ 64 bytes, the rest of the cut decides the answer
 abbrev pub CutDecidedBy : {T : Type 0} → List ℕ → Result T Error → Type 0
 CutDecidedBy s r =
     (frames : List (List ℕ)) (rest : List ℕ) → IsCut s frames rest

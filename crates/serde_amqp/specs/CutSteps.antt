@@ -1,4 +1,4 @@
--- What one step of a run over frames puts, and why it refuses (AMQP 1.0 part 1, section 1.2).
+-- What one step of a run over encoded values puts, and why it refuses (AMQP 1.0 part 1, section 1.2).
 use Rattle.std.specs.Prelude.{◌≡◌, ℕ, ◌⊎◌, List, ◌++◌, Option}
 use Rattle.std.specs.Io.KnownBytes.{Keeps, Consumes, Appends}
 use Rattle.amqp_data.specs.declared.error.Error.{Error}
@@ -8,7 +8,7 @@ use Rattle.serde_amqp.specs.Writer.{TakesFront}
 use Rattle.serde_amqp.specs.CutLines.{cut_line}
 use Rattle.serde_amqp.specs.CutRun.{IsCutShort}
 
--- the next frame was taken, and its line was put
+-- the next encoded value was taken, and its line was put
 abbrev pub PrintsNext : Option (List ℕ) → Option (List ℕ) → Option (List ℕ) → Option (List ℕ) → Type 0
 PrintsNext old new before after = (frame : List ℕ) × IsFrame frame × Consumes old new frame × Appends before after (cut_line frame)
 

@@ -15,7 +15,7 @@ IsReportable s = IsUtf8 s × (writable (lines_tree s) ≡ true)
 abbrev pub IsTooLong : List ℕ → Type 0
 IsTooLong s = IsUtf8 s × (writable (lines_tree s) ≡ false)
 
--- a beginning of the report was put, if there is one to put
+-- a prefix of the report was put, if there is one to put
 abbrev pub PutsFront : List ℕ → Option (List ℕ) → Option (List ℕ) → Type 0
 PutsFront s old new = Keeps old new ⊎ (IsReportable s × TakesFront old new (lines_out s))
 
@@ -29,7 +29,7 @@ LinesRefuses s old new InvalidFormatCode = ⊥
 LinesRefuses s old new UnexpectedEof = ⊥
 LinesRefuses s old new (Message words) = ⊥
 
--- want of memory and failures aside, the text decides the answer
+-- out of memory and failures aside, the text decides the answer
 abbrev pub LinesDecidedBy : {T : Type 0} → List ℕ → Result T Error → Type 0
 LinesDecidedBy s r =
     IsErrOf r OutOfMemory ⊎ (IsErrOf r Io ⊎ ((IsOk r ↔ IsReportable s)

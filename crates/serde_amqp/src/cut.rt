@@ -1,4 +1,4 @@
-//! A line for each frame of the input.
+//! A line for each encoded value of the input.
 
 ghost use Rattle.std.specs.Prelude.{◌≡◌, ◌≢◌, ◌≤◌, ◌⊎◌, true, false, [], IfOk, OnOk, IfErr, IfSome, IsErrOf, IsOkUnless, Ok};
 ghost use Rattle.std.specs.Io.KnownBytes.{Keeps, IsAtEnd};
@@ -13,26 +13,28 @@ use amqp_data::Error;
 use amqp_frame::{LazyValue, Read, laws};
 use std::alloc::Global;
 
-/// Prints a line for each frame of the input, as it is taken, up to the input's end.
+/// Prints a line for each encoded value of the input, as it is taken, up to the input's end.
 ///
-/// The line is the frame's length in decimal, a space, its bytes in lower-case hexadecimal, and 0A. At the
-/// input's end it flushes.
+/// The line is the value's length in decimal, a space, its bytes in lower-case hexadecimal, and 0A. At
+/// the input's end it flushes.
+///
+/// The contract says frame, as the crate `serde_amqp` does. A frame of the transport, with its header of
+/// eight bytes (AMQP 1.0 part 2, section 2.3), is another thing.
 ///
 /// # Encoding
 ///
-/// AMQP 1.0 part 1, sections 1.2 to 1.2.4, as [`LazyValue::from_reader`] cuts frames off.
+/// AMQP 1.0 part 1, sections 1.2 to 1.2.4, as [`LazyValue::from_reader`] cuts values off.
 ///
 /// # Errors
 ///
-/// [`Error::InvalidFormatCode`] where a refused code stands where a frame was to begin, and
-/// [`Error::UnexpectedEof`] where the input ends inside a frame; the lines of the frames before were put
-/// then. [`Error::Io`] where a read or a write failed, and [`Error::OutOfMemory`]; a beginning of the
-/// lines was put then. [`Error::TooLong`] where another byte follows `u64::MAX` frames, whose lines were
-/// put.
+/// [`Error::InvalidFormatCode`] where a refused code stands where a value was to begin, and
+/// [`Error::UnexpectedEof`] where the input ends inside a value; the lines of the values before were put
+/// then. [`Error::Io`] where a read or a write failed, and [`Error::OutOfMemory`]; a prefix of the lines
+/// was put then. [`Error::TooLong`] where another byte follows `u64::MAX` values, whose lines were put.
 ///
 /// # Memory
 ///
-/// Takes `alloc`, for one frame and its line at a time.
+/// Takes `alloc`, for one value and its line at a time.
 ///
 /// # Example
 ///
@@ -62,7 +64,7 @@ pub fn run_cut<R: Read, W: Write>(
     print_frames(alloc, reader, writer)
 }
 
-// Prints a line for each frame.
+// Prints a line for each encoded value.
 fn print_frames<R: Read, W: Write>(
     alloc: Global,
     reader: &mut R,
@@ -89,7 +91,7 @@ fn print_frames<R: Read, W: Write>(
     finish(reader, writer)
 }
 
-// Takes the next frame and prints its line; false where there is none.
+// Takes the next encoded value and prints its line; false where there is none.
 fn print_next<R: Read, W: Write>(
     alloc: Global,
     reader: &mut R,
@@ -118,7 +120,7 @@ fn print_next<R: Read, W: Write>(
     Ok(true)
 }
 
-// Ends a run that took as many frames as it may.
+// Ends a run that took as many values as it may.
 fn finish<R: Read, W: Write>(reader: &mut R, writer: &mut W) -> Result<(), Error>
     ensures done { OnOk result (IsAtEnd (R.left reader.old)) }
     ensures flushed { OnOk result (W.flushed writer.new) }
@@ -138,7 +140,7 @@ fn finish<R: Read, W: Write>(reader: &mut R, writer: &mut W) -> Result<(), Error
     }
 }
 
-// The line of a frame.
+// The line of an encoded value.
 #[tactic(auto, unfolding(crate::specs::CutLines::cut_line))]
 fn line_of(alloc: Global, frame: &[u8]) -> Result<Vec<u8>, Error>
     ensures ok { IfOk result (λ line. line.items ≡ cut_line frame.now) }

@@ -1,3 +1,3 @@
-//! The bytes of one frame, not looked into.
+//! The bytes of one encoded value, not looked into.
 
 pub use amqp_frame::{LazyValue, frame_len};

@@ -1,8 +1,8 @@
-//! AMQP 1.0 data: values, their bytes and lengths, and frames.
+//! AMQP 1.0 data: values, their bytes and their lengths.
 //!
 //! One `Serialize` gives three things: the length of a value's bytes ([`serialized_size`], without memory),
-//! the bytes ([`to_vec`]) and the untyped [`Value`] ([`to_value`]). [`lazy::LazyValue`] cuts the frame of one
-//! value off any reader, with no look at what it holds.
+//! the bytes ([`to_vec`]) and the untyped [`Value`] ([`to_value`]). [`lazy::LazyValue`] cuts one encoded value
+//! off any reader, with no look at what it holds.
 //!
 //! This crate is the top of the workspace. Its modules hand out what the crates below have, under the names
 //! of the Rust crate `serde_amqp`. It adds [`Write`], the counterpart of [`read::Read`], and the program's

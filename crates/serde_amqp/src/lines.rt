@@ -35,7 +35,7 @@ use std::str;
 ///
 /// [`Error::InvalidValue`] where the input is not UTF-8, and [`Error::TooLong`] where the list of its lines
 /// is past a limit; nothing was put then. [`Error::Io`] where a read or a write failed, and
-/// [`Error::OutOfMemory`]; a beginning of the three lines was put then.
+/// [`Error::OutOfMemory`]; a prefix of the three lines was put then.
 ///
 /// # Memory
 ///

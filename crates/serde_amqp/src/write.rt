@@ -31,7 +31,7 @@ pub trait Write {
     /// # Errors
     ///
     /// [`Error::OutOfMemory`] where the writer keeps them, and [`Error::Io`] where a write failed; a
-    /// beginning of the bytes was taken then.
+    /// prefix of the bytes was taken then.
     ///
     /// # Memory
     ///

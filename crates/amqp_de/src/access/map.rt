@@ -1,6 +1,6 @@
 //! The keys and values of a map, one after another.
 
-ghost use Rattle.std.specs.Prelude.{◌≡◌, ◌↔◌, IsTrue, IsSome, List, Option, Some, None, MatchResult};
+ghost use Rattle.std.specs.Prelude.{◌≡◌, ◌↔◌, IsTrue, IsSome, List, Option, Some, None};
 ghost use Rattle.amqp_ser.specs.Tree.{Tree};
 ghost use Rattle.amqp_de.specs.Access.{ReadsKey, ReadsValue, ReadsEntry, RestoresKey, RestoresOwed};
 ghost use Rattle.amqp_de.specs.Answers.{TakesPair};

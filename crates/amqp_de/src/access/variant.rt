@@ -134,7 +134,7 @@ pub trait VariantAccess: Sized + Drop {
         self.newtype_variant_seed(alloc, Of(PhantomData::<T>))
     }
 
-    /// Shows the list of a variant of fields.
+    /// Deserializes a tuple variant: shows the visitor the list of its fields.
     ///
     /// # Errors
     /// The message `Expecting Value::List` where nothing comes with the index; invalid where it is no list; as the
@@ -151,7 +151,7 @@ pub trait VariantAccess: Sized + Drop {
         }
     }
 
-    /// Shows the list of a variant of fields. As [`VariantAccess::tuple_variant`].
+    /// Deserializes a struct variant. As [`VariantAccess::tuple_variant`].
     final fn struct_variant<V: Visitor>(self, visitor: V) -> Result<V::Value, Self::Error>
         ensures read { Answers Self.Error.is_memory
             (There (ByList (V.gives visitor)) (content self)) result }

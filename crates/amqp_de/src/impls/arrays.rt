@@ -12,7 +12,7 @@ use std::alloc::Global;
 /// Reads this many elements, in order. Elements left over are ignored.
 ///
 /// # Errors
-/// Invalid where there are fewer; what the first refused element is refused with; want of memory.
+/// Invalid where there are fewer; what the first refused element is refused with; out of memory.
 fn read_first<T: Deserialize, D: Deserializer>(
     alloc: Global,
     elements: &mut D::Elements,

@@ -14,7 +14,7 @@ use std::alloc::Global;
 /// Reads all the elements that are left, in order.
 ///
 /// # Errors
-/// What the first refused element is refused with; want of memory.
+/// What the first refused element is refused with; out of memory.
 fn read_all<T: Deserialize, D: Deserializer>(
     alloc: Global,
     elements: &mut D::Elements,

@@ -52,7 +52,7 @@ fn read_pair<K: Deserialize, V: Deserialize, D: Deserializer>(
 /// Reads all the pairs that are left, and inserts them in turn.
 ///
 /// # Errors
-/// What the first refused key or value is refused with; want of memory.
+/// What the first refused key or value is refused with; out of memory.
 fn read_pairs<K: Deserialize, V: Deserialize, M: Inserts<K, V>, D: Deserializer>(
     alloc: Global,
     entries: &mut D::Entries,

@@ -32,7 +32,7 @@ impl<T: Serialize> Serialize for Newtype<'_, T> {
     }
 }
 
-// A value of each kind, in the order of `Value`; the binary is of no marker's length, and is no frame.
+// A value of each kind, in the order of `Value`; the binary is of no marker's length, and is no encoded value.
 fn values(a: Global) -> Result<Vec<Value>, Fail> {
     let described = Described {
         descriptor: Descriptor::from(1u64),
