@@ -7,8 +7,8 @@ use crate::code::{body_len_of, category_of, is_primitive, size_width_of};
 
 /// The length of the encoded value that the bytes begin with: none where no prefix of them is one.
 ///
-/// The name says frame, as the crate `serde_amqp` does. A frame of the transport, with its header of
-/// eight bytes (AMQP 1.0 part 2, section 2.3), is another thing.
+/// Public names say frame for an encoded value, as the crate `serde_amqp` does. A frame of the
+/// transport, with its header of eight bytes (AMQP 1.0 part 2, section 2.3), is another thing.
 ///
 /// # Encoding
 ///

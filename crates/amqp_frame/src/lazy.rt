@@ -38,8 +38,8 @@ impl Model for LazyValue {
 impl LazyValue {
     /// Takes exactly the next encoded value, and leaves what follows it.
     ///
-    /// The contracts say frame, as the crate `serde_amqp` does. A frame of the transport, with its
-    /// header of eight bytes (AMQP 1.0 part 2, section 2.3), is another thing.
+    /// Public names say frame for an encoded value, as the crate `serde_amqp` does. A frame of the
+    /// transport, with its header of eight bytes (AMQP 1.0 part 2, section 2.3), is another thing.
     ///
     /// # Encoding
     ///

@@ -18,8 +18,8 @@ use std::alloc::Global;
 /// The line is the value's length in decimal, a space, its bytes in lower-case hexadecimal, and 0A. At
 /// the input's end it flushes.
 ///
-/// The contract says frame, as the crate `serde_amqp` does. A frame of the transport, with its header of
-/// eight bytes (AMQP 1.0 part 2, section 2.3), is another thing.
+/// Public names say frame for an encoded value, as the crate `serde_amqp` does. A frame of the
+/// transport, with its header of eight bytes (AMQP 1.0 part 2, section 2.3), is another thing.
 ///
 /// # Encoding
 ///
