@@ -25,7 +25,7 @@ use std::alloc::Global;
 /// The calls `deserialize_..` show a visitor what it holds.
 ///
 /// # Errors
-/// A call `deserialize_..` is invalid where a value of another kind is held than it shows. An enum's empty list or map
+/// A call `deserialize_..` is invalid where a value of another kind is held than it takes. An enum's empty list or map
 /// has the message `Expecting a Value`. Otherwise the answer is the visitor's.
 ///
 /// # Implementer notes
