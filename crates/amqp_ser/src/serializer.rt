@@ -61,7 +61,8 @@ pub trait Serializer {
     ghost is_misuse: { Self.Error → Type 0 };
 
     /// Where there is no tree there is no answer but a refusal.
-    ghost refuses_none: { (before : Self) (answer : Self.Ok) (after : Self) → permits before None (Ok answer) after → ⊥ };
+    ghost refuses_none: { (before : Self) (answer : Self.Ok) (after : Self) →
+        permits before None (Ok answer) after → ⊥ };
 
     /// Answers on null or a scalar of fixed width.
     fn serialize_fixed(&mut self, fixed: Fixed) -> Result<Self::Ok, Self::Error>
@@ -97,7 +98,8 @@ pub trait Serializer {
         ensures ready { (start : Self) (kind : Kind) (ps : List (Option Tree)) →
             has start kind self.old held.old ps → awaits start kind self.new held.new ps }
         ensures bare { (start : Self) → has start Kind.Bare self.old held.old [] →
-            (t : Option Tree) (r : Result Self.Ok Self.Error) (after : Self) → permits self.new t r after → permits start t r after };
+            (t : Option Tree) (r : Result Self.Ok Self.Error) (after : Self) →
+            permits self.new t r after → permits start t r after };
 
     /// Takes the answer on a part: the compound has it, or is as it was. A refused part is never taken.
     fn end_part(
@@ -105,7 +107,8 @@ pub trait Serializer {
         held: &mut Self::Open,
         part: Result<Self::Ok, Self::Error>,
     ) -> Result<(), Self::Error>
-        ensures step { (start : Self) (kind : Kind) (before : Self) (ps : List (Option Tree)) (p : Option Tree) →
+        ensures step { (start : Self) (kind : Kind) (before : Self) (ps : List (Option Tree))
+            (p : Option Tree) →
             awaits start kind before held.old ps → permits before p part self.old →
             MatchResult result
             (λ _. has start kind self.new held.new (ps ++ (p ∷ [])))
@@ -116,20 +119,24 @@ pub trait Serializer {
     /// Takes the last part back: a key whose value was refused.
     fn undo_part(&mut self, held: &mut Self::Open)
         ensures back { (start : Self) (ps : List (Option Tree)) (p : Option Tree) →
-            has start Kind.Map self.old held.old (ps ++ (p ∷ [])) → paired ps ≡ true → has start Kind.Map self.new held.new ps }
-        ensures refusals { (start : Self) (ps : List (Option Tree)) (p t : Option Tree) (e : Self.Error) →
+            has start Kind.Map self.old held.old (ps ++ (p ∷ [])) → paired ps ≡ true →
+            has start Kind.Map self.new held.new ps }
+        ensures refusals { (start : Self) (ps : List (Option Tree)) (p t : Option Tree)
+            (e : Self.Error) →
             has start Kind.Map self.old held.old (ps ++ (p ∷ [])) → paired ps ≡ true →
             permits start t (Err e) self.old → permits start t (Err e) self.new };
 
     /// The refusal of parts that make no tree; the compound is as it was.
     fn misuse(&mut self, held: &mut Self::Open) -> Self::Error
-        ensures kept { (start : Self) (kind : Kind) (ps : List (Option Tree)) → has start kind self.old held.old ps →
+        ensures kept { (start : Self) (kind : Kind) (ps : List (Option Tree)) →
+            has start kind self.old held.old ps →
             has start kind self.new held.new ps × permits start None (Err result) self.new }
         ensures invalid { is_misuse result };
 
     /// Makes ready for a descriptor, before the one value of a bare compound.
     fn begin_descriptor(&mut self, held: &mut Self::Open)
-        ensures { (start : Self) → has start Kind.Bare self.old held.old [] → awaits_descriptor start self.new held.new };
+        ensures { (start : Self) → has start Kind.Bare self.old held.old [] →
+            awaits_descriptor start self.new held.new };
 
     /// Takes the answer on a descriptor: the value to come is described by it, or the compound is as it was. A refused
     /// one is never taken, nor one that is no ulong and no symbol.
@@ -141,17 +148,21 @@ pub trait Serializer {
         ensures step { (start before : Self) (d : Option Tree) →
             awaits_descriptor start before held.old → permits before d part self.old →
             MatchResult result
-            (λ _. (mid : Self) × (has mid Kind.Bare self.new held.new [] × ((t : Option Tree) (r : Result Self.Ok Self.Error) (after : Self) →
+            (λ _. (mid : Self)
+            × (has mid Kind.Bare self.new held.new []
+            × ((t : Option Tree) (r : Result Self.Ok Self.Error) (after : Self) →
             permits mid t r after → permits start (as_described (descriptor_of d) t) r after)))
             (λ e. has start Kind.Bare self.new held.new [] × ((t : Option Tree) →
             permits start (as_described (descriptor_of d) t) (Err e) self.new)) }
         ensures refused { IfErr part (λ _. IsErr result) }
         ensures other_kinds { (start before : Self) (d : Option Tree) →
-            awaits_descriptor start before held.old → permits before d part self.old → descriptor_of d ≡ None → IsErr result };
+            awaits_descriptor start before held.old → permits before d part self.old →
+            descriptor_of d ≡ None → IsErr result };
 
     /// Ends the compound.
     fn end(&mut self, held: Self::Open) -> Result<Self::Ok, Self::Error>
-        ensures { (start : Self) (kind : Kind) (ps : List (Option Tree)) → has start kind self.old held ps →
+        ensures { (start : Self) (kind : Kind) (ps : List (Option Tree)) →
+            has start kind self.old held ps →
             complete kind ps ≡ true → permits start (whole kind ps) result self.new };
 
     /// Whether texts for people are wanted: never.
@@ -329,8 +340,10 @@ pub trait Serializer {
     ) -> Result<SerializeSeq<'_, Self>, Self::Error>
     where
         Self: Sized,
-        ensures opened { IfOk result (λ seq. Self.has self.old Kind.List seq.serializer.now seq.held []) }
-        ensures same_reference { IfOk result (λ seq. seq.serializer.ghost_name ≡ self.entry.ghost_name) }
+        ensures opened { IfOk result
+            (λ seq. Self.has self.old Kind.List seq.serializer.now seq.held []) }
+        ensures same_reference { IfOk result
+            (λ seq. seq.serializer.ghost_name ≡ self.entry.ghost_name) }
         ensures succeeds { IsOk result }
     {
         let held = self.begin(Kind::List);
@@ -345,8 +358,10 @@ pub trait Serializer {
     ) -> Result<SerializeTuple<'_, Self>, Self::Error>
     where
         Self: Sized,
-        ensures opened { IfOk result (λ tuple. Self.has self.old Kind.List tuple.serializer.now tuple.held []) }
-        ensures same_reference { IfOk result (λ tuple. tuple.serializer.ghost_name ≡ self.entry.ghost_name) }
+        ensures opened { IfOk result
+            (λ tuple. Self.has self.old Kind.List tuple.serializer.now tuple.held []) }
+        ensures same_reference { IfOk result
+            (λ tuple. tuple.serializer.ghost_name ≡ self.entry.ghost_name) }
         ensures succeeds { IsOk result }
     {
         let held = self.begin(Kind::List);
@@ -363,11 +378,19 @@ pub trait Serializer {
     ) -> Result<SerializeTupleStruct<'_, Self>, Self::Error>
     where
         Self: Sized,
-        ensures opened { is_tagged name.now ≡ false → IfOk result (λ fields. Stands Self.permits Self.has self.old None Kind.List fields.serializer.now fields.held []) }
-        ensures bare { is_tagged name.now ≡ true → IfOk result (λ fields. Stands Self.permits Self.has self.old None Kind.Bare fields.serializer.now fields.held []) }
+        ensures opened { is_tagged name.now ≡ false →
+            IfOk result
+            (λ fields. Stands Self.permits Self.has self.old None Kind.List fields.serializer.now
+            fields.held []) }
+        ensures bare { is_tagged name.now ≡ true →
+            IfOk result
+            (λ fields. Stands Self.permits Self.has self.old None Kind.Bare fields.serializer.now
+            fields.held []) }
         ensures body { IfOk result (λ fields. fields.bare ≡ is_basic_name name.now) }
-        ensures awaits { IfOk result (λ fields. (fields.awaits ≡ is_tagged name.now) × (fields.opened ≡ not (is_tagged name.now))) }
-        ensures same_reference { IfOk result (λ fields. fields.serializer.ghost_name ≡ self.entry.ghost_name) }
+        ensures awaits { IfOk result (λ fields. (fields.awaits ≡ is_tagged name.now)
+            × (fields.opened ≡ not (is_tagged name.now))) }
+        ensures same_reference { IfOk result
+            (λ fields. fields.serializer.ghost_name ≡ self.entry.ghost_name) }
         ensures succeeds { IsOk result }
     {
         let bare = is_basic_name(name);
@@ -389,10 +412,14 @@ pub trait Serializer {
     ) -> Result<SerializeStruct<'_, Self>, Self::Error>
     where
         Self: Sized,
-        ensures opened { IfOk result (λ fields. Stands Self.permits Self.has self.old None Kind.Bare fields.serializer.now fields.held []) }
+        ensures opened { IfOk result
+            (λ fields. Stands Self.permits Self.has self.old None Kind.Bare fields.serializer.now
+            fields.held []) }
         ensures body { IfOk result (λ fields. fields.body ≡ struct_body name.now) }
-        ensures empty { IfOk result (λ fields. (fields.described ≡ false) × (fields.opened ≡ false)) }
-        ensures same_reference { IfOk result (λ fields. fields.serializer.ghost_name ≡ self.entry.ghost_name) }
+        ensures empty { IfOk result (λ fields. (fields.described ≡ false)
+            × (fields.opened ≡ false)) }
+        ensures same_reference { IfOk result
+            (λ fields. fields.serializer.ghost_name ≡ self.entry.ghost_name) }
         ensures succeeds { IsOk result }
     {
         let held = self.begin(Kind::Bare);
@@ -408,7 +435,9 @@ pub trait Serializer {
     ) -> Result<Self::Ok, Self::Error>
     where
         Self: Sized,
-        ensures { Self.permits self.old (as_described (descriptor_of (D.tree descriptor.now)) (T.tree value.now)) result self.new }
+        ensures { Self.permits self.old
+            (as_described (descriptor_of (D.tree descriptor.now)) (T.tree value.now)) result
+            self.new }
     {
         serialize_described(self, descriptor, value)
     }
@@ -421,9 +450,11 @@ pub trait Serializer {
     ) -> Result<SerializeMap<'_, Self>, Self::Error>
     where
         Self: Sized,
-        ensures opened { IfOk result (λ map. Self.has self.old Kind.Map map.serializer.now map.held []) }
+        ensures opened { IfOk result
+            (λ map. Self.has self.old Kind.Map map.serializer.now map.held []) }
         ensures no_key { IfOk result (λ map. map.pending ≡ false) }
-        ensures same_reference { IfOk result (λ map. map.serializer.ghost_name ≡ self.entry.ghost_name) }
+        ensures same_reference { IfOk result
+            (λ map. map.serializer.ghost_name ≡ self.entry.ghost_name) }
         ensures succeeds { IsOk result }
     {
         let held = self.begin(Kind::Map);
@@ -442,8 +473,10 @@ pub trait Serializer {
     ) -> Result<Self::Ok, Self::Error>
     where
         Self: Sized,
-        ensures answered { Self.permits self.old (named_variant name.now index (T.tree v.now)) result self.new }
-        ensures invalid { is_value name.now ≡ false → is_descriptor name.now ≡ true → IsErr result × IfErr result Self.is_misuse }
+        ensures answered { Self.permits self.old (named_variant name.now index (T.tree v.now))
+            result self.new }
+        ensures invalid { is_value name.now ≡ false → is_descriptor name.now ≡ true →
+            IsErr result × IfErr result Self.is_misuse }
     {
         if is_value_name(name) {
             return v.serialize(self);
@@ -467,8 +500,11 @@ pub trait Serializer {
     ) -> Result<SerializeTupleVariant<'_, Self>, Self::Error>
     where
         Self: Sized,
-        ensures opened { IfOk result (λ variant. Self.has self.old (Kind.Fields index) variant.serializer.now variant.held []) }
-        ensures same_reference { IfOk result (λ variant. variant.serializer.ghost_name ≡ self.entry.ghost_name) }
+        ensures opened { IfOk result
+            (λ variant. Self.has self.old (Kind.Fields index) variant.serializer.now
+            variant.held []) }
+        ensures same_reference { IfOk result
+            (λ variant. variant.serializer.ghost_name ≡ self.entry.ghost_name) }
         ensures succeeds { IsOk result }
     {
         let held = self.begin(Kind::Fields(index));
@@ -486,8 +522,11 @@ pub trait Serializer {
     ) -> Result<SerializeStructVariant<'_, Self>, Self::Error>
     where
         Self: Sized,
-        ensures opened { IfOk result (λ variant. Self.has self.old (Kind.Fields index) variant.serializer.now variant.held []) }
-        ensures same_reference { IfOk result (λ variant. variant.serializer.ghost_name ≡ self.entry.ghost_name) }
+        ensures opened { IfOk result
+            (λ variant. Self.has self.old (Kind.Fields index) variant.serializer.now
+            variant.held []) }
+        ensures same_reference { IfOk result
+            (λ variant. variant.serializer.ghost_name ≡ self.entry.ghost_name) }
         ensures succeeds { IsOk result }
     {
         let held = self.begin(Kind::Fields(index));

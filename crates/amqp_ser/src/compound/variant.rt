@@ -47,7 +47,10 @@ impl<'a, S: Serializer> SerializeTupleVariant<'a, S> {
 
     /// The serializer behind the variant, which goes on with what is left there; nothing else of it changes.
     pub fn as_mut(&mut self) -> &mut S
-        ensures* writes_back { sem 𝓛 (Lends (tuple_variant.the_row (record { mir = named 1; lft = [] }) S.row S.Ok.row S.Error.row S.Open.row) S.row self.entry result
+        ensures* writes_back { sem 𝓛
+            (Lends
+            (tuple_variant.the_row (record { mir = named 1; lft = [] }) S.row S.Ok.row S.Error.row
+            S.Open.row) S.row self.entry result
             (λ w. record self.old { serializer = record self.old.serializer { now = w } })) }
         ensures now { result.now ≡ self.old.serializer.now }
     {
@@ -61,7 +64,9 @@ impl<'a, S: Serializer> SerializeTupleVariant<'a, S> {
     #[inline(always)]
     pub fn serialize_field<T: Serialize>(&mut self, value: &T) -> Result<(), S::Error>
         ensures same { self.new.serializer.ghost_name ≡ self.old.serializer.ghost_name }
-        ensures step { (i : ℕ) → Feeds S.permits S.has (Kind.Fields i) (T.tree value.now) self.old.serializer.now self.old.held result self.new.serializer.now self.new.held }
+        ensures step { (i : ℕ) →
+            Feeds S.permits S.has (Kind.Fields i) (T.tree value.now) self.old.serializer.now
+            self.old.held result self.new.serializer.now self.new.held }
     {
         feed_part(&mut *self.serializer, &mut self.held, value)
     }
@@ -72,7 +77,8 @@ impl<'a, S: Serializer> SerializeTupleVariant<'a, S> {
     /// The serializer's refusal of that tree.
     #[inline(always)]
     pub fn end(self) -> Result<S::Ok, S::Error>
-        ensures { (start : S) (i : ℕ) (ps : List (Option Tree)) → S.has start (Kind.Fields i) self.entry.serializer.now self.entry.held ps →
+        ensures { (start : S) (i : ℕ) (ps : List (Option Tree)) →
+            S.has start (Kind.Fields i) self.entry.serializer.now self.entry.held ps →
             S.permits start (whole (Kind.Fields i) ps) result self.exit.0.now }
     {
         let SerializeTupleVariant { serializer, held } = self;
@@ -115,7 +121,10 @@ impl<'a, S: Serializer> SerializeStructVariant<'a, S> {
 
     /// The serializer behind the variant, which goes on with what is left there; nothing else of it changes.
     pub fn as_mut(&mut self) -> &mut S
-        ensures* writes_back { sem 𝓛 (Lends (struct_variant.the_row (record { mir = named 1; lft = [] }) S.row S.Ok.row S.Error.row S.Open.row) S.row self.entry result
+        ensures* writes_back { sem 𝓛
+            (Lends
+            (struct_variant.the_row (record { mir = named 1; lft = [] }) S.row S.Ok.row S.Error.row
+            S.Open.row) S.row self.entry result
             (λ w. record self.old { serializer = record self.old.serializer { now = w } })) }
         ensures now { result.now ≡ self.old.serializer.now }
     {
@@ -133,7 +142,9 @@ impl<'a, S: Serializer> SerializeStructVariant<'a, S> {
         value: &T,
     ) -> Result<(), S::Error>
         ensures same { self.new.serializer.ghost_name ≡ self.old.serializer.ghost_name }
-        ensures step { (i : ℕ) → Feeds S.permits S.has (Kind.Fields i) (T.tree value.now) self.old.serializer.now self.old.held result self.new.serializer.now self.new.held }
+        ensures step { (i : ℕ) →
+            Feeds S.permits S.has (Kind.Fields i) (T.tree value.now) self.old.serializer.now
+            self.old.held result self.new.serializer.now self.new.held }
     {
         feed_part(&mut *self.serializer, &mut self.held, value)
     }
@@ -144,7 +155,8 @@ impl<'a, S: Serializer> SerializeStructVariant<'a, S> {
     /// The serializer's refusal of that tree.
     #[inline(always)]
     pub fn end(self) -> Result<S::Ok, S::Error>
-        ensures { (start : S) (i : ℕ) (ps : List (Option Tree)) → S.has start (Kind.Fields i) self.entry.serializer.now self.entry.held ps →
+        ensures { (start : S) (i : ℕ) (ps : List (Option Tree)) →
+            S.has start (Kind.Fields i) self.entry.serializer.now self.entry.held ps →
             S.permits start (whole (Kind.Fields i) ps) result self.exit.0.now }
     {
         let SerializeStructVariant { serializer, held } = self;
