@@ -74,7 +74,7 @@ pub fn end_alone<S: Serializer>(serializer: &mut S, held: S::Open) -> Result<S::
     serializer.end(held)
 }
 
-/// Answers on a described value, as on a struct named `DESCRIBED_BASIC` of a descriptor and one field.
+/// Serializes a described value, as a struct named `DESCRIBED_BASIC` of a descriptor and one field.
 #[tactic(auto, unfolding(crate::specs::Structs::Stands))]
 #[inline(always)]
 pub fn serialize_described<S: Serializer, D: Serialize, T: Serialize>(

@@ -204,7 +204,7 @@ impl<V: Serialize, R: Fields> Fields for OptionalField<'_, V, R> {
     }
 }
 
-/// Answers on the list, or on the variant, of the fields up to the last that is there.
+/// Serializes the list, or the variant, of the fields up to the last that is there.
 fn serialize_values<S: Serializer, F: Fields>(
     serializer: &mut S,
     kind: Kind,
@@ -219,7 +219,7 @@ fn serialize_values<S: Serializer, F: Fields>(
     serializer.end(held)
 }
 
-/// Answers on the map from the fields' names to the fields that are there.
+/// Serializes the map from the fields' names to the fields that are there.
 #[tactic(auto, using(crate::proofs::Paired::paired_entries))]
 #[inline(always)]
 fn serialize_entries<S: Serializer, F: Fields>(
@@ -257,7 +257,7 @@ impl<F: Fields> Serialize for ListOf<F> {
 /// The variant of this index whose payload is the list of the fields up to the last that is there.
 ///
 /// # Encoding
-/// The map of one pair, from the index as an uint to the list: AMQP 1.0 part 1, section 1.6.23.
+/// The map of one pair, from the index as a uint to the list: AMQP 1.0 part 1, section 1.6.23.
 ///
 /// # Example
 /// `VariantOf(1, fields! { "x": 2u32 })` is written `c108025201c003015202`.

@@ -64,19 +64,19 @@ pub trait Serializer {
     ghost refuses_none: { (before : Self) (answer : Self.Ok) (after : Self) →
         permits before None (Ok answer) after → ⊥ };
 
-    /// Answers on null or a scalar of fixed width.
+    /// Serializes null or a scalar of fixed width.
     fn serialize_fixed(&mut self, fixed: Fixed) -> Result<Self::Ok, Self::Error>
         ensures { permits self.old (Some (scalar (fixed_scalar fixed))) result self.new };
 
-    /// Answers on null.
+    /// Serializes null.
     fn serialize_null(&mut self) -> Result<Self::Ok, Self::Error>
         ensures { permits self.old (Some (scalar null)) result self.new };
 
-    /// Answers on a string.
+    /// Serializes a string.
     fn serialize_str(&mut self, v: &str) -> Result<Self::Ok, Self::Error>
         ensures { permits self.old (Some (scalar (string v.now))) result self.new };
 
-    /// Answers on a binary.
+    /// Serializes a binary.
     fn serialize_bytes(&mut self, v: &[u8]) -> Result<Self::Ok, Self::Error>
         ensures { permits self.old (Some (scalar (binary v.now))) result self.new };
 
@@ -165,7 +165,7 @@ pub trait Serializer {
             has start kind self.old held ps →
             complete kind ps ≡ true → permits start (whole kind ps) result self.new };
 
-    /// Whether texts for people are wanted: never.
+    /// Whether values take a form for people to read: never.
     #[inline(always)]
     final fn is_human_readable(&self) -> bool
         ensures { result ≡ false }
@@ -173,7 +173,7 @@ pub trait Serializer {
         false
     }
 
-    /// Answers on a truth value.
+    /// Serializes a `bool`, a boolean.
     #[inline(always)]
     final fn serialize_bool(&mut self, v: bool) -> Result<Self::Ok, Self::Error>
         ensures { Self.permits self.old (Some (scalar (bool v))) result self.new }
@@ -181,7 +181,7 @@ pub trait Serializer {
         self.serialize_fixed(Fixed::Bool(v))
     }
 
-    /// Answers on a byte.
+    /// Serializes an `i8`, a byte.
     #[inline(always)]
     final fn serialize_i8(&mut self, v: i8) -> Result<Self::Ok, Self::Error>
         ensures { Self.permits self.old (Some (scalar (byte v))) result self.new }
@@ -189,7 +189,7 @@ pub trait Serializer {
         self.serialize_fixed(Fixed::Byte(v))
     }
 
-    /// Answers on a short.
+    /// Serializes an `i16`, a short.
     #[inline(always)]
     final fn serialize_i16(&mut self, v: i16) -> Result<Self::Ok, Self::Error>
         ensures { Self.permits self.old (Some (scalar (short v))) result self.new }
@@ -197,7 +197,7 @@ pub trait Serializer {
         self.serialize_fixed(Fixed::Short(v))
     }
 
-    /// Answers on an int.
+    /// Serializes an `i32`, an int.
     #[inline(always)]
     final fn serialize_i32(&mut self, v: i32) -> Result<Self::Ok, Self::Error>
         ensures { Self.permits self.old (Some (scalar (int v))) result self.new }
@@ -205,7 +205,7 @@ pub trait Serializer {
         self.serialize_fixed(Fixed::Int(v))
     }
 
-    /// Answers on a long.
+    /// Serializes an `i64`, a long.
     #[inline(always)]
     final fn serialize_i64(&mut self, v: i64) -> Result<Self::Ok, Self::Error>
         ensures { Self.permits self.old (Some (scalar (long v))) result self.new }
@@ -213,7 +213,7 @@ pub trait Serializer {
         self.serialize_fixed(Fixed::Long(v))
     }
 
-    /// Answers on an ubyte.
+    /// Serializes a `u8`, a ubyte.
     #[inline(always)]
     final fn serialize_u8(&mut self, v: u8) -> Result<Self::Ok, Self::Error>
         ensures { Self.permits self.old (Some (scalar (ubyte v))) result self.new }
@@ -221,7 +221,7 @@ pub trait Serializer {
         self.serialize_fixed(Fixed::Ubyte(v))
     }
 
-    /// Answers on an ushort.
+    /// Serializes a `u16`, a ushort.
     #[inline(always)]
     final fn serialize_u16(&mut self, v: u16) -> Result<Self::Ok, Self::Error>
         ensures { Self.permits self.old (Some (scalar (ushort v))) result self.new }
@@ -229,7 +229,7 @@ pub trait Serializer {
         self.serialize_fixed(Fixed::Ushort(v))
     }
 
-    /// Answers on an uint.
+    /// Serializes a `u32`, a uint.
     #[inline(always)]
     final fn serialize_u32(&mut self, v: u32) -> Result<Self::Ok, Self::Error>
         ensures { Self.permits self.old (Some (scalar (uint v))) result self.new }
@@ -237,7 +237,7 @@ pub trait Serializer {
         self.serialize_fixed(Fixed::Uint(v))
     }
 
-    /// Answers on an ulong.
+    /// Serializes a `u64`, a ulong.
     #[inline(always)]
     final fn serialize_u64(&mut self, v: u64) -> Result<Self::Ok, Self::Error>
         ensures { Self.permits self.old (Some (scalar (ulong v))) result self.new }
@@ -245,7 +245,7 @@ pub trait Serializer {
         self.serialize_fixed(Fixed::Ulong(v))
     }
 
-    /// Answers on a float, given by its bits.
+    /// Serializes an `f32`, a float, by its bits.
     #[inline(always)]
     final fn serialize_f32(&mut self, v: F32Bits) -> Result<Self::Ok, Self::Error>
         ensures { Self.permits self.old (Some (scalar (float (f32_bits v)))) result self.new }
@@ -253,7 +253,7 @@ pub trait Serializer {
         self.serialize_fixed(Fixed::Float(v.into_inner()))
     }
 
-    /// Answers on a double, given by its bits.
+    /// Serializes an `f64`, a double, by its bits.
     #[inline(always)]
     final fn serialize_f64(&mut self, v: F64Bits) -> Result<Self::Ok, Self::Error>
         ensures { Self.permits self.old (Some (scalar (double (f64_bits v)))) result self.new }
@@ -261,7 +261,7 @@ pub trait Serializer {
         self.serialize_fixed(Fixed::Double(v.into_inner()))
     }
 
-    /// Answers on a character.
+    /// Serializes a `char`.
     #[inline(always)]
     final fn serialize_char(&mut self, v: char) -> Result<Self::Ok, Self::Error>
         ensures { Self.permits self.old (Some (scalar (char v))) result self.new }
@@ -269,7 +269,7 @@ pub trait Serializer {
         self.serialize_fixed(Fixed::Char(v))
     }
 
-    /// Answers on no value, as null.
+    /// Serializes `None`, as null.
     #[inline(always)]
     final fn serialize_none(&mut self) -> Result<Self::Ok, Self::Error>
         ensures { Self.permits self.old (Some (scalar null)) result self.new }
@@ -277,7 +277,7 @@ pub trait Serializer {
         self.serialize_null()
     }
 
-    /// Answers on the unit, as null.
+    /// Serializes `()`, as null.
     #[inline(always)]
     final fn serialize_unit(&mut self) -> Result<Self::Ok, Self::Error>
         ensures { Self.permits self.old (Some (scalar null)) result self.new }
@@ -285,7 +285,7 @@ pub trait Serializer {
         self.serialize_null()
     }
 
-    /// Answers on a struct without fields, as null.
+    /// Serializes a struct without fields, as null.
     #[inline(always)]
     final fn serialize_unit_struct(&mut self, _name: &'static str) -> Result<Self::Ok, Self::Error>
         ensures { Self.permits self.old (Some (scalar null)) result self.new }
@@ -293,7 +293,7 @@ pub trait Serializer {
         self.serialize_null()
     }
 
-    /// Answers on a variant without a value, as the uint of its index.
+    /// Serializes a variant without a value, as the uint of its index.
     #[inline(always)]
     final fn serialize_unit_variant(
         &mut self,
@@ -306,7 +306,7 @@ pub trait Serializer {
         self.serialize_fixed(Fixed::Uint(index))
     }
 
-    /// Answers on a value that is there, as on the value itself.
+    /// Serializes the value of a `Some`, as itself.
     #[inline(always)]
     final fn serialize_some<T: Serialize>(&mut self, v: &T) -> Result<Self::Ok, Self::Error>
     where
@@ -316,7 +316,7 @@ pub trait Serializer {
         v.serialize(self)
     }
 
-    /// Answers on a newtype, as its name marks the tree inside it.
+    /// Serializes a newtype struct, as its name marks the tree inside it.
     #[inline(always)]
     final fn serialize_newtype_struct<T: Serialize>(
         &mut self,
@@ -332,7 +332,7 @@ pub trait Serializer {
         v.serialize(self)
     }
 
-    /// Opens a list. The length is a hint: it is not checked and reserves nothing.
+    /// Begins to serialize a sequence, a list. The length is a hint: it is not checked and reserves nothing.
     #[inline(always)]
     final fn serialize_seq(
         &mut self,
@@ -350,7 +350,7 @@ pub trait Serializer {
         Ok(SerializeSeq::new(self, held))
     }
 
-    /// Opens a tuple, a list of its elements.
+    /// Begins to serialize a tuple, a list of its elements.
     #[inline(always)]
     final fn serialize_tuple(
         &mut self,
@@ -368,7 +368,8 @@ pub trait Serializer {
         Ok(SerializeSeq::new(self, held))
     }
 
-    /// Opens a tuple struct: a list of its fields, of which the first is the descriptor where the name asks for one.
+    /// Begins to serialize a tuple struct: a list of its fields, of which the first is the descriptor where the name
+    /// asks for one.
     #[tactic(auto, unfolding(crate::specs::Structs::Stands))]
     #[inline(always)]
     final fn serialize_tuple_struct(
@@ -402,7 +403,8 @@ pub trait Serializer {
         Ok(SerializeTupleStruct::new(self, held, bare, false))
     }
 
-    /// Opens a struct: a list of its fields, a map from their names or the one field itself, as its name says.
+    /// Begins to serialize a struct: a list of its fields, a map from their names or the one field itself, as its name
+    /// says.
     #[tactic(auto, unfolding(crate::specs::Structs::Stands))]
     #[inline(always)]
     final fn serialize_struct(
@@ -426,7 +428,7 @@ pub trait Serializer {
         Ok(SerializeStruct::new(self, held, struct_body(name)))
     }
 
-    /// Answers on a described value: a descriptor, which is a ulong or a symbol, before a value.
+    /// Serializes a described value: a descriptor, which is a ulong or a symbol, before a value.
     #[inline(always)]
     final fn serialize_described<D: Serialize, T: Serialize>(
         &mut self,
@@ -442,7 +444,7 @@ pub trait Serializer {
         serialize_described(self, descriptor, value)
     }
 
-    /// Opens a map.
+    /// Begins to serialize a map.
     #[inline(always)]
     final fn serialize_map(
         &mut self,
@@ -461,7 +463,7 @@ pub trait Serializer {
         Ok(SerializeMap::new(self, held))
     }
 
-    /// Answers on a variant of one value; in the enum named `VALUE` it is the value itself, and in that named
+    /// Serializes a variant of one value; in the enum named `VALUE` it is the value itself, and in that named
     /// `DESCRIPTOR` a misuse. Other names of an enum and its variants are not written.
     #[inline(always)]
     final fn serialize_newtype_variant<T: Serialize>(
@@ -489,7 +491,7 @@ pub trait Serializer {
         self.end(held)
     }
 
-    /// Opens a variant of fields that have no names.
+    /// Begins to serialize a variant of fields that have no names.
     #[inline(always)]
     final fn serialize_tuple_variant(
         &mut self,
@@ -511,7 +513,7 @@ pub trait Serializer {
         Ok(SerializeTupleVariant::new(self, held))
     }
 
-    /// Opens a variant of named fields.
+    /// Begins to serialize a variant of named fields.
     #[inline(always)]
     final fn serialize_struct_variant(
         &mut self,

@@ -81,6 +81,7 @@ impl SizeSerializer {
             Place::Root => Ok(ordinary),
             Place::Inside => Ok(ordinary),
             Place::First => {
+                // The first element leaves its constructor for the array: `end_part` picks it up.
                 self.place = Under::Plain(Place::Element(code));
                 Ok(wide)
             }

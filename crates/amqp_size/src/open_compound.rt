@@ -210,6 +210,7 @@ impl Open {
         ensures shape { self.new.shape ≡ self.old.shape }
         ensures small { self.new.sum ≤ limit_of self.new.shape }
     {
+        // The serializer stands at the constructor that the first element left there.
         let opened = match (self.inner, after) {
             (Under::Plain(Place::First), Under::Plain(Place::Element(_))) => 1,
             _ => 0,

@@ -19,7 +19,7 @@ use std::marker::Model;
 /// Counts the bytes of values; it is fresh after each call, refused ones too.
 ///
 /// # Errors
-/// Its calls refuse by [`Refusal`], of one byte, which `?` turns into `Error`; never for want of memory.
+/// Its calls refuse by [`Refusal`], of one byte, which `?` turns into `Error`; never as out of memory.
 ///
 /// # Example
 /// One serializer counts the array of the ubytes 1 and 2 as 6, and then their list as 7.
@@ -28,6 +28,8 @@ use std::marker::Model;
 /// Takes none.
 #[derive(Debug, Drop)]
 pub struct SizeSerializer {
+    /// Where the next value stands. An array's first element leaves its constructor here (`accept`),
+    /// and the array picks it up (`end_part`): no answer carries it.
     pub(crate) place: Under,
     /// How many bytes stand before the value, where it is after descriptors.
     pub(crate) head: usize,
@@ -227,6 +229,7 @@ impl Serializer for SizeSerializer {
             (λ e. (result ≡ Err e)
             × ((held.new ≡ held.old) × (self.new.place ≡ Plain (rest held.old.place)))) }
     {
+        // Picks up what the part left: an array's first element its constructor, in `accept`.
         let after = self.place;
         self.place = Under::Plain(held.place().rest());
         let size = part?;
@@ -305,6 +308,7 @@ impl Serializer for SizeSerializer {
             Shape::Array => self.accept(place, head, 0xf0, array_width(sum, held.count()), sum + 8),
             Shape::Transparent => self.transparent(place, head, sum),
             Shape::Bare => {
+                // What the one value left goes on to the compound around this one.
                 self.place = held.inner();
                 self.head = head;
                 Ok(sum)

@@ -14,7 +14,7 @@ pub const LONGEST: usize = 4294967291;
 /// The most elements of an array: 2^32 - 1.
 pub const MOST: usize = 4294967295;
 
-/// The length of an uint by itself.
+/// The length of a uint by itself.
 pub fn uint_width(n: u32) -> usize
     ensures { result ≡ uint_width n }
 {

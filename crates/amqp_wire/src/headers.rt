@@ -293,6 +293,8 @@ impl Serializer for Headers {
             return Err(Refusal::OutOfMemory);
         }
         let shape = size.shape();
+        // An array's first element left its constructor in the place of `self.size`, where `end_part`
+        // of the size serializer picked it up for `size`. Only then can the header be filled in.
         let header = Header {
             len: limited(size.sum()),
             count: parts,

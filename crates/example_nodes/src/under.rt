@@ -1,4 +1,4 @@
-//! What the next tree stands under.
+//! Markers, and the place of a descriptor, before the next tree.
 
 ghost use Rattle.std.specs.Prelude.{◌≡◌, ℕ, List, Option, Some, is_some, length};
 ghost use Rattle.amqp_ser.specs.Composites.{as_described};

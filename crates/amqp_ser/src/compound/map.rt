@@ -65,7 +65,7 @@ impl<'a, S: Serializer> SerializeMap<'a, S> {
         &mut *self.serializer
     }
 
-    /// Feeds a key, whose value comes next.
+    /// Serializes a key, whose value comes next.
     ///
     /// # Errors
     /// The serializer's refusal of the key, or of a second key while one is pending; the map is then as it was.
@@ -92,7 +92,7 @@ impl<'a, S: Serializer> SerializeMap<'a, S> {
         Ok(())
     }
 
-    /// Feeds the value of the pending key.
+    /// Serializes the value of the pending key.
     ///
     /// # Errors
     /// The serializer's refusal of the value, after which the key is still pending, or of a value without a key; the
@@ -120,7 +120,7 @@ impl<'a, S: Serializer> SerializeMap<'a, S> {
         Ok(())
     }
 
-    /// Feeds a key and its value.
+    /// Serializes a key and its value.
     ///
     /// # Errors
     /// The serializer's refusal of the key or of the value, or of an entry while a key is pending; the map is then as

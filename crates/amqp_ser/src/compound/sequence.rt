@@ -58,7 +58,7 @@ impl<'a, S: Serializer> SerializeSeq<'a, S> {
         &mut *self.serializer
     }
 
-    /// Feeds one element more.
+    /// Serializes one element more.
     ///
     /// # Errors
     /// The serializer's refusal of the element; the list is then as it was and may be fed on.

@@ -78,7 +78,7 @@ impl<'a, S: Serializer> SerializeStruct<'a, S> {
         &mut *self.serializer
     }
 
-    /// Feeds one field more, or the descriptor.
+    /// Serializes one field more, or the descriptor.
     ///
     /// # Errors
     /// The serializer's refusal of the field, of a descriptor that is no ulong and no symbol, of a second or late

@@ -83,7 +83,7 @@ impl<'a, S: Serializer> SerializeTupleStruct<'a, S> {
         &mut *self.serializer
     }
 
-    /// Feeds one field more, or the descriptor, where it is still to come.
+    /// Serializes one field more, or the descriptor, where it is still to come.
     ///
     /// # Errors
     /// The serializer's refusal of the field, of a descriptor that is no ulong and no symbol, or of a second field

@@ -15,7 +15,7 @@ use crate::serializer::Serializer;
 /// A tuple variant whose fields are still fed.
 ///
 /// # Encoding
-/// The map of one pair, from the index as an uint to the list of the fields (AMQP 1.0 part 1, section 1.6.23).
+/// The map of one pair, from the index as a uint to the list of the fields (AMQP 1.0 part 1, section 1.6.23).
 pub struct SerializeTupleVariant<'a, S: Serializer> {
     serializer: &'a mut S,
     held: S::Open,
@@ -57,7 +57,7 @@ impl<'a, S: Serializer> SerializeTupleVariant<'a, S> {
         &mut *self.serializer
     }
 
-    /// Feeds one field more.
+    /// Serializes one field more.
     ///
     /// # Errors
     /// The serializer's refusal of the field; the variant is then as it was and may be fed on.
@@ -89,7 +89,7 @@ impl<'a, S: Serializer> SerializeTupleVariant<'a, S> {
 /// A struct variant whose fields are still fed; the names of the fields are not written.
 ///
 /// # Encoding
-/// The map of one pair, from the index as an uint to the list of the fields (AMQP 1.0 part 1, section 1.6.23).
+/// The map of one pair, from the index as a uint to the list of the fields (AMQP 1.0 part 1, section 1.6.23).
 pub struct SerializeStructVariant<'a, S: Serializer> {
     serializer: &'a mut S,
     held: S::Open,
@@ -131,7 +131,7 @@ impl<'a, S: Serializer> SerializeStructVariant<'a, S> {
         &mut *self.serializer
     }
 
-    /// Feeds one field more.
+    /// Serializes one field more.
     ///
     /// # Errors
     /// The serializer's refusal of the field; the variant is then as it was and may be fed on.
