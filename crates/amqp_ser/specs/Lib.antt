@@ -1,3 +1,5 @@
+-- Contracts of public items rest on all of these, but for `fields_kind` and `field_parts` in Structs, which those of
+-- private functions alone cite. Words is for the trees of users' types: it abbreviates the others.
 pub mod Tree
 pub mod Limits
 pub mod Scalars

@@ -25,7 +25,7 @@ IsSizeOf None (Err e) = refuses_none e
 IsSizeOf (Some t) (Ok n) = (writable t ≡ true) × (n ≡ length (enc t))
 IsSizeOf (Some t) (Err e) = refuses_tree t e
 
--- exactly where the tree is writable, its bytes, want of memory aside
+-- exactly where the tree is writable, its bytes, out of memory aside
 abbrev pub AreBytesOf : Option Tree → Result (List ℕ) Error → Type 0
 AreBytesOf None (Ok bs) = ⊥
 AreBytesOf (Some t) (Ok bs) = (writable t ≡ true) × (bs ≡ enc t)

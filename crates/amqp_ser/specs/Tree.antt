@@ -30,7 +30,7 @@ pub data Descriptor : Type 0 where
   name : List ℕ → Descriptor
   code : ℕ → Descriptor
 
--- a variant is the index and the payload of an enum's variant; lazy holds the bytes of one frame;
+-- a variant is the index and the payload of an enum's variant; lazy holds the bytes of one encoded value;
 -- transparent trees are written one after another with no header
 mutual
   pub data Tree : Type 0 where

@@ -36,10 +36,13 @@ pub fn feed_descriptor<S: Serializer, T: Serialize>(
 ) -> Result<(), S::Error>
     ensures fed { (start : S) → S.has start Kind.Bare serializer.old held.old [] →
         MatchResult result
-        (λ _. Stands S.permits S.has start (Some (T.tree value.now)) Kind.Bare serializer.new held.new [])
+        (λ _. Stands S.permits S.has start (Some (T.tree value.now)) Kind.Bare serializer.new
+        held.new [])
         (λ e. S.has start Kind.Bare serializer.new held.new [] × ((t : Option Tree) →
-        S.permits start (as_described (descriptor_of (T.tree value.now)) t) (Err e) serializer.new)) }
-    ensures other_kinds { (start : S) → S.has start Kind.Bare serializer.old held.old [] → descriptor_of (T.tree value.now) ≡ None → IsErr result }
+        S.permits start (as_described (descriptor_of (T.tree value.now)) t)
+        (Err e) serializer.new)) }
+    ensures other_kinds { (start : S) → S.has start Kind.Bare serializer.old held.old [] →
+        descriptor_of (T.tree value.now) ≡ None → IsErr result }
 {
     serializer.begin_descriptor(held);
     let part = value.serialize(serializer);
@@ -56,7 +59,8 @@ pub fn feed_alone<S: Serializer, T: Serialize>(
     ensures { (start : S) → S.has start Kind.Bare serializer.old held.old [] →
         MatchResult result
         (λ _. S.has start Kind.Bare serializer.new held.new (T.tree value.now ∷ []))
-        (λ e. S.has start Kind.Bare serializer.new held.new [] × S.permits start (T.tree value.now) (Err e) serializer.new) }
+        (λ e. S.has start Kind.Bare serializer.new held.new []
+        × S.permits start (T.tree value.now) (Err e) serializer.new) }
 {
     feed_part(serializer, held, value)
 }
@@ -64,12 +68,13 @@ pub fn feed_alone<S: Serializer, T: Serialize>(
 /// Ends a bare compound that has its one value.
 #[inline(always)]
 pub fn end_alone<S: Serializer>(serializer: &mut S, held: S::Open) -> Result<S::Ok, S::Error>
-    ensures { (start : S) (p : Option Tree) → S.has start Kind.Bare serializer.old held (p ∷ []) → S.permits start p result serializer.new }
+    ensures { (start : S) (p : Option Tree) → S.has start Kind.Bare serializer.old held (p ∷ []) →
+        S.permits start p result serializer.new }
 {
     serializer.end(held)
 }
 
-/// Answers on a described value, as on a struct named `DESCRIBED_BASIC` of a descriptor and one field.
+/// Serializes a described value, as a struct named `DESCRIBED_BASIC` of a descriptor and one field.
 #[tactic(auto, unfolding(crate::specs::Structs::Stands))]
 #[inline(always)]
 pub fn serialize_described<S: Serializer, D: Serialize, T: Serialize>(
@@ -77,7 +82,9 @@ pub fn serialize_described<S: Serializer, D: Serialize, T: Serialize>(
     descriptor: &D,
     value: &T,
 ) -> Result<S::Ok, S::Error>
-    ensures { S.permits serializer.old (as_described (descriptor_of (D.tree descriptor.now)) (T.tree value.now)) result serializer.new }
+    ensures { S.permits serializer.old
+        (as_described (descriptor_of (D.tree descriptor.now)) (T.tree value.now)) result
+        serializer.new }
 {
     let mut held = serializer.begin(Kind::Bare);
     feed_descriptor(&mut *serializer, &mut held, descriptor)?;
@@ -104,9 +111,13 @@ fn feed_field<S: Serializer, T: Serialize>(
 ) -> Result<(), S::Error>
     ensures { (start : S) → S.has start (fields_kind named) serializer.old held.old [] →
         MatchResult result
-        (λ _. S.has start (fields_kind named) serializer.new held.new (field_parts named key.now (T.tree value.now)))
-        (λ e. S.has start (fields_kind named) serializer.new held.new [] × ((rest : List (Option Tree)) →
-        S.permits start (whole (fields_kind named) (field_parts named key.now (T.tree value.now) ++ rest)) (Err e) serializer.new)) }
+        (λ _. S.has start (fields_kind named) serializer.new held.new
+        (field_parts named key.now (T.tree value.now)))
+        (λ e. S.has start (fields_kind named) serializer.new held.new []
+        × ((rest : List (Option Tree)) →
+        S.permits start
+        (whole (fields_kind named) (field_parts named key.now (T.tree value.now) ++ rest))
+        (Err e) serializer.new)) }
 {
     if named {
         feed_entry(serializer, held, &key, value)
@@ -127,9 +138,12 @@ pub fn feed_first<S: Serializer, T: Serialize>(
 ) -> Result<(), S::Error>
     ensures { (start : S) → S.has start Kind.Bare serializer.old held.old [] →
         MatchResult result
-        (λ _. Stands S.permits S.has start None (fields_kind named) serializer.new held.new (field_parts named key.now (T.tree value.now)))
+        (λ _. Stands S.permits S.has start None (fields_kind named) serializer.new held.new
+        (field_parts named key.now (T.tree value.now)))
         (λ e. S.has start Kind.Bare serializer.new held.new [] × ((rest : List (Option Tree)) →
-        S.permits start (whole (fields_kind named) (field_parts named key.now (T.tree value.now) ++ rest)) (Err e) serializer.new)) }
+        S.permits start
+        (whole (fields_kind named) (field_parts named key.now (T.tree value.now) ++ rest))
+        (Err e) serializer.new)) }
 {
     serializer.begin_part(held);
     let mut fields = serializer.begin(fields_kind(named));
@@ -152,7 +166,8 @@ fn end_empty<S: Serializer>(
     mut held: S::Open,
     body: Body,
 ) -> Result<S::Ok, S::Error>
-    ensures empty { (start : S) → S.has start Kind.Bare serializer.old held [] → S.permits start (whole (body_kind body) []) result serializer.new }
+    ensures empty { (start : S) → S.has start Kind.Bare serializer.old held [] →
+        S.permits start (whole (body_kind body) []) result serializer.new }
     ensures invalid { body ≡ Body.Bare → IsErr result × IfErr result S.is_misuse }
 {
     let kind = match body {
@@ -173,13 +188,17 @@ pub fn end_fields<S: Serializer>(
     body: Body,
     opened: bool,
 ) -> Result<S::Ok, S::Error>
-    ensures list { opened ≡ true → body ≡ Body.List → (start : S) (ps : List (Option Tree)) → S.has start Kind.List serializer.old held ps →
+    ensures list { opened ≡ true → body ≡ Body.List → (start : S) (ps : List (Option Tree)) →
+        S.has start Kind.List serializer.old held ps →
         S.permits start (whole Kind.List ps) result serializer.new }
-    ensures map { opened ≡ true → body ≡ Body.Map → (start : S) (ps : List (Option Tree)) → S.has start Kind.Map serializer.old held ps → paired ps ≡ true →
+    ensures map { opened ≡ true → body ≡ Body.Map → (start : S) (ps : List (Option Tree)) →
+        S.has start Kind.Map serializer.old held ps → paired ps ≡ true →
         S.permits start (whole Kind.Map ps) result serializer.new }
-    ensures alone { opened ≡ true → body ≡ Body.Bare → (start : S) (p : Option Tree) → S.has start Kind.Bare serializer.old held (p ∷ []) →
+    ensures alone { opened ≡ true → body ≡ Body.Bare → (start : S) (p : Option Tree) →
+        S.has start Kind.Bare serializer.old held (p ∷ []) →
         S.permits start p result serializer.new }
-    ensures empty { opened ≡ false → (start : S) → S.has start Kind.Bare serializer.old held [] → S.permits start (whole (body_kind body) []) result serializer.new }
+    ensures empty { opened ≡ false → (start : S) → S.has start Kind.Bare serializer.old held [] →
+        S.permits start (whole (body_kind body) []) result serializer.new }
     ensures invalid { opened ≡ false → body ≡ Body.Bare → IsErr result × IfErr result S.is_misuse }
 {
     if !opened {
@@ -216,47 +235,79 @@ pub fn feed_otherwise<S: Serializer, T: Serialize>(
     key: &'static str,
     value: &T,
 ) -> (S::Open, Result<(), S::Error>)
-    ensures descriptor { is_descriptor key.now ≡ true → described ≡ false → opened ≡ false → (start : S) →
-        Stands S.permits S.has start None Kind.Bare serializer.old held [] →
+    ensures descriptor { is_descriptor key.now ≡ true → described ≡ false → opened ≡ false →
+        (start : S) → Stands S.permits S.has start None Kind.Bare serializer.old held [] →
         MatchResult result.1
-        (λ _. Stands S.permits S.has start (Some (T.tree value.now)) Kind.Bare serializer.new result.0 [])
-        (λ e. Stands S.permits S.has start None Kind.Bare serializer.new result.0 [] × ((t : Option Tree) →
-        S.permits start (as_described (descriptor_of (T.tree value.now)) t) (Err e) serializer.new)) }
-    ensures first_of_list { is_descriptor key.now ≡ false → opened ≡ false → body ≡ Body.List → (start : S) (front : Option (Option Tree)) →
+        (λ _. Stands S.permits S.has start (Some (T.tree value.now)) Kind.Bare serializer.new
+        result.0 [])
+        (λ e. Stands S.permits S.has start None Kind.Bare serializer.new result.0 []
+        × ((t : Option Tree) →
+        S.permits start (as_described (descriptor_of (T.tree value.now)) t)
+        (Err e) serializer.new)) }
+    ensures first_of_list { is_descriptor key.now ≡ false → opened ≡ false → body ≡ Body.List →
+        (start : S) (front : Option (Option Tree)) →
         Stands S.permits S.has start front Kind.Bare serializer.old held [] →
         MatchResult result.1
-        (λ _. Stands S.permits S.has start front Kind.List serializer.new result.0 (T.tree value.now ∷ []))
-        (λ e. Stands S.permits S.has start front Kind.Bare serializer.new result.0 [] × ((rest : List (Option Tree)) →
-        S.permits start (fronted front (whole Kind.List (T.tree value.now ∷ rest))) (Err e) serializer.new)) }
-    ensures next_of_list { is_descriptor key.now ≡ false → opened ≡ true → body ≡ Body.List → (start : S) (front : Option (Option Tree)) (ps : List (Option Tree)) →
+        (λ _. Stands S.permits S.has start front Kind.List serializer.new result.0
+        (T.tree value.now ∷ []))
+        (λ e. Stands S.permits S.has start front Kind.Bare serializer.new result.0 []
+        × ((rest : List (Option Tree)) →
+        S.permits start (fronted front (whole Kind.List (T.tree value.now ∷ rest)))
+        (Err e) serializer.new)) }
+    ensures next_of_list { is_descriptor key.now ≡ false → opened ≡ true → body ≡ Body.List →
+        (start : S) (front : Option (Option Tree)) (ps : List (Option Tree)) →
         Stands S.permits S.has start front Kind.List serializer.old held ps →
         MatchResult result.1
-        (λ _. Stands S.permits S.has start front Kind.List serializer.new result.0 (ps ++ (T.tree value.now ∷ [])))
-        (λ e. Stands S.permits S.has start front Kind.List serializer.new result.0 ps × ((rest : List (Option Tree)) →
-        S.permits start (fronted front (whole Kind.List (ps ++ (T.tree value.now ∷ rest)))) (Err e) serializer.new)) }
-    ensures first_of_map { is_descriptor key.now ≡ false → opened ≡ false → body ≡ Body.Map → (start : S) (front : Option (Option Tree)) →
+        (λ _. Stands S.permits S.has start front Kind.List serializer.new result.0
+        (ps ++ (T.tree value.now ∷ [])))
+        (λ e. Stands S.permits S.has start front Kind.List serializer.new result.0 ps
+        × ((rest : List (Option Tree)) →
+        S.permits start (fronted front (whole Kind.List (ps ++ (T.tree value.now ∷ rest))))
+        (Err e) serializer.new)) }
+    ensures first_of_map { is_descriptor key.now ≡ false → opened ≡ false → body ≡ Body.Map →
+        (start : S) (front : Option (Option Tree)) →
         Stands S.permits S.has start front Kind.Bare serializer.old held [] →
         MatchResult result.1
-        (λ _. Stands S.permits S.has start front Kind.Map serializer.new result.0 (Some (scalar (string key.now)) ∷ (T.tree value.now ∷ [])))
-        (λ e. Stands S.permits S.has start front Kind.Bare serializer.new result.0 [] × ((rest : List (Option Tree)) →
-        S.permits start (fronted front (whole Kind.Map (Some (scalar (string key.now)) ∷ (T.tree value.now ∷ rest)))) (Err e) serializer.new)) }
-    ensures next_of_map { is_descriptor key.now ≡ false → opened ≡ true → body ≡ Body.Map → (start : S) (front : Option (Option Tree)) (ps : List (Option Tree)) →
+        (λ _. Stands S.permits S.has start front Kind.Map serializer.new result.0
+        (Some (scalar (string key.now)) ∷ (T.tree value.now ∷ [])))
+        (λ e. Stands S.permits S.has start front Kind.Bare serializer.new result.0 []
+        × ((rest : List (Option Tree)) →
+        S.permits start
+        (fronted front
+        (whole Kind.Map (Some (scalar (string key.now)) ∷ (T.tree value.now ∷ rest))))
+        (Err e) serializer.new)) }
+    ensures next_of_map { is_descriptor key.now ≡ false → opened ≡ true → body ≡ Body.Map →
+        (start : S) (front : Option (Option Tree)) (ps : List (Option Tree)) →
         Stands S.permits S.has start front Kind.Map serializer.old held ps → paired ps ≡ true →
         MatchResult result.1
-        (λ _. Stands S.permits S.has start front Kind.Map serializer.new result.0 (ps ++ (Some (scalar (string key.now)) ∷ (T.tree value.now ∷ []))))
-        (λ e. Stands S.permits S.has start front Kind.Map serializer.new result.0 ps × ((rest : List (Option Tree)) →
-        S.permits start (fronted front (whole Kind.Map (ps ++ (Some (scalar (string key.now)) ∷ (T.tree value.now ∷ rest))))) (Err e) serializer.new)) }
-    ensures alone { is_descriptor key.now ≡ false → opened ≡ false → body ≡ Body.Bare → (start : S) (front : Option (Option Tree)) →
+        (λ _. Stands S.permits S.has start front Kind.Map serializer.new result.0
+        (ps ++ (Some (scalar (string key.now)) ∷ (T.tree value.now ∷ []))))
+        (λ e. Stands S.permits S.has start front Kind.Map serializer.new result.0 ps
+        × ((rest : List (Option Tree)) →
+        S.permits start
+        (fronted front
+        (whole Kind.Map (ps ++ (Some (scalar (string key.now)) ∷ (T.tree value.now ∷ rest)))))
+        (Err e) serializer.new)) }
+    ensures alone { is_descriptor key.now ≡ false → opened ≡ false → body ≡ Body.Bare →
+        (start : S) (front : Option (Option Tree)) →
         Stands S.permits S.has start front Kind.Bare serializer.old held [] →
         MatchResult result.1
-        (λ _. Stands S.permits S.has start front Kind.Bare serializer.new result.0 (T.tree value.now ∷ []))
-        (λ e. Stands S.permits S.has start front Kind.Bare serializer.new result.0 [] × S.permits start (fronted front (T.tree value.now)) (Err e) serializer.new) }
-    ensures misuse { is_misplaced body described opened (is_descriptor key.now) ≡ true → IsErr result.1 × ((start : S) (front : Option (Option Tree)) (ps : List (Option Tree)) →
+        (λ _. Stands S.permits S.has start front Kind.Bare serializer.new result.0
+        (T.tree value.now ∷ []))
+        (λ e. Stands S.permits S.has start front Kind.Bare serializer.new result.0 []
+        × S.permits start (fronted front (T.tree value.now)) (Err e) serializer.new) }
+    ensures misuse { is_misplaced body described opened (is_descriptor key.now) ≡ true →
+        IsErr result.1 × ((start : S) (front : Option (Option Tree)) (ps : List (Option Tree)) →
         Stands S.permits S.has start front (open_kind opened body) serializer.old held ps →
-        IfErr result.1 (λ e. Stands S.permits S.has start front (open_kind opened body) serializer.new result.0 ps × S.permits start None (Err e) serializer.new)) }
-    ensures invalid { is_misplaced body described opened (is_descriptor key.now) ≡ true → IfErr result.1 S.is_misuse }
-    ensures other_kinds { is_descriptor key.now ≡ true → described ≡ false → opened ≡ false → (start : S) →
-        Stands S.permits S.has start None Kind.Bare serializer.old held [] → descriptor_of (T.tree value.now) ≡ None → IsErr result.1 }
+        IfErr result.1
+        (λ e. Stands S.permits S.has start front (open_kind opened body) serializer.new result.0 ps
+        × S.permits start None (Err e) serializer.new)) }
+    ensures invalid { is_misplaced body described opened (is_descriptor key.now) ≡ true →
+        IfErr result.1 S.is_misuse }
+    ensures other_kinds { is_descriptor key.now ≡ true → described ≡ false → opened ≡ false →
+        (start : S) →
+        Stands S.permits S.has start None Kind.Bare serializer.old held [] →
+        descriptor_of (T.tree value.now) ≡ None → IsErr result.1 }
 {
     let mut held = held;
     let descriptor = is_descriptor_key(key);
@@ -307,47 +358,79 @@ pub fn feed_moved<S: Serializer, T: Serialize>(
     key: &'static str,
     value: &T,
 ) -> Result<(), S::Error>
-    ensures descriptor { is_descriptor key.now ≡ true → described ≡ false → opened ≡ false → (start : S) →
-        Stands S.permits S.has start None Kind.Bare serializer.old held.old [] →
+    ensures descriptor { is_descriptor key.now ≡ true → described ≡ false → opened ≡ false →
+        (start : S) → Stands S.permits S.has start None Kind.Bare serializer.old held.old [] →
         MatchResult result
-        (λ _. Stands S.permits S.has start (Some (T.tree value.now)) Kind.Bare serializer.new held.new [])
-        (λ e. Stands S.permits S.has start None Kind.Bare serializer.new held.new [] × ((t : Option Tree) →
-        S.permits start (as_described (descriptor_of (T.tree value.now)) t) (Err e) serializer.new)) }
-    ensures first_of_list { is_descriptor key.now ≡ false → opened ≡ false → body ≡ Body.List → (start : S) (front : Option (Option Tree)) →
+        (λ _. Stands S.permits S.has start (Some (T.tree value.now)) Kind.Bare serializer.new
+        held.new [])
+        (λ e. Stands S.permits S.has start None Kind.Bare serializer.new held.new []
+        × ((t : Option Tree) →
+        S.permits start (as_described (descriptor_of (T.tree value.now)) t)
+        (Err e) serializer.new)) }
+    ensures first_of_list { is_descriptor key.now ≡ false → opened ≡ false → body ≡ Body.List →
+        (start : S) (front : Option (Option Tree)) →
         Stands S.permits S.has start front Kind.Bare serializer.old held.old [] →
         MatchResult result
-        (λ _. Stands S.permits S.has start front Kind.List serializer.new held.new (T.tree value.now ∷ []))
-        (λ e. Stands S.permits S.has start front Kind.Bare serializer.new held.new [] × ((rest : List (Option Tree)) →
-        S.permits start (fronted front (whole Kind.List (T.tree value.now ∷ rest))) (Err e) serializer.new)) }
-    ensures next_of_list { is_descriptor key.now ≡ false → opened ≡ true → body ≡ Body.List → (start : S) (front : Option (Option Tree)) (ps : List (Option Tree)) →
+        (λ _. Stands S.permits S.has start front Kind.List serializer.new held.new
+        (T.tree value.now ∷ []))
+        (λ e. Stands S.permits S.has start front Kind.Bare serializer.new held.new []
+        × ((rest : List (Option Tree)) →
+        S.permits start (fronted front (whole Kind.List (T.tree value.now ∷ rest)))
+        (Err e) serializer.new)) }
+    ensures next_of_list { is_descriptor key.now ≡ false → opened ≡ true → body ≡ Body.List →
+        (start : S) (front : Option (Option Tree)) (ps : List (Option Tree)) →
         Stands S.permits S.has start front Kind.List serializer.old held.old ps →
         MatchResult result
-        (λ _. Stands S.permits S.has start front Kind.List serializer.new held.new (ps ++ (T.tree value.now ∷ [])))
-        (λ e. Stands S.permits S.has start front Kind.List serializer.new held.new ps × ((rest : List (Option Tree)) →
-        S.permits start (fronted front (whole Kind.List (ps ++ (T.tree value.now ∷ rest)))) (Err e) serializer.new)) }
-    ensures first_of_map { is_descriptor key.now ≡ false → opened ≡ false → body ≡ Body.Map → (start : S) (front : Option (Option Tree)) →
+        (λ _. Stands S.permits S.has start front Kind.List serializer.new held.new
+        (ps ++ (T.tree value.now ∷ [])))
+        (λ e. Stands S.permits S.has start front Kind.List serializer.new held.new ps
+        × ((rest : List (Option Tree)) →
+        S.permits start (fronted front (whole Kind.List (ps ++ (T.tree value.now ∷ rest))))
+        (Err e) serializer.new)) }
+    ensures first_of_map { is_descriptor key.now ≡ false → opened ≡ false → body ≡ Body.Map →
+        (start : S) (front : Option (Option Tree)) →
         Stands S.permits S.has start front Kind.Bare serializer.old held.old [] →
         MatchResult result
-        (λ _. Stands S.permits S.has start front Kind.Map serializer.new held.new (Some (scalar (string key.now)) ∷ (T.tree value.now ∷ [])))
-        (λ e. Stands S.permits S.has start front Kind.Bare serializer.new held.new [] × ((rest : List (Option Tree)) →
-        S.permits start (fronted front (whole Kind.Map (Some (scalar (string key.now)) ∷ (T.tree value.now ∷ rest)))) (Err e) serializer.new)) }
-    ensures next_of_map { is_descriptor key.now ≡ false → opened ≡ true → body ≡ Body.Map → (start : S) (front : Option (Option Tree)) (ps : List (Option Tree)) →
+        (λ _. Stands S.permits S.has start front Kind.Map serializer.new held.new
+        (Some (scalar (string key.now)) ∷ (T.tree value.now ∷ [])))
+        (λ e. Stands S.permits S.has start front Kind.Bare serializer.new held.new []
+        × ((rest : List (Option Tree)) →
+        S.permits start
+        (fronted front
+        (whole Kind.Map (Some (scalar (string key.now)) ∷ (T.tree value.now ∷ rest))))
+        (Err e) serializer.new)) }
+    ensures next_of_map { is_descriptor key.now ≡ false → opened ≡ true → body ≡ Body.Map →
+        (start : S) (front : Option (Option Tree)) (ps : List (Option Tree)) →
         Stands S.permits S.has start front Kind.Map serializer.old held.old ps → paired ps ≡ true →
         MatchResult result
-        (λ _. Stands S.permits S.has start front Kind.Map serializer.new held.new (ps ++ (Some (scalar (string key.now)) ∷ (T.tree value.now ∷ []))))
-        (λ e. Stands S.permits S.has start front Kind.Map serializer.new held.new ps × ((rest : List (Option Tree)) →
-        S.permits start (fronted front (whole Kind.Map (ps ++ (Some (scalar (string key.now)) ∷ (T.tree value.now ∷ rest))))) (Err e) serializer.new)) }
-    ensures alone { is_descriptor key.now ≡ false → opened ≡ false → body ≡ Body.Bare → (start : S) (front : Option (Option Tree)) →
+        (λ _. Stands S.permits S.has start front Kind.Map serializer.new held.new
+        (ps ++ (Some (scalar (string key.now)) ∷ (T.tree value.now ∷ []))))
+        (λ e. Stands S.permits S.has start front Kind.Map serializer.new held.new ps
+        × ((rest : List (Option Tree)) →
+        S.permits start
+        (fronted front
+        (whole Kind.Map (ps ++ (Some (scalar (string key.now)) ∷ (T.tree value.now ∷ rest)))))
+        (Err e) serializer.new)) }
+    ensures alone { is_descriptor key.now ≡ false → opened ≡ false → body ≡ Body.Bare →
+        (start : S) (front : Option (Option Tree)) →
         Stands S.permits S.has start front Kind.Bare serializer.old held.old [] →
         MatchResult result
-        (λ _. Stands S.permits S.has start front Kind.Bare serializer.new held.new (T.tree value.now ∷ []))
-        (λ e. Stands S.permits S.has start front Kind.Bare serializer.new held.new [] × S.permits start (fronted front (T.tree value.now)) (Err e) serializer.new) }
-    ensures misuse { is_misplaced body described opened (is_descriptor key.now) ≡ true → IsErr result × ((start : S) (front : Option (Option Tree)) (ps : List (Option Tree)) →
+        (λ _. Stands S.permits S.has start front Kind.Bare serializer.new held.new
+        (T.tree value.now ∷ []))
+        (λ e. Stands S.permits S.has start front Kind.Bare serializer.new held.new []
+        × S.permits start (fronted front (T.tree value.now)) (Err e) serializer.new) }
+    ensures misuse { is_misplaced body described opened (is_descriptor key.now) ≡ true →
+        IsErr result × ((start : S) (front : Option (Option Tree)) (ps : List (Option Tree)) →
         Stands S.permits S.has start front (open_kind opened body) serializer.old held.old ps →
-        IfErr result (λ e. Stands S.permits S.has start front (open_kind opened body) serializer.new held.new ps × S.permits start None (Err e) serializer.new)) }
-    ensures invalid { is_misplaced body described opened (is_descriptor key.now) ≡ true → IfErr result S.is_misuse }
-    ensures other_kinds { is_descriptor key.now ≡ true → described ≡ false → opened ≡ false → (start : S) →
-        Stands S.permits S.has start None Kind.Bare serializer.old held.old [] → descriptor_of (T.tree value.now) ≡ None → IsErr result }
+        IfErr result
+        (λ e. Stands S.permits S.has start front (open_kind opened body) serializer.new held.new ps
+        × S.permits start None (Err e) serializer.new)) }
+    ensures invalid { is_misplaced body described opened (is_descriptor key.now) ≡ true →
+        IfErr result S.is_misuse }
+    ensures other_kinds { is_descriptor key.now ≡ true → described ≡ false → opened ≡ false →
+        (start : S) →
+        Stands S.permits S.has start None Kind.Bare serializer.old held.old [] →
+        descriptor_of (T.tree value.now) ≡ None → IsErr result }
 {
     let vacant = serializer.vacant();
     let moved = mem::replace(held, vacant);
@@ -359,10 +442,16 @@ pub fn feed_moved<S: Serializer, T: Serialize>(
 /// Opens a list in place of a bare compound, which is given out, where none is open.
 #[inline(always)]
 fn open_list<S: Serializer>(serializer: &mut S, held: &mut S::Open, opened: bool) -> Option<S::Open>
-    ensures next { opened ≡ true → (result ≡ None) × ((serializer.new ≡ serializer.old) × (held.new ≡ held.old)) }
-    ensures first { opened ≡ false → (start : S) → S.has start Kind.Bare serializer.old held.old [] →
-        (bare : S.Open) × ((result ≡ Some bare) × ((mid : S) × (S.awaits start Kind.Bare mid bare [] × (S.has mid Kind.List serializer.new held.new [] ×
-        ((t : Option Tree) (r : Result S.Ok S.Error) (after : S) → S.permits mid t r after → S.permits start t r after))))) }
+    ensures next { opened ≡ true →
+        (result ≡ None) × ((serializer.new ≡ serializer.old) × (held.new ≡ held.old)) }
+    ensures first { opened ≡ false → (start : S) →
+        S.has start Kind.Bare serializer.old held.old [] →
+        (bare : S.Open)
+        × ((result ≡ Some bare)
+        × ((mid : S)
+        × (S.awaits start Kind.Bare mid bare [] × (S.has mid Kind.List serializer.new held.new [] ×
+        ((t : Option Tree) (r : Result S.Ok S.Error) (after : S) → S.permits mid t r after →
+        S.permits start t r after))))) }
 {
     if opened {
         return None;
@@ -376,8 +465,10 @@ fn open_list<S: Serializer>(serializer: &mut S, held: &mut S::Open, opened: bool
 #[cold]
 #[inline(never)]
 fn close_first<S: Serializer>(serializer: &mut S, bare: S::Open, e: S::Error) -> (S::Open, S::Error)
-    ensures { (start before : S) → S.awaits start Kind.Bare before bare [] → ((p : Option Tree) → S.permits before p (Err e) serializer.old →
-        S.has start Kind.Bare serializer.new result.0 [] × S.permits start p (Err result.1) serializer.new) }
+    ensures { (start before : S) → S.awaits start Kind.Bare before bare [] →
+        ((p : Option Tree) → S.permits before p (Err e) serializer.old →
+        S.has start Kind.Bare serializer.new result.0 []
+        × S.permits start p (Err result.1) serializer.new) }
 {
     let mut bare = bare;
     match serializer.end_part(&mut bare, Err(e)) {
@@ -398,12 +489,16 @@ pub fn feed_listed<S: Serializer, T: Serialize>(
     opened: bool,
     value: &T,
 ) -> Result<(), S::Error>
-    ensures first { opened ≡ false → (start : S) → S.has start Kind.Bare serializer.old held.old [] →
+    ensures first { opened ≡ false → (start : S) →
+        S.has start Kind.Bare serializer.old held.old [] →
         MatchResult result
-        (λ _. Stands S.permits S.has start None Kind.List serializer.new held.new (T.tree value.now ∷ []))
+        (λ _. Stands S.permits S.has start None Kind.List serializer.new held.new
+        (T.tree value.now ∷ []))
         (λ e. S.has start Kind.Bare serializer.new held.new [] × ((rest : List (Option Tree)) →
         S.permits start (whole Kind.List (T.tree value.now ∷ rest)) (Err e) serializer.new)) }
-    ensures next { opened ≡ true → Feeds S.permits S.has Kind.List (T.tree value.now) serializer.old held.old result serializer.new held.new }
+    ensures next { opened ≡ true →
+        Feeds S.permits S.has Kind.List (T.tree value.now) serializer.old held.old result
+        serializer.new held.new }
 {
     let bare = open_list(serializer, held, opened);
     match feed_part(serializer, held, value) {

@@ -41,7 +41,8 @@ pub trait Fields {
     /// # Errors
     /// The serializer's refusal of a field.
     fn feed<S: Serializer>(&self, serializer: &mut S, held: &mut S::Open) -> Result<(), S::Error>
-        ensures { FeedsAll S.permits S.has (up_to_last (values_of (named self.now))) serializer.old held.old result serializer.new held.new };
+        ensures { FeedsAll S.permits S.has (up_to_last (values_of (named self.now))) serializer.old
+            held.old result serializer.new held.new };
 
     /// Feeds a compound the name, as a key, and the value of each field that is there.
     ///
@@ -53,7 +54,8 @@ pub trait Fields {
         held: &mut S::Open,
         keys: Keys,
     ) -> Result<(), S::Error>
-        ensures { FeedsAll S.permits S.has (entries_of (key_of keys) (named self.now)) serializer.old held.old result serializer.new held.new };
+        ensures { FeedsAll S.permits S.has (entries_of (key_of keys) (named self.now))
+            serializer.old held.old result serializer.new held.new };
 }
 
 /// Feeds a compound a field's name.
@@ -64,7 +66,9 @@ fn feed_key<S: Serializer>(
     keys: Keys,
     name: &str,
 ) -> Result<(), S::Error>
-    ensures { (kind : Kind) → Feeds S.permits S.has kind (key_of keys name.now) serializer.old held.old result serializer.new held.new }
+    ensures { (kind : Kind) →
+        Feeds S.permits S.has kind (key_of keys name.now) serializer.old held.old result
+        serializer.new held.new }
 {
     match keys {
         Keys::Strings => feed_part(serializer, held, &name),
@@ -81,7 +85,9 @@ fn feed_value<S: Serializer, V: Serialize, R: Fields>(
     value: &V,
     rest: &R,
 ) -> Result<(), S::Error>
-    ensures { FeedsAll S.permits S.has (V.tree value.now ∷ entries_of (key_of keys) (R.named rest.now)) serializer.old held.old result serializer.new held.new }
+    ensures { FeedsAll S.permits S.has
+        (V.tree value.now ∷ entries_of (key_of keys) (R.named rest.now)) serializer.old held.old
+        result serializer.new held.new }
 {
     feed_part(&mut *serializer, &mut *held, value)?;
     rest.feed_named(serializer, held, keys)
@@ -164,7 +170,8 @@ pub struct OptionalField<'a, V, R> {
 }
 
 impl<V: Serialize, R: Fields> Fields for OptionalField<'_, V, R> {
-    ghost named = { λ f. (f.name.now, (is_some f.value.now, optional V.tree f.value.now)) ∷ R.named f.rest };
+    ghost named = { λ f. (f.name.now, (is_some f.value.now, optional V.tree f.value.now))
+        ∷ R.named f.rest };
 
     #[inline(always)]
     fn any_there(&self) -> bool {
@@ -197,21 +204,22 @@ impl<V: Serialize, R: Fields> Fields for OptionalField<'_, V, R> {
     }
 }
 
-/// Answers on the list, or on the variant, of the fields up to the last that is there.
+/// Serializes the list, or the variant, of the fields up to the last that is there.
 fn serialize_values<S: Serializer, F: Fields>(
     serializer: &mut S,
     kind: Kind,
     fields: &F,
 ) -> Result<S::Ok, S::Error>
     requires { (ps : List (Option Tree)) → complete kind ps ≡ true }
-    ensures { S.permits serializer.old (whole kind (up_to_last (values_of (F.named fields.now)))) result serializer.new }
+    ensures { S.permits serializer.old (whole kind (up_to_last (values_of (F.named fields.now))))
+        result serializer.new }
 {
     let mut held = serializer.begin(kind);
     fields.feed(&mut *serializer, &mut held)?;
     serializer.end(held)
 }
 
-/// Answers on the map from the fields' names to the fields that are there.
+/// Serializes the map from the fields' names to the fields that are there.
 #[tactic(auto, using(crate::proofs::Paired::paired_entries))]
 #[inline(always)]
 fn serialize_entries<S: Serializer, F: Fields>(
@@ -219,7 +227,8 @@ fn serialize_entries<S: Serializer, F: Fields>(
     keys: Keys,
     fields: &F,
 ) -> Result<S::Ok, S::Error>
-    ensures { S.permits serializer.old (whole kind.Map (entries_of (key_of keys) (F.named fields.now))) result serializer.new }
+    ensures { S.permits serializer.old
+        (whole kind.Map (entries_of (key_of keys) (F.named fields.now))) result serializer.new }
 {
     let mut held = serializer.begin(Kind::Map);
     fields.feed_named(&mut *serializer, &mut held, keys)?;
@@ -248,7 +257,7 @@ impl<F: Fields> Serialize for ListOf<F> {
 /// The variant of this index whose payload is the list of the fields up to the last that is there.
 ///
 /// # Encoding
-/// The map of one pair, from the index as an uint to the list: AMQP 1.0 part 1, section 1.6.23.
+/// The map of one pair, from the index as a uint to the list: AMQP 1.0 part 1, section 1.6.23.
 ///
 /// # Example
 /// `VariantOf(1, fields! { "x": 2u32 })` is written `c108025201c003015202`.

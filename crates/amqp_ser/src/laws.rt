@@ -24,5 +24,6 @@ pub fn forms_are_those_of_arrays_or_shorter()
 
 /// A scalar that has one form alone is written as in an array, after its constructor.
 pub fn one_form_is_that_of_arrays()
-    ensures { (s : Scalar) → has_one_form s ≡ true → enc (scalar s) ≡ scalar_code s ∷ scalar_payload s }
+    ensures { (s : Scalar) → has_one_form s ≡ true →
+        enc (scalar s) ≡ scalar_code s ∷ scalar_payload s }
 {}

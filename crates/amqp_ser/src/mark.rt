@@ -26,7 +26,7 @@ pub enum Mark {
     Array,
     /// A list becomes its elements one after another.
     Transparent,
-    /// A binary that is one frame becomes that frame.
+    /// A binary that is one encoded value becomes that value.
     Lazy,
     /// Any other name: the tree stays as it is.
     Other,

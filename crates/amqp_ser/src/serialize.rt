@@ -15,7 +15,7 @@ pub trait Serialize {
     /// The value's tree, if it has one.
     ghost tree: { Self → Option Tree };
 
-    /// Answers as the serializer answers on the value's tree.
+    /// Serializes the value: the answer is the serializer's on the value's tree.
     fn serialize<S: Serializer>(&self, serializer: &mut S) -> Result<S::Ok, S::Error>
         ensures { S.permits serializer.old (tree self.now) result serializer.new };
 }

@@ -61,21 +61,22 @@ pub trait Serializer {
     ghost is_misuse: { Self.Error → Type 0 };
 
     /// Where there is no tree there is no answer but a refusal.
-    ghost refuses_none: { (before : Self) (answer : Self.Ok) (after : Self) → permits before None (Ok answer) after → ⊥ };
+    ghost refuses_none: { (before : Self) (answer : Self.Ok) (after : Self) →
+        permits before None (Ok answer) after → ⊥ };
 
-    /// Answers on null or a scalar of fixed width.
+    /// Serializes null or a scalar of fixed width.
     fn serialize_fixed(&mut self, fixed: Fixed) -> Result<Self::Ok, Self::Error>
         ensures { permits self.old (Some (scalar (fixed_scalar fixed))) result self.new };
 
-    /// Answers on null.
+    /// Serializes null.
     fn serialize_null(&mut self) -> Result<Self::Ok, Self::Error>
         ensures { permits self.old (Some (scalar null)) result self.new };
 
-    /// Answers on a string.
+    /// Serializes a string.
     fn serialize_str(&mut self, v: &str) -> Result<Self::Ok, Self::Error>
         ensures { permits self.old (Some (scalar (string v.now))) result self.new };
 
-    /// Answers on a binary.
+    /// Serializes a binary.
     fn serialize_bytes(&mut self, v: &[u8]) -> Result<Self::Ok, Self::Error>
         ensures { permits self.old (Some (scalar (binary v.now))) result self.new };
 
@@ -97,7 +98,8 @@ pub trait Serializer {
         ensures ready { (start : Self) (kind : Kind) (ps : List (Option Tree)) →
             has start kind self.old held.old ps → awaits start kind self.new held.new ps }
         ensures bare { (start : Self) → has start Kind.Bare self.old held.old [] →
-            (t : Option Tree) (r : Result Self.Ok Self.Error) (after : Self) → permits self.new t r after → permits start t r after };
+            (t : Option Tree) (r : Result Self.Ok Self.Error) (after : Self) →
+            permits self.new t r after → permits start t r after };
 
     /// Takes the answer on a part: the compound has it, or is as it was. A refused part is never taken.
     fn end_part(
@@ -105,7 +107,8 @@ pub trait Serializer {
         held: &mut Self::Open,
         part: Result<Self::Ok, Self::Error>,
     ) -> Result<(), Self::Error>
-        ensures step { (start : Self) (kind : Kind) (before : Self) (ps : List (Option Tree)) (p : Option Tree) →
+        ensures step { (start : Self) (kind : Kind) (before : Self) (ps : List (Option Tree))
+            (p : Option Tree) →
             awaits start kind before held.old ps → permits before p part self.old →
             MatchResult result
             (λ _. has start kind self.new held.new (ps ++ (p ∷ [])))
@@ -116,20 +119,24 @@ pub trait Serializer {
     /// Takes the last part back: a key whose value was refused.
     fn undo_part(&mut self, held: &mut Self::Open)
         ensures back { (start : Self) (ps : List (Option Tree)) (p : Option Tree) →
-            has start Kind.Map self.old held.old (ps ++ (p ∷ [])) → paired ps ≡ true → has start Kind.Map self.new held.new ps }
-        ensures refusals { (start : Self) (ps : List (Option Tree)) (p t : Option Tree) (e : Self.Error) →
+            has start Kind.Map self.old held.old (ps ++ (p ∷ [])) → paired ps ≡ true →
+            has start Kind.Map self.new held.new ps }
+        ensures refusals { (start : Self) (ps : List (Option Tree)) (p t : Option Tree)
+            (e : Self.Error) →
             has start Kind.Map self.old held.old (ps ++ (p ∷ [])) → paired ps ≡ true →
             permits start t (Err e) self.old → permits start t (Err e) self.new };
 
     /// The refusal of parts that make no tree; the compound is as it was.
     fn misuse(&mut self, held: &mut Self::Open) -> Self::Error
-        ensures kept { (start : Self) (kind : Kind) (ps : List (Option Tree)) → has start kind self.old held.old ps →
+        ensures kept { (start : Self) (kind : Kind) (ps : List (Option Tree)) →
+            has start kind self.old held.old ps →
             has start kind self.new held.new ps × permits start None (Err result) self.new }
         ensures invalid { is_misuse result };
 
     /// Makes ready for a descriptor, before the one value of a bare compound.
     fn begin_descriptor(&mut self, held: &mut Self::Open)
-        ensures { (start : Self) → has start Kind.Bare self.old held.old [] → awaits_descriptor start self.new held.new };
+        ensures { (start : Self) → has start Kind.Bare self.old held.old [] →
+            awaits_descriptor start self.new held.new };
 
     /// Takes the answer on a descriptor: the value to come is described by it, or the compound is as it was. A refused
     /// one is never taken, nor one that is no ulong and no symbol.
@@ -141,20 +148,24 @@ pub trait Serializer {
         ensures step { (start before : Self) (d : Option Tree) →
             awaits_descriptor start before held.old → permits before d part self.old →
             MatchResult result
-            (λ _. (mid : Self) × (has mid Kind.Bare self.new held.new [] × ((t : Option Tree) (r : Result Self.Ok Self.Error) (after : Self) →
+            (λ _. (mid : Self)
+            × (has mid Kind.Bare self.new held.new []
+            × ((t : Option Tree) (r : Result Self.Ok Self.Error) (after : Self) →
             permits mid t r after → permits start (as_described (descriptor_of d) t) r after)))
             (λ e. has start Kind.Bare self.new held.new [] × ((t : Option Tree) →
             permits start (as_described (descriptor_of d) t) (Err e) self.new)) }
         ensures refused { IfErr part (λ _. IsErr result) }
         ensures other_kinds { (start before : Self) (d : Option Tree) →
-            awaits_descriptor start before held.old → permits before d part self.old → descriptor_of d ≡ None → IsErr result };
+            awaits_descriptor start before held.old → permits before d part self.old →
+            descriptor_of d ≡ None → IsErr result };
 
     /// Ends the compound.
     fn end(&mut self, held: Self::Open) -> Result<Self::Ok, Self::Error>
-        ensures { (start : Self) (kind : Kind) (ps : List (Option Tree)) → has start kind self.old held ps →
+        ensures { (start : Self) (kind : Kind) (ps : List (Option Tree)) →
+            has start kind self.old held ps →
             complete kind ps ≡ true → permits start (whole kind ps) result self.new };
 
-    /// Whether texts for people are wanted: never.
+    /// Whether values take a form for people to read: never.
     #[inline(always)]
     final fn is_human_readable(&self) -> bool
         ensures { result ≡ false }
@@ -162,7 +173,7 @@ pub trait Serializer {
         false
     }
 
-    /// Answers on a truth value.
+    /// Serializes a `bool`, a boolean.
     #[inline(always)]
     final fn serialize_bool(&mut self, v: bool) -> Result<Self::Ok, Self::Error>
         ensures { Self.permits self.old (Some (scalar (bool v))) result self.new }
@@ -170,7 +181,7 @@ pub trait Serializer {
         self.serialize_fixed(Fixed::Bool(v))
     }
 
-    /// Answers on a byte.
+    /// Serializes an `i8`, a byte.
     #[inline(always)]
     final fn serialize_i8(&mut self, v: i8) -> Result<Self::Ok, Self::Error>
         ensures { Self.permits self.old (Some (scalar (byte v))) result self.new }
@@ -178,7 +189,7 @@ pub trait Serializer {
         self.serialize_fixed(Fixed::Byte(v))
     }
 
-    /// Answers on a short.
+    /// Serializes an `i16`, a short.
     #[inline(always)]
     final fn serialize_i16(&mut self, v: i16) -> Result<Self::Ok, Self::Error>
         ensures { Self.permits self.old (Some (scalar (short v))) result self.new }
@@ -186,7 +197,7 @@ pub trait Serializer {
         self.serialize_fixed(Fixed::Short(v))
     }
 
-    /// Answers on an int.
+    /// Serializes an `i32`, an int.
     #[inline(always)]
     final fn serialize_i32(&mut self, v: i32) -> Result<Self::Ok, Self::Error>
         ensures { Self.permits self.old (Some (scalar (int v))) result self.new }
@@ -194,7 +205,7 @@ pub trait Serializer {
         self.serialize_fixed(Fixed::Int(v))
     }
 
-    /// Answers on a long.
+    /// Serializes an `i64`, a long.
     #[inline(always)]
     final fn serialize_i64(&mut self, v: i64) -> Result<Self::Ok, Self::Error>
         ensures { Self.permits self.old (Some (scalar (long v))) result self.new }
@@ -202,7 +213,7 @@ pub trait Serializer {
         self.serialize_fixed(Fixed::Long(v))
     }
 
-    /// Answers on an ubyte.
+    /// Serializes a `u8`, a ubyte.
     #[inline(always)]
     final fn serialize_u8(&mut self, v: u8) -> Result<Self::Ok, Self::Error>
         ensures { Self.permits self.old (Some (scalar (ubyte v))) result self.new }
@@ -210,7 +221,7 @@ pub trait Serializer {
         self.serialize_fixed(Fixed::Ubyte(v))
     }
 
-    /// Answers on an ushort.
+    /// Serializes a `u16`, a ushort.
     #[inline(always)]
     final fn serialize_u16(&mut self, v: u16) -> Result<Self::Ok, Self::Error>
         ensures { Self.permits self.old (Some (scalar (ushort v))) result self.new }
@@ -218,7 +229,7 @@ pub trait Serializer {
         self.serialize_fixed(Fixed::Ushort(v))
     }
 
-    /// Answers on an uint.
+    /// Serializes a `u32`, a uint.
     #[inline(always)]
     final fn serialize_u32(&mut self, v: u32) -> Result<Self::Ok, Self::Error>
         ensures { Self.permits self.old (Some (scalar (uint v))) result self.new }
@@ -226,7 +237,7 @@ pub trait Serializer {
         self.serialize_fixed(Fixed::Uint(v))
     }
 
-    /// Answers on an ulong.
+    /// Serializes a `u64`, a ulong.
     #[inline(always)]
     final fn serialize_u64(&mut self, v: u64) -> Result<Self::Ok, Self::Error>
         ensures { Self.permits self.old (Some (scalar (ulong v))) result self.new }
@@ -234,7 +245,7 @@ pub trait Serializer {
         self.serialize_fixed(Fixed::Ulong(v))
     }
 
-    /// Answers on a float, given by its bits.
+    /// Serializes an `f32`, a float, by its bits.
     #[inline(always)]
     final fn serialize_f32(&mut self, v: F32Bits) -> Result<Self::Ok, Self::Error>
         ensures { Self.permits self.old (Some (scalar (float (f32_bits v)))) result self.new }
@@ -242,7 +253,7 @@ pub trait Serializer {
         self.serialize_fixed(Fixed::Float(v.into_inner()))
     }
 
-    /// Answers on a double, given by its bits.
+    /// Serializes an `f64`, a double, by its bits.
     #[inline(always)]
     final fn serialize_f64(&mut self, v: F64Bits) -> Result<Self::Ok, Self::Error>
         ensures { Self.permits self.old (Some (scalar (double (f64_bits v)))) result self.new }
@@ -250,7 +261,7 @@ pub trait Serializer {
         self.serialize_fixed(Fixed::Double(v.into_inner()))
     }
 
-    /// Answers on a character.
+    /// Serializes a `char`.
     #[inline(always)]
     final fn serialize_char(&mut self, v: char) -> Result<Self::Ok, Self::Error>
         ensures { Self.permits self.old (Some (scalar (char v))) result self.new }
@@ -258,7 +269,7 @@ pub trait Serializer {
         self.serialize_fixed(Fixed::Char(v))
     }
 
-    /// Answers on no value, as null.
+    /// Serializes `None`, as null.
     #[inline(always)]
     final fn serialize_none(&mut self) -> Result<Self::Ok, Self::Error>
         ensures { Self.permits self.old (Some (scalar null)) result self.new }
@@ -266,7 +277,7 @@ pub trait Serializer {
         self.serialize_null()
     }
 
-    /// Answers on the unit, as null.
+    /// Serializes `()`, as null.
     #[inline(always)]
     final fn serialize_unit(&mut self) -> Result<Self::Ok, Self::Error>
         ensures { Self.permits self.old (Some (scalar null)) result self.new }
@@ -274,7 +285,7 @@ pub trait Serializer {
         self.serialize_null()
     }
 
-    /// Answers on a struct without fields, as null.
+    /// Serializes a struct without fields, as null.
     #[inline(always)]
     final fn serialize_unit_struct(&mut self, _name: &'static str) -> Result<Self::Ok, Self::Error>
         ensures { Self.permits self.old (Some (scalar null)) result self.new }
@@ -282,7 +293,7 @@ pub trait Serializer {
         self.serialize_null()
     }
 
-    /// Answers on a variant without a value, as the uint of its index.
+    /// Serializes a variant without a value, as the uint of its index.
     #[inline(always)]
     final fn serialize_unit_variant(
         &mut self,
@@ -295,7 +306,7 @@ pub trait Serializer {
         self.serialize_fixed(Fixed::Uint(index))
     }
 
-    /// Answers on a value that is there, as on the value itself.
+    /// Serializes the value of a `Some`, as itself.
     #[inline(always)]
     final fn serialize_some<T: Serialize>(&mut self, v: &T) -> Result<Self::Ok, Self::Error>
     where
@@ -305,7 +316,7 @@ pub trait Serializer {
         v.serialize(self)
     }
 
-    /// Answers on a newtype, as its name marks the tree inside it.
+    /// Serializes a newtype struct, as its name marks the tree inside it.
     #[inline(always)]
     final fn serialize_newtype_struct<T: Serialize>(
         &mut self,
@@ -321,7 +332,7 @@ pub trait Serializer {
         v.serialize(self)
     }
 
-    /// Opens a list. The length is a hint: it is not checked and reserves nothing.
+    /// Begins to serialize a sequence, a list. The length is a hint: it is not checked and reserves nothing.
     #[inline(always)]
     final fn serialize_seq(
         &mut self,
@@ -329,15 +340,17 @@ pub trait Serializer {
     ) -> Result<SerializeSeq<'_, Self>, Self::Error>
     where
         Self: Sized,
-        ensures opened { IfOk result (λ seq. Self.has self.old Kind.List seq.serializer.now seq.held []) }
-        ensures same_reference { IfOk result (λ seq. seq.serializer.ghost_name ≡ self.entry.ghost_name) }
+        ensures opened { IfOk result
+            (λ seq. Self.has self.old Kind.List seq.serializer.now seq.held []) }
+        ensures same_reference { IfOk result
+            (λ seq. seq.serializer.ghost_name ≡ self.entry.ghost_name) }
         ensures succeeds { IsOk result }
     {
         let held = self.begin(Kind::List);
         Ok(SerializeSeq::new(self, held))
     }
 
-    /// Opens a tuple, a list of its elements.
+    /// Begins to serialize a tuple, a list of its elements.
     #[inline(always)]
     final fn serialize_tuple(
         &mut self,
@@ -345,15 +358,18 @@ pub trait Serializer {
     ) -> Result<SerializeTuple<'_, Self>, Self::Error>
     where
         Self: Sized,
-        ensures opened { IfOk result (λ tuple. Self.has self.old Kind.List tuple.serializer.now tuple.held []) }
-        ensures same_reference { IfOk result (λ tuple. tuple.serializer.ghost_name ≡ self.entry.ghost_name) }
+        ensures opened { IfOk result
+            (λ tuple. Self.has self.old Kind.List tuple.serializer.now tuple.held []) }
+        ensures same_reference { IfOk result
+            (λ tuple. tuple.serializer.ghost_name ≡ self.entry.ghost_name) }
         ensures succeeds { IsOk result }
     {
         let held = self.begin(Kind::List);
         Ok(SerializeSeq::new(self, held))
     }
 
-    /// Opens a tuple struct: a list of its fields, of which the first is the descriptor where the name asks for one.
+    /// Begins to serialize a tuple struct: a list of its fields, of which the first is the descriptor where the name
+    /// asks for one.
     #[tactic(auto, unfolding(crate::specs::Structs::Stands))]
     #[inline(always)]
     final fn serialize_tuple_struct(
@@ -363,11 +379,19 @@ pub trait Serializer {
     ) -> Result<SerializeTupleStruct<'_, Self>, Self::Error>
     where
         Self: Sized,
-        ensures opened { is_tagged name.now ≡ false → IfOk result (λ fields. Stands Self.permits Self.has self.old None Kind.List fields.serializer.now fields.held []) }
-        ensures bare { is_tagged name.now ≡ true → IfOk result (λ fields. Stands Self.permits Self.has self.old None Kind.Bare fields.serializer.now fields.held []) }
+        ensures opened { is_tagged name.now ≡ false →
+            IfOk result
+            (λ fields. Stands Self.permits Self.has self.old None Kind.List fields.serializer.now
+            fields.held []) }
+        ensures bare { is_tagged name.now ≡ true →
+            IfOk result
+            (λ fields. Stands Self.permits Self.has self.old None Kind.Bare fields.serializer.now
+            fields.held []) }
         ensures body { IfOk result (λ fields. fields.bare ≡ is_basic_name name.now) }
-        ensures awaits { IfOk result (λ fields. (fields.awaits ≡ is_tagged name.now) × (fields.opened ≡ not (is_tagged name.now))) }
-        ensures same_reference { IfOk result (λ fields. fields.serializer.ghost_name ≡ self.entry.ghost_name) }
+        ensures awaits { IfOk result (λ fields. (fields.awaits ≡ is_tagged name.now)
+            × (fields.opened ≡ not (is_tagged name.now))) }
+        ensures same_reference { IfOk result
+            (λ fields. fields.serializer.ghost_name ≡ self.entry.ghost_name) }
         ensures succeeds { IsOk result }
     {
         let bare = is_basic_name(name);
@@ -379,7 +403,8 @@ pub trait Serializer {
         Ok(SerializeTupleStruct::new(self, held, bare, false))
     }
 
-    /// Opens a struct: a list of its fields, a map from their names or the one field itself, as its name says.
+    /// Begins to serialize a struct: a list of its fields, a map from their names or the one field itself, as its name
+    /// says.
     #[tactic(auto, unfolding(crate::specs::Structs::Stands))]
     #[inline(always)]
     final fn serialize_struct(
@@ -389,17 +414,21 @@ pub trait Serializer {
     ) -> Result<SerializeStruct<'_, Self>, Self::Error>
     where
         Self: Sized,
-        ensures opened { IfOk result (λ fields. Stands Self.permits Self.has self.old None Kind.Bare fields.serializer.now fields.held []) }
+        ensures opened { IfOk result
+            (λ fields. Stands Self.permits Self.has self.old None Kind.Bare fields.serializer.now
+            fields.held []) }
         ensures body { IfOk result (λ fields. fields.body ≡ struct_body name.now) }
-        ensures empty { IfOk result (λ fields. (fields.described ≡ false) × (fields.opened ≡ false)) }
-        ensures same_reference { IfOk result (λ fields. fields.serializer.ghost_name ≡ self.entry.ghost_name) }
+        ensures empty { IfOk result (λ fields. (fields.described ≡ false)
+            × (fields.opened ≡ false)) }
+        ensures same_reference { IfOk result
+            (λ fields. fields.serializer.ghost_name ≡ self.entry.ghost_name) }
         ensures succeeds { IsOk result }
     {
         let held = self.begin(Kind::Bare);
         Ok(SerializeStruct::new(self, held, struct_body(name)))
     }
 
-    /// Answers on a described value: a descriptor, which is a ulong or a symbol, before a value.
+    /// Serializes a described value: a descriptor, which is a ulong or a symbol, before a value.
     #[inline(always)]
     final fn serialize_described<D: Serialize, T: Serialize>(
         &mut self,
@@ -408,12 +437,14 @@ pub trait Serializer {
     ) -> Result<Self::Ok, Self::Error>
     where
         Self: Sized,
-        ensures { Self.permits self.old (as_described (descriptor_of (D.tree descriptor.now)) (T.tree value.now)) result self.new }
+        ensures { Self.permits self.old
+            (as_described (descriptor_of (D.tree descriptor.now)) (T.tree value.now)) result
+            self.new }
     {
         serialize_described(self, descriptor, value)
     }
 
-    /// Opens a map.
+    /// Begins to serialize a map.
     #[inline(always)]
     final fn serialize_map(
         &mut self,
@@ -421,16 +452,18 @@ pub trait Serializer {
     ) -> Result<SerializeMap<'_, Self>, Self::Error>
     where
         Self: Sized,
-        ensures opened { IfOk result (λ map. Self.has self.old Kind.Map map.serializer.now map.held []) }
+        ensures opened { IfOk result
+            (λ map. Self.has self.old Kind.Map map.serializer.now map.held []) }
         ensures no_key { IfOk result (λ map. map.pending ≡ false) }
-        ensures same_reference { IfOk result (λ map. map.serializer.ghost_name ≡ self.entry.ghost_name) }
+        ensures same_reference { IfOk result
+            (λ map. map.serializer.ghost_name ≡ self.entry.ghost_name) }
         ensures succeeds { IsOk result }
     {
         let held = self.begin(Kind::Map);
         Ok(SerializeMap::new(self, held))
     }
 
-    /// Answers on a variant of one value; in the enum named `VALUE` it is the value itself, and in that named
+    /// Serializes a variant of one value; in the enum named `VALUE` it is the value itself, and in that named
     /// `DESCRIPTOR` a misuse. Other names of an enum and its variants are not written.
     #[inline(always)]
     final fn serialize_newtype_variant<T: Serialize>(
@@ -442,8 +475,10 @@ pub trait Serializer {
     ) -> Result<Self::Ok, Self::Error>
     where
         Self: Sized,
-        ensures answered { Self.permits self.old (named_variant name.now index (T.tree v.now)) result self.new }
-        ensures invalid { is_value name.now ≡ false → is_descriptor name.now ≡ true → IsErr result × IfErr result Self.is_misuse }
+        ensures answered { Self.permits self.old (named_variant name.now index (T.tree v.now))
+            result self.new }
+        ensures invalid { is_value name.now ≡ false → is_descriptor name.now ≡ true →
+            IsErr result × IfErr result Self.is_misuse }
     {
         if is_value_name(name) {
             return v.serialize(self);
@@ -456,7 +491,7 @@ pub trait Serializer {
         self.end(held)
     }
 
-    /// Opens a variant of fields that have no names.
+    /// Begins to serialize a variant of fields that have no names.
     #[inline(always)]
     final fn serialize_tuple_variant(
         &mut self,
@@ -467,15 +502,18 @@ pub trait Serializer {
     ) -> Result<SerializeTupleVariant<'_, Self>, Self::Error>
     where
         Self: Sized,
-        ensures opened { IfOk result (λ variant. Self.has self.old (Kind.Fields index) variant.serializer.now variant.held []) }
-        ensures same_reference { IfOk result (λ variant. variant.serializer.ghost_name ≡ self.entry.ghost_name) }
+        ensures opened { IfOk result
+            (λ variant. Self.has self.old (Kind.Fields index) variant.serializer.now
+            variant.held []) }
+        ensures same_reference { IfOk result
+            (λ variant. variant.serializer.ghost_name ≡ self.entry.ghost_name) }
         ensures succeeds { IsOk result }
     {
         let held = self.begin(Kind::Fields(index));
         Ok(SerializeTupleVariant::new(self, held))
     }
 
-    /// Opens a variant of named fields.
+    /// Begins to serialize a variant of named fields.
     #[inline(always)]
     final fn serialize_struct_variant(
         &mut self,
@@ -486,8 +524,11 @@ pub trait Serializer {
     ) -> Result<SerializeStructVariant<'_, Self>, Self::Error>
     where
         Self: Sized,
-        ensures opened { IfOk result (λ variant. Self.has self.old (Kind.Fields index) variant.serializer.now variant.held []) }
-        ensures same_reference { IfOk result (λ variant. variant.serializer.ghost_name ≡ self.entry.ghost_name) }
+        ensures opened { IfOk result
+            (λ variant. Self.has self.old (Kind.Fields index) variant.serializer.now
+            variant.held []) }
+        ensures same_reference { IfOk result
+            (λ variant. variant.serializer.ghost_name ≡ self.entry.ghost_name) }
         ensures succeeds { IsOk result }
     {
         let held = self.begin(Kind::Fields(index));

@@ -5,7 +5,7 @@ use Rattle.amqp_ser.specs.Limits.{is_short}
 use Rattle.amqp_ser.specs.Scalars.{sized}
 use Rattle.amqp_ser.specs.Encoding.{wide, list_form, map_form, array_form}
 
--- an uint by itself
+-- a uint by itself
 abbrev pub uint_width : ℕ → ℕ
 uint_width n = if nat_eq n 0 then 1 else if nat_le n 255 then 2 else 5
 

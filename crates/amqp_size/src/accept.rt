@@ -30,8 +30,10 @@ fn descriptor(code: u8, ordinary: usize) -> Result<usize, Refusal>
 /// The answer on the value after descriptors, with them.
 fn described(head: usize, base: Base, ordinary: usize) -> Result<usize, Refusal>
     ensures { MatchResult result
-        (λ n. (takes_described base ≡ true) × ((is_length (head + ordinary) ≡ true) × (n ≡ head + ordinary)))
-        (λ e. ((e ≡ Refusal.TooLong) × (is_length (head + ordinary) ≡ false)) ⊎ ((e ≡ Refusal.InvalidValue) × (takes_described base ≡ false))) }
+        (λ n. (takes_described base ≡ true)
+        × ((is_length (head + ordinary) ≡ true) × (n ≡ head + ordinary)))
+        (λ e. ((e ≡ Refusal.TooLong) × (is_length (head + ordinary) ≡ false))
+        ⊎ ((e ≡ Refusal.InvalidValue) × (takes_described base ≡ false))) }
 {
     if !base.takes_described() {
         return Err(Refusal::InvalidValue);
@@ -69,13 +71,17 @@ impl SizeSerializer {
         ordinary: usize,
         wide: usize,
     ) -> Result<usize, Refusal>
-        ensures { self.old.place ≡ Plain (rest (place_at place head)) → (t : Tree) → con t ≡ Some code → within t ≡ true → alike t ≡ true → inside t ≡ true → placed t ≡ true →
-            length (enc t) ≡ ordinary → length (payload t) ≡ wide → at_place (place_at place head) (Some t) result self.new.place }
+        ensures { self.old.place ≡ Plain (rest (place_at place head)) → (t : Tree) →
+            con t ≡ Some code → within t ≡ true → alike t ≡ true → inside t ≡ true →
+            placed t ≡ true →
+            length (enc t) ≡ ordinary → length (payload t) ≡ wide →
+            at_place (place_at place head) (Some t) result self.new.place }
     {
         match place {
             Place::Root => Ok(ordinary),
             Place::Inside => Ok(ordinary),
             Place::First => {
+                // The first element leaves its constructor for the array: `end_part` picks it up.
                 self.place = Under::Plain(Place::Element(code));
                 Ok(wide)
             }
@@ -100,8 +106,11 @@ impl SizeSerializer {
         code: u8,
         n: usize,
     ) -> Result<usize, Refusal>
-        ensures { self.old.place ≡ Plain (rest (place_at place head)) → (t : Tree) → con t ≡ Some code → alike t ≡ true → inside t ≡ true → placed t ≡ true → within t ≡ fits n →
-            length (enc t) ≡ text_width n → length (payload t) ≡ n + 4 → at_place (place_at place head) (Some t) result self.new.place }
+        ensures { self.old.place ≡ Plain (rest (place_at place head)) → (t : Tree) →
+            con t ≡ Some code → alike t ≡ true → inside t ≡ true → placed t ≡ true →
+            within t ≡ fits n →
+            length (enc t) ≡ text_width n → length (payload t) ≡ n + 4 →
+            at_place (place_at place head) (Some t) result self.new.place }
     {
         // A short text passes no limit: it is looked at once.
         if n <= 254 {
@@ -122,9 +131,13 @@ impl SizeSerializer {
         index: u32,
         size: usize,
     ) -> Result<usize, Refusal>
-        ensures { self.old.place ≡ Plain (rest (place_at place head)) → (t v : Tree) → con t ≡ Some 0xd1 → alike t ≡ true → inside t ≡ true → placed t ≡ true → within v ≡ true →
-            within t ≡ (fits (uint_width index + size) && within v) → length (enc t) ≡ map_width (uint_width index + size) →
-            length (payload t) ≡ uint_width index + size + 8 → at_place (place_at place head) (Some t) result self.new.place }
+        ensures { self.old.place ≡ Plain (rest (place_at place head)) → (t v : Tree) →
+            con t ≡ Some 0xd1 → alike t ≡ true → inside t ≡ true → placed t ≡ true →
+            within v ≡ true →
+            within t ≡ (fits (uint_width index + size) && within v) →
+            length (enc t) ≡ map_width (uint_width index + size) →
+            length (payload t) ≡ uint_width index + size + 8 →
+            at_place (place_at place head) (Some t) result self.new.place }
     {
         let first = uint_width(index);
         if size > LONGEST - first {
@@ -142,7 +155,9 @@ impl SizeSerializer {
         head: usize,
         sum: usize,
     ) -> Result<usize, Refusal>
-        ensures { self.old.place ≡ Plain (rest (place_at place head)) → (ts : Trees) → within_each ts ≡ true → alike_each ts ≡ true → placed_each ts ≡ true → sum ≡ length (enc_each ts) →
+        ensures { self.old.place ≡ Plain (rest (place_at place head)) → (ts : Trees) →
+            within_each ts ≡ true → alike_each ts ≡ true → placed_each ts ≡ true →
+            sum ≡ length (enc_each ts) →
             at_place (place_at place head) (Some (transparent ts)) result self.new.place }
     {
         match place {

@@ -133,15 +133,27 @@ impl Open {
     #[inline(always)]
     pub(crate) fn take(&mut self, size: usize, after: Under) -> Result<(), Refusal>
         ensures gathered { is_gathered self.old.shape ≡ true → MatchResult result
-            (λ _. (self.new.sum ≡ size + opens_in (is_array self.old.shape) self.old.inner (under_at after self.old.head) + self.old.sum) × ((self.new.count ≡ if is_array self.old.shape then self.old.count + 1 else self.old.count) × (self.new.inner ≡ if is_array self.old.shape then under_at after self.old.head else self.old.inner)))
-            (λ e. (e ≡ Refusal.TooLong) × over (is_array self.old.shape) self.old.count (size + opens_in (is_array self.old.shape) self.old.inner (under_at after self.old.head) + self.old.sum)) }
+            (λ _.
+            (self.new.sum ≡ size + opens_in (is_array self.old.shape) self.old.inner
+            (under_at after self.old.head) + self.old.sum)
+            × ((self.new.count ≡ if is_array self.old.shape then self.old.count + 1
+            else self.old.count)
+            × (self.new.inner ≡ if is_array self.old.shape then under_at after self.old.head
+            else self.old.inner)))
+            (λ e. (e ≡ Refusal.TooLong)
+            × over (is_array self.old.shape) self.old.count
+            (size + opens_in (is_array self.old.shape) self.old.inner (under_at after self.old.head)
+            + self.old.sum)) }
         ensures transparent { self.old.shape ≡ Shape.Transparent → MatchResult result
             (λ _. (self.new.sum ≡ size + self.old.sum) × (self.new.inner ≡ self.old.inner))
             (λ e. (e ≡ Refusal.TooLong) × (18446744073709551615 < size + self.old.sum)) }
         ensures bare { self.old.shape ≡ Shape.Bare → MatchResult result
-            (λ _. (self.old.count ≡ 0) × ((self.new.count ≡ 1) × ((self.new.sum ≡ size) × (self.new.inner ≡ under_at after self.old.head))))
+            (λ _. (self.old.count ≡ 0)
+            × ((self.new.count ≡ 1)
+            × ((self.new.sum ≡ size) × (self.new.inner ≡ under_at after self.old.head))))
             (λ e. (e ≡ Refusal.InvalidValue) × (1 ≤ self.old.count)) }
-        ensures before { is_gathered self.old.shape ≡ true → IfOk result (λ _. self.new.before ≡ self.old.sum) }
+        ensures before { is_gathered self.old.shape ≡ true →
+            IfOk result (λ _. self.new.before ≡ self.old.sum) }
         ensures kept { IfErr result (λ _. self.new ≡ self.old) }
         ensures few { self.old.count ≤ 4294967295 → self.new.count ≤ 4294967295 }
         ensures place { self.new.place ≡ self.old.place }
@@ -183,14 +195,22 @@ impl Open {
     fn take_element(&mut self, size: usize, after: Under) -> Result<(), Refusal>
         requires { self.old.shape ≡ Shape.Array }
         ensures kept { MatchResult result
-            (λ _. (self.new.sum ≡ size + opens_in true self.old.inner (under_at after self.old.head) + self.old.sum) × ((self.new.count ≡ self.old.count + 1) × (self.new.inner ≡ under_at after self.old.head)))
-            (λ e. (self.new ≡ self.old) × ((e ≡ Refusal.TooLong) × over true self.old.count (size + opens_in true self.old.inner (under_at after self.old.head) + self.old.sum))) }
+            (λ _.
+            (self.new.sum ≡ size + opens_in true self.old.inner (under_at after self.old.head)
+            + self.old.sum)
+            × ((self.new.count ≡ self.old.count + 1)
+            × (self.new.inner ≡ under_at after self.old.head)))
+            (λ e. (self.new ≡ self.old)
+            × ((e ≡ Refusal.TooLong)
+            × over true self.old.count
+            (size + opens_in true self.old.inner (under_at after self.old.head) + self.old.sum))) }
         ensures before { IfOk result (λ _. self.new.before ≡ self.old.sum) }
         ensures few { self.old.count ≤ 4294967295 → self.new.count ≤ 4294967295 }
         ensures place { self.new.place ≡ self.old.place }
         ensures shape { self.new.shape ≡ self.old.shape }
         ensures small { self.new.sum ≤ limit_of self.new.shape }
     {
+        // The serializer stands at the constructor that the first element left there.
         let opened = match (self.inner, after) {
             (Under::Plain(Place::First), Under::Plain(Place::Element(_))) => 1,
             _ => 0,
@@ -214,7 +234,9 @@ impl Open {
     fn take_value(&mut self, size: usize, after: Under) -> Result<(), Refusal>
         requires { self.old.shape ≡ Shape.Bare }
         ensures kept { MatchResult result
-            (λ _. (self.old.count ≡ 0) × ((self.new.count ≡ 1) × ((self.new.sum ≡ size) × (self.new.inner ≡ under_at after self.old.head))))
+            (λ _. (self.old.count ≡ 0)
+            × ((self.new.count ≡ 1)
+            × ((self.new.sum ≡ size) × (self.new.inner ≡ under_at after self.old.head))))
             (λ e. (self.new ≡ self.old) × ((e ≡ Refusal.InvalidValue) × (1 ≤ self.old.count))) }
         ensures place { self.new.place ≡ self.old.place }
         ensures shape { self.new.shape ≡ self.old.shape }

@@ -128,7 +128,9 @@ impl Place {
     #[inline(always)]
     pub(crate) fn described(self) -> Result<Place, Refusal>
         ensures { MatchResult result
-            (λ p. (h n : ℕ) → described_place (place_at self h) n ≡ Some (place_at p (head_of (place_at self h) + (n + 1))))
+            (λ p. (h n : ℕ) →
+            described_place (place_at self h) n
+            ≡ Some (place_at p (head_of (place_at self h) + (n + 1))))
             (λ e. (self ≡ Place.Descriptor) × (e ≡ Refusal.InvalidValue)) }
     {
         match self {

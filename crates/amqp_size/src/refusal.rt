@@ -1,4 +1,4 @@
-//! Why a walk over a value refuses it.
+//! The refusals of walks over values.
 
 ghost use Rattle.std.specs.Prelude.{◌≡◌};
 ghost use Rattle.amqp_size.specs.Refused.{error_of};

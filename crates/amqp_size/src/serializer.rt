@@ -19,7 +19,7 @@ use std::marker::Model;
 /// Counts the bytes of values; it is fresh after each call, refused ones too.
 ///
 /// # Errors
-/// Its calls refuse by [`Refusal`], of one byte, which `?` turns into `Error`; never for want of memory.
+/// Its calls refuse by [`Refusal`], of one byte, which `?` turns into `Error`; never as out of memory.
 ///
 /// # Example
 /// One serializer counts the array of the ubytes 1 and 2 as 6, and then their list as 7.
@@ -28,6 +28,8 @@ use std::marker::Model;
 /// Takes none.
 #[derive(Debug, Drop)]
 pub struct SizeSerializer {
+    /// Where the next value stands. An array's first element leaves its constructor here (`accept`),
+    /// and the array picks it up (`end_part`): no answer carries it.
     pub(crate) place: Under,
     /// How many bytes stand before the value, where it is after descriptors.
     pub(crate) head: usize,
@@ -95,8 +97,10 @@ impl Serializer for SizeSerializer {
 
     #[inline(always)]
     fn serialize_fixed(&mut self, fixed: Fixed) -> Result<usize, Refusal>
-        ensures answered { size_permits self.old (Some (scalar (fixed_scalar fixed))) result self.new }
-        ensures no_tree { meant self.old.place (Some (scalar (fixed_scalar fixed))) ≡ None → result ≡ Err InvalidValue }
+        ensures answered { size_permits self.old (Some (scalar (fixed_scalar fixed))) result
+            self.new }
+        ensures no_tree { meant self.old.place (Some (scalar (fixed_scalar fixed))) ≡ None →
+            result ≡ Err InvalidValue }
     {
         let under = self.place;
         let head = self.head;
@@ -118,7 +122,8 @@ impl Serializer for SizeSerializer {
     #[inline(always)]
     fn serialize_null(&mut self) -> Result<usize, Refusal>
         ensures answered { size_permits self.old (Some (scalar null)) result self.new }
-        ensures no_tree { meant self.old.place (Some (scalar null)) ≡ None → result ≡ Err InvalidValue }
+        ensures no_tree { meant self.old.place (Some (scalar null)) ≡ None →
+            result ≡ Err InvalidValue }
     {
         let under = self.place;
         let head = self.head;
@@ -132,7 +137,8 @@ impl Serializer for SizeSerializer {
     #[inline(always)]
     fn serialize_str(&mut self, v: &str) -> Result<usize, Refusal>
         ensures answered { size_permits self.old (Some (scalar (string v.now))) result self.new }
-        ensures no_tree { meant self.old.place (Some (scalar (string v.now))) ≡ None → result ≡ Err InvalidValue }
+        ensures no_tree { meant self.old.place (Some (scalar (string v.now))) ≡ None →
+            result ≡ Err InvalidValue }
     {
         let under = self.place;
         let head = self.head;
@@ -147,7 +153,8 @@ impl Serializer for SizeSerializer {
     #[inline(always)]
     fn serialize_bytes(&mut self, v: &[u8]) -> Result<usize, Refusal>
         ensures answered { size_permits self.old (Some (scalar (binary v.now))) result self.new }
-        ensures no_tree { meant self.old.place (Some (scalar (binary v.now))) ≡ None → result ≡ Err InvalidValue }
+        ensures no_tree { meant self.old.place (Some (scalar (binary v.now))) ≡ None →
+            result ≡ Err InvalidValue }
     {
         let under = self.place;
         let head = self.head;
@@ -172,8 +179,10 @@ impl Serializer for SizeSerializer {
 
     #[inline(always)]
     fn mark(&mut self, mark: Mark)
-        ensures step { (t : Option Tree) (r : Result ℕ Refusal) (after : SizeSerializer) → size_permits self.new t r after → size_permits self.old (marked mark t) r after }
-        ensures meant { (t : Option Tree) → meant self.new.place t ≡ meant self.old.place (marked mark t) }
+        ensures step { (t : Option Tree) (r : Result ℕ Refusal) (after : SizeSerializer) →
+            size_permits self.new t r after → size_permits self.old (marked mark t) r after }
+        ensures meant { (t : Option Tree) →
+            meant self.new.place t ≡ meant self.old.place (marked mark t) }
         ensures outer { outer self.new.place ≡ outer self.old.place }
     {
         self.place = self.place.marked(mark);
@@ -194,8 +203,11 @@ impl Serializer for SizeSerializer {
 
     #[inline(always)]
     fn begin_part(&mut self, held: &mut Open)
-        ensures ready { (start : SizeSerializer) (kind : Kind) (ps : List (Option Tree)) → size_has start kind self.old held.old ps → size_awaits start kind self.new held.new ps }
-        ensures bare { (start : SizeSerializer) → size_has start Kind.Bare self.old held.old [] → (t : Option Tree) (r : Result ℕ Refusal) (after : SizeSerializer) → size_permits self.new t r after → size_permits start t r after }
+        ensures ready { (start : SizeSerializer) (kind : Kind) (ps : List (Option Tree)) →
+            size_has start kind self.old held.old ps → size_awaits start kind self.new held.new ps }
+        ensures bare { (start : SizeSerializer) → size_has start Kind.Bare self.old held.old [] →
+            (t : Option Tree) (r : Result ℕ Refusal) (after : SizeSerializer) →
+            size_permits self.new t r after → size_permits start t r after }
         ensures place { self.new.place ≡ held.old.inner }
         ensures kept { held.new ≡ held.old }
     {
@@ -205,14 +217,19 @@ impl Serializer for SizeSerializer {
 
     #[inline(always)]
     fn end_part(&mut self, held: &mut Open, part: Result<usize, Refusal>) -> Result<(), Refusal>
-        ensures step { (start : SizeSerializer) (kind : Kind) (before : SizeSerializer) (ps : List (Option Tree)) (p : Option Tree) → size_awaits start kind before held.old ps → size_permits before p part self.old →
+        ensures step { (start : SizeSerializer) (kind : Kind) (before : SizeSerializer)
+            (ps : List (Option Tree)) (p : Option Tree) →
+            size_awaits start kind before held.old ps → size_permits before p part self.old →
             MatchResult result
             (λ _. size_has start kind self.new held.new (ps ++ (p ∷ [])))
             (λ e. size_has start kind self.new held.new ps × ((rest : List (Option Tree)) →
             size_permits start (whole kind (ps ++ (p ∷ rest))) (Err e) self.new)) }
         ensures refused { IfErr part (λ _. IsErr result) }
-        ensures same { IfErr part (λ e. (result ≡ Err e) × ((held.new ≡ held.old) × (self.new.place ≡ Plain (rest held.old.place)))) }
+        ensures same { IfErr part
+            (λ e. (result ≡ Err e)
+            × ((held.new ≡ held.old) × (self.new.place ≡ Plain (rest held.old.place)))) }
     {
+        // Picks up what the part left: an array's first element its constructor, in `accept`.
         let after = self.place;
         self.place = Under::Plain(held.place().rest());
         let size = part?;
@@ -221,7 +238,8 @@ impl Serializer for SizeSerializer {
 
     #[inline(always)]
     fn begin_descriptor(&mut self, held: &mut Open)
-        ensures ready { (start : SizeSerializer) → size_has start Kind.Bare self.old held.old [] → size_awaits_descriptor start self.new held.new }
+        ensures ready { (start : SizeSerializer) → size_has start Kind.Bare self.old held.old [] →
+            size_awaits_descriptor start self.new held.new }
         ensures place { self.new.place ≡ Plain whole_place.Descriptor }
         ensures kept { held.new ≡ held.old }
     {
@@ -234,16 +252,25 @@ impl Serializer for SizeSerializer {
         held: &mut Open,
         part: Result<usize, Refusal>,
     ) -> Result<(), Refusal>
-        ensures step { (start before : SizeSerializer) (d : Option Tree) → size_awaits_descriptor start before held.old → size_permits before d part self.old →
+        ensures step { (start before : SizeSerializer) (d : Option Tree) →
+            size_awaits_descriptor start before held.old → size_permits before d part self.old →
             MatchResult result
-            (λ _. (mid : SizeSerializer) × (size_has mid Kind.Bare self.new held.new [] × ((t : Option Tree) (r : Result ℕ Refusal) (after : SizeSerializer) →
-            size_permits mid t r after → size_permits start (as_described (descriptor_of d) t) r after)))
+            (λ _. (mid : SizeSerializer)
+            × (size_has mid Kind.Bare self.new held.new []
+            × ((t : Option Tree) (r : Result ℕ Refusal) (after : SizeSerializer) →
+            size_permits mid t r after →
+            size_permits start (as_described (descriptor_of d) t) r after)))
             (λ e. size_has start Kind.Bare self.new held.new [] × ((t : Option Tree) →
             size_permits start (as_described (descriptor_of d) t) (Err e) self.new)) }
         ensures refused { IfErr part (λ _. IsErr result) }
-        ensures other_kinds { (start before : SizeSerializer) (d : Option Tree) → size_awaits_descriptor start before held.old → size_permits before d part self.old → descriptor_of d ≡ None → IsErr result }
-        ensures described { IfOk part (λ n. IfOk result (λ _. described_under held.old.inner n ≡ Some held.new.inner)) }
-        ensures same { IfErr part (λ e. (result ≡ Err e) × ((held.new ≡ held.old) × (self.new.place ≡ Plain (rest held.old.place)))) }
+        ensures other_kinds { (start before : SizeSerializer) (d : Option Tree) →
+            size_awaits_descriptor start before held.old → size_permits before d part self.old →
+            descriptor_of d ≡ None → IsErr result }
+        ensures described { IfOk part
+            (λ n. IfOk result (λ _. described_under held.old.inner n ≡ Some held.new.inner)) }
+        ensures same { IfErr part
+            (λ e. (result ≡ Err e)
+            × ((held.new ≡ held.old) × (self.new.place ≡ Plain (rest held.old.place)))) }
     {
         self.place = Under::Plain(held.place().rest());
         let descriptor = part?;
@@ -263,8 +290,12 @@ impl Serializer for SizeSerializer {
     #[tactic(auto, unfolding(amqp_ser::specs::Compounds::whole))]
     #[inline(always)]
     fn end(&mut self, held: Open) -> Result<usize, Refusal>
-        ensures answered { (start : SizeSerializer) (kind : Kind) (ps : List (Option Tree)) → size_has start kind self.old held ps → complete kind ps ≡ true → size_permits start (whole kind ps) result self.new }
-        ensures no_tree { (start : SizeSerializer) (kind : Kind) (ps : List (Option Tree)) → size_has start kind self.old held ps → complete kind ps ≡ true → meant start.place (whole kind ps) ≡ None → result ≡ Err InvalidValue }
+        ensures answered { (start : SizeSerializer) (kind : Kind) (ps : List (Option Tree)) →
+            size_has start kind self.old held ps → complete kind ps ≡ true →
+            size_permits start (whole kind ps) result self.new }
+        ensures no_tree { (start : SizeSerializer) (kind : Kind) (ps : List (Option Tree)) →
+            size_has start kind self.old held ps → complete kind ps ≡ true →
+            meant start.place (whole kind ps) ≡ None → result ≡ Err InvalidValue }
     {
         let place = held.place();
         let head = held.head();
@@ -277,6 +308,7 @@ impl Serializer for SizeSerializer {
             Shape::Array => self.accept(place, head, 0xf0, array_width(sum, held.count()), sum + 8),
             Shape::Transparent => self.transparent(place, head, sum),
             Shape::Bare => {
+                // What the one value left goes on to the compound around this one.
                 self.place = held.inner();
                 self.head = head;
                 Ok(sum)

@@ -69,7 +69,8 @@ impl Under {
     /// The place under one marker more.
     #[inline(always)]
     pub fn marked(self, mark: Mark) -> Under
-        ensures meant { (h : ℕ) (t : Option Tree) → meant (under_at result h) t ≡ meant (under_at self h) (marked mark t) }
+        ensures meant { (h : ℕ) (t : Option Tree) →
+            meant (under_at result h) t ≡ meant (under_at self h) (marked mark t) }
         ensures outer { (h : ℕ) → outer (under_at result h) ≡ outer (under_at self h) }
     {
         match mark {
@@ -88,7 +89,8 @@ impl Under {
 
     #[inline(always)]
     fn under_array(self) -> Under
-        ensures meant { (h : ℕ) (t : Option Tree) → meant (under_at result h) t ≡ meant (under_at self h) (marked Mark.Array t) }
+        ensures meant { (h : ℕ) (t : Option Tree) →
+            meant (under_at result h) t ≡ meant (under_at self h) (marked Mark.Array t) }
         ensures outer { (h : ℕ) → outer (under_at result h) ≡ outer (under_at self h) }
     {
         match self {
@@ -99,7 +101,8 @@ impl Under {
 
     #[inline(always)]
     fn under_transparent(self) -> Under
-        ensures meant { (h : ℕ) (t : Option Tree) → meant (under_at result h) t ≡ meant (under_at self h) (marked Mark.Transparent t) }
+        ensures meant { (h : ℕ) (t : Option Tree) →
+            meant (under_at result h) t ≡ meant (under_at self h) (marked Mark.Transparent t) }
         ensures outer { (h : ℕ) → outer (under_at result h) ≡ outer (under_at self h) }
     {
         match self {
@@ -110,7 +113,8 @@ impl Under {
 
     #[inline(always)]
     fn under_scalar(self, mark: ScalarMark) -> Under
-        ensures meant { (h : ℕ) (t : Option Tree) → meant (under_at result h) t ≡ meant (under_at self h) (marked (the_mark mark) t) }
+        ensures meant { (h : ℕ) (t : Option Tree) →
+            meant (under_at result h) t ≡ meant (under_at self h) (marked (the_mark mark) t) }
         ensures outer { (h : ℕ) → outer (under_at result h) ≡ outer (under_at self h) }
     {
         match self {

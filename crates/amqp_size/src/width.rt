@@ -14,7 +14,7 @@ pub const LONGEST: usize = 4294967291;
 /// The most elements of an array: 2^32 - 1.
 pub const MOST: usize = 4294967295;
 
-/// The length of an uint by itself.
+/// The length of a uint by itself.
 pub fn uint_width(n: u32) -> usize
     ensures { result ≡ uint_width n }
 {
@@ -74,8 +74,10 @@ pub(crate) fn array_width(n: usize, count: usize) -> usize
 /// # Example
 /// 254 bytes have the length 256, 255 bytes 260; in an array none have 4.
 pub fn text_len(text: usize, in_array: bool) -> Result<usize, Error>
-    ensures limit { MatchResult result (λ _. fits text ≡ true) (λ e. (fits text ≡ false) × (e ≡ Error.TooLong)) }
-    ensures length { IfOk result (λ len. (c8 c32 : ℕ) (bs : List ℕ) → length bs ≡ text → length (text_at in_array c8 c32 bs) ≡ len) }
+    ensures limit { MatchResult result (λ _. fits text ≡ true)
+        (λ e. (fits text ≡ false) × (e ≡ Error.TooLong)) }
+    ensures length { IfOk result (λ len. (c8 c32 : ℕ) (bs : List ℕ) → length bs ≡ text →
+        length (text_at in_array c8 c32 bs) ≡ len) }
 {
     if text > LONGEST {
         return Err(Error::TooLong);
@@ -97,8 +99,10 @@ pub fn text_len(text: usize, in_array: bool) -> Result<usize, Error>
 /// # Example
 /// No bytes have the length 1, 254 bytes 257, 255 bytes 264; in an array no bytes have 8.
 pub fn list_len(elements: usize, in_array: bool) -> Result<usize, Error>
-    ensures limit { MatchResult result (λ _. fits elements ≡ true) (λ e. (fits elements ≡ false) × (e ≡ Error.TooLong)) }
-    ensures length { IfOk result (λ len. (m : ℕ) (body : List ℕ) → length body ≡ elements → length (list_at in_array m body) ≡ len) }
+    ensures limit { MatchResult result (λ _. fits elements ≡ true)
+        (λ e. (fits elements ≡ false) × (e ≡ Error.TooLong)) }
+    ensures length { IfOk result (λ len. (m : ℕ) (body : List ℕ) → length body ≡ elements →
+        length (list_at in_array m body) ≡ len) }
 {
     if elements > LONGEST {
         return Err(Error::TooLong);
@@ -120,8 +124,10 @@ pub fn list_len(elements: usize, in_array: bool) -> Result<usize, Error>
 /// # Example
 /// No bytes have the length 3, 254 bytes 257, 255 bytes 264; in an array no bytes have 8.
 pub fn map_len(entries: usize, in_array: bool) -> Result<usize, Error>
-    ensures limit { MatchResult result (λ _. fits entries ≡ true) (λ e. (fits entries ≡ false) × (e ≡ Error.TooLong)) }
-    ensures length { IfOk result (λ len. (m : ℕ) (body : List ℕ) → length body ≡ entries → length (map_at in_array m body) ≡ len) }
+    ensures limit { MatchResult result (λ _. fits entries ≡ true)
+        (λ e. (fits entries ≡ false) × (e ≡ Error.TooLong)) }
+    ensures length { IfOk result (λ len. (m : ℕ) (body : List ℕ) → length body ≡ entries →
+        length (map_at in_array m body) ≡ len) }
 {
     if entries > LONGEST {
         return Err(Error::TooLong);
@@ -144,8 +150,10 @@ pub fn map_len(entries: usize, in_array: bool) -> Result<usize, Error>
 /// # Example
 /// One byte and 255 elements have the length 4, one byte and 256 elements 10; in an array no element has 8.
 pub fn array_len(content: usize, count: usize, in_array: bool) -> Result<usize, Error>
-    ensures limit { MatchResult result (λ _. (fits content && is_count count) ≡ true) (λ e. ((fits content && is_count count) ≡ false) × (e ≡ Error.TooLong)) }
-    ensures length { IfOk result (λ len. (body : List ℕ) → length body ≡ content → length (array_at in_array count body) ≡ len) }
+    ensures limit { MatchResult result (λ _. (fits content && is_count count) ≡ true)
+        (λ e. ((fits content && is_count count) ≡ false) × (e ≡ Error.TooLong)) }
+    ensures length { IfOk result (λ len. (body : List ℕ) → length body ≡ content →
+        length (array_at in_array count body) ≡ len) }
 {
     if content > LONGEST {
         return Err(Error::TooLong);

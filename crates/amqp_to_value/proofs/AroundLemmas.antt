@@ -75,7 +75,7 @@ parted bs others own n is e = (
   sym (drop-map _ n bs) ∙ (λ i. drop (e i) (is i)) ∙ drop-append_seam others own,
 )
 
--- the front of them
+-- the first of them
 pub front : (bs cs : List (Box (Described Value) Global)) (ds later : List Descriptor) (n : ℕ) → contents bs ≡ ds ++ later → n ≡ length ds → cs ≡ take n bs → contents cs ≡ ds
 front bs cs ds later n is e f = ap contents f ∙ (parted bs ds later n is e).0
 

@@ -12,13 +12,13 @@ abbrev pub StandsFor : Value → Option Tree → Type 0
 StandsFor v None = ⊥
 StandsFor v (Some t) = tree_of v ≡ image t
 
--- want of memory on any tree, invalid on none alone, and no other refusal
+-- out of memory on any tree, invalid on none alone, and no other refusal
 abbrev pub refuses : Error → Option Tree → Type 0
 refuses error.OutOfMemory t = Unit {0}
 refuses error.InvalidValue None = Unit {0}
 refuses e t = ⊥
 
--- on a tree its image, want of memory aside; on none a refusal
+-- on a tree its image, out of memory aside; on none a refusal
 abbrev pub IsImageOf : Option Tree → Result Value Error → Type 0
 IsImageOf t (Ok v) = StandsFor v t
 IsImageOf t (Err e) = refuses e t

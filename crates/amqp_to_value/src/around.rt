@@ -74,7 +74,8 @@ impl Around {
     /// Keeps what was put aside, before a part of the compound that stands in it.
     #[inline(always)]
     pub fn keep(&mut self, aside: Aside)
-        ensures { (others own later : List Content) → self.old.kept ≡ others → self.old.later ≡ own ++ later → self.old.next ≡ false → aside ≡ aside_of others own →
+        ensures { (others own later : List Content) → self.old.kept ≡ others →
+            self.old.later ≡ own ++ later → self.old.next ≡ false → aside ≡ aside_of others own →
             (self.new.kept ≡ others ++ own) × (self.new.next ≡ false) }
     {
         self.kept = aside.end;
@@ -83,7 +84,8 @@ impl Around {
     /// Keeps it no more, after the part.
     #[inline(always)]
     pub fn release(&mut self, aside: Aside)
-        ensures parted { (others own rest : List Content) → self.old.kept ++ self.old.later ≡ others ++ rest → aside ≡ aside_of others own →
+        ensures parted { (others own rest : List Content) →
+            self.old.kept ++ self.old.later ≡ others ++ rest → aside ≡ aside_of others own →
             (self.new.kept ≡ others) × (self.new.later ≡ rest) }
         ensures next { self.new.next ≡ self.old.next }
         ensures room { self.new.room ≡ self.old.room }
@@ -94,7 +96,8 @@ impl Around {
     /// The next value stands again in what was put aside. What came later is let go.
     #[inline(always)]
     pub fn take_back(&mut self, aside: Aside)
-        ensures { (others own later : List Content) → self.old.kept ≡ others → self.old.later ≡ own ++ later → self.old.next ≡ false → aside ≡ aside_of others own →
+        ensures { (others own later : List Content) → self.old.kept ≡ others →
+            self.old.later ≡ own ++ later → self.old.next ≡ false → aside ≡ aside_of others own →
             (self.new.kept ≡ others) × (self.new.later ≡ own) × (self.new.next ≡ true) }
     {
         self.stack.truncate(aside.end);
@@ -110,10 +113,15 @@ impl Around {
         alloc: Global,
         descriptor: Descriptor,
     ) -> Result<Aside, Error>
-        ensures { (others own later : List Content) → self.old.kept ≡ others → self.old.later ≡ own ++ later → self.old.next ≡ false → aside ≡ aside_of others own →
+        ensures { (others own later : List Content) → self.old.kept ≡ others →
+            self.old.later ≡ own ++ later → self.old.next ≡ false → aside ≡ aside_of others own →
             MatchResult result
-            (λ a. (a ≡ aside_of others (own ++ (descriptor_content descriptor ∷ []))) × (self.new.kept ≡ others) × (self.new.later ≡ own ++ (descriptor_content descriptor ∷ [])) × (self.new.next ≡ false))
-            (λ e. (e ≡ Error.OutOfMemory) × (self.new.kept ≡ others) × (more : List Content) × (self.new.later ≡ own ++ more) × (self.new.next ≡ false)) }
+            (λ a. (a ≡ aside_of others (own ++ (descriptor_content descriptor ∷ [])))
+            × (self.new.kept ≡ others)
+            × (self.new.later ≡ own ++ (descriptor_content descriptor ∷ []))
+            × (self.new.next ≡ false))
+            (λ e. (e ≡ Error.OutOfMemory) × (self.new.kept ≡ others) × (more : List Content)
+            × (self.new.later ≡ own ++ more) × (self.new.next ≡ false)) }
     {
         let described = Box::new(
             alloc,
@@ -159,9 +167,12 @@ impl Around {
     /// The value alone: what it stood in is put aside again, for which there is room.
     #[inline(always)]
     pub fn unwrap(&mut self, aside: Aside, value: Value) -> Result<Value, Error>
-        ensures { (others own : List Content) (t : Tree) → self.old.kept ≡ others → self.old.next ≡ false → aside ≡ aside_of others own →
+        ensures { (others own : List Content) (t : Tree) → self.old.kept ≡ others →
+            self.old.next ≡ false → aside ≡ aside_of others own →
             length (others ++ own) ≤ self.old.room → tree_of value ≡ described_in own t →
-            MatchResult result (λ v. (tree_of v ≡ t) × (self.new.kept ≡ others) × (self.new.later ≡ own) × (self.new.next ≡ false)) (λ _. ⊥) }
+            MatchResult result
+            (λ v. (tree_of v ≡ t) × (self.new.kept ≡ others) × (self.new.later ≡ own)
+            × (self.new.next ≡ false)) (λ _. ⊥) }
     {
         self.stack.truncate(aside.first);
         let inner = unwrap_from(
@@ -178,7 +189,8 @@ impl Around {
 fn wrap_from(stack: &mut Vec<Box<Described<Value>>>, first: usize, value: Value) -> Value
     ensures used { stack.new.items ≡ take first stack.old.items }
     ensures room { vec_capacity stack.new ≡ vec_capacity stack.old }
-    ensures described { tree_of result ≡ described_in (contents (drop first stack.old.items)) (tree_of value) }
+    ensures described { tree_of result ≡ described_in (contents (drop first stack.old.items))
+        (tree_of value) }
 {
     let mut value = value;
     while first < stack.len() {
@@ -198,8 +210,11 @@ fn unwrap_from(
     count: usize,
     value: Value,
 ) -> Result<Value, Error>
-    ensures { (ds : List Content) (t : Tree) → count ≡ length ds → vec_len stack.old + count ≤ vec_capacity stack.old → tree_of value ≡ described_in ds t →
-        MatchResult result (λ v. (tree_of v ≡ t) × (contents stack.new.items ≡ contents stack.old.items ++ ds)) (λ _. ⊥) }
+    ensures { (ds : List Content) (t : Tree) → count ≡ length ds →
+        vec_len stack.old + count ≤ vec_capacity stack.old → tree_of value ≡ described_in ds t →
+        MatchResult result
+        (λ v. (tree_of v ≡ t) × (contents stack.new.items ≡ contents stack.old.items ++ ds))
+        (λ _. ⊥) }
 {
     let mut value = value;
     for _ in 0..count {

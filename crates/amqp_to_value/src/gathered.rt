@@ -64,7 +64,8 @@ impl Gathered {
     /// The map of the pairs, none where a key is pending.
     #[inline(never)]
     pub fn into_value(self, alloc: Global) -> Result<Value, Error>
-        ensures { (ts : Trees) → held_pairs self ≡ fed_onto ts no_pairs → IsImageOf (as_map (in_pairs ts)) result }
+        ensures { (ts : Trees) → held_pairs self ≡ fed_onto ts no_pairs →
+            IsImageOf (as_map (in_pairs ts)) result }
     {
         match self.key {
             Some(_) => Err(Error::InvalidValue),

@@ -13,7 +13,7 @@ use std::alloc::Global;
 
 /// The untyped value that stands for the value: its tree is the image of the value's tree.
 ///
-/// Each kind of tree is its variant. A variant of an enum is the map of one pair, from its index as an uint to its
+/// Each kind of tree is its variant. A variant of an enum is the map of one pair, from its index as a uint to its
 /// payload, and a transparent vector is the list of its elements. The pairs of a map are inserted in order: a present
 /// key keeps its place and takes the new value, so no map in the value has a key twice: the value is sound.
 ///

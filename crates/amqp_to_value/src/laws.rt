@@ -19,7 +19,8 @@ use amqp_value::Value;
 /// # Memory
 /// Takes none.
 pub fn plain_trees_come_back()
-    ensures { (t : Tree) (v : Value) → IsPlain t → StandsFor v (Some t) → tree_of v ≡ read_as_map t }
+    ensures { (t : Tree) (v : Value) → IsPlain t → StandsFor v (Some t) →
+        tree_of v ≡ read_as_map t }
 {}
 
 /// A value that stands for a plain tree is written as the same bytes, or refused too.
@@ -27,8 +28,10 @@ pub fn plain_trees_come_back()
 /// # Memory
 /// Takes none.
 pub fn plain_trees_keep_their_bytes()
-    ensures writable { (t : Tree) (v : Value) → IsPlain t → StandsFor v (Some t) → writable (tree_of v) ≡ writable t }
-    ensures bytes { (t : Tree) (v : Value) → IsPlain t → StandsFor v (Some t) → enc (tree_of v) ≡ enc t }
+    ensures writable { (t : Tree) (v : Value) → IsPlain t → StandsFor v (Some t) →
+        writable (tree_of v) ≡ writable t }
+    ensures bytes { (t : Tree) (v : Value) → IsPlain t → StandsFor v (Some t) →
+        enc (tree_of v) ≡ enc t }
 {}
 
 /// A value that stands for a sound one has its tree, and is equal to it.
@@ -36,6 +39,8 @@ pub fn plain_trees_keep_their_bytes()
 /// # Memory
 /// Takes none.
 pub fn sound_values_come_back_equal()
-    ensures tree { (a b : Value) → IsSound a → StandsFor b (Some (tree_of a)) → tree_of b ≡ tree_of a }
-    ensures equal { (a b : Value) → IsSound a → StandsFor b (Some (tree_of a)) → ⟦<Value as PartialEq>⟧.eq b a ≡ true }
+    ensures tree { (a b : Value) → IsSound a → StandsFor b (Some (tree_of a)) →
+        tree_of b ≡ tree_of a }
+    ensures equal { (a b : Value) → IsSound a → StandsFor b (Some (tree_of a)) →
+        ⟦<Value as PartialEq>⟧.eq b a ≡ true }
 {}

@@ -1,6 +1,6 @@
 //! The untyped value that a value stands for.
 //!
-//! `to_value` answers with the value whose tree is the image of what it is given. `Serializer` is the serializer behind
+//! `to_value` gives the value whose tree is the image of what it is given. `Serializer` is the serializer behind
 //! it, and takes values piece by piece. The bytes of a value and of its image are the same, but for transparent
 //! vectors, whose images are lists, and for maps two of whose keys have one image.
 #![tactic(auto)]

@@ -51,7 +51,9 @@ impl Body {
     #[inline(always)]
     pub fn describe(&mut self)
         ensures { (under : Under) → HasParts under kind.Bare self.old [] →
-            (inner : Under) × HasParts inner kind.Bare self.new [] × ((d : Descriptor) (t : Option Tree) → as_described (Some d) (meant inner t) ≡ meant under (as_described (Some d) t)) }
+            (inner : Under) × HasParts inner kind.Bare self.new []
+            × ((d : Descriptor) (t : Option Tree) →
+            as_described (Some d) (meant inner t) ≡ meant under (as_described (Some d) t)) }
     {
         if let Body::Bare(under, _) = self {
             *under = under.with_descriptor();
@@ -61,7 +63,8 @@ impl Body {
     /// Takes a map's pending key back.
     #[inline(always)]
     pub fn undo(&mut self)
-        ensures { (under : Under) (ps : List (Option Tree)) (p : Option Tree) → HasParts under kind.Map self.old (ps ++ (p ∷ [])) → paired ps ≡ true →
+        ensures { (under : Under) (ps : List (Option Tree)) (p : Option Tree) →
+            HasParts under kind.Map self.old (ps ++ (p ∷ [])) → paired ps ≡ true →
             HasParts under kind.Map self.new ps }
     {
         if let Body::Parts(parts) = self {
@@ -72,7 +75,8 @@ impl Body {
     /// The value of the compound.
     #[inline(always)]
     pub fn into_value(self, alloc: Global) -> Result<Value, Error>
-        ensures { (under : Under) (kind : Kind) (ps : List (Option Tree)) → HasParts under kind self ps → complete kind ps ≡ true →
+        ensures { (under : Under) (kind : Kind) (ps : List (Option Tree)) →
+            HasParts under kind self ps → complete kind ps ≡ true →
             IsImageOf (meant under (whole kind ps)) result }
     {
         match self {

@@ -39,7 +39,8 @@ impl Parts {
     /// What a compound of this kind is under a marker. A bare one is none of these.
     #[inline(always)]
     pub fn new(alloc: Global, under: Under, kind: Kind) -> Parts
-        ensures makes { is_bare kind ≡ false → (o : Option Trees) → meant under (as_kind kind o) ≡ made result o }
+        ensures makes { is_bare kind ≡ false → (o : Option Trees) →
+            meant under (as_kind kind o) ≡ made result o }
         ensures empty { Fed result no_trees }
     {
         match (under, kind) {
@@ -81,7 +82,8 @@ impl Parts {
     #[inline(always)]
     pub fn undo(&mut self)
         ensures makes { (o : Option Trees) → made self.new o ≡ made self.old o }
-        ensures back { (ts : Trees) (ps : Pairs) (t : Tree) → in_pairs ts ≡ Some ps → TakesPairs self.old → Fed self.old (then ts t) → Fed self.new ts }
+        ensures back { (ts : Trees) (ps : Pairs) (t : Tree) → in_pairs ts ≡ Some ps →
+            TakesPairs self.old → Fed self.old (then ts t) → Fed self.new ts }
     {
         if let Parts::Map(pairs) = self {
             pairs.undo();
@@ -132,7 +134,8 @@ pub fn let_go(value: Value) {
 // The one value, where there is one and no more.
 #[inline(never)]
 fn only(mut items: Vec<Value>) -> Option<Value>
-    ensures { MatchOption result ((v : Value) → items.items ≡ v ∷ [] → ⊥) (λ v. items.items ≡ v ∷ []) }
+    ensures { MatchOption result ((v : Value) → items.items ≡ v ∷ [] → ⊥)
+        (λ v. items.items ≡ v ∷ []) }
 {
     let last = items.pop()?;
     if items.is_empty() { Some(last) } else { None }

@@ -83,8 +83,11 @@ impl Serializer {
     // Answers with the value in all that it stands in; a refusal puts that aside.
     #[inline(always)]
     fn finish(&mut self, answer: Result<Value, Error>) -> Result<Value, Error>
-        ensures { (start : Serializer) (t : Option Tree) → self.old.around.kept ≡ start.around.kept → standing self.old.around ≡ standing start.around →
-            self.old.under ≡ Under.Mark Mark.Other → IsImageOf (meant start.under t) answer → value_permits start t result self.new }
+        ensures { (start : Serializer) (t : Option Tree) →
+            self.old.around.kept ≡ start.around.kept →
+            standing self.old.around ≡ standing start.around →
+            self.old.under ≡ Under.Mark Mark.Other → IsImageOf (meant start.under t) answer →
+            value_permits start t result self.new }
     {
         match answer {
             Ok(value) => Ok(self.around.wrap(value)),
@@ -180,7 +183,9 @@ impl amqp_ser::Serializer for Serializer {
 
     #[inline(always)]
     fn end_part(&mut self, held: &mut Open, part: Result<Value, Error>) -> Result<(), Error>
-        ensures step { (start : Serializer) (kind : Kind) (before : Serializer) (ps : List (Option Tree)) (p : Option Tree) → value_awaits start kind before held.old ps → value_permits before p part self.old →
+        ensures step { (start : Serializer) (kind : Kind) (before : Serializer)
+            (ps : List (Option Tree)) (p : Option Tree) →
+            value_awaits start kind before held.old ps → value_permits before p part self.old →
             MatchResult result
             (λ _. value_has start kind self.new held.new (ps ++ (p ∷ [])))
             (λ e. value_has start kind self.new held.new ps × ((rest : List (Option Tree)) →
@@ -224,14 +229,20 @@ impl amqp_ser::Serializer for Serializer {
 
     #[inline(always)]
     fn end_descriptor(&mut self, held: &mut Open, part: Result<Value, Error>) -> Result<(), Error>
-        ensures step { (start before : Serializer) (d : Option Tree) → value_awaits_descriptor start before held.old → value_permits before d part self.old →
+        ensures step { (start before : Serializer) (d : Option Tree) →
+            value_awaits_descriptor start before held.old → value_permits before d part self.old →
             MatchResult result
-            (λ _. (mid : Serializer) × (value_has mid Kind.Bare self.new held.new [] × ((t : Option Tree) (r : Result Value Error) (after : Serializer) →
-            value_permits mid t r after → value_permits start (as_described (descriptor_of d) t) r after)))
+            (λ _. (mid : Serializer)
+            × (value_has mid Kind.Bare self.new held.new []
+            × ((t : Option Tree) (r : Result Value Error) (after : Serializer) →
+            value_permits mid t r after →
+            value_permits start (as_described (descriptor_of d) t) r after)))
             (λ e. value_has start Kind.Bare self.new held.new [] × ((t : Option Tree) →
             value_permits start (as_described (descriptor_of d) t) (Err e) self.new)) }
         ensures refused { IfErr part (λ _. IsErr result) }
-        ensures other_kinds { (start before : Serializer) (d : Option Tree) → value_awaits_descriptor start before held.old → value_permits before d part self.old → descriptor_of d ≡ None → IsErr result }
+        ensures other_kinds { (start before : Serializer) (d : Option Tree) →
+            value_awaits_descriptor start before held.old → value_permits before d part self.old →
+            descriptor_of d ≡ None → IsErr result }
     {
         self.around.release(held.aside);
         let descriptor = descriptor_from(part?)?;

@@ -33,7 +33,8 @@ impl Under {
     /// The same with a descriptor, inside: no marker is satisfied by a described value.
     #[inline(always)]
     pub fn with_descriptor(self) -> Under
-        ensures { (d : Descriptor) (t : Option Tree) → as_described (Some d) (meant result t) ≡ meant self (as_described (Some d) t) }
+        ensures { (d : Descriptor) (t : Option Tree) →
+            as_described (Some d) (meant result t) ≡ meant self (as_described (Some d) t) }
     {
         match self {
             Under::Mark(Mark::Other) => self,

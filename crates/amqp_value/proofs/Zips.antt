@@ -46,7 +46,7 @@ pub first_fits : {A B Z : Type 0} (Fits : A → B → Type 0) (all : List A) (s 
 first_fits Fits all s xs t x u done y is yields step fit here =
     subst (FirstFits Fits) (sym (taken_one s xs t x u yields step) ∙ is) (front Fits xs x (into_iter_items u) done y fit here)
 
--- want of memory, once this part fits
+-- out of memory, once this part fits
 pub wants_memory : {A B R Z : Type 0} (Fits : A → B → Type 0) (Fails : A → Value → Type 0) (Made : List B → R → Type 0) (all : List A) (s : IntoIter A Z) (xs : List A) (t : IntoIter A Z) (x : A) (u : IntoIter A Z) (done : List B) (y : B) (r : Result R ConvertFault)
     → into_iter_items s ≡ all → Yields into_iter_steps s xs t → into_iter_steps t (Some x) u → AllZip Fits xs done → Fits x y → r ≡ Err Memory → ConvertsAll Fits Fails Made all r
 wants_memory Fits Fails Made all s xs t x u done y r is yields step fit here e =

@@ -1,3 +1,5 @@
+-- Contracts of public items rest on all of these, but for `all_of` in TreeOf and `PairGives` in Converts, which those of
+-- private functions alone cite.
 pub mod Image
 pub mod Plain
 pub mod AsMap

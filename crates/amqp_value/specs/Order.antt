@@ -41,7 +41,7 @@ rank (variant i t) = 25
 rank (lazy bs) = 26
 rank (transparent ts) = 27
 
--- bytes from the first on, as unsigned numbers; a beginning of others is less
+-- bytes from the first on, as unsigned numbers; a prefix of others is less
 abbrev pub cmp_bytes : List ℕ → List ℕ → Ordering
 cmp_bytes = slice_cmp nat_cmp
 
@@ -77,7 +77,7 @@ cmp_descriptor (code m) (name b) = Greater
 cmp_descriptor (code m) (code n) = nat_cmp m n
 
 -- trees of one kind by their contents: parts from the first on, a described tree by its descriptor first,
--- a pair by its key first; a beginning of other parts is less
+-- a pair by its key first; a prefix of other parts is less
 abbrev mutual
   pub cmp_tree : Tree → Tree → Ordering
   cmp_tree (scalar a) (scalar b) = cmp_scalar a b

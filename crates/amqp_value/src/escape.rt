@@ -25,7 +25,8 @@ pub(crate) fn quote<W: Write>(text: &str, f: &mut Formatter<W>) -> fmt::Result
 }
 
 fn escape_all<W: Write>(text: &str, f: &mut Formatter<W>) -> fmt::Result
-    ensures { WritesOnOk W.write_str_gives f.old result (flat_map string_escaped (chars text.now)) f.new }
+    ensures { WritesOnOk W.write_str_gives f.old result (flat_map string_escaped (chars text.now))
+        f.new }
 {
     for c in text.chars() {
         escape_in_string(c, f)?;

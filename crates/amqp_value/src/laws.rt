@@ -37,26 +37,46 @@ pub use order::{
 /// Takes none.
 pub fn trees_of_scalar_values()
     ensures null { ⟦<Value as Serialize>⟧.tree Value.Null ≡ ⟦<() as Serialize>⟧.tree tt }
-    ensures bool { (b : Bool) → ⟦<Value as Serialize>⟧.tree (Value.Bool b) ≡ ⟦<bool as Serialize>⟧.tree b }
-    ensures ubyte { (n : ℕ) → ⟦<Value as Serialize>⟧.tree (Value.Ubyte n) ≡ ⟦<u8 as Serialize>⟧.tree n }
-    ensures ushort { (n : ℕ) → ⟦<Value as Serialize>⟧.tree (Value.Ushort n) ≡ ⟦<u16 as Serialize>⟧.tree n }
-    ensures uint { (n : ℕ) → ⟦<Value as Serialize>⟧.tree (Value.Uint n) ≡ ⟦<u32 as Serialize>⟧.tree n }
-    ensures ulong { (n : ℕ) → ⟦<Value as Serialize>⟧.tree (Value.Ulong n) ≡ ⟦<u64 as Serialize>⟧.tree n }
-    ensures byte { (z : ℤ) → ⟦<Value as Serialize>⟧.tree (Value.Byte z) ≡ ⟦<i8 as Serialize>⟧.tree z }
-    ensures short { (z : ℤ) → ⟦<Value as Serialize>⟧.tree (Value.Short z) ≡ ⟦<i16 as Serialize>⟧.tree z }
-    ensures int { (z : ℤ) → ⟦<Value as Serialize>⟧.tree (Value.Int z) ≡ ⟦<i32 as Serialize>⟧.tree z }
-    ensures long { (z : ℤ) → ⟦<Value as Serialize>⟧.tree (Value.Long z) ≡ ⟦<i64 as Serialize>⟧.tree z }
-    ensures float { (x : F32Bits) → ⟦<Value as Serialize>⟧.tree (Value.Float x) ≡ ⟦<F32Bits as Serialize>⟧.tree x }
-    ensures double { (x : F64Bits) → ⟦<Value as Serialize>⟧.tree (Value.Double x) ≡ ⟦<F64Bits as Serialize>⟧.tree x }
-    ensures decimal32 { (x : Dec32) → ⟦<Value as Serialize>⟧.tree (Value.Decimal32 x) ≡ ⟦<Dec32 as Serialize>⟧.tree x }
-    ensures decimal64 { (x : Dec64) → ⟦<Value as Serialize>⟧.tree (Value.Decimal64 x) ≡ ⟦<Dec64 as Serialize>⟧.tree x }
-    ensures decimal128 { (x : Dec128) → ⟦<Value as Serialize>⟧.tree (Value.Decimal128 x) ≡ ⟦<Dec128 as Serialize>⟧.tree x }
-    ensures char { (c : ℕ) → ⟦<Value as Serialize>⟧.tree (Value.Char c) ≡ ⟦<char as Serialize>⟧.tree c }
-    ensures timestamp { (x : Timestamp) → ⟦<Value as Serialize>⟧.tree (Value.Timestamp x) ≡ ⟦<Timestamp as Serialize>⟧.tree x }
-    ensures uuid { (x : Uuid) → ⟦<Value as Serialize>⟧.tree (Value.Uuid x) ≡ ⟦<Uuid as Serialize>⟧.tree x }
-    ensures binary { (b : ByteBuf) → ⟦<Value as Serialize>⟧.tree (Value.Binary b) ≡ ⟦<ByteBuf as Serialize>⟧.tree b }
-    ensures string { (s : String Global) → ⟦<Value as Serialize>⟧.tree (Value.String s) ≡ ⟦<String as Serialize>⟧.tree s }
-    ensures symbol { (s : Symbol) → ⟦<Value as Serialize>⟧.tree (Value.Symbol s) ≡ ⟦<Symbol as Serialize>⟧.tree s }
+    ensures bool { (b : Bool) →
+        ⟦<Value as Serialize>⟧.tree (Value.Bool b) ≡ ⟦<bool as Serialize>⟧.tree b }
+    ensures ubyte { (n : ℕ) →
+        ⟦<Value as Serialize>⟧.tree (Value.Ubyte n) ≡ ⟦<u8 as Serialize>⟧.tree n }
+    ensures ushort { (n : ℕ) →
+        ⟦<Value as Serialize>⟧.tree (Value.Ushort n) ≡ ⟦<u16 as Serialize>⟧.tree n }
+    ensures uint { (n : ℕ) →
+        ⟦<Value as Serialize>⟧.tree (Value.Uint n) ≡ ⟦<u32 as Serialize>⟧.tree n }
+    ensures ulong { (n : ℕ) →
+        ⟦<Value as Serialize>⟧.tree (Value.Ulong n) ≡ ⟦<u64 as Serialize>⟧.tree n }
+    ensures byte { (z : ℤ) →
+        ⟦<Value as Serialize>⟧.tree (Value.Byte z) ≡ ⟦<i8 as Serialize>⟧.tree z }
+    ensures short { (z : ℤ) →
+        ⟦<Value as Serialize>⟧.tree (Value.Short z) ≡ ⟦<i16 as Serialize>⟧.tree z }
+    ensures int { (z : ℤ) →
+        ⟦<Value as Serialize>⟧.tree (Value.Int z) ≡ ⟦<i32 as Serialize>⟧.tree z }
+    ensures long { (z : ℤ) →
+        ⟦<Value as Serialize>⟧.tree (Value.Long z) ≡ ⟦<i64 as Serialize>⟧.tree z }
+    ensures float { (x : F32Bits) →
+        ⟦<Value as Serialize>⟧.tree (Value.Float x) ≡ ⟦<F32Bits as Serialize>⟧.tree x }
+    ensures double { (x : F64Bits) →
+        ⟦<Value as Serialize>⟧.tree (Value.Double x) ≡ ⟦<F64Bits as Serialize>⟧.tree x }
+    ensures decimal32 { (x : Dec32) →
+        ⟦<Value as Serialize>⟧.tree (Value.Decimal32 x) ≡ ⟦<Dec32 as Serialize>⟧.tree x }
+    ensures decimal64 { (x : Dec64) →
+        ⟦<Value as Serialize>⟧.tree (Value.Decimal64 x) ≡ ⟦<Dec64 as Serialize>⟧.tree x }
+    ensures decimal128 { (x : Dec128) →
+        ⟦<Value as Serialize>⟧.tree (Value.Decimal128 x) ≡ ⟦<Dec128 as Serialize>⟧.tree x }
+    ensures char { (c : ℕ) →
+        ⟦<Value as Serialize>⟧.tree (Value.Char c) ≡ ⟦<char as Serialize>⟧.tree c }
+    ensures timestamp { (x : Timestamp) →
+        ⟦<Value as Serialize>⟧.tree (Value.Timestamp x) ≡ ⟦<Timestamp as Serialize>⟧.tree x }
+    ensures uuid { (x : Uuid) →
+        ⟦<Value as Serialize>⟧.tree (Value.Uuid x) ≡ ⟦<Uuid as Serialize>⟧.tree x }
+    ensures binary { (b : ByteBuf) →
+        ⟦<Value as Serialize>⟧.tree (Value.Binary b) ≡ ⟦<ByteBuf as Serialize>⟧.tree b }
+    ensures string { (s : String Global) →
+        ⟦<Value as Serialize>⟧.tree (Value.String s) ≡ ⟦<String as Serialize>⟧.tree s }
+    ensures symbol { (s : Symbol) →
+        ⟦<Value as Serialize>⟧.tree (Value.Symbol s) ≡ ⟦<Symbol as Serialize>⟧.tree s }
 {}
 
 /// The tree of a value of parts is that of what it holds.
@@ -65,10 +85,15 @@ pub fn trees_of_scalar_values()
 /// Takes none.
 pub fn trees_of_compound_values()
     ensures described { (b : Box (Described Value) Global) →
-        ⟦<Value as Serialize>⟧.tree (Value.Described b) ≡ ⟦<Described<Value> as Serialize>⟧.tree b.value }
-    ensures list { (v : Vec Value Global) → ⟦<Value as Serialize>⟧.tree (Value.List v) ≡ ⟦<Vec<Value> as Serialize>⟧.tree v }
-    ensures map { (m : OrderedMap Value Value) → ⟦<Value as Serialize>⟧.tree (Value.Map m) ≡ ⟦<OrderedMap<Value, Value> as Serialize>⟧.tree m }
-    ensures array { (a : Array Value) → ⟦<Value as Serialize>⟧.tree (Value.Array a) ≡ ⟦<Array<Value> as Serialize>⟧.tree a }
+        ⟦<Value as Serialize>⟧.tree (Value.Described b) ≡ ⟦<Described<Value> as Serialize>⟧.tree
+        b.value }
+    ensures list { (v : Vec Value Global) →
+        ⟦<Value as Serialize>⟧.tree (Value.List v) ≡ ⟦<Vec<Value> as Serialize>⟧.tree v }
+    ensures map { (m : OrderedMap Value Value) →
+        ⟦<Value as Serialize>⟧.tree (Value.Map m)
+        ≡ ⟦<OrderedMap<Value, Value> as Serialize>⟧.tree m }
+    ensures array { (a : Array Value) →
+        ⟦<Value as Serialize>⟧.tree (Value.Array a) ≡ ⟦<Array<Value> as Serialize>⟧.tree a }
 {}
 
 /// Two values are equal exactly where their contents are the same, whatever memory holds them.
@@ -146,9 +171,11 @@ pub fn images_are_sound()
 /// Takes none.
 pub fn sound_parts_make_a_sound_value()
     ensures scalar { (v : Value) (s : Scalar) → tree_of v ≡ scalar s → IsSound v }
-    ensures described { (b : Box (Described Value) Global) → IsSound b.value.value → IsSound (Value.Described b) }
+    ensures described { (b : Box (Described Value) Global) → IsSound b.value.value →
+        IsSound (Value.Described b) }
     ensures list { (v : Vec Value Global) → AreSound v.items → IsSound (Value.List v) }
-    ensures map { (m : OrderedMap Value Value) → AreSoundEntries (entries_of m) → IsSound (Value.Map m) }
+    ensures map { (m : OrderedMap Value Value) → AreSoundEntries (entries_of m) →
+        IsSound (Value.Map m) }
     ensures array { (a : Array Value) → AreSound (array_items a) → IsSound (Value.Array a) }
 {}
 
@@ -158,7 +185,9 @@ pub fn sound_parts_make_a_sound_value()
 /// Takes none.
 pub fn sound_entries_stay_sound()
     ensures none { AreSoundEntries [] }
-    ensures insert { (es : List (Value × Value)) (k v : Value) → AreSoundEntries es → IsSound k → IsSound v →
-        AreSoundEntries (insert_pair ⟦<Value as PartialEq>⟧.eq es k v) }
-    ensures distinct { (es : List (Value × Value)) → AreDistinct ⟦<Value as PartialEq>⟧.eq (keys_of es) → HaveSoundParts es → AreSoundEntries es }
+    ensures insert { (es : List (Value × Value)) (k v : Value) → AreSoundEntries es → IsSound k →
+        IsSound v → AreSoundEntries (insert_pair ⟦<Value as PartialEq>⟧.eq es k v) }
+    ensures distinct { (es : List (Value × Value)) →
+        AreDistinct ⟦<Value as PartialEq>⟧.eq (keys_of es) → HaveSoundParts es →
+        AreSoundEntries es }
 {}

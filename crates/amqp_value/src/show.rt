@@ -66,7 +66,8 @@ fn show<W: Write>(value: &Value, f: &mut Formatter<W>) -> fmt::Result
 
 #[cycle(show)]
 fn show_list<W: Write>(items: &[Value], f: &mut Formatter<W>) -> fmt::Result
-    ensures { WritesOnOk W.write_str_gives f.old result (codes "[" ++ (items_text (all_of items.now) 0 ++ codes "]")) f.new }
+    ensures { WritesOnOk W.write_str_gives f.old result
+        (codes "[" ++ (items_text (all_of items.now) 0 ++ codes "]")) f.new }
 {
     f.write_str("[")?;
     show_items(items, f)?;
@@ -86,7 +87,8 @@ fn show_items<W: Write>(items: &[Value], f: &mut Formatter<W>) -> fmt::Result
 
 #[cycle(show)]
 fn show_map<W: Write>(pairs: &[(Value, Value)], f: &mut Formatter<W>) -> fmt::Result
-    ensures { WritesOnOk W.write_str_gives f.old result (codes "{" ++ (pairs_text (pairs_trees pairs.now) 0 ++ codes "}")) f.new }
+    ensures { WritesOnOk W.write_str_gives f.old result
+        (codes "{" ++ (pairs_text (pairs_trees pairs.now) 0 ++ codes "}")) f.new }
 {
     f.write_str("{")?;
     show_pairs(pairs, f)?;
@@ -95,7 +97,8 @@ fn show_map<W: Write>(pairs: &[(Value, Value)], f: &mut Formatter<W>) -> fmt::Re
 
 #[cycle(show)]
 fn show_pairs<W: Write>(pairs: &[(Value, Value)], f: &mut Formatter<W>) -> fmt::Result
-    ensures { WritesOnOk W.write_str_gives f.old result (pairs_text (pairs_trees pairs.now) 0) f.new }
+    ensures { WritesOnOk W.write_str_gives f.old result (pairs_text (pairs_trees pairs.now) 0)
+        f.new }
 {
     for (index, pair) in pairs.iter().enumerate() {
         separate(index, f)?;
@@ -118,7 +121,8 @@ fn separate<W: Write>(index: usize, f: &mut Formatter<W>) -> fmt::Result
 }
 
 fn show_descriptor<W: Write>(descriptor: &Descriptor, f: &mut Formatter<W>) -> fmt::Result
-    ensures { WritesOnOk W.write_str_gives f.old result (descriptor_text (descriptor_content descriptor.now)) f.new }
+    ensures { WritesOnOk W.write_str_gives f.old result
+        (descriptor_text (descriptor_content descriptor.now)) f.new }
 {
     match descriptor {
         Descriptor::Name(name) => name.fmt(f),

@@ -1,4 +1,4 @@
--- Fronts and ends of lists.
+-- Prefixes and ends of lists.
 use Rattle.std.proofs.Common.{◌≡◌, ℕ, suc, zero, ◌+◌, List, [], ◌∷◌, ◌++◌, length, refl, ap, sym, ◌∙◌, arith, append_assoc, drop, take}
 use Rattle.amqp_wire.specs.Written.{Extends}
 
@@ -35,7 +35,7 @@ drop_front : {X : Type 0} (a b : List X) → drop (length a) (a ++ b) ≡ b
 drop_front [] b = refl
 drop_front (x ∷ a) b = drop_front a b
 
--- past a front, what follows it
+-- past a prefix, what follows it
 pub drop_past : {X : Type 0} (xs : List X) (i n : ℕ) (a b : List X) → drop i xs ≡ a ++ b → n ≡ i + length a → drop n xs ≡ b
 drop_past xs i n a b h e = ap (λ m. drop m xs) e ∙ drop_both xs i (length a) ∙ ap (drop (length a)) h ∙ drop_front a b
 

@@ -1,3 +1,6 @@
+-- What the contract of `to_vec`, the one public item, rests on, besides definitions of `amqp_ser`.
+pub mod Answer
+-- What private clauses alone cite: the law of the two walks.
 pub mod Entries
 pub mod Solid
 pub mod Heads
@@ -5,4 +8,3 @@ pub mod Standing
 pub mod State
 pub mod Written
 pub mod Listed
-pub mod Answer

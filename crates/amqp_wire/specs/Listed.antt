@@ -32,7 +32,7 @@ abbrev pub listed : Option Tree → List Header → List Header → Type 0
 listed None b a = ⊥
 listed (Some t) b a = (a ≡ b ++ entries t) × (solid t ≡ true)
 
--- want of memory is no answer on the tree
+-- out of memory is no answer on the tree
 abbrev pub counts_tree : Headers → Option Tree → Result ℕ Refusal → Headers → Type 0
 counts_tree s o (Ok n) after = size_permits s.size o (Ok n) after.size × listed (meant s.size.place o) s.table.headers.items after.table.headers.items
 counts_tree s o (Err e) after = ((e ≡ OutOfMemory) × (after.size.place ≡ Plain (rest (outer s.size.place)))) ⊎ size_permits s.size o (Err e) after.size

@@ -22,7 +22,7 @@ fit (place.Element c) t = is_some (con t)
 fit place.Descriptor t = is_opaque t
 fit (place.Value n b) t = is_opaque t
 
--- a frame has at least a byte
+-- an encoded value has at least a byte
 abbrev mutual
   pub solid : Tree → Bool
   solid (scalar s) = true

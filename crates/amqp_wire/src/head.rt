@@ -33,7 +33,8 @@ impl Output {
     fn put_counted(&mut self, short: u8, long: u8, header: Header) -> Result<(), Refusal>
         ensures kept { Kept self.old self.new }
         ensures taken { self.new.taken ≡ self.old.taken }
-        ensures written { small header → puts self.old (counted_head short long header.len header.count) result self.new }
+        ensures written { small header →
+            puts self.old (counted_head short long header.len header.count) result self.new }
     {
         if header.len <= 254 && header.count <= 255 {
             return self.put(&[short, header.len as u8 + 1, header.count as u8]);
@@ -48,7 +49,8 @@ impl Output {
     fn put_whole_head(&mut self, style: Style, header: Header) -> Result<(), Refusal>
         ensures kept { Kept self.old self.new }
         ensures taken { self.new.taken ≡ self.old.taken }
-        ensures written { small header → puts self.old (whole_head style header.len header.count) result self.new }
+        ensures written { small header →
+            puts self.old (whole_head style header.len header.count) result self.new }
     {
         match style {
             Style::List => {
@@ -67,7 +69,8 @@ impl Output {
     fn put_head(&mut self, in_array: bool, style: Style, header: Header) -> Result<(), Refusal>
         ensures kept { Kept self.old self.new }
         ensures taken { self.new.taken ≡ self.old.taken }
-        ensures written { small header → puts self.old (head in_array style header) result self.new }
+        ensures written { small header →
+            puts self.old (head in_array style header) result self.new }
     {
         if in_array {
             let [a, b, c, d] = header.len.wrapping_add(4).to_be_bytes();
@@ -82,10 +85,15 @@ impl Output {
     #[inline(always)]
     fn put_next(&mut self, in_array: bool, style: Style) -> Result<Option<u8>, Refusal>
         ensures kept { Kept self.old self.new }
-        ensures written { (h : Header) (rest : List Header) → drop self.old.taken self.old.table.items ≡ h ∷ rest → small h →
+        ensures written { (h : Header) (rest : List Header) →
+            drop self.old.taken self.old.table.items ≡ h ∷ rest → small h →
             MatchResult result
-            (λ c. (c ≡ h.constructor) × ((self.new.taken ≡ self.old.taken + 1) × ((drop self.new.taken self.new.table.items ≡ rest) × (self.new.out.items ≡ self.old.out.items ++ head in_array style h))))
-            (λ _. vec_capacity self.old.out < length self.old.out.items + length (head in_array style h)) }
+            (λ c. (c ≡ h.constructor)
+            × ((self.new.taken ≡ self.old.taken + 1)
+            × ((drop self.new.taken self.new.table.items ≡ rest)
+            × (self.new.out.items ≡ self.old.out.items ++ head in_array style h))))
+            (λ _. vec_capacity self.old.out < length self.old.out.items + length
+            (head in_array style h)) }
     {
         match self.next() {
             None => Err(Refusal::InvalidValue),
@@ -100,7 +108,8 @@ impl Output {
     #[inline(always)]
     fn open_plain(&mut self, in_array: bool, style: Style) -> Result<(), Refusal>
         ensures kept { Kept self.old self.new }
-        ensures opened { (h : Header) (rest : List Header) → drop self.old.taken self.old.table.items ≡ h ∷ rest → small h →
+        ensures opened { (h : Header) (rest : List Header) →
+            drop self.old.taken self.old.table.items ≡ h ∷ rest → small h →
             leads self.old 1 (head in_array style h) result self.new }
     {
         match self.put_next(in_array, style) {
@@ -112,8 +121,10 @@ impl Output {
     /// Opens a variant of one value.
     fn open_only(&mut self, in_array: bool, index: u32) -> Result<(), Refusal>
         ensures kept { Kept self.old self.new }
-        ensures opened { (h : Header) (rest : List Header) → drop self.old.taken self.old.table.items ≡ h ∷ rest → small h →
-            leads self.old 1 (head in_array Style.Map h ++ scalar_form (uint index)) result self.new × IfOk result (λ _. drop self.new.taken self.new.table.items ≡ rest) }
+        ensures opened { (h : Header) (rest : List Header) →
+            drop self.old.taken self.old.table.items ≡ h ∷ rest → small h →
+            leads self.old 1 (head in_array Style.Map h ++ scalar_form (uint index)) result self.new
+            × IfOk result (λ _. drop self.new.taken self.new.table.items ≡ rest) }
     {
         match self.put_next(in_array, Style::Map) {
             Ok(_) => self.put_fixed(false, Fixed::Uint(index)),
@@ -124,8 +135,11 @@ impl Output {
     /// Opens a variant of fields.
     fn open_fields(&mut self, in_array: bool, index: u32) -> Result<(), Refusal>
         ensures kept { Kept self.old self.new }
-        ensures opened { (h g : Header) (rest : List Header) → drop self.old.taken self.old.table.items ≡ h ∷ (g ∷ rest) → small h → small g →
-            leads self.old 2 ((head in_array Style.Map h ++ scalar_form (uint index)) ++ head false Style.List g) result self.new }
+        ensures opened { (h g : Header) (rest : List Header) →
+            drop self.old.taken self.old.table.items ≡ h ∷ (g ∷ rest) → small h → small g →
+            leads self.old 2
+            ((head in_array Style.Map h ++ scalar_form (uint index)) ++ head false Style.List g)
+            result self.new }
     {
         match self.open_only(in_array, index) {
             Ok(()) => self.open_plain(false, Style::List),
@@ -137,8 +151,10 @@ impl Output {
     #[inline(always)]
     fn open_array(&mut self, in_array: bool) -> Result<(), Refusal>
         ensures kept { Kept self.old self.new }
-        ensures opened { (h : Header) (rest : List Header) → drop self.old.taken self.old.table.items ≡ h ∷ rest → small h →
-            leads self.old 1 (head in_array Style.Array h ++ code_list h.constructor) result self.new }
+        ensures opened { (h : Header) (rest : List Header) →
+            drop self.old.taken self.old.table.items ≡ h ∷ rest → small h →
+            leads self.old 1 (head in_array Style.Array h ++ code_list h.constructor) result
+            self.new }
     {
         match self.put_next(in_array, Style::Array) {
             Ok(Some(code)) => self.put(&[code]),
@@ -151,7 +167,8 @@ impl Output {
     #[inline(never)]
     pub fn open(&mut self, in_array: bool, shape: Shape) -> Result<(), Refusal>
         ensures kept { Kept self.old self.new }
-        ensures opened { (ts : Trees) → Room in_array shape self.old ts → opens in_array shape self.old (heads shape ts) result self.new }
+        ensures opened { (ts : Trees) → Room in_array shape self.old ts →
+            opens in_array shape self.old (heads shape ts) result self.new }
         ensures none { shape ≡ Shape.Refused → is_err result ≡ true }
     {
         match shape {

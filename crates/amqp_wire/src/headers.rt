@@ -124,8 +124,10 @@ impl Serializer for Headers {
 
     #[inline(always)]
     fn serialize_fixed(&mut self, fixed: Fixed) -> Result<usize, Refusal>
-        ensures answered { headers_permits self.old (Some (scalar (fixed_scalar fixed))) result self.new }
-        ensures no_tree { meant self.old.size.place (Some (scalar (fixed_scalar fixed))) ≡ None → result ≡ Err InvalidValue }
+        ensures answered { headers_permits self.old (Some (scalar (fixed_scalar fixed))) result
+            self.new }
+        ensures no_tree { meant self.old.size.place (Some (scalar (fixed_scalar fixed))) ≡ None →
+            result ≡ Err InvalidValue }
     {
         self.size.serialize_fixed(fixed)
     }
@@ -133,7 +135,8 @@ impl Serializer for Headers {
     #[inline(always)]
     fn serialize_null(&mut self) -> Result<usize, Refusal>
         ensures answered { headers_permits self.old (Some (scalar null)) result self.new }
-        ensures no_tree { meant self.old.size.place (Some (scalar null)) ≡ None → result ≡ Err InvalidValue }
+        ensures no_tree { meant self.old.size.place (Some (scalar null)) ≡ None →
+            result ≡ Err InvalidValue }
     {
         self.size.serialize_null()
     }
@@ -141,7 +144,8 @@ impl Serializer for Headers {
     #[inline(always)]
     fn serialize_str(&mut self, v: &str) -> Result<usize, Refusal>
         ensures answered { headers_permits self.old (Some (scalar (string v.now))) result self.new }
-        ensures no_tree { meant self.old.size.place (Some (scalar (string v.now))) ≡ None → result ≡ Err InvalidValue }
+        ensures no_tree { meant self.old.size.place (Some (scalar (string v.now))) ≡ None →
+            result ≡ Err InvalidValue }
     {
         self.size.serialize_str(v)
     }
@@ -149,7 +153,8 @@ impl Serializer for Headers {
     #[inline(always)]
     fn serialize_bytes(&mut self, v: &[u8]) -> Result<usize, Refusal>
         ensures answered { headers_permits self.old (Some (scalar (binary v.now))) result self.new }
-        ensures no_tree { meant self.old.size.place (Some (scalar (binary v.now))) ≡ None → result ≡ Err InvalidValue }
+        ensures no_tree { meant self.old.size.place (Some (scalar (binary v.now))) ≡ None →
+            result ≡ Err InvalidValue }
     {
         self.size.serialize_bytes(v)
     }
@@ -194,7 +199,9 @@ impl Serializer for Headers {
 
     #[inline(always)]
     fn end_part(&mut self, held: &mut Counting, part: Result<usize, Refusal>) -> Result<(), Refusal>
-        ensures step { (start : Headers) (kind : Kind) (before : Headers) (ps : List (Option Tree)) (p : Option Tree) → headers_awaits start kind before held.old ps → headers_permits before p part self.old →
+        ensures step { (start : Headers) (kind : Kind) (before : Headers) (ps : List (Option Tree))
+            (p : Option Tree) → headers_awaits start kind before held.old ps →
+            headers_permits before p part self.old →
             MatchResult result
             (λ _. headers_has start kind self.new held.new (ps ++ (p ∷ [])))
             (λ e. headers_has start kind self.new held.new ps × ((rest : List (Option Tree)) →
@@ -227,14 +234,21 @@ impl Serializer for Headers {
         held: &mut Counting,
         part: Result<usize, Refusal>,
     ) -> Result<(), Refusal>
-        ensures step { (start before : Headers) (d : Option Tree) → headers_awaits_descriptor start before held.old → headers_permits before d part self.old →
+        ensures step { (start before : Headers) (d : Option Tree) →
+            headers_awaits_descriptor start before held.old →
+            headers_permits before d part self.old →
             MatchResult result
-            (λ _. (mid : Headers) × (headers_has mid Kind.Bare self.new held.new [] × ((t : Option Tree) (r : Result ℕ Refusal) (after : Headers) →
-            headers_permits mid t r after → headers_permits start (as_described (descriptor_of d) t) r after)))
+            (λ _. (mid : Headers)
+            × (headers_has mid Kind.Bare self.new held.new []
+            × ((t : Option Tree) (r : Result ℕ Refusal) (after : Headers) →
+            headers_permits mid t r after →
+            headers_permits start (as_described (descriptor_of d) t) r after)))
             (λ e. headers_has start Kind.Bare self.new held.new [] × ((t : Option Tree) →
             headers_permits start (as_described (descriptor_of d) t) (Err e) self.new)) }
         ensures refused { IfErr part (λ _. IsErr result) }
-        ensures other_kinds { (start before : Headers) (d : Option Tree) → headers_awaits_descriptor start before held.old → headers_permits before d part self.old → descriptor_of d ≡ None → IsErr result }
+        ensures other_kinds { (start before : Headers) (d : Option Tree) →
+            headers_awaits_descriptor start before held.old →
+            headers_permits before d part self.old → descriptor_of d ≡ None → IsErr result }
     {
         match self.size.end_descriptor(&mut held.size, part) {
             Ok(()) => Ok(()),
@@ -260,8 +274,12 @@ impl Serializer for Headers {
 
     #[inline(always)]
     fn end(&mut self, held: Counting) -> Result<usize, Refusal>
-        ensures answered { (start : Headers) (kind : Kind) (ps : List (Option Tree)) → headers_has start kind self.old held ps → complete kind ps ≡ true → headers_permits start (whole kind ps) result self.new }
-        ensures no_tree { (start : Headers) (kind : Kind) (ps : List (Option Tree)) → headers_has start kind self.old held ps → complete kind ps ≡ true → meant start.size.place (whole kind ps) ≡ None → result ≡ Err TooLong → ⊥ }
+        ensures answered { (start : Headers) (kind : Kind) (ps : List (Option Tree)) →
+            headers_has start kind self.old held ps → complete kind ps ≡ true →
+            headers_permits start (whole kind ps) result self.new }
+        ensures no_tree { (start : Headers) (kind : Kind) (ps : List (Option Tree)) →
+            headers_has start kind self.old held ps → complete kind ps ≡ true →
+            meant start.size.place (whole kind ps) ≡ None → result ≡ Err TooLong → ⊥ }
     {
         let Counting {
             size,
@@ -275,6 +293,8 @@ impl Serializer for Headers {
             return Err(Refusal::OutOfMemory);
         }
         let shape = size.shape();
+        // An array's first element left its constructor in the place of `self.size`, where `end_part`
+        // of the size serializer picked it up for `size`. Only then can the header be filled in.
         let header = Header {
             len: limited(size.sum()),
             count: parts,

@@ -2,7 +2,7 @@
 //!
 //! `to_vec` walks over a value twice. The first walk counts its bytes and lists what stands before each compound; then
 //! the bytes are reserved at once, and the second walk writes into the reservation and takes no memory. It writes
-//! exactly the tree's bytes exactly where the tree can be written, want of memory aside.
+//! exactly the tree's bytes exactly where the tree can be written, out of memory aside.
 #![tactic(auto)]
 
 mod head;

@@ -112,7 +112,8 @@ impl Table {
     /// Takes the places of a compound, and says whether a growth was refused.
     #[inline(always)]
     pub fn open(&mut self, shape: Shape) -> bool
-        ensures appended { appended (places shape) self.old.headers.items result self.new.headers.items }
+        ensures appended { appended (places shape) self.old.headers.items result
+            self.new.headers.items }
         ensures none { places shape ≡ 0 → self.new.headers.items ≡ self.old.headers.items }
         ensures refused { self.new.refused ≡ (self.old.refused || result) }
     {
@@ -131,7 +132,8 @@ impl Table {
     /// Writes a header into its place.
     #[inline(always)]
     fn put(&mut self, at: usize, header: Header)
-        ensures put { at + 1 ≤ length self.old.headers.items → self.new.headers.items ≡ slice_set self.old.headers.items at header }
+        ensures put { at + 1 ≤ length self.old.headers.items →
+            self.new.headers.items ≡ slice_set self.old.headers.items at header }
         ensures same_length { length self.new.headers.items ≡ length self.old.headers.items }
         ensures refused { self.new.refused ≡ self.old.refused }
     {
@@ -144,7 +146,8 @@ impl Table {
     #[inline(always)]
     pub fn fill(&mut self, at: usize, shape: Shape, header: Header)
         requires { header.len ≤ 4294967291 }
-        ensures filled { made_fits shape header.len → at + places shape ≤ length self.old.headers.items →
+        ensures filled { made_fits shape header.len →
+            at + places shape ≤ length self.old.headers.items →
             self.new.headers.items ≡ fills (made shape header) at self.old.headers.items }
         ensures none { places shape ≡ 0 → self.new.headers.items ≡ self.old.headers.items }
         ensures refused { self.new.refused ≡ self.old.refused }

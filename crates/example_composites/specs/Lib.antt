@@ -1,3 +1,4 @@
+-- The trees of public types rest on all of these.
 pub mod Restricted
 pub mod Values
 pub mod Outcomes

@@ -20,18 +20,18 @@ abbrev pub of_role : Role → Option Tree
 of_role role.Sender = of_bool false
 of_role role.Receiver = of_bool true
 
--- sender-settle-mode, an ubyte (part 2, section 2.8.2)
+-- sender-settle-mode, a ubyte (part 2, section 2.8.2)
 abbrev pub of_sender_mode : SenderSettleMode → Option Tree
 of_sender_mode sender.Unsettled = of_u8 0
 of_sender_mode sender.Settled = of_u8 1
 of_sender_mode sender.Mixed = of_u8 2
 
--- receiver-settle-mode, an ubyte (part 2, section 2.8.3)
+-- receiver-settle-mode, a ubyte (part 2, section 2.8.3)
 abbrev pub of_receiver_mode : ReceiverSettleMode → Option Tree
 of_receiver_mode receiver.First = of_u8 0
 of_receiver_mode receiver.Second = of_u8 1
 
--- terminus-durability, an uint (part 3, section 3.5.5)
+-- terminus-durability, a uint (part 3, section 3.5.5)
 abbrev pub of_durability : TerminusDurability → Option Tree
 of_durability durability.Nothing = of_u32 0
 of_durability durability.Configuration = of_u32 1

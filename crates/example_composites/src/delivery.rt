@@ -32,9 +32,11 @@ pub struct Flow {
 
 impl Serialize for Flow {
     ghost tree = { λ f. short_composite (code 0x13) (
-        may of_u32 f.next_incoming_id ∷ must (of_u32 f.incoming_window) ∷ must (of_u32 f.next_outgoing_id)
+        may of_u32 f.next_incoming_id ∷ must (of_u32 f.incoming_window)
+        ∷ must (of_u32 f.next_outgoing_id)
         ∷ must (of_u32 f.outgoing_window) ∷ may of_u32 f.handle ∷ may of_u32 f.delivery_count
-        ∷ may of_u32 f.link_credit ∷ may of_u32 f.available ∷ may of_bool f.drain ∷ may of_bool f.echo
+        ∷ may of_u32 f.link_credit ∷ may of_u32 f.available ∷ may of_bool f.drain
+        ∷ may of_bool f.echo
         ∷ may of_fields f.properties ∷ []) };
 
     fn serialize<S: Serializer>(&self, serializer: &mut S) -> Result<S::Ok, S::Error> {
@@ -75,8 +77,10 @@ pub struct Transfer {
 
 impl Serialize for Transfer {
     ghost tree = { λ t. short_composite (code 0x14) (
-        must (of_u32 t.handle) ∷ may of_u32 t.delivery_id ∷ may of_binary t.delivery_tag ∷ may of_u32 t.message_format
-        ∷ may of_bool t.settled ∷ may of_bool t.more ∷ may of_receiver_mode t.rcv_settle_mode ∷ may of_state t.state
+        must (of_u32 t.handle) ∷ may of_u32 t.delivery_id ∷ may of_binary t.delivery_tag
+        ∷ may of_u32 t.message_format
+        ∷ may of_bool t.settled ∷ may of_bool t.more ∷ may of_receiver_mode t.rcv_settle_mode
+        ∷ may of_state t.state
         ∷ may of_bool t.resume ∷ may of_bool t.aborted ∷ may of_bool t.batchable ∷ []) };
 
     fn serialize<S: Serializer>(&self, serializer: &mut S) -> Result<S::Ok, S::Error> {

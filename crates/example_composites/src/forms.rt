@@ -164,7 +164,8 @@ impl<A: Serialize, B: Serialize> Serialize for Pair<A, B> {
 pub struct Tagged<T>(pub u32, pub Option<T>);
 
 impl<T: Serialize> Serialize for Tagged<T> {
-    ghost tree = { λ t. short_list_of (must (Some (scalar (symbol (codes "tag")))) ∷ must (of_u32 t.0) ∷ may T.tree t.1 ∷ []) };
+    ghost tree = { λ t. short_list_of
+        (must (Some (scalar (symbol (codes "tag")))) ∷ must (of_u32 t.0) ∷ may T.tree t.1 ∷ []) };
 
     fn serialize<S: Serializer>(&self, serializer: &mut S) -> Result<S::Ok, S::Error> {
         ListOf(

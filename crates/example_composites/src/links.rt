@@ -41,9 +41,11 @@ impl Serialize for Attach {
         must (of_string a.name) ∷ must (of_u32 a.handle) ∷ must (of_role a.role)
         ∷ may of_sender_mode a.snd_settle_mode ∷ may of_receiver_mode a.rcv_settle_mode
         ∷ may of_source a.source ∷ may of_target a.target
-        ∷ may (of_map of_binary (optional of_state)) a.unsettled ∷ may of_bool a.incomplete_unsettled
+        ∷ may (of_map of_binary (optional of_state)) a.unsettled
+        ∷ may of_bool a.incomplete_unsettled
         ∷ may of_u32 a.initial_delivery_count ∷ may of_u64 a.max_message_size
-        ∷ may (of_multiple of_symbol) a.offered_capabilities ∷ may (of_multiple of_symbol) a.desired_capabilities
+        ∷ may (of_multiple of_symbol) a.offered_capabilities
+        ∷ may (of_multiple of_symbol) a.desired_capabilities
         ∷ may of_fields a.properties ∷ []) };
 
     fn serialize<S: Serializer>(&self, serializer: &mut S) -> Result<S::Ok, S::Error> {

@@ -22,7 +22,8 @@ pub struct Header {
 
 impl Serialize for Header {
     ghost tree = { λ h. short_composite (code 0x70) (
-        may of_bool h.durable ∷ may of_u8 h.priority ∷ may of_u32 h.ttl ∷ may of_bool h.first_acquirer
+        may of_bool h.durable ∷ may of_u8 h.priority ∷ may of_u32 h.ttl
+        ∷ may of_bool h.first_acquirer
         ∷ may of_u32 h.delivery_count ∷ []) };
 
     fn serialize<S: Serializer>(&self, serializer: &mut S) -> Result<S::Ok, S::Error> {
@@ -83,10 +84,14 @@ pub struct Properties {
 
 impl Serialize for Properties {
     ghost tree = { λ p. short_composite (code 0x73) (
-        may of_message_id p.message_id ∷ may of_binary p.user_id ∷ may of_address p.to ∷ may of_string p.subject
-        ∷ may of_address p.reply_to ∷ may of_message_id p.correlation_id ∷ may of_symbol p.content_type
-        ∷ may of_symbol p.content_encoding ∷ may of_timestamp p.absolute_expiry_time ∷ may of_timestamp p.creation_time
-        ∷ may of_string p.group_id ∷ may of_u32 p.group_sequence ∷ may of_string p.reply_to_group_id ∷ []) };
+        may of_message_id p.message_id ∷ may of_binary p.user_id ∷ may of_address p.to
+        ∷ may of_string p.subject
+        ∷ may of_address p.reply_to ∷ may of_message_id p.correlation_id
+        ∷ may of_symbol p.content_type
+        ∷ may of_symbol p.content_encoding ∷ may of_timestamp p.absolute_expiry_time
+        ∷ may of_timestamp p.creation_time
+        ∷ may of_string p.group_id ∷ may of_u32 p.group_sequence ∷ may of_string p.reply_to_group_id
+        ∷ []) };
 
     fn serialize<S: Serializer>(&self, serializer: &mut S) -> Result<S::Ok, S::Error> {
         serializer.serialize_described(

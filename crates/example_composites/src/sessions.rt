@@ -30,8 +30,10 @@ impl Serialize for Open {
     ghost tree = { λ o. short_composite (code 0x10) (
         must (of_string o.container_id) ∷ may of_string o.hostname ∷ may of_u32 o.max_frame_size
         ∷ may of_u16 o.channel_max ∷ may of_u32 o.idle_time_out
-        ∷ may (of_multiple of_symbol) o.outgoing_locales ∷ may (of_multiple of_symbol) o.incoming_locales
-        ∷ may (of_multiple of_symbol) o.offered_capabilities ∷ may (of_multiple of_symbol) o.desired_capabilities
+        ∷ may (of_multiple of_symbol) o.outgoing_locales
+        ∷ may (of_multiple of_symbol) o.incoming_locales
+        ∷ may (of_multiple of_symbol) o.offered_capabilities
+        ∷ may (of_multiple of_symbol) o.desired_capabilities
         ∷ may of_fields o.properties ∷ []) };
 
     fn serialize<S: Serializer>(&self, serializer: &mut S) -> Result<S::Ok, S::Error> {
@@ -68,9 +70,11 @@ pub struct Begin {
 
 impl Serialize for Begin {
     ghost tree = { λ b. short_composite (code 0x11) (
-        may of_u16 b.remote_channel ∷ must (of_u32 b.next_outgoing_id) ∷ must (of_u32 b.incoming_window)
+        may of_u16 b.remote_channel ∷ must (of_u32 b.next_outgoing_id)
+        ∷ must (of_u32 b.incoming_window)
         ∷ must (of_u32 b.outgoing_window) ∷ may of_u32 b.handle_max
-        ∷ may (of_multiple of_symbol) b.offered_capabilities ∷ may (of_multiple of_symbol) b.desired_capabilities
+        ∷ may (of_multiple of_symbol) b.offered_capabilities
+        ∷ may (of_multiple of_symbol) b.desired_capabilities
         ∷ may of_fields b.properties ∷ []) };
 
     fn serialize<S: Serializer>(&self, serializer: &mut S) -> Result<S::Ok, S::Error> {

@@ -1,1 +1,2 @@
+-- The contract of a public item rests on this.
 pub mod Kept

@@ -20,7 +20,8 @@ pub fn properties_of(value: Value) -> Result<OrderedMap<Symbol, i64>, ConvertFau
 
 /// Whether the properties have at least the wanted value under this name.
 pub fn has_at_least(properties: &OrderedMap<Symbol, i64>, name: &Symbol, wanted: &Value) -> bool
-    ensures { result ≡ is_kept wanted.now (lookup (⟦<Symbol as PartialEq>⟧.eq name.now) (entries_of properties.now)) }
+    ensures { result ≡ is_kept wanted.now
+        (lookup (⟦<Symbol as PartialEq>⟧.eq name.now) (entries_of properties.now)) }
 {
     match properties.get(name) {
         Some(number) => Value::from(*number).cmp(wanted).is_ge(),

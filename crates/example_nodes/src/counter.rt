@@ -63,7 +63,8 @@ impl NodeCounter {
     /// Counts one node and the descriptors before it, if a tree like it may stand here.
     fn count_one(&mut self, fits: bool) -> Result<u64, Error>
         ensures fresh { self.new ≡ fresh }
-        ensures counts { fits ≡ true → MatchResult result (λ n. n ≡ self.old.front + 1) (λ e. (e ≡ TooLong) × (2 ^ 64 ≤ self.old.front + 1)) }
+        ensures counts { fits ≡ true → MatchResult result (λ n. n ≡ self.old.front + 1)
+            (λ e. (e ≡ TooLong) × (2 ^ 64 ≤ self.old.front + 1)) }
         ensures refuses { fits ≡ false → result ≡ Err InvalidValue }
     {
         let front = self.take().front;
@@ -152,7 +153,8 @@ impl Serializer for NodeCounter {
     }
 
     fn end_part(&mut self, held: &mut Counting, part: Result<u64, Error>) -> Result<(), Error>
-        ensures step { (start : NodeCounter) (kind : Kind) (before : NodeCounter) (ps : List (Option Tree)) (p : Option Tree) →
+        ensures step { (start : NodeCounter) (kind : Kind) (before : NodeCounter)
+            (ps : List (Option Tree)) (p : Option Tree) →
             Awaits start kind before held.old ps → Permits before p part self.old →
             MatchResult result
             (λ _. Has start kind self.new held.new (ps ++ (p ∷ [])))
@@ -188,7 +190,8 @@ impl Serializer for NodeCounter {
             ((t : Option Tree) (r : Result ℕ Error) (after : NodeCounter) →
             Permits mid t r after → Permits start (as_described (descriptor_of d) t) r after)))
             (λ e. Has start Kind.Bare self.new held.new [] ×
-            ((t : Option Tree) → Permits start (as_described (descriptor_of d) t) (Err e) self.new)) }
+            ((t : Option Tree) →
+            Permits start (as_described (descriptor_of d) t) (Err e) self.new)) }
         ensures refused { IfErr part (λ _. IsErr result) }
         ensures other_kinds { (start before : NodeCounter) (d : Option Tree) →
             AwaitsDescriptor start before held.old → Permits before d part self.old →

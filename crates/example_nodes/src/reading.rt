@@ -19,7 +19,9 @@ pub struct Reading {
 }
 
 impl Serialize for Reading {
-    ghost tree = { λ r. whole List (Some (scalar (string (string_bytes r.sensor))) ∷ Some (scalar (uint r.seconds)) ∷ Some (scalar (int r.degrees)) ∷ []) };
+    ghost tree = { λ r. whole List
+        (Some (scalar (string (string_bytes r.sensor))) ∷ Some (scalar (uint r.seconds))
+        ∷ Some (scalar (int r.degrees)) ∷ []) };
 
     fn serialize<S: Serializer>(&self, serializer: &mut S) -> Result<S::Ok, S::Error> {
         let mut fields = serializer.serialize_tuple(3)?;

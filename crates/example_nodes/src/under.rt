@@ -1,4 +1,4 @@
-//! What the next tree stands under.
+//! Markers, and the place of a descriptor, before the next tree.
 
 ghost use Rattle.std.specs.Prelude.{◌≡◌, ℕ, List, Option, Some, is_some, length};
 ghost use Rattle.amqp_ser.specs.Composites.{as_described};
@@ -35,7 +35,8 @@ impl Under {
 
     /// The same with a descriptor, inside: only where nothing is asked a described value may stand.
     pub fn with_descriptor(self) -> Under
-        ensures { (d : Descriptor) (t : Option Tree) → as_described (Some d) (meant result t) ≡ meant self (as_described (Some d) t) }
+        ensures { (d : Descriptor) (t : Option Tree) →
+            as_described (Some d) (meant result t) ≡ meant self (as_described (Some d) t) }
     {
         match self {
             Under::Mark(Mark::Other) => self,
@@ -64,7 +65,8 @@ impl Under {
 
     /// Whether a binary of this length may stand here.
     pub fn takes_bytes(self, len: usize) -> bool
-        ensures { (bs : List ℕ) → length bs ≡ len → result ≡ is_some (meant self (Some (scalar (binary bs)))) }
+        ensures { (bs : List ℕ) → length bs ≡ len →
+            result ≡ is_some (meant self (Some (scalar (binary bs)))) }
     {
         match self {
             Under::Mark(Mark::Other) => true,

@@ -16,7 +16,9 @@ pub fn feed_part<S: Serializer, T: Serialize>(
     held: &mut S::Open,
     value: &T,
 ) -> Result<(), S::Error>
-    ensures { (kind : Kind) → Feeds S.permits S.has kind (T.tree value.now) serializer.old held.old result serializer.new held.new }
+    ensures { (kind : Kind) →
+        Feeds S.permits S.has kind (T.tree value.now) serializer.old held.old result serializer.new
+        held.new }
 {
     serializer.begin_part(held);
     let part = value.serialize(serializer);
@@ -31,11 +33,14 @@ pub fn feed_entry<S: Serializer, K: Serialize, V: Serialize>(
     key: &K,
     value: &V,
 ) -> Result<(), S::Error>
-    ensures { (start : S) (ps : List (Option Tree)) → S.has start Kind.Map serializer.old held.old ps → paired ps ≡ true →
+    ensures { (start : S) (ps : List (Option Tree)) →
+        S.has start Kind.Map serializer.old held.old ps → paired ps ≡ true →
         MatchResult result
-        (λ _. S.has start Kind.Map serializer.new held.new (ps ++ (K.tree key.now ∷ (V.tree value.now ∷ []))))
+        (λ _. S.has start Kind.Map serializer.new held.new
+        (ps ++ (K.tree key.now ∷ (V.tree value.now ∷ []))))
         (λ e. S.has start Kind.Map serializer.new held.new ps × ((rest : List (Option Tree)) →
-        S.permits start (whole Kind.Map (ps ++ (K.tree key.now ∷ (V.tree value.now ∷ rest)))) (Err e) serializer.new)) }
+        S.permits start (whole Kind.Map (ps ++ (K.tree key.now ∷ (V.tree value.now ∷ rest))))
+        (Err e) serializer.new)) }
 {
     feed_part(&mut *serializer, &mut *held, key)?;
     match feed_part(&mut *serializer, &mut *held, value) {

@@ -55,24 +55,33 @@ impl<'a, S: Serializer> SerializeMap<'a, S> {
     /// The serializer behind the map, which goes on with what is left there; nothing else of it changes.
     #[inline(always)]
     pub fn as_mut(&mut self) -> &mut S
-        ensures* writes_back { sem 𝓛 (Lends (the_row (record { mir = named 1; lft = [] }) S.row S.Ok.row S.Error.row S.Open.row) S.row self.entry result
+        ensures* writes_back { sem 𝓛
+            (Lends
+            (the_row (record { mir = named 1; lft = [] }) S.row S.Ok.row S.Error.row S.Open.row)
+            S.row self.entry result
             (λ w. record self.old { serializer = record self.old.serializer { now = w } })) }
         ensures now { result.now ≡ self.old.serializer.now }
     {
         &mut *self.serializer
     }
 
-    /// Feeds a key, whose value comes next.
+    /// Serializes a key, whose value comes next.
     ///
     /// # Errors
     /// The serializer's refusal of the key, or of a second key while one is pending; the map is then as it was.
     #[inline(always)]
     pub fn serialize_key<T: Serialize>(&mut self, key: &T) -> Result<(), S::Error>
         ensures same { self.new.serializer.ghost_name ≡ self.old.serializer.ghost_name }
-        ensures pending { MatchResult result (λ _. (self.old.pending ≡ false) × (self.new.pending ≡ true)) (λ _. self.new.pending ≡ self.old.pending) }
-        ensures step { self.old.pending ≡ false → Feeds S.permits S.has Kind.Map (T.tree key.now) self.old.serializer.now self.old.held result self.new.serializer.now self.new.held }
-        ensures misuse { self.old.pending ≡ true → (start : S) (ps : List (Option Tree)) → S.has start Kind.Map self.old.serializer.now self.old.held ps →
-            IfErr result (λ e. S.has start Kind.Map self.new.serializer.now self.new.held ps × S.permits start None (Err e) self.new.serializer.now) }
+        ensures pending { MatchResult result
+            (λ _. (self.old.pending ≡ false) × (self.new.pending ≡ true))
+            (λ _. self.new.pending ≡ self.old.pending) }
+        ensures step { self.old.pending ≡ false →
+            Feeds S.permits S.has Kind.Map (T.tree key.now) self.old.serializer.now self.old.held
+            result self.new.serializer.now self.new.held }
+        ensures misuse { self.old.pending ≡ true → (start : S) (ps : List (Option Tree)) →
+            S.has start Kind.Map self.old.serializer.now self.old.held ps →
+            IfErr result (λ e. S.has start Kind.Map self.new.serializer.now self.new.held ps
+            × S.permits start None (Err e) self.new.serializer.now) }
         ensures invalid { self.old.pending ≡ true → IfErr result S.is_misuse }
     {
         if self.pending {
@@ -83,7 +92,7 @@ impl<'a, S: Serializer> SerializeMap<'a, S> {
         Ok(())
     }
 
-    /// Feeds the value of the pending key.
+    /// Serializes the value of the pending key.
     ///
     /// # Errors
     /// The serializer's refusal of the value, after which the key is still pending, or of a value without a key; the
@@ -91,10 +100,16 @@ impl<'a, S: Serializer> SerializeMap<'a, S> {
     #[inline(always)]
     pub fn serialize_value<T: Serialize>(&mut self, value: &T) -> Result<(), S::Error>
         ensures same { self.new.serializer.ghost_name ≡ self.old.serializer.ghost_name }
-        ensures pending { MatchResult result (λ _. (self.old.pending ≡ true) × (self.new.pending ≡ false)) (λ _. self.new.pending ≡ self.old.pending) }
-        ensures step { self.old.pending ≡ true → Feeds S.permits S.has Kind.Map (T.tree value.now) self.old.serializer.now self.old.held result self.new.serializer.now self.new.held }
-        ensures misuse { self.old.pending ≡ false → (start : S) (ps : List (Option Tree)) → S.has start Kind.Map self.old.serializer.now self.old.held ps →
-            IfErr result (λ e. S.has start Kind.Map self.new.serializer.now self.new.held ps × S.permits start None (Err e) self.new.serializer.now) }
+        ensures pending { MatchResult result
+            (λ _. (self.old.pending ≡ true) × (self.new.pending ≡ false))
+            (λ _. self.new.pending ≡ self.old.pending) }
+        ensures step { self.old.pending ≡ true →
+            Feeds S.permits S.has Kind.Map (T.tree value.now) self.old.serializer.now self.old.held
+            result self.new.serializer.now self.new.held }
+        ensures misuse { self.old.pending ≡ false → (start : S) (ps : List (Option Tree)) →
+            S.has start Kind.Map self.old.serializer.now self.old.held ps →
+            IfErr result (λ e. S.has start Kind.Map self.new.serializer.now self.new.held ps
+            × S.permits start None (Err e) self.new.serializer.now) }
         ensures invalid { self.old.pending ≡ false → IfErr result S.is_misuse }
     {
         if !self.pending {
@@ -105,7 +120,7 @@ impl<'a, S: Serializer> SerializeMap<'a, S> {
         Ok(())
     }
 
-    /// Feeds a key and its value.
+    /// Serializes a key and its value.
     ///
     /// # Errors
     /// The serializer's refusal of the key or of the value, or of an entry while a key is pending; the map is then as
@@ -118,13 +133,21 @@ impl<'a, S: Serializer> SerializeMap<'a, S> {
     ) -> Result<(), S::Error>
         ensures same { self.new.serializer.ghost_name ≡ self.old.serializer.ghost_name }
         ensures pending { self.new.pending ≡ self.old.pending }
-        ensures step { self.old.pending ≡ false → (start : S) (ps : List (Option Tree)) → S.has start Kind.Map self.old.serializer.now self.old.held ps → paired ps ≡ true →
+        ensures step { self.old.pending ≡ false → (start : S) (ps : List (Option Tree)) →
+            S.has start Kind.Map self.old.serializer.now self.old.held ps → paired ps ≡ true →
             MatchResult result
-            (λ _. S.has start Kind.Map self.new.serializer.now self.new.held (ps ++ (K.tree key.now ∷ (V.tree value.now ∷ []))))
-            (λ e. S.has start Kind.Map self.new.serializer.now self.new.held ps × ((rest : List (Option Tree)) →
-            S.permits start (whole Kind.Map (ps ++ (K.tree key.now ∷ (V.tree value.now ∷ rest)))) (Err e) self.new.serializer.now)) }
-        ensures misuse { self.old.pending ≡ true → IsErr result × ((start : S) (ps : List (Option Tree)) → S.has start Kind.Map self.old.serializer.now self.old.held ps →
-            IfErr result (λ e. S.has start Kind.Map self.new.serializer.now self.new.held ps × S.permits start None (Err e) self.new.serializer.now)) }
+            (λ _. S.has start Kind.Map self.new.serializer.now self.new.held
+            (ps ++ (K.tree key.now ∷ (V.tree value.now ∷ []))))
+            (λ e. S.has start Kind.Map self.new.serializer.now self.new.held ps
+            × ((rest : List (Option Tree)) →
+            S.permits start (whole Kind.Map (ps ++ (K.tree key.now ∷ (V.tree value.now ∷ rest))))
+            (Err e) self.new.serializer.now)) }
+        ensures misuse { self.old.pending ≡ true →
+            IsErr result
+            × ((start : S) (ps : List (Option Tree)) →
+            S.has start Kind.Map self.old.serializer.now self.old.held ps →
+            IfErr result (λ e. S.has start Kind.Map self.new.serializer.now self.new.held ps
+            × S.permits start None (Err e) self.new.serializer.now)) }
         ensures invalid { self.old.pending ≡ true → IfErr result S.is_misuse }
     {
         if self.pending {
@@ -139,8 +162,10 @@ impl<'a, S: Serializer> SerializeMap<'a, S> {
     /// The serializer's refusal of that tree, or of a map whose last key has no value.
     #[inline(always)]
     pub fn end(self) -> Result<S::Ok, S::Error>
-        ensures ended { (start : S) (ps : List (Option Tree)) → S.has start Kind.Map self.entry.serializer.now self.entry.held ps →
-            not self.entry.pending ≡ paired ps → S.permits start (whole Kind.Map ps) result self.exit.0.now }
+        ensures ended { (start : S) (ps : List (Option Tree)) →
+            S.has start Kind.Map self.entry.serializer.now self.entry.held ps →
+            not self.entry.pending ≡ paired ps →
+            S.permits start (whole Kind.Map ps) result self.exit.0.now }
         ensures invalid { self.entry.pending ≡ true → IsErr result × IfErr result S.is_misuse }
     {
         let SerializeMap {

@@ -48,21 +48,25 @@ impl<'a, S: Serializer> SerializeSeq<'a, S> {
     /// The serializer behind the list, which goes on with what is left there; nothing else of it changes.
     #[inline(always)]
     pub fn as_mut(&mut self) -> &mut S
-        ensures* writes_back { sem 𝓛 (Lends (the_row (record { mir = named 1; lft = [] }) S.row S.Ok.row S.Error.row S.Open.row) S.row self.entry result
+        ensures* writes_back { sem 𝓛
+            (Lends
+            (the_row (record { mir = named 1; lft = [] }) S.row S.Ok.row S.Error.row S.Open.row)
+            S.row self.entry result
             (λ w. record self.old { serializer = record self.old.serializer { now = w } })) }
         ensures now { result.now ≡ self.old.serializer.now }
     {
         &mut *self.serializer
     }
 
-    /// Feeds one element more.
+    /// Serializes one element more.
     ///
     /// # Errors
     /// The serializer's refusal of the element; the list is then as it was and may be fed on.
     #[inline(always)]
     pub fn serialize_element<T: Serialize>(&mut self, value: &T) -> Result<(), S::Error>
         ensures same { self.new.serializer.ghost_name ≡ self.old.serializer.ghost_name }
-        ensures step { Feeds S.permits S.has Kind.List (T.tree value.now) self.old.serializer.now self.old.held result self.new.serializer.now self.new.held }
+        ensures step { Feeds S.permits S.has Kind.List (T.tree value.now) self.old.serializer.now
+            self.old.held result self.new.serializer.now self.new.held }
     {
         feed_part(&mut *self.serializer, &mut self.held, value)
     }
@@ -73,7 +77,8 @@ impl<'a, S: Serializer> SerializeSeq<'a, S> {
     /// The serializer's refusal of that tree.
     #[inline(always)]
     pub fn end(self) -> Result<S::Ok, S::Error>
-        ensures { (start : S) (ps : List (Option Tree)) → S.has start Kind.List self.entry.serializer.now self.entry.held ps →
+        ensures { (start : S) (ps : List (Option Tree)) →
+            S.has start Kind.List self.entry.serializer.now self.entry.held ps →
             S.permits start (whole Kind.List ps) result self.exit.0.now }
     {
         let SerializeSeq { serializer, held } = self;

@@ -68,14 +68,17 @@ impl<'a, S: Serializer> SerializeStruct<'a, S> {
 
     /// The serializer behind the struct, which goes on with what is left there; nothing else of it changes.
     pub fn as_mut(&mut self) -> &mut S
-        ensures* writes_back { sem 𝓛 (Lends (the_row (record { mir = named 1; lft = [] }) S.row S.Ok.row S.Error.row S.Open.row) S.row self.entry result
+        ensures* writes_back { sem 𝓛
+            (Lends
+            (the_row (record { mir = named 1; lft = [] }) S.row S.Ok.row S.Error.row S.Open.row)
+            S.row self.entry result
             (λ w. record self.old { serializer = record self.old.serializer { now = w } })) }
         ensures now { result.now ≡ self.old.serializer.now }
     {
         &mut *self.serializer
     }
 
-    /// Feeds one field more, or the descriptor.
+    /// Serializes one field more, or the descriptor.
     ///
     /// # Errors
     /// The serializer's refusal of the field, of a descriptor that is no ulong and no symbol, of a second or late
@@ -89,50 +92,93 @@ impl<'a, S: Serializer> SerializeStruct<'a, S> {
     ) -> Result<(), S::Error>
         ensures same { self.new.serializer.ghost_name ≡ self.old.serializer.ghost_name }
         ensures body { self.new.body ≡ self.old.body }
-        ensures as_it_was { IfErr result (λ _. (self.new.described ≡ self.old.described) × (self.new.opened ≡ self.old.opened)) }
-        ensures described { IfOk result (λ _. self.new.described ≡ (is_descriptor key.now || self.old.described)) }
-        ensures opened { IfOk result (λ _. self.new.opened ≡ (not (is_descriptor key.now) || self.old.opened)) }
-        ensures descriptor { is_descriptor key.now ≡ true → self.old.described ≡ false → self.old.opened ≡ false → (start : S) →
+        ensures as_it_was { IfErr result (λ _. (self.new.described ≡ self.old.described)
+            × (self.new.opened ≡ self.old.opened)) }
+        ensures described { IfOk result
+            (λ _. self.new.described ≡ (is_descriptor key.now || self.old.described)) }
+        ensures opened { IfOk result
+            (λ _. self.new.opened ≡ (not (is_descriptor key.now) || self.old.opened)) }
+        ensures descriptor { is_descriptor key.now ≡ true → self.old.described ≡ false →
+            self.old.opened ≡ false → (start : S) →
             Stands S.permits S.has start None Kind.Bare self.old.serializer.now self.old.held [] →
             MatchResult result
-            (λ _. Stands S.permits S.has start (Some (T.tree value.now)) Kind.Bare self.new.serializer.now self.new.held [])
-            (λ e. Stands S.permits S.has start None Kind.Bare self.new.serializer.now self.new.held [] × ((t : Option Tree) →
-            S.permits start (as_described (descriptor_of (T.tree value.now)) t) (Err e) self.new.serializer.now)) }
-        ensures first_of_list { is_descriptor key.now ≡ false → self.old.opened ≡ false → self.old.body ≡ Body.List → (start : S) (front : Option (Option Tree)) →
+            (λ _. Stands S.permits S.has start (Some (T.tree value.now)) Kind.Bare
+            self.new.serializer.now self.new.held [])
+            (λ e. Stands S.permits S.has start None Kind.Bare self.new.serializer.now
+            self.new.held [] × ((t : Option Tree) →
+            S.permits start (as_described (descriptor_of (T.tree value.now)) t)
+            (Err e) self.new.serializer.now)) }
+        ensures first_of_list { is_descriptor key.now ≡ false → self.old.opened ≡ false →
+            self.old.body ≡ Body.List → (start : S) (front : Option (Option Tree)) →
             Stands S.permits S.has start front Kind.Bare self.old.serializer.now self.old.held [] →
             MatchResult result
-            (λ _. Stands S.permits S.has start front Kind.List self.new.serializer.now self.new.held (T.tree value.now ∷ []))
-            (λ e. Stands S.permits S.has start front Kind.Bare self.new.serializer.now self.new.held [] × ((rest : List (Option Tree)) →
-            S.permits start (fronted front (whole Kind.List (T.tree value.now ∷ rest))) (Err e) self.new.serializer.now)) }
-        ensures next_of_list { is_descriptor key.now ≡ false → self.old.opened ≡ true → self.old.body ≡ Body.List → (start : S) (front : Option (Option Tree)) (ps : List (Option Tree)) →
+            (λ _. Stands S.permits S.has start front Kind.List self.new.serializer.now self.new.held
+            (T.tree value.now ∷ []))
+            (λ e. Stands S.permits S.has start front Kind.Bare self.new.serializer.now
+            self.new.held [] × ((rest : List (Option Tree)) →
+            S.permits start (fronted front (whole Kind.List (T.tree value.now ∷ rest)))
+            (Err e) self.new.serializer.now)) }
+        ensures next_of_list { is_descriptor key.now ≡ false → self.old.opened ≡ true →
+            self.old.body ≡ Body.List →
+            (start : S) (front : Option (Option Tree)) (ps : List (Option Tree)) →
             Stands S.permits S.has start front Kind.List self.old.serializer.now self.old.held ps →
             MatchResult result
-            (λ _. Stands S.permits S.has start front Kind.List self.new.serializer.now self.new.held (ps ++ (T.tree value.now ∷ [])))
-            (λ e. Stands S.permits S.has start front Kind.List self.new.serializer.now self.new.held ps × ((rest : List (Option Tree)) →
-            S.permits start (fronted front (whole Kind.List (ps ++ (T.tree value.now ∷ rest)))) (Err e) self.new.serializer.now)) }
-        ensures first_of_map { is_descriptor key.now ≡ false → self.old.opened ≡ false → self.old.body ≡ Body.Map → (start : S) (front : Option (Option Tree)) →
+            (λ _. Stands S.permits S.has start front Kind.List self.new.serializer.now self.new.held
+            (ps ++ (T.tree value.now ∷ [])))
+            (λ e. Stands S.permits S.has start front Kind.List self.new.serializer.now
+            self.new.held ps × ((rest : List (Option Tree)) →
+            S.permits start (fronted front (whole Kind.List (ps ++ (T.tree value.now ∷ rest))))
+            (Err e) self.new.serializer.now)) }
+        ensures first_of_map { is_descriptor key.now ≡ false → self.old.opened ≡ false →
+            self.old.body ≡ Body.Map → (start : S) (front : Option (Option Tree)) →
             Stands S.permits S.has start front Kind.Bare self.old.serializer.now self.old.held [] →
             MatchResult result
-            (λ _. Stands S.permits S.has start front Kind.Map self.new.serializer.now self.new.held (Some (scalar (string key.now)) ∷ (T.tree value.now ∷ [])))
-            (λ e. Stands S.permits S.has start front Kind.Bare self.new.serializer.now self.new.held [] × ((rest : List (Option Tree)) →
-            S.permits start (fronted front (whole Kind.Map (Some (scalar (string key.now)) ∷ (T.tree value.now ∷ rest)))) (Err e) self.new.serializer.now)) }
-        ensures next_of_map { is_descriptor key.now ≡ false → self.old.opened ≡ true → self.old.body ≡ Body.Map → (start : S) (front : Option (Option Tree)) (ps : List (Option Tree)) →
-            Stands S.permits S.has start front Kind.Map self.old.serializer.now self.old.held ps → paired ps ≡ true →
+            (λ _. Stands S.permits S.has start front Kind.Map self.new.serializer.now self.new.held
+            (Some (scalar (string key.now)) ∷ (T.tree value.now ∷ [])))
+            (λ e. Stands S.permits S.has start front Kind.Bare self.new.serializer.now
+            self.new.held [] × ((rest : List (Option Tree)) →
+            S.permits start
+            (fronted front
+            (whole Kind.Map (Some (scalar (string key.now)) ∷ (T.tree value.now ∷ rest))))
+            (Err e) self.new.serializer.now)) }
+        ensures next_of_map { is_descriptor key.now ≡ false → self.old.opened ≡ true →
+            self.old.body ≡ Body.Map →
+            (start : S) (front : Option (Option Tree)) (ps : List (Option Tree)) →
+            Stands S.permits S.has start front Kind.Map self.old.serializer.now self.old.held ps →
+            paired ps ≡ true →
             MatchResult result
-            (λ _. Stands S.permits S.has start front Kind.Map self.new.serializer.now self.new.held (ps ++ (Some (scalar (string key.now)) ∷ (T.tree value.now ∷ []))))
-            (λ e. Stands S.permits S.has start front Kind.Map self.new.serializer.now self.new.held ps × ((rest : List (Option Tree)) →
-            S.permits start (fronted front (whole Kind.Map (ps ++ (Some (scalar (string key.now)) ∷ (T.tree value.now ∷ rest))))) (Err e) self.new.serializer.now)) }
-        ensures alone { is_descriptor key.now ≡ false → self.old.opened ≡ false → self.old.body ≡ Body.Bare → (start : S) (front : Option (Option Tree)) →
+            (λ _. Stands S.permits S.has start front Kind.Map self.new.serializer.now self.new.held
+            (ps ++ (Some (scalar (string key.now)) ∷ (T.tree value.now ∷ []))))
+            (λ e. Stands S.permits S.has start front Kind.Map self.new.serializer.now
+            self.new.held ps × ((rest : List (Option Tree)) →
+            S.permits start
+            (fronted front
+            (whole Kind.Map (ps ++ (Some (scalar (string key.now)) ∷ (T.tree value.now ∷ rest)))))
+            (Err e) self.new.serializer.now)) }
+        ensures alone { is_descriptor key.now ≡ false → self.old.opened ≡ false →
+            self.old.body ≡ Body.Bare → (start : S) (front : Option (Option Tree)) →
             Stands S.permits S.has start front Kind.Bare self.old.serializer.now self.old.held [] →
             MatchResult result
-            (λ _. Stands S.permits S.has start front Kind.Bare self.new.serializer.now self.new.held (T.tree value.now ∷ []))
-            (λ e. Stands S.permits S.has start front Kind.Bare self.new.serializer.now self.new.held [] × S.permits start (fronted front (T.tree value.now)) (Err e) self.new.serializer.now) }
-        ensures misuse { is_misplaced self.old.body self.old.described self.old.opened (is_descriptor key.now) ≡ true → IsErr result × ((start : S) (front : Option (Option Tree)) (ps : List (Option Tree)) →
-            Stands S.permits S.has start front (open_kind self.old.opened self.old.body) self.old.serializer.now self.old.held ps →
-            IfErr result (λ e. Stands S.permits S.has start front (open_kind self.old.opened self.old.body) self.new.serializer.now self.new.held ps × S.permits start None (Err e) self.new.serializer.now)) }
-        ensures invalid { is_misplaced self.old.body self.old.described self.old.opened (is_descriptor key.now) ≡ true → IfErr result S.is_misuse }
-        ensures other_kinds { is_descriptor key.now ≡ true → self.old.described ≡ false → self.old.opened ≡ false → (start : S) →
-            Stands S.permits S.has start None Kind.Bare self.old.serializer.now self.old.held [] → descriptor_of (T.tree value.now) ≡ None → IsErr result }
+            (λ _. Stands S.permits S.has start front Kind.Bare self.new.serializer.now self.new.held
+            (T.tree value.now ∷ []))
+            (λ e. Stands S.permits S.has start front Kind.Bare self.new.serializer.now
+            self.new.held []
+            × S.permits start (fronted front (T.tree value.now)) (Err e) self.new.serializer.now) }
+        ensures misuse { is_misplaced self.old.body self.old.described self.old.opened
+            (is_descriptor key.now) ≡ true →
+            IsErr result × ((start : S) (front : Option (Option Tree)) (ps : List (Option Tree)) →
+            Stands S.permits S.has start front (open_kind self.old.opened self.old.body)
+            self.old.serializer.now self.old.held ps →
+            IfErr result
+            (λ e. Stands S.permits S.has start front (open_kind self.old.opened self.old.body)
+            self.new.serializer.now self.new.held ps
+            × S.permits start None (Err e) self.new.serializer.now)) }
+        ensures invalid { is_misplaced self.old.body self.old.described self.old.opened
+            (is_descriptor key.now) ≡ true → IfErr result S.is_misuse }
+        ensures other_kinds { is_descriptor key.now ≡ true → self.old.described ≡ false →
+            self.old.opened ≡ false → (start : S) →
+            Stands S.permits S.has start None Kind.Bare self.old.serializer.now self.old.held [] →
+            descriptor_of (T.tree value.now) ≡ None → IsErr result }
     {
         let descriptor = is_descriptor_key(key);
         if descriptor || !matches!(self.body, Body::List) {
@@ -172,15 +218,27 @@ impl<'a, S: Serializer> SerializeStruct<'a, S> {
     #[tactic(auto, unfolding(crate::specs::Structs::Stands))]
     #[inline(always)]
     pub fn end(self) -> Result<S::Ok, S::Error>
-        ensures list { self.entry.opened ≡ true → self.entry.body ≡ Body.List → (start : S) (front : Option (Option Tree)) (ps : List (Option Tree)) →
-            Stands S.permits S.has start front Kind.List self.entry.serializer.now self.entry.held ps → S.permits start (fronted front (whole Kind.List ps)) result self.exit.0.now }
-        ensures map { self.entry.opened ≡ true → self.entry.body ≡ Body.Map → (start : S) (front : Option (Option Tree)) (ps : List (Option Tree)) →
-            Stands S.permits S.has start front Kind.Map self.entry.serializer.now self.entry.held ps → paired ps ≡ true → S.permits start (fronted front (whole Kind.Map ps)) result self.exit.0.now }
-        ensures alone { self.entry.opened ≡ true → self.entry.body ≡ Body.Bare → (start : S) (front : Option (Option Tree)) (p : Option Tree) →
-            Stands S.permits S.has start front Kind.Bare self.entry.serializer.now self.entry.held (p ∷ []) → S.permits start (fronted front p) result self.exit.0.now }
+        ensures list { self.entry.opened ≡ true → self.entry.body ≡ Body.List →
+            (start : S) (front : Option (Option Tree)) (ps : List (Option Tree)) →
+            Stands S.permits S.has start front Kind.List self.entry.serializer.now
+            self.entry.held ps →
+            S.permits start (fronted front (whole Kind.List ps)) result self.exit.0.now }
+        ensures map { self.entry.opened ≡ true → self.entry.body ≡ Body.Map →
+            (start : S) (front : Option (Option Tree)) (ps : List (Option Tree)) →
+            Stands S.permits S.has start front Kind.Map self.entry.serializer.now
+            self.entry.held ps → paired ps ≡ true →
+            S.permits start (fronted front (whole Kind.Map ps)) result self.exit.0.now }
+        ensures alone { self.entry.opened ≡ true → self.entry.body ≡ Body.Bare →
+            (start : S) (front : Option (Option Tree)) (p : Option Tree) →
+            Stands S.permits S.has start front Kind.Bare self.entry.serializer.now self.entry.held
+            (p ∷ []) → S.permits start (fronted front p) result self.exit.0.now }
         ensures empty { self.entry.opened ≡ false → (start : S) (front : Option (Option Tree)) →
-            Stands S.permits S.has start front Kind.Bare self.entry.serializer.now self.entry.held [] → S.permits start (fronted front (whole (body_kind self.entry.body) [])) result self.exit.0.now }
-        ensures invalid { self.entry.opened ≡ false → self.entry.body ≡ Body.Bare → IsErr result × IfErr result S.is_misuse }
+            Stands S.permits S.has start front Kind.Bare self.entry.serializer.now
+            self.entry.held [] →
+            S.permits start (fronted front (whole (body_kind self.entry.body) [])) result
+            self.exit.0.now }
+        ensures invalid { self.entry.opened ≡ false → self.entry.body ≡ Body.Bare →
+            IsErr result × IfErr result S.is_misuse }
     {
         let SerializeStruct {
             serializer,

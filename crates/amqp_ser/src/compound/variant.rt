@@ -15,7 +15,7 @@ use crate::serializer::Serializer;
 /// A tuple variant whose fields are still fed.
 ///
 /// # Encoding
-/// The map of one pair, from the index as an uint to the list of the fields (AMQP 1.0 part 1, section 1.6.23).
+/// The map of one pair, from the index as a uint to the list of the fields (AMQP 1.0 part 1, section 1.6.23).
 pub struct SerializeTupleVariant<'a, S: Serializer> {
     serializer: &'a mut S,
     held: S::Open,
@@ -47,21 +47,26 @@ impl<'a, S: Serializer> SerializeTupleVariant<'a, S> {
 
     /// The serializer behind the variant, which goes on with what is left there; nothing else of it changes.
     pub fn as_mut(&mut self) -> &mut S
-        ensures* writes_back { sem 𝓛 (Lends (tuple_variant.the_row (record { mir = named 1; lft = [] }) S.row S.Ok.row S.Error.row S.Open.row) S.row self.entry result
+        ensures* writes_back { sem 𝓛
+            (Lends
+            (tuple_variant.the_row (record { mir = named 1; lft = [] }) S.row S.Ok.row S.Error.row
+            S.Open.row) S.row self.entry result
             (λ w. record self.old { serializer = record self.old.serializer { now = w } })) }
         ensures now { result.now ≡ self.old.serializer.now }
     {
         &mut *self.serializer
     }
 
-    /// Feeds one field more.
+    /// Serializes one field more.
     ///
     /// # Errors
     /// The serializer's refusal of the field; the variant is then as it was and may be fed on.
     #[inline(always)]
     pub fn serialize_field<T: Serialize>(&mut self, value: &T) -> Result<(), S::Error>
         ensures same { self.new.serializer.ghost_name ≡ self.old.serializer.ghost_name }
-        ensures step { (i : ℕ) → Feeds S.permits S.has (Kind.Fields i) (T.tree value.now) self.old.serializer.now self.old.held result self.new.serializer.now self.new.held }
+        ensures step { (i : ℕ) →
+            Feeds S.permits S.has (Kind.Fields i) (T.tree value.now) self.old.serializer.now
+            self.old.held result self.new.serializer.now self.new.held }
     {
         feed_part(&mut *self.serializer, &mut self.held, value)
     }
@@ -72,7 +77,8 @@ impl<'a, S: Serializer> SerializeTupleVariant<'a, S> {
     /// The serializer's refusal of that tree.
     #[inline(always)]
     pub fn end(self) -> Result<S::Ok, S::Error>
-        ensures { (start : S) (i : ℕ) (ps : List (Option Tree)) → S.has start (Kind.Fields i) self.entry.serializer.now self.entry.held ps →
+        ensures { (start : S) (i : ℕ) (ps : List (Option Tree)) →
+            S.has start (Kind.Fields i) self.entry.serializer.now self.entry.held ps →
             S.permits start (whole (Kind.Fields i) ps) result self.exit.0.now }
     {
         let SerializeTupleVariant { serializer, held } = self;
@@ -83,7 +89,7 @@ impl<'a, S: Serializer> SerializeTupleVariant<'a, S> {
 /// A struct variant whose fields are still fed; the names of the fields are not written.
 ///
 /// # Encoding
-/// The map of one pair, from the index as an uint to the list of the fields (AMQP 1.0 part 1, section 1.6.23).
+/// The map of one pair, from the index as a uint to the list of the fields (AMQP 1.0 part 1, section 1.6.23).
 pub struct SerializeStructVariant<'a, S: Serializer> {
     serializer: &'a mut S,
     held: S::Open,
@@ -115,14 +121,17 @@ impl<'a, S: Serializer> SerializeStructVariant<'a, S> {
 
     /// The serializer behind the variant, which goes on with what is left there; nothing else of it changes.
     pub fn as_mut(&mut self) -> &mut S
-        ensures* writes_back { sem 𝓛 (Lends (struct_variant.the_row (record { mir = named 1; lft = [] }) S.row S.Ok.row S.Error.row S.Open.row) S.row self.entry result
+        ensures* writes_back { sem 𝓛
+            (Lends
+            (struct_variant.the_row (record { mir = named 1; lft = [] }) S.row S.Ok.row S.Error.row
+            S.Open.row) S.row self.entry result
             (λ w. record self.old { serializer = record self.old.serializer { now = w } })) }
         ensures now { result.now ≡ self.old.serializer.now }
     {
         &mut *self.serializer
     }
 
-    /// Feeds one field more.
+    /// Serializes one field more.
     ///
     /// # Errors
     /// The serializer's refusal of the field; the variant is then as it was and may be fed on.
@@ -133,7 +142,9 @@ impl<'a, S: Serializer> SerializeStructVariant<'a, S> {
         value: &T,
     ) -> Result<(), S::Error>
         ensures same { self.new.serializer.ghost_name ≡ self.old.serializer.ghost_name }
-        ensures step { (i : ℕ) → Feeds S.permits S.has (Kind.Fields i) (T.tree value.now) self.old.serializer.now self.old.held result self.new.serializer.now self.new.held }
+        ensures step { (i : ℕ) →
+            Feeds S.permits S.has (Kind.Fields i) (T.tree value.now) self.old.serializer.now
+            self.old.held result self.new.serializer.now self.new.held }
     {
         feed_part(&mut *self.serializer, &mut self.held, value)
     }
@@ -144,7 +155,8 @@ impl<'a, S: Serializer> SerializeStructVariant<'a, S> {
     /// The serializer's refusal of that tree.
     #[inline(always)]
     pub fn end(self) -> Result<S::Ok, S::Error>
-        ensures { (start : S) (i : ℕ) (ps : List (Option Tree)) → S.has start (Kind.Fields i) self.entry.serializer.now self.entry.held ps →
+        ensures { (start : S) (i : ℕ) (ps : List (Option Tree)) →
+            S.has start (Kind.Fields i) self.entry.serializer.now self.entry.held ps →
             S.permits start (whole (Kind.Fields i) ps) result self.exit.0.now }
     {
         let SerializeStructVariant { serializer, held } = self;

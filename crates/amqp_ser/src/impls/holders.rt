@@ -56,7 +56,7 @@ impl<T: Serialize, const N: usize> Serialize for [T; N] {
     }
 }
 
-/// Answers on the list of the items.
+/// Serializes the list of the items.
 #[inline(always)]
 pub fn serialize_items<T: Serialize, S: Serializer>(
     items: &[T],

@@ -40,22 +40,35 @@ pub fn trees_of_numbers()
 
 /// Floats, doubles, decimals, timestamps and uuids are their scalars.
 pub fn trees_of_fixed_width()
-    ensures f32 { (x : F32Bits) → ⟦<F32Bits as Serialize>⟧.tree x ≡ Some (scalar (tree.float (f32_bits x))) }
-    ensures f64 { (x : F64Bits) → ⟦<F64Bits as Serialize>⟧.tree x ≡ Some (scalar (tree.double (f64_bits x))) }
-    ensures dec32 { (x : Dec32) → ⟦<Dec32 as Serialize>⟧.tree x ≡ Some (scalar (tree.decimal32 (dec32_bytes x))) }
-    ensures dec64 { (x : Dec64) → ⟦<Dec64 as Serialize>⟧.tree x ≡ Some (scalar (tree.decimal64 (dec64_bytes x))) }
-    ensures dec128 { (x : Dec128) → ⟦<Dec128 as Serialize>⟧.tree x ≡ Some (scalar (tree.decimal128 (dec128_bytes x))) }
-    ensures timestamp { (x : Timestamp) → ⟦<Timestamp as Serialize>⟧.tree x ≡ Some (scalar (tree.timestamp (milliseconds_of x))) }
-    ensures uuid { (x : Uuid) → ⟦<Uuid as Serialize>⟧.tree x ≡ Some (scalar (tree.uuid (uuid_bytes x))) }
+    ensures f32 { (x : F32Bits) →
+        ⟦<F32Bits as Serialize>⟧.tree x ≡ Some (scalar (tree.float (f32_bits x))) }
+    ensures f64 { (x : F64Bits) →
+        ⟦<F64Bits as Serialize>⟧.tree x ≡ Some (scalar (tree.double (f64_bits x))) }
+    ensures dec32 { (x : Dec32) →
+        ⟦<Dec32 as Serialize>⟧.tree x ≡ Some (scalar (tree.decimal32 (dec32_bytes x))) }
+    ensures dec64 { (x : Dec64) →
+        ⟦<Dec64 as Serialize>⟧.tree x ≡ Some (scalar (tree.decimal64 (dec64_bytes x))) }
+    ensures dec128 { (x : Dec128) →
+        ⟦<Dec128 as Serialize>⟧.tree x ≡ Some (scalar (tree.decimal128 (dec128_bytes x))) }
+    ensures timestamp { (x : Timestamp) →
+        ⟦<Timestamp as Serialize>⟧.tree x ≡ Some (scalar (tree.timestamp (milliseconds_of x))) }
+    ensures uuid { (x : Uuid) →
+        ⟦<Uuid as Serialize>⟧.tree x ≡ Some (scalar (tree.uuid (uuid_bytes x))) }
 {}
 
 /// Texts are strings, byte buffers are binaries, and symbols are symbols.
 pub fn trees_of_texts(text: &str)
-    ensures str { ⟦<&'static str as Serialize>⟧.tree text.entry ≡ Some (scalar (tree.string text.now)) }
-    ensures string { (s : String Global) → ⟦<String as Serialize>⟧.tree s ≡ Some (scalar (tree.string (string_bytes s))) }
-    ensures binary { (b : ByteBuf) → ⟦<ByteBuf as Serialize>⟧.tree b ≡ Some (scalar (tree.binary (byte_buf_bytes b))) }
-    ensures symbol { (s : Symbol) → ⟦<Symbol as Serialize>⟧.tree s ≡ Some (scalar (tree.symbol (symbol_text s))) }
-    ensures symbol_ref { (s : SymbolRef) → ⟦<SymbolRef<'static> as Serialize>⟧.tree s ≡ Some (scalar (tree.symbol (symbol_ref_text s))) }
+    ensures str { ⟦<&'static str as Serialize>⟧.tree text.entry
+        ≡ Some (scalar (tree.string text.now)) }
+    ensures string { (s : String Global) →
+        ⟦<String as Serialize>⟧.tree s ≡ Some (scalar (tree.string (string_bytes s))) }
+    ensures binary { (b : ByteBuf) →
+        ⟦<ByteBuf as Serialize>⟧.tree b ≡ Some (scalar (tree.binary (byte_buf_bytes b))) }
+    ensures symbol { (s : Symbol) →
+        ⟦<Symbol as Serialize>⟧.tree s ≡ Some (scalar (tree.symbol (symbol_text s))) }
+    ensures symbol_ref { (s : SymbolRef) →
+        ⟦<SymbolRef<'static> as Serialize>⟧.tree s
+        ≡ Some (scalar (tree.symbol (symbol_ref_text s))) }
 {}
 
 /// A reference, a box and `Some` have the tree of what they hold, and `None` is null.
@@ -69,33 +82,49 @@ pub fn trees_of_holders<T: Serialize>(value: &T)
 /// Vectors and arrays of fixed length are lists, `Array` is an array, and `TransparentVec` is transparent, each of its
 /// elements in order.
 pub fn trees_of_sequences<T: Serialize, const N: usize>(array: &[T; N])
-    ensures vec { (v : Vec T Global) → ⟦<Vec<T> as Serialize>⟧.tree v ≡ option_map tree.list (all_trees (map T.tree v.items)) }
-    ensures fixed_length { ⟦<[T; N] as Serialize>⟧.tree array.now ≡ option_map tree.list (all_trees (map T.tree array.now)) }
-    ensures array { (a : Array T) → ⟦<Array<T> as Serialize>⟧.tree a ≡ option_map tree.array (all_trees (map T.tree (array_items a))) }
+    ensures vec { (v : Vec T Global) →
+        ⟦<Vec<T> as Serialize>⟧.tree v ≡ option_map tree.list (all_trees (map T.tree v.items)) }
+    ensures fixed_length { ⟦<[T; N] as Serialize>⟧.tree array.now ≡ option_map tree.list
+        (all_trees (map T.tree array.now)) }
+    ensures array { (a : Array T) →
+        ⟦<Array<T> as Serialize>⟧.tree a ≡ option_map tree.array
+        (all_trees (map T.tree (array_items a))) }
     ensures transparent { (v : TransparentVec T) →
-        ⟦<TransparentVec<T> as Serialize>⟧.tree v ≡ option_map tree.transparent (all_trees (map T.tree (transparent_items v))) }
+        ⟦<TransparentVec<T> as Serialize>⟧.tree v ≡ option_map tree.transparent
+        (all_trees (map T.tree (transparent_items v))) }
 {}
 
 /// Tuples are lists of their parts.
 pub fn trees_of_tuples<A: Serialize, B: Serialize, C: Serialize, D: Serialize>()
-    ensures one { (a : A) → ⟦<(A,) as Serialize>⟧.tree (record { 0 = a }) ≡ option_map tree.list (all_trees (A.tree a ∷ [])) }
-    ensures two { (a : A) (b : B) → ⟦<(A, B) as Serialize>⟧.tree (a, b) ≡ option_map tree.list (all_trees (A.tree a ∷ B.tree b ∷ [])) }
+    ensures one { (a : A) →
+        ⟦<(A,) as Serialize>⟧.tree (record { 0 = a }) ≡ option_map tree.list
+        (all_trees (A.tree a ∷ [])) }
+    ensures two { (a : A) (b : B) →
+        ⟦<(A, B) as Serialize>⟧.tree (a, b) ≡ option_map tree.list
+        (all_trees (A.tree a ∷ B.tree b ∷ [])) }
     ensures three { (a : A) (b : B) (c : C) →
-        ⟦<(A, B, C) as Serialize>⟧.tree (a, b, c) ≡ option_map tree.list (all_trees (A.tree a ∷ B.tree b ∷ C.tree c ∷ [])) }
+        ⟦<(A, B, C) as Serialize>⟧.tree (a, b, c) ≡ option_map tree.list
+        (all_trees (A.tree a ∷ B.tree b ∷ C.tree c ∷ [])) }
     ensures four { (a : A) (b : B) (c : C) (d : D) →
-        ⟦<(A, B, C, D) as Serialize>⟧.tree (a, b, c, d) ≡ option_map tree.list (all_trees (A.tree a ∷ B.tree b ∷ C.tree c ∷ D.tree d ∷ [])) }
+        ⟦<(A, B, C, D) as Serialize>⟧.tree (a, b, c, d) ≡ option_map tree.list
+        (all_trees (A.tree a ∷ B.tree b ∷ C.tree c ∷ D.tree d ∷ [])) }
 {}
 
 /// Maps are maps, in their own order of keys.
 pub fn trees_of_maps<K: Serialize + Ord, V: Serialize>(sorted: &BTreeMap<K, V>)
-    ensures sorted { ⟦<BTreeMap<K, V> as Serialize>⟧.tree sorted.now ≡ whole Map (parts_of K.tree V.tree sorted.now.entries) }
-    ensures ordered { (m : OrderedMap K V) → ⟦<OrderedMap<K, V> as Serialize>⟧.tree m ≡ whole Map (parts_of K.tree V.tree (entries_of m)) }
+    ensures sorted { ⟦<BTreeMap<K, V> as Serialize>⟧.tree sorted.now ≡ whole Map
+        (parts_of K.tree V.tree sorted.now.entries) }
+    ensures ordered { (m : OrderedMap K V) →
+        ⟦<OrderedMap<K, V> as Serialize>⟧.tree m ≡ whole Map
+        (parts_of K.tree V.tree (entries_of m)) }
 {}
 
 /// A described value is its value's tree after its descriptor: a name or a code.
 pub fn trees_of_described_values<T: Serialize>(value: &Described<T>)
     ensures name { (s : Symbol) → value.now.descriptor ≡ Name s →
-        ⟦<Described<T> as Serialize>⟧.tree value.now ≡ option_map (tree.described (tree.name (symbol_text s))) (T.tree value.now.value) }
+        ⟦<Described<T> as Serialize>⟧.tree value.now ≡ option_map
+        (tree.described (tree.name (symbol_text s))) (T.tree value.now.value) }
     ensures code { (n : ℕ) → value.now.descriptor ≡ Code n →
-        ⟦<Described<T> as Serialize>⟧.tree value.now ≡ option_map (tree.described (tree.code n)) (T.tree value.now.value) }
+        ⟦<Described<T> as Serialize>⟧.tree value.now ≡ option_map (tree.described (tree.code n))
+        (T.tree value.now.value) }
 {}

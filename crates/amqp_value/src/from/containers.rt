@@ -48,7 +48,8 @@ impl Value {
         described: Described<T>,
     ) -> Result<Value, Error>
         ensures { MatchResult result
-            (λ v. IsSomeAnd (described_in v) (λ d. (d.descriptor ≡ described.descriptor) × T.converts described.value d.value))
+            (λ v. IsSomeAnd (described_in v) (λ d. (d.descriptor ≡ described.descriptor)
+            × T.converts described.value d.value))
             (λ e. e ≡ Error.OutOfMemory) }
     {
         let Described { descriptor, value } = described;
@@ -92,7 +93,8 @@ impl Value {
         array: Array<T>,
     ) -> Result<Value, Error>
         ensures { MatchResult result
-            (λ v. IsSomeAnd (array_in v) (λ made. AllZip T.converts (array_items array) (array_items made)))
+            (λ v. IsSomeAnd (array_in v)
+            (λ made. AllZip T.converts (array_items array) (array_items made)))
             (λ e. e ≡ Error.OutOfMemory) }
     {
         let items = convert_items(alloc, array.into_inner())?;
@@ -116,7 +118,8 @@ impl Value {
         map: BTreeMap<K, V>,
     ) -> Result<Value, Error>
         ensures { MatchResult result
-            (λ v. IsSomeAnd (map_in v) (IsMapOf ⟦<Value as PartialEq>⟧.eq K.converts V.converts map.entries))
+            (λ v. IsSomeAnd (map_in v)
+            (IsMapOf ⟦<Value as PartialEq>⟧.eq K.converts V.converts map.entries))
             (λ e. e ≡ Error.OutOfMemory) }
     {
         let mut pairs = OrderedMap::new(alloc);
@@ -140,7 +143,8 @@ impl Value {
         map: OrderedMap<K, V>,
     ) -> Result<Value, Error>
         ensures { MatchResult result
-            (λ v. IsSomeAnd (map_in v) (IsMapOf ⟦<Value as PartialEq>⟧.eq K.converts V.converts (entries_of map)))
+            (λ v. IsSomeAnd (map_in v)
+            (IsMapOf ⟦<Value as PartialEq>⟧.eq K.converts V.converts (entries_of map)))
             (λ e. e ≡ Error.OutOfMemory) }
     {
         let mut pairs = OrderedMap::new(alloc);

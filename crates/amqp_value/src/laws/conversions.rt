@@ -16,26 +16,46 @@ use amqp_ser::Serialize;
 /// # Memory
 /// Takes none.
 pub fn scalars_come_back()
-    ensures bools { ComesBack ⟦<bool as Serialize>⟧.tree ⟦<Value as From<bool>>⟧.from_gives ⟦<bool as TryFrom<Value>>⟧.try_from_gives }
-    ensures ubytes { ComesBack ⟦<u8 as Serialize>⟧.tree ⟦<Value as From<u8>>⟧.from_gives ⟦<u8 as TryFrom<Value>>⟧.try_from_gives }
-    ensures ushorts { ComesBack ⟦<u16 as Serialize>⟧.tree ⟦<Value as From<u16>>⟧.from_gives ⟦<u16 as TryFrom<Value>>⟧.try_from_gives }
-    ensures uints { ComesBack ⟦<u32 as Serialize>⟧.tree ⟦<Value as From<u32>>⟧.from_gives ⟦<u32 as TryFrom<Value>>⟧.try_from_gives }
-    ensures ulongs { ComesBack ⟦<u64 as Serialize>⟧.tree ⟦<Value as From<u64>>⟧.from_gives ⟦<u64 as TryFrom<Value>>⟧.try_from_gives }
-    ensures bytes { ComesBack ⟦<i8 as Serialize>⟧.tree ⟦<Value as From<i8>>⟧.from_gives ⟦<i8 as TryFrom<Value>>⟧.try_from_gives }
-    ensures shorts { ComesBack ⟦<i16 as Serialize>⟧.tree ⟦<Value as From<i16>>⟧.from_gives ⟦<i16 as TryFrom<Value>>⟧.try_from_gives }
-    ensures ints { ComesBack ⟦<i32 as Serialize>⟧.tree ⟦<Value as From<i32>>⟧.from_gives ⟦<i32 as TryFrom<Value>>⟧.try_from_gives }
-    ensures longs { ComesBack ⟦<i64 as Serialize>⟧.tree ⟦<Value as From<i64>>⟧.from_gives ⟦<i64 as TryFrom<Value>>⟧.try_from_gives }
-    ensures floats { ComesBack ⟦<F32Bits as Serialize>⟧.tree ⟦<Value as From<F32Bits>>⟧.from_gives ⟦<F32Bits as TryFrom<Value>>⟧.try_from_gives }
-    ensures doubles { ComesBack ⟦<F64Bits as Serialize>⟧.tree ⟦<Value as From<F64Bits>>⟧.from_gives ⟦<F64Bits as TryFrom<Value>>⟧.try_from_gives }
-    ensures decimal32s { ComesBack ⟦<Dec32 as Serialize>⟧.tree ⟦<Value as From<Dec32>>⟧.from_gives ⟦<Dec32 as TryFrom<Value>>⟧.try_from_gives }
-    ensures decimal64s { ComesBack ⟦<Dec64 as Serialize>⟧.tree ⟦<Value as From<Dec64>>⟧.from_gives ⟦<Dec64 as TryFrom<Value>>⟧.try_from_gives }
-    ensures decimal128s { ComesBack ⟦<Dec128 as Serialize>⟧.tree ⟦<Value as From<Dec128>>⟧.from_gives ⟦<Dec128 as TryFrom<Value>>⟧.try_from_gives }
-    ensures chars { ComesBack ⟦<char as Serialize>⟧.tree ⟦<Value as From<char>>⟧.from_gives ⟦<char as TryFrom<Value>>⟧.try_from_gives }
-    ensures timestamps { ComesBack ⟦<Timestamp as Serialize>⟧.tree ⟦<Value as From<Timestamp>>⟧.from_gives ⟦<Timestamp as TryFrom<Value>>⟧.try_from_gives }
-    ensures uuids { ComesBack ⟦<Uuid as Serialize>⟧.tree ⟦<Value as From<Uuid>>⟧.from_gives ⟦<Uuid as TryFrom<Value>>⟧.try_from_gives }
-    ensures binaries { ComesBack ⟦<ByteBuf as Serialize>⟧.tree ⟦<Value as From<ByteBuf>>⟧.from_gives ⟦<ByteBuf as TryFrom<Value>>⟧.try_from_gives }
-    ensures strings { ComesBack ⟦<String as Serialize>⟧.tree ⟦<Value as From<String>>⟧.from_gives ⟦<String as TryFrom<Value>>⟧.try_from_gives }
-    ensures symbols { ComesBack ⟦<Symbol as Serialize>⟧.tree ⟦<Value as From<Symbol>>⟧.from_gives ⟦<Symbol as TryFrom<Value>>⟧.try_from_gives }
+    ensures bools { ComesBack ⟦<bool as Serialize>⟧.tree ⟦<Value as From<bool>>⟧.from_gives
+        ⟦<bool as TryFrom<Value>>⟧.try_from_gives }
+    ensures ubytes { ComesBack ⟦<u8 as Serialize>⟧.tree ⟦<Value as From<u8>>⟧.from_gives
+        ⟦<u8 as TryFrom<Value>>⟧.try_from_gives }
+    ensures ushorts { ComesBack ⟦<u16 as Serialize>⟧.tree ⟦<Value as From<u16>>⟧.from_gives
+        ⟦<u16 as TryFrom<Value>>⟧.try_from_gives }
+    ensures uints { ComesBack ⟦<u32 as Serialize>⟧.tree ⟦<Value as From<u32>>⟧.from_gives
+        ⟦<u32 as TryFrom<Value>>⟧.try_from_gives }
+    ensures ulongs { ComesBack ⟦<u64 as Serialize>⟧.tree ⟦<Value as From<u64>>⟧.from_gives
+        ⟦<u64 as TryFrom<Value>>⟧.try_from_gives }
+    ensures bytes { ComesBack ⟦<i8 as Serialize>⟧.tree ⟦<Value as From<i8>>⟧.from_gives
+        ⟦<i8 as TryFrom<Value>>⟧.try_from_gives }
+    ensures shorts { ComesBack ⟦<i16 as Serialize>⟧.tree ⟦<Value as From<i16>>⟧.from_gives
+        ⟦<i16 as TryFrom<Value>>⟧.try_from_gives }
+    ensures ints { ComesBack ⟦<i32 as Serialize>⟧.tree ⟦<Value as From<i32>>⟧.from_gives
+        ⟦<i32 as TryFrom<Value>>⟧.try_from_gives }
+    ensures longs { ComesBack ⟦<i64 as Serialize>⟧.tree ⟦<Value as From<i64>>⟧.from_gives
+        ⟦<i64 as TryFrom<Value>>⟧.try_from_gives }
+    ensures floats { ComesBack ⟦<F32Bits as Serialize>⟧.tree ⟦<Value as From<F32Bits>>⟧.from_gives
+        ⟦<F32Bits as TryFrom<Value>>⟧.try_from_gives }
+    ensures doubles { ComesBack ⟦<F64Bits as Serialize>⟧.tree ⟦<Value as From<F64Bits>>⟧.from_gives
+        ⟦<F64Bits as TryFrom<Value>>⟧.try_from_gives }
+    ensures decimal32s { ComesBack ⟦<Dec32 as Serialize>⟧.tree ⟦<Value as From<Dec32>>⟧.from_gives
+        ⟦<Dec32 as TryFrom<Value>>⟧.try_from_gives }
+    ensures decimal64s { ComesBack ⟦<Dec64 as Serialize>⟧.tree ⟦<Value as From<Dec64>>⟧.from_gives
+        ⟦<Dec64 as TryFrom<Value>>⟧.try_from_gives }
+    ensures decimal128s { ComesBack ⟦<Dec128 as Serialize>⟧.tree
+        ⟦<Value as From<Dec128>>⟧.from_gives ⟦<Dec128 as TryFrom<Value>>⟧.try_from_gives }
+    ensures chars { ComesBack ⟦<char as Serialize>⟧.tree ⟦<Value as From<char>>⟧.from_gives
+        ⟦<char as TryFrom<Value>>⟧.try_from_gives }
+    ensures timestamps { ComesBack ⟦<Timestamp as Serialize>⟧.tree
+        ⟦<Value as From<Timestamp>>⟧.from_gives ⟦<Timestamp as TryFrom<Value>>⟧.try_from_gives }
+    ensures uuids { ComesBack ⟦<Uuid as Serialize>⟧.tree ⟦<Value as From<Uuid>>⟧.from_gives
+        ⟦<Uuid as TryFrom<Value>>⟧.try_from_gives }
+    ensures binaries { ComesBack ⟦<ByteBuf as Serialize>⟧.tree ⟦<Value as From<ByteBuf>>⟧.from_gives
+        ⟦<ByteBuf as TryFrom<Value>>⟧.try_from_gives }
+    ensures strings { ComesBack ⟦<String as Serialize>⟧.tree ⟦<Value as From<String>>⟧.from_gives
+        ⟦<String as TryFrom<Value>>⟧.try_from_gives }
+    ensures symbols { ComesBack ⟦<Symbol as Serialize>⟧.tree ⟦<Value as From<Symbol>>⟧.from_gives
+        ⟦<Symbol as TryFrom<Value>>⟧.try_from_gives }
 {}
 
 /// The elements of an array that is written, and their images, all have one format code, and it is the array's
@@ -44,5 +64,6 @@ pub fn scalars_come_back()
 /// # Memory
 /// Takes none.
 pub fn elements_have_one_format_code()
-    ensures { (first : Tree) (rest : Trees) → writable (array (more first rest)) ≡ true → HasOneCode (more first rest) }
+    ensures { (first : Tree) (rest : Trees) → writable (array (more first rest)) ≡ true →
+        HasOneCode (more first rest) }
 {}

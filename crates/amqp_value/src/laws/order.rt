@@ -21,7 +21,8 @@ use std::hash::Hash;
 /// Takes none.
 pub fn order_is_of_contents()
     ensures contents { (a b : Value) → ⟦<Value as Ord>⟧.cmp a b ≡ cmp_tree (tree_of a) (tree_of b) }
-    ensures kinds { (a b : Value) → rank (tree_of a) < rank (tree_of b) → ⟦<Value as Ord>⟧.cmp a b ≡ Less }
+    ensures kinds { (a b : Value) → rank (tree_of a) < rank (tree_of b) →
+        ⟦<Value as Ord>⟧.cmp a b ≡ Less }
 {}
 
 /// Two values are equal exactly where neither is less.
@@ -61,8 +62,10 @@ pub fn maps_go_by_pairs_in_order()
 /// # Memory
 /// Takes none.
 pub fn bits_compare_as_unsigned_numbers()
-    ensures floats { (a b : F32Bits) → ⟦<Value as Ord>⟧.cmp (kind.Float a) (kind.Float b) ≡ nat_cmp (f32_bits a) (f32_bits b) }
-    ensures doubles { (a b : F64Bits) → ⟦<Value as Ord>⟧.cmp (kind.Double a) (kind.Double b) ≡ nat_cmp (f64_bits a) (f64_bits b) }
+    ensures floats { (a b : F32Bits) →
+        ⟦<Value as Ord>⟧.cmp (kind.Float a) (kind.Float b) ≡ nat_cmp (f32_bits a) (f32_bits b) }
+    ensures doubles { (a b : F64Bits) →
+        ⟦<Value as Ord>⟧.cmp (kind.Double a) (kind.Double b) ≡ nat_cmp (f64_bits a) (f64_bits b) }
 {}
 
 /// Any described value is less than null.
@@ -70,5 +73,6 @@ pub fn bits_compare_as_unsigned_numbers()
 /// # Memory
 /// Takes none.
 pub fn described_values_come_before_null()
-    ensures { (d : Box (Described Value) Global) → ⟦<Value as Ord>⟧.cmp (kind.Described d) kind.Null ≡ Less }
+    ensures { (d : Box (Described Value) Global) →
+        ⟦<Value as Ord>⟧.cmp (kind.Described d) kind.Null ≡ Less }
 {}

@@ -28,7 +28,8 @@ where
 {
     type Error = ConvertFault;
 
-    ghost try_from_gives = { MapGives K.try_from_gives V.try_from_gives (λ done map. entries_of map ≡ inserted K.eq done) };
+    ghost try_from_gives = { MapGives K.try_from_gives V.try_from_gives
+        (λ done map. entries_of map ≡ inserted K.eq done) };
 
     fn try_from(value: Value) -> Result<OrderedMap<K, V>, ConvertFault> {
         match value {
@@ -52,7 +53,8 @@ where
 {
     type Error = ConvertFault;
 
-    ghost try_from_gives = { MapGives K.try_from_gives V.try_from_gives (λ done map. map.entries ≡ inserted_sorted K.cmp done) };
+    ghost try_from_gives = { MapGives K.try_from_gives V.try_from_gives
+        (λ done map. map.entries ≡ inserted_sorted K.cmp done) };
 
     fn try_from(value: Value) -> Result<BTreeMap<K, V>, ConvertFault> {
         match value {
@@ -76,7 +78,8 @@ where
 {
     type Error = ConvertFault;
 
-    ghost try_from_gives = { MapGives K.try_from_gives V.try_from_gives (λ done map. map.entries ≡ insert_all K.eq [] done) };
+    ghost try_from_gives = { MapGives K.try_from_gives V.try_from_gives
+        (λ done map. map.entries ≡ insert_all K.eq [] done) };
 
     fn try_from(value: Value) -> Result<IndexMap<K, V>, ConvertFault> {
         match value {
@@ -100,7 +103,8 @@ where
 {
     type Error = ConvertFault;
 
-    ghost try_from_gives = { MapGives K.try_from_gives V.try_from_gives (λ done map. IsFromIterResult K.eq done map) };
+    ghost try_from_gives = { MapGives K.try_from_gives V.try_from_gives
+        (λ done map. IsFromIterResult K.eq done map) };
 
     fn try_from(value: Value) -> Result<HashMap<K, V>, ConvertFault> {
         match value {
@@ -131,7 +135,8 @@ fn convert_in_order<K, V>(pairs: Vec<(Value, Value)>) -> Result<OrderedMap<K, V>
 where
     K: TryFrom<Value, Error = Value> + Hash + Eq + Drop,
     V: TryFrom<Value, Error = Value> + Drop,
-    ensures { PairsGive K.try_from_gives V.try_from_gives (λ done map. entries_of map ≡ inserted K.eq done) pairs.items result }
+    ensures { PairsGive K.try_from_gives V.try_from_gives
+        (λ done map. entries_of map ≡ inserted K.eq done) pairs.items result }
 {
     let mut map = OrderedMap::new(*pairs.allocator());
     for (key, value) in pairs {
@@ -146,7 +151,8 @@ fn convert_sorted<K, V>(pairs: Vec<(Value, Value)>) -> Result<BTreeMap<K, V>, Co
 where
     K: TryFrom<Value, Error = Value> + Ord + Drop,
     V: TryFrom<Value, Error = Value> + Drop,
-    ensures { PairsGive K.try_from_gives V.try_from_gives (λ done map. map.entries ≡ inserted_sorted K.cmp done) pairs.items result }
+    ensures { PairsGive K.try_from_gives V.try_from_gives
+        (λ done map. map.entries ≡ inserted_sorted K.cmp done) pairs.items result }
 {
     let mut map = BTreeMap::new(*pairs.allocator());
     for (key, value) in pairs {
@@ -161,7 +167,8 @@ fn convert_indexed<K, V>(pairs: Vec<(Value, Value)>) -> Result<IndexMap<K, V>, C
 where
     K: TryFrom<Value, Error = Value> + Hash + Eq + Drop,
     V: TryFrom<Value, Error = Value> + Drop,
-    ensures { PairsGive K.try_from_gives V.try_from_gives (λ done map. map.entries ≡ insert_all K.eq [] done) pairs.items result }
+    ensures { PairsGive K.try_from_gives V.try_from_gives
+        (λ done map. map.entries ≡ insert_all K.eq [] done) pairs.items result }
 {
     let mut map = IndexMap::new(*pairs.allocator());
     for (key, value) in pairs {
@@ -176,7 +183,8 @@ fn convert_hashed<K, V>(pairs: Vec<(Value, Value)>) -> Result<HashMap<K, V>, Con
 where
     K: TryFrom<Value, Error = Value> + Hash + Eq + Drop,
     V: TryFrom<Value, Error = Value> + Drop,
-    ensures { PairsGive K.try_from_gives V.try_from_gives (λ done map. IsFromIterResult K.eq done map) pairs.items result }
+    ensures { PairsGive K.try_from_gives V.try_from_gives
+        (λ done map. IsFromIterResult K.eq done map) pairs.items result }
 {
     let mut map = HashMap::new(*pairs.allocator());
     for (key, value) in pairs {

@@ -1,5 +1,5 @@
 //! Growths of memory that are refused in turn, by `rt try --test --fail-alloc N`: nothing is made ready with memory
-//! here, and each answer is the right one or want of memory.
+//! here, and each answer is the right one or out of memory.
 
 ghost use Rattle.std.specs.Prelude.{[], ◌∷◌};
 ghost use Rattle.amqp_ser.specs.Compounds.{whole};
@@ -13,7 +13,7 @@ use std::alloc::Global;
 use std::cell::Cell;
 use std::mem::size_of;
 
-/// Whether the answer is the value's bytes or want of memory.
+/// Whether the answer is the value's bytes or out of memory.
 fn writes_or_lacks<T: Serialize>(alloc: Global, value: &T, bytes: &[u8]) -> bool {
     match to_vec(alloc, value) {
         Ok(written) => written.as_slice() == bytes,

@@ -203,7 +203,8 @@ impl Serialize for Number {
 struct Pair(i32, &'static str);
 
 impl Serialize for Pair {
-    ghost tree = { λ v. whole (Fields 1) (Some (scalar (int v.0)) ∷ Some (scalar (string v.1.now)) ∷ []) };
+    ghost tree = { λ v. whole (Fields 1)
+        (Some (scalar (int v.0)) ∷ Some (scalar (string v.1.now)) ∷ []) };
 
     fn serialize<S: Serializer>(&self, serializer: &mut S) -> Result<S::Ok, S::Error> {
         let mut fields = serializer.serialize_tuple_variant("Sample", 1, "Pair", 2)?;

@@ -20,7 +20,11 @@ pub struct Opens {
 }
 
 impl Serialize for Opens {
-    ghost tree = { λ o. as_described (Some (code 0x10)) (whole kind.List (Some (scalar (string o.container.now)) ∷ (optional (λ h. Some (scalar (string h.now))) o.host ∷ (optional (λ n. Some (scalar (uint n))) o.frame_size ∷ [])))) };
+    ghost tree = { λ o. as_described (Some (code 0x10))
+        (whole kind.List
+        (Some (scalar (string o.container.now))
+        ∷ (optional (λ h. Some (scalar (string h.now))) o.host
+        ∷ (optional (λ n. Some (scalar (uint n))) o.frame_size ∷ [])))) };
 
     fn serialize<S: Serializer>(&self, serializer: &mut S) -> Result<S::Ok, S::Error> {
         let mut fields = serializer.serialize_struct(markers::DESCRIBED_LIST, 4)?;
@@ -40,7 +44,11 @@ pub struct Properties {
 }
 
 impl Serialize for Properties {
-    ghost tree = { λ p. as_described (Some (code 0x13)) (whole kind.Map (Some (scalar (string (codes "is_fool"))) ∷ (Some (scalar (bool p.is_fool)) ∷ (Some (scalar (string (codes "a"))) ∷ (Some (scalar (ubyte p.a)) ∷ []))))) };
+    ghost tree = { λ p. as_described (Some (code 0x13))
+        (whole kind.Map
+        (Some (scalar (string (codes "is_fool")))
+        ∷ (Some (scalar (bool p.is_fool))
+        ∷ (Some (scalar (string (codes "a"))) ∷ (Some (scalar (ubyte p.a)) ∷ []))))) };
 
     fn serialize<S: Serializer>(&self, serializer: &mut S) -> Result<S::Ok, S::Error> {
         serializer.serialize_described(
@@ -68,7 +76,8 @@ impl<T: Serialize> Serialize for Body<T> {
 pub struct Tuple(pub u64, pub bool);
 
 impl Serialize for Tuple {
-    ghost tree = { λ t. as_described (Some (code t.0)) (whole kind.List (Some (scalar (bool t.1)) ∷ [])) };
+    ghost tree = { λ t. as_described (Some (code t.0))
+        (whole kind.List (Some (scalar (bool t.1)) ∷ [])) };
 
     fn serialize<S: Serializer>(&self, serializer: &mut S) -> Result<S::Ok, S::Error> {
         let mut fields = serializer.serialize_tuple_struct(markers::DESCRIBED_LIST, 2)?;

@@ -9,7 +9,9 @@ use amqp_ser::Serializer;
 
 /// Feeds a key, looks at the serializer, and feeds the value: the answer is that on the map of the two.
 pub fn looks_between<S: Serializer>(serializer: &mut S) -> Result<S::Ok, S::Error>
-    ensures { S.permits serializer.old (whole kind.Map (Some (scalar (string (codes "a"))) ∷ Some (scalar (ubyte 1)) ∷ [])) result serializer.new }
+    ensures { S.permits serializer.old
+        (whole kind.Map (Some (scalar (string (codes "a"))) ∷ Some (scalar (ubyte 1)) ∷ [])) result
+        serializer.new }
 {
     let mut map = serializer.serialize_map(Some(1))?;
     map.serialize_key(&"a")?;

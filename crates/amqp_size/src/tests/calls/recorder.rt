@@ -132,11 +132,14 @@ impl Serializer for Calls {
     }
 
     fn end_part(&mut self, held: &mut Open, part: Result<usize, Refusal>) -> Result<(), Refusal>
-        ensures step { (start : Calls) (kind : Kind) (before : Calls) (ps : List (Option Tree)) (p : Option Tree) →
-            size_awaits start.inner kind before.inner held.old ps → size_permits before.inner p part self.old.inner →
+        ensures step { (start : Calls) (kind : Kind) (before : Calls) (ps : List (Option Tree))
+            (p : Option Tree) →
+            size_awaits start.inner kind before.inner held.old ps →
+            size_permits before.inner p part self.old.inner →
             MatchResult result
             (λ _. size_has start.inner kind self.new.inner held.new (ps ++ (p ∷ [])))
-            (λ e. size_has start.inner kind self.new.inner held.new ps × ((rest : List (Option Tree)) →
+            (λ e. size_has start.inner kind self.new.inner held.new ps
+            × ((rest : List (Option Tree)) →
             size_permits start.inner (whole kind (ps ++ (p ∷ rest))) (Err e) self.new.inner)) }
         ensures refused { IfErr part (λ _. IsErr result) }
     {
@@ -154,14 +157,22 @@ impl Serializer for Calls {
         held: &mut Open,
         part: Result<usize, Refusal>,
     ) -> Result<(), Refusal>
-        ensures step { (start before : Calls) (d : Option Tree) → size_awaits_descriptor start.inner before.inner held.old → size_permits before.inner d part self.old.inner →
+        ensures step { (start before : Calls) (d : Option Tree) →
+            size_awaits_descriptor start.inner before.inner held.old →
+            size_permits before.inner d part self.old.inner →
             MatchResult result
-            (λ _. (mid : Calls) × (size_has mid.inner Kind.Bare self.new.inner held.new [] × ((t : Option Tree) (r : Result ℕ Refusal) (after : Calls) →
-            size_permits mid.inner t r after.inner → size_permits start.inner (as_described (descriptor_of d) t) r after.inner)))
+            (λ _. (mid : Calls)
+            × (size_has mid.inner Kind.Bare self.new.inner held.new []
+            × ((t : Option Tree) (r : Result ℕ Refusal) (after : Calls) →
+            size_permits mid.inner t r after.inner →
+            size_permits start.inner (as_described (descriptor_of d) t) r after.inner)))
             (λ e. size_has start.inner Kind.Bare self.new.inner held.new [] × ((t : Option Tree) →
             size_permits start.inner (as_described (descriptor_of d) t) (Err e) self.new.inner)) }
         ensures refused { IfErr part (λ _. IsErr result) }
-        ensures other_kinds { (start before : Calls) (d : Option Tree) → size_awaits_descriptor start.inner before.inner held.old → size_permits before.inner d part self.old.inner → descriptor_of d ≡ None → IsErr result }
+        ensures other_kinds { (start before : Calls) (d : Option Tree) →
+            size_awaits_descriptor start.inner before.inner held.old →
+            size_permits before.inner d part self.old.inner → descriptor_of d ≡ None →
+            IsErr result }
     {
         self.inner.end_descriptor(held, part)
     }

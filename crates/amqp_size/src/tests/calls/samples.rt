@@ -20,7 +20,10 @@ pub struct Reading {
 }
 
 impl Serialize for Reading {
-    ghost tree = { λ r. whole kind.List (Some (scalar (symbol (symbol_text r.place))) ∷ Some (scalar (timestamp (milliseconds_of r.at))) ∷ optional (λ n. Some (scalar (ubyte n))) r.value ∷ []) };
+    ghost tree = { λ r. whole kind.List
+        (Some (scalar (symbol (symbol_text r.place)))
+        ∷ Some (scalar (timestamp (milliseconds_of r.at))) ∷ optional (λ n. Some (scalar (ubyte n)))
+        r.value ∷ []) };
 
     fn serialize<S: Serializer>(&self, serializer: &mut S) -> Result<S::Ok, S::Error> {
         let mut fields = serializer.serialize_struct("Reading", 3)?;
@@ -35,7 +38,8 @@ impl Serialize for Reading {
 pub struct Pair(pub u8, pub bool);
 
 impl Serialize for Pair {
-    ghost tree = { λ p. whole kind.List (Some (scalar (ubyte p.0)) ∷ Some (scalar (bool p.1)) ∷ []) };
+    ghost tree = { λ p. whole kind.List
+        (Some (scalar (ubyte p.0)) ∷ Some (scalar (bool p.1)) ∷ []) };
 
     fn serialize<S: Serializer>(&self, serializer: &mut S) -> Result<S::Ok, S::Error> {
         let mut fields = serializer.serialize_tuple_struct("Pair", 2)?;
