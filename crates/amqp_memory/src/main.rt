@@ -11,6 +11,7 @@ mod composites;
 mod conversions;
 mod large;
 mod lengths;
+mod reading;
 mod report;
 mod runs;
 
