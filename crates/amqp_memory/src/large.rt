@@ -1,5 +1,6 @@
 //! The calls that take memory, each with about a mebibyte.
 
+use crate::conversions;
 use crate::report::report;
 use amqp_data::{Array, ByteBuf, Error, OrderedMap, Symbol, TransparentVec};
 use amqp_decode::decode_value;
@@ -13,7 +14,8 @@ use std::alloc::Global;
 use std::collections::BTreeMap;
 use std::str;
 
-const MEBIBYTE: usize = 1 << 20;
+/// How much each call is made with, about.
+pub const MEBIBYTE: usize = 1 << 20;
 
 /// Makes each call once.
 pub fn all(rt: &(impl Print + AllocGlobal)) -> Result<(), Error> {
@@ -24,6 +26,7 @@ pub fn all(rt: &(impl Print + AllocGlobal)) -> Result<(), Error> {
     report(rt, "long bytes", bytes(alloc)?);
     report(rt, "many compounds", compounds(alloc)?);
     report(rt, "many keys", keys(alloc)?);
+    report(rt, "large conversions", conversions::large(alloc)?);
     report(rt, "a long frame", frame(alloc)?);
     report(rt, "a long frame decoded", decoded(alloc)?);
     report(rt, "many values read", read(alloc)?);
