@@ -96,8 +96,8 @@ fn long_lists(alloc: Global) -> Result<bool, Error> {
     Ok(array.as_inner().len() == 262_144 && array.as_inner().iter().all(|number| *number == 7))
 }
 
-// The map of 1,024 pairs of a kibibyte each.
-fn pairs(alloc: Global) -> Result<BTreeMap<u16, ByteBuf>, Error> {
+/// The map of 1,024 pairs of a kibibyte each.
+pub fn pairs(alloc: Global) -> Result<BTreeMap<u16, ByteBuf>, Error> {
     let mut pairs = BTreeMap::new(alloc);
     for key in 0..1024u16 {
         drop(pairs.insert(key, ByteBuf::from(Vec::from_elem(alloc, 1u8, 1024)?))?);

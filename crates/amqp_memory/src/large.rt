@@ -1,7 +1,7 @@
 //! The calls that take memory, each with about a mebibyte.
 
-use crate::conversions;
 use crate::report::report;
+use crate::{conversions, reading};
 use amqp_data::{Array, ByteBuf, Error, OrderedMap, Symbol, TransparentVec};
 use amqp_decode::decode_value;
 use amqp_frame::{LazyValue, SliceReader};
@@ -30,6 +30,11 @@ pub fn all(rt: &(impl Print + AllocGlobal)) -> Result<(), Error> {
     report(rt, "a long frame", frame(alloc)?);
     report(rt, "a long frame decoded", decoded(alloc)?);
     report(rt, "many values read", read(alloc)?);
+    report(
+        rt,
+        "large types out of values",
+        reading::large_types(alloc)?,
+    );
     report(rt, "a long line", line(alloc)?);
     report(rt, "a run over a long frame", run_of_frame(alloc)?);
     Ok(())

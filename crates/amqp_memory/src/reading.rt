@@ -1,6 +1,7 @@
-//! The calls that read bytes and untyped values, each once, with what they must answer.
+//! The calls that read bytes and untyped values, each once, with what they must answer; and types of about a mebibyte.
 
-use amqp_data::{Array, Error, OrderedMap, TransparentVec};
+use crate::conversions::pairs;
+use amqp_data::{Array, ByteBuf, Error, OrderedMap, TransparentVec};
 use amqp_decode::decode_value;
 use amqp_from_value::from_value;
 use amqp_value::Value;
@@ -56,4 +57,30 @@ fn maps(alloc: Global) -> Result<bool, Error> {
     let ordered: OrderedMap<u8, String> = from_value(alloc, decode_value(alloc, MAP)?)?;
     let hashed: HashMap<u8, String> = from_value(alloc, decode_value(alloc, MAP)?)?;
     Ok(sorted.len() == 2 && ordered.len() == 2 && hashed.len() == 2)
+}
+
+/// The types that take memory as they are read, each of about a mebibyte.
+pub fn large_types(alloc: Global) -> Result<bool, Error> {
+    Ok(large_lists(alloc)? && large_maps(alloc)?)
+}
+
+fn numbers(alloc: Global) -> Result<Value, Error> {
+    Value::try_from_vec(alloc, Vec::from_elem(alloc, 7u32, 262_144)?)
+}
+
+fn large_lists(alloc: Global) -> Result<bool, Error> {
+    let list: Vec<u32> = from_value(alloc, numbers(alloc)?)?;
+    let vector: TransparentVec<u32> = from_value(alloc, numbers(alloc)?)?;
+    Ok(list.len() == 262_144 && vector.as_slice() == list.as_slice())
+}
+
+fn map(alloc: Global) -> Result<Value, Error> {
+    Value::try_from_btree_map(alloc, pairs(alloc)?)
+}
+
+fn large_maps(alloc: Global) -> Result<bool, Error> {
+    let sorted: BTreeMap<u16, ByteBuf> = from_value(alloc, map(alloc)?)?;
+    let ordered: OrderedMap<u16, ByteBuf> = from_value(alloc, map(alloc)?)?;
+    let hashed: HashMap<u16, ByteBuf> = from_value(alloc, map(alloc)?)?;
+    Ok(sorted == pairs(alloc)? && ordered.len() == 1024 && hashed.len() == 1024)
 }
