@@ -18,29 +18,29 @@ abbrev pub Stays : Option Tree → List (Tree × Tree) → Option Tree → List 
 Stays owed left owed' left' = (owed' ≡ owed) × (left' ≡ left)
 
 -- the next pair is taken, and its key read: the value is owed then, and of a refused key it is not;
--- while a value is owed no key is taken
+-- while a value is owed no key is taken, and the refusal is not out of memory
 abbrev pub ReadsKey : {T E : Type 0} → (E → Type 0) → (Tree → T → Type 0) → Option Tree → List (Tree × Tree) → Option Tree → List (Tree × Tree)
     → Result (Option T) E → Type 0
 ReadsKey Memory R owed left owed' left' (Ok None) = (owed ≡ None) × (left ≡ []) × Stays owed left owed' left'
 ReadsKey Memory R owed left owed' left' (Ok (Some x)) = (owed ≡ None) × ((e : Tree × Tree) × (left ≡ e ∷ left') × (owed' ≡ Some e.1) × R e.0 x)
 ReadsKey Memory R owed left owed' left' (Err r) =
-    (IsSome owed × Stays owed left owed' left') ⊎ ((owed ≡ None) × (owed' ≡ None) × ((e : Tree × Tree) × (left ≡ e ∷ left') × Refuses Memory (R e.0) r))
+    (IsSome owed × ¬ Memory r × Stays owed left owed' left') ⊎ ((owed ≡ None) × (owed' ≡ None) × ((e : Tree × Tree) × (left ≡ e ∷ left') × Refuses Memory (R e.0) r))
 
--- the value that is owed is read, or there is none; none is owed after it
+-- the value that is owed is read, or there is none, and the refusal is not out of memory; none is owed after it
 abbrev pub ReadsValue : {T E : Type 0} → (E → Type 0) → (Tree → T → Type 0) → Option Tree → List (Tree × Tree) → Option Tree → List (Tree × Tree)
     → Result T E → Type 0
 ReadsValue Memory R owed left owed' left' (Ok x) = (owed' ≡ None) × (left' ≡ left) × ((t : Tree) × (owed ≡ Some t) × R t x)
 ReadsValue Memory R owed left owed' left' (Err r) =
-    (owed' ≡ None) × (left' ≡ left) × ((owed ≡ None) ⊎ ((t : Tree) × (owed ≡ Some t) × Refuses Memory (R t) r))
+    (owed' ≡ None) × (left' ≡ left) × (((owed ≡ None) × ¬ Memory r) ⊎ ((t : Tree) × (owed ≡ Some t) × Refuses Memory (R t) r))
 
--- the next pair is taken, and read or refused whole; while a value is owed none is taken
+-- the next pair is taken, and read or refused whole; while a value is owed none is taken, and the refusal is not out of memory
 abbrev pub ReadsEntry : {K V E : Type 0} → (E → Type 0) → (Tree → K → Type 0) → (Tree → V → Type 0) → Option Tree → List (Tree × Tree) → Option Tree
     → List (Tree × Tree) → Result (Option (K × V)) E → Type 0
 ReadsEntry Memory R S owed left owed' left' (Ok None) = (owed ≡ None) × (left ≡ []) × Stays owed left owed' left'
 ReadsEntry Memory R S owed left owed' left' (Ok (Some x)) =
     (owed ≡ None) × (owed' ≡ None) × ((e : Tree × Tree) × (left ≡ e ∷ left') × R e.0 x.0 × S e.1 x.1)
 ReadsEntry {K} {V} Memory R S owed left owed' left' (Err r) =
-    (IsSome owed × Stays owed left owed' left')
+    (IsSome owed × ¬ Memory r × Stays owed left owed' left')
     ⊎ ((owed ≡ None) × (owed' ≡ None) × ((e : Tree × Tree) × (left ≡ e ∷ left') × Refuses Memory (λ (x : K × V). R e.0 x.0 × S e.1 x.1) r))
 
 -- images of restorable keys, values and pairs are read as the same, unless out of memory

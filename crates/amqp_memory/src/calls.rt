@@ -1,8 +1,8 @@
 //! The main calls that take memory, with what they must answer.
 
 use crate::again::Again;
-use crate::conversions;
 use crate::report::report;
+use crate::{conversions, reading};
 use amqp_data::{Array, Described, Descriptor, Error, OrderedMap, Symbol, TransparentVec};
 use amqp_frame::{LazyValue, SliceReader};
 use amqp_to_value::{TryFromSerializable, to_value};
@@ -23,6 +23,8 @@ pub fn all(rt: &(impl Print + AllocGlobal)) -> Result<(), Error> {
     report(rt, "described values", described(alloc)?);
     report(rt, "frames", frames(alloc)?);
     report(rt, "conversions", conversions::all(alloc)?);
+    report(rt, "decoded values", reading::decoded(alloc)?);
+    report(rt, "types out of values", reading::types(alloc)?);
     Ok(())
 }
 

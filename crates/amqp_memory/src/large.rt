@@ -1,8 +1,11 @@
 //! The calls that take memory, each with about a mebibyte.
 
 use crate::report::report;
+use crate::{conversions, reading};
 use amqp_data::{Array, ByteBuf, Error, OrderedMap, Symbol, TransparentVec};
+use amqp_decode::decode_value;
 use amqp_frame::{LazyValue, SliceReader};
+use amqp_from_value::from_value;
 use amqp_to_value::{TryFromSerializable, to_value};
 use amqp_value::Value;
 use amqp_wire::to_vec;
@@ -11,7 +14,8 @@ use std::alloc::Global;
 use std::collections::BTreeMap;
 use std::str;
 
-const MEBIBYTE: usize = 1 << 20;
+/// How much each call is made with, about.
+pub const MEBIBYTE: usize = 1 << 20;
 
 /// Makes each call once.
 pub fn all(rt: &(impl Print + AllocGlobal)) -> Result<(), Error> {
@@ -22,7 +26,15 @@ pub fn all(rt: &(impl Print + AllocGlobal)) -> Result<(), Error> {
     report(rt, "long bytes", bytes(alloc)?);
     report(rt, "many compounds", compounds(alloc)?);
     report(rt, "many keys", keys(alloc)?);
+    report(rt, "large conversions", conversions::large(alloc)?);
     report(rt, "a long frame", frame(alloc)?);
+    report(rt, "a long frame decoded", decoded(alloc)?);
+    report(rt, "many values read", read(alloc)?);
+    report(
+        rt,
+        "large types out of values",
+        reading::large_types(alloc)?,
+    );
     report(rt, "a long line", line(alloc)?);
     report(rt, "a run over a long frame", run_of_frame(alloc)?);
     Ok(())
@@ -90,6 +102,20 @@ fn frame(alloc: Global) -> Result<bool, Error> {
     let bytes = long_frame(alloc)?;
     let value = LazyValue::from_reader(alloc, &mut SliceReader::new(&bytes))?;
     Ok(value.try_into_vec(alloc)? == bytes)
+}
+
+fn decoded(alloc: Global) -> Result<bool, Error> {
+    let bytes = long_frame(alloc)?;
+    let value = decode_value(alloc, &bytes)?;
+    Ok(to_vec(alloc, &value)? == bytes)
+}
+
+// An array of numbers of a mebibyte, decoded, and read as numbers.
+fn read(alloc: Global) -> Result<bool, Error> {
+    let numbers = Array::from(Vec::from_elem(alloc, 7u32, 262_144)?);
+    let bytes = to_vec(alloc, &numbers)?;
+    let read: Array<u32> = from_value(alloc, decode_value(alloc, &bytes)?)?;
+    Ok(read == numbers)
 }
 
 fn line(alloc: Global) -> Result<bool, Error> {

@@ -11,6 +11,8 @@ mod composites;
 mod conversions;
 mod large;
 mod lengths;
+mod reading;
+mod refused;
 mod report;
 mod runs;
 
@@ -43,6 +45,7 @@ fn make(rt: &(impl Print + AllocGlobal), part: &[u8]) -> Result<(), Error> {
     }
     if part.is_empty() || part == b"lengths".as_slice() {
         lengths::all(rt)?;
+        refused::all(rt)?;
     }
     if part.is_empty() || part == b"large".as_slice() {
         large::all(rt)?;

@@ -29,6 +29,10 @@ IsFresh s = (s.under ≡ under.Mark mark.Other) × (s.around.next ≡ false)
 abbrev pub meant_by : Serializer → Option Tree → Option Tree
 meant_by s t = described_by (standing s.around) (meant s.under t)
 
+-- all the descriptors that it holds
+abbrev pub all_held : Serializer → List Descriptor
+all_held s = s.around.kept ++ s.around.later
+
 -- fresh, and these descriptors are kept, no more and no fewer
 abbrev pub IsKept : List Descriptor → Serializer → Type 0
 IsKept ds s = IsFresh s × (s.around.kept ≡ ds)

@@ -104,7 +104,7 @@ impl amqp_ser::Serializer for Serializer {
     ghost use Rattle.amqp_ser.specs.Composites.{as_described, descriptor_of};
     ghost use Rattle.amqp_ser.specs.Compounds.{whole};
     ghost use Rattle.amqp_ser.specs.declared.kind.Kind.{Kind};
-    ghost use Rattle.amqp_to_value.specs.Holds.{value_permits, value_has, value_awaits, value_awaits_descriptor, no_value_of_none};
+    ghost use Rattle.amqp_to_value.specs.Holds.{all_held, value_permits, value_has, value_awaits, value_awaits_descriptor, no_value_of_none};
 
     type Ok = Value;
 
@@ -153,7 +153,11 @@ impl amqp_ser::Serializer for Serializer {
     }
 
     #[inline(always)]
-    fn begin(&mut self, kind: Kind) -> Open {
+    fn begin(&mut self, kind: Kind) -> Open
+        ensures opened { value_has self.old kind self.new result [] }
+        // What refused values left is let go.
+        ensures held { all_held self.new ≡ self.old.around.kept ++ standing self.old.around }
+    {
         let under = self.take_under();
         let aside = self.around.put_aside();
         Open {

@@ -4,8 +4,8 @@
 
 pub use amqp_data::markers;
 pub use amqp_ser::{
-    Field, Fields, Fixed, Kind, ListOf, MapOf, Mark, OptionalField, Serialize, SerializeMap,
+    Field, Fields, Fixed, Keys, Kind, ListOf, MapOf, Mark, OptionalField, Serialize, SerializeMap,
     SerializeSeq, SerializeStruct, SerializeStructVariant, SerializeTuple, SerializeTupleStruct,
-    SerializeTupleVariant, Serializer, mark_named,
+    SerializeTupleVariant, Serializer, SymbolMapOf, VariantOf, mark_named,
 };
 pub use amqp_wire::to_vec;

@@ -6,6 +6,7 @@ mod compounds;
 mod conversions;
 mod cut_rows;
 mod errors;
+mod fields;
 mod flushes;
 mod line_rows;
 mod marked;

@@ -9,9 +9,12 @@ use std::test::Fail;
 #[test]
 fn a_scalar_and_its_untyped_value_are_one(rt: HostRuntime) -> Result<(), Fail> {
     let alloc = rt.alloc();
-    assert_eq!(rt; Value::from(7u32), to_value(alloc, &7u32)?);
+    assert_eq!(rt; Value::from(7u32), Value::Uint(7));
+    assert_eq!(rt; to_value(alloc, &7u32)?, Value::Uint(7));
     let symbol = Symbol::try_from_str(alloc, "a")?;
-    assert_eq!(rt; to_value(alloc, &symbol)?, Value::from(symbol));
+    let expected = Value::Symbol(Symbol::try_from_str(alloc, "a")?);
+    assert_eq!(rt; to_value(alloc, &symbol)?, expected);
+    assert_eq!(rt; Value::from(symbol), expected);
     Ok(())
 }
 
@@ -19,15 +22,21 @@ fn a_scalar_and_its_untyped_value_are_one(rt: HostRuntime) -> Result<(), Fail> {
 fn a_container_and_its_untyped_value_are_one(rt: HostRuntime) -> Result<(), Fail> {
     let alloc = rt.alloc();
     let items = vec![in alloc; 1u8, 2u8]?;
-    let image = to_value(alloc, &items)?;
-    assert_eq!(rt; Value::try_from_vec(alloc, items)?, image);
+    let list = Value::List(vec![in alloc; Value::Ubyte(1), Value::Ubyte(2)]?);
+    assert_eq!(rt; to_value(alloc, &items)?, list);
+    assert_eq!(rt; Value::try_from_vec(alloc, items)?, list);
     let array = Array::from(vec![in alloc; 1u8, 2u8]?);
-    let image = to_value(alloc, &array)?;
-    assert_eq!(rt; Value::try_from_array(alloc, array)?, image);
+    let elements = vec![in alloc; Value::Ubyte(1), Value::Ubyte(2)]?;
+    let expected = Value::Array(Array::from(elements));
+    assert_eq!(rt; to_value(alloc, &array)?, expected);
+    assert_eq!(rt; Value::try_from_array(alloc, array)?, expected);
     let mut map = BTreeMap::new(alloc);
     let _ = map.insert(1u8, true)?;
-    let image = to_value(alloc, &map)?;
-    assert_eq!(rt; Value::try_from_btree_map(alloc, map)?, image);
+    let mut pairs = OrderedMap::new(alloc);
+    drop(pairs.insert(Value::Ubyte(1), Value::Bool(true))?);
+    let expected = Value::Map(pairs);
+    assert_eq!(rt; to_value(alloc, &map)?, expected);
+    assert_eq!(rt; Value::try_from_btree_map(alloc, map)?, expected);
     Ok(())
 }
 

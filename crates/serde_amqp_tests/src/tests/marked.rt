@@ -1,7 +1,10 @@
-//! Each marker over each kind that it does not take: no tree, whatever the place.
+//! Each marker over each kind that it does not take, and each kind that is no descriptor before a value: no tree,
+//! whatever the place.
 
 ghost use Rattle.std.specs.Prelude.{Some};
+ghost use Rattle.amqp_ser.specs.Composites.{as_described, descriptor_of};
 ghost use Rattle.amqp_ser.specs.Marked.{marked, mark_of};
+ghost use Rattle.amqp_ser.specs.Tree.{scalar, ubyte};
 
 use super::rows::refused;
 use serde_amqp::described::Described;
@@ -29,6 +32,18 @@ impl<T: Serialize> Serialize for Newtype<'_, T> {
 
     fn serialize<S: Serializer>(&self, serializer: &mut S) -> Result<S::Ok, S::Error> {
         serializer.serialize_newtype_struct(self.name, self.value)
+    }
+}
+
+/// A number after this, its descriptor if it is of such a kind.
+#[derive(Drop)]
+struct After<'a, D>(&'a D);
+
+impl<D: Serialize> Serialize for After<'_, D> {
+    ghost tree = { λ v. as_described (descriptor_of (D.tree v.0.now)) (Some (scalar (ubyte 1))) };
+
+    fn serialize<S: Serializer>(&self, serializer: &mut S) -> Result<S::Ok, S::Error> {
+        serializer.serialize_described(self.0, &1u8)
     }
 }
 
@@ -134,6 +149,20 @@ fn each_marker_over_each_other_length(rt: HostRuntime) -> Result<(), Fail> {
             } else {
                 has_no_tree(&rt, a, name, &newtype);
             }
+        }
+    }
+    Ok(())
+}
+
+#[test]
+fn each_descriptor_of_another_kind(rt: HostRuntime) -> Result<(), Fail> {
+    let a = rt.alloc();
+    for (at, value) in values(a)?.iter().enumerate() {
+        if matches!(value, Value::Ulong(_) | Value::Symbol(_)) {
+            assert!(rt; to_value(a, &After(value)).is_ok(), "after value {at}");
+        } else {
+            has_no_tree(&rt, a, "a descriptor", &After(value));
+            has_no_tree(&rt, a, "a descriptor", &(1u8, After(value)));
         }
     }
     Ok(())

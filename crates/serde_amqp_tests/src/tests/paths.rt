@@ -1,13 +1,16 @@
 //! Each item that is handed out, by its path: an alias of another module would have another type or another answer.
 
+ghost use Rattle.std.specs.Prelude.{ℕ, List};
+ghost use Rattle.serde_amqp.specs.Lines.{AreLines, lines_of};
+
 use super::rows::decoded;
 use serde_amqp::ser::{
     Serialize, SerializeMap, SerializeSeq, SerializeStruct, SerializeStructVariant,
     SerializeTupleStruct, SerializeTupleVariant, Serializer as _,
 };
 use serde_amqp::{
-    Error, Value, described, descriptor, extensions, format_code, lazy, primitives, read, ser,
-    size_ser, value,
+    Error, Value, described, descriptor, extensions, format_code, laws, lazy, primitives, read,
+    ser, size_ser, value,
 };
 use std::alloc::Global;
 use std::process::Abort;
@@ -87,6 +90,19 @@ fn values_and_widths(rt: HostRuntime) -> Result<(), Fail> {
     assert_eq!(rt; size_ser::width::array_len(1, 256, false), Ok(10));
     assert!(rt; matches!(ser::mark_named(ser::markers::UUID), ser::Mark::Uuid));
     Ok(())
+}
+
+// What the law says to a caller.
+fn texts_are_their_lines()
+    ensures { (s : List ℕ) → AreLines s (lines_of s) }
+{
+    laws::text_is_its_lines();
+}
+
+#[test]
+fn days_and_laws(rt: HostRuntime) {
+    texts_are_their_lines();
+    assert_eq!(rt; primitives::civil_from_days(11_016), (2000, 2, 29));
 }
 
 // Each alias of the size module ends with a length.

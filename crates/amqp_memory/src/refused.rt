@@ -1,0 +1,57 @@
+//! Many refused values on one serializer, which holds no more after them than after one: with each request for much at
+//! once refused, its answers are as ever.
+
+ghost use Rattle.std.specs.Prelude.{None};
+
+use crate::report::report;
+use amqp_data::{Described, Descriptor, Error, markers};
+use amqp_ser::{Serialize, Serializer as _};
+use amqp_to_value::Serializer;
+use amqp_value::Value;
+use std::alloc::Global;
+
+/// A value without a tree: a number, marked as a symbol.
+#[derive(Drop)]
+struct NoTree;
+
+impl Serialize for NoTree {
+    ghost tree = { λ _. None };
+
+    fn serialize<S: amqp_ser::Serializer>(&self, serializer: &mut S) -> Result<S::Ok, S::Error> {
+        serializer.serialize_newtype_struct(markers::SYMBOL, &1u8)
+    }
+}
+
+/// Makes each call 100,000 times.
+pub fn all(rt: &(impl Print + AllocGlobal)) -> Result<(), Error> {
+    let alloc = rt.alloc();
+    report(
+        rt,
+        "refused described values",
+        after_refusals(alloc, &NoTree)?,
+    );
+    report(
+        rt,
+        "refused described lists",
+        after_refusals(alloc, &(NoTree,))?,
+    );
+    Ok(())
+}
+
+// Whether a described value that has no tree is refused each time, and a described value comes right then.
+fn after_refusals<T: Serialize>(alloc: Global, value: &T) -> Result<bool, Error> {
+    let mut serializer = Serializer::new(alloc);
+    for _ in 0..100_000u32 {
+        match serializer.serialize_described(&1u64, value) {
+            Err(Error::InvalidValue) => {}
+            Err(error) => return Err(error),
+            Ok(_) => return Ok(false),
+        }
+    }
+    let described = Described {
+        descriptor: Descriptor::from(1u64),
+        value: Value::Bool(true),
+    };
+    let expected = Value::Described(Box::new(alloc, described)?);
+    Ok(serializer.serialize_described(&1u64, &true)? == expected)
+}
