@@ -1,6 +1,6 @@
 //! Bytes in room that stands ready.
 
-ghost use Rattle.std.specs.Prelude.{◌≡◌, ◌≤◌, ◌++◌, ◌∷◌, [], length, take, drop, IfErr};
+ghost use Rattle.std.specs.Prelude.{◌≡◌, ◌≤◌, ◌++◌, ◌∷◌, [], length, take, drop, nat_le, IfErr};
 ghost use Rattle.std.specs.Vec.{vec_capacity};
 
 use crate::table::Header;
@@ -81,6 +81,22 @@ impl Output {
     {
         self.taken = position.taken;
         self.out.truncate(position.len);
+    }
+
+    /// Takes no header more, until it goes back.
+    #[inline(always)]
+    pub fn spoil(&mut self)
+        ensures kept { Kept self.old self.new }
+    {
+        self.taken = usize::MAX;
+    }
+
+    /// Whether the table and the room sufficed.
+    #[inline(always)]
+    pub fn is_whole(&self) -> bool
+        ensures { result ≡ nat_le self.now.taken (length self.now.table.items) }
+    {
+        self.taken <= self.table.len()
     }
 
     /// Takes the next header.
