@@ -14,6 +14,7 @@ use Rattle.amqp_size.proofs.Bare.{whole_one}
 use Rattle.amqp_size.proofs.Places.{meant_none, refusal}
 use Rattle.amqp_size.proofs.Whole.{stands_none}
 use Rattle.amqp_wire.specs.Heads.{in_array, bytes_at}
+use Rattle.amqp_wire.specs.Standing.{inner_after}
 use Rattle.amqp_wire.specs.Written.{Kept, Meets, Same, takes, wrote, writes_tree, accepts, writer_permits, Alone}
 use Rattle.amqp_wire.specs.declared.output.Output.{Output}
 use Rattle.amqp_wire.specs.declared.writer.Writer.{Writer}
@@ -59,8 +60,8 @@ alone_open start s held k e place inner is =
 
 -- one part more
 pub alone_more : (start before : Writer) (after : Output) (held new : Writing) (ps : List (Option Tree)) (p : Option Tree) → Alone start before.output held ps → before.place ≡ held.inner → Kept before.output after →
-    takes (outer before.place) (meant before.place p) new.inner → wrote (outer before.place) before.output (meant before.place p) after → new.place ≡ held.place → new.shape ≡ held.shape → Alone start after new (ps ++ (p ∷ []))
-alone_more start before after held new ps p h at k t w place is =
+    (left : Under) → takes (outer before.place) (meant before.place p) left → new.inner ≡ inner_after held.shape held.inner left → wrote (outer before.place) before.output (meant before.place p) after → new.place ≡ held.place → new.shape ≡ held.shape → Alone start after new (ps ++ (p ∷ []))
+alone_more start before after held new ps p h at k left t inner w place is =
     record {
       kept = kept-more start.output before.output after h.kept k;
       place = ap rest place ∙ h.place;
@@ -70,7 +71,7 @@ alone_more start before after held new ps p h at k t w place is =
           let o = only_last ps p r q in
           let n = h.none o.0 in
           subst (λ x. takes (outer start.place) (meant start.place x) new.inner × wrote (outer start.place) start.output (meant start.place x) after) o.1 (
-            subst (λ u. takes (outer u) (meant u p) new.inner) (at ∙ n.0) t,
+            subst (λ u. takes (outer u) (meant u p) new.inner) (at ∙ n.0) (subst (λ u. takes (outer before.place) (meant before.place p) u) (sym (inner ∙ ap (λ x. inner_after x held.inner left) h.shape)) t),
             wrote_from (outer start.place) start.output before.output after (meant start.place p) h.kept n.1 (subst (λ u. wrote (outer u) before.output (meant u p) after) (at ∙ n.0) w),
           );
     }

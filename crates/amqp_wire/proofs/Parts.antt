@@ -19,7 +19,7 @@ use Rattle.amqp_size.specs.WholeUnder as under
 use Rattle.amqp_wire.specs.Entries.{entries, entries_each, heads}
 use Rattle.amqp_wire.specs.Heads.{in_array, bytes_at, opening, after_opening}
 use Rattle.amqp_wire.specs.Solid.{solid, solid_at, solid_each}
-use Rattle.amqp_wire.specs.Standing.{part_place, part_at, is_bare}
+use Rattle.amqp_wire.specs.Standing.{part_place, part_at, is_bare, inner_after}
 use Rattle.amqp_wire.specs.Written.{Kept, Meets, Wrote, Taken, writer_permits, Met, Written, Room, opens}
 use Rattle.amqp_wire.specs.declared.output.Output.{Output}
 use Rattle.amqp_wire.specs.declared.writer.Writer.{Writer}
@@ -27,7 +27,7 @@ use Rattle.amqp_wire.specs.declared.writer.Writing.{Writing}
 use Rattle.amqp_wire.proofs.Lists.{extends-more, take_front, drop_past, same_front}
 use Rattle.amqp_wire.proofs.Spelled.{Spelled, spelled}
 use Rattle.amqp_wire.proofs.Split.{split, entries-join}
-use Rattle.amqp_wire.proofs.Standing.{part_spoils, same_form, next_part, suited_more, map_inside, first_inner, no_parts}
+use Rattle.amqp_wire.proofs.Standing.{part_spoils, same_form, next_stands, suited_more, map_inside, first_inner, no_parts}
 
 pub kept-more : (a b c : Output) → Kept a b → Kept b c → Kept a c
 kept-more a b c h k =
@@ -182,10 +182,10 @@ wrote_at : (kind : Shape) (s after : Output) (ts : Trees) (t : Tree) → Wrote (
 wrote_at kind s after ts t w = record { out = w.out ∙ ap (λ a. s.out.items ++ bytes_at a t) (same_form kind ts t).1; taken = w.taken }
 
 -- one part more
-pub part_written : (start : Writer) (kind : Kind) (s after : Output) (held new : Writing) (ps : List (Option Tree)) (t : Tree) (h : Written start kind s held ps) → Kept s after → Taken (part_at (shape_of start.place kind) h.ts) t new.inner →
+pub part_written : (start : Writer) (kind : Kind) (s after : Output) (held new : Writing) (ps : List (Option Tree)) (t : Tree) (h : Written start kind s held ps) → Kept s after → (left : Under) → Taken (part_at (shape_of start.place kind) h.ts) t left → new.inner ≡ inner_after held.shape held.inner left →
     (Meets (part_at (shape_of start.place kind) h.ts) s t → Wrote (part_at (shape_of start.place kind) h.ts) s t after) →
     new.place ≡ held.place → new.shape ≡ held.shape → new.last.taken ≡ s.taken → new.last.len ≡ length s.out.items → Written start kind after new (ps ++ (Some t ∷ []))
-part_written start kind s after held new ps t h k w f place shape taken len =
+part_written start kind s after held new ps t h k left w inner f place shape taken len =
     let sh = shape_of start.place kind in
     record {
       ts = join h.ts (more t no_trees);
@@ -193,7 +193,7 @@ part_written start kind s after held new ps t h k w f place shape taken len =
       kept = kept-more start.output s after h.kept k;
       place = place ∙ h.place;
       shape = shape ∙ h.shape;
-      inner = w.place ∙ ap under.Plain (next_part sh h.ts t h.suited);
+      inner = inner ∙ ap (λ x. inner_after x held.inner left) h.shape ∙ next_stands sh h.ts t held.inner left h.suited h.inner w.place;
       suited = suited_more sh h.ts t h.suited w.alike_it w.suited;
       met = met_more (in_array (outer start.place)) sh start.output s after h.ts t h.kept (λ m. wrote_at sh s after h.ts t (f (meets_at sh s h.ts t m))) h.met;
       back = λ odd qs q e.

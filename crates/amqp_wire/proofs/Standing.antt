@@ -26,7 +26,7 @@ use Rattle.amqp_size.proofs.Whole.{refused_shape, stands, stands_none}
 use Rattle.amqp_size.proofs.Places.{meant_none, refusal}
 use Rattle.amqp_wire.specs.Heads.{in_array}
 use Rattle.amqp_wire.specs.Solid.{fit}
-use Rattle.amqp_wire.specs.Standing.{part_place, part_at, suited_parts, is_bare}
+use Rattle.amqp_wire.specs.Standing.{part_place, part_at, suited_parts, is_bare, inner_after}
 
 -- nothing else opens a bare compound
 pub not_bare : (u : Under) (k : Kind) → is_bare k ≡ false → shape_of u k ≡ shape.Bare → ⊥
@@ -105,7 +105,7 @@ no_parts shape.Bare = refl
 no_parts shape.Refused = refl
 
 -- after one part more
-pub next_part : (s : Shape) (ts : Trees) (t : Tree) → suited_parts s ts ≡ true → next (part_at s ts) t ≡ part_at s (join ts (more t no_trees))
+next_part : (s : Shape) (ts : Trees) (t : Tree) → suited_parts s ts ≡ true → next (part_at s ts) t ≡ part_at s (join ts (more t no_trees))
 next_part shape.List ts t h = refl
 next_part shape.Map ts t h = refl
 next_part (shape.Fields i) ts t h = refl
@@ -114,6 +114,16 @@ next_part shape.Array ts t h = next_inner true ts t (left_true (one_con ts) (ali
 next_part shape.Transparent ts t h = refl
 next_part shape.Bare ts t h = refl
 next_part shape.Refused ts t h = refl
+
+pub next_stands : (s : Shape) (ts : Trees) (t : Tree) (inner after : Under) → suited_parts s ts ≡ true → inner ≡ under.Plain (part_at s ts) → after ≡ under.Plain (next (part_at s ts) t) → inner_after s inner after ≡ under.Plain (part_at s (join ts (more t no_trees)))
+next_stands shape.List ts t inner after h i a = i
+next_stands shape.Map ts t inner after h i a = i
+next_stands (shape.Fields n) ts t inner after h i a = i
+next_stands (shape.Only n) ts t inner after h i a = i
+next_stands shape.Array ts t inner after h i a = a ∙ ap under.Plain (next_part shape.Array ts t h)
+next_stands shape.Transparent ts t inner after h i a = i
+next_stands shape.Bare ts t inner after h i a = a
+next_stands shape.Refused ts t inner after h i a = i
 
 one_more : (ts : Trees) (t : Tree) → (alike_each ts && inside_each ts) ≡ true → alike t ≡ true → inside t ≡ true → (alike_each (join ts (more t no_trees)) && inside_each (join ts (more t no_trees))) ≡ true
 one_more ts t h a i =

@@ -10,7 +10,7 @@ use Rattle.amqp_size.specs.Place.{outer, meant, rest, shape_of}
 use Rattle.amqp_size.specs.WholeUnder.{Under}
 use Rattle.amqp_size.specs.WholeUnder as under
 use Rattle.amqp_size.specs.declared.place.Shape.TheVariants as shape
-use Rattle.amqp_wire.specs.Standing.{part_at, is_bare}
+use Rattle.amqp_wire.specs.Standing.{part_at, is_bare, inner_after}
 use Rattle.amqp_wire.specs.Written.{Kept, Same, takes, wrote, writes_tree, accepts, writer_permits, Alone, Written, written_as}
 use Rattle.amqp_wire.specs.declared.output.Output.{Output}
 use Rattle.amqp_wire.specs.declared.writer.Writer.{Writer}
@@ -20,19 +20,19 @@ use Rattle.amqp_wire.proofs.Held.{bare_kind}
 use Rattle.amqp_wire.proofs.Parts.{kept-refl, part_written, part_refused, part_back}
 use Rattle.amqp_wire.proofs.Standing.{not_bare}
 
-more_written : (start : Writer) (kind : Kind) (s after : Output) (held new : Writing) (ps : List (Option Tree)) (p : Option Tree) (h : Written start kind s held ps) → Kept s after → takes (part_at (shape_of start.place kind) h.ts) p new.inner →
+more_written : (start : Writer) (kind : Kind) (s after : Output) (held new : Writing) (ps : List (Option Tree)) (p : Option Tree) (h : Written start kind s held ps) → Kept s after → (left : Under) → takes (part_at (shape_of start.place kind) h.ts) p left → new.inner ≡ inner_after held.shape held.inner left →
     wrote (part_at (shape_of start.place kind) h.ts) s p after → new.place ≡ held.place → new.shape ≡ held.shape → new.last.taken ≡ s.taken → new.last.len ≡ length s.out.items → Written start kind after new (ps ++ (p ∷ []))
-more_written start kind s after held new ps None h k t w = absurd t
-more_written start kind s after held new ps (Some t) h k r w = part_written start kind s after held new ps t h k r w
+more_written start kind s after held new ps None h k left t = absurd t
+more_written start kind s after held new ps (Some t) h k left r = part_written start kind s after held new ps t h k left r
 
 -- one part more
 pub part_more : (b : Bool) (start : Writer) (kind : Kind) (before : Writer) (after : Output) (held new : Writing) (ps : List (Option Tree)) (p : Option Tree) (part : Result (Unit {0}) Refusal) → is_bare kind ≡ b → part ≡ Ok tt → written_as b start kind before.output held ps → before.place ≡ held.inner → Kept before.output after →
-    accepts (outer before.place) (meant before.place p) part new.inner → writes_tree (outer before.place) before.output (meant before.place p) part after →
+    (left : Under) → accepts (outer before.place) (meant before.place p) part left → new.inner ≡ inner_after held.shape held.inner left → writes_tree (outer before.place) before.output (meant before.place p) part after →
     new.place ≡ held.place → new.shape ≡ held.shape → new.last.taken ≡ before.output.taken → new.last.len ≡ length before.output.out.items → written_as b start kind after new (ps ++ (p ∷ []))
-part_more true start kind before after held new ps p part k e h at kept t w place is taken len =
-    alone_more start before after held new ps p h at kept (subst (λ x. accepts (outer before.place) (meant before.place p) x new.inner) e t) (subst (λ x. writes_tree (outer before.place) before.output (meant before.place p) x after) e w) place is
-part_more false start kind before after held new ps p part k e h at kept t w place is taken len =
-    more_written start kind before.output after held new ps p h kept (subst (λ u. takes (outer u) (meant u p) new.inner) (at ∙ h.inner) (subst (λ x. accepts (outer before.place) (meant before.place p) x new.inner) e t))
+part_more true start kind before after held new ps p part k e h at kept left t inner w place is taken len =
+    alone_more start before after held new ps p h at kept left (subst (λ x. accepts (outer before.place) (meant before.place p) x left) e t) inner (subst (λ x. writes_tree (outer before.place) before.output (meant before.place p) x after) e w) place is
+part_more false start kind before after held new ps p part k e h at kept left t inner w place is taken len =
+    more_written start kind before.output after held new ps p h kept left (subst (λ u. takes (outer u) (meant u p) left) (at ∙ h.inner) (subst (λ x. accepts (outer before.place) (meant before.place p) x left) e t)) inner
     (subst (λ u. wrote (outer u) before.output (meant u p) after) (at ∙ h.inner) (subst (λ x. writes_tree (outer before.place) before.output (meant before.place p) x after) e w)) place is taken len
 
 -- the same compound over an output that went back to where it was

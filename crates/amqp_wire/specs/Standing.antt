@@ -43,6 +43,12 @@ part_at shape.Array ts = first_place ts
 part_at shape.Transparent ts = places.Root
 part_at s ts = places.Inside
 
+-- where the next part stands, after one that left the place so: alone an array's first and a bare compound's part move it
+abbrev pub inner_after : Shape → Under → Under → Under
+inner_after shape.Array inner after = after
+inner_after shape.Bare inner after = after
+inner_after s inner after = inner
+
 -- each part may stand where it does
 abbrev pub suited_parts : Shape → Trees → Bool
 suited_parts shape.Array ts = one_con ts && (alike_each ts && inside_each ts)

@@ -180,8 +180,18 @@ impl Output {
         ensures written { puts self.old (form_payload form) result self.new }
         ensures full { IfErr result (λ e. e ≡ Refusal.TooLong) }
     {
-        let bytes = form.bits.to_be_bytes();
-        self.put(&bytes[8 - form.width..])
+        let [a, b, c, d, e, f, g, h] = form.bits.to_be_bytes();
+        match form.width {
+            0 => Ok(()),
+            1 => self.put_few(&[h]),
+            2 => self.put_few(&[g, h]),
+            4 => self.put_few(&[e, f, g, h]),
+            8 => self.put_few(&[a, b, c, d, e, f, g, h]),
+            _ => {
+                let bytes = form.bits.to_be_bytes();
+                self.put(&bytes[8 - form.width..])
+            }
+        }
     }
 
     /// Writes a value of fixed width.

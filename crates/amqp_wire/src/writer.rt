@@ -9,7 +9,7 @@ ghost use Rattle.amqp_wire.specs.Heads.{in_array};
 ghost use Rattle.amqp_size.specs.State.{place_at};
 
 use crate::output::{Output, Position};
-use crate::stance::{described, in_array};
+use crate::stance::{accepted, described, in_array, inner_after};
 use crate::table::Header;
 use amqp_ser::{Fixed, Kind, Mark, Serializer};
 use amqp_size::width::LONGEST;
@@ -125,33 +125,12 @@ impl Writer {
         ensures accepted { self.old.place ≡ Plain (rest (place_at place 0)) → (t : Tree) → con t ≡ Some code → alike t ≡ true → inside t ≡ true → placed t ≡ true →
             accepts (place_at place 0) (Some t) result self.new.place }
     {
-        match place {
-            Place::Root | Place::Inside => Ok(()),
-            Place::First => {
-                self.place = Under::Plain(Place::Element(code));
+        match accepted(place, code) {
+            Ok(after) => {
+                self.place = after;
                 Ok(())
             }
-            Place::Element(c) => {
-                if c == code {
-                    Ok(())
-                } else {
-                    Err(Refusal::InvalidValue)
-                }
-            }
-            Place::Descriptor => {
-                if code == 0x80 || code == 0xb3 {
-                    Ok(())
-                } else {
-                    Err(Refusal::InvalidValue)
-                }
-            }
-            Place::Value(base) => {
-                if base.takes_described() {
-                    Ok(())
-                } else {
-                    Err(Refusal::InvalidValue)
-                }
-            }
+            Err(e) => Err(e),
         }
     }
 
@@ -187,10 +166,11 @@ impl Writer {
         ensures accepted { self.old.place ≡ Plain (rest (place_at place 0)) → accepts (place_at place 0) (Some (scalar (fixed_scalar fixed))) result self.new.place }
         ensures written { writes_tree (place_at place 0) self.old.output (Some (scalar (fixed_scalar fixed))) result self.new.output }
     {
-        match self.accept(place, Form::in_array(fixed).code) {
-            Ok(()) => {
+        match accepted(place, Form::in_array(fixed).code) {
+            Ok(after) => {
                 let put = self.output.put_fixed(in_array(place), fixed);
                 self.written(put);
+                self.place = after;
                 Ok(())
             }
             Err(e) => Err(e),
@@ -204,10 +184,11 @@ impl Writer {
         ensures accepted { self.old.place ≡ Plain (rest (place_at place 0)) → accepts (place_at place 0) (Some (scalar null)) result self.new.place }
         ensures written { writes_tree (place_at place 0) self.old.output (Some (scalar null)) result self.new.output }
     {
-        match self.accept(place, 0x40) {
-            Ok(()) => {
+        match accepted(place, 0x40) {
+            Ok(after) => {
                 let put = self.output.put_null(in_array(place));
                 self.written(put);
+                self.place = after;
                 Ok(())
             }
             Err(e) => Err(e),
@@ -224,10 +205,11 @@ impl Writer {
         if bytes.len() > LONGEST {
             return Err(Refusal::TooLong);
         }
-        match self.accept(place, long) {
-            Ok(()) => {
+        match accepted(place, long) {
+            Ok(after) => {
                 let put = self.output.put_text(in_array(place), short, long, bytes);
                 self.written(put);
+                self.place = after;
                 Ok(())
             }
             Err(e) => Err(e),
@@ -241,10 +223,11 @@ impl Writer {
         ensures accepted { self.old.place ≡ Plain (rest (place_at place 0)) → (s : Scalar) → scalar_code s ≡ code → accepts (place_at place 0) (Some (scalar s)) result self.new.place }
         ensures written { (s : Scalar) → ((a : Bool) → bytes_at a (scalar s) ≡ pick a (code ∷ bytes.now) bytes.now) → writes_tree (place_at place 0) self.old.output (Some (scalar s)) result self.new.output }
     {
-        match self.accept(place, code) {
-            Ok(()) => {
+        match accepted(place, code) {
+            Ok(after) => {
                 let put = self.output.put_exact(in_array(place), code, bytes);
                 self.written(put);
+                self.place = after;
                 Ok(())
             }
             Err(e) => Err(e),
@@ -418,7 +401,7 @@ impl Serializer for Writer {
         self.place = Under::Plain(held.place.rest());
         match part {
             Ok(()) => {
-                held.inner = after;
+                held.inner = inner_after(held.shape, held.inner, after);
                 held.last = held.part;
                 Ok(())
             }

@@ -1,5 +1,6 @@
 use Rattle.std.proofs.Common.{◌∷◌, ◌++◌, ◌∙◌, refl, sym, subst, ap, Err}
 use Rattle.amqp_ser.specs.Compounds.{whole}
+use Rattle.amqp_size.specs.State.{under_at}
 use Rattle.amqp_size.specs.WholeUnder.{Plain}
 use Rattle.amqp_wire.specs.Standing.{is_bare}
 use Rattle.amqp_wire.specs.Written.{writer_permits}
@@ -14,8 +15,8 @@ use Rattle.amqp_wire.proofs.writer.WriterSerializer.end_part.Goals as goal
 pub returns-in-Ok-clause-step : goal.returns-in-Ok-clause-step
 returns-in-Ok-clause-step c = rw (← c.self.view_is, ← c.held.view_is) (λ start kind before ps p w r.
     let held : Writing = (part_of c.held.inside) in
-    let new : Writing = record { place = held.place; shape = held.shape; inner = (stance c.self.inside).place; part = held.part; last = held.part } in
-    (part_more (is_bare kind) start kind before c.self.inside.output held new ps p c.args.part refl c.in-Ok.is w.0.0 w.0.1 r.0 r.1.0 r.1.1 refl refl w.1.0 w.1.1, ap Plain (c.rest.ensures 0 0)))
+    let new : Writing = record { place = held.place; shape = held.shape; inner = under_at c.inner_after-held-inside.result 0; part = held.part; last = held.part } in
+    (part_more (is_bare kind) start kind before c.self.inside.output held new ps p c.args.part refl c.in-Ok.is w.0.0 w.0.1 r.0 (stance c.self.inside).place r.1.0 c.inner_after-held-inside.ensures r.1.1 refl refl w.1.0 w.1.1, ap Plain (c.rest.ensures 0 0)))
 
 pub returns-in-Err-clause-step : goal.returns-in-Err-clause-step
 returns-in-Err-clause-step c = rw (← c.self.view_is, ← c.held.view_is) (λ start kind before ps p w r.
