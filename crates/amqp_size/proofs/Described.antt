@@ -115,7 +115,7 @@ limit_here x n e f t =
 never : false ≡ true → ⊥
 never q = cc
 
-no_scalar_described : (m : ScalarMark) (x : Descriptor) (t : Option Tree) → marked (the_mark m) (as_described (Some x) t) ≡ None
+pub no_scalar_described : (m : ScalarMark) (x : Descriptor) (t : Option Tree) → marked (the_mark m) (as_described (Some x) t) ≡ None
 no_scalar_described m x None = refl
 no_scalar_described scalar_mark.Symbol x (Some t) = refl
 no_scalar_described scalar_mark.Timestamp x (Some t) = refl
@@ -124,11 +124,11 @@ no_scalar_described scalar_mark.Decimal64 x (Some t) = refl
 no_scalar_described scalar_mark.Decimal128 x (Some t) = refl
 no_scalar_described scalar_mark.Uuid x (Some t) = refl
 
-no_array_described : (x : Descriptor) (t : Option Tree) → marked mark.Array (as_described (Some x) t) ≡ None
+pub no_array_described : (x : Descriptor) (t : Option Tree) → marked mark.Array (as_described (Some x) t) ≡ None
 no_array_described x None = refl
 no_array_described x (Some t) = refl
 
-no_transparent_described : (x : Descriptor) (t : Option Tree) → marked mark.Transparent (as_described (Some x) t) ≡ None
+pub no_transparent_described : (x : Descriptor) (t : Option Tree) → marked mark.Transparent (as_described (Some x) t) ≡ None
 no_transparent_described x None = refl
 no_transparent_described x (Some t) = refl
 
@@ -195,7 +195,7 @@ too_long : (p : Place) (x : Descriptor) → ((t : Tree) → within_at p (describ
 too_long p x h None e q = (subst refuses_none (sym q) tt, refl)
 too_long p x h (Some t) e q = (subst (λ y. refused p (described x t) y) (sym q) (h t), refl)
 
-no_nested : (x : Descriptor) (t : Option Tree) (e : Refusal) → e ≡ error.InvalidValue → at_place place.Descriptor (as_described (Some x) t) (Err e) (under.Plain place.Descriptor)
+pub no_nested : (x : Descriptor) (t : Option Tree) (e : Refusal) → e ≡ error.InvalidValue → at_place place.Descriptor (as_described (Some x) t) (Err e) (under.Plain place.Descriptor)
 no_nested x None e q = (subst refuses_none (sym q) tt, refl)
 no_nested x (Some t) e q = (subst (λ y. refused place.Descriptor (described x t) y) (sym q) (right_false (alike t) false refl), refl)
 

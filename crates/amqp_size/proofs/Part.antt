@@ -36,7 +36,7 @@ is_some-same : (o : Option ℕ) → is_some o ≡ true → same_con o o ≡ true
 is_some-same None h = cc
 is_some-same (Some c) h = nat_eq-refl c
 
-next_inner : (arr : Bool) (ts : Trees) (t : Tree) → one_in arr ts ≡ true → next (inner_of arr ts) t ≡ inner_of arr (join ts (more t no_trees))
+pub next_inner : (arr : Bool) (ts : Trees) (t : Tree) → one_in arr ts ≡ true → next (inner_of arr ts) t ≡ inner_of arr (join ts (more t no_trees))
 next_inner false ts t h = refl
 next_inner true no_trees t h = refl
 next_inner true (more v ts) t h =
@@ -44,14 +44,14 @@ next_inner true (more v ts) t h =
     ap (λ o. next (element o) t) c.1 ∙ sym (ap element c.1)
 
 -- what suits its place has nothing transparent inside
-suited_inside : (arr : Bool) (ts : Trees) (t : Tree) → one_in arr ts ≡ true → suits (inner_of arr ts) t ≡ true → inside t ≡ true
+pub suited_inside : (arr : Bool) (ts : Trees) (t : Tree) → one_in arr ts ≡ true → suits (inner_of arr ts) t ≡ true → inside t ≡ true
 suited_inside false ts t h s = s
 suited_inside true no_trees t h s = right_true (is_some (con t)) (inside t) s
 suited_inside true (more v ts) t h s =
     let c = some_con (con v) (left_true (same_con (con v) (con v)) (each_con (con v) ts) h) in
     right_true (same_con (Some c.0) (con t)) (inside t) (sym (ap (λ o. suits (element o) t) c.1) ∙ s)
 
-more_one : (arr : Bool) (ts : Trees) (t : Tree) → one_in arr ts ≡ true → suits (inner_of arr ts) t ≡ true → one_in arr (join ts (more t no_trees)) ≡ true
+pub more_one : (arr : Bool) (ts : Trees) (t : Tree) → one_in arr ts ≡ true → suits (inner_of arr ts) t ≡ true → one_in arr (join ts (more t no_trees)) ≡ true
 more_one false ts t h s = refl
 more_one true no_trees t h s = both (same_con (con t) (con t)) true (is_some-same (con t) (left_true (is_some (con t)) (inside t) s)) refl
 more_one true (more v ts) t h s =

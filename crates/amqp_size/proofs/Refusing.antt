@@ -46,7 +46,7 @@ not_suited true (more v ts) t us h s =
     ]
 
 -- a bad part makes bad parts
-part_bad : (arr : Bool) (ts : Trees) (t : Tree) (us : Trees) (e : Refusal) → one_in arr ts ≡ true → refused (inner_of arr ts) t e → bad_in arr (join ts (more t us)) e
+pub part_bad : (arr : Bool) (ts : Trees) (t : Tree) (us : Trees) (e : Refusal) → one_in arr ts ≡ true → refused (inner_of arr ts) t e → bad_in arr (join ts (more t us)) e
 part_bad arr ts t us error.TooLong o h =
     let w : within_each (join ts (more t us)) ≡ false = within-join ts (more t us) ∙ right_false (within_each ts) (within t && within_each us) (left_false (within t) (within_each us) (sym (within_inner arr ts t) ∙ h)) in
     right_false (fits (length (content arr (join ts (more t us))))) _ (right_false (is_count (counts arr (join ts (more t us)))) _ w)

@@ -38,7 +38,7 @@ spoiled p t e h = elim (one_false (alike t) (inside t) h) [
   | inr b ↦ right_false (alike t) (suits p t) (not_inside p t e b)
 ]
 
-odd_none : (ws : Trees) → even ws ≡ false → in_pairs ws ≡ None
+pub odd_none : (ws : Trees) → even ws ≡ false → in_pairs ws ≡ None
 odd_none no_trees h = cc
 odd_none (more k no_trees) h = refl
 odd_none (more k (more v ts)) h = let e = odd_none ts (not_not (even ts) h) in rw e refl
@@ -156,11 +156,12 @@ spoiled_whole (under.Nothing p) kinds.Map ws e g h = shapeless false (under.Noth
 spoiled_whole (under.Nothing p) (kinds.Fields i) ws e g h = shapeless false (under.Nothing p) (kinds.Fields i) ws e h refl
 spoiled_whole (under.Nothing p) (kinds.Only i) ws e g h = shapeless false (under.Nothing p) (kinds.Only i) ws e h refl
 
-go : (u : Under) (k : Kind) (ts : Trees) (e : Refusal) → is_gathered (shape_of u k) ≡ true → refuses_none e → (p : Option Tree) (o : Option Trees) → ((t : Tree) (us : Trees) → p ≡ Some t → bad_in (is_array (shape_of u k)) (join ts (more t us)) e) →
+-- a whole that one part spoils
+pub spoiled_rest : (u : Under) (k : Kind) (ts : Trees) (e : Refusal) → is_gathered (shape_of u k) ≡ true → refuses_none e → (p : Option Tree) (o : Option Trees) → ((t : Tree) (us : Trees) → p ≡ Some t → bad_in (is_array (shape_of u k)) (join ts (more t us)) e) →
     at_place (outer u) (meant u (as_kind k (joined (Some ts) (before p o)))) (Err e) (under.Plain (rest (outer u)))
-go u k ts e g r None o bad = none_bad u (as_kind k None) e r (ap (meant u) (kind_none k) ∙ meant_none u)
-go u k ts e g r (Some t) None bad = none_bad u (as_kind k None) e r (ap (meant u) (kind_none k) ∙ meant_none u)
-go u k ts e g r (Some t) (Some us) bad = spoiled_whole u k (join ts (more t us)) e g (bad t us refl)
+spoiled_rest u k ts e g r None o bad = none_bad u (as_kind k None) e r (ap (meant u) (kind_none k) ∙ meant_none u)
+spoiled_rest u k ts e g r (Some t) None bad = none_bad u (as_kind k None) e r (ap (meant u) (kind_none k) ∙ meant_none u)
+spoiled_rest u k ts e g r (Some t) (Some us) bad = spoiled_whole u k (join ts (more t us)) e g (bad t us refl)
 
 -- where the next part spoils every whole
 pub with_rest : (start : SizeSerializer) (kind : Kind) (held : Open) (ps : List (Option Tree)) (h : Holds start kind held ps) (p : Option Tree) (e : Refusal) → refuses_none e →
@@ -171,6 +172,6 @@ with_rest start kind held ps h p e r bad others =
     let u = start.place in
     let arr : is_array held.shape ≡ is_array (shape_of u kind) = ap is_array h.shape in
     let trees : all_trees (ps ++ (p ∷ others)) ≡ joined (Some h.ts) (before p (all_trees others)) = all_trees-append ps (p ∷ others) ∙ ap (λ o. joined o (before p (all_trees others))) h.trees in
-    let here = go u kind h.ts e (sym (ap is_gathered h.shape) ∙ h.gathered) r p (all_trees others) (λ t us q. subst (λ a. bad_in a (join h.ts (more t us)) e) arr (bad t us q)) in
+    let here = spoiled_rest u kind h.ts e (sym (ap is_gathered h.shape) ∙ h.gathered) r p (all_trees others) (λ t us q. subst (λ a. bad_in a (join h.ts (more t us)) e) arr (bad t us q)) in
     subst (λ q. at_place (outer u) (meant u (whole kind (ps ++ (p ∷ others)))) (Err e) (under.Plain (rest q))) (sym h.place)
     (subst (λ o. at_place (outer u) (meant u (as_kind kind o)) (Err e) (under.Plain (rest (outer u)))) (sym trees) here)

@@ -24,7 +24,7 @@ use Rattle.amqp_size.specs.declared.open_compound.Open.{Open}
 use Rattle.amqp_size.proofs.Places.{long_at, meant_none, refusal}
 use Rattle.amqp_size.proofs.Whole.{stands, stands_none}
 
-placed-join : (ts us : Trees) → placed_each (join ts us) ≡ (placed_each ts && placed_each us)
+pub placed-join : (ts us : Trees) → placed_each (join ts us) ≡ (placed_each ts && placed_each us)
 placed-join no_trees us = refl
 placed-join (more t ts) us = ap (λ b. placed t && b) (placed-join ts us) ∙ sym (and_assoc (placed t) (placed_each ts) (placed_each us))
 
@@ -91,12 +91,12 @@ root_alone Descriptor ts = inr refl
 root_alone (Value n b) ts = inr (right_false (takes_described b) false refl)
 
 -- elements of which the whole is refused with this error
-abbrev bad_each : Trees → Refusal → Type 0
+abbrev pub bad_each : Trees → Refusal → Type 0
 bad_each ws error.TooLong = (is_length (length (enc_each ws)) && within_each ws) ≡ false
 bad_each ws error.InvalidValue = (alike_each ws && placed_each ws) ≡ false
 bad_each ws e = ⊥
 
-spoiled_transparent : (p : Place) (ws : Trees) (e : Refusal) → bad_each ws e → at_place p (Some (transparent ws)) (Err e) (under.Plain (rest p))
+pub spoiled_transparent : (p : Place) (ws : Trees) (e : Refusal) → bad_each ws e → at_place p (Some (transparent ws)) (Err e) (under.Plain (rest p))
 spoiled_transparent p ws error.TooLong h = (long_at p (transparent ws) h, refl)
 spoiled_transparent p ws error.InvalidValue h = elim (root_alone p ws) [
   | inl q ↦ (subst (λ x. (alike_each ws && suits x (transparent ws)) ≡ false) (sym q) h, refl)
@@ -128,7 +128,7 @@ spoils start kind held ps h p e r bad others =
     (go start kind held ps h (ps ++ (p ∷ others)) (joined (Some h.ts) (before p (all_trees others))) trees e r
     (λ ws q. let a = after h.ts p (all_trees others) ws q in subst (λ x. bad_each x e) (sym a.1.1.1) (bad a.0 a.1.0 a.1.1.0)))
 
-part_bad : (ts : Trees) (t : Tree) (us : Trees) (e : Refusal) → refused Root t e → bad_each (join ts (more t us)) e
+pub part_bad : (ts : Trees) (t : Tree) (us : Trees) (e : Refusal) → refused Root t e → bad_each (join ts (more t us)) e
 part_bad ts t us error.TooLong h = right_false (is_length (length (enc_each (join ts (more t us))))) (within_each (join ts (more t us)))
     (within-join ts (more t us) ∙ right_false (within_each ts) (within t && within_each us) (left_false (within t) (within_each us) h))
 part_bad ts t us error.InvalidValue h = elim (one_false (alike t) (placed t) h) [

@@ -1,23 +1,27 @@
 -- The bytes of a bare compound.
-use Rattle.std.proofs.Common.{◌≡◌, List, [], ◌∷◌, ◌++◌, Option, Some, None, true, false, Result, Ok, Err, length, refl, ap, sym, ◌∙◌, subst, arith, drop}
+use Rattle.std.proofs.Common.{◌≡◌, List, [], ◌∷◌, ◌++◌, Option, Some, None, true, Result, Ok, Err, length, refl, ap, sym, ◌∙◌, subst, arith, drop}
 use Rattle.amqp_size.specs.declared.refusal.Refusal.{Refusal}
 use Rattle.amqp_ser.specs.Tree.{Tree, Trees}
 use Rattle.amqp_ser.specs.Compounds.{all_trees, before, as_kind, whole, complete}
 use Rattle.amqp_ser.specs.declared.kind.Kind.TheVariants as kinds
-use Rattle.amqp_size.specs.Place.{outer}
+use Rattle.amqp_size.specs.Counted.{at_place}
+use Rattle.amqp_size.specs.Place.{outer, meant, rest}
 use Rattle.amqp_size.specs.WholePlace.{Place}
+use Rattle.amqp_size.specs.WholeUnder.{Under}
 use Rattle.amqp_size.specs.WholeUnder as under
+use Rattle.amqp_size.specs.declared.place.Shape.TheVariants as shape
 use Rattle.amqp_size.proofs.Bare.{whole_one}
+use Rattle.amqp_size.proofs.Places.{meant_none, refusal}
+use Rattle.amqp_size.proofs.Whole.{stands_none}
 use Rattle.amqp_wire.specs.Heads.{in_array, bytes_at}
-use Rattle.amqp_wire.specs.Standing.{taken_as}
-use Rattle.amqp_wire.specs.Written.{Kept, Meets, Same, writes_tree, writer_permits, Alone}
+use Rattle.amqp_wire.specs.Standing.{inner_after}
+use Rattle.amqp_wire.specs.Written.{Kept, Meets, Same, takes, wrote, writes_tree, accepts, writer_permits, Alone}
 use Rattle.amqp_wire.specs.declared.output.Output.{Output}
 use Rattle.amqp_wire.specs.declared.writer.Writer.{Writer}
 use Rattle.amqp_wire.specs.declared.writer.Writing.{Writing}
 use Rattle.amqp_wire.proofs.Few.{no_false}
 use Rattle.amqp_wire.proofs.Lone.{not_empty, only_last}
-use Rattle.amqp_wire.proofs.Parts.{kept-more, still_refused}
-use Rattle.amqp_wire.proofs.Standing.{taken_none}
+use Rattle.amqp_wire.proofs.Parts.{kept-more}
 
 -- the same table and room, where nothing was written since
 meets_same : (a : Place) (start s : Output) (t : Tree) → Kept start s → Same start s → Meets a start t → Meets a s t
@@ -30,61 +34,59 @@ meets_same a start s t k e m =
       room = let c = k.capacity in let r = m.room in let l = ap length e.0 in omega arith;
     }
 
-pub writes_same : (a : Place) (start s after : Output) (o : Option Tree) (r : Result (Unit {0}) Refusal) → Kept start s → Same start s → writes_tree a s o r after → writes_tree a start o r after
-writes_same a start s after None (Ok u) k e h = h
-writes_same a start s after None (Err x) k e h = h
-writes_same a start s after (Some t) (Ok u) k e h = λ m.
+wrote_from : (a : Place) (start s after : Output) (o : Option Tree) → Kept start s → Same start s → wrote a s o after → wrote a start o after
+wrote_from a start s after None k e h = h
+wrote_from a start s after (Some t) k e h = λ m.
     let w = h (meets_same a start s t k e m) in
     record { out = w.out ∙ ap (λ x. x ++ bytes_at (in_array a) t) e.0; taken = let n = w.taken in let q = e.1 in omega arith }
-writes_same a start s after (Some t) (Err x) k e h = λ m. h (meets_same a start s t k e m)
 
-wrote_same : (a : Place) (start s cut : Output) (o : Option Tree) → Same s cut → writes_tree a start o (Ok tt) s → writes_tree a start o (Ok tt) cut
+pub writes_same : (a : Place) (start s after : Output) (o : Option Tree) (r : Result (Unit {0}) Refusal) → Kept start s → Same start s → writes_tree a s o r after → writes_tree a start o r after
+writes_same a start s after o (Ok u) k e h = wrote_from a start s after o k e h
+writes_same a start s after o (Err x) k e h = h
+
+wrote_same : (a : Place) (start s cut : Output) (o : Option Tree) → Same s cut → wrote a start o s → wrote a start o cut
 wrote_same a start s cut None e h = h
 wrote_same a start s cut (Some t) e h = λ m. let w = h m in record { out = e.0 ∙ w.out; taken = e.1 ∙ w.taken }
 
-pub alone_open : (start : Writer) (s : Output) (held : Writing) → Kept start.output s → Same start.output s → held.place ≡ outer start.place → held.inner ≡ start.place → held.refused ≡ false → Alone start s held []
-alone_open start s held k e place inner ref =
+pub alone_open : (start : Writer) (s : Output) (held : Writing) → Kept start.output s → Same start.output s → rest held.place ≡ rest (outer start.place) → held.inner ≡ start.place → held.shape ≡ shape.Bare → Alone start s held []
+alone_open start s held k e place inner is =
     record {
       kept = k;
       place = place;
-      inner = inner;
-      opened = ref;
-      none = λ q. e;
+      shape = is;
+      none = λ q. (inner, e);
       one = λ p q. let no : [] ≡ p ∷ [] = q in cc;
     }
 
--- a value stands where the compound was opened
-stands_there : (start before : Writer) (after : Output) (held : Writing) (ps : List (Option Tree)) (p : Option Tree) (r : Result (Unit {0}) Refusal) → Alone start before.output held ps → before.place ≡ held.inner → ps ≡ [] →
-    writes_tree (outer before.place) before.output (taken_as before.place p) r after → writes_tree (outer start.place) start.output (taken_as start.place p) r after
-stands_there start before after held ps p r h at q w =
-    writes_same (outer start.place) start.output before.output after (taken_as start.place p) r h.kept (h.none q)
-    (subst (λ u. writes_tree (outer u) before.output (taken_as u p) r after) (at ∙ h.inner) w)
-
 -- one part more
 pub alone_more : (start before : Writer) (after : Output) (held new : Writing) (ps : List (Option Tree)) (p : Option Tree) → Alone start before.output held ps → before.place ≡ held.inner → Kept before.output after →
-    writes_tree (outer before.place) before.output (taken_as before.place p) (Ok tt) after → new.place ≡ held.place → new.inner ≡ held.inner → new.refused ≡ held.refused → Alone start after new (ps ++ (p ∷ []))
-alone_more start before after held new ps p h at k w place inner ref =
+    (left : Under) → takes (outer before.place) (meant before.place p) left → new.inner ≡ inner_after held.shape held.inner left → wrote (outer before.place) before.output (meant before.place p) after → new.place ≡ held.place → new.shape ≡ held.shape → Alone start after new (ps ++ (p ∷ []))
+alone_more start before after held new ps p h at k left t inner w place is =
     record {
       kept = kept-more start.output before.output after h.kept k;
-      place = place ∙ h.place;
-      inner = inner ∙ h.inner;
-      opened = ref ∙ h.opened;
+      place = ap rest place ∙ h.place;
+      shape = is ∙ h.shape;
       none = λ q. absurd (not_empty ps p q);
       one = λ r q.
           let o = only_last ps p r q in
-          subst (λ x. writes_tree (outer start.place) start.output (taken_as start.place x) (Ok tt) after) o.1 (stands_there start before after held ps p (Ok tt) h at o.0 w);
+          let n = h.none o.0 in
+          subst (λ x. takes (outer start.place) (meant start.place x) new.inner × wrote (outer start.place) start.output (meant start.place x) after) o.1 (
+            subst (λ u. takes (outer u) (meant u p) new.inner) (at ∙ n.0) (subst (λ u. takes (outer before.place) (meant before.place p) u) (sym (inner ∙ ap (λ x. inner_after x held.inner left) h.shape)) t),
+            wrote_from (outer start.place) start.output before.output after (meant start.place p) h.kept n.1 (subst (λ u. wrote (outer u) before.output (meant u p) after) (at ∙ n.0) w),
+          );
     }
 
 -- the same compound over an output that went back to where it was
-pub alone_back : (start : Writer) (s cut : Output) (held new : Writing) (ps : List (Option Tree)) → Alone start s held ps → Kept s cut → Same s cut → new.place ≡ held.place → new.inner ≡ held.inner → new.refused ≡ held.refused → Alone start cut new ps
-alone_back start s cut held new ps h k e place inner ref =
+pub alone_back : (start : Writer) (s cut : Output) (held new : Writing) (ps : List (Option Tree)) → Alone start s held ps → Kept s cut → Same s cut → new.place ≡ held.place → new.shape ≡ held.shape → new.inner ≡ held.inner → Alone start cut new ps
+alone_back start s cut held new ps h k e place is inner =
     record {
       kept = kept-more start.output s cut h.kept k;
-      place = place ∙ h.place;
-      inner = inner ∙ h.inner;
-      opened = ref ∙ h.opened;
-      none = λ q. let n = h.none q in (e.0 ∙ n.0, e.1 ∙ n.1);
-      one = λ p q. wrote_same (outer start.place) start.output s cut (taken_as start.place p) e (h.one p q);
+      place = ap rest place ∙ h.place;
+      shape = is ∙ h.shape;
+      none = λ q. let n = h.none q in (inner ∙ n.0, (e.0 ∙ n.1.0, e.1 ∙ n.1.1));
+      one = λ p q.
+          let w = h.one p q in
+          (subst (λ u. takes (outer start.place) (meant start.place p) u) (sym inner) w.0, wrote_same (outer start.place) start.output s cut (meant start.place p) e w.1);
     }
 
 two : (p q : Option Tree) (o : Option Trees) → as_kind kinds.Bare (before p (before q o)) ≡ None
@@ -98,40 +100,43 @@ whole_two : (p q : Option Tree) (ps : List (Option Tree)) → whole kinds.Bare (
 unfolding whole
 whole_two p q ps = two p q (all_trees ps)
 
-no_whole : (start : Writer) (cut : Output) (qs : List (Option Tree)) (e : Refusal) → whole kinds.Bare qs ≡ None → writes_tree (outer start.place) start.output (taken_as start.place (whole kinds.Bare qs)) (Err e) cut
-no_whole start cut qs e n =
-    subst (λ o. writes_tree (outer start.place) start.output (taken_as start.place o) (Err e) cut) (sym n)
-    (subst (λ o. writes_tree (outer start.place) start.output o (Err e) cut) (sym (taken_none start.place)) tt)
+no_whole : (start : Writer) (held : Writing) (qs : List (Option Tree)) (u : Under) (o : Option Tree) (e : Refusal) (after : Under) → rest held.place ≡ rest (outer start.place) → at_place (outer u) o (Err e) after → whole kinds.Bare qs ≡ None →
+    at_place (outer start.place) (meant start.place (whole kinds.Bare qs)) (Err e) (under.Plain (rest held.place))
+no_whole start held qs u o e after at w n =
+    stands_none start.place (outer start.place) (whole kinds.Bare qs) (Err e) (under.Plain (rest held.place)) refl (ap (meant start.place) n ∙ meant_none start.place)
+    ((refusal (outer u) o e after w).0, ap under.Plain at)
 
-refused_whole : (start before : Writer) (after cut : Output) (held : Writing) (ps : List (Option Tree)) (p : Option Tree) (e : Refusal) → Alone start before.output held ps → before.place ≡ held.inner →
-    writes_tree (outer before.place) before.output (taken_as before.place p) (Err e) after → (rest : List (Option Tree)) →
-    writes_tree (outer start.place) start.output (taken_as start.place (whole kinds.Bare (ps ++ (p ∷ rest)))) (Err e) cut
-refused_whole start before after cut held [] p e h at w [] =
-    subst (λ o. writes_tree (outer start.place) start.output (taken_as start.place o) (Err e) cut) (sym (whole_one p))
-    (still_refused (outer start.place) start.output after cut (taken_as start.place p) e (stands_there start before after held [] p (Err e) h at refl w))
-refused_whole start before after cut held [] p e h at w (q ∷ rest) = no_whole start cut (p ∷ (q ∷ rest)) e (whole_two p q rest)
-refused_whole start before after cut held (v ∷ []) p e h at w rest = no_whole start cut (v ∷ (p ∷ rest)) e (whole_two v p rest)
-refused_whole start before after cut held (v ∷ (u ∷ ps)) p e h at w rest = no_whole start cut (v ∷ (u ∷ (ps ++ (p ∷ rest)))) e (whole_two v u (ps ++ (p ∷ rest)))
+refused_whole : (start before : Writer) (held : Writing) (ps : List (Option Tree)) (p : Option Tree) (e : Refusal) (after : Under) → Alone start before.output held ps → before.place ≡ held.inner →
+    at_place (outer before.place) (meant before.place p) (Err e) after → (others : List (Option Tree)) →
+    at_place (outer start.place) (meant start.place (whole kinds.Bare (ps ++ (p ∷ others)))) (Err e) (under.Plain (rest held.place))
+refused_whole start before held [] p e after h at w [] =
+    let here = subst (λ u. at_place (outer u) (meant u p) (Err e) after) (at ∙ (h.none refl).0) w in
+    let left = refusal (outer start.place) (meant start.place p) e after here in
+    subst (λ o. at_place (outer start.place) (meant start.place o) (Err e) (under.Plain (rest held.place))) (sym (whole_one p))
+    (subst (λ a. at_place (outer start.place) (meant start.place p) (Err e) a) (left.1 ∙ ap under.Plain (sym h.place)) here)
+refused_whole start before held [] p e after h at w (q ∷ others) = no_whole start held (p ∷ (q ∷ others)) before.place (meant before.place p) e after h.place w (whole_two p q others)
+refused_whole start before held (v ∷ []) p e after h at w others = no_whole start held (v ∷ (p ∷ others)) before.place (meant before.place p) e after h.place w (whole_two v p others)
+refused_whole start before held (v ∷ (u ∷ ps)) p e after h at w others = no_whole start held (v ∷ (u ∷ (ps ++ (p ∷ others)))) before.place (meant before.place p) e after h.place w (whole_two v u (ps ++ (p ∷ others)))
 
 -- the refusal of a part is one of the whole
-pub alone_refused : (start before : Writer) (after cut : Output) (held : Writing) (ps : List (Option Tree)) (p : Option Tree) (e : Refusal) → Alone start before.output held ps → before.place ≡ held.inner → Kept start.output cut →
-    writes_tree (outer before.place) before.output (taken_as before.place p) (Err e) after → (rest : List (Option Tree)) → writer_permits start (whole kinds.Bare (ps ++ (p ∷ rest))) (Err e) (record { place = under.Plain held.place; output = cut })
-alone_refused start before after cut held ps p e h at k w rest = (k, (ap under.Plain h.place, refused_whole start before after cut held ps p e h at w rest))
+pub alone_refused : (start before : Writer) (cut : Output) (held : Writing) (ps : List (Option Tree)) (p : Option Tree) (e : Refusal) (after : Under) → Alone start before.output held ps → before.place ≡ held.inner → Kept start.output cut →
+    at_place (outer before.place) (meant before.place p) (Err e) after → (others : List (Option Tree)) → writer_permits start (whole kinds.Bare (ps ++ (p ∷ others))) (Err e) (record { place = under.Plain (rest held.place); output = cut })
+alone_refused start before cut held ps p e after h at k w others = (k, (refused_whole start before held ps p e after h at w others, tt))
 
 -- the whole is its one part
-pub alone_written : (start s : Writer) (held : Writing) (ps : List (Option Tree)) → Alone start s.output held ps → s.place ≡ under.Plain held.place → complete kinds.Bare ps ≡ true → writer_permits start (whole kinds.Bare ps) (Ok tt) s
-alone_written start s held [] h at done = absurd (no_false done)
-alone_written start s held (p ∷ []) h at done =
-    (h.kept, (at ∙ ap under.Plain h.place, subst (λ o. writes_tree (outer start.place) start.output (taken_as start.place o) (Ok tt) s.output) (sym (whole_one p)) (h.one p refl)))
-alone_written start s held (p ∷ (q ∷ ps)) h at done = absurd (no_false done)
+pub alone_written : (start : Writer) (s : Output) (held : Writing) (ps : List (Option Tree)) → Alone start s held ps → complete kinds.Bare ps ≡ true → writer_permits start (whole kinds.Bare ps) (Ok tt) (record { place = held.inner; output = s })
+alone_written start s held [] h done = absurd (no_false done)
+alone_written start s held (p ∷ []) h done =
+    (h.kept, subst (λ o. takes (outer start.place) (meant start.place o) held.inner × wrote (outer start.place) start.output (meant start.place o) s) (sym (whole_one p)) (h.one p refl))
+alone_written start s held (p ∷ (q ∷ ps)) h done = absurd (no_false done)
 
 -- what is answered where the compound was opened is answered there
 pub same_permits : (start : Writer) (s : Output) (held : Writing) (o : Option Tree) (r : Result (Unit {0}) Refusal) (after : Writer) → Alone start s held [] → writer_permits (record { place = held.inner; output = s }) o r after → writer_permits start o r after
-same_permits start s held o r after h p = (
-  kept-more start.output s after.output h.kept p.0,
-  (
-    p.1.0 ∙ ap (λ u. under.Plain (outer u)) h.inner,
-    writes_same (outer start.place) start.output s after.output (taken_as start.place o) r h.kept (h.none refl)
-        (subst (λ u. writes_tree (outer u) s (taken_as u o) r after.output) h.inner p.1.1),
-  ),
-)
+same_permits start s held o r after h p =
+    let n = h.none refl in (
+      kept-more start.output s after.output h.kept p.0,
+      (
+        subst (λ u. accepts (outer u) (meant u o) r after.place) n.0 p.1.0,
+        writes_same (outer start.place) start.output s after.output (meant start.place o) r h.kept n.1 (subst (λ u. writes_tree (outer u) s (meant u o) r after.output) n.0 p.1.1),
+      ),
+    )

@@ -1,6 +1,8 @@
 -- The bytes of a described value: its code and its descriptor before it.
-use Rattle.std.proofs.Common.{◌≡◌, ◌+◌, inl, inr, [], ◌∷◌, ◌++◌, Option, Some, None, true, ◌&&◌, Result, Ok, Err, is_some, length, refl, ap, sym, ◌∙◌, subst, arith, append_assoc, length-append, drop}
+use Rattle.std.proofs.Common.{◌≡◌, ◌+◌, ◌≤◌, [], ◌∷◌, ◌++◌, Option, Some, None, true, false, ◌&&◌, Result, Ok, Err, is_some, length, refl, ap, sym, ◌∙◌, subst, arith, append_assoc, length-append, drop}
+use Rattle.std.specs.Vec.{vec_capacity}
 use Rattle.amqp_size.specs.declared.refusal.Refusal.{Refusal}
+use Rattle.amqp_size.specs.declared.refusal.Refusal.TheVariants as error
 use Rattle.amqp_ser.specs.Tree.{Tree, Descriptor, scalar, list, array, map, described, variant, lazy, transparent}
 use Rattle.amqp_ser.specs.Limits.{is_length}
 use Rattle.amqp_ser.specs.Encoding.{enc, descriptor_form}
@@ -8,25 +10,27 @@ use Rattle.amqp_ser.specs.Writable.{within, descriptor_fits}
 use Rattle.amqp_ser.specs.Composites.{as_described, descriptor_of}
 use Rattle.amqp_ser.specs.declared.kind.Kind.TheVariants as kinds
 use Rattle.amqp_ser.proofs.Bools.{left_true, right_true}
-use Rattle.amqp_size.specs.Place.{outer}
+use Rattle.amqp_size.specs.Counted.{at_place}
+use Rattle.amqp_size.specs.Place.{outer, meant, rest}
 use Rattle.amqp_size.specs.WholePlace.{Place}
 use Rattle.amqp_size.specs.WholePlace as place
+use Rattle.amqp_size.specs.WholeUnder.{Under}
 use Rattle.amqp_size.specs.WholeUnder as under
-use Rattle.amqp_size.proofs.Described.{of_tree}
+use Rattle.amqp_size.proofs.Described.{of_tree, no_nested, no_scalar_described, no_array_described, no_transparent_described}
+use Rattle.amqp_size.proofs.Places.{meant_none, refusal}
 use Rattle.amqp_wire.specs.Entries.{entries}
 use Rattle.amqp_wire.specs.Heads.{in_array, bytes_at}
 use Rattle.amqp_wire.specs.Solid.{solid_at}
-use Rattle.amqp_wire.specs.Standing.{where_some, taken_as, stands_described, takes_described}
-use Rattle.amqp_wire.specs.Written.{Kept, Meets, Wrote, writes_tree, writer_permits, writer_has, AwaitsDescriptor}
+use Rattle.amqp_wire.specs.Standing.{after_descriptor}
+use Rattle.amqp_wire.specs.Written.{Kept, Meets, Wrote, takes, wrote, writes_tree, accepts, writer_permits, writer_has, Alone, stands_at, AwaitsDescriptor}
 use Rattle.amqp_wire.specs.declared.output.Output.{Output}
 use Rattle.amqp_wire.specs.declared.writer.Writer.{Writer}
 use Rattle.amqp_wire.specs.declared.writer.Writing.{Writing}
 use Rattle.amqp_wire.proofs.Alone.{alone_open}
 use Rattle.amqp_wire.proofs.Described.{descriptor_entries}
 use Rattle.amqp_wire.proofs.Few.{no_false}
-use Rattle.amqp_wire.proofs.Parts.{kept-more, kept-refl, never}
-use Rattle.amqp_wire.proofs.Standing.{taken_none}
-use Rattle.amqp_wire.proofs.Heading.{no_some, own_bytes, value_solid, taken_plain}
+use Rattle.amqp_wire.proofs.Heading.{no_some, Behind, behind, plain_behind, behind_rest, described_accepts, descriptor_refused}
+use Rattle.amqp_wire.proofs.Parts.{kept-more, kept-refl}
 
 descriptor_solid : (t : Tree) → is_some (descriptor_of (Some t)) ≡ true → solid_at place.Descriptor t ≡ true
 descriptor_solid (scalar s) h = refl
@@ -38,8 +42,19 @@ descriptor_solid (variant i t) h = absurd (no_false h)
 descriptor_solid (lazy bs) h = absurd (no_false h)
 descriptor_solid (transparent ts) h = absurd (no_false h)
 
+-- the bytes there are the tree's own
+own_bytes : (p : Place) (t : Tree) → in_array p ≡ false → bytes_at (in_array p) t ≡ enc t
+own_bytes p t h = ap (λ a. bytes_at a t) h
+
+-- where a described value fits, there is room for its code
+described_room : (p : Place) (s : Output) (x : Descriptor) (v : Tree) → in_array p ≡ false → Meets p s (described x v) → length s.out.items + 1 ≤ vec_capacity s.out
+described_room p s x v b m =
+    let r = m.room in
+    let own : length (bytes_at (in_array p) (described x v)) ≡ length (0x00 ∷ (descriptor_form x ++ enc v)) = ap length (own_bytes p (described x v) b) in
+    omega arith
+
 -- the table and the room of a described value are also its descriptor's
-descriptor_meets : (p : Place) (start before : Output) (x : Descriptor) (t v : Tree) → stands_described p ≡ true → Kept start before → before.out.items ≡ start.out.items ++ (0x00 ∷ []) → before.taken ≡ start.taken → descriptor_of (Some t) ≡ Some x → Meets p start (described x v) → Meets place.Descriptor before t
+descriptor_meets : (p : Place) (start before : Output) (x : Descriptor) (t v : Tree) → in_array p ≡ false → Kept start before → before.out.items ≡ start.out.items ++ (0x00 ∷ []) → before.taken ≡ start.taken → descriptor_of (Some t) ≡ Some x → Meets p start (described x v) → Meets place.Descriptor before t
 descriptor_meets p start before x t v b k out taken o m =
     let f = of_tree t x o in
     let some : is_some (descriptor_of (Some t)) ≡ true = ap is_some o in
@@ -58,114 +73,159 @@ descriptor_meets p start before x t v b k out taken o m =
     }
 
 -- after the descriptor they are the value's
-value_meets : (p : Place) (start mid : Output) (x : Descriptor) (v : Tree) → stands_described p ≡ true → Kept start mid → mid.out.items ≡ start.out.items ++ (0x00 ∷ descriptor_form x) → mid.taken ≡ start.taken → Meets p start (described x v) → Meets p mid v
-value_meets p start mid x v b k out taken m =
+value_meets : (p q : Place) (start mid : Output) (x : Descriptor) (v : Tree) → Behind p q → Kept start mid → mid.out.items ≡ start.out.items ++ (0x00 ∷ descriptor_form x) → mid.taken ≡ start.taken → Meets p start (described x v) → Meets q mid v
+value_meets p q start mid x v b k out taken m =
+    let f = b.fits x v m.solid_it in
     record {
       within_it = right_true (descriptor_fits x) (within v) (right_true (is_length (length (enc (described x v)))) (descriptor_fits x && within v) m.within_it);
-      solid_it = value_solid p x v b m.solid_it;
+      solid_it = f.0;
       rest = m.rest;
       listed = ap (λ n. drop n mid.table.items) taken ∙ ap (λ w. drop start.taken w.items) k.table ∙ m.listed;
       room =
           let r = m.room in
           let c = k.capacity in
-          let own : length (bytes_at (in_array p) (described x v)) ≡ length (0x00 ∷ (descriptor_form x ++ enc v)) = ap length (own_bytes p (described x v) b) in
-          let alone : length (bytes_at (in_array p) v) ≡ length (enc v) = ap length (own_bytes p v b) in
+          let own : length (bytes_at (in_array p) (described x v)) ≡ length (0x00 ∷ (descriptor_form x ++ enc v)) = ap length (own_bytes p (described x v) f.1) in
+          let alone : length (bytes_at (in_array q) v) ≡ length (enc v) = ap length (own_bytes q v b.own) in
           let l : length mid.out.items ≡ length start.out.items + length (0x00 ∷ descriptor_form x) = ap length out ∙ length-append start.out.items (0x00 ∷ descriptor_form x) in
           let w : length (descriptor_form x ++ enc v) ≡ length (descriptor_form x) + length (enc v) = length-append (descriptor_form x) (enc v) in omega arith;
     }
 
+-- the code and the descriptor stand before the value, where this is the described value's place
+abbrev stands_headed : Place → Output → Output → Descriptor → Type 0
+stands_headed p start mid x = (v : Tree) → Meets p start (described x v) → (mid.out.items ≡ start.out.items ++ (0x00 ∷ descriptor_form x)) × (mid.taken ≡ start.taken)
+
 -- a value after its descriptor is the described value
-described_writes : (p : Place) (start mid after : Output) (x : Descriptor) (o : Option Tree) (r : Result (Unit {0}) Refusal) → stands_described p ≡ true → Kept start mid →
-    ((v : Tree) → Meets p start (described x v) → (mid.out.items ≡ start.out.items ++ (0x00 ∷ descriptor_form x)) × (mid.taken ≡ start.taken)) →
-    writes_tree p mid o r after → writes_tree p start (as_described (Some x) o) r after
-described_writes p start mid after x None (Ok u) b k f h = h
-described_writes p start mid after x None (Err e) b k f h = h
-described_writes p start mid after x (Some v) (Ok u) b k f h = λ m.
+described_wrote : (p q : Place) (start mid after : Output) (x : Descriptor) (o : Option Tree) → Behind p q → Kept start mid → stands_headed p start mid x → wrote q mid o after → wrote p start (as_described (Some x) o) after
+described_wrote p q start mid after x None b k f h = h
+described_wrote p q start mid after x (Some v) b k f h = λ m.
     let s = f v m in
-    let w = h (value_meets p start mid x v b k s.0 s.1 m) in
+    let own = (b.fits x v m.solid_it).1 in
+    let w = h (value_meets p q start mid x v b k s.0 s.1 m) in
     record {
-      out = w.out ∙ ap (λ c. c ++ bytes_at (in_array p) v) s.0 ∙ ap (λ c. (start.out.items ++ (0x00 ∷ descriptor_form x)) ++ c) (own_bytes p v b)
-          ∙ append_assoc start.out.items (0x00 ∷ descriptor_form x) (enc v) ∙ ap (λ c. start.out.items ++ c) (sym (own_bytes p (described x v) b));
+      out = w.out ∙ ap (λ c. c ++ bytes_at (in_array q) v) s.0 ∙ ap (λ c. (start.out.items ++ (0x00 ∷ descriptor_form x)) ++ c) (own_bytes q v b.own)
+          ∙ append_assoc start.out.items (0x00 ∷ descriptor_form x) (enc v) ∙ ap (λ c. start.out.items ++ c) (sym (own_bytes p (described x v) own));
       taken = let n = w.taken in let q = s.1 in omega arith;
     }
-described_writes p start mid after x (Some v) (Err e) b k f h = λ m. let s = f v m in h (value_meets p start mid x v b k s.0 s.1 m)
+
+nothing_wrote : (p : Place) (s after : Output) (o : Option Tree) → o ≡ None → wrote p s o after
+nothing_wrote p s after o e = subst (λ x. wrote p s x after) (sym e) tt
+
+described_writes : (u w : Under) (start mid after : Output) (x : Descriptor) (o : Option Tree) → after_descriptor u ≡ Some w → Kept start mid → stands_headed (outer u) start mid x → wrote (outer w) mid (meant w o) after → wrote (outer u) start (meant u (as_described (Some x) o)) after
+described_writes (under.Plain p) w start mid after x o e k f h =
+    let q = plain_behind p w e in
+    described_wrote p q.0 start mid after x o (behind p q.0 q.1.0) k f (subst (λ v. wrote (outer v) mid (meant v o) after) (sym q.1.1) h)
+described_writes (under.Array p) w start mid after x o e k f h = nothing_wrote p start after _ (no_array_described x o)
+described_writes (under.Transparent p) w start mid after x o e k f h = nothing_wrote p start after _ (no_transparent_described x o)
+described_writes (under.Scalar m p) w start mid after x o e k f h = nothing_wrote p start after _ (no_scalar_described m x o)
+described_writes (under.Nothing p) w start mid after x o e k f h = tt
+
+described_permits : (start mid : Writer) (x : Descriptor) → after_descriptor start.place ≡ Some mid.place → Kept start.output mid.output → stands_headed (outer start.place) start.output mid.output x →
+    (o : Option Tree) (r : Result (Unit {0}) Refusal) (after : Writer) → writer_permits mid o r after → writer_permits start (as_described (Some x) o) r after
+described_permits start mid x e k f o (Ok u) after p =
+    (kept-more start.output mid.output after.output k p.0, (described_accepts start.place mid.place x e o (Ok u) after.place p.1.0, described_writes start.place mid.place start.output mid.output after.output x o e k f p.1.1))
+described_permits start mid x e k f o (Err v) after p =
+    (kept-more start.output mid.output after.output k p.0, (described_accepts start.place mid.place x e o (Err v) after.place p.1.0, tt))
 
 -- what stands before the value, once the descriptor is written
-head_written : (p : Place) (start before mid : Output) (x : Descriptor) (t : Tree) → stands_described p ≡ true → Kept start before → before.out.items ≡ start.out.items ++ (0x00 ∷ []) → before.taken ≡ start.taken → descriptor_of (Some t) ≡ Some x → (Meets place.Descriptor before t → Wrote place.Descriptor before t mid) →
-    (v : Tree) → Meets p start (described x v) → (mid.out.items ≡ start.out.items ++ (0x00 ∷ descriptor_form x)) × (mid.taken ≡ start.taken)
-head_written p start before mid x t b k out taken o f v m =
-    let w = f (descriptor_meets p start before x t v b k out taken o m) in
-    let n : length (entries t) ≡ 0 = ap length (descriptor_entries t (ap is_some o)) in (
+head_written : (p : Place) (start before mid : Output) (x : Descriptor) (t : Tree) → ((v : Tree) → solid_at p (described x v) ≡ true → in_array p ≡ false) → Kept start before →
+    (length start.out.items + 1 ≤ vec_capacity start.out → (before.out.items ≡ start.out.items ++ (0x00 ∷ [])) × (before.taken ≡ start.taken)) → descriptor_of (Some t) ≡ Some x → (Meets place.Descriptor before t → Wrote place.Descriptor before t mid) → stands_headed p start mid x
+head_written p start before mid x t own k head o f v m =
+    let b = own v m.solid_it in
+    let h = head (described_room p start x v b m) in
+    let w = f (descriptor_meets p start before x t v b k h.0 h.1 o m) in
+    let n : length (entries t) ≡ 0 = ap length (descriptor_entries t (ap is_some o)) in
+    let out = h.0 in
+    let taken = h.1 in (
       w.out ∙ ap (λ c. c ++ enc t) out ∙ append_assoc start.out.items (0x00 ∷ []) (enc t) ∙ ap (λ c. start.out.items ++ (0x00 ∷ c)) (of_tree t x o).1.0,
       (let a = w.taken in omega arith),
     )
 
-pub described_permits : (start before mid : Writer) (x : Descriptor) (t : Tree) → takes_described start.place ≡ true → mid.place ≡ start.place → Kept start.output before.output → Kept before.output mid.output →
-    before.output.out.items ≡ start.output.out.items ++ (0x00 ∷ []) → before.output.taken ≡ start.output.taken → descriptor_of (Some t) ≡ Some x → (Meets place.Descriptor before.output t → Wrote place.Descriptor before.output t mid.output) →
-    (o : Option Tree) (r : Result (Unit {0}) Refusal) (after : Writer) → writer_permits mid o r after → writer_permits start (as_described (Some x) o) r after
-described_permits start before mid x t b same k l out taken d f o r after p =
-    let at = outer start.place in
-    let s = kept-more start.output before.output mid.output k l in
-    let q = taken_plain start.place o b in
-    let to = taken_plain start.place (as_described (Some x) o) b in
-    let here : writes_tree at mid.output o r after.output =
-    subst (λ w. writes_tree at mid.output w r after.output) q.0 (subst (λ u. writes_tree (outer u) mid.output (taken_as u o) r after.output) same p.1.1) in
-    let there = described_writes at start.output mid.output after.output x o r q.1 s (head_written at start.output before.output mid.output x t q.1 k out taken d f) here in (
-      kept-more start.output mid.output after.output s p.0,
-      (p.1.0 ∙ ap (λ u. under.Plain (outer u)) same, subst (λ w. writes_tree at start.output w r after.output) (sym to.0) there),
-    )
-
--- no descriptor was taken where none is
-none_taken : (before : Writer) (after : Output) (d : Option Tree) → before.place ≡ under.Nothing place.Descriptor → writes_tree (outer before.place) before.output (taken_as before.place d) (Ok tt) after → ⊥
-none_taken before after d e h = subst (λ u. writes_tree (outer u) before.output (taken_as u d) (Ok tt) after) e h
+own_there : (u w : Under) (x : Descriptor) (v : Tree) → after_descriptor u ≡ Some w → solid_at (outer u) (described x v) ≡ true → in_array (outer u) ≡ false
+own_there u w x v e = go (outer u)
+  where
+    go : (p : Place) → solid_at p (described x v) ≡ true → in_array p ≡ false
+    go place.Root h = refl
+    go place.Inside h = refl
+    go place.First h = absurd (no_false h)
+    go (place.Element c) h = absurd (no_false h)
+    go place.Descriptor h = refl
+    go (place.Value n b) h = refl
 
 -- what is taken as a descriptor is one
-one_taken : (s after : Output) (d : Option Tree) (o : Option Descriptor) → descriptor_of d ≡ o → writes_tree place.Descriptor s (where_some o d) (Ok tt) after → (x : Descriptor) × ((o ≡ Some x) × ((t : Tree) × ((d ≡ Some t) × (Meets place.Descriptor s t → Wrote place.Descriptor s t after))))
-one_taken s after d None e h = absurd h
-one_taken s after None (Some x) e h = absurd h
-one_taken s after (Some t) (Some x) e h = (x, (refl, (t, (refl, h))))
+one_taken : (d : Option Tree) (after : Under) (o : Option Descriptor) → descriptor_of d ≡ o → takes place.Descriptor d after → (x : Descriptor) × ((o ≡ Some x) × ((t : Tree) × (d ≡ Some t)))
+one_taken None after o q h = absurd h
+one_taken (Some t) after None q h = absurd (no_false (sym (ap is_some q) ∙ h.suited))
+one_taken (Some t) after (Some x) q h = (x, (refl, (t, refl)))
 
 -- the value to come is described
-pub value_described : (start before now : Writer) (held : Writing) (d : Option Tree) (part : Result (Unit {0}) Refusal) → AwaitsDescriptor start before held → writer_permits before d part now → part ≡ Ok tt →
-    (mid : Writer) × (writer_has mid kinds.Bare (record { place = under.Plain held.place; output = now.output }) held [] × ((t : Option Tree) (r : Result (Unit {0}) Refusal) (after : Writer) → writer_permits mid t r after → writer_permits start (as_described (descriptor_of d) t) r after))
-value_described start before now held d part w p e = elim w.head [ inl h ↦ taken h | inr h ↦ absurd (none_taken before now.output d h.0 here) ]
-  where
-    here : writes_tree (outer before.place) before.output (taken_as before.place d) (Ok tt) now.output
-    here = subst (λ r. writes_tree (outer before.place) before.output (taken_as before.place d) r now.output) e p.1.1
+pub value_described : (start before now : Writer) (held new : Writing) (d : Option Tree) (part : Result (Unit {0}) Refusal) → AwaitsDescriptor start before held → writer_permits before d part now → part ≡ Ok tt →
+    after_descriptor held.inner ≡ Some new.inner → new.place ≡ held.place → new.shape ≡ held.shape →
+    (mid : Writer) × (writer_has mid kinds.Bare (record { place = under.Plain (rest held.place); output = now.output }) new [] × ((t : Option Tree) (r : Result (Unit {0}) Refusal) (after : Writer) → writer_permits mid t r after → writer_permits start (as_described (descriptor_of d) t) r after))
+value_described start before now held new d part w p e to same is =
+    let mid : Writer = record { place = new.inner; output = now.output } in
+    let there : after_descriptor start.place ≡ Some new.inner = ap after_descriptor (sym w.inner) ∙ to in
+    let here = subst (λ r. accepts (outer before.place) (meant before.place d) r now.place × writes_tree (outer before.place) before.output (meant before.place d) r now.output) e p.1 in
+    let at = subst (λ u. takes (outer u) (meant u d) now.place × wrote (outer u) before.output (meant u d) now.output) w.at here in
+    let one = one_taken d now.place (descriptor_of d) refl at.0 in
+    let x = one.0 in
+    let t = one.1.1.0 in
+    let is_one : descriptor_of (Some t) ≡ Some x = ap descriptor_of (sym one.1.1.1) ∙ one.1.0 in
+    let f : Meets place.Descriptor before.output t → Wrote place.Descriptor before.output t now.output = subst (λ o. wrote place.Descriptor before.output o now.output) one.1.1.1 at.1 in
+    let k = kept-more start.output before.output now.output w.kept p.0 in (
+      mid,
+      (
+        (alone_open mid now.output new (kept-refl now.output) (refl, refl) (ap rest same ∙ w.place ∙ sym (behind_rest start.place new.inner there)) refl (is ∙ w.shape), ap (λ q. under.Plain (rest q)) (sym same)),
+        λ v r after q. subst (λ y. writer_permits start (as_described y v) r after) (sym one.1.0)
+            (described_permits start mid x there k
+            (head_written (outer start.place) start.output before.output now.output x t (λ c s. own_there start.place new.inner x c there s) w.kept w.head is_one f) v r after q),
+      ),
+    )
 
-    taken : (takes_described start.place ≡ true) × ((before.place ≡ under.Plain place.Descriptor) × ((before.output.out.items ≡ start.output.out.items ++ (0x00 ∷ [])) × (before.output.taken ≡ start.output.taken))) →
-        (mid : Writer) × (writer_has mid kinds.Bare (record { place = under.Plain held.place; output = now.output }) held [] × ((t : Option Tree) (r : Result (Unit {0}) Refusal) (after : Writer) → writer_permits mid t r after → writer_permits start (as_described (descriptor_of d) t) r after))
-    taken h =
-        let mid : Writer = record { place = start.place; output = now.output } in
-        let one = one_taken before.output now.output d (descriptor_of d) refl (subst (λ u. writes_tree (outer u) before.output (taken_as u d) (Ok tt) now.output) h.1.0 here) in
-        let is : descriptor_of (Some one.1.1.0) ≡ Some one.0 = ap descriptor_of (sym one.1.1.1.0) ∙ one.1.0 in (
-          mid,
-          (
-            (alone_open mid now.output held (kept-refl now.output) (refl, refl) w.place w.inner w.opened, refl),
-            λ t r after q. subst (λ y. writer_permits start (as_described y t) r after) (sym one.1.0)
-                (described_permits start before mid one.0 one.1.1.0 h.0 refl w.kept p.0 h.1.1.0 h.1.1.1 is one.1.1.1.1 t r after q),
-          ),
-        )
+-- a refused descriptor: the refusal is one of the described value
+refused_under : (start before : Writer) (held : Writing) (d : Option Tree) (e : Refusal) (after : Under) → AwaitsDescriptor start before held → at_place place.Descriptor d (Err e) after → (o : Option Descriptor) → descriptor_of d ≡ o → (t : Option Tree) →
+    at_place (outer start.place) (meant start.place (as_described o t)) (Err e) (under.Plain (rest (outer start.place)))
+refused_under start before held d e after w h None q t =
+    subst (λ x. at_place (outer start.place) x (Err e) (under.Plain (rest (outer start.place)))) (sym (meant_none start.place)) ((refusal place.Descriptor d e after h).0, refl)
+refused_under start before held None e after w h (Some y) q t = absurd (no_some y q)
+refused_under start before held (Some x) e after w h (Some y) q t = descriptor_refused start.place y x e q h.0 t
 
--- the refusal of a descriptor is one of the described value
-refuses_described : (start before : Writer) (after : Output) (held : Writing) (d : Option Tree) (e : Refusal) → AwaitsDescriptor start before held → writes_tree (outer before.place) before.output (taken_as before.place d) (Err e) after →
-    (o : Option Descriptor) → descriptor_of d ≡ o → (t : Option Tree) (x : Tree) → taken_as start.place (as_described o t) ≡ Some x → Meets (outer start.place) start.output x → ⊥
-refuses_described start before after held d e w h None is t x q m = no_some x (sym (taken_none start.place) ∙ q)
-refuses_described start before after held d e w h (Some y) is None x q m = no_some x (sym (taken_none start.place) ∙ q)
-refuses_described start before after held d e w h (Some y) is (Some v) x q m = elim w.head [ inl k ↦ open_one k d h is | inr k ↦ k.1 y v x q m ]
-  where
-    open_one : (takes_described start.place ≡ true) × ((before.place ≡ under.Plain place.Descriptor) × ((before.output.out.items ≡ start.output.out.items ++ (0x00 ∷ [])) × (before.output.taken ≡ start.output.taken))) →
-        (f : Option Tree) → writes_tree (outer before.place) before.output (taken_as before.place f) (Err e) after → descriptor_of f ≡ Some y → ⊥
-    open_one k None g s = no_some y s
-    open_one k (Some t) g s =
-        let p = taken_plain start.place (Some (described y v)) k.0 in
-        let same : described y v ≡ x = let z : Some (described y v) ≡ Some x = sym p.0 ∙ q in cc in
-        let n : Meets (outer start.place) start.output (described y v) = subst (λ z. Meets (outer start.place) start.output z) (sym same) m in
-        let there = subst (λ z. writes_tree place.Descriptor before.output (where_some z (Some t)) (Err e) after) s (subst (λ u. writes_tree (outer u) before.output (taken_as u (Some t)) (Err e) after) k.1.0 g) in
-        there (descriptor_meets (outer start.place) start.output before.output y t v p.1 w.kept k.1.1.0 k.1.1.1 s n)
+pub described_refused : (start before : Writer) (cut : Output) (held : Writing) (d : Option Tree) (part : Result (Unit {0}) Refusal) (e : Refusal) (after : Under) → AwaitsDescriptor start before held → part ≡ Err e → accepts (outer before.place) (meant before.place d) part after → Kept start.output cut →
+    (t : Option Tree) → writer_permits start (as_described (descriptor_of d) t) (Err e) (record { place = under.Plain (rest held.place); output = cut })
+described_refused start before cut held d part e after w is h k t =
+    let here = subst (λ u. at_place (outer u) (meant u d) (Err e) after) w.at (subst (λ r. accepts (outer before.place) (meant before.place d) r after) is h) in
+    (k, (subst (λ q. at_place (outer start.place) (meant start.place (as_described (descriptor_of d) t)) (Err e) (under.Plain q)) (sym w.place) (refused_under start before held d e after w here (descriptor_of d) refl t), tt))
 
-pub described_refused : (start before : Writer) (after cut : Output) (held : Writing) (d : Option Tree) (part : Result (Unit {0}) Refusal) (e : Refusal) → AwaitsDescriptor start before held → part ≡ Err e → writes_tree (outer before.place) before.output (taken_as before.place d) part after → Kept start.output cut →
-    (t : Option Tree) → writer_permits start (as_described (descriptor_of d) t) (Err e) (record { place = under.Plain held.place; output = cut })
-described_refused start before after cut held d part e w is h k t =
-    let here = subst (λ r. writes_tree (outer before.place) before.output (taken_as before.place d) r after) is h in
-    (k, (ap under.Plain w.place, never (outer start.place) start.output cut (taken_as start.place (as_described (descriptor_of d) t)) e (refuses_described start before after held d e w here (descriptor_of d) refl t)))
+-- a described value is no descriptor
+pub nested_refused : (start before : Writer) (cut : Output) (held : Writing) (d : Option Tree) (part : Result (Unit {0}) Refusal) (after : Under) (e : Refusal) → AwaitsDescriptor start before held → part ≡ Ok tt → accepts (outer before.place) (meant before.place d) part after → held.inner ≡ under.Plain place.Descriptor → e ≡ error.InvalidValue → Kept start.output cut →
+    (t : Option Tree) → writer_permits start (as_described (descriptor_of d) t) (Err e) (record { place = under.Plain (rest held.place); output = cut })
+nested_refused start before cut held d part after e w is h at q k t =
+    let here = subst (λ u. takes (outer u) (meant u d) after) w.at (subst (λ r. accepts (outer before.place) (meant before.place d) r after) is h) in
+    let one = one_taken d after (descriptor_of d) refl here in
+    let root : start.place ≡ under.Plain place.Descriptor = sym w.inner ∙ at in (
+      k,
+      (
+        subst (λ p. at_place (outer start.place) (meant start.place (as_described (descriptor_of d) t)) (Err e) (under.Plain p)) (sym w.place)
+            (subst (λ u. at_place (outer u) (meant u (as_described (descriptor_of d) t)) (Err e) (under.Plain (rest (outer u)))) (sym root)
+            (subst (λ y. at_place place.Descriptor (as_described y t) (Err e) (under.Plain place.Descriptor)) (sym one.1.0) (no_nested one.0 t e q))),
+        tt,
+      ),
+    )
+
+-- a compound with no part yet is ready for a descriptor
+pub ready : (start s : Writer) (held new : Writing) → Alone start s.output held [] → new.place ≡ held.place → new.inner ≡ held.inner → new.shape ≡ held.shape → stands_at new s.output → (after : Writer) → Kept s.output after.output → after.place ≡ under.Plain place.Descriptor →
+    (length s.output.out.items + 1 ≤ vec_capacity s.output.out → (after.output.out.items ≡ s.output.out.items ++ (0x00 ∷ [])) × (after.output.taken ≡ s.output.taken)) → AwaitsDescriptor start after new
+ready start s held new h same inner is at after k d f =
+    let n = h.none refl in
+    record {
+      kept = kept-more start.output s.output after.output h.kept k;
+      place = ap rest same ∙ h.place;
+      shape = is ∙ h.shape;
+      inner = inner ∙ n.0;
+      stands = (at.0 ∙ n.1.1, at.1 ∙ ap length n.1.0);
+      at = d;
+      head = λ room.
+          let l = ap length n.1.0 in
+          let c = h.kept.capacity in
+          let g = f (omega arith) in
+          (g.0 ∙ ap (λ b. b ++ (0x00 ∷ [])) n.1.0, g.1 ∙ n.1.1);
+    }

@@ -1,5 +1,5 @@
 -- The bytes after each part.
-use Rattle.std.proofs.Common.{◌≡◌, ℕ, ◌+◌, List, [], ◌∷◌, ◌++◌, Option, Some, None, Bool, true, false, not, ◌&&◌, Result, Ok, Err, length, refl, ap, sym, ◌∙◌, subst, arith, append_assoc, append-nil, length-append, drop, take, is_err}
+use Rattle.std.proofs.Common.{◌≡◌, ℕ, ◌+◌, ◌≤◌, List, [], ◌∷◌, ◌++◌, Option, Some, Bool, true, false, not, ◌&&◌, Ok, Err, length, refl, ap, sym, ◌∙◌, subst, arith, append_assoc, append-nil, length-append, drop, take}
 use Rattle.std.specs.Vec.{vec_capacity}
 use Rattle.amqp_size.specs.declared.refusal.Refusal.{Refusal}
 use Rattle.amqp_ser.specs.Tree.{Tree, Trees, no_trees, more}
@@ -9,7 +9,8 @@ use Rattle.amqp_ser.specs.declared.kind.Kind.{Kind}
 use Rattle.amqp_ser.specs.declared.kind.Kind.TheVariants as kinds
 use Rattle.amqp_ser.proofs.Bools.{left_true, right_true, and_assoc}
 use Rattle.amqp_ser.proofs.Joins.{join, joined, all_trees-append, within-join, enc_each-join, payload_each-join}
-use Rattle.amqp_size.specs.Place.{outer, shape_of, inner_under}
+use Rattle.amqp_size.specs.Counted.{at_place}
+use Rattle.amqp_size.specs.Place.{outer, meant, rest, shape_of, inner_under}
 use Rattle.amqp_size.specs.WholePlace.{Place}
 use Rattle.amqp_size.specs.declared.place.Shape.{Shape}
 use Rattle.amqp_size.specs.declared.place.Shape.TheVariants as shape
@@ -17,16 +18,16 @@ use Rattle.amqp_size.specs.WholeUnder.{Under}
 use Rattle.amqp_size.specs.WholeUnder as under
 use Rattle.amqp_wire.specs.Entries.{entries, entries_each, heads}
 use Rattle.amqp_wire.specs.Heads.{in_array, bytes_at, opening, after_opening}
-use Rattle.amqp_wire.specs.Solid.{solid_at, solid_each}
-use Rattle.amqp_wire.specs.Standing.{taken_as, opened_as, part_place, is_bare}
-use Rattle.amqp_wire.specs.Written.{Kept, Meets, Wrote, writes_tree, writer_permits, Met, Written, Room, opens}
+use Rattle.amqp_wire.specs.Solid.{solid, solid_at, solid_each}
+use Rattle.amqp_wire.specs.Standing.{part_place, part_at, is_bare, inner_after}
+use Rattle.amqp_wire.specs.Written.{Kept, Meets, Wrote, Taken, writer_permits, Met, Written, Room, opens}
 use Rattle.amqp_wire.specs.declared.output.Output.{Output}
 use Rattle.amqp_wire.specs.declared.writer.Writer.{Writer}
 use Rattle.amqp_wire.specs.declared.writer.Writing.{Writing}
 use Rattle.amqp_wire.proofs.Lists.{extends-more, take_front, drop_past, same_front}
 use Rattle.amqp_wire.proofs.Spelled.{Spelled, spelled}
 use Rattle.amqp_wire.proofs.Split.{split, entries-join}
-use Rattle.amqp_wire.proofs.Standing.{taken_none, compound_taken}
+use Rattle.amqp_wire.proofs.Standing.{part_spoils, same_form, next_stands, suited_more, map_inside, first_inner, no_parts}
 
 pub kept-more : (a b c : Output) → Kept a b → Kept b c → Kept a c
 kept-more a b c h k =
@@ -60,8 +61,8 @@ not_refused : (a : Bool) (kind : Shape) (s : Output) (ts : Trees) → Room a kin
 not_refused a kind s ts m e = (subst (λ w. Room a w s ts) e m).small
 
 -- the table and the room of a compound are also those of its parts
-pub part_meets : (a : Bool) (kind : Shape) (start s : Output) (held : Writing) (ts : Trees) (t : Tree) (us : Trees) → Room a kind start (join ts (more t us)) → Kept start s → Met a kind start s held ts (more t us) → Meets (part_place kind) s t
-part_meets a kind start s held ts t us m k b =
+pub part_meets : (a : Bool) (kind : Shape) (start s : Output) (ts : Trees) (t : Tree) (us : Trees) → Room a kind start (join ts (more t us)) → Kept start s → Met a kind start s ts (more t us) → Meets (part_place kind) s t
+part_meets a kind start s ts t us m k b =
     let all = join ts (more t us) in
     let hd = heads kind all in
     let op = opening a kind hd in
@@ -106,13 +107,13 @@ none_after shape.Transparent = refl
 none_after shape.Bare = refl
 none_after shape.Refused = refl
 
-met_more : (a : Bool) (kind : Shape) (start s after : Output) (held new : Writing) (ts : Trees) (t : Tree) → Kept start s → (Meets (part_place kind) s t → Wrote (part_place kind) s t after) → new.refused ≡ held.refused →
-    ((us : Trees) → Room a kind start (join ts us) → Met a kind start s held ts us) → (us : Trees) → Room a kind start (join (join ts (more t no_trees)) us) → Met a kind start after new (join ts (more t no_trees)) us
-met_more a kind start s after held new ts t k f g h us m =
+met_more : (a : Bool) (kind : Shape) (start s after : Output) (ts : Trees) (t : Tree) → Kept start s → (Meets (part_place kind) s t → Wrote (part_place kind) s t after) →
+    ((us : Trees) → Room a kind start (join ts us) → Met a kind start s ts us) → (us : Trees) → Room a kind start (join (join ts (more t no_trees)) us) → Met a kind start after (join ts (more t no_trees)) us
+met_more a kind start s after ts t k f h us m =
     let same : join (join ts (more t no_trees)) us ≡ join ts (more t us) = join-assoc ts (more t no_trees) us in
     let n = subst (λ w. Room a kind start w) same m in
     let b = h (more t us) n in
-    let w = f (part_meets a kind start s held ts t us n k b) in
+    let w = f (part_meets a kind start s ts t us n k b) in
     let op = λ (x : Trees). opening a kind (heads kind x) in
     let parts : after_opening kind (join ts (more t no_trees)) ≡ after_opening kind ts ++ part_of kind t =
     after-join kind ts t no_trees (not_refused a kind start (join ts (more t us)) n) ∙ ap (λ bs. after_opening kind ts ++ (part_of kind t ++ bs)) (none_after kind) ∙ ap (λ bs. after_opening kind ts ++ bs) (append-nil (part_of kind t)) in
@@ -120,7 +121,6 @@ met_more a kind start s after held new ts t k f g h us m =
     let len : length (entries_each (join ts (more t no_trees))) ≡ length (entries_each ts) + length (entries t) = ap length each ∙ length-append (entries_each ts) (entries t) in
     let heads_len : length (heads kind (join (join ts (more t no_trees)) us)) ≡ length (heads kind (join ts (more t us))) = ap (λ x. length (heads kind x)) same in
     record {
-      opened = g ∙ b.opened;
       out = w.out ∙ ap (λ x. x ++ part_of kind t) b.out ∙ append_assoc start.out.items (op (join ts (more t us)) ++ after_opening kind ts) (part_of kind t)
           ∙ ap (λ x. start.out.items ++ x) (append_assoc (op (join ts (more t us))) (after_opening kind ts) (part_of kind t) ∙ ap (λ x. op (join ts (more t us)) ++ x) (sym parts) ∙ ap (λ x. op x ++ after_opening kind (join ts (more t no_trees))) (sym same));
       taken = let c = w.taken in let d = b.taken in omega arith;
@@ -141,10 +141,8 @@ room_of p kind s ts t e h m =
     }
 
 -- the table and the room of the whole are those of its parts
-pub room_for : (u : Under) (k : Kind) (s : Output) (ts : Trees) (t : Tree) → is_bare k ≡ false → taken_as u (as_kind k (Some ts)) ≡ Some t → Meets (outer u) s t → Room (in_array (outer u)) (opened_as u k) s ts
-room_for u k s ts t b q m =
-    let c = compound_taken u k ts t b q m.solid_it in
-    subst (λ w. Room (in_array (outer u)) w s ts) (sym c.1) (room_of (outer u) (shape_of u k) s ts t (split u k ts t b c.0) (spelled (outer u) u k ts t b c.0 m.within_it m.solid_it) m)
+pub room_for : (u : Under) (k : Kind) (s : Output) (ts : Trees) (t : Tree) → is_bare k ≡ false → meant u (as_kind k (Some ts)) ≡ Some t → Meets (outer u) s t → Room (in_array (outer u)) (shape_of u k) s ts
+room_for u k s ts t b q m = room_of (outer u) (shape_of u k) s ts t (split u k ts t b q) (spelled (outer u) u k ts t b q m.within_it m.solid_it) m
 
 whole_parts : (kind : Kind) (ps : List (Option Tree)) (ts : Trees) (p : Option Tree) (rest : List (Option Tree)) → all_trees ps ≡ Some ts → whole kind (ps ++ (p ∷ rest)) ≡ as_kind kind (joined (Some ts) (before p (all_trees rest)))
 unfolding whole
@@ -154,43 +152,50 @@ pub whole_of : (kind : Kind) (ps : List (Option Tree)) (ts : Trees) → all_tree
 unfolding whole
 whole_of kind ps ts h = ap (as_kind kind) h
 
-pub never : (a : Place) (start cut : Output) (o : Option Tree) (e : Refusal) → ((t : Tree) → o ≡ Some t → Meets a start t → ⊥) → writes_tree a start o (Err e) cut
-never a start cut None e f = tt
-never a start cut (Some t) e f = f t refl
-
-refused : (start : Writer) (kind : Kind) (s cut : Output) (held : Writing) (ts : Trees) (p : Option Tree) (e : Refusal) (o : Option Trees) → is_bare kind ≡ false → Kept start.output s →
-    ((us : Trees) → Room (in_array (outer start.place)) (opened_as start.place kind) start.output (join ts us) → Met (in_array (outer start.place)) (opened_as start.place kind) start.output s held ts us) →
-    ((t : Tree) → p ≡ Some t → held.refused ≡ false → Meets (part_place (opened_as start.place kind)) s t → ⊥) →
-    writes_tree (outer start.place) start.output (taken_as start.place (as_kind kind (joined (Some ts) (before p o)))) (Err e) cut
-refused start kind s cut held ts None e o bare k h f = subst (λ w. writes_tree (outer start.place) start.output w (Err e) cut) (sym (taken_none start.place)) tt
-refused start kind s cut held ts (Some t) e None bare k h f = subst (λ w. writes_tree (outer start.place) start.output w (Err e) cut) (sym (taken_none start.place)) tt
-refused start kind s cut held ts (Some t) e (Some us) bare k h f =
-    let a = outer start.place in
-    never a start.output cut (taken_as start.place (as_kind kind (Some (join ts (more t us))))) e (λ x q m.
-    let r = room_for start.place kind start.output (join ts (more t us)) x bare q m in
-    let b = h (more t us) r in
-    f t refl b.opened (part_meets (in_array a) (opened_as start.place kind) start.output s held ts t us r k b))
-
 -- the refusal of a part is one of the whole
-pub part_refused : (start : Writer) (kind : Kind) (s cut : Output) (held : Writing) (ps : List (Option Tree)) (p : Option Tree) (e : Refusal) (place : Under) → is_bare kind ≡ false → Written start kind s held ps → Kept start.output cut → place ≡ under.Plain held.place →
-    ((t : Tree) → p ≡ Some t → held.refused ≡ false → Meets (part_place (opened_as start.place kind)) s t → ⊥) →
-    (rest : List (Option Tree)) → writer_permits start (whole kind (ps ++ (p ∷ rest))) (Err e) (record { place = place; output = cut })
-part_refused start kind s cut held ps p e place bare h k same f rest =
-    (k, (same ∙ ap under.Plain h.place, subst (λ o. writes_tree (outer start.place) start.output (taken_as start.place o) (Err e) cut) (sym (whole_parts kind ps h.ts p rest h.trees)) (refused start kind s cut held h.ts p e (all_trees rest) bare h.kept h.met f)))
+pub part_refused : (start : Writer) (kind : Kind) (s cut : Output) (held : Writing) (ps : List (Option Tree)) (p : Option Tree) (e : Refusal) (after : Under) → is_bare kind ≡ false → (h : Written start kind s held ps) → Kept start.output cut →
+    at_place (part_at (shape_of start.place kind) h.ts) p (Err e) after →
+    (others : List (Option Tree)) → writer_permits start (whole kind (ps ++ (p ∷ others))) (Err e) (record { place = under.Plain (rest held.place); output = cut })
+part_refused start kind s cut held ps p e after bare h k r others = (
+  k,
+  (
+    subst (λ q. at_place (outer start.place) (meant start.place (whole kind (ps ++ (p ∷ others)))) (Err e) (under.Plain (rest q))) (sym h.place)
+        (subst (λ o. at_place (outer start.place) (meant start.place o) (Err e) (under.Plain (rest (outer start.place)))) (sym (whole_parts kind ps h.ts p others h.trees))
+        (part_spoils start.place kind h.ts p e after (all_trees others) bare h.suited r)),
+    tt,
+  ),
+)
+
+-- the bytes of all parts have one form
+meets_at : (kind : Shape) (s : Output) (ts : Trees) (t : Tree) → Meets (part_place kind) s t → Meets (part_at kind ts) s t
+meets_at kind s ts t m =
+    let f = same_form kind ts t in
+    record {
+      within_it = m.within_it;
+      solid_it = ap (λ b. b && solid t) f.0 ∙ m.solid_it;
+      rest = m.rest;
+      listed = m.listed;
+      room = subst (λ a. length s.out.items + length (bytes_at a t) ≤ vec_capacity s.out) (sym f.1) m.room;
+    }
+
+wrote_at : (kind : Shape) (s after : Output) (ts : Trees) (t : Tree) → Wrote (part_at kind ts) s t after → Wrote (part_place kind) s t after
+wrote_at kind s after ts t w = record { out = w.out ∙ ap (λ a. s.out.items ++ bytes_at a t) (same_form kind ts t).1; taken = w.taken }
 
 -- one part more
-pub part_written : (start : Writer) (kind : Kind) (s after : Output) (held new : Writing) (ps : List (Option Tree)) (t : Tree) → Written start kind s held ps → Kept s after →
-    (Meets (part_place (opened_as start.place kind)) s t → Wrote (part_place (opened_as start.place kind)) s t after) →
-    new.place ≡ held.place → new.inner ≡ held.inner → new.refused ≡ held.refused → new.last.taken ≡ s.taken → new.last.len ≡ length s.out.items → Written start kind after new (ps ++ (Some t ∷ []))
-part_written start kind s after held new ps t h k f place inner ref taken len =
+pub part_written : (start : Writer) (kind : Kind) (s after : Output) (held new : Writing) (ps : List (Option Tree)) (t : Tree) (h : Written start kind s held ps) → Kept s after → (left : Under) → Taken (part_at (shape_of start.place kind) h.ts) t left → new.inner ≡ inner_after held.shape held.inner left →
+    (Meets (part_at (shape_of start.place kind) h.ts) s t → Wrote (part_at (shape_of start.place kind) h.ts) s t after) →
+    new.place ≡ held.place → new.shape ≡ held.shape → new.last.taken ≡ s.taken → new.last.len ≡ length s.out.items → Written start kind after new (ps ++ (Some t ∷ []))
+part_written start kind s after held new ps t h k left w inner f place shape taken len =
+    let sh = shape_of start.place kind in
     record {
       ts = join h.ts (more t no_trees);
       trees = all_trees-append ps (Some t ∷ []) ∙ ap (λ o. joined o (Some (more t no_trees))) h.trees;
       kept = kept-more start.output s after h.kept k;
       place = place ∙ h.place;
-      inner = inner ∙ h.inner;
-      none_refused = λ e. ref ∙ h.none_refused e;
-      met = met_more (in_array (outer start.place)) (opened_as start.place kind) start.output s after held new h.ts t h.kept f ref h.met;
+      shape = shape ∙ h.shape;
+      inner = inner ∙ ap (λ x. inner_after x held.inner left) h.shape ∙ next_stands sh h.ts t held.inner left h.suited h.inner w.place;
+      suited = suited_more sh h.ts t h.suited w.alike_it w.suited;
+      met = met_more (in_array (outer start.place)) sh start.output s after h.ts t h.kept (λ m. wrote_at sh s after h.ts t (f (meets_at sh s h.ts t m))) h.met;
       back = λ odd qs q e.
           let same : ps ≡ qs = same_front ps qs (Some t) q e in
           record {
@@ -201,22 +206,24 @@ part_written start kind s after held new ps t h k f place inner ref taken len =
             len = len;
             ts = h.ts;
             trees = ap all_trees (sym same) ∙ h.trees;
-            met = λ us m. let b = h.met us m in record { opened = ref ∙ b.opened; out = b.out; taken = b.taken };
+            suited = h.suited;
+            met = h.met;
           };
     }
 
 -- the same compound over an output that went back to where it was
 pub part_back : (start : Writer) (kind : Kind) (s cut : Output) (held new : Writing) (ps : List (Option Tree)) → Written start kind s held ps → Kept s cut → cut.out.items ≡ s.out.items → cut.taken ≡ s.taken →
-    new.place ≡ held.place → new.inner ≡ held.inner → new.refused ≡ held.refused → new.last ≡ held.last → Written start kind cut new ps
-part_back start kind s cut held new ps h k out at place inner ref last =
+    new.place ≡ held.place → new.shape ≡ held.shape → new.inner ≡ held.inner → new.last ≡ held.last → Written start kind cut new ps
+part_back start kind s cut held new ps h k out at place shape inner last =
     record {
       ts = h.ts;
       trees = h.trees;
       kept = kept-more start.output s cut h.kept k;
       place = place ∙ h.place;
+      shape = shape ∙ h.shape;
       inner = inner ∙ h.inner;
-      none_refused = λ e. ref ∙ h.none_refused e;
-      met = λ us m. let b = h.met us m in record { opened = ref ∙ b.opened; out = out ∙ b.out; taken = at ∙ b.taken };
+      suited = h.suited;
+      met = λ us m. let b = h.met us m in record { out = out ∙ b.out; taken = at ∙ b.taken };
       back = λ odd qs q e.
           let b = h.back odd qs q e in
           record {
@@ -227,7 +234,8 @@ part_back start kind s cut held new ps h k out at place inner ref last =
             len = ap (λ l. l.len) last ∙ b.len;
             ts = b.ts;
             trees = b.trees;
-            met = λ us m. let d = b.met us m in record { opened = ref ∙ d.opened; out = d.out; taken = d.taken };
+            suited = b.suited;
+            met = b.met;
           };
     }
 
@@ -262,37 +270,31 @@ part_undone start s cut held ps p h even table cap taken out =
       trees = b.trees;
       kept = kept-more start.output b.old cut b.since k.1;
       place = h.place;
-      inner = h.inner;
-      none_refused = h.none_refused;
-      met = λ us m. let d = b.met us m in record { opened = d.opened; out = k.0 ∙ d.out; taken = taken ∙ b.taken ∙ d.taken };
+      shape = h.shape;
+      inner = h.inner ∙ ap under.Plain (map_inside start.place h.ts ∙ sym (map_inside start.place b.ts));
+      suited = b.suited;
+      met = λ us m. let d = b.met us m in record { out = k.0 ∙ d.out; taken = taken ∙ b.taken ∙ d.taken };
       back = λ odd qs q e. let no : true ≡ false = sym even ∙ odd in cc;
     }
 
--- the refusal stays one where the output goes back
-pub still_refused : (a : Place) (s m after : Output) (o : Option Tree) (e : Refusal) → writes_tree a s o (Err e) m → writes_tree a s o (Err e) after
-still_refused a s m after None e h = tt
-still_refused a s m after (Some t) e h = h
-
 -- a compound that was opened
-pub now_open : (start : Writer) (kind : Kind) (s : Output) (held : Writing) (r : Result (Unit {0}) Refusal) → Kept start.output s →
-    ((ts : Trees) → Room (in_array (outer start.place)) (opened_as start.place kind) start.output ts → opens (in_array (outer start.place)) (opened_as start.place kind) start.output (heads (opened_as start.place kind) ts) r s) →
-    held.refused ≡ is_err r → held.place ≡ outer start.place → held.inner ≡ inner_under (opened_as start.place kind) start.place → (opened_as start.place kind ≡ shape.Refused → is_err r ≡ true) → Written start kind s held []
-now_open start kind s held r k h e place inner ref =
+pub now_open : (start : Writer) (kind : Kind) (s : Output) (held : Writing) → is_bare kind ≡ false → Kept start.output s →
+    ((ts : Trees) → Room (in_array (outer start.place)) (shape_of start.place kind) start.output ts → opens (in_array (outer start.place)) (shape_of start.place kind) start.output (heads (shape_of start.place kind) ts) (Ok tt) s) →
+    held.place ≡ outer start.place → held.shape ≡ shape_of start.place kind → held.inner ≡ inner_under (shape_of start.place kind) start.place → Written start kind s held []
+now_open start kind s held bare k h place shape inner =
+    let sh = shape_of start.place kind in
     record {
       ts = no_trees;
       trees = refl;
       kept = k;
       place = place;
-      inner = inner;
-      none_refused = λ q. e ∙ ref q;
-      met = λ us m. go us m r (h us m) e;
+      shape = shape;
+      inner = inner ∙ first_inner start.place kind bare;
+      suited = no_parts sh;
+      met = λ us m.
+          let w = h us m in
+          let n = ap length (none_after sh) in
+          let op = opening (in_array (outer start.place)) sh (heads sh us) in
+          record { out = w.0 ∙ ap (λ x. start.output.out.items ++ x) (sym (append-nil op) ∙ ap (λ x. op ++ x) (sym (none_after sh))); taken = let a = w.1 in omega arith };
       back = λ odd qs q w. let no : true ≡ false = odd in cc;
     }
-  where
-    go : (us : Trees) → Room (in_array (outer start.place)) (opened_as start.place kind) start.output us → (q : Result (Unit {0}) Refusal) → opens (in_array (outer start.place)) (opened_as start.place kind) start.output (heads (opened_as start.place kind) us) q s → held.refused ≡ is_err q → Met (in_array (outer start.place)) (opened_as start.place kind) start.output s held no_trees us
-    go us m (Ok u) w f =
-        let sh = opened_as start.place kind in
-        let n = ap length (none_after sh) in
-        let op = opening (in_array (outer start.place)) sh (heads sh us) in
-        record { opened = f; out = w.0 ∙ ap (λ x. start.output.out.items ++ x) (sym (append-nil op) ∙ ap (λ x. op ++ x) (sym (none_after sh))); taken = let a = w.1 in omega arith }
-    go us m (Err x) w f = let r2 = m.room in absurd (omega arith)

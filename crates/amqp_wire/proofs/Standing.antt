@@ -1,175 +1,267 @@
--- Nothing but a descriptor is taken before a described value.
-use Rattle.std.proofs.Common.{◌≡◌, ℕ, true, false, Option, Some, None, is_some, refl, ap, sym, ◌∙◌}
-use Rattle.amqp_ser.specs.Tree.{Tree, Trees, Pairs, scalar, list, array, map, described, variant, lazy, transparent, Descriptor}
+-- Where the parts of a compound stand, and what the whole of parts that may stand there is.
+use Rattle.std.proofs.Common.{◌≡◌, ℕ, Option, Some, None, Bool, true, false, ◌&&◌, Err, refl, ap, sym, ◌∙◌, subst}
+use Rattle.amqp_size.specs.declared.refusal.Refusal.{Refusal}
+use Rattle.amqp_ser.specs.Tree.{Tree, Trees, list, array, map, variant, transparent, no_trees, more}
 use Rattle.amqp_ser.specs.Encoding.{con}
-use Rattle.amqp_ser.specs.Compounds.{as_kind, as_map, as_variant, in_pairs, only}
-use Rattle.amqp_ser.specs.Composites.{descriptor_of}
+use Rattle.amqp_ser.specs.Writable.{alike, alike_each, inside, inside_each, placed, placed_each, one_con}
+use Rattle.amqp_ser.specs.Compounds.{as_kind, as_map, as_variant, in_pairs, only, before}
 use Rattle.amqp_ser.specs.declared.kind.Kind.{Kind}
 use Rattle.amqp_ser.specs.declared.kind.Kind.TheVariants as kinds
-use Rattle.amqp_ser.proofs.Bools.{left_true}
-use Rattle.amqp_size.specs.Place.{outer, meant, shape_of, inner_under}
+use Rattle.amqp_ser.proofs.Bools.{both, left_true, right_true}
+use Rattle.amqp_ser.proofs.Joins.{join, joined, alike-join, inside-join, kind_none}
+use Rattle.amqp_ser.proofs.Pairing.{pairing, even}
+use Rattle.amqp_size.specs.Counted.{at_place, inner_of, one_in, first_place}
+use Rattle.amqp_size.specs.Place.{outer, meant, rest, suits, element, next, shape_of, is_array, is_gathered, inner_under}
 use Rattle.amqp_size.specs.WholePlace.{Place}
 use Rattle.amqp_size.specs.WholePlace as place
-use Rattle.amqp_size.specs.declared.place.Shape.{Shape}
-use Rattle.amqp_size.specs.declared.place.Shape.TheVariants as shape
 use Rattle.amqp_size.specs.WholeUnder.{Under}
 use Rattle.amqp_size.specs.WholeUnder as under
-use Rattle.amqp_size.proofs.Places.{meant_none}
-use Rattle.amqp_size.proofs.Whole.{refused_shape}
-use Rattle.amqp_wire.specs.Solid.{is_opaque, fit, solid, solid_at}
-use Rattle.amqp_wire.specs.Standing.{where_some, standing, taken_as, inside_shape, shape_at, opened_as, part_place, is_bare}
-use Rattle.amqp_wire.proofs.Few.{no_false}
+use Rattle.amqp_size.specs.declared.place.Shape.{Shape}
+use Rattle.amqp_size.specs.declared.place.Shape.TheVariants as shape
+use Rattle.amqp_size.proofs.Part.{next_inner, suited_inside, more_one}
+use Rattle.amqp_size.proofs.Refusing.{part_bad}
+use Rattle.amqp_size.proofs.Spoil.{bad_in, odd_none, spoiled_rest}
+use Rattle.amqp_size.proofs.Transparent.{transparent_shape, placed-join, spoiled_transparent, part_bad as element_bad}
+use Rattle.amqp_size.proofs.Whole.{refused_shape, stands, stands_none}
+use Rattle.amqp_size.proofs.Places.{meant_none, refusal}
+use Rattle.amqp_wire.specs.Heads.{in_array}
+use Rattle.amqp_wire.specs.Solid.{fit}
+use Rattle.amqp_wire.specs.Standing.{part_place, part_at, suited_parts, is_bare, inner_after}
 
-pub standing_none : (p : Place) → standing p None ≡ None
-standing_none place.Root = refl
-standing_none place.Inside = refl
-standing_none place.First = refl
-standing_none (place.Element c) = refl
-standing_none place.Descriptor = refl
-standing_none (place.Value h b) = refl
+-- nothing else opens a bare compound
+pub not_bare : (u : Under) (k : Kind) → is_bare k ≡ false → shape_of u k ≡ shape.Bare → ⊥
+not_bare u kinds.Bare c e = cc
+not_bare (under.Plain q) kinds.List c e = cc
+not_bare (under.Plain q) kinds.Map c e = cc
+not_bare (under.Plain q) (kinds.Fields i) c e = cc
+not_bare (under.Plain q) (kinds.Only i) c e = cc
+not_bare (under.Array q) kinds.List c e = cc
+not_bare (under.Array q) kinds.Map c e = cc
+not_bare (under.Array q) (kinds.Fields i) c e = cc
+not_bare (under.Array q) (kinds.Only i) c e = cc
+not_bare (under.Transparent q) kinds.List c e = cc
+not_bare (under.Transparent q) kinds.Map c e = cc
+not_bare (under.Transparent q) (kinds.Fields i) c e = cc
+not_bare (under.Transparent q) (kinds.Only i) c e = cc
+not_bare (under.Scalar m q) kinds.List c e = cc
+not_bare (under.Scalar m q) kinds.Map c e = cc
+not_bare (under.Scalar m q) (kinds.Fields i) c e = cc
+not_bare (under.Scalar m q) (kinds.Only i) c e = cc
+not_bare (under.Nothing q) kinds.List c e = cc
+not_bare (under.Nothing q) kinds.Map c e = cc
+not_bare (under.Nothing q) (kinds.Fields i) c e = cc
+not_bare (under.Nothing q) (kinds.Only i) c e = cc
 
-pub taken_none : (u : Under) → taken_as u None ≡ None
-taken_none u = ap (standing (outer u)) (meant_none u) ∙ standing_none (outer u)
+-- maps have no constructor of their elements
+pub map_inside : (u : Under) (ts : Trees) → part_at (shape_of u kinds.Map) ts ≡ place.Inside
+map_inside (under.Plain p) ts = refl
+map_inside (under.Array p) ts = refl
+map_inside (under.Transparent p) ts = refl
+map_inside (under.Scalar m p) ts = refl
+map_inside (under.Nothing p) ts = refl
 
-map_none : (o : Option Pairs) → descriptor_of (as_map o) ≡ None
-map_none None = refl
-map_none (Some ps) = refl
-
-variant_none : (i : ℕ) (o : Option Tree) → descriptor_of (as_variant i o) ≡ None
-variant_none i None = refl
-variant_none i (Some t) = refl
-
--- no compound is a descriptor
-compound_none : (u : Under) (k : Kind) (ts : Trees) → is_bare k ≡ false → descriptor_of (meant u (as_kind k (Some ts))) ≡ None
-compound_none u kinds.Bare ts b = cc
-compound_none (under.Plain p) kinds.List ts b = refl
-compound_none (under.Plain p) kinds.Map ts b = map_none (in_pairs ts)
-compound_none (under.Plain p) (kinds.Fields i) ts b = refl
-compound_none (under.Plain p) (kinds.Only i) ts b = variant_none i (only ts)
-compound_none (under.Array p) kinds.List ts b = refl
-compound_none (under.Transparent p) kinds.List ts b = refl
-compound_none (under.Array p) kinds.Map ts b = ap descriptor_of (refused_shape (under.Array p) kinds.Map (Some ts) refl)
-compound_none (under.Array p) (kinds.Fields i) ts b = ap descriptor_of (refused_shape (under.Array p) (kinds.Fields i) (Some ts) refl)
-compound_none (under.Array p) (kinds.Only i) ts b = ap descriptor_of (refused_shape (under.Array p) (kinds.Only i) (Some ts) refl)
-compound_none (under.Transparent p) kinds.Map ts b = ap descriptor_of (refused_shape (under.Transparent p) kinds.Map (Some ts) refl)
-compound_none (under.Transparent p) (kinds.Fields i) ts b = ap descriptor_of (refused_shape (under.Transparent p) (kinds.Fields i) (Some ts) refl)
-compound_none (under.Transparent p) (kinds.Only i) ts b = ap descriptor_of (refused_shape (under.Transparent p) (kinds.Only i) (Some ts) refl)
-compound_none (under.Scalar m p) kinds.List ts b = ap descriptor_of (refused_shape (under.Scalar m p) kinds.List (Some ts) refl)
-compound_none (under.Scalar m p) kinds.Map ts b = ap descriptor_of (refused_shape (under.Scalar m p) kinds.Map (Some ts) refl)
-compound_none (under.Scalar m p) (kinds.Fields i) ts b = ap descriptor_of (refused_shape (under.Scalar m p) (kinds.Fields i) (Some ts) refl)
-compound_none (under.Scalar m p) (kinds.Only i) ts b = ap descriptor_of (refused_shape (under.Scalar m p) (kinds.Only i) (Some ts) refl)
-compound_none (under.Nothing p) k ts b = refl
-
-where_none : (d : Option Descriptor) (o : Option Tree) (t : Tree) → d ≡ None → where_some d o ≡ Some t → ⊥
-where_none None o t e h = cc
-where_none (Some d) o t e h = cc
-
-opaque_con : (t : Tree) → is_some (con t) ≡ true → is_opaque t ≡ true
-opaque_con (scalar s) h = refl
-opaque_con (list ts) h = refl
-opaque_con (array ts) h = refl
-opaque_con (map ps) h = refl
-opaque_con (described d t) h = refl
-opaque_con (variant i t) h = refl
-opaque_con (lazy bs) h = refl
-opaque_con (transparent ts) h = absurd (no_false h)
-
-none_meant : (o : Option Tree) (t : Tree) → o ≡ None → o ≡ Some t → ⊥
-none_meant o t a b = let no : None ≡ Some t = sym a ∙ b in cc
-
--- no other shape makes a transparent tree
-opaque_shape : (u : Under) (k : Kind) (ts : Trees) (t : Tree) → is_bare k ≡ false → meant u (as_kind k (Some ts)) ≡ Some t → is_opaque t ≡ true → inside_shape (shape_of u k) ≡ shape_of u k
-opaque_shape u kinds.Bare ts t b e o = cc
-opaque_shape (under.Plain p) kinds.List ts t b e o = refl
-opaque_shape (under.Plain p) kinds.Map ts t b e o = refl
-opaque_shape (under.Plain p) (kinds.Fields i) ts t b e o = refl
-opaque_shape (under.Plain p) (kinds.Only i) ts t b e o = refl
-opaque_shape (under.Array p) kinds.List ts t b e o = refl
-opaque_shape (under.Transparent p) kinds.List ts t b e o = let q : transparent ts ≡ t = cc in absurd (no_false (ap is_opaque q ∙ o))
-opaque_shape (under.Array p) kinds.Map ts t b e o = refl
-opaque_shape (under.Array p) (kinds.Fields i) ts t b e o = refl
-opaque_shape (under.Array p) (kinds.Only i) ts t b e o = refl
-opaque_shape (under.Transparent p) kinds.Map ts t b e o = refl
-opaque_shape (under.Transparent p) (kinds.Fields i) ts t b e o = refl
-opaque_shape (under.Transparent p) (kinds.Only i) ts t b e o = refl
-opaque_shape (under.Scalar m p) kinds.List ts t b e o = refl
-opaque_shape (under.Scalar m p) kinds.Map ts t b e o = refl
-opaque_shape (under.Scalar m p) (kinds.Fields i) ts t b e o = refl
-opaque_shape (under.Scalar m p) (kinds.Only i) ts t b e o = refl
-opaque_shape (under.Nothing p) kinds.List ts t b e o = refl
-opaque_shape (under.Nothing p) kinds.Map ts t b e o = refl
-opaque_shape (under.Nothing p) (kinds.Fields i) ts t b e o = refl
-opaque_shape (under.Nothing p) (kinds.Only i) ts t b e o = refl
-
--- a compound that is taken stands where compounds are opened
-pub compound_taken : (u : Under) (k : Kind) (ts : Trees) (t : Tree) → is_bare k ≡ false → taken_as u (as_kind k (Some ts)) ≡ Some t → solid_at (outer u) t ≡ true → (meant u (as_kind k (Some ts)) ≡ Some t) × (opened_as u k ≡ shape_of u k)
-compound_taken u k ts t b h s = go (outer u) h s
+-- where the first part stands
+pub first_inner : (u : Under) (k : Kind) → is_bare k ≡ false → inner_under (shape_of u k) u ≡ under.Plain (part_at (shape_of u k) no_trees)
+first_inner u k b = go (shape_of u k) (not_bare u k b)
   where
-    there : (p : Place) → (fit p t ≡ true → is_opaque t ≡ true) → meant u (as_kind k (Some ts)) ≡ Some t → solid_at p t ≡ true → inside_shape (shape_of u k) ≡ shape_of u k
-    there p f e s = opaque_shape u k ts t b e (f (left_true (fit p t) (solid t) s))
-
-    go : (p : Place) → standing p (meant u (as_kind k (Some ts))) ≡ Some t → solid_at p t ≡ true → (meant u (as_kind k (Some ts)) ≡ Some t) × (shape_at p (shape_of u k) ≡ shape_of u k)
-    go place.Root e s = (e, refl)
-    go place.Inside e s = (e, there place.Inside (λ x. x) e s)
-    go place.First e s = (e, there place.First (opaque_con t) e s)
-    go (place.Element c) e s = (e, there (place.Element c) (opaque_con t) e s)
-    go place.Descriptor e s = absurd (where_none _ _ t (compound_none u k ts b) e)
-    go (place.Value n w) e s = (e, there (place.Value n w) (λ x. x) e s)
-
--- what is opened takes its parts as they are
-pub part_taken : (u : Under) (k : Kind) (p : Option Tree) → is_bare k ≡ false → (taken_as (inner_under (opened_as u k) u) p ≡ p) × (outer (inner_under (opened_as u k) u) ≡ part_place (opened_as u k))
-part_taken u k p b = go (opened_as u k) (not_bare u k b)
-  where
-    of_shape : (v : Under) (j : Kind) → is_bare j ≡ false → shape_of v j ≡ shape.Bare → ⊥
-    of_shape v kinds.Bare c e = cc
-    of_shape (under.Plain q) kinds.List c e = cc
-    of_shape (under.Plain q) kinds.Map c e = cc
-    of_shape (under.Plain q) (kinds.Fields i) c e = cc
-    of_shape (under.Plain q) (kinds.Only i) c e = cc
-    of_shape (under.Array q) kinds.List c e = cc
-    of_shape (under.Array q) kinds.Map c e = cc
-    of_shape (under.Array q) (kinds.Fields i) c e = cc
-    of_shape (under.Array q) (kinds.Only i) c e = cc
-    of_shape (under.Transparent q) kinds.List c e = cc
-    of_shape (under.Transparent q) kinds.Map c e = cc
-    of_shape (under.Transparent q) (kinds.Fields i) c e = cc
-    of_shape (under.Transparent q) (kinds.Only i) c e = cc
-    of_shape (under.Scalar m q) kinds.List c e = cc
-    of_shape (under.Scalar m q) kinds.Map c e = cc
-    of_shape (under.Scalar m q) (kinds.Fields i) c e = cc
-    of_shape (under.Scalar m q) (kinds.Only i) c e = cc
-    of_shape (under.Nothing q) kinds.List c e = cc
-    of_shape (under.Nothing q) kinds.Map c e = cc
-    of_shape (under.Nothing q) (kinds.Fields i) c e = cc
-    of_shape (under.Nothing q) (kinds.Only i) c e = cc
-
-    within_it : (s : Shape) → inside_shape s ≡ shape.Bare → s ≡ shape.Bare
-    within_it shape.List e = e
-    within_it shape.Map e = e
-    within_it (shape.Fields i) e = e
-    within_it (shape.Only i) e = e
-    within_it shape.Array e = e
-    within_it shape.Transparent e = cc
-    within_it shape.Bare e = e
-    within_it shape.Refused e = e
-
-    at_place : (q : Place) (s : Shape) → shape_at q s ≡ shape.Bare → s ≡ shape.Bare
-    at_place place.Root s e = e
-    at_place place.Inside s e = within_it s e
-    at_place place.First s e = within_it s e
-    at_place (place.Element c) s e = within_it s e
-    at_place place.Descriptor s e = cc
-    at_place (place.Value n w) s e = within_it s e
-
-    not_bare : (v : Under) (j : Kind) → is_bare j ≡ false → opened_as v j ≡ shape.Bare → ⊥
-    not_bare v j c e = of_shape v j c (at_place (outer v) (shape_of v j) e)
-
-    go : (s : Shape) → (s ≡ shape.Bare → ⊥) → (taken_as (inner_under s u) p ≡ p) × (outer (inner_under s u) ≡ part_place s)
-    go shape.List n = (refl, refl)
-    go shape.Map n = (refl, refl)
-    go (shape.Fields i) n = (refl, refl)
-    go (shape.Only i) n = (refl, refl)
-    go shape.Array n = (refl, refl)
-    go shape.Transparent n = (refl, refl)
+    go : (s : Shape) → (s ≡ shape.Bare → ⊥) → inner_under s u ≡ under.Plain (part_at s no_trees)
+    go shape.List n = refl
+    go shape.Map n = refl
+    go (shape.Fields i) n = refl
+    go (shape.Only i) n = refl
+    go shape.Array n = refl
+    go shape.Transparent n = refl
     go shape.Bare n = absurd (n refl)
-    go shape.Refused n = (refl, refl)
+    go shape.Refused n = refl
+
+element_same : (o : Option ℕ) (t : Tree) → (fit (element o) t ≡ fit place.First t) × (in_array (element o) ≡ true)
+element_same None t = (refl, refl)
+element_same (Some c) t = (refl, refl)
+
+first_same : (ts : Trees) (t : Tree) → (fit (first_place ts) t ≡ fit place.First t) × (in_array (first_place ts) ≡ true)
+first_same no_trees t = (refl, refl)
+first_same (more v ts) t = element_same (con v) t
+
+-- the bytes of all parts of a compound have one form
+pub same_form : (s : Shape) (ts : Trees) (t : Tree) → (fit (part_at s ts) t ≡ fit (part_place s) t) × (in_array (part_at s ts) ≡ in_array (part_place s))
+same_form shape.List ts t = (refl, refl)
+same_form shape.Map ts t = (refl, refl)
+same_form (shape.Fields i) ts t = (refl, refl)
+same_form (shape.Only i) ts t = (refl, refl)
+same_form shape.Array ts t = first_same ts t
+same_form shape.Transparent ts t = (refl, refl)
+same_form shape.Bare ts t = (refl, refl)
+same_form shape.Refused ts t = (refl, refl)
+
+-- with no part yet
+pub no_parts : (s : Shape) → suited_parts s no_trees ≡ true
+no_parts shape.List = refl
+no_parts shape.Map = refl
+no_parts (shape.Fields i) = refl
+no_parts (shape.Only i) = refl
+no_parts shape.Array = refl
+no_parts shape.Transparent = refl
+no_parts shape.Bare = refl
+no_parts shape.Refused = refl
+
+-- after one part more
+next_part : (s : Shape) (ts : Trees) (t : Tree) → suited_parts s ts ≡ true → next (part_at s ts) t ≡ part_at s (join ts (more t no_trees))
+next_part shape.List ts t h = refl
+next_part shape.Map ts t h = refl
+next_part (shape.Fields i) ts t h = refl
+next_part (shape.Only i) ts t h = refl
+next_part shape.Array ts t h = next_inner true ts t (left_true (one_con ts) (alike_each ts && inside_each ts) h)
+next_part shape.Transparent ts t h = refl
+next_part shape.Bare ts t h = refl
+next_part shape.Refused ts t h = refl
+
+pub next_stands : (s : Shape) (ts : Trees) (t : Tree) (inner after : Under) → suited_parts s ts ≡ true → inner ≡ under.Plain (part_at s ts) → after ≡ under.Plain (next (part_at s ts) t) → inner_after s inner after ≡ under.Plain (part_at s (join ts (more t no_trees)))
+next_stands shape.List ts t inner after h i a = i
+next_stands shape.Map ts t inner after h i a = i
+next_stands (shape.Fields n) ts t inner after h i a = i
+next_stands (shape.Only n) ts t inner after h i a = i
+next_stands shape.Array ts t inner after h i a = a ∙ ap under.Plain (next_part shape.Array ts t h)
+next_stands shape.Transparent ts t inner after h i a = i
+next_stands shape.Bare ts t inner after h i a = a
+next_stands shape.Refused ts t inner after h i a = i
+
+one_more : (ts : Trees) (t : Tree) → (alike_each ts && inside_each ts) ≡ true → alike t ≡ true → inside t ≡ true → (alike_each (join ts (more t no_trees)) && inside_each (join ts (more t no_trees))) ≡ true
+one_more ts t h a i =
+    both (alike_each (join ts (more t no_trees))) (inside_each (join ts (more t no_trees)))
+    (alike-join ts (more t no_trees) ∙ both (alike_each ts) (alike t && true) (left_true (alike_each ts) (inside_each ts) h) (both (alike t) true a refl))
+    (inside-join ts (more t no_trees) ∙ both (inside_each ts) (inside t && true) (right_true (alike_each ts) (inside_each ts) h) (both (inside t) true i refl))
+
+pub suited_more : (s : Shape) (ts : Trees) (t : Tree) → suited_parts s ts ≡ true → alike t ≡ true → suits (part_at s ts) t ≡ true → suited_parts s (join ts (more t no_trees)) ≡ true
+suited_more shape.List ts t h a i = one_more ts t h a i
+suited_more shape.Map ts t h a i = one_more ts t h a i
+suited_more (shape.Fields n) ts t h a i = one_more ts t h a i
+suited_more (shape.Only n) ts t h a i = one_more ts t h a i
+suited_more shape.Array ts t h a i =
+    let one = left_true (one_con ts) (alike_each ts && inside_each ts) h in
+    both (one_con (join ts (more t no_trees))) _ (more_one true ts t one i)
+    (one_more ts t (right_true (one_con ts) (alike_each ts && inside_each ts) h) a (suited_inside true ts t one i))
+suited_more shape.Transparent ts t h a i =
+    both (alike_each (join ts (more t no_trees))) (placed_each (join ts (more t no_trees)))
+    (alike-join ts (more t no_trees) ∙ both (alike_each ts) (alike t && true) (left_true (alike_each ts) (placed_each ts) h) (both (alike t) true a refl))
+    (placed-join ts (more t no_trees) ∙ both (placed_each ts) (placed t && true) (right_true (alike_each ts) (placed_each ts) h) (both (placed t) true i refl))
+suited_more shape.Bare ts t h a i = one_more ts t h a i
+suited_more shape.Refused ts t h a i = one_more ts t h a i
+
+-- the refusal of one part is one of the whole: of what is gathered, and of a transparent vector
+gathered_spoils : (s : Shape) (u : Under) (k : Kind) (ts : Trees) (p : Option Tree) (e : Refusal) (after : Under) (o : Option Trees) → shape_of u k ≡ s → is_gathered s ≡ true → inner_of (is_array s) ts ≡ part_at s ts → one_in (is_array s) ts ≡ true →
+    at_place (part_at s ts) p (Err e) after → at_place (outer u) (meant u (as_kind k (joined (Some ts) (before p o)))) (Err e) (under.Plain (rest (outer u)))
+gathered_spoils s u k ts None e after o q g i one r =
+    spoiled_rest u k ts e (ap is_gathered q ∙ g) r.0 None o (λ t us n. let no : None ≡ Some t = n in cc)
+gathered_spoils s u k ts (Some t) e after o q g i one r =
+    let here = subst (λ p. at_place p (Some t) (Err e) after) (sym i) r in
+    spoiled_rest u k ts e (ap is_gathered q ∙ g) (refusal (part_at s ts) (Some t) e after r).0 (Some t) o (λ v us n.
+    let same : t ≡ v = let m : Some t ≡ Some v = n in cc in
+    subst (λ x. bad x v us) (sym q) (subst (λ x. bad s x us) same (part_bad (is_array s) ts t us e one here.0)))
+  where
+    bad : Shape → Tree → Trees → Type 0
+    bad x v us = bad_in (is_array x) (join ts (more v us)) e
+
+transparent_spoils : (u : Under) (k : Kind) (ts : Trees) (p : Option Tree) (e : Refusal) (after : Under) (o : Option Trees) → shape_of u k ≡ shape.Transparent → at_place place.Root p (Err e) after →
+    at_place (outer u) (meant u (as_kind k (joined (Some ts) (before p o)))) (Err e) (under.Plain (rest (outer u)))
+transparent_spoils u k ts None e after o q r =
+    stands_none u (outer u) (as_kind k None) (Err e) (under.Plain (rest (outer u))) refl (ap (meant u) (kind_none k) ∙ meant_none u) (r.0, refl)
+transparent_spoils u k ts (Some t) e after None q r =
+    stands_none u (outer u) (as_kind k None) (Err e) (under.Plain (rest (outer u))) refl (ap (meant u) (kind_none k) ∙ meant_none u) ((refusal place.Root (Some t) e after r).0, refl)
+transparent_spoils u k ts (Some t) e after (Some us) q r =
+    let inv = transparent_shape u k q in
+    let all = join ts (more t us) in
+    let is : meant u (as_kind k (Some all)) ≡ Some (transparent all) = ap (λ v. meant v (as_kind k (Some all))) inv.0 ∙ ap (λ j. meant (under.Transparent (outer u)) (as_kind j (Some all))) inv.1 in
+    stands u (outer u) (as_kind k (Some all)) (transparent all) (Err e) (under.Plain (rest (outer u))) refl is (spoiled_transparent (outer u) all e (element_bad ts t us e r.0))
+
+pub part_spoils : (u : Under) (k : Kind) (ts : Trees) (p : Option Tree) (e : Refusal) (after : Under) (o : Option Trees) → is_bare k ≡ false → suited_parts (shape_of u k) ts ≡ true →
+    at_place (part_at (shape_of u k) ts) p (Err e) after → at_place (outer u) (meant u (as_kind k (joined (Some ts) (before p o)))) (Err e) (under.Plain (rest (outer u)))
+part_spoils u k ts p e after o b = go (shape_of u k) refl
+  where
+    go : (s : Shape) → shape_of u k ≡ s → suited_parts s ts ≡ true → at_place (part_at s ts) p (Err e) after → at_place (outer u) (meant u (as_kind k (joined (Some ts) (before p o)))) (Err e) (under.Plain (rest (outer u)))
+    go shape.List q h r = gathered_spoils shape.List u k ts p e after o q refl refl refl r
+    go shape.Map q h r = gathered_spoils shape.Map u k ts p e after o q refl refl refl r
+    go (shape.Fields i) q h r = gathered_spoils (shape.Fields i) u k ts p e after o q refl refl refl r
+    go (shape.Only i) q h r = gathered_spoils (shape.Only i) u k ts p e after o q refl refl refl r
+    go shape.Array q h r = gathered_spoils shape.Array u k ts p e after o q refl refl (left_true (one_con ts) (alike_each ts && inside_each ts) h) r
+    go shape.Transparent q h r = transparent_spoils u k ts p e after o q r
+    go shape.Bare q h r = absurd (not_bare u k b q)
+    go shape.Refused q h r = gathered_spoils shape.Refused u k ts p e after o q refl refl refl r
+
+-- what such a compound is: its constructor, and that it may stand inside others
+pub record Whole (code : ℕ) (t : Tree) : Type 0 where
+  pub con_is : con t ≡ Some code
+  pub alike_it : alike t ≡ true
+  pub inside_it : inside t ≡ true
+  pub placed_it : placed t ≡ true
+
+abbrev pub ended : Shape → Tree → Type 0
+ended shape.List t = Whole 0xd0 t
+ended shape.Map t = Whole 0xd1 t
+ended (shape.Fields i) t = Whole 0xd1 t
+ended (shape.Only i) t = Whole 0xd1 t
+ended shape.Array t = Whole 0xf0 t
+ended shape.Transparent t = (ts : Trees) × ((t ≡ transparent ts) × ((alike_each ts ≡ true) × (placed_each ts ≡ true)))
+ended shape.Bare t = ⊥
+ended shape.Refused t = ⊥
+
+ended_map : (ts : Trees) (t : Tree) → (b : Bool) → even ts ≡ b → as_map (in_pairs ts) ≡ Some t → (alike_each ts && inside_each ts) ≡ true → Whole 0xd1 t
+ended_map ts t true q e h =
+    let r = pairing ts q in
+    let same : map r.pairs ≡ t = let w : Some (map r.pairs) ≡ Some t = sym (ap as_map r.are) ∙ e in cc in
+    subst (Whole 0xd1) same (record {
+      con_is = refl;
+      alike_it = r.alike_too ∙ left_true (alike_each ts) (inside_each ts) h;
+      inside_it = r.inside_too ∙ right_true (alike_each ts) (inside_each ts) h;
+      placed_it = r.inside_too ∙ right_true (alike_each ts) (inside_each ts) h;
+    })
+ended_map ts t false q e h = absurd (no_odd ts q e)
+  where
+    no_odd : (us : Trees) → even us ≡ false → as_map (in_pairs us) ≡ Some t → ⊥
+    no_odd us a w = let n : as_map (in_pairs us) ≡ None = ap as_map (odd_none us a) in let no : None ≡ Some t = sym n ∙ w in cc
+
+ended_only : (i : ℕ) (ts : Trees) (t : Tree) → as_variant i (only ts) ≡ Some t → (alike_each ts && inside_each ts) ≡ true → Whole 0xd1 t
+ended_only i no_trees t e h = cc
+ended_only i (more u no_trees) t e h =
+    let same : variant i u ≡ t = cc in
+    let a = left_true (alike u) true (left_true (alike u && true) (inside u && true) h) in
+    let n = left_true (inside u) true (right_true (alike u && true) (inside u && true) h) in
+    subst (Whole 0xd1) same (record { con_is = refl; alike_it = a; inside_it = n; placed_it = n })
+ended_only i (more u (more v ts)) t e h = cc
+
+some_is : (t v : Tree) → Some t ≡ Some v → t ≡ v
+some_is t v h = cc
+
+is_not : {X : Type 0} (o : Option Tree) (t : Tree) → o ≡ None → o ≡ Some t → X
+is_not o t a b = let no : None ≡ Some t = sym a ∙ b in cc
+
+plain_list : (ts : Trees) → (alike_each ts && inside_each ts) ≡ true → Whole 0xd0 (list ts)
+plain_list ts h = record { con_is = refl; alike_it = left_true (alike_each ts) (inside_each ts) h; inside_it = right_true (alike_each ts) (inside_each ts) h; placed_it = right_true (alike_each ts) (inside_each ts) h }
+
+plain_fields : (i : ℕ) (ts : Trees) → (alike_each ts && inside_each ts) ≡ true → Whole 0xd1 (variant i (list ts))
+plain_fields i ts h = record { con_is = refl; alike_it = left_true (alike_each ts) (inside_each ts) h; inside_it = right_true (alike_each ts) (inside_each ts) h; placed_it = right_true (alike_each ts) (inside_each ts) h }
+
+plain_array : (ts : Trees) → (one_con ts && (alike_each ts && inside_each ts)) ≡ true → Whole 0xf0 (array ts)
+plain_array ts h =
+    let r = right_true (one_con ts) (alike_each ts && inside_each ts) h in
+    let n = right_true (alike_each ts) (inside_each ts) r in
+    record { con_is = refl; alike_it = both (one_con ts) (alike_each ts) (left_true (one_con ts) (alike_each ts && inside_each ts) h) (left_true (alike_each ts) (inside_each ts) r); inside_it = n; placed_it = n }
+
+pub whole_ended : (u : Under) (k : Kind) (ts : Trees) (t : Tree) → is_bare k ≡ false → meant u (as_kind k (Some ts)) ≡ Some t → suited_parts (shape_of u k) ts ≡ true → ended (shape_of u k) t
+whole_ended u kinds.Bare ts t b e = cc
+whole_ended (under.Plain p) kinds.List ts t b e = λ h. subst (Whole 0xd0) (some_is (list ts) t e) (plain_list ts h)
+whole_ended (under.Plain p) kinds.Map ts t b e = λ h. ended_map ts t (even ts) refl e h
+whole_ended (under.Plain p) (kinds.Fields i) ts t b e = λ h. subst (Whole 0xd1) (some_is (variant i (list ts)) t e) (plain_fields i ts h)
+whole_ended (under.Plain p) (kinds.Only i) ts t b e = λ h. ended_only i ts t e h
+whole_ended (under.Array p) kinds.List ts t b e = λ h. subst (Whole 0xf0) (some_is (array ts) t e) (plain_array ts h)
+whole_ended (under.Transparent p) kinds.List ts t b e = λ h. (ts, (sym (some_is (transparent ts) t e), (left_true (alike_each ts) (placed_each ts) h, right_true (alike_each ts) (placed_each ts) h)))
+whole_ended (under.Array p) kinds.Map ts t b e = is_not _ t (refused_shape (under.Array p) kinds.Map (Some ts) refl) e
+whole_ended (under.Array p) (kinds.Fields i) ts t b e = is_not _ t (refused_shape (under.Array p) (kinds.Fields i) (Some ts) refl) e
+whole_ended (under.Array p) (kinds.Only i) ts t b e = is_not _ t (refused_shape (under.Array p) (kinds.Only i) (Some ts) refl) e
+whole_ended (under.Transparent p) kinds.Map ts t b e = is_not _ t (refused_shape (under.Transparent p) kinds.Map (Some ts) refl) e
+whole_ended (under.Transparent p) (kinds.Fields i) ts t b e = is_not _ t (refused_shape (under.Transparent p) (kinds.Fields i) (Some ts) refl) e
+whole_ended (under.Transparent p) (kinds.Only i) ts t b e = is_not _ t (refused_shape (under.Transparent p) (kinds.Only i) (Some ts) refl) e
+whole_ended (under.Scalar m p) kinds.List ts t b e = is_not _ t (refused_shape (under.Scalar m p) kinds.List (Some ts) refl) e
+whole_ended (under.Scalar m p) kinds.Map ts t b e = is_not _ t (refused_shape (under.Scalar m p) kinds.Map (Some ts) refl) e
+whole_ended (under.Scalar m p) (kinds.Fields i) ts t b e = is_not _ t (refused_shape (under.Scalar m p) (kinds.Fields i) (Some ts) refl) e
+whole_ended (under.Scalar m p) (kinds.Only i) ts t b e = is_not _ t (refused_shape (under.Scalar m p) (kinds.Only i) (Some ts) refl) e
+whole_ended (under.Nothing p) k ts t b e = is_not _ t refl e

@@ -1,63 +1,59 @@
--- What the second walk takes where it stands: a descriptor alone before a described value.
-use Rattle.std.specs.Prelude.{Option, Some, None, Bool, true, false}
-use Rattle.amqp_ser.specs.Tree.{Tree, Descriptor}
-use Rattle.amqp_ser.specs.Composites.{descriptor_of}
+-- Where the parts of a compound stand in the second walk, and what is asked of them there.
+use Rattle.std.specs.Prelude.{Option, Some, None, Bool, true, false, ◌&&◌}
+use Rattle.amqp_ser.specs.Tree.{Trees}
+use Rattle.amqp_ser.specs.Writable.{alike_each, inside_each, placed_each, one_con}
 use Rattle.amqp_ser.specs.declared.kind.Kind.{Kind}
 use Rattle.amqp_ser.specs.declared.kind.Kind.TheVariants as kinds
-use Rattle.amqp_size.specs.Place.{outer, meant, shape_of}
+use Rattle.amqp_size.specs.Counted.{first_place}
+use Rattle.amqp_size.specs.Place.{plainly}
 use Rattle.amqp_size.specs.WholePlace.{Place}
 use Rattle.amqp_size.specs.WholePlace as places
 use Rattle.amqp_size.specs.WholeUnder.{Under}
 use Rattle.amqp_size.specs.WholeUnder as under
+use Rattle.amqp_size.specs.declared.place.Base.TheVariants as base
 use Rattle.amqp_size.specs.declared.place.Shape.{Shape}
 use Rattle.amqp_size.specs.declared.place.Shape.TheVariants as shape
 
-abbrev pub where_some : Option Descriptor → Option Tree → Option Tree
-where_some None t = None
-where_some (Some d) t = t
+-- the place after a descriptor, whose length is not kept. A described value is no descriptor
+abbrev pub after_descriptor_at : Place → Option Place
+after_descriptor_at places.Root = Some (places.Value 0 base.Root)
+after_descriptor_at places.Inside = Some (places.Value 0 base.Inside)
+after_descriptor_at places.First = Some (places.Value 0 base.First)
+after_descriptor_at (places.Element c) = Some (places.Value 0 (base.Element c))
+after_descriptor_at places.Descriptor = None
+after_descriptor_at (places.Value h b) = Some (places.Value h b)
 
-abbrev pub standing : Place → Option Tree → Option Tree
-standing places.Descriptor t = where_some (descriptor_of t) t
-standing p t = t
+-- no marker takes a described value
+abbrev pub after_descriptor : Under → Option Under
+after_descriptor (under.Plain p) = plainly (after_descriptor_at p)
+after_descriptor (under.Array p) = Some (under.Nothing p)
+after_descriptor (under.Transparent p) = Some (under.Nothing p)
+after_descriptor (under.Scalar m p) = Some (under.Nothing p)
+after_descriptor (under.Nothing p) = Some (under.Nothing p)
 
--- the tree that is taken, if this one is fed
-abbrev pub taken_as : Under → Option Tree → Option Tree
-taken_as u t = standing (outer u) (meant u t)
-
-abbrev pub at_descriptor : Place → Bool
-at_descriptor places.Descriptor = true
-at_descriptor p = false
-
--- no transparent vector stands but at the root
-abbrev pub inside_shape : Shape → Shape
-inside_shape shape.Transparent = shape.Refused
-inside_shape s = s
-
--- and no compound is a descriptor
-abbrev pub shape_at : Place → Shape → Shape
-shape_at places.Root s = s
-shape_at places.Descriptor s = shape.Refused
-shape_at p s = inside_shape s
-
-abbrev pub opened_as : Under → Kind → Shape
-opened_as u k = shape_at (outer u) (shape_of u k)
-
--- where the parts of such a compound stand
+-- where the first part of such a compound stands
 abbrev pub part_place : Shape → Place
 part_place shape.Array = places.First
 part_place shape.Transparent = places.Root
 part_place s = places.Inside
 
--- a described value may stand there
-abbrev pub stands_described : Place → Bool
-stands_described places.Root = true
-stands_described places.Inside = true
-stands_described (places.Value h b) = true
-stands_described p = false
+-- where the part after these stands
+abbrev pub part_at : Shape → Trees → Place
+part_at shape.Array ts = first_place ts
+part_at shape.Transparent ts = places.Root
+part_at s ts = places.Inside
 
-abbrev pub takes_described : Under → Bool
-takes_described (under.Plain p) = stands_described p
-takes_described u = false
+-- where the next part stands, after one that left the place so: alone an array's first and a bare compound's part move it
+abbrev pub inner_after : Shape → Under → Under → Under
+inner_after shape.Array inner after = after
+inner_after shape.Bare inner after = after
+inner_after s inner after = inner
+
+-- each part may stand where it does
+abbrev pub suited_parts : Shape → Trees → Bool
+suited_parts shape.Array ts = one_con ts && (alike_each ts && inside_each ts)
+suited_parts shape.Transparent ts = alike_each ts && placed_each ts
+suited_parts s ts = alike_each ts && inside_each ts
 
 -- a bare compound is written by its part alone
 abbrev pub is_bare : Kind → Bool

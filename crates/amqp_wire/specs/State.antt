@@ -1,7 +1,7 @@
 -- The second walk, where it stands: it keeps no number beside a place, and none is needed.
-use Rattle.std.specs.Prelude.{Bool}
 use Rattle.amqp_size.specs.WholePlace.{Place}
 use Rattle.amqp_size.specs.WholeUnder.{Under}
+use Rattle.amqp_size.specs.declared.place.Shape.{Shape}
 use Rattle.amqp_wire.specs.declared.output.Output.{Output}
 use Rattle.amqp_wire.specs.declared.output.Position.{Position}
 
@@ -12,7 +12,7 @@ pub record WriterState : Type 0 where
 -- an open compound
 pub record WritingState : Type 0 where
   pub place : Place
+  pub shape : Shape
   pub inner : Under
   pub part : Position
   pub last : Position
-  pub refused : Bool

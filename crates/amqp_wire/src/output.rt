@@ -1,6 +1,6 @@
 //! Bytes in room that stands ready.
 
-ghost use Rattle.std.specs.Prelude.{◌≡◌, ◌≤◌, ◌++◌, ◌∷◌, [], length, take, drop, IfErr};
+ghost use Rattle.std.specs.Prelude.{◌≡◌, ◌≤◌, ◌++◌, ◌∷◌, [], length, take, drop, nat_le, IfErr};
 ghost use Rattle.std.specs.Vec.{vec_capacity};
 
 use crate::table::Header;
@@ -81,6 +81,22 @@ impl Output {
     {
         self.taken = position.taken;
         self.out.truncate(position.len);
+    }
+
+    /// Takes no header more, until it goes back.
+    #[inline(always)]
+    pub fn spoil(&mut self)
+        ensures kept { Kept self.old self.new }
+    {
+        self.taken = usize::MAX;
+    }
+
+    /// Whether the table and the room sufficed.
+    #[inline(always)]
+    pub fn is_whole(&self) -> bool
+        ensures { result ≡ nat_le self.now.taken (length self.now.table.items) }
+    {
+        self.taken <= self.table.len()
     }
 
     /// Takes the next header.
@@ -164,8 +180,18 @@ impl Output {
         ensures written { puts self.old (form_payload form) result self.new }
         ensures full { IfErr result (λ e. e ≡ Refusal.TooLong) }
     {
-        let bytes = form.bits.to_be_bytes();
-        self.put(&bytes[8 - form.width..])
+        let [a, b, c, d, e, f, g, h] = form.bits.to_be_bytes();
+        match form.width {
+            0 => Ok(()),
+            1 => self.put_few(&[h]),
+            2 => self.put_few(&[g, h]),
+            4 => self.put_few(&[e, f, g, h]),
+            8 => self.put_few(&[a, b, c, d, e, f, g, h]),
+            _ => {
+                let bytes = form.bits.to_be_bytes();
+                self.put(&bytes[8 - form.width..])
+            }
+        }
     }
 
     /// Writes a value of fixed width.

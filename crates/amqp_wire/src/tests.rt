@@ -2,7 +2,9 @@
 
 mod described;
 mod feeding;
+mod goes_on;
 mod memory;
+mod passed_over;
 mod refused;
 mod rows;
 

@@ -35,6 +35,9 @@ pub fn to_vec<T: Serialize>(alloc: Global, value: &T) -> Result<Vec<u8>, Error>
     let out = Vec::with_capacity(alloc, len)?;
     let mut writer = Writer::new(headers.into_headers(), out);
     value.serialize(&mut writer)?;
+    if !writer.is_whole() {
+        return Err(Error::InvalidValue);
+    }
     Ok(writer.into_bytes())
 }
 

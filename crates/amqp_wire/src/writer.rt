@@ -1,17 +1,19 @@
 //! The second walk: the bytes, into room that stands ready.
+//!
+//! It takes and refuses what the first walk does, call by call, whatever the table and the room are: those are a tree's
+//! only where nothing is refused. Where they fall short, what is written is not kept.
 
-ghost use Rattle.std.specs.Prelude.{◌≡◌, ◌++◌, ◌∷◌, [], List, Option, Some, None, Result, Ok, Err, MatchResult, IfErr, IsErr, is_err, true, false};
+ghost use Rattle.std.specs.Prelude.{◌≡◌, ◌++◌, ◌∷◌, [], List, Option, Some, None, Result, Ok, Err, MatchResult, IfErr, IsErr, nat_le, length, true, false};
 ghost use Rattle.amqp_ser.specs.Tree.{Tree};
 ghost use Rattle.amqp_wire.specs.Heads.{in_array};
-ghost use Rattle.amqp_wire.specs.Standing.{at_descriptor};
 ghost use Rattle.amqp_size.specs.State.{place_at};
 
 use crate::output::{Output, Position};
-use crate::stance::{at_descriptor, in_array, is_descriptor, opened_as, takes_described};
+use crate::stance::{accepted, described, in_array, inner_after};
 use crate::table::Header;
 use amqp_ser::{Fixed, Kind, Mark, Serializer};
 use amqp_size::width::LONGEST;
-use amqp_size::{Place, Refusal, ScalarMark, Under};
+use amqp_size::{Form, Place, Refusal, ScalarMark, Shape, Under};
 use std::marker::Model;
 
 /// Writes values into room that stands ready, with the headers of a table.
@@ -37,14 +39,13 @@ impl Model for Writer {
 #[derive(Drop)]
 pub struct Writing {
     place: Place,
-    /// Where the next part stands.
+    shape: Shape,
+    /// Where the next part stands; of a bare compound that was fed, what comes after it.
     inner: Under,
     /// Where the output stood before the part that is next or under way.
     part: Position,
     /// Where it stood before the last part that was taken.
     last: Position,
-    /// The compound could not be opened.
-    refused: bool,
 }
 
 impl Model for Writing {
@@ -53,13 +54,23 @@ impl Model for Writing {
 
     ghost Value = { WritingState };
 
-    ghost view = { λ w. record { place = place_at w.place 0; inner = under_at w.inner 0; part = w.part; last = w.last; refused = w.refused } };
+    ghost view = { λ w. record { place = place_at w.place 0; shape = w.shape; inner = under_at w.inner 0; part = w.part; last = w.last } };
 }
 
 impl Writer {
-    ghost use Rattle.amqp_wire.specs.Heads.{pick};
-    ghost use Rattle.amqp_wire.specs.Written.{Kept, puts};
-    ghost use Rattle.amqp_size.specs.Place.{outer};
+    ghost use Rattle.amqp_wire.specs.Heads.{pick, bytes_at};
+    ghost use Rattle.std.specs.Vec.{vec_capacity};
+    ghost use Rattle.std.specs.Prelude.{Bool, ◌≤◌, ◌+◌, is_err};
+    ghost use Rattle.amqp_wire.specs.Entries.{heads};
+    ghost use Rattle.amqp_wire.specs.Written.{Kept, accepts, writes_tree, opens, Room};
+    ghost use Rattle.amqp_ser.specs.Tree.{Trees, Scalar, scalar, null, transparent};
+    ghost use Rattle.amqp_ser.specs.Encoding.{con};
+    ghost use Rattle.amqp_ser.specs.Fixed.{fixed_scalar};
+    ghost use Rattle.amqp_ser.specs.Scalars.{scalar_code, scalar_form, scalar_payload};
+    ghost use Rattle.amqp_ser.specs.Writable.{alike, alike_each, within, inside, placed, placed_each};
+    ghost use Rattle.amqp_ser.specs.Limits.{fits};
+    ghost use Rattle.amqp_size.specs.Width.{text_at};
+    ghost use Rattle.amqp_size.specs.Place.{outer, rest};
     ghost use Rattle.amqp_size.specs.WholeUnder.{Plain};
     ghost use Rattle.amqp_size.specs.WholePlace.{Root};
 
@@ -77,7 +88,7 @@ impl Writer {
         }
     }
 
-    /// The bytes.
+    /// The bytes, where the table and the room sufficed.
     #[inline(always)]
     pub fn into_bytes(self) -> Vec<u8>
         ensures { result ≡ self.output.out }
@@ -86,31 +97,164 @@ impl Writer {
         output.into_bytes()
     }
 
+    /// Whether the table and the room sufficed.
+    #[inline(always)]
+    pub fn is_whole(&self) -> bool
+        ensures { result ≡ nat_le self.now.output.taken (length self.now.output.table.items) }
+    {
+        self.output.is_whole()
+    }
+
+    /// Comes to rest where it stands: markers and descriptors are behind it.
+    #[inline(always)]
+    fn settle(&mut self)
+        ensures place { self.new.place ≡ Plain (rest (outer self.old.place)) }
+        ensures output { self.new.output ≡ self.old.output }
+    {
+        match self.place {
+            Under::Plain(Place::Value(base)) => self.place = Under::Plain(base.place()),
+            Under::Plain(_) => {}
+            under => self.place = Under::Plain(under.rest()),
+        }
+    }
+
+    /// Whether a tree with this constructor is taken there, by a writer at rest.
+    #[inline(always)]
+    fn accept(&mut self, place: Place, code: u8) -> Result<(), Refusal>
+        ensures output { self.new.output ≡ self.old.output }
+        ensures accepted { self.old.place ≡ Plain (rest (place_at place 0)) → (t : Tree) → con t ≡ Some code → alike t ≡ true → inside t ≡ true → placed t ≡ true →
+            accepts (place_at place 0) (Some t) result self.new.place }
+    {
+        match accepted(place, code) {
+            Ok(after) => {
+                self.place = after;
+                Ok(())
+            }
+            Err(e) => Err(e),
+        }
+    }
+
+    /// Whether transparent trees are taken there: at the root alone.
+    #[inline(always)]
+    fn accept_transparent(&mut self, place: Place) -> Result<(), Refusal>
+        ensures output { self.new.output ≡ self.old.output }
+        ensures accepted { self.old.place ≡ Plain (rest (place_at place 0)) → (ts : Trees) → alike_each ts ≡ true → placed_each ts ≡ true →
+            accepts (place_at place 0) (Some (transparent ts)) result self.new.place }
+    {
+        match place {
+            Place::Root => Ok(()),
+            _ => Err(Refusal::InvalidValue),
+        }
+    }
+
+    /// Goes on where the table or the room fell short: what is written is not kept then.
+    #[inline(always)]
+    fn written(&mut self, put: Result<(), Refusal>)
+        ensures kept { Kept self.old.output self.new.output }
+        ensures place { self.new.place ≡ self.old.place }
+        ensures whole { is_err put ≡ false → self.new.output ≡ self.old.output }
+    {
+        if put.is_err() {
+            self.output.spoil();
+        }
+    }
+
+    /// Writes a value of fixed width.
+    #[inline(always)]
+    fn fixed(&mut self, place: Place, fixed: Fixed) -> Result<(), Refusal>
+        ensures kept { Kept self.old.output self.new.output }
+        ensures accepted { self.old.place ≡ Plain (rest (place_at place 0)) → accepts (place_at place 0) (Some (scalar (fixed_scalar fixed))) result self.new.place }
+        ensures written { writes_tree (place_at place 0) self.old.output (Some (scalar (fixed_scalar fixed))) result self.new.output }
+    {
+        match accepted(place, Form::in_array(fixed).code) {
+            Ok(after) => {
+                let put = self.output.put_fixed(in_array(place), fixed);
+                self.written(put);
+                self.place = after;
+                Ok(())
+            }
+            Err(e) => Err(e),
+        }
+    }
+
+    /// Writes null.
+    #[inline(always)]
+    fn null(&mut self, place: Place) -> Result<(), Refusal>
+        ensures kept { Kept self.old.output self.new.output }
+        ensures accepted { self.old.place ≡ Plain (rest (place_at place 0)) → accepts (place_at place 0) (Some (scalar null)) result self.new.place }
+        ensures written { writes_tree (place_at place 0) self.old.output (Some (scalar null)) result self.new.output }
+    {
+        match accepted(place, 0x40) {
+            Ok(after) => {
+                let put = self.output.put_null(in_array(place));
+                self.written(put);
+                self.place = after;
+                Ok(())
+            }
+            Err(e) => Err(e),
+        }
+    }
+
+    /// Writes a text or a binary.
+    #[inline(always)]
+    fn text(&mut self, place: Place, short: u8, long: u8, bytes: &[u8]) -> Result<(), Refusal>
+        ensures kept { Kept self.old.output self.new.output }
+        ensures accepted { self.old.place ≡ Plain (rest (place_at place 0)) → (s : Scalar) → scalar_code s ≡ long → within (scalar s) ≡ fits (length bytes.now) → accepts (place_at place 0) (Some (scalar s)) result self.new.place }
+        ensures written { (s : Scalar) → ((a : Bool) → bytes_at a (scalar s) ≡ text_at a short long bytes.now) → writes_tree (place_at place 0) self.old.output (Some (scalar s)) result self.new.output }
+    {
+        if bytes.len() > LONGEST {
+            return Err(Refusal::TooLong);
+        }
+        match accepted(place, long) {
+            Ok(after) => {
+                let put = self.output.put_text(in_array(place), short, long, bytes);
+                self.written(put);
+                self.place = after;
+                Ok(())
+            }
+            Err(e) => Err(e),
+        }
+    }
+
     /// Writes bytes of one length after their code.
     #[inline(always)]
     fn exact(&mut self, place: Place, code: u8, bytes: &[u8]) -> Result<(), Refusal>
         ensures kept { Kept self.old.output self.new.output }
-        ensures taken { self.new.output.taken ≡ self.old.output.taken }
-        ensures written { at_descriptor (place_at place 0) ≡ false → puts self.old.output (pick (in_array (place_at place 0)) (code ∷ bytes.now) bytes.now) result self.new.output }
-        ensures refused { at_descriptor (place_at place 0) ≡ true → is_err result ≡ true }
-        ensures place { self.new.place ≡ Plain (place_at place 0) }
+        ensures accepted { self.old.place ≡ Plain (rest (place_at place 0)) → (s : Scalar) → scalar_code s ≡ code → accepts (place_at place 0) (Some (scalar s)) result self.new.place }
+        ensures written { (s : Scalar) → ((a : Bool) → bytes_at a (scalar s) ≡ pick a (code ∷ bytes.now) bytes.now) → writes_tree (place_at place 0) self.old.output (Some (scalar s)) result self.new.output }
     {
-        self.place = Under::Plain(place);
-        if at_descriptor(place) {
-            return Err(Refusal::InvalidValue);
+        match accepted(place, code) {
+            Ok(after) => {
+                let put = self.output.put_exact(in_array(place), code, bytes);
+                self.written(put);
+                self.place = after;
+                Ok(())
+            }
+            Err(e) => Err(e),
         }
-        self.output.put_exact(in_array(place), code, bytes)
     }
 
-    /// Refuses a value that its marker does not take.
+    /// Writes what stands before a compound's parts.
     #[inline(always)]
-    fn refuse(&mut self) -> Result<(), Refusal>
-        ensures output { self.new.output ≡ self.old.output }
-        ensures place { self.new.place ≡ Plain (outer self.old.place) }
-        ensures refused { result ≡ Err Refusal.InvalidValue }
+    fn open(&mut self, place: Place, shape: Shape)
+        ensures kept { Kept self.old.output self.new.output }
+        ensures place { self.new.place ≡ self.old.place }
+        ensures opened { (ts : Trees) → Room (in_array (place_at place 0)) shape self.old.output ts → opens (in_array (place_at place 0)) shape self.old.output (heads shape ts) (Ok tt) self.new.output }
     {
-        self.place = Under::Plain(self.place.outer());
-        Err(Refusal::InvalidValue)
+        let put = self.output.open(in_array(place), shape);
+        self.written(put);
+    }
+
+    /// Writes the code of described values.
+    #[inline(always)]
+    fn put_described(&mut self)
+        ensures kept { Kept self.old.output self.new.output }
+        ensures place { self.new.place ≡ self.old.place }
+        ensures written { length self.old.output.out.items + 1 ≤ vec_capacity self.old.output.out →
+            (self.new.output.out.items ≡ self.old.output.out.items ++ (0x00 ∷ [])) × (self.new.output.taken ≡ self.old.output.taken) }
+    {
+        let put = self.output.put_few(&[0x00]);
+        self.written(put);
     }
 }
 
@@ -141,56 +285,45 @@ impl Serializer for Writer {
 
     #[inline(always)]
     fn serialize_fixed(&mut self, fixed: Fixed) -> Result<(), Refusal> {
-        match self.place {
-            Under::Plain(place) => {
-                if at_descriptor(place) && !is_descriptor(fixed) {
-                    return self.refuse();
-                }
-                self.output.put_fixed(in_array(place), fixed)
-            }
+        let under = self.place;
+        self.settle();
+        match under {
+            Under::Plain(place) => self.fixed(place, fixed),
             Under::Scalar(place, ScalarMark::Timestamp) => match fixed {
-                Fixed::Long(v) => { self.exact(place, 0x83, &v.to_be_bytes()) }
-                _ => self.refuse(),
+                Fixed::Long(v) => self.exact(place, 0x83, &v.to_be_bytes()),
+                _ => Err(Refusal::InvalidValue),
             },
-            _ => self.refuse(),
+            _ => Err(Refusal::InvalidValue),
         }
     }
 
     #[inline(always)]
     fn serialize_null(&mut self) -> Result<(), Refusal> {
-        match self.place {
-            Under::Plain(place) if !at_descriptor(place) => self.output.put_null(in_array(place)),
-            _ => self.refuse(),
+        let under = self.place;
+        self.settle();
+        match under {
+            Under::Plain(place) => self.null(place),
+            _ => Err(Refusal::InvalidValue),
         }
     }
 
     #[inline(always)]
     fn serialize_str(&mut self, v: &str) -> Result<(), Refusal> {
-        if v.len() > LONGEST {
-            return self.refuse();
-        }
-        match self.place {
-            Under::Plain(place) if !at_descriptor(place) => self
-                .output
-                .put_text(in_array(place), 0xa1, 0xb1, v.as_bytes()),
-            Under::Scalar(place, ScalarMark::Symbol) => {
-                self.place = Under::Plain(place);
-                self.output
-                    .put_text(in_array(place), 0xa3, 0xb3, v.as_bytes())
-            }
-            _ => self.refuse(),
+        let under = self.place;
+        self.settle();
+        match under {
+            Under::Plain(place) => self.text(place, 0xa1, 0xb1, v.as_bytes()),
+            Under::Scalar(place, ScalarMark::Symbol) => self.text(place, 0xa3, 0xb3, v.as_bytes()),
+            _ => Err(Refusal::InvalidValue),
         }
     }
 
     #[inline(always)]
     fn serialize_bytes(&mut self, v: &[u8]) -> Result<(), Refusal> {
-        if v.len() > LONGEST {
-            return self.refuse();
-        }
-        match self.place {
-            Under::Plain(place) if !at_descriptor(place) => self
-                .output
-                .put_text(in_array(place), 0xa0, 0xb0, v),
+        let under = self.place;
+        self.settle();
+        match under {
+            Under::Plain(place) => self.text(place, 0xa0, 0xb0, v),
             Under::Scalar(place, ScalarMark::Decimal32) if v.len() == 4 => self.exact(
                 place, 0x74, v,
             ),
@@ -201,7 +334,7 @@ impl Serializer for Writer {
                 place, 0x94, v,
             ),
             Under::Scalar(place, ScalarMark::Uuid) if v.len() == 16 => self.exact(place, 0x98, v),
-            _ => self.refuse(),
+            _ => Err(Refusal::InvalidValue),
         }
     }
 
@@ -214,26 +347,26 @@ impl Serializer for Writer {
     fn begin(&mut self, kind: Kind) -> Writing {
         let under = self.place;
         let place = under.outer();
-        self.place = Under::Plain(place);
+        self.settle();
         if let Kind::Bare = kind {
             let position = self.output.position();
             return Writing {
                 place,
+                shape: Shape::Bare,
                 inner: under,
                 part: position,
                 last: position,
-                refused: false,
             };
         }
-        let shape = opened_as(under, kind);
-        let refused = self.output.open(in_array(place), shape).is_err();
+        let shape = under.shape(kind);
+        self.open(place, shape);
         let position = self.output.position();
         Writing {
             place,
+            shape,
             inner: shape.inner(under),
             part: position,
             last: position,
-            refused,
         }
     }
 
@@ -242,10 +375,10 @@ impl Serializer for Writer {
         let position = Position { taken: 0, len: 0 };
         Writing {
             place: Place::Root,
+            shape: Shape::Refused,
             inner: Under::Plain(Place::Root),
             part: position,
             last: position,
-            refused: true,
         }
     }
 
@@ -264,13 +397,11 @@ impl Serializer for Writer {
             writer_permits start (whole kind (ps ++ (p ∷ rest))) (Err e) self.new)) }
         ensures refused { IfErr part (λ _. IsErr result) }
     {
-        self.place = Under::Plain(held.place);
-        if held.refused {
-            self.output.restore(held.part);
-            return Err(Refusal::InvalidValue);
-        }
+        let after = self.place;
+        self.place = Under::Plain(held.place.rest());
         match part {
             Ok(()) => {
+                held.inner = inner_after(held.shape, held.inner, after);
                 held.last = held.part;
                 Ok(())
             }
@@ -284,14 +415,8 @@ impl Serializer for Writer {
     #[inline(always)]
     fn begin_descriptor(&mut self, held: &mut Writing) {
         held.part = self.output.position();
-        self.place = Under::Nothing(Place::Descriptor);
-        if !takes_described(held.inner) {
-            return;
-        }
-        if self.output.put_few(&[0x00]).is_err() {
-            return;
-        }
         self.place = Under::Plain(Place::Descriptor);
+        self.put_described();
     }
 
     #[inline(always)]
@@ -309,10 +434,18 @@ impl Serializer for Writer {
         ensures refused { IfErr part (λ _. IsErr result) }
         ensures other_kinds { (start before : Writer) (d : Option Tree) → AwaitsDescriptor start before held.old → writer_permits before d part self.old → descriptor_of d ≡ None → IsErr result }
     {
-        let place = held.place;
-        self.place = Under::Plain(place);
+        self.place = Under::Plain(held.place.rest());
         match part {
-            Ok(()) => return Ok(()),
+            Ok(()) => match described(held.inner) {
+                Ok(inner) => {
+                    held.inner = inner;
+                    Ok(())
+                }
+                Err(e) => {
+                    self.output.restore(held.part);
+                    Err(e)
+                }
+            },
             Err(e) => {
                 self.output.restore(held.part);
                 Err(e)
@@ -332,9 +465,18 @@ impl Serializer for Writer {
 
     #[inline(always)]
     fn end(&mut self, held: Writing) -> Result<(), Refusal> {
-        if held.refused {
-            return Err(Refusal::InvalidValue);
+        match held.shape {
+            Shape::List => self.accept(held.place, 0xd0),
+            Shape::Map => self.accept(held.place, 0xd1),
+            Shape::Fields(_) => self.accept(held.place, 0xd1),
+            Shape::Only(_) => self.accept(held.place, 0xd1),
+            Shape::Array => self.accept(held.place, 0xf0),
+            Shape::Transparent => self.accept_transparent(held.place),
+            Shape::Bare => {
+                self.place = held.inner;
+                Ok(())
+            }
+            Shape::Refused => Err(Refusal::InvalidValue),
         }
-        Ok(())
     }
 }

@@ -14,7 +14,7 @@ use amqp_size::SizeSerializer;
 use std::alloc::Global;
 
 /// What is fed to each serializer in turn.
-trait Feed {
+pub(super) trait Feed {
     fn feed<S: Serializer>(&self, serializer: &mut S) -> Result<S::Ok, S::Error>;
 }
 
@@ -31,7 +31,7 @@ fn fed<F: Feed>(alloc: Global, what: &F) -> Result<Vec<u8>, Error> {
     Ok(writer.into_bytes())
 }
 
-fn is<F: Feed>(alloc: Global, what: &F, bytes: &[u8]) -> bool {
+pub(super) fn is<F: Feed>(alloc: Global, what: &F, bytes: &[u8]) -> bool {
     match fed(alloc, what) {
         Ok(written) => written.as_slice() == bytes,
         Err(_) => false,

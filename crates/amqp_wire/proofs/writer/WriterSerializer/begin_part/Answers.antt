@@ -11,7 +11,7 @@ pub returns-clause-ready : goal.returns-clause-ready
 returns-clause-ready c = rw (← c.self.view_is, ← c.held.view_is) (λ start kind ps h.
     let s = c.self.inside.output in
     let old : Writing = (part_of c.held.inside) in
-    let new : Writing = record { place = old.place; inner = old.inner; part = c.position-held-inside.result; last = old.last; refused = old.refused } in
+    let new : Writing = record { place = old.place; shape = old.shape; inner = old.inner; part = c.position-held-inside.result; last = old.last } in
     ((back (is_bare kind) start kind s s old new ps h.0 (kept-refl s) (refl, refl) refl refl refl refl, refl), (c.position-held-inside.ensures.taken, c.position-held-inside.ensures.len)))
 
 pub returns-clause-bare : goal.returns-clause-bare

@@ -1,8 +1,6 @@
-use Rattle.amqp_size.specs.Place.{outer}
-use Rattle.amqp_wire.specs.Standing.{taken_as}
 use Rattle.amqp_wire.specs.declared.output.Output.{Output}
 use Rattle.amqp_wire.specs.contracts.writer.Writing.{the_view as part_of}
-use Rattle.amqp_wire.proofs.Parts.{part_undone, still_refused}
+use Rattle.amqp_wire.proofs.Parts.{part_undone}
 use Rattle.amqp_wire.proofs.writer.WriterSerializer.undo_part.Goals as goal
 
 pub returns-clause-back : goal.returns-clause-back
@@ -15,4 +13,4 @@ returns-clause-refusals c = rw (← c.self.view_is, ← c.held.view_is) (λ star
     let n = c.restore.ensures in
     let out : Output = c.restore.new.self in
     let back = part_undone start c.self.inside.output out (part_of c.held.inside) ps p h.0 even n.table n.capacity n.taken n.out in
-    (back.kept, (r.1.0, still_refused (outer start.place) start.output c.self.inside.output out (taken_as start.place t) e r.1.1)))
+    (back.kept, (r.1.0, tt)))

@@ -1,0 +1,21 @@
+use Rattle.std.proofs.Common.{◌+◌, ◌*◌}
+use Rattle.amqp_wire.proofs.tests.goes_on.+scripts.Given as goal
+
+-- a value takes one level of the depth, and its parts have the levels that are left
+abbrev pub decreases-value : goal.decreases-value
+decreases-value g l = l.depth * 3
+
+abbrev pub decreases-feed : goal.decreases-feed
+decreases-feed g l = l.depth * 3 + 1
+
+abbrev pub decreases-sequence : goal.decreases-sequence
+decreases-sequence g l = l.depth * 3 + 2
+
+abbrev pub decreases-pairs : goal.decreases-pairs
+decreases-pairs g l = l.depth * 3 + 2
+
+abbrev pub decreases-alone : goal.decreases-alone
+decreases-alone g l = l.depth * 3 + 2
+
+abbrev pub decreases-only : goal.decreases-only
+decreases-only g l = l.depth * 3 + 2

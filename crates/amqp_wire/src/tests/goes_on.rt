@@ -1,0 +1,333 @@
+//! What goes on after refusals: both walks refuse at the same calls, and the bytes are those of what was taken.
+
+use crate::headers::Headers;
+use crate::writer::Writer;
+use amqp_data::Error;
+use amqp_ser::{Fixed, Kind, Mark, Serializer};
+use amqp_size::{Refusal, SizeSerializer};
+use std::alloc::Global;
+
+/// How the parts of a compound are found: by numbers that follow one another from a seed.
+fn child(seed: u64, part: u64) -> u64 {
+    let mixed = seed ^ part.wrapping_add(1).wrapping_mul(0x9e3779b97f4a7c15);
+    mixed
+        .wrapping_mul(6364136223846793005)
+        .wrapping_add(1442695040888963407)
+}
+
+/// A number below a bound, from a seed.
+fn pick(seed: u64, at: u32, bound: u64) -> u64 {
+    let high = seed
+        .wrapping_mul(2862933555777941757)
+        .wrapping_add(at as u64);
+    let mixed = (high ^ (high >> 29)).wrapping_mul(0xbf58476d1ce4e5b9);
+    if bound == 0 { 0 } else { (mixed >> 33) % bound }
+}
+
+/// The parts that were refused, by their seeds, in a first run; in a second run they are left out.
+#[derive(Drop)]
+pub struct Refused {
+    seeds: [u64; 128],
+    count: usize,
+    leaves_out: bool,
+}
+
+impl Refused {
+    fn new() -> Refused {
+        Refused {
+            seeds: [0; 128],
+            count: 0,
+            leaves_out: false,
+        }
+    }
+
+    fn add(&mut self, seed: u64) {
+        if self.count < 128 {
+            self.seeds[self.count] = seed;
+            self.count += 1;
+        }
+    }
+
+    fn skips(&self, seed: u64) -> bool {
+        if !self.leaves_out {
+            return false;
+        }
+        for other in &self.seeds {
+            if *other == seed {
+                return true;
+            }
+        }
+        false
+    }
+}
+
+/// A value without parts.
+fn leaf<S: Serializer>(serializer: &mut S, seed: u64) -> Result<S::Ok, S::Error> {
+    match pick(seed, 1, 12) {
+        0 => serializer.serialize_u8(1),
+        1 => serializer.serialize_null(),
+        2 => serializer.serialize_u64(pick(seed, 2, 300)),
+        3 => serializer.serialize_str("a"),
+        4 => serializer.serialize_bytes(b"bc"),
+        5 => serializer.serialize_bool(true),
+        6 => {
+            serializer.mark(Mark::Symbol);
+            serializer.serialize_str("s")
+        }
+        7 => {
+            serializer.mark(Mark::Symbol);
+            serializer.serialize_u32(1)
+        }
+        8 => {
+            serializer.mark(Mark::Timestamp);
+            serializer.serialize_i64(5)
+        }
+        9 => {
+            serializer.mark(Mark::Decimal32);
+            serializer.serialize_bytes(b"abcd")
+        }
+        10 => serializer.serialize_u8(2),
+        _ => serializer.serialize_fixed(Fixed::Uint(300)),
+    }
+}
+
+/// Feeds one part, and says whether it was taken: an error is passed on where the seed says so.
+#[cycle(scripts)]
+fn feed<S: Serializer>(
+    serializer: &mut S,
+    held: &mut S::Open,
+    refused: &mut Refused,
+    seed: u64,
+    depth: u32,
+) -> Result<bool, S::Error> {
+    if refused.skips(seed) {
+        return Ok(false);
+    }
+    serializer.begin_part(held);
+    let part = value(&mut *serializer, &mut *refused, seed, depth);
+    match serializer.end_part(held, part) {
+        Ok(()) => Ok(true),
+        Err(e) => {
+            refused.add(seed);
+            if pick(seed, 9, 8) == 0 {
+                Err(e)
+            } else {
+                Ok(false)
+            }
+        }
+    }
+}
+
+/// A list, an array, a transparent vector or a variant of fields.
+#[cycle(scripts)]
+fn sequence<S: Serializer>(
+    serializer: &mut S,
+    kind: Kind,
+    refused: &mut Refused,
+    seed: u64,
+    depth: u32,
+) -> Result<S::Ok, S::Error> {
+    let mut held = serializer.begin(kind);
+    for part in 0..pick(seed, 3, 5) {
+        feed(
+            &mut *serializer,
+            &mut held,
+            &mut *refused,
+            child(seed, part),
+            depth,
+        )?;
+    }
+    serializer.end(held)
+}
+
+/// A map; a key whose value is refused stays or is taken back.
+#[cycle(scripts)]
+fn pairs<S: Serializer>(
+    serializer: &mut S,
+    refused: &mut Refused,
+    seed: u64,
+    depth: u32,
+) -> Result<S::Ok, S::Error> {
+    let mut held = serializer.begin(Kind::Map);
+    let mut pending = false;
+    let mut key = 0;
+    for part in 0..pick(seed, 3, 6) {
+        let next = child(seed, part);
+        let taken = feed(&mut *serializer, &mut held, &mut *refused, next, depth)?;
+        if taken {
+            pending = !pending;
+            key = next;
+        } else if pending && !refused.leaves_out && pick(next, 8, 2) == 0 {
+            serializer.undo_part(&mut held);
+            refused.add(key);
+            pending = false;
+        }
+    }
+    if pending {
+        return Err(serializer.misuse(&mut held));
+    }
+    serializer.end(held)
+}
+
+/// One value that stands for itself, behind a descriptor or not.
+#[cycle(scripts)]
+fn alone<S: Serializer>(
+    serializer: &mut S,
+    refused: &mut Refused,
+    seed: u64,
+    depth: u32,
+) -> Result<S::Ok, S::Error> {
+    let mut held = serializer.begin(Kind::Bare);
+    for part in 0..pick(seed, 3, 3) {
+        let next = child(seed, part.wrapping_add(100));
+        if refused.skips(next) {
+            continue;
+        }
+        serializer.begin_descriptor(&mut held);
+        let descriptor = if pick(next, 4, 3) == 0 {
+            value(&mut *serializer, &mut *refused, next, depth)
+        } else {
+            serializer.serialize_u64(pick(next, 5, 300))
+        };
+        if serializer.end_descriptor(&mut held, descriptor).is_err() {
+            refused.add(next);
+        }
+    }
+    for part in 0..3u64 {
+        if feed(
+            &mut *serializer,
+            &mut held,
+            &mut *refused,
+            child(seed, part),
+            depth,
+        )? {
+            return serializer.end(held);
+        }
+    }
+    Err(serializer.misuse(&mut held))
+}
+
+/// A variant of one value.
+#[cycle(scripts)]
+fn only<S: Serializer>(
+    serializer: &mut S,
+    refused: &mut Refused,
+    seed: u64,
+    depth: u32,
+) -> Result<S::Ok, S::Error> {
+    let mut held = serializer.begin(Kind::Only(7));
+    for part in 0..3u64 {
+        if feed(
+            &mut *serializer,
+            &mut held,
+            &mut *refused,
+            child(seed, part),
+            depth,
+        )? {
+            return serializer.end(held);
+        }
+    }
+    Err(serializer.misuse(&mut held))
+}
+
+/// Any value of a depth, from a seed.
+#[cycle(scripts)]
+fn value<S: Serializer>(
+    serializer: &mut S,
+    refused: &mut Refused,
+    seed: u64,
+    depth: u32,
+) -> Result<S::Ok, S::Error> {
+    if depth == 0 {
+        return leaf(serializer, seed);
+    }
+    let below = depth - 1;
+    match pick(seed, 0, 14) {
+        0 | 1 => sequence(serializer, Kind::List, refused, seed, below),
+        2 | 3 | 4 => {
+            serializer.mark(Mark::Array);
+            sequence(serializer, Kind::List, refused, seed, below)
+        }
+        5 => {
+            serializer.mark(Mark::Transparent);
+            sequence(serializer, Kind::List, refused, seed, below)
+        }
+        6 => {
+            serializer.mark(Mark::Symbol);
+            sequence(serializer, Kind::List, refused, seed, below)
+        }
+        7 => sequence(serializer, Kind::Fields(3), refused, seed, below),
+        8 => only(serializer, refused, seed, below),
+        9 | 10 => alone(serializer, refused, seed, below),
+        11 => pairs(serializer, refused, seed, below),
+        _ => leaf(serializer, seed),
+    }
+}
+
+/// The bytes of both walks, without the parts that are left out.
+fn walked(
+    alloc: Global,
+    seed: u64,
+    depth: u32,
+    len: usize,
+    refused: &mut Refused,
+) -> Result<Vec<u8>, Error> {
+    let mut headers = Headers::new(alloc);
+    let counted = value(&mut headers, &mut *refused, seed, depth)?;
+    if counted != len {
+        return Err(Error::Message("two lengths"));
+    }
+    let out = Vec::with_capacity(alloc, counted)?;
+    let mut writer = Writer::new(headers.into_headers(), out);
+    value(&mut writer, refused, seed, depth)?;
+    if !writer.is_whole() {
+        return Err(Error::Message("cut short"));
+    }
+    Ok(writer.into_bytes())
+}
+
+/// Whether both walks refuse this value as the length does, or write it as if the refused parts had not been fed.
+fn agrees(alloc: Global, seed: u64, depth: u32) -> bool {
+    let mut refused = Refused::new();
+    match value(&mut SizeSerializer::new(), &mut refused, seed, depth) {
+        Ok(len) => {
+            let mut again = Refused::new();
+            let bytes = walked(alloc, seed, depth, len, &mut again);
+            refused.leaves_out = true;
+            let cleaned = walked(alloc, seed, depth, len, &mut refused);
+            match (bytes, cleaned) {
+                (Ok(bytes), Ok(cleaned)) => {
+                    bytes.len() == len && bytes.as_slice() == cleaned.as_slice()
+                }
+                _ => false,
+            }
+        }
+        Err(size) => {
+            let mut headers = Headers::new(alloc);
+            match value(&mut headers, &mut Refused::new(), seed, depth) {
+                Ok(_) => false,
+                Err(e) => size == e,
+            }
+        }
+    }
+}
+
+#[test]
+fn random_values_that_go_on(rt: HostRuntime) {
+    let alloc = rt.alloc();
+    let mut seed = 14;
+    let mut passed: u64 = 0;
+    for script in 0..10000u64 {
+        seed = child(seed, script);
+        let depth = match script % 4 {
+            0 => 1,
+            1 => 2,
+            2 => 3,
+            _ => 4,
+        };
+        if agrees(alloc, seed, depth) {
+            passed = passed.wrapping_add(1);
+        }
+    }
+    assert_eq!(rt; passed, 10000);
+}

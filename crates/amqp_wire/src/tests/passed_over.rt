@@ -1,0 +1,120 @@
+//! Refusals that are passed over, by hand: what the second walk would take, or refuse at another call.
+
+use super::feeding::{Feed, is};
+use amqp_data::{Array, TransparentVec, markers};
+use amqp_ser::{Kind, Mark, Serializer};
+use std::test::Fail;
+
+/// A map whose first key is an array of two kinds.
+#[derive(Drop)]
+struct MixedKey(Array<Option<u8>>);
+
+impl Feed for MixedKey {
+    fn feed<S: Serializer>(&self, serializer: &mut S) -> Result<S::Ok, S::Error> {
+        let mut map = serializer.serialize_map(None)?;
+        if map.serialize_key(&self.0).is_ok() || map.serialize_value(&1u8).is_ok() {
+            map.serialize_key(&"taken")?;
+        }
+        map.serialize_key(&0u8)?;
+        map.serialize_value(&(1u8,))?;
+        map.end()
+    }
+}
+
+/// An array that is fed a null and a number.
+fn nulls<S: Serializer>(serializer: &mut S) -> Result<S::Ok, S::Error> {
+    serializer.mark(Mark::Array);
+    let mut array = serializer.serialize_seq(None)?;
+    array.serialize_element(&())?;
+    if array.serialize_element(&1u8).is_ok() {
+        array.serialize_element(&"taken")?;
+    }
+    array.end()
+}
+
+/// The list of that array and of an empty list.
+struct MixedArray;
+
+impl Feed for MixedArray {
+    fn feed<S: Serializer>(&self, serializer: &mut S) -> Result<S::Ok, S::Error> {
+        let mut list = serializer.begin(Kind::List);
+        serializer.begin_part(&mut list);
+        let array = nulls(&mut *serializer);
+        serializer.end_part(&mut list, array)?;
+        serializer.begin_part(&mut list);
+        let empty = serializer.begin(Kind::List);
+        let part = serializer.end(empty);
+        serializer.end_part(&mut list, part)?;
+        serializer.end(list)
+    }
+}
+
+/// A described value that is fed a transparent vector first.
+#[derive(Drop)]
+struct DescribedVector(TransparentVec<u8>);
+
+impl Feed for DescribedVector {
+    fn feed<S: Serializer>(&self, serializer: &mut S) -> Result<S::Ok, S::Error> {
+        let mut fields = serializer.serialize_tuple_struct(markers::DESCRIBED_BASIC, 2)?;
+        fields.serialize_field(&3u64)?;
+        if fields.serialize_field(&self.0).is_ok() {
+            fields.serialize_field(&"taken")?;
+        }
+        fields.serialize_field(&())?;
+        fields.end()
+    }
+}
+
+/// A described value that goes on after each refusal.
+fn described<S: Serializer>(serializer: &mut S) -> Result<S::Ok, S::Error> {
+    let mut fields = serializer.serialize_tuple_struct(markers::DESCRIBED_BASIC, 2)?;
+    let descriptor = fields.serialize_field(&1u64);
+    let value = fields.serialize_field(&1u8);
+    if descriptor.is_ok() && value.is_ok() {
+        fields.serialize_field(&"taken")?;
+    }
+    fields.end()
+}
+
+/// An array that is fed that value, and then a number.
+struct DescribedElement;
+
+impl Feed for DescribedElement {
+    fn feed<S: Serializer>(&self, serializer: &mut S) -> Result<S::Ok, S::Error> {
+        serializer.mark(Mark::Array);
+        let mut array = serializer.begin(Kind::List);
+        serializer.begin_part(&mut array);
+        let part = described(&mut *serializer);
+        if serializer.end_part(&mut array, part).is_ok() {
+            return serializer.end(array);
+        }
+        serializer.begin_part(&mut array);
+        let part = serializer.serialize_u8(2);
+        serializer.end_part(&mut array, part)?;
+        serializer.end(array)
+    }
+}
+
+#[test]
+fn both_walks_refuse_at_the_same_calls(rt: HostRuntime) -> Result<(), Fail> {
+    let a = rt.alloc();
+    let key = MixedKey(Array::from(vec![in a; Some(1u8), None]?));
+    assert!(rt;
+        is(a, &key, b"\xc1\x08\x02\x50\x00\xc0\x03\x01\x50\x01"),
+        "a key of two kinds"
+    );
+    assert!(rt;
+        is(a, &MixedArray, b"\xc0\x06\x02\xe0\x02\x01\x40\x45"),
+        "a number among nulls"
+    );
+    let vector = DescribedVector(TransparentVec::new(Vec::new(a)));
+    assert!(rt;
+        is(a, &vector, b"\x00\x53\x03\x40"),
+        "a transparent vector after a descriptor"
+    );
+    assert!(rt;
+        is(a, &DescribedElement, b"\xe0\x03\x01\x50\x02"),
+        "a described element"
+    );
+    Ok(())
+}
