@@ -166,7 +166,7 @@ impl Output {
             8 => self.put_few(&[form.code, a, b, c, d, e, f, g, h]),
             _ => {
                 self.put_few(&[form.code])?;
-                self.put_payload(form)
+                self.put_bits(form)
             }
         }
     }
@@ -187,11 +187,21 @@ impl Output {
             2 => self.put_few(&[g, h]),
             4 => self.put_few(&[e, f, g, h]),
             8 => self.put_few(&[a, b, c, d, e, f, g, h]),
-            _ => {
-                let bytes = form.bits.to_be_bytes();
-                self.put(&bytes[8 - form.width..])
-            }
+            _ => self.put_bits(form),
         }
+    }
+
+    /// Writes the bytes after a form's code, whatever its width.
+    #[inline(never)]
+    fn put_bits(&mut self, form: Form) -> Result<(), Refusal>
+        requires { form.width ≤ 8 }
+        ensures kept { Kept self.old self.new }
+        ensures taken { self.new.taken ≡ self.old.taken }
+        ensures written { puts self.old (form_payload form) result self.new }
+        ensures full { IfErr result (λ e. e ≡ Refusal.TooLong) }
+    {
+        let bytes = form.bits.to_be_bytes();
+        self.put(&bytes[8 - form.width..])
     }
 
     /// Writes a value of fixed width.

@@ -114,13 +114,35 @@ impl Writer {
         match self.place {
             Under::Plain(Place::Value(base)) => self.place = Under::Plain(base.place()),
             Under::Plain(_) => {}
-            under => self.place = Under::Plain(under.rest()),
+            _ => self.settle_marked(),
         }
+    }
+
+    /// Comes to rest where it stands under a marker.
+    #[inline(never)]
+    fn settle_marked(&mut self)
+        ensures place { self.new.place ≡ Plain (rest (outer self.old.place)) }
+        ensures output { self.new.output ≡ self.old.output }
+    {
+        self.place = Under::Plain(self.place.rest());
     }
 
     /// Whether a tree with this constructor is taken there, by a writer at rest.
     #[inline(always)]
     fn accept(&mut self, place: Place, code: u8) -> Result<(), Refusal>
+        ensures output { self.new.output ≡ self.old.output }
+        ensures accepted { self.old.place ≡ Plain (rest (place_at place 0)) → (t : Tree) → con t ≡ Some code → alike t ≡ true → inside t ≡ true → placed t ≡ true →
+            accepts (place_at place 0) (Some t) result self.new.place }
+    {
+        match place {
+            Place::Root | Place::Inside => Ok(()),
+            _ => self.accept_elsewhere(place, code),
+        }
+    }
+
+    /// The same in an array or at a descriptor's or a described value's place.
+    #[inline(never)]
+    fn accept_elsewhere(&mut self, place: Place, code: u8) -> Result<(), Refusal>
         ensures output { self.new.output ≡ self.old.output }
         ensures accepted { self.old.place ≡ Plain (rest (place_at place 0)) → (t : Tree) → con t ≡ Some code → alike t ≡ true → inside t ≡ true → placed t ≡ true →
             accepts (place_at place 0) (Some t) result self.new.place }
@@ -217,7 +239,7 @@ impl Writer {
     }
 
     /// Writes bytes of one length after their code.
-    #[inline(always)]
+    #[inline(never)]
     fn exact(&mut self, place: Place, code: u8, bytes: &[u8]) -> Result<(), Refusal>
         ensures kept { Kept self.old.output self.new.output }
         ensures accepted { self.old.place ≡ Plain (rest (place_at place 0)) → (s : Scalar) → scalar_code s ≡ code → accepts (place_at place 0) (Some (scalar s)) result self.new.place }
