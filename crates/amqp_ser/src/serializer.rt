@@ -490,7 +490,7 @@ pub trait Serializer {
         ensures same_reference { IfOk result (λ variant. variant.serializer.ghost_name ≡ self.entry.ghost_name) }
         ensures succeeds { IsOk result }
     {
-        let held = self.begin(Kind::Fields(index));
-        Ok(SerializeStructVariant::new(self, held))
+        let opened = self.begin(Kind::Fields(index));
+        Ok(SerializeStructVariant::new(self, opened))
     }
 }
