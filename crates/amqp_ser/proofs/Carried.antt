@@ -1,5 +1,5 @@
--- The trees of elements in order: a list, an array and a transparent tree of them.
-use Rattle.std.proofs.Common.{◌≡◌, List, Option, Some, None, option_map, refl}
+-- The trees of elements in order: a list, an array, a transparent tree and a variant of them.
+use Rattle.std.proofs.Common.{◌≡◌, ℕ, List, Option, Some, None, option_map, refl}
 use Rattle.amqp_ser.specs.Tree as tree
 use Rattle.amqp_ser.specs.Tree.{Tree, Trees}
 use Rattle.amqp_ser.specs.Compounds.{all_trees, as_kind, whole}
@@ -19,6 +19,10 @@ transparent_kind : (o : Option Trees) → marked mark.Transparent (as_kind kind.
 transparent_kind None = refl
 transparent_kind (Some ts) = refl
 
+variant_kind : (i : ℕ) (o : Option Trees) → as_kind (kind.Fields i) o ≡ option_map (λ ts. tree.variant i (tree.list ts)) o
+variant_kind i None = refl
+variant_kind i (Some ts) = refl
+
 pub whole_list : (ps : List (Option Tree)) → whole kind.List ps ≡ option_map tree.list (all_trees ps)
 unfolding whole
 whole_list ps = list_kind (all_trees ps)
@@ -30,3 +34,7 @@ whole_array ps = array_kind (all_trees ps)
 pub whole_transparent : (ps : List (Option Tree)) → marked mark.Transparent (whole kind.List ps) ≡ option_map tree.transparent (all_trees ps)
 unfolding whole
 whole_transparent ps = transparent_kind (all_trees ps)
+
+pub whole_variant : (i : ℕ) (ps : List (Option Tree)) → whole (kind.Fields i) ps ≡ option_map (λ ts. tree.variant i (tree.list ts)) (all_trees ps)
+unfolding whole
+whole_variant i ps = variant_kind i (all_trees ps)

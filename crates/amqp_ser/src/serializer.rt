@@ -531,7 +531,7 @@ pub trait Serializer {
             (λ variant. variant.serializer.ghost_name ≡ self.entry.ghost_name) }
         ensures succeeds { IsOk result }
     {
-        let held = self.begin(Kind::Fields(index));
-        Ok(SerializeStructVariant::new(self, held))
+        let opened = self.begin(Kind::Fields(index));
+        Ok(SerializeStructVariant::new(self, opened))
     }
 }

@@ -3,7 +3,7 @@
 //! A type's tree is declared where the type is made serializable; these laws say what it is, apart from there. A
 //! compound has a tree where all its parts have one.
 
-ghost use Rattle.std.specs.Prelude.{◌≡◌, ◌∷◌, [], ℕ, ℤ, Bool, Some, None, Box, String, Vec, map, option_map, string_bytes};
+ghost use Rattle.std.specs.Prelude.{◌≡◌, ◌∷◌, [], ℕ, ℤ, Bool, true, false, Some, None, Box, String, Vec, map, option_map, string_bytes};
 ghost use Rattle.std.specs.Global.{Global};
 ghost use Rattle.amqp_data.specs.Fixed.{dec32_bytes, dec64_bytes, dec128_bytes};
 ghost use Rattle.amqp_data.specs.Fixed.{f32_bits, f64_bits, milliseconds_of, uuid_bytes};
@@ -12,11 +12,13 @@ ghost use Rattle.amqp_data.specs.Pairs.{entries_of};
 ghost use Rattle.amqp_data.specs.Text.{symbol_ref_text, symbol_text};
 ghost use Rattle.amqp_data.specs.declared.descriptor.Descriptor.TheVariants.{Code, Name};
 ghost use Rattle.amqp_ser.specs.Compounds.{all_trees, parts_of, whole};
+ghost use Rattle.amqp_ser.specs.Named as fields;
+ghost use Rattle.amqp_ser.specs.Named.{string_key, symbol_key, up_to_last, values_of};
 ghost use Rattle.amqp_ser.specs.Tree as tree;
 ghost use Rattle.amqp_ser.specs.Tree.{scalar};
 ghost use Rattle.amqp_ser.specs.declared.kind.Kind.TheVariants.{Map};
 
-use crate::Serialize;
+use crate::{Field, Fields, ListOf, MapOf, OptionalField, Serialize, SymbolMapOf, VariantOf};
 use amqp_data::{
     Array, ByteBuf, Dec32, Dec64, Dec128, Described, F32Bits, F64Bits, OrderedMap, Symbol,
     SymbolRef, Timestamp, TransparentVec, Uuid,
@@ -127,4 +129,33 @@ pub fn trees_of_described_values<T: Serialize>(value: &Described<T>)
     ensures code { (n : ℕ) → value.now.descriptor ≡ Code n →
         ⟦<Described<T> as Serialize>⟧.tree value.now ≡ option_map (tree.described (tree.code n))
         (T.tree value.now.value) }
+{}
+
+/// What fields that are handed over together mean, in order: a field is there; one that may be absent is there where
+/// it is `Some`, and else null.
+pub fn meanings_of_fields<V: Serialize, R: Fields>()
+    ensures none { ⟦<() as Fields>⟧.named tt ≡ [] }
+    ensures field { (f : Field V R) →
+        ⟦<Field<'static, V, R> as Fields>⟧.named f
+        ≡ (f.name.now, (true, V.tree f.value)) ∷ R.named f.rest }
+    ensures there { (f : OptionalField V R) (x : V) → f.value.now ≡ Some x →
+        ⟦<OptionalField<'static, V, R> as Fields>⟧.named f
+        ≡ (f.name.now, (true, V.tree x)) ∷ R.named f.rest }
+    ensures absent { (f : OptionalField V R) → f.value.now ≡ None →
+        ⟦<OptionalField<'static, V, R> as Fields>⟧.named f
+        ≡ (f.name.now, (false, Some (scalar tree.null))) ∷ R.named f.rest }
+{}
+
+/// Fields that are handed over together are a list up to the last that is there, the variant of that list, or a map
+/// from the names of those that are there, as strings or as symbols.
+pub fn trees_of_fields<F: Fields>()
+    ensures list { (l : ListOf F) → ⟦<ListOf<F> as Serialize>⟧.tree l
+        ≡ option_map tree.list (all_trees (up_to_last (values_of (F.named l.0)))) }
+    ensures variant { (v : VariantOf F) → ⟦<VariantOf<F> as Serialize>⟧.tree v
+        ≡ option_map (λ ts. tree.variant v.0 (tree.list ts))
+        (all_trees (up_to_last (values_of (F.named v.1)))) }
+    ensures strings { (m : MapOf F) → ⟦<MapOf<F> as Serialize>⟧.tree m
+        ≡ whole Map (fields.entries_of string_key (F.named m.0)) }
+    ensures symbols { (m : SymbolMapOf F) → ⟦<SymbolMapOf<F> as Serialize>⟧.tree m
+        ≡ whole Map (fields.entries_of symbol_key (F.named m.0)) }
 {}

@@ -6,7 +6,6 @@ mod recorder;
 mod samples;
 
 use self::composites::{Body, Named, Opens, Properties, Tuple, bad_descriptor, two_descriptors};
-use self::looks::looks_between;
 use self::recorder::{calls_of, new_calls};
 use self::samples::{Inner, Name, NoName, Pair, Reading};
 use amqp_data::{
@@ -207,14 +206,6 @@ fn descriptors_come_once(rt: HostRuntime) -> Result<(), Fail> {
     let mut calls = new_calls(alloc);
     drop(two_descriptors(&mut calls));
     assert_eq!(rt; calls.as_str(), "bare [ by ulong misuse,");
-    Ok(())
-}
-
-#[test]
-fn a_look_changes_nothing(rt: HostRuntime) -> Result<(), Fail> {
-    let mut calls = new_calls(rt.alloc());
-    drop(looks_between(&mut calls));
-    assert_eq!(rt; calls.as_str(), "{ a, ubyte, }");
     Ok(())
 }
 
