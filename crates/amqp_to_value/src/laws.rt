@@ -4,7 +4,7 @@
 
 ghost use Rattle.std.specs.Prelude.{◌≡◌, Some, true};
 ghost use Rattle.amqp_ser.specs.Encoding.{enc};
-ghost use Rattle.amqp_ser.specs.Tree.{Tree};
+ghost use Rattle.amqp_ser.specs.Tree.{Scalar, Tree, scalar};
 ghost use Rattle.amqp_ser.specs.Writable.{writable};
 ghost use Rattle.amqp_value.specs.AsMap.{read_as_map};
 ghost use Rattle.amqp_value.specs.Plain.{IsPlain};
@@ -43,4 +43,13 @@ pub fn sound_values_come_back_equal()
         tree_of b ≡ tree_of a }
     ensures equal { (a b : Value) → IsSound a → StandsFor b (Some (tree_of a)) →
         ⟦<Value as PartialEq>⟧.eq b a ≡ true }
+{}
+
+/// A value that stands for a scalar is equal to each value of that scalar, as the one that `From` gives.
+///
+/// # Memory
+/// Takes none.
+pub fn scalars_keep_their_content()
+    ensures { (s : Scalar) (a b : Value) → tree_of a ≡ scalar s → StandsFor b (Some (scalar s))
+        → ⟦<Value as PartialEq>⟧.eq b a ≡ true }
 {}

@@ -81,6 +81,12 @@ fn variants_of_fields(rt: HostRuntime) -> Result<(), Fail> {
         variant!(3, (13, (text, ()))) => assert_eq!(rt; text.as_str(), "amqp"),
         _ => panic!(rt; "no tuple variant"),
     }
+    let text = Value::String(String::from_str(alloc, "amqp")?);
+    let fields = list(alloc, [Value::Int(13), text])?;
+    match sample(alloc, list(alloc, [Value::Uint(3), fields])?)? {
+        variant!(3, (13, (text, ()))) => assert_eq!(rt; text.as_str(), "amqp"),
+        _ => panic!(rt; "no tuple variant"),
+    }
     Ok(())
 }
 

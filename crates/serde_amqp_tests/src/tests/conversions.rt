@@ -1,10 +1,27 @@
 //! Conversions, format codes and order, by the names that are handed out.
 
 use serde_amqp::format_code::EncodingCodes;
-use serde_amqp::primitives::{Array, OrderedMap, Symbol};
+use serde_amqp::primitives::{
+    Array, ByteBuf, Dec32, Dec64, Dec128, F32Bits, F64Bits, OrderedMap, Symbol, Timestamp, Uuid,
+};
+use serde_amqp::ser::Serialize;
 use serde_amqp::value::{ConvertFault, Value, to_value};
+use std::alloc::Global;
 use std::collections::BTreeMap;
+use std::process::Abort;
 use std::test::Fail;
+
+// The value of the content and its untyped value are equal.
+fn are_one<R, T>(rt: &R, alloc: Global, content: T) -> Result<(), Fail>
+where
+    R: Abort,
+    T: Serialize + Into<Value> + Drop,
+{
+    let image = to_value(alloc, &content)?;
+    let value: Value = content.into();
+    assert_eq!(rt; image, value);
+    Ok(())
+}
 
 #[test]
 fn a_scalar_and_its_untyped_value_are_one(rt: HostRuntime) -> Result<(), Fail> {
@@ -16,6 +33,31 @@ fn a_scalar_and_its_untyped_value_are_one(rt: HostRuntime) -> Result<(), Fail> {
     assert_eq!(rt; to_value(alloc, &symbol)?, expected);
     assert_eq!(rt; Value::from(symbol), expected);
     Ok(())
+}
+
+#[test]
+fn every_scalar_and_its_untyped_value_are_one(rt: HostRuntime) -> Result<(), Fail> {
+    let alloc = rt.alloc();
+    are_one(&rt, alloc, true)?;
+    are_one(&rt, alloc, 1u8)?;
+    are_one(&rt, alloc, 2u16)?;
+    are_one(&rt, alloc, 3u32)?;
+    are_one(&rt, alloc, 4u64)?;
+    are_one(&rt, alloc, -1i8)?;
+    are_one(&rt, alloc, -2i16)?;
+    are_one(&rt, alloc, -3i32)?;
+    are_one(&rt, alloc, -4i64)?;
+    are_one(&rt, alloc, F32Bits::from(0x8000_0000))?;
+    are_one(&rt, alloc, F64Bits::from(5))?;
+    are_one(&rt, alloc, Dec32::from([6; 4]))?;
+    are_one(&rt, alloc, Dec64::from([7; 8]))?;
+    are_one(&rt, alloc, Dec128::from([8; 16]))?;
+    are_one(&rt, alloc, 'a')?;
+    are_one(&rt, alloc, Timestamp::from(-9))?;
+    are_one(&rt, alloc, Uuid::from([10; 16]))?;
+    are_one(&rt, alloc, ByteBuf::from([11].to_vec(alloc)?))?;
+    are_one(&rt, alloc, String::from_str(alloc, "a")?)?;
+    are_one(&rt, alloc, Symbol::try_from_str(alloc, "a")?)
 }
 
 #[test]
