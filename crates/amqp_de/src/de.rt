@@ -1,6 +1,6 @@
 //! The traits of reading.
 
-ghost use Rattle.std.specs.Prelude.{◌≡◌, ◌↔◌, IsTrue, List};
+ghost use Rattle.std.specs.Prelude.{◌≡◌, ◌↔◌, IsTrue, List, false};
 ghost use Rattle.amqp_ser.specs.Marked.{is_descriptor, is_value, mark_of};
 ghost use Rattle.amqp_ser.specs.Tree.{Tree, scalar, null, bool, ubyte, ushort, uint, ulong, byte, short, int, long, float, double, char, string, binary};
 ghost use Rattle.amqp_value.specs.TreeOf.{tree_of};
@@ -76,6 +76,13 @@ pub trait Deserializer: Sized + Drop {
     /// Takes the value of the first key that is the string of this name.
     fn take_named(entries: &mut Self::Entries, name: &str) -> Option<Self>
         ensures { TakesNamed value name.now (pairs entries.old) (pairs entries.new) result };
+
+    /// Whether texts for people are held: never.
+    final fn is_human_readable(&self) -> bool
+        ensures { result ≡ false }
+    {
+        false
+    }
 
     /// Deserializes a `bool`.
     final fn deserialize_bool<V: Visitor>(self, visitor: V) -> Result<V::Value, Self::Error>

@@ -1,5 +1,5 @@
 use super::{refused, spell};
-use amqp_data::{Array, Described, Descriptor, Error, OrderedMap, Symbol};
+use amqp_data::{Array, ByteBuf, Described, Descriptor, Error, OrderedMap, Symbol};
 use amqp_value::Value;
 use std::alloc::Global;
 use std::test::Fail;
@@ -22,6 +22,14 @@ fn map<const N: usize>(alloc: Global, pairs: [(Value, Value); N]) -> Result<Valu
 
 fn text(alloc: Global, text: &str) -> Result<Value, Fail> {
     Ok(Value::String(String::from_str(alloc, text)?))
+}
+
+fn symbol(alloc: Global, text: &str) -> Result<Value, Fail> {
+    Ok(Value::Symbol(Symbol::try_from_str(alloc, text)?))
+}
+
+fn binary(alloc: Global, bytes: &[u8]) -> Result<Value, Fail> {
+    Ok(Value::Binary(ByteBuf::from(bytes.to_vec(alloc)?)))
 }
 
 fn described(alloc: Global, descriptor: Descriptor, value: Value) -> Result<Value, Fail> {
@@ -177,6 +185,34 @@ fn arrays_have_every_spelling(rt: HostRuntime) -> Result<(), Fail> {
         a,
         &words,
         &["e012047100000001000000020000000300000004"],
+    )
+}
+
+#[test]
+fn elements_have_every_spelling(rt: HostRuntime) -> Result<(), Fail> {
+    let a = rt.alloc();
+    let ints = array(a, [Value::Int(0), Value::Int(0)])?;
+    spell(&rt, a, &ints, &["e00402540000", "e00a02710000000000000000"])?;
+    let longs = array(a, [Value::Long(0), Value::Long(0)])?;
+    spell(
+        &rt,
+        a,
+        &longs,
+        &["e00402550000", "e012028100000000000000000000000000000000"],
+    )?;
+    let symbols = array(a, [symbol(a, "a")?, symbol(a, "b")?])?;
+    spell(
+        &rt,
+        a,
+        &symbols,
+        &["e00602a301610162", "e00c02b300000001610000000162"],
+    )?;
+    let binaries = array(a, [binary(a, &[255])?, binary(a, &[])?])?;
+    spell(
+        &rt,
+        a,
+        &binaries,
+        &["e00502a001ff00", "e00b02b000000001ff00000000"],
     )
 }
 

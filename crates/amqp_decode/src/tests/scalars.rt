@@ -83,6 +83,12 @@ fn texts_have_both_lengths(rt: HostRuntime) -> Result<(), Fail> {
     let a = rt.alloc();
     spell(&rt, a, &text(a, "")?, &["a100", "b100000000"])?;
     spell(&rt, a, &text(a, "a")?, &["a10161", "b10000000161"])?;
+    spell(
+        &rt,
+        a,
+        &text(a, "amqp")?,
+        &["a104616d7170", "b100000004616d7170"],
+    )?;
     spell(&rt, a, &text(a, "é")?, &["a102c3a9", "b100000002c3a9"])?;
     spell(&rt, a, &symbol(a, "a")?, &["a30161", "b30000000161"])?;
     spell(&rt, a, &symbol(a, "amqp")?, &["a304616d7170"])?;

@@ -175,6 +175,7 @@ fn values_are_shown_by_their_kind(rt: HostRuntime) -> Result<(), Fail> {
 fn each_call_has_its_visit(rt: HostRuntime) -> Result<(), Fail> {
     let alloc = rt.alloc();
     let of = |value: Value| Deserializer::new(alloc, value);
+    assert!(rt; !of(Value::Null).is_human_readable());
     assert!(rt; matches!(of(Value::Null).deserialize_option(Which), Ok(Visit::Plain)));
     assert!(rt; matches!(of(Value::Int(1)).deserialize_option(Which), Ok(Visit::Some)));
     assert!(rt;
