@@ -2,7 +2,7 @@
 //!
 //! A law is a function that does nothing: its clauses are the law. A caller's proof learns it by a call.
 
-ghost use Rattle.std.specs.Prelude.{◌≡◌, ◌&&◌};
+ghost use Rattle.std.specs.Prelude.{◌≡◌, ◌&&◌, false, nat_eq};
 ghost use Rattle.std.specs.Cmp.Lexicographic.{pointwise, slice_cmp};
 ghost use Rattle.std.specs.declared.cmp.Ordering.TheVariants.{Less};
 ghost use Rattle.std.specs.Ordering.{int_cmp, nat_cmp, ordering_then};
@@ -96,11 +96,21 @@ pub fn descriptors_go_by_content(a: &Symbol, b: &Symbol, m: u64, n: u64)
     ensures names { ComparesBy Descriptor.Name
         ⟦<Descriptor as Ord>⟧.cmp ⟦<Symbol as Ord>⟧.cmp a.now b.now }
     ensures codes { ComparesBy Descriptor.Code ⟦<Descriptor as Ord>⟧.cmp nat_cmp m n }
+    ensures equal_names { ComparesBy Descriptor.Name
+        ⟦<Descriptor as PartialEq>⟧.eq ⟦<Symbol as PartialEq>⟧.eq a.now b.now }
+    ensures equal_codes { ComparesBy Descriptor.Code
+        ⟦<Descriptor as PartialEq>⟧.eq nat_eq m n }
+    ensures hash { symbol_text a.now ≡ symbol_text b.now →
+        ⟦<Descriptor as Hash>⟧.hash_input (Descriptor.Name a.now)
+        ≡ ⟦<Descriptor as Hash>⟧.hash_input (Descriptor.Name b.now) }
 {}
 
 /// Each name is before all codes.
 pub fn names_come_before_codes(name: &Symbol, code: u64)
-    ensures { ⟦<Descriptor as Ord>⟧.cmp (Descriptor.Name name.now) (Descriptor.Code code) ≡ Less }
+    ensures order { ⟦<Descriptor as Ord>⟧.cmp (Descriptor.Name name.now) (Descriptor.Code code)
+        ≡ Less }
+    ensures equality { ⟦<Descriptor as PartialEq>⟧.eq (Descriptor.Name name.now)
+        (Descriptor.Code code) ≡ false }
 {}
 
 /// Described values go by the descriptor, and then by the value.
@@ -111,6 +121,8 @@ pub fn described_values_go_by_content<T: Ord + Hash>(a: &Described<T>, b: &Descr
     ensures order { ⟦<Described<T> as Ord>⟧.cmp a.now b.now
         ≡ ordering_then (⟦<Descriptor as Ord>⟧.cmp a.now.descriptor b.now.descriptor)
         (T.cmp a.now.value b.now.value) }
+    ensures hash { a.now.descriptor ≡ b.now.descriptor → a.now.value ≡ b.now.value →
+        ⟦<Described<T> as Hash>⟧.hash_input a.now ≡ ⟦<Described<T> as Hash>⟧.hash_input b.now }
 {}
 
 /// Arrays go by their elements, in order.
