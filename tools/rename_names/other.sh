@@ -1,4 +1,0 @@
-# other.sh NAME: the script on another clone, with all static checks
-cd /tmp/h; rm -rf /tmp/h/names_o_$1; git clone -q /tmp/h/$1 /tmp/h/names_o_$1; cd /tmp/h/names_o_$1; python3 /tmp/h/rename/sync.py /tmp/h/$1 /tmp/h/names_o_$1 > /dev/null; git config user.name f; git config user.email f@f; git add -A; git commit -qm s > /dev/null; cp -r /tmp/h/names_o_$1 /tmp/h/names_o_$1.old.tmp; rm -rf /tmp/h/names_o_$1.old; mv /tmp/h/names_o_$1.old.tmp /tmp/h/names_o_$1.old
-python3 /tmp/h/rename/rename.py .; python3 /tmp/h/applies.py . | tail -3; python3 /tmp/h/rename/resolve.py . | grep -v "\.Given$\|PaddingLemmas\|SignedRules\|MonthLemmas"
-python3 /tmp/h/rename/infile.py /tmp/h/names_o_$1.old . | cut -c1-200 > /tmp/h/infile_$1.txt; python3 /tmp/h/rename/words.py /tmp/h/names_o_$1.old . | cut -c1-250 > /tmp/h/words_$1.txt

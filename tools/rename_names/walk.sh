@@ -1,1 +1,0 @@
-rm -rf /tmp/h/names_walk.new; git clone -q /tmp/h/walk /tmp/h/names_walk.new; cd /tmp/h/names_walk.new; python3 /tmp/h/rename/sync.py /tmp/h/walk /tmp/h/names_walk.new; git config user.name f; git config user.email f@f; git add -A; git commit -qm s; python3 /tmp/h/rename/rename.py .; python3 /tmp/h/applies.py .
