@@ -22,7 +22,7 @@ pub enum Style {
 
 impl Output {
     ghost use Rattle.amqp_wire.specs.Entries.{heads};
-    ghost use Rattle.amqp_wire.specs.Heads.{head, whole_head, counted_head, small};
+    ghost use Rattle.amqp_wire.specs.Heads.{head, whole_head, counted_head, small, pick};
     ghost use Rattle.amqp_wire.specs.Written.{Kept, puts, leads, opens, Room};
     ghost use Rattle.amqp_ser.specs.Scalars.{scalar_form};
     ghost use Rattle.amqp_ser.specs.Encoding.{code_list};
@@ -30,54 +30,61 @@ impl Output {
 
     /// Writes a size and a count, in one byte each where both have room there.
     #[inline(always)]
-    fn put_counted(&mut self, short: u8, long: u8, header: Header) -> Result<(), Refusal>
+    fn put_counted(&mut self, short: u8, long: u8, len: u32, count: u32) -> Result<(), Refusal>
         ensures kept { Kept self.old self.new }
         ensures taken { self.new.taken ≡ self.old.taken }
-        ensures written { small header →
-            puts self.old (counted_head short long header.len header.count) result self.new }
+        ensures written { len ≤ 4294967291 →
+            puts self.old (counted_head short long len count) result self.new }
     {
-        if header.len <= 254 && header.count <= 255 {
-            return self.put(&[short, header.len as u8 + 1, header.count as u8]);
+        if len <= 254 && count <= 255 {
+            return self.put(&[short, len as u8 + 1, count as u8]);
         }
-        let [a, b, c, d] = header.len.wrapping_add(4).to_be_bytes();
-        let [e, f, g, h] = header.count.to_be_bytes();
+        let [a, b, c, d] = len.wrapping_add(4).to_be_bytes();
+        let [e, f, g, h] = count.to_be_bytes();
         self.put(&[long, a, b, c, d, e, f, g, h])
     }
 
     /// Writes a header by itself.
     #[inline(always)]
-    fn put_whole_head(&mut self, style: Style, header: Header) -> Result<(), Refusal>
+    fn put_whole_head(&mut self, style: Style, len: u32, count: u32) -> Result<(), Refusal>
         ensures kept { Kept self.old self.new }
         ensures taken { self.new.taken ≡ self.old.taken }
-        ensures written { small header →
-            puts self.old (whole_head style header.len header.count) result self.new }
+        ensures written { len ≤ 4294967291 →
+            puts self.old (whole_head style len count) result self.new }
     {
         match style {
             Style::List => {
-                if header.len == 0 {
+                if len == 0 {
                     return self.put(&[0x45]);
                 }
-                self.put_counted(0xc0, 0xd0, header)
+                self.put_counted(0xc0, 0xd0, len, count)
             }
-            Style::Map => self.put_counted(0xc1, 0xd1, header),
-            Style::Array => self.put_counted(0xe0, 0xf0, header),
+            Style::Map => self.put_counted(0xc1, 0xd1, len, count),
+            Style::Array => self.put_counted(0xe0, 0xf0, len, count),
         }
     }
 
-    /// Writes a header.
+    /// Writes a header. Its numbers come one by one, so that they come in registers.
     #[inline(never)]
-    fn put_head(&mut self, in_array: bool, style: Style, header: Header) -> Result<(), Refusal>
+    fn put_head(
+        &mut self,
+        in_array: bool,
+        style: Style,
+        len: u32,
+        count: u32,
+    ) -> Result<(), Refusal>
         ensures kept { Kept self.old self.new }
         ensures taken { self.new.taken ≡ self.old.taken }
-        ensures written { small header →
-            puts self.old (head in_array style header) result self.new }
+        ensures written { len ≤ 4294967291 →
+            puts self.old (pick in_array (whole_head style len count)
+            (to_be_bytes w32 (len + 4) ++ to_be_bytes w32 count)) result self.new }
     {
         if in_array {
-            let [a, b, c, d] = header.len.wrapping_add(4).to_be_bytes();
-            let [e, f, g, h] = header.count.to_be_bytes();
+            let [a, b, c, d] = len.wrapping_add(4).to_be_bytes();
+            let [e, f, g, h] = count.to_be_bytes();
             self.put(&[a, b, c, d, e, f, g, h])
         } else {
-            self.put_whole_head(style, header)
+            self.put_whole_head(style, len, count)
         }
     }
 
@@ -98,7 +105,7 @@ impl Output {
         match self.next() {
             None => Err(Refusal::InvalidValue),
             Some(header) => {
-                self.put_head(in_array, style, header)?;
+                self.put_head(in_array, style, header.len, header.count)?;
                 Ok(header.constructor)
             }
         }

@@ -136,11 +136,18 @@ impl Writer {
     {
         match place {
             Place::Root | Place::Inside => Ok(()),
-            _ => self.accept_elsewhere(place, code),
+            Place::Value(base) => {
+                if base.takes_described() {
+                    Ok(())
+                } else {
+                    Err(Refusal::InvalidValue)
+                }
+            }
+            place => self.accept_elsewhere(place, code),
         }
     }
 
-    /// The same in an array or at a descriptor's or a described value's place.
+    /// The same in an array or at a descriptor's place.
     #[inline(never)]
     fn accept_elsewhere(&mut self, place: Place, code: u8) -> Result<(), Refusal>
         ensures output { self.new.output ≡ self.old.output }
