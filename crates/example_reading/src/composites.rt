@@ -1,0 +1,251 @@
+//! Composites: a descriptor before a list, before one value, and before fields that have names.
+
+use amqp_data::Symbol;
+use amqp_de::de::{Deserialize, Deserializer};
+use amqp_de::{NamedOf, Of, Record, named, read_described};
+use amqp_ser::{Serialize, Serializer};
+use std::alloc::Global;
+use std::marker::PhantomData;
+
+/// From when to when, in seconds: a tuple struct as a list.
+#[derive(Debug, PartialEq, Drop)]
+pub struct Span(pub u64, pub u64);
+
+impl Serialize for Span {
+    ghost use Rattle.std.specs.Prelude.{[], ◌∷◌};
+    ghost use Rattle.amqp_ser.specs.Tree.{code};
+    ghost use Rattle.amqp_ser.specs.Words.{list_composite, of_u64};
+
+    ghost tree = { λ s. list_composite (code 0x16) (
+        of_u64 s.0 ∷ of_u64 s.1 ∷ []) };
+
+    fn serialize<S: Serializer>(&self, serializer: &mut S) -> Result<S::Ok, S::Error> {
+        serializer.serialize_described(
+            &0x16u64,
+            &amqp_ser::ListOf(amqp_ser::fields! { "0": &self.0, "1": &self.1 }),
+        )
+    }
+}
+
+impl Record for Span {
+    type Parts = (u64, (u64, ()));
+
+    ghost parts = { λ s. (s.0, (s.1, tt)) };
+}
+
+impl Deserialize for Span {
+    ghost use Rattle.std.specs.Prelude.{◌≡◌, [], ◌∷◌, codes};
+    ghost use Rattle.amqp_ser.specs.Tree.{code, described, list, scalar, trees_of, ulong};
+    ghost use Rattle.amqp_de.specs.Fields.{OnDescribed, OnFields, must, end};
+    ghost use Rattle.amqp_de.specs.Reads.{Always};
+
+    ghost reads = { λ t s. OnDescribed (code 0x16) (OnFields (
+        must (codes "0") ⟦<u64 as Deserialize>⟧.reads s.0 (
+        must (codes "1") ⟦<u64 as Deserialize>⟧.reads s.1 end))) t };
+
+    ghost image = { λ s. described (code 0x16) (list (trees_of (
+        scalar (ulong s.0) ∷ scalar (ulong s.1) ∷ []))) };
+
+    ghost restorable = { Always };
+
+    ghost same = { λ s r. (s.0 ≡ r.0) × (s.1 ≡ r.1) };
+
+    fn deserialize<D: Deserializer>(alloc: Global, deserializer: D) -> Result<Span, D::Error> {
+        let amqp_de::fields! { first, last } = read_described::<Span, D, _, _>(
+            alloc,
+            deserializer,
+            &0x16u64,
+            amqp_de::ListOf(named! { "0", "1" }),
+        )?;
+        Ok(Span(first, last))
+    }
+}
+
+/// What a report is called: one value, described by a number.
+#[derive(Debug, PartialEq, Drop)]
+pub struct Title(pub String);
+
+impl Serialize for Title {
+    ghost use Rattle.amqp_ser.specs.Tree.{code};
+    ghost use Rattle.amqp_ser.specs.Words.{basic_composite, of_string};
+
+    ghost tree = { λ x. basic_composite (code 0x13) (of_string x.0) };
+
+    fn serialize<S: Serializer>(&self, serializer: &mut S) -> Result<S::Ok, S::Error> {
+        serializer.serialize_described(&0x13u64, &self.0)
+    }
+}
+
+impl Record for Title {
+    type Parts = String;
+
+    ghost parts = { λ x. x.0 };
+}
+
+impl Deserialize for Title {
+    ghost use Rattle.std.specs.Prelude.{◌≡◌, string_bytes};
+    ghost use Rattle.amqp_ser.specs.Tree.{code, described, scalar, string};
+    ghost use Rattle.amqp_de.specs.Fields.{OnDescribed};
+    ghost use Rattle.amqp_de.specs.Reads.{Always};
+
+    ghost reads = { λ t x. OnDescribed (code 0x13) (
+        λ u. ⟦<String as Deserialize>⟧.reads u x.0) t };
+
+    ghost image = { λ x. described (code 0x13) (scalar (string (string_bytes x.0))) };
+
+    ghost restorable = { Always };
+
+    ghost same = { λ x y. string_bytes x.0 ≡ string_bytes y.0 };
+
+    fn deserialize<D: Deserializer>(alloc: Global, deserializer: D) -> Result<Title, D::Error> {
+        Ok(Title(read_described::<Title, D, _, _>(
+            alloc,
+            deserializer,
+            &0x13u64,
+            Of(PhantomData::<String>),
+        )?))
+    }
+}
+
+/// Between which temperatures a thermometer works, in hundredths of a degree: a described list.
+#[derive(Debug, PartialEq, Drop)]
+pub struct Limits {
+    pub lowest: i32,
+    pub highest: i32,
+    pub unit: Option<Symbol>,
+}
+
+impl Serialize for Limits {
+    ghost use Rattle.std.specs.Prelude.{[], ◌∷◌};
+    ghost use Rattle.amqp_ser.specs.Carried.{optional};
+    ghost use Rattle.amqp_ser.specs.Tree.{code};
+    ghost use Rattle.amqp_ser.specs.Words.{list_composite, of_i32, of_symbol};
+
+    ghost tree = { λ l. list_composite (code 0x14) (
+        of_i32 l.lowest ∷ of_i32 l.highest ∷ optional of_symbol l.unit ∷ []) };
+
+    fn serialize<S: Serializer>(&self, serializer: &mut S) -> Result<S::Ok, S::Error> {
+        serializer.serialize_described(
+            &0x14u64,
+            &amqp_ser::ListOf(amqp_ser::fields! {
+                "lowest": &self.lowest,
+                "highest": &self.highest,
+                "unit": &self.unit,
+            }),
+        )
+    }
+}
+
+impl Record for Limits {
+    type Parts = (i32, (i32, (Option<Symbol>, ())));
+
+    ghost parts = { λ l. (l.lowest, (l.highest, (l.unit, tt))) };
+}
+
+impl Deserialize for Limits {
+    ghost use Rattle.std.specs.Prelude.{◌≡◌, [], ◌∷◌, codes};
+    ghost use Rattle.amqp_ser.specs.Tree.{code, described, int, list, scalar, trees_of};
+    ghost use Rattle.amqp_de.specs.Fields.{OnDescribed, OnNamed, must, may, end};
+
+    ghost reads = { λ t l. OnDescribed (code 0x14) (OnNamed (
+        must (codes "lowest") ⟦<i32 as Deserialize>⟧.reads l.lowest (
+        must (codes "highest") ⟦<i32 as Deserialize>⟧.reads l.highest (
+        may (codes "unit") ⟦<Symbol as Deserialize>⟧.reads l.unit end)))) t };
+
+    ghost image = { λ l. described (code 0x14) (list (trees_of (
+        scalar (int l.lowest) ∷ scalar (int l.highest)
+        ∷ ⟦<Option<Symbol> as Deserialize>⟧.image l.unit ∷ []))) };
+
+    ghost restorable = { λ l. ⟦<Option<Symbol> as Deserialize>⟧.restorable l.unit };
+
+    ghost same = { λ l m. (l.lowest ≡ m.lowest) × (l.highest ≡ m.highest)
+        × ⟦<Option<Symbol> as Deserialize>⟧.same l.unit m.unit };
+
+    fn deserialize<D: Deserializer>(alloc: Global, deserializer: D) -> Result<Limits, D::Error> {
+        let amqp_de::fields! { lowest, highest, unit } = read_described::<Limits, D, _, _>(
+            alloc,
+            deserializer,
+            &0x14u64,
+            NamedOf(named! { "lowest", "highest", "unit"? }),
+        )?;
+        Ok(Limits {
+            lowest,
+            highest,
+            unit,
+        })
+    }
+}
+
+/// How a thermometer's readings are put right: a described map, without what is absent.
+#[derive(Debug, PartialEq, Drop)]
+pub struct Calibration {
+    pub offset: i32,
+    pub divisor: Option<u32>,
+    pub remark: Option<String>,
+}
+
+impl Serialize for Calibration {
+    ghost use Rattle.std.specs.Prelude.{Some, [], ◌∷◌, codes};
+    ghost use Rattle.amqp_ser.specs.Composites.{as_described};
+    ghost use Rattle.amqp_ser.specs.Tree.{code};
+    ghost use Rattle.amqp_ser.specs.Words.{short_map_of, must, may, of_i32, of_string, of_u32};
+
+    ghost tree = { λ c. as_described (Some (code 0x15)) (short_map_of (
+        (codes "offset", must (of_i32 c.offset)) ∷ (codes "divisor", may of_u32 c.divisor)
+        ∷ (codes "remark", may of_string c.remark) ∷ [])) };
+
+    fn serialize<S: Serializer>(&self, serializer: &mut S) -> Result<S::Ok, S::Error> {
+        serializer.serialize_described(
+            &0x15u64,
+            &amqp_ser::MapOf(amqp_ser::fields! {
+                "offset": &self.offset,
+                "divisor"?: &self.divisor,
+                "remark"?: &self.remark,
+            }),
+        )
+    }
+}
+
+impl Record for Calibration {
+    type Parts = (i32, (Option<u32>, (Option<String>, ())));
+
+    ghost parts = { λ c. (c.offset, (c.divisor, (c.remark, tt))) };
+}
+
+impl Deserialize for Calibration {
+    ghost use Rattle.std.specs.Prelude.{◌≡◌, [], ◌∷◌, codes};
+    ghost use Rattle.amqp_ser.specs.Tree.{code, described, int, list, scalar, trees_of};
+    ghost use Rattle.amqp_de.specs.Fields.{OnDescribed, OnNamed, must, may, end};
+
+    ghost reads = { λ t c. OnDescribed (code 0x15) (OnNamed (
+        must (codes "offset") ⟦<i32 as Deserialize>⟧.reads c.offset (
+        may (codes "divisor") ⟦<u32 as Deserialize>⟧.reads c.divisor (
+        may (codes "remark") ⟦<String as Deserialize>⟧.reads c.remark end)))) t };
+
+    ghost image = { λ c. described (code 0x15) (list (trees_of (
+        scalar (int c.offset) ∷ ⟦<Option<u32> as Deserialize>⟧.image c.divisor
+        ∷ ⟦<Option<String> as Deserialize>⟧.image c.remark ∷ []))) };
+
+    ghost restorable = { λ _. ⊥ };
+
+    ghost same = { λ c d. (c.offset ≡ d.offset)
+        × ⟦<Option<u32> as Deserialize>⟧.same c.divisor d.divisor
+        × ⟦<Option<String> as Deserialize>⟧.same c.remark d.remark };
+
+    fn deserialize<D: Deserializer>(
+        alloc: Global,
+        deserializer: D,
+    ) -> Result<Calibration, D::Error> {
+        let amqp_de::fields! { offset, divisor, remark } = read_described::<Calibration, D, _, _>(
+            alloc,
+            deserializer,
+            &0x15u64,
+            NamedOf(named! { "offset", "divisor"?, "remark"? }),
+        )?;
+        Ok(Calibration {
+            offset,
+            divisor,
+            remark,
+        })
+    }
+}

@@ -1,0 +1,12 @@
+//! Types of one's own that are written and read: what a weather station reports.
+#![tactic(auto)]
+
+mod composites;
+mod position;
+mod sky;
+#[cfg(test)]
+mod tests;
+
+pub use composites::{Calibration, Limits, Span, Title};
+pub use position::Position;
+pub use sky::Sky;

@@ -1,0 +1,73 @@
+//! A plain struct: a list of its fields.
+
+use amqp_de::de::{Deserialize, Deserializer};
+use amqp_de::{Record, named, read};
+use amqp_ser::{Serialize, Serializer};
+use std::alloc::Global;
+
+/// Where a station stands.
+#[derive(Debug, PartialEq, Drop)]
+pub struct Position {
+    /// Millionths of a degree north.
+    pub latitude: i32,
+    /// Millionths of a degree east.
+    pub longitude: i32,
+    /// Metres above the sea, where they are known.
+    pub height: Option<u32>,
+}
+
+impl Serialize for Position {
+    ghost use Rattle.std.specs.Prelude.{[], ◌∷◌};
+    ghost use Rattle.amqp_ser.specs.Carried.{optional};
+    ghost use Rattle.amqp_ser.specs.Words.{list_of, of_i32, of_u32};
+
+    ghost tree = { λ p. list_of (
+        of_i32 p.latitude ∷ of_i32 p.longitude ∷ optional of_u32 p.height ∷ []) };
+
+    fn serialize<S: Serializer>(&self, serializer: &mut S) -> Result<S::Ok, S::Error> {
+        amqp_ser::ListOf(amqp_ser::fields! {
+                "latitude": &self.latitude,
+                "longitude": &self.longitude,
+                "height": &self.height,
+            })
+        .serialize(serializer)
+    }
+}
+
+impl Record for Position {
+    type Parts = (i32, (i32, (Option<u32>, ())));
+
+    ghost parts = { λ p. (p.latitude, (p.longitude, (p.height, tt))) };
+}
+
+impl Deserialize for Position {
+    ghost use Rattle.std.specs.Prelude.{◌≡◌, [], ◌∷◌, codes};
+    ghost use Rattle.amqp_ser.specs.Tree.{scalar, int, uint, list, trees_of};
+    ghost use Rattle.amqp_de.specs.Fields.{OnFields, must, may, end};
+
+    ghost reads = { λ t p. OnFields (
+        must (codes "latitude") ⟦<i32 as Deserialize>⟧.reads p.latitude (
+        must (codes "longitude") ⟦<i32 as Deserialize>⟧.reads p.longitude (
+        may (codes "height") ⟦<u32 as Deserialize>⟧.reads p.height end))) t };
+
+    ghost image = { λ p. list (trees_of (scalar (int p.latitude) ∷ scalar (int p.longitude)
+        ∷ ⟦<Option<u32> as Deserialize>⟧.image p.height ∷ [])) };
+
+    ghost restorable = { λ p. ⟦<Option<u32> as Deserialize>⟧.restorable p.height };
+
+    ghost same = { λ p q. (p.latitude ≡ q.latitude) × (p.longitude ≡ q.longitude)
+        × ⟦<Option<u32> as Deserialize>⟧.same p.height q.height };
+
+    fn deserialize<D: Deserializer>(alloc: Global, deserializer: D) -> Result<Position, D::Error> {
+        let amqp_de::fields! { latitude, longitude, height } = read::<Position, D, _>(
+            alloc,
+            deserializer,
+            amqp_de::ListOf(named! { "latitude", "longitude", "height"? }),
+        )?;
+        Ok(Position {
+            latitude,
+            longitude,
+            height,
+        })
+    }
+}
