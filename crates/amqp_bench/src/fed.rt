@@ -9,9 +9,9 @@ use amqp_ser::{Serialize, Serializer};
 pub struct FedFields(pub Attach);
 
 impl Serialize for FedFields {
-    ghost use Rattle.amqp_bench.specs.Attached.{front_tree};
+    ghost use Rattle.amqp_bench.specs.Attached.{prefix_tree};
 
-    ghost tree = { λ f. front_tree f.0 };
+    ghost tree = { λ f. prefix_tree f.0 };
 
     fn serialize<S: Serializer>(&self, serializer: &mut S) -> Result<S::Ok, S::Error> {
         let mut fields = serializer.serialize_struct("Attach", 7)?;
@@ -34,9 +34,9 @@ impl Serialize for FedDescribedFields {
     ghost use Rattle.std.specs.Prelude.{Some};
     ghost use Rattle.amqp_ser.specs.Composites.{as_described};
     ghost use Rattle.amqp_ser.specs.Tree.{code};
-    ghost use Rattle.amqp_bench.specs.Attached.{front_tree};
+    ghost use Rattle.amqp_bench.specs.Attached.{prefix_tree};
 
-    ghost tree = { λ f. as_described (Some (code 0x12)) (front_tree f.0) };
+    ghost tree = { λ f. as_described (Some (code 0x12)) (prefix_tree f.0) };
 
     fn serialize<S: Serializer>(&self, serializer: &mut S) -> Result<S::Ok, S::Error> {
         let mut fields = serializer.serialize_struct(markers::DESCRIBED_LIST, 8)?;

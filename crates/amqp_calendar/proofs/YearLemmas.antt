@@ -57,13 +57,13 @@ unfolding start
 start_is y n h = start_by y (y -ℤ pos 1970) n refl h
 
 -- the first of some years, and the others
-from_front : (y z : ℤ) (n : ℕ) → z ≡ y +ℤ pos 1 → years_from y (suc n) ≡ year_length y + years_from z n
-from_front y z zero e =
+from_prefix : (y z : ℤ) (n : ℕ) → z ≡ y +ℤ pos 1 → years_from y (suc n) ≡ year_length y + years_from z n
+from_prefix y z zero e =
     let same : y +ℤ pos 0 ≡ y = omega (arith, signed) in
     omega (arith, rw same at (years_from-suc y 0), years_from-zero y, years_from-zero z)
-from_front y z (suc n) e =
+from_prefix y z (suc n) e =
     let same : y +ℤ pos (suc n) ≡ z +ℤ pos n = omega (arith, signed) in
-    omega (arith, rw same at (years_from-suc y (suc n)), from_front y z n e, years_from-suc z n)
+    omega (arith, rw same at (years_from-suc y (suc n)), from_prefix y z n e, years_from-suc z n)
 
 next_by : (y z a b : ℤ) → z ≡ y +ℤ pos 1 → y -ℤ pos 1970 ≡ a → z -ℤ pos 1970 ≡ b → up (start_after z b) + down (start_after y a) ≡ down (start_after z b) + up (start_after y a) + year_length y
 next_by y z (pos k) (pos m) e ha hb =
@@ -75,10 +75,10 @@ next_by y z (pos k) (negsuc m) e ha hb = absurd (omega (arith, signed))
 next_by y z (negsuc k) (pos m) e ha hb =
     let one : k ≡ 0 = omega (arith, signed) in
     let first : m ≡ 0 = omega (arith, signed) in
-    rw (one, first) (omega (arith, signed, from_front y z 0 e, years_from-zero z, years_from-zero (pos 1970)))
+    rw (one, first) (omega (arith, signed, from_prefix y z 0 e, years_from-zero z, years_from-zero (pos 1970)))
 next_by y z (negsuc k) (negsuc m) e ha hb =
     let next : k ≡ suc m = omega (arith, signed) in
-    rw next (omega (arith, signed, from_front y z (suc m) e))
+    rw next (omega (arith, signed, from_prefix y z (suc m) e))
 
 -- the next year starts after the days of this one
 pub start_next : (y z : ℤ) → z ≡ y +ℤ pos 1 → up (start z) + down (start y) ≡ down (start z) + up (start y) + year_length y

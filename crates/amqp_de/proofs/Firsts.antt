@@ -13,8 +13,8 @@ module _ {T : Type 0} (R : Tree → T → Type 0) where
   pub firsts_read : (n : ℕ) (whole rest : List Tree) (xs : List T) → ReadSoFar R whole rest xs → length xs ≡ n → ReadsFirst R n whole xs
   firsts_read n whole rest xs (done, e, h) long =
       let same : length done ≡ n = sym (AllZip-long R done xs h) ∙ long in
-      let front : take n whole ≡ done = ap (λ m. take m whole) (sym same) ∙ ap (λ ts. take (length done) ts) e ∙ take-append_seam done rest in
-      (long, rw front h)
+      let prefix : take n whole ≡ done = ap (λ m. take m whole) (sym same) ∙ ap (λ ts. take (length done) ts) e ∙ take-append_seam done rest in
+      (long, rw prefix h)
 
   not_more : (n : ℕ) (ts : List Tree) (xs : List T) → AllZip R (take n ts) xs → length xs ≤ length ts
   not_more zero ts [] h = omega arith

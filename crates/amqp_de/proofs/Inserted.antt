@@ -21,15 +21,15 @@ all_more : {X : Type 0} (P : X → Type 0) (xs : List X) (x : X) → AllByRecurs
 all_more P [] x all p = (p, tt)
 all_more P (y ∷ xs) x all p = (all.0, all_more P xs x all.1 p)
 
-all_front : {X : Type 0} (P : X → Type 0) (xs : List X) (x : X) → AllByRecursion P (xs ++ x ∷ []) → AllByRecursion P xs × P x
-all_front P [] x all = (tt, all.0)
-all_front P (y ∷ xs) x all = let (some, last) = all_front P xs x all.1 in ((all.0, some), last)
+all_prefix : {X : Type 0} (P : X → Type 0) (xs : List X) (x : X) → AllByRecursion P (xs ++ x ∷ []) → AllByRecursion P xs × P x
+all_prefix P [] x all = (tt, all.0)
+all_prefix P (y ∷ xs) x all = let (some, last) = all_prefix P xs x all.1 in ((all.0, some), last)
 
 -- the last is after each of those before it, and these are as they were
 pub before_last : {X : Type 0} (R : X → X → Type 0) (xs : List X) (x : X) → EachBefore R (xs ++ x ∷ []) → EachBefore R xs × AllByRecursion (λ y. R y x) xs
 before_last R [] x each = (tt, tt)
 before_last R (y ∷ xs) x each =
-    let (some, last) = all_front (R y) xs x each.0 in
+    let (some, last) = all_prefix (R y) xs x each.0 in
     let (others, after) = before_last R xs x each.1 in
     ((some, others), (last, after))
 

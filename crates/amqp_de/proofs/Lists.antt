@@ -2,9 +2,9 @@
 use Rattle.std.proofs.Common.{◌≡◌, List, [], ◌∷◌, refl, sym, ap, ◌∙◌}
 use Rattle.amqp_ser.specs.Tree.{Tree, map, trees_of}
 use Rattle.amqp_value.specs.TreeOf.{pairs_of}
-use Rattle.amqp_de.specs.Parts.{list_of, entries_in}
+use Rattle.amqp_de.specs.Parts.{elements_in, entries_in}
 
-pub list_of_trees : (ts : List Tree) → list_of (trees_of ts) ≡ ts
+pub list_of_trees : (ts : List Tree) → elements_in (trees_of ts) ≡ ts
 list_of_trees [] = refl
 list_of_trees (t ∷ ts) = ap (λ us. t ∷ us) (list_of_trees ts)
 
@@ -13,7 +13,7 @@ entries_in_pairs [] = refl
 entries_in_pairs (e ∷ es) = ap (λ fs. e ∷ fs) (entries_in_pairs es)
 
 pub same_trees : (us ts : List Tree) → trees_of us ≡ trees_of ts → us ≡ ts
-same_trees us ts p = sym (list_of_trees us) ∙ ap list_of p ∙ list_of_trees ts
+same_trees us ts p = sym (list_of_trees us) ∙ ap elements_in p ∙ list_of_trees ts
 
 pub same_pairs : (ds es : List (Tree × Tree)) → pairs_of ds ≡ pairs_of es → ds ≡ es
 same_pairs ds es p = sym (entries_in_pairs ds) ∙ ap entries_in p ∙ entries_in_pairs es

@@ -13,9 +13,9 @@ Answers Memory P (Ok x) = P x
 Answers Memory P (Err e) = Refuses Memory P e
 
 -- the next of a list is taken
-abbrev pub Takes : {D : Type 0} → (D → Tree) → List Tree → List Tree → Option D → Type 0
-Takes value old new None = (old ≡ []) × (new ≡ [])
-Takes value old new (Some d) = old ≡ value d ∷ new
+abbrev pub TakesNext : {D : Type 0} → (D → Tree) → List Tree → List Tree → Option D → Type 0
+TakesNext value old new None = (old ≡ []) × (new ≡ [])
+TakesNext value old new (Some d) = old ≡ value d ∷ new
 
 -- the next pair of a map is taken
 abbrev pub TakesPair : {D : Type 0} → (D → Tree) → List (Tree × Tree) → List (Tree × Tree) → Option (D × D) → Type 0

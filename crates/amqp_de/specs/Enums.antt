@@ -2,7 +2,7 @@
 use Rattle.std.specs.Prelude.{◌≡◌, ℕ, List, [], ◌∷◌, Option, Some, None, ◌≤◌, ◌+◌, ◌-◌}
 use Rattle.amqp_ser.specs.Tree.{Scalar, uint, Tree, scalar, list, map}
 use Rattle.amqp_value.specs.Image.{variant_map}
-use Rattle.amqp_de.specs.Parts.{list_of, entries_in}
+use Rattle.amqp_de.specs.Parts.{elements_in, entries_in}
 use Rattle.amqp_de.specs.Fields.{There}
 use Rattle.amqp_de.specs.declared.enums.OneOf.{OneOf}
 use Rattle.amqp_de.specs.declared.enums.OneOf.TheVariants.{This, Other}
@@ -40,7 +40,7 @@ OnKeyed K (e ∷ f ∷ es) x = ⊥
 -- the index alone, a list, or a map
 unfoldable pub OnEnum : {V : Type 0} → (ℕ → Option Tree → V → Type 0) → Tree → V → Type 0
 OnEnum K (scalar s) x = AtIndex K (index_of_scalar s) None x
-OnEnum K (list ts) x = OnListed K (list_of ts) x
+OnEnum K (list ts) x = OnListed K (elements_in ts) x
 OnEnum K (map ps) x = OnKeyed K (entries_in ps) x
 OnEnum K t x = ⊥
 

@@ -8,7 +8,7 @@ use Rattle.amqp_ser.specs.declared.mark.Mark.{Mark}
 use Rattle.amqp_ser.specs.declared.mark.Mark.TheVariants as mark
 use Rattle.amqp_ser.specs.Structs.{is_basic_name, is_list_name, is_map_name}
 use Rattle.amqp_de.specs.Enums.{first}
-use Rattle.amqp_de.specs.Parts.{list_of, entries_in}
+use Rattle.amqp_de.specs.Parts.{elements_in, entries_in}
 use Rattle.amqp_de.specs.declared.shown.Visit.{Visit}
 use Rattle.amqp_de.specs.declared.shown.Visit.TheVariants as visit
 use Rattle.amqp_de.specs.declared.shown.Plain.{Plain}
@@ -76,10 +76,10 @@ module _ {T : Type 0} (G : Event → T → Type 0) where
 
   -- the elements of a list, and of an array
   abbrev pub ByList : Tree → T → Type 0
-  ByList t x = (ts : Trees) × (t ≡ list ts) × G (seq_event (list_of ts)) x
+  ByList t x = (ts : Trees) × (t ≡ list ts) × G (seq_event (elements_in ts)) x
 
   abbrev pub ByArray : Tree → T → Type 0
-  ByArray t x = (ts : Trees) × (t ≡ array ts) × G (seq_event (list_of ts)) x
+  ByArray t x = (ts : Trees) × (t ≡ array ts) × G (seq_event (elements_in ts)) x
 
   -- the pairs of a map
   abbrev pub ByMap : Tree → T → Type 0
@@ -118,7 +118,7 @@ module _ {T : Type 0} (G : Event → T → Type 0) where
 
   abbrev pub ByVariant : Tree → T → Type 0
   ByVariant (scalar s) x = ScalarVariant s x
-  ByVariant (list ts) x = ListedVariant (list_of ts) x
+  ByVariant (list ts) x = ListedVariant (elements_in ts) x
   ByVariant (map ps) x = KeyedVariant (entries_in ps) x
   ByVariant t x = ⊥
 
@@ -193,8 +193,8 @@ scalar_event s = plain_event s
 
 abbrev pub any_event : Tree → Event
 any_event (scalar s) = scalar_event s
-any_event (list ts) = seq_event (list_of ts)
-any_event (array ts) = seq_event (list_of ts)
+any_event (list ts) = seq_event (elements_in ts)
+any_event (array ts) = seq_event (elements_in ts)
 any_event (map ps) = map_event (entries_in ps)
 any_event (described d t) = described_event d t
 any_event t = value_event t

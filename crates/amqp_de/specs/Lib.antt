@@ -4,7 +4,7 @@ pub mod Maps
 pub mod Reads
 pub mod Fields
 pub mod Answers
-pub mod Contents
+pub mod ContentTree
 pub mod Enums
 pub mod Access
 pub mod Events

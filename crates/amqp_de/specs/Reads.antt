@@ -2,7 +2,7 @@
 use Rattle.std.specs.Prelude.{◌≡◌, ℕ, List, Option, Some, None, length, take}
 use Rattle.std.specs.List.{AllZip}
 use Rattle.amqp_ser.specs.Tree.{null, ulong, symbol, Descriptor, name, code, Tree, scalar, list, array}
-use Rattle.amqp_de.specs.Parts.{list_of}
+use Rattle.amqp_de.specs.Parts.{elements_in}
 
 -- always
 abbrev pub Always : {T : Type 0} → T → Type 0
@@ -30,12 +30,12 @@ SameOption S (Some x) None = ⊥
 
 -- a list whose elements are so
 unfoldable pub OnList : (List Tree → Type 0) → Tree → Type 0
-OnList K (list ts) = K (list_of ts)
+OnList K (list ts) = K (elements_in ts)
 OnList K t = ⊥
 
 -- an array whose elements are so
 unfoldable pub OnArray : (List Tree → Type 0) → Tree → Type 0
-OnArray K (array ts) = K (list_of ts)
+OnArray K (array ts) = K (elements_in ts)
 OnArray K t = ⊥
 
 -- so many values are read from the first of the trees, which may be more

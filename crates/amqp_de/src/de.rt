@@ -1,11 +1,11 @@
 //! The traits of reading.
 
 ghost use Rattle.std.specs.Prelude.{◌≡◌, ◌↔◌, IsTrue, List, false};
-ghost use Rattle.amqp_ser.specs.Marked.{is_descriptor, is_value, mark_of};
+ghost use Rattle.amqp_ser.specs.Marked.{is_descriptor_name, is_value_name, mark_of};
 ghost use Rattle.amqp_ser.specs.Tree.{Tree, scalar, null, bool, ubyte, ushort, uint, ulong, byte, short, int, long, float, double, char, string, binary};
 ghost use Rattle.amqp_value.specs.TreeOf.{tree_of};
-ghost use Rattle.amqp_de.specs.Answers.{Answers, Restores, Takes, TakesPair, TakesNamed};
-ghost use Rattle.amqp_de.specs.Contents.{content_tree};
+ghost use Rattle.amqp_de.specs.Answers.{Answers, Restores, TakesNext, TakesPair, TakesNamed};
+ghost use Rattle.amqp_de.specs.ContentTree.{content_tree};
 ghost use Rattle.amqp_de.specs.Events.{plain_event, any_event, is_index, is_described_name, Returns, ByPlain, ByOption, ByUnit, ByList, ByMap, ByIdentifier, ByDescribed, ByStruct, ByDescriptor, ByVariant, ByEnum, ByArray, ByMark};
 
 pub use crate::access::{EnumAccess, MapAccess, SeqAccess, VariantAccess};
@@ -67,7 +67,7 @@ pub trait Deserializer: Sized + Drop {
 
     /// Takes the next element.
     fn next_element(elements: &mut Self::Elements) -> Option<Self>
-        ensures { Takes value (items elements.old) (items elements.new) result };
+        ensures { TakesNext value (items elements.old) (items elements.new) result };
 
     /// Takes the next pair.
     fn next_pair(entries: &mut Self::Entries) -> Option<(Self, Self)>
@@ -484,10 +484,10 @@ pub trait Deserializer: Sized + Drop {
         visitor: V,
     ) -> Result<V::Value, Self::Error>
         ensures read { Answers Self.Error.is_memory
-            (ByEnum (V.gives visitor) (is_value name.now) (is_descriptor name.now) (value self))
+            (ByEnum (V.gives visitor) (is_value_name name.now) (is_descriptor_name name.now) (value self))
             result }
         ensures law { Returns
-            (ByEnum (V.stands visitor) (is_value name.now) (is_descriptor name.now) (value self))
+            (ByEnum (V.stands visitor) (is_value_name name.now) (is_descriptor_name name.now) (value self))
             V.same Self.Error.is_memory result }
     {
         if is_value_name(name) {

@@ -3,7 +3,7 @@
 ghost use Rattle.std.specs.Prelude.{◌≡◌, List, [], ◌∷◌};
 ghost use Rattle.amqp_ser.specs.Tree.{Tree};
 ghost use Rattle.amqp_de.specs.Answers.{Answers, RestoresAll};
-ghost use Rattle.amqp_de.specs.Fields.{Body, by_place, by_name, must, may, end};
+ghost use Rattle.amqp_de.specs.Fields.{FieldSource, by_position, by_name, must, may, end};
 ghost use Rattle.amqp_de.specs.Reads.{Always, image_option, RestorableOption, SameOption};
 
 use crate::de::{Deserialize, Deserializer, Refusal};
@@ -19,7 +19,7 @@ pub trait Fields: Sized + Drop {
     type Values: Drop;
 
     /// Which elements or entries are read as which values.
-    ghost reads: { Self → Self.Values → Body → Type 0 };
+    ghost reads: { Self → Self.Values → FieldSource → Type 0 };
 
     /// The images of the fields, in order.
     ghost images: { Self.Values → List Tree };
@@ -40,7 +40,7 @@ pub trait Fields: Sized + Drop {
         elements: &mut D::Elements,
     ) -> Result<Self::Values, D::Error>
         ensures read { Answers D.Error.is_memory
-            (λ x. reads self.now x (by_place (D.items elements.old))) result }
+            (λ x. reads self.now x (by_position (D.items elements.old))) result }
         ensures law { RestoresAll images restorable same
             D.Error.is_memory (D.items elements.old) result };
 

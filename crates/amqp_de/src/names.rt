@@ -1,7 +1,7 @@
 //! The names that ask for a form of their own.
 
 ghost use Rattle.std.specs.Prelude.{◌≡◌};
-ghost use Rattle.amqp_ser.specs.Marked.{is_descriptor, is_value};
+ghost use Rattle.amqp_ser.specs.Marked.{is_descriptor_name, is_value_name};
 ghost use Rattle.amqp_de.specs.Events.{is_described_name};
 
 use amqp_data::markers;
@@ -17,14 +17,14 @@ pub fn is_described_name(name: &str) -> bool
 
 /// Whether an enum of this name is an untyped value.
 pub fn is_value_name(name: &str) -> bool
-    ensures { result ≡ is_value name.now }
+    ensures { result ≡ is_value_name name.now }
 {
     name == markers::VALUE
 }
 
 /// Whether an enum of this name is a descriptor.
 pub fn is_descriptor_name(name: &str) -> bool
-    ensures { result ≡ is_descriptor name.now }
+    ensures { result ≡ is_descriptor_name name.now }
 {
     name == markers::DESCRIPTOR
 }

@@ -13,12 +13,12 @@ use Rattle.amqp_ser.specs.Tree.{Scalar, Descriptor, Tree, Pairs, trees_of, no_pa
 use Rattle.amqp_value.specs.Image.{insert_tree}
 use Rattle.amqp_decode.specs.Codes.{is_primitive, primitive_of, shape_of_code}
 use Rattle.amqp_decode.specs.Scalars.{next, scalar_in, scalar_tree}
-use Rattle.amqp_decode.specs.Spells.{IsNumber, IsPayload, IsCounted, IsDescriptor, descriptor_scalar, Spells, Holds, Elements, Items, Entries}
-use Rattle.amqp_decode.specs.Parsed.{FrameReader, ContentReader, cut, number_at, sized_at, content_at, counted_in, tree_descriptor, descriptor_of, descriptor_at, gather, insert, all, list_in, map_in, items_in, array_in, payload_in, with_rest, content_in, content_of, described_in, frame_in, parse, held}
-use Rattle.amqp_decode.specs.declared.shape.Count.{Count}
-use Rattle.amqp_decode.specs.declared.shape.Count.TheVariants.{Absent, OneByte, FourBytes}
-use Rattle.amqp_decode.specs.declared.shape.Shape.{Shape}
-use Rattle.amqp_decode.specs.declared.shape.Shape.TheVariants as shape
+use Rattle.amqp_decode.specs.Spells.{IsNumber, IsPayload, IsCounted, IsDescriptor, descriptor_scalar, Spells, SpellsContent, SpellsElements, SpellsItems, SpellsEntries}
+use Rattle.amqp_decode.specs.Parsed.{FrameReader, ContentReader, cut, number_at, sized_at, content_at, counted_in, tree_descriptor, descriptor_of, descriptor_at, gather, insert, all, parse_list, parse_map, items_in, parse_array, payload_in, with_rest, content_in, content_of, parse_described, frame_in, parse, parse_content}
+use Rattle.amqp_decode.specs.declared.payload_shape.Count.{Count}
+use Rattle.amqp_decode.specs.declared.payload_shape.Count.TheVariants.{Absent, OneByte, FourBytes}
+use Rattle.amqp_decode.specs.declared.payload_shape.PayloadShape.{PayloadShape}
+use Rattle.amqp_decode.specs.declared.payload_shape.PayloadShape.TheVariants as shape
 use Rattle.amqp_decode.proofs.CodeLemmas.{same-number, primitive-says}
 
 -- what is found stands for the bytes before the rest
@@ -59,9 +59,9 @@ module _ {A : Type 0} (S T : List ℕ → A → Type 0) where
   says-under s a rest (Some r) e h k = (a ++ h.0, (e ∙ ap (λ z. a ++ z) h.1 ∙ sym (append_assoc a h.0 r.1)), k h.0 r.0 h.2)
 
 -- with a byte before them
-pub fronted : {A : Type 0} (S : List ℕ → A → Type 0) (c : ℕ) (s : List ℕ) (o : Option (A × List ℕ)) → Says (λ b t. S (c ∷ b) t) s o → Says S (c ∷ s) o
-fronted S c s None h = tt
-fronted S c s (Some r) h = (c ∷ h.0, ap (λ z. c ∷ z) h.1, h.2)
+pub optionally_described : {A : Type 0} (S : List ℕ → A → Type 0) (c : ℕ) (s : List ℕ) (o : Option (A × List ℕ)) → Says (λ b t. S (c ∷ b) t) s o → Says S (c ∷ s) o
+optionally_described S c s None h = tt
+optionally_described S c s (Some r) h = (c ∷ h.0, ap (λ z. c ∷ z) h.1, h.2)
 
 abbrev Exact : ℕ → List ℕ → List ℕ → Type 0
 Exact n a x = (a ≡ x) × (length x ≡ n)
@@ -167,7 +167,7 @@ descriptor-from (Some (tree.string bs)) d e = absurd cc
 -- a first byte that has this primitive code
 under-code : {A : Type 0} (S : List ℕ → A → Type 0) (byte : ℕ) (c : EncodingCodes) (s : List ℕ) (o : Option (A × List ℕ)) → code_of c ≡ byte
     → Says (λ b t. S (code_of c ∷ b) t) s o → Says S (byte ∷ s) o
-under-code S byte c s o is h = subst (λ z. Says S (z ∷ s) o) is (fronted S (code_of c) s o h)
+under-code S byte c s o is h = subst (λ z. Says S (z ∷ s) o) is (optionally_described S (code_of c) s o h)
 
 pub descriptor-says : (s : List ℕ) → Says IsDescriptor s (descriptor_at s)
 unfolding descriptor_at
@@ -207,11 +207,11 @@ module _ (f : FrameReader) (S : List ℕ → Tree → Type 0) (E : ℕ → List 
 
 module _ (d : ℕ) (f : FrameReader) (sound : (s : List ℕ) → Says (Spells d) s (f s)) where
   abbrev Inserts : ℕ → Pairs → List ℕ → Pairs → Type 0
-  Inserts n done b ps = Entries d n b done ps
+  Inserts n done b ps = SpellsEntries d n b done ps
 
   -- a value after a key
   abbrev AfterKey : Pairs → ℕ → Tree → List ℕ → Pairs → Type 0
-  AfterKey done n k b ps = (v : Tree) × (front back : List ℕ) × (b ≡ front ++ back) × Spells d front v × Entries d n back (insert_tree done k v) ps
+  AfterKey done n k b ps = (v : Tree) × (prefix back : List ℕ) × (b ≡ prefix ++ back) × Spells d prefix v × SpellsEntries d n back (insert_tree done k v) ps
 
   value-says : (n : ℕ) → ((s : List ℕ) (done : Pairs) → Says (Inserts n done) s (insert f n s done)) → (s : List ℕ) (done : Pairs) (k : Tree)
       → Says (AfterKey done n k) s (next (f s) (λ v. insert f n v.1 (insert_tree done k v.0)))
@@ -221,92 +221,92 @@ module _ (d : ℕ) (f : FrameReader) (sound : (s : List ℕ) → Says (Spells d)
       (λ b ps w. (v.0, a, b, refl, sv, w)))
 
   insert-says : (n : ℕ) (s : List ℕ) (done : Pairs) → Says (Inserts n done) s (insert f n s done)
-  insert-says zero s done = ([], refl, Entries.no_entry d done)
+  insert-says zero s done = ([], refl, SpellsEntries.no_entry d done)
   insert-says (suc n) s done =
       says-next (Spells d) (Inserts (suc n) done) s (f s) (λ k. next (f k.1) (λ v. insert f n v.1 (insert_tree done k.0 v.0))) (sound s)
       (λ k a e sk. says-under (AfterKey done n k.0) (Inserts (suc n) done) s a k.1 (next (f k.1) (λ v. insert f n v.1 (insert_tree done k.0 v.0))) e (value-says n (insert-says n) k.1 done k.0)
-      (λ b ps w. subst (λ z. Entries d (suc n) (a ++ z) done ps) (sym w.3) (Entries.entry d n a w.1 w.2 k.0 w.0 done ps sk w.4 w.5)))
+      (λ b ps w. subst (λ z. SpellsEntries d (suc n) (a ++ z) done ps) (sym w.3) (SpellsEntries.entry d n a w.1 w.2 k.0 w.0 done ps sk w.4 w.5)))
 
-  fills-map : (n : ℕ) (body : List ℕ) (o : Option (Pairs × List ℕ)) → Says (Inserts n no_pairs) body o → (ps : Pairs) → next o all ≡ Some ps → Entries d n body no_pairs ps
+  fills-map : (n : ℕ) (body : List ℕ) (o : Option (Pairs × List ℕ)) → Says (Inserts n no_pairs) body o → (ps : Pairs) → next o all ≡ Some ps → SpellsEntries d n body no_pairs ps
   fills-map n body None h ps found = absurd cc
   fills-map n body (Some (qs, [])) h ps found =
       let whole : body ≡ h.0 = h.1 ∙ append-nil h.0 in
       let same : qs ≡ ps = cc in
-      subst (λ z. Entries d n z no_pairs ps) (sym whole) (subst (λ z. Entries d n h.0 no_pairs z) same h.2)
+      subst (λ z. SpellsEntries d n z no_pairs ps) (sym whole) (subst (λ z. SpellsEntries d n h.0 no_pairs z) same h.2)
   fills-map n body (Some (qs, x ∷ xs)) h ps found = absurd cc
 
   -- they fill the body
-  pub inserted-says : (n : ℕ) (body : List ℕ) (ps : Pairs) → next (insert f n body no_pairs) all ≡ Some ps → Entries d n body no_pairs ps
+  pub inserted-says : (n : ℕ) (body : List ℕ) (ps : Pairs) → next (insert f n body no_pairs) all ≡ Some ps → SpellsEntries d n body no_pairs ps
   inserted-says n body ps found = fills-map n body (insert f n body no_pairs) (insert-says n body no_pairs) ps found
 
-module _ (d : ℕ) (f : FrameReader) (h : ContentReader) (frames : (s : List ℕ) → Says (Spells d) s (f s)) (contents : (c : EncodingCodes) (s : List ℕ) → IfFound (Holds d c s) (h c s)) where
+module _ (d : ℕ) (f : FrameReader) (h : ContentReader) (frames : (s : List ℕ) → Says (Spells d) s (f s)) (contents : (c : EncodingCodes) (s : List ℕ) → IfFound (SpellsContent d c s) (h c s)) where
   -- a payload and what its content stands for
   abbrev IsItem : EncodingCodes → List ℕ → Tree → Type 0
-  IsItem c a t = (content : List ℕ) × IsPayload (category (code_of c)) a content × Holds d c content t
+  IsItem c a t = (content : List ℕ) × IsPayload (category (code_of c)) a content × SpellsContent d c content t
 
   item-says : (c : EncodingCodes) (s : List ℕ) → Says (IsItem c) s (payload_in h c s)
   item-says c s =
       says-next (IsPayload (category (code_of c))) (IsItem c) s (content_at (category (code_of c)) s) (λ p. next (h c p.0) (with_rest p.1)) (payload-says (category (code_of c)) s)
       (λ p a e is. next-says (Says (IsItem c) s) (h c p.0) (with_rest p.1) tt
-      (λ t found. (a, e, (p.0, is, found-next (Holds d c p.0) (h c p.0) (contents c p.0) t found))))
+      (λ t found. (a, e, (p.0, is, found-next (SpellsContent d c p.0) (h c p.0) (contents c p.0) t found))))
 
-  items-say : (c : EncodingCodes) (n : ℕ) (items : List ℕ) (ts : List Tree) → next (gather (payload_in h c) n items []) all ≡ Some ts → Items d c n items ts
-  items-say c = gathered-says (payload_in h c) (IsItem c) (Items d c) (Items.no_item d c)
-      (λ n a b t ts w rest. Items.item d c n a w.0 b t ts w.1 w.2 rest) (item-says c)
+  items-say : (c : EncodingCodes) (n : ℕ) (items : List ℕ) (ts : List Tree) → next (gather (payload_in h c) n items []) all ≡ Some ts → SpellsItems d c n items ts
+  items-say c = gathered-says (payload_in h c) (IsItem c) (SpellsItems d c) (SpellsItems.no_item d c)
+      (λ n a b t ts w rest. SpellsItems.item d c n a w.0 b t ts w.1 w.2 rest) (item-says c)
 
   module _ (c : EncodingCodes) (s : List ℕ) where
-    list-says : (count : Count) (p : ℕ × List ℕ) → shape_of_code c ≡ shape.List count → IsCounted count s p.0 p.1 → IfFound (Holds (suc d) c s) (list_in f p)
+    list-says : (count : Count) (p : ℕ × List ℕ) → shape_of_code c ≡ shape.List count → IsCounted count s p.0 p.1 → IfFound (SpellsContent (suc d) c s) (parse_list f p)
     list-says count p is counts =
-        next-says (IfFound (Holds (suc d) c s)) (next (gather f p.0 p.1 []) all) (λ ts. Some (tree.list (trees_of ts))) tt
-        (λ ts found. Holds.a_list d c count s p.0 p.1 ts is counts
-        (gathered-says f (Spells d) (Elements d) (Elements.no_element d) (Elements.element d) frames p.0 p.1 ts found))
+        next-says (IfFound (SpellsContent (suc d) c s)) (next (gather f p.0 p.1 []) all) (λ ts. Some (tree.list (trees_of ts))) tt
+        (λ ts found. SpellsContent.a_list d c count s p.0 p.1 ts is counts
+        (gathered-says f (Spells d) (SpellsElements d) (SpellsElements.no_element d) (SpellsElements.element d) frames p.0 p.1 ts found))
 
-    map-says : (count : Count) (p : ℕ × List ℕ) → shape_of_code c ≡ shape.Map count → IsCounted count s p.0 p.1 → IfFound (Holds (suc d) c s) (map_in f p)
+    map-says : (count : Count) (p : ℕ × List ℕ) → shape_of_code c ≡ shape.Map count → IsCounted count s p.0 p.1 → IfFound (SpellsContent (suc d) c s) (parse_map f p)
     map-says count p is counts =
-        pick (IfFound (Holds (suc d) c s)) (p.0 % 2 == 0) (next (next (insert f (p.0 / 2) p.1 no_pairs) all) (λ ps. Some (tree.map ps))) None
-        (λ even. next-says (IfFound (Holds (suc d) c s)) (next (insert f (p.0 / 2) p.1 no_pairs) all) (λ ps. Some (tree.map ps)) tt
+        pick (IfFound (SpellsContent (suc d) c s)) (p.0 % 2 == 0) (next (next (insert f (p.0 / 2) p.1 no_pairs) all) (λ ps. Some (tree.map ps))) None
+        (λ even. next-says (IfFound (SpellsContent (suc d) c s)) (next (insert f (p.0 / 2) p.1 no_pairs) all) (λ ps. Some (tree.map ps)) tt
         (λ ps found. let two : p.0 ≡ 2 * (p.0 / 2) = omega (arith, same-number (p.0 % 2) 0 even) in
-        Holds.a_map d c count s (p.0 / 2) p.1 ps is (subst (λ z. IsCounted count s z p.1) two counts) (inserted-says d f frames (p.0 / 2) p.1 ps found)))
+        SpellsContent.a_map d c count s (p.0 / 2) p.1 ps is (subst (λ z. IsCounted count s z p.1) two counts) (inserted-says d f frames (p.0 / 2) p.1 ps found)))
         (λ _. tt)
 
     under-constructor : (count : Count) (n byte : ℕ) (items : List ℕ) → shape_of_code c ≡ shape.Array count → IsCounted count s n (byte ∷ items)
-        → IfFound (λ ts. Holds (suc d) c s (tree.array (trees_of ts))) (next (primitive_of byte) (λ code. next (gather (payload_in h code) n items []) all))
+        → IfFound (λ ts. SpellsContent (suc d) c s (tree.array (trees_of ts))) (next (primitive_of byte) (λ code. next (gather (payload_in h code) n items []) all))
     under-constructor count n byte items is counts =
-        next-says (IfFound (λ ts. Holds (suc d) c s (tree.array (trees_of ts)))) (primitive_of byte) (λ code. next (gather (payload_in h code) n items []) all) tt
+        next-says (IfFound (λ ts. SpellsContent (suc d) c s (tree.array (trees_of ts)))) (primitive_of byte) (λ code. next (gather (payload_in h code) n items []) all) tt
         (λ code found. let named = primitive-says byte code found in
         let begins = subst (λ z. IsCounted count s n (z ∷ items)) (sym named.0) counts in
         as_array code begins named.1 (next (gather (payload_in h code) n items []) all) refl)
       where
         as_array : (code : EncodingCodes) → IsCounted count s n (code_of code ∷ items) → IsTrue (is_primitive code)
-            → (o : Option (List Tree)) → next (gather (payload_in h code) n items []) all ≡ o → IfFound (λ ts. Holds (suc d) c s (tree.array (trees_of ts))) o
+            → (o : Option (List Tree)) → next (gather (payload_in h code) n items []) all ≡ o → IfFound (λ ts. SpellsContent (suc d) c s (tree.array (trees_of ts))) o
         as_array code begins ok None e = tt
-        as_array code begins ok (Some ts) e = Holds.an_array d c count s n code items ts is begins ok (items-say code n items ts e)
+        as_array code begins ok (Some ts) e = SpellsContent.an_array d c count s n code items ts is begins ok (items-say code n items ts e)
 
     array-items : (count : Count) (n : ℕ) (body : List ℕ) → shape_of_code c ≡ shape.Array count → IsCounted count s n body
-        → IfFound (λ ts. Holds (suc d) c s (tree.array (trees_of ts))) (items_in h n body)
-    array-items count zero [] is counts = Holds.a_bare_array d c count s is counts
+        → IfFound (λ ts. SpellsContent (suc d) c s (tree.array (trees_of ts))) (items_in h n body)
+    array-items count zero [] is counts = SpellsContent.a_bare_array d c count s is counts
     array-items count (suc n) [] is counts = tt
     array-items count n (byte ∷ items) is counts = under-constructor count n byte items is counts
 
-    array-says : (count : Count) (p : ℕ × List ℕ) → shape_of_code c ≡ shape.Array count → IsCounted count s p.0 p.1 → IfFound (Holds (suc d) c s) (array_in h p)
+    array-says : (count : Count) (p : ℕ × List ℕ) → shape_of_code c ≡ shape.Array count → IsCounted count s p.0 p.1 → IfFound (SpellsContent (suc d) c s) (parse_array h p)
     array-says count p is counts =
-        next-says (IfFound (Holds (suc d) c s)) (items_in h p.0 p.1) (λ ts. Some (tree.array (trees_of ts))) tt
-        (λ ts found. found-next (λ us. Holds (suc d) c s (tree.array (trees_of us))) (items_in h p.0 p.1) (array-items count p.0 p.1 is counts) ts found)
+        next-says (IfFound (SpellsContent (suc d) c s)) (items_in h p.0 p.1) (λ ts. Some (tree.array (trees_of ts))) tt
+        (λ ts found. found-next (λ us. SpellsContent (suc d) c s (tree.array (trees_of us))) (items_in h p.0 p.1) (array-items count p.0 p.1 is counts) ts found)
 
-    by_shape : (k : Shape) → shape_of_code c ≡ k → IfFound (Holds (suc d) c s) (content_in f h k c s)
+    by_shape : (k : PayloadShape) → shape_of_code c ≡ k → IfFound (SpellsContent (suc d) c s) (content_in f h k c s)
     by_shape shape.Described is = tt
-    by_shape shape.Scalar is = next-says (IfFound (Holds (suc d) c s)) (scalar_in c s) scalar_tree tt (λ k found. Holds.a_scalar d c s k is found)
-    by_shape (shape.List count) is = next-says (IfFound (Holds (suc d) c s)) (counted_in count s) (list_in f) tt (λ p found. list-says count p is (counted-says count s p found))
-    by_shape (shape.Map count) is = next-says (IfFound (Holds (suc d) c s)) (counted_in count s) (map_in f) tt (λ p found. map-says count p is (counted-says count s p found))
-    by_shape (shape.Array count) is = next-says (IfFound (Holds (suc d) c s)) (counted_in count s) (array_in h) tt (λ p found. array-says count p is (counted-says count s p found))
+    by_shape shape.Scalar is = next-says (IfFound (SpellsContent (suc d) c s)) (scalar_in c s) scalar_tree tt (λ k found. SpellsContent.a_scalar d c s k is found)
+    by_shape (shape.List count) is = next-says (IfFound (SpellsContent (suc d) c s)) (counted_in count s) (parse_list f) tt (λ p found. list-says count p is (counted-says count s p found))
+    by_shape (shape.Map count) is = next-says (IfFound (SpellsContent (suc d) c s)) (counted_in count s) (parse_map f) tt (λ p found. map-says count p is (counted-says count s p found))
+    by_shape (shape.Array count) is = next-says (IfFound (SpellsContent (suc d) c s)) (counted_in count s) (parse_array h) tt (λ p found. array-says count p is (counted-says count s p found))
 
-    pub content-says : IfFound (Holds (suc d) c s) (content_of f h c s)
+    pub content-says : IfFound (SpellsContent (suc d) c s) (content_of f h c s)
     content-says = by_shape (shape_of_code c) refl
 
-  described-says : (s : List ℕ) → Says (λ b t. Spells (suc d) (0 ∷ b) t) s (next (descriptor_at s) (described_in f))
+  described-says : (s : List ℕ) → Says (λ b t. Spells (suc d) (0 ∷ b) t) s (next (descriptor_at s) (parse_described f))
   described-says s =
-      says-next IsDescriptor (λ b t. Spells (suc d) (0 ∷ b) t) s (descriptor_at s) (described_in f) (descriptor-says s)
-      (λ l a e is. says-under (λ b t. (u : Tree) × (t ≡ tree.described l.0 u) × Spells d b u) (λ b t. Spells (suc d) (0 ∷ b) t) s a l.1 (described_in f l) e
+      says-next IsDescriptor (λ b t. Spells (suc d) (0 ∷ b) t) s (descriptor_at s) (parse_described f) (descriptor-says s)
+      (λ l a e is. says-under (λ b t. (u : Tree) × (t ≡ tree.described l.0 u) × Spells d b u) (λ b t. Spells (suc d) (0 ∷ b) t) s a l.1 (parse_described f l) e
       (says-next (Spells d) (λ b t. (u : Tree) × (t ≡ tree.described l.0 u) × Spells d b u) l.1 (f l.1) (λ r. Some (tree.described l.0 r.0, r.1)) (frames l.1)
       (λ r b eb sp. (b, eb, (r.0, refl, sp))))
       (λ b t w. subst (λ z. Spells (suc d) (0 ∷ (a ++ b)) z) (sym w.1) (Spells.described d a b l.0 w.0 is w.2)))
@@ -315,24 +315,24 @@ module _ (d : ℕ) (f : FrameReader) (h : ContentReader) (frames : (s : List ℕ
   primitive-frame c s ok =
       says-next (IsPayload (category (code_of c))) (λ b t. Spells (suc d) (code_of c ∷ b) t) s (content_at (category (code_of c)) s) (λ p. next (content_of f h c p.0) (with_rest p.1)) (payload-says (category (code_of c)) s)
       (λ p a e is. next-says (Says (λ b t. Spells (suc d) (code_of c ∷ b) t) s) (content_of f h c p.0) (with_rest p.1) tt
-      (λ t found. (a, e, Spells.primitive (suc d) c a p.0 t ok is (found-next (Holds (suc d) c p.0) (content_of f h c p.0) (content-says c p.0) t found))))
+      (λ t found. (a, e, Spells.primitive (suc d) c a p.0 t ok is (found-next (SpellsContent (suc d) c p.0) (content_of f h c p.0) (content-says c p.0) t found))))
 
   pub frame-says : (s : List ℕ) → Says (Spells (suc d)) s (frame_in f h s)
   frame-says [] = tt
   frame-says (byte ∷ s) =
-      pick (Says (Spells (suc d)) (byte ∷ s)) (byte == 0) (next (descriptor_at s) (described_in f)) (next (primitive_of byte) (λ code. payload_in (content_of f h) code s))
-      (λ e. subst (λ k. Says (Spells (suc d)) (k ∷ s) (next (descriptor_at s) (described_in f))) (sym (same-number byte 0 e)) (fronted (Spells (suc d)) 0 s _ (described-says s)))
+      pick (Says (Spells (suc d)) (byte ∷ s)) (byte == 0) (next (descriptor_at s) (parse_described f)) (next (primitive_of byte) (λ code. payload_in (content_of f h) code s))
+      (λ e. subst (λ k. Says (Spells (suc d)) (k ∷ s) (next (descriptor_at s) (parse_described f))) (sym (same-number byte 0 e)) (optionally_described (Spells (suc d)) 0 s _ (described-says s)))
       (λ _. next-says (Says (Spells (suc d)) (byte ∷ s)) (primitive_of byte) (λ code. payload_in (content_of f h) code s) tt
       (λ c is. let named = primitive-says byte c is in
       under-code (Spells (suc d)) byte c s _ named.0 (primitive-frame c s named.1)))
 
 mutual
-  unfolding parse held
+  unfolding parse parse_content
 
   pub parse-says : (d : ℕ) (s : List ℕ) → Says (Spells d) s (parse d s)
   parse-says zero s = tt
-  parse-says (suc d) s = frame-says d (parse d) (held d) (parse-says d) (held-says d) s
+  parse-says (suc d) s = frame-says d (parse d) (parse_content d) (parse-says d) (parse_content-says d) s
 
-  held-says : (d : ℕ) (c : EncodingCodes) (s : List ℕ) → IfFound (Holds d c s) (held d c s)
-  held-says zero c s = tt
-  held-says (suc d) c s = content-says d (parse d) (held d) (parse-says d) (held-says d) c s
+  parse_content-says : (d : ℕ) (c : EncodingCodes) (s : List ℕ) → IfFound (SpellsContent d c s) (parse_content d c s)
+  parse_content-says zero c s = tt
+  parse_content-says (suc d) c s = content-says d (parse d) (parse_content d) (parse-says d) (parse_content-says d) c s

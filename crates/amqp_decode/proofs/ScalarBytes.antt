@@ -22,9 +22,9 @@ use Rattle.amqp_ser.specs.Tree.{Descriptor, Scalar, null, bool, ubyte, ushort, u
 use Rattle.amqp_ser.specs.Writable.{scalar_fits, descriptor_fits}
 use Rattle.amqp_ser.specs.Encoding.{descriptor_form}
 use Rattle.amqp_decode.specs.Codes.{is_primitive, shape_of_code}
-use Rattle.amqp_decode.specs.Scalars.{made, single, exact, character, is_scalar_value, scalar_in}
-use Rattle.amqp_decode.specs.Spells.{IsNumber, IsPayload, IsDescriptor, Spells, Holds}
-use Rattle.amqp_decode.specs.declared.shape.Shape.TheVariants as shape
+use Rattle.amqp_decode.specs.Scalars.{scalar_from, single, exact, character, is_scalar_value, scalar_in}
+use Rattle.amqp_decode.specs.Spells.{IsNumber, IsPayload, IsDescriptor, Spells, SpellsContent}
+use Rattle.amqp_decode.specs.declared.payload_shape.PayloadShape.TheVariants as shape
 use Rattle.amqp_decode.proofs.Means.{pick, is_number}
 
 -- the code that a scalar has in an array
@@ -64,9 +64,9 @@ module _ (z : ℤ) where
   back : (w : Width) (n : ℕ) → FitsSigned w z → n ≡ cast_unsigned w z → cast_signed w n ≡ z
   back w n f e = ap (cast_signed w) e ∙ to_z-of_z {w = w} {z = z} f
 
-  signed-one : FitsSigned w8 z → made (λ b. byte (cast_signed w8 b)) (single (signed_bytes w8 z)) ≡ Some (byte z)
+  signed-one : FitsSigned w8 z → scalar_from (λ b. byte (cast_signed w8 b)) (single (signed_bytes w8 z)) ≡ Some (byte z)
   signed-one f =
-      ap (made (λ b. byte (cast_signed w8 b))) (one-byte (cast_unsigned w8 z) (Fits-lt-pow (Fits-of_z {w = w8} {z = z} f)))
+      ap (scalar_from (λ b. byte (cast_signed w8 b))) (one-byte (cast_unsigned w8 z) (Fits-lt-pow (Fits-of_z {w = w8} {z = z} f)))
       ∙ ap (λ y. Some (byte y)) (back w8 (cast_unsigned w8 z) f refl)
 
   signed-two : FitsSigned w16 z → cast_signed w16 (from_be_bytes w16 (signed_bytes w16 z)) ≡ z
@@ -108,36 +108,36 @@ exactly n bs e =
 long-number : (bs : List ℕ) → fits (length bs) ≡ true → IsNumber (to_be_bytes w32 (length bs)) (length bs)
 long-number bs ok = four-number (length bs) (grind (arith, nat_tests))
 
-pub scalar-held : (s : Scalar) → IsRangedScalar s → scalar_fits s ≡ true → HeldBy (widest s) (scalar_payload s) s
+pub scalar-parse_content : (s : Scalar) → IsRangedScalar s → scalar_fits s ≡ true → HeldBy (widest s) (scalar_payload s) s
 unfolding category scalar_in
-scalar-held null r ok = fixed code.Null [] null refl refl refl
-scalar-held (bool true) r ok = fixed code.Boolean (1 ∷ []) (bool true) refl refl refl
-scalar-held (bool false) r ok = fixed code.Boolean (0 ∷ []) (bool false) refl refl refl
-scalar-held (ubyte n) r ok = fixed code.Ubyte _ (ubyte n) refl refl (ap (made ubyte) (one-byte n r))
-scalar-held (ushort n) r ok = fixed code.Ushort _ (ushort n) refl refl (ap (λ m. Some (ushort m)) (from_be_bytes-to_be_bytes_2 n r))
-scalar-held (uint n) r ok = fixed code.Uint _ (uint n) refl refl (ap (λ m. Some (uint m)) (from_be_bytes-to_be_bytes_4 n r))
-scalar-held (ulong n) r ok = fixed code.Ulong _ (ulong n) refl refl (ap (λ m. Some (ulong m)) (from_be_bytes-to_be_bytes_8 n r))
-scalar-held (byte z) r ok = fixed code.Byte _ (byte z) refl refl (signed-one z r)
-scalar-held (short z) r ok = fixed code.Short _ (short z) refl refl (ap (λ y. Some (short y)) (signed-two z r))
-scalar-held (int z) r ok = fixed code.Int _ (int z) refl refl (ap (λ y. Some (int y)) (signed-four z r))
-scalar-held (long z) r ok = fixed code.Long _ (long z) refl refl (ap (λ y. Some (long y)) (signed-eight z r))
-scalar-held (float n) r ok = fixed code.Float _ (float n) refl refl (ap (λ m. Some (float m)) (from_be_bytes-to_be_bytes_4 n r))
-scalar-held (double n) r ok = fixed code.Double _ (double n) refl refl (ap (λ m. Some (double m)) (from_be_bytes-to_be_bytes_8 n r))
-scalar-held (decimal32 bs) r ok = fixed code.Decimal32 bs _ (ap Fixed (sym r.0)) refl (ap (made decimal32) (exactly 4 bs r.0))
-scalar-held (decimal64 bs) r ok = fixed code.Decimal64 bs _ (ap Fixed (sym r.0)) refl (ap (made decimal64) (exactly 8 bs r.0))
-scalar-held (decimal128 bs) r ok = fixed code.Decimal128 bs _ (ap Fixed (sym r.0)) refl (ap (made decimal128) (exactly 16 bs r.0))
-scalar-held (char c) r ok =
+scalar-parse_content null r ok = fixed code.Null [] null refl refl refl
+scalar-parse_content (bool true) r ok = fixed code.Boolean (1 ∷ []) (bool true) refl refl refl
+scalar-parse_content (bool false) r ok = fixed code.Boolean (0 ∷ []) (bool false) refl refl refl
+scalar-parse_content (ubyte n) r ok = fixed code.Ubyte _ (ubyte n) refl refl (ap (scalar_from ubyte) (one-byte n r))
+scalar-parse_content (ushort n) r ok = fixed code.Ushort _ (ushort n) refl refl (ap (λ m. Some (ushort m)) (from_be_bytes-to_be_bytes_2 n r))
+scalar-parse_content (uint n) r ok = fixed code.Uint _ (uint n) refl refl (ap (λ m. Some (uint m)) (from_be_bytes-to_be_bytes_4 n r))
+scalar-parse_content (ulong n) r ok = fixed code.Ulong _ (ulong n) refl refl (ap (λ m. Some (ulong m)) (from_be_bytes-to_be_bytes_8 n r))
+scalar-parse_content (byte z) r ok = fixed code.Byte _ (byte z) refl refl (signed-one z r)
+scalar-parse_content (short z) r ok = fixed code.Short _ (short z) refl refl (ap (λ y. Some (short y)) (signed-two z r))
+scalar-parse_content (int z) r ok = fixed code.Int _ (int z) refl refl (ap (λ y. Some (int y)) (signed-four z r))
+scalar-parse_content (long z) r ok = fixed code.Long _ (long z) refl refl (ap (λ y. Some (long y)) (signed-eight z r))
+scalar-parse_content (float n) r ok = fixed code.Float _ (float n) refl refl (ap (λ m. Some (float m)) (from_be_bytes-to_be_bytes_4 n r))
+scalar-parse_content (double n) r ok = fixed code.Double _ (double n) refl refl (ap (λ m. Some (double m)) (from_be_bytes-to_be_bytes_8 n r))
+scalar-parse_content (decimal32 bs) r ok = fixed code.Decimal32 bs _ (ap Fixed (sym r.0)) refl (ap (scalar_from decimal32) (exactly 4 bs r.0))
+scalar-parse_content (decimal64 bs) r ok = fixed code.Decimal64 bs _ (ap Fixed (sym r.0)) refl (ap (scalar_from decimal64) (exactly 8 bs r.0))
+scalar-parse_content (decimal128 bs) r ok = fixed code.Decimal128 bs _ (ap Fixed (sym r.0)) refl (ap (scalar_from decimal128) (exactly 16 bs r.0))
+scalar-parse_content (char c) r ok =
     let value = scalar-number c r in
     fixed code.Char _ (char c) refl refl (ap character (from_be_bytes-to_be_bytes_4 c value.0) ∙ rw value.1 refl)
-scalar-held (timestamp z) r ok = fixed code.Timestamp _ (timestamp z) refl refl (ap (λ y. Some (timestamp y)) (signed-eight z r))
-scalar-held (uuid bs) r ok = fixed code.Uuid bs _ (ap Fixed (sym r.0)) refl (ap (made uuid) (exactly 16 bs r.0))
-scalar-held (binary bs) r ok = (bs, IsPayload.of_four_bytes (to_be_bytes w32 (length bs)) bs (long-number bs ok), refl, refl)
-scalar-held (string bs) r ok = (bs, IsPayload.of_four_bytes (to_be_bytes w32 (length bs)) bs (long-number bs ok), refl, rw (is_utf8-from_IsUtf8 bs r) refl)
-scalar-held (symbol bs) r ok = (bs, IsPayload.of_four_bytes (to_be_bytes w32 (length bs)) bs (long-number bs ok), refl, rw (is_utf8-from_IsUtf8 bs r) refl)
+scalar-parse_content (timestamp z) r ok = fixed code.Timestamp _ (timestamp z) refl refl (ap (λ y. Some (timestamp y)) (signed-eight z r))
+scalar-parse_content (uuid bs) r ok = fixed code.Uuid bs _ (ap Fixed (sym r.0)) refl (ap (scalar_from uuid) (exactly 16 bs r.0))
+scalar-parse_content (binary bs) r ok = (bs, IsPayload.of_four_bytes (to_be_bytes w32 (length bs)) bs (long-number bs ok), refl, refl)
+scalar-parse_content (string bs) r ok = (bs, IsPayload.of_four_bytes (to_be_bytes w32 (length bs)) bs (long-number bs ok), refl, rw (is_utf8-from_IsUtf8 bs r) refl)
+scalar-parse_content (symbol bs) r ok = (bs, IsPayload.of_four_bytes (to_be_bytes w32 (length bs)) bs (long-number bs ok), refl, rw (is_utf8-from_IsUtf8 bs r) refl)
 
 -- a code, a payload and its content spell the scalar
 pub as-frame : (d : ℕ) (c : EncodingCodes) (p : List ℕ) (s : Scalar) → IsTrue (is_primitive c) → HeldBy c p s → Spells (suc d) (code_of c ∷ p) (tree.scalar s)
-as-frame d c p s ok h = Spells.primitive (suc d) c p h.0 (tree.scalar s) ok h.1 (Holds.a_scalar d c h.0 s h.2 h.3)
+as-frame d c p s ok h = Spells.primitive (suc d) c p h.0 (tree.scalar s) ok h.1 (SpellsContent.a_scalar d c h.0 s h.2 h.3)
 
 pub widest-code : (s : Scalar) → code_of (widest s) ≡ scalar_code s
 widest-code null = refl
@@ -188,7 +188,7 @@ widest-primitive (symbol bs) = refl
 -- the ordinary form of a scalar
 as-widest : (d : ℕ) (s : Scalar) → IsRangedScalar s → scalar_fits s ≡ true → Spells (suc d) (scalar_code s ∷ scalar_payload s) (tree.scalar s)
 as-widest d s r ok =
-    subst (λ n. Spells (suc d) (n ∷ scalar_payload s) (tree.scalar s)) (widest-code s) (as-frame d (widest s) (scalar_payload s) s (widest-primitive s) (scalar-held s r ok))
+    subst (λ n. Spells (suc d) (n ∷ scalar_payload s) (tree.scalar s)) (widest-code s) (as-frame d (widest s) (scalar_payload s) s (widest-primitive s) (scalar-parse_content s r ok))
 
 abbrev Formed : ℕ → Scalar → List ℕ → Type 0
 Formed d s p = Spells (suc d) p (tree.scalar s)
@@ -207,10 +207,10 @@ small-fits (negsuc n) e =
     let le : n ≤ 127 = grind (arith, nat_tests) in
     record { sfits = omega (arith, le) }
 
-signed-small : (z : ℤ) → is_small z ≡ true → (k : ℤ → Scalar) → made (λ b. k (cast_signed w8 b)) (single (signed_bytes w8 z)) ≡ Some (k z)
+signed-small : (z : ℤ) → is_small z ≡ true → (k : ℤ → Scalar) → scalar_from (λ b. k (cast_signed w8 b)) (single (signed_bytes w8 z)) ≡ Some (k z)
 signed-small z e k =
     let f = small-fits z e in
-    ap (made (λ b. k (cast_signed w8 b))) (one-byte (cast_unsigned w8 z) (Fits-lt-pow (Fits-of_z {w = w8} {z = z} f)))
+    ap (scalar_from (λ b. k (cast_signed w8 b))) (one-byte (cast_unsigned w8 z) (Fits-lt-pow (Fits-of_z {w = w8} {z = z} f)))
     ∙ ap (λ y. Some (k y)) (back z w8 (cast_unsigned w8 z) f refl)
 
 short-sized : (bs : List ℕ) → IsPayload OneByteSize (length bs ∷ bs) bs
@@ -224,13 +224,13 @@ scalar-bytes d (uint n) r ok =
     pick (Formed d (uint n)) (n == 0) _ _
     (λ e. as-frame d code.Uint0 [] (uint n) refl (fixed code.Uint0 [] (uint n) refl refl (ap (λ m. Some (uint m)) (zero-from n e))))
     (λ _. pick (Formed d (uint n)) (nat_lt n 256) _ _
-    (λ e. as-frame d code.SmallUint (to_be_bytes w8 n) (uint n) refl (fixed code.SmallUint (to_be_bytes w8 n) (uint n) refl refl (ap (made uint) (one-byte n (small-from n e)))))
+    (λ e. as-frame d code.SmallUint (to_be_bytes w8 n) (uint n) refl (fixed code.SmallUint (to_be_bytes w8 n) (uint n) refl refl (ap (scalar_from uint) (one-byte n (small-from n e)))))
     (λ _. as-widest d (uint n) r ok))
 scalar-bytes d (ulong n) r ok =
     pick (Formed d (ulong n)) (n == 0) _ _
     (λ e. as-frame d code.Ulong0 [] (ulong n) refl (fixed code.Ulong0 [] (ulong n) refl refl (ap (λ m. Some (ulong m)) (zero-from n e))))
     (λ _. pick (Formed d (ulong n)) (nat_lt n 256) _ _
-    (λ e. as-frame d code.SmallUlong (to_be_bytes w8 n) (ulong n) refl (fixed code.SmallUlong (to_be_bytes w8 n) (ulong n) refl refl (ap (made ulong) (one-byte n (small-from n e)))))
+    (λ e. as-frame d code.SmallUlong (to_be_bytes w8 n) (ulong n) refl (fixed code.SmallUlong (to_be_bytes w8 n) (ulong n) refl refl (ap (scalar_from ulong) (one-byte n (small-from n e)))))
     (λ _. as-widest d (ulong n) r ok))
 scalar-bytes d (int z) r ok =
     pick (Formed d (int z)) (is_small z) _ _
@@ -277,5 +277,5 @@ descriptor-bytes (tree.code n) r ok =
     pick (λ z. IsDescriptor z (tree.code n)) (n == 0) _ _
     (λ e. IsDescriptor.spelled code.Ulong0 [] [] (tree.code n) refl (IsPayload.of_width []) (ap (λ m. Some (ulong m)) (zero-from n e)))
     (λ _. pick (λ z. IsDescriptor z (tree.code n)) (nat_lt n 256) _ _
-    (λ e. IsDescriptor.spelled code.SmallUlong (to_be_bytes w8 n) (to_be_bytes w8 n) (tree.code n) refl (IsPayload.of_width (to_be_bytes w8 n)) (ap (made ulong) (one-byte n (small-from n e))))
+    (λ e. IsDescriptor.spelled code.SmallUlong (to_be_bytes w8 n) (to_be_bytes w8 n) (tree.code n) refl (IsPayload.of_width (to_be_bytes w8 n)) (ap (scalar_from ulong) (one-byte n (small-from n e))))
     (λ _. IsDescriptor.spelled code.Ulong (to_be_bytes w64 n) (to_be_bytes w64 n) (tree.code n) refl (IsPayload.of_width (to_be_bytes w64 n)) (ap (λ m. Some (ulong m)) (from_be_bytes-to_be_bytes_8 n r))))

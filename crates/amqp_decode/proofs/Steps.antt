@@ -8,17 +8,17 @@ use Rattle.amqp_value.specs.TreeOf.{tree_of}
 use Rattle.amqp_value.specs.declared.value.Value.{Value}
 use Rattle.amqp_decode.specs.Codes.{primitive_of}
 use Rattle.amqp_decode.specs.Scalars.{next}
-use Rattle.amqp_decode.specs.Parsed.{FrameReader, ContentReader, gather, insert, all, list_in, map_in, array_in, payload_in, content_of, frame_in, parse, held}
+use Rattle.amqp_decode.specs.Parsed.{FrameReader, ContentReader, gather, insert, all, parse_list, parse_map, parse_array, payload_in, content_of, frame_in, parse, parse_content}
 
-pub held-zero : (d : ℕ) (c : EncodingCodes) (s : List ℕ) → d ≡ 0 → held d c s ≡ None
-unfolding held
-held-zero zero c s e = refl
-held-zero (suc d) c s e = absurd (omega arith)
+pub parse_content-zero : (d : ℕ) (c : EncodingCodes) (s : List ℕ) → d ≡ 0 → parse_content d c s ≡ None
+unfolding parse_content
+parse_content-zero zero c s e = refl
+parse_content-zero (suc d) c s e = absurd (omega arith)
 
-pub held-at : (d : ℕ) (c : EncodingCodes) (s : List ℕ) → 0 < d → held d c s ≡ content_of (parse (d - 1)) (held (d - 1)) c s
-unfolding held parse
-held-at zero c s lt = absurd (omega arith)
-held-at (suc d) c s lt =
+pub parse_content-at : (d : ℕ) (c : EncodingCodes) (s : List ℕ) → 0 < d → parse_content d c s ≡ content_of (parse (d - 1)) (parse_content (d - 1)) c s
+unfolding parse_content parse
+parse_content-at zero c s lt = absurd (omega arith)
+parse_content-at (suc d) c s lt =
     let e : suc d - 1 ≡ d = omega arith in
     rw e refl
 
@@ -27,8 +27,8 @@ unfolding parse
 parse-zero zero s e = refl
 parse-zero (suc d) s e = absurd (omega arith)
 
-pub parse-at : (d : ℕ) (s : List ℕ) → 0 < d → parse d s ≡ frame_in (parse (d - 1)) (held (d - 1)) s
-unfolding held parse
+pub parse-at : (d : ℕ) (s : List ℕ) → 0 < d → parse d s ≡ frame_in (parse (d - 1)) (parse_content (d - 1)) s
+unfolding parse_content parse
 parse-at zero s lt = absurd (omega arith)
 parse-at (suc d) s lt =
     let e : suc d - 1 ≡ d = omega arith in
@@ -60,7 +60,7 @@ module _ (f : FrameReader) where
   values-next n i s rest v vs lt e = ap (gather f (n - (i + 1)) rest) (trees-push vs v) ∙ gather-next n i s rest (tree_of v) (map tree_of vs) lt e
 
   -- an element that is not read leaves no list
-  pub list-none : (n i : ℕ) (s body : List ℕ) (done : List Tree) → i < n → gather f (n - i) s done ≡ gather f n body [] → f s ≡ None → list_in f (n, body) ≡ None
+  pub list-none : (n i : ℕ) (s body : List ℕ) (done : List Tree) → i < n → gather f (n - i) s done ≡ gather f n body [] → f s ≡ None → parse_list f (n, body) ≡ None
   list-none n i s body done lt same e =
       let no : gather f n body [] ≡ None = sym same ∙ gather-none n i s done lt e in
       rw no refl
@@ -91,7 +91,7 @@ module _ (f : FrameReader) where
       ap (λ m. insert f m s done) same ∙ value-none (n - (i + 1)) s mid k done ek ev
 
   -- pairs that are not read leave no map
-  pub map-none : (n : ℕ) (body : List ℕ) → insert f (n / 2) body no_pairs ≡ None → map_in f (n, body) ≡ None
+  pub map-none : (n : ℕ) (body : List ℕ) → insert f (n / 2) body no_pairs ≡ None → parse_map f (n, body) ≡ None
   map-none n body e = by_parity (n % 2 == 0)
     where
       by_parity : (b : Bool) → (if b then next (next (insert f (n / 2) body no_pairs) all) (λ ps. Some (tree.map ps)) else None) ≡ None
@@ -100,7 +100,7 @@ module _ (f : FrameReader) where
 
 -- an item that is not read leaves no array
 pub array-none : (h : ContentReader) (c : ℕ) (code : EncodingCodes) (n i : ℕ) (s body rest : List ℕ) (done : List Tree) → i < n → primitive_of c ≡ Some code → body ≡ c ∷ rest
-    → gather (payload_in h code) (n - i) s done ≡ gather (payload_in h code) n rest [] → payload_in h code s ≡ None → array_in h (n, body) ≡ None
+    → gather (payload_in h code) (n - i) s done ≡ gather (payload_in h code) n rest [] → payload_in h code s ≡ None → parse_array h (n, body) ≡ None
 array-none h c code zero i s body rest done lt ok is same e = absurd (omega arith)
 array-none h c code (suc n) i s body rest done lt ok is same e =
     let no : gather (payload_in h code) (suc n) rest [] ≡ None = sym same ∙ gather-none (payload_in h code) (suc n) i s done lt e in

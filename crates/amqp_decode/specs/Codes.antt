@@ -3,9 +3,9 @@ use Rattle.std.specs.Prelude.{ℕ, Bool, true, false, ◌==◌, if◌then◌else
 use Rattle.amqp_data.specs.FormatCode.{code_of}
 use Rattle.amqp_data.specs.declared.format_code.EncodingCodes.{EncodingCodes}
 use Rattle.amqp_data.specs.declared.format_code.EncodingCodes.TheVariants.{DescribedType, Null, BooleanTrue, BooleanFalse, Uint0, Ulong0, List0, Ubyte, Byte, SmallUint, SmallUlong, SmallInt, SmallLong, Boolean, Ushort, Short, Uint, Int, Float, Char, Decimal32, Ulong, Long, Double, Timestamp, Decimal64, Decimal128, Uuid, Vbin8, Str8, Sym8, Vbin32, Str32, Sym32, List8, Map8, List32, Map32, Array8, Array32}
-use Rattle.amqp_decode.specs.declared.shape.Count.TheVariants.{Absent, OneByte, FourBytes}
-use Rattle.amqp_decode.specs.declared.shape.Shape.{Shape}
-use Rattle.amqp_decode.specs.declared.shape.Shape.TheVariants as shape
+use Rattle.amqp_decode.specs.declared.payload_shape.Count.TheVariants.{Absent, OneByte, FourBytes}
+use Rattle.amqp_decode.specs.declared.payload_shape.PayloadShape.{PayloadShape}
+use Rattle.amqp_decode.specs.declared.payload_shape.PayloadShape.TheVariants as shape
 
 -- the codes of primitive types: all but 00 (section 1.6)
 abbrev pub primitive_codes : List EncodingCodes
@@ -29,7 +29,7 @@ unfoldable pub primitive_of : ℕ → Option EncodingCodes
 primitive_of byte = code_among primitive_codes byte
 
 -- what the payload of a code holds; a list, a map or an array begins with its count, but for the list of no elements
-abbrev pub shape_of_code : EncodingCodes → Shape
+abbrev pub shape_of_code : EncodingCodes → PayloadShape
 shape_of_code DescribedType = shape.Described
 shape_of_code List0 = shape.List Absent
 shape_of_code List8 = shape.List OneByte

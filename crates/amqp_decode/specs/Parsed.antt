@@ -11,10 +11,10 @@ use Rattle.amqp_ser.specs.Tree.{Scalar, Descriptor, Tree, Pairs, trees_of, no_pa
 use Rattle.amqp_value.specs.Image.{insert_tree}
 use Rattle.amqp_decode.specs.Codes.{primitive_of, shape_of_code}
 use Rattle.amqp_decode.specs.Scalars.{next, scalar_in, scalar_tree}
-use Rattle.amqp_decode.specs.declared.shape.Count.{Count}
-use Rattle.amqp_decode.specs.declared.shape.Count.TheVariants.{Absent, OneByte, FourBytes}
-use Rattle.amqp_decode.specs.declared.shape.Shape.{Shape}
-use Rattle.amqp_decode.specs.declared.shape.Shape.TheVariants as shape
+use Rattle.amqp_decode.specs.declared.payload_shape.Count.{Count}
+use Rattle.amqp_decode.specs.declared.payload_shape.Count.TheVariants.{Absent, OneByte, FourBytes}
+use Rattle.amqp_decode.specs.declared.payload_shape.PayloadShape.{PayloadShape}
+use Rattle.amqp_decode.specs.declared.payload_shape.PayloadShape.TheVariants as shape
 
 -- so many bytes and the rest
 abbrev pub cut : ℕ → List ℕ → Option (List ℕ × List ℕ)
@@ -89,11 +89,11 @@ abbrev pub all : {A : Type 0} → A × List ℕ → Option A
 all (a, []) = Some a
 all (a, b ∷ s) = None
 
-abbrev pub list_in : FrameReader → ℕ × List ℕ → Option Tree
-list_in f p = next (next (gather f p.0 p.1 []) all) (λ ts. Some (tree.list (trees_of ts)))
+abbrev pub parse_list : FrameReader → ℕ × List ℕ → Option Tree
+parse_list f p = next (next (gather f p.0 p.1 []) all) (λ ts. Some (tree.list (trees_of ts)))
 
-abbrev pub map_in : FrameReader → ℕ × List ℕ → Option Tree
-map_in f p = if p.0 % 2 == 0 then next (next (insert f (p.0 / 2) p.1 no_pairs) all) (λ ps. Some (tree.map ps)) else None
+abbrev pub parse_map : FrameReader → ℕ × List ℕ → Option Tree
+parse_map f p = if p.0 % 2 == 0 then next (next (insert f (p.0 / 2) p.1 no_pairs) all) (λ ps. Some (tree.map ps)) else None
 
 -- payloads of the constructor, which comes first
 abbrev pub items_in : ContentReader → ℕ → List ℕ → Option (List Tree)
@@ -101,36 +101,36 @@ items_in h zero [] = Some []
 items_in h (suc n) [] = None
 items_in h n (c ∷ s) = next (primitive_of c) (λ code. next (gather (payload_in h code) n s []) all)
 
-abbrev pub array_in : ContentReader → ℕ × List ℕ → Option Tree
-array_in h p = next (items_in h p.0 p.1) (λ ts. Some (tree.array (trees_of ts)))
+abbrev pub parse_array : ContentReader → ℕ × List ℕ → Option Tree
+parse_array h p = next (items_in h p.0 p.1) (λ ts. Some (tree.array (trees_of ts)))
 
 -- a content, with f for the encoded values in it and h for the items
-abbrev pub content_in : FrameReader → ContentReader → Shape → ContentReader
+abbrev pub content_in : FrameReader → ContentReader → PayloadShape → ContentReader
 content_in f h shape.Described code s = None
 content_in f h shape.Scalar code s = next (scalar_in code s) scalar_tree
-content_in f h (shape.List count) code s = next (counted_in count s) (list_in f)
-content_in f h (shape.Map count) code s = next (counted_in count s) (map_in f)
-content_in f h (shape.Array count) code s = next (counted_in count s) (array_in h)
+content_in f h (shape.List count) code s = next (counted_in count s) (parse_list f)
+content_in f h (shape.Map count) code s = next (counted_in count s) (parse_map f)
+content_in f h (shape.Array count) code s = next (counted_in count s) (parse_array h)
 
 abbrev pub content_of : FrameReader → ContentReader → ContentReader
 content_of f h code s = content_in f h (shape_of_code code) code s
 
-abbrev pub described_in : FrameReader → Descriptor × List ℕ → Option (Tree × List ℕ)
-described_in f d = next (f d.1) (λ r. Some (tree.described d.0 r.0, r.1))
+abbrev pub parse_described : FrameReader → Descriptor × List ℕ → Option (Tree × List ℕ)
+parse_described f d = next (f d.1) (λ r. Some (tree.described d.0 r.0, r.1))
 
 -- the first encoded value
 abbrev pub frame_in : FrameReader → ContentReader → FrameReader
 frame_in f h [] = None
 frame_in f h (byte ∷ s) =
-    if byte == 0 then next (descriptor_at s) (described_in f) else next (primitive_of byte) (λ code. payload_in (content_of f h) code s)
+    if byte == 0 then next (descriptor_at s) (parse_described f) else next (primitive_of byte) (λ code. payload_in (content_of f h) code s)
 
 unfoldable mutual
   -- the first encoded value, at most so deep
   pub parse : ℕ → List ℕ → Option (Tree × List ℕ)
   parse zero s = None
-  parse (suc depth) s = frame_in (parse depth) (held depth) s
+  parse (suc depth) s = frame_in (parse depth) (parse_content depth) s
 
   -- a content at most so deep
-  pub held : ℕ → EncodingCodes → List ℕ → Option Tree
-  held zero code s = None
-  held (suc depth) code s = content_of (parse depth) (held depth) code s
+  pub parse_content : ℕ → EncodingCodes → List ℕ → Option Tree
+  parse_content zero code s = None
+  parse_content (suc depth) code s = content_of (parse depth) (parse_content depth) code s

@@ -12,9 +12,9 @@ next None f = None
 next (Some a) f = f a
 
 -- a scalar of what was read
-abbrev pub made : {A : Type 0} → (A → Scalar) → Option A → Option Scalar
-made k None = None
-made k (Some a) = Some (k a)
+abbrev pub scalar_from : {A : Type 0} → (A → Scalar) → Option A → Option Scalar
+scalar_from k None = None
+scalar_from k (Some a) = Some (k a)
 
 -- one byte
 abbrev pub single : List ℕ → Option ℕ
@@ -47,27 +47,27 @@ scalar_in code.BooleanTrue bs = Some (bool true)
 scalar_in code.BooleanFalse bs = Some (bool false)
 scalar_in code.Uint0 bs = Some (uint 0)
 scalar_in code.Ulong0 bs = Some (ulong 0)
-scalar_in code.Ubyte bs = made ubyte (single bs)
-scalar_in code.Byte bs = made (λ b. byte (cast_signed w8 b)) (single bs)
-scalar_in code.SmallUint bs = made uint (single bs)
-scalar_in code.SmallUlong bs = made ulong (single bs)
-scalar_in code.SmallInt bs = made (λ b. int (cast_signed w8 b)) (single bs)
-scalar_in code.SmallLong bs = made (λ b. long (cast_signed w8 b)) (single bs)
+scalar_in code.Ubyte bs = scalar_from ubyte (single bs)
+scalar_in code.Byte bs = scalar_from (λ b. byte (cast_signed w8 b)) (single bs)
+scalar_in code.SmallUint bs = scalar_from uint (single bs)
+scalar_in code.SmallUlong bs = scalar_from ulong (single bs)
+scalar_in code.SmallInt bs = scalar_from (λ b. int (cast_signed w8 b)) (single bs)
+scalar_in code.SmallLong bs = scalar_from (λ b. long (cast_signed w8 b)) (single bs)
 scalar_in code.Boolean bs = next (single bs) truth
-scalar_in code.Ushort bs = made (λ b. ushort (from_be_bytes w16 b)) (exact 2 bs)
-scalar_in code.Short bs = made (λ b. short (cast_signed w16 (from_be_bytes w16 b))) (exact 2 bs)
-scalar_in code.Uint bs = made (λ b. uint (from_be_bytes w32 b)) (exact 4 bs)
-scalar_in code.Int bs = made (λ b. int (cast_signed w32 (from_be_bytes w32 b))) (exact 4 bs)
-scalar_in code.Float bs = made (λ b. float (from_be_bytes w32 b)) (exact 4 bs)
+scalar_in code.Ushort bs = scalar_from (λ b. ushort (from_be_bytes w16 b)) (exact 2 bs)
+scalar_in code.Short bs = scalar_from (λ b. short (cast_signed w16 (from_be_bytes w16 b))) (exact 2 bs)
+scalar_in code.Uint bs = scalar_from (λ b. uint (from_be_bytes w32 b)) (exact 4 bs)
+scalar_in code.Int bs = scalar_from (λ b. int (cast_signed w32 (from_be_bytes w32 b))) (exact 4 bs)
+scalar_in code.Float bs = scalar_from (λ b. float (from_be_bytes w32 b)) (exact 4 bs)
 scalar_in code.Char bs = next (exact 4 bs) (λ b. character (from_be_bytes w32 b))
-scalar_in code.Decimal32 bs = made decimal32 (exact 4 bs)
-scalar_in code.Ulong bs = made (λ b. ulong (from_be_bytes w64 b)) (exact 8 bs)
-scalar_in code.Long bs = made (λ b. long (cast_signed w64 (from_be_bytes w64 b))) (exact 8 bs)
-scalar_in code.Double bs = made (λ b. double (from_be_bytes w64 b)) (exact 8 bs)
-scalar_in code.Timestamp bs = made (λ b. timestamp (cast_signed w64 (from_be_bytes w64 b))) (exact 8 bs)
-scalar_in code.Decimal64 bs = made decimal64 (exact 8 bs)
-scalar_in code.Decimal128 bs = made decimal128 (exact 16 bs)
-scalar_in code.Uuid bs = made uuid (exact 16 bs)
+scalar_in code.Decimal32 bs = scalar_from decimal32 (exact 4 bs)
+scalar_in code.Ulong bs = scalar_from (λ b. ulong (from_be_bytes w64 b)) (exact 8 bs)
+scalar_in code.Long bs = scalar_from (λ b. long (cast_signed w64 (from_be_bytes w64 b))) (exact 8 bs)
+scalar_in code.Double bs = scalar_from (λ b. double (from_be_bytes w64 b)) (exact 8 bs)
+scalar_in code.Timestamp bs = scalar_from (λ b. timestamp (cast_signed w64 (from_be_bytes w64 b))) (exact 8 bs)
+scalar_in code.Decimal64 bs = scalar_from decimal64 (exact 8 bs)
+scalar_in code.Decimal128 bs = scalar_from decimal128 (exact 16 bs)
+scalar_in code.Uuid bs = scalar_from uuid (exact 16 bs)
 scalar_in code.Vbin8 bs = Some (binary bs)
 scalar_in code.Vbin32 bs = Some (binary bs)
 scalar_in code.Str8 bs = text string bs

@@ -11,9 +11,9 @@ use Rattle.amqp_ser.specs.Tree.{Scalar, Descriptor, Tree, Pairs, trees_of, no_pa
 use Rattle.amqp_value.specs.Image.{insert_tree}
 use Rattle.amqp_decode.specs.Codes.{is_primitive, shape_of_code}
 use Rattle.amqp_decode.specs.Scalars.{scalar_in}
-use Rattle.amqp_decode.specs.declared.shape.Count.{Count}
-use Rattle.amqp_decode.specs.declared.shape.Count.TheVariants.{Absent, OneByte, FourBytes}
-use Rattle.amqp_decode.specs.declared.shape.Shape.TheVariants as shape
+use Rattle.amqp_decode.specs.declared.payload_shape.Count.{Count}
+use Rattle.amqp_decode.specs.declared.payload_shape.Count.TheVariants.{Absent, OneByte, FourBytes}
+use Rattle.amqp_decode.specs.declared.payload_shape.PayloadShape.TheVariants as shape
 
 -- a number in four bytes
 pub data IsNumber : List ℕ → ℕ → Type 0 where
@@ -47,42 +47,42 @@ mutual
   -- than its deepest part, a described value one more than its value
   pub data Spells : ℕ → List ℕ → Tree → Type 0 where
     primitive : (depth : ℕ) (code : EncodingCodes) (payload content : List ℕ) (t : Tree) → IsTrue (is_primitive code)
-        → IsPayload (category (code_of code)) payload content → Holds depth code content t → Spells depth (code_of code ∷ payload) t
+        → IsPayload (category (code_of code)) payload content → SpellsContent depth code content t → Spells depth (code_of code ∷ payload) t
     described : (depth : ℕ) (a b : List ℕ) (d : Descriptor) (t : Tree)
         → IsDescriptor a d → Spells depth b t → Spells (suc depth) (0 ∷ (a ++ b)) (tree.described d t)
 
   -- the content of the code's payload stands for the tree: elements, pairs and items fill it
-  pub data Holds : ℕ → EncodingCodes → List ℕ → Tree → Type 0 where
+  pub data SpellsContent : ℕ → EncodingCodes → List ℕ → Tree → Type 0 where
     a_scalar : (depth : ℕ) (code : EncodingCodes) (content : List ℕ) (s : Scalar)
-        → shape_of_code code ≡ shape.Scalar → scalar_in code content ≡ Some s → Holds (suc depth) code content (tree.scalar s)
+        → shape_of_code code ≡ shape.Scalar → scalar_in code content ≡ Some s → SpellsContent (suc depth) code content (tree.scalar s)
     a_list : (depth : ℕ) (code : EncodingCodes) (count : Count) (content : List ℕ) (n : ℕ) (body : List ℕ) (ts : List Tree)
-        → shape_of_code code ≡ shape.List count → IsCounted count content n body → Elements depth n body ts
-        → Holds (suc depth) code content (tree.list (trees_of ts))
+        → shape_of_code code ≡ shape.List count → IsCounted count content n body → SpellsElements depth n body ts
+        → SpellsContent (suc depth) code content (tree.list (trees_of ts))
     a_map : (depth : ℕ) (code : EncodingCodes) (count : Count) (content : List ℕ) (n : ℕ) (body : List ℕ) (ps : Pairs)
-        → shape_of_code code ≡ shape.Map count → IsCounted count content (2 * n) body → Entries depth n body no_pairs ps
-        → Holds (suc depth) code content (tree.map ps)
+        → shape_of_code code ≡ shape.Map count → IsCounted count content (2 * n) body → SpellsEntries depth n body no_pairs ps
+        → SpellsContent (suc depth) code content (tree.map ps)
     a_bare_array : (depth : ℕ) (code : EncodingCodes) (count : Count) (content : List ℕ)
-        → shape_of_code code ≡ shape.Array count → IsCounted count content 0 [] → Holds (suc depth) code content (tree.array (trees_of []))
+        → shape_of_code code ≡ shape.Array count → IsCounted count content 0 [] → SpellsContent (suc depth) code content (tree.array (trees_of []))
     an_array : (depth : ℕ) (code : EncodingCodes) (count : Count) (content : List ℕ) (n : ℕ) (constructor : EncodingCodes) (items : List ℕ) (ts : List Tree)
         → shape_of_code code ≡ shape.Array count → IsCounted count content n (code_of constructor ∷ items) → IsTrue (is_primitive constructor)
-        → Items depth constructor n items ts → Holds (suc depth) code content (tree.array (trees_of ts))
+        → SpellsItems depth constructor n items ts → SpellsContent (suc depth) code content (tree.array (trees_of ts))
 
   -- so many encoded values one after another
-  pub data Elements : ℕ → ℕ → List ℕ → List Tree → Type 0 where
-    no_element : (depth : ℕ) → Elements depth 0 [] []
+  pub data SpellsElements : ℕ → ℕ → List ℕ → List Tree → Type 0 where
+    no_element : (depth : ℕ) → SpellsElements depth 0 [] []
     element : (depth n : ℕ) (a b : List ℕ) (t : Tree) (ts : List Tree)
-        → Spells depth a t → Elements depth n b ts → Elements depth (suc n) (a ++ b) (t ∷ ts)
+        → Spells depth a t → SpellsElements depth n b ts → SpellsElements depth (suc n) (a ++ b) (t ∷ ts)
 
   -- so many payloads of one code
-  pub data Items : ℕ → EncodingCodes → ℕ → List ℕ → List Tree → Type 0 where
-    no_item : (depth : ℕ) (code : EncodingCodes) → Items depth code 0 [] []
+  pub data SpellsItems : ℕ → EncodingCodes → ℕ → List ℕ → List Tree → Type 0 where
+    no_item : (depth : ℕ) (code : EncodingCodes) → SpellsItems depth code 0 [] []
     item : (depth : ℕ) (code : EncodingCodes) (n : ℕ) (payload content b : List ℕ) (t : Tree) (ts : List Tree)
-        → IsPayload (category (code_of code)) payload content → Holds depth code content t → Items depth code n b ts
-        → Items depth code (suc n) (payload ++ b) (t ∷ ts)
+        → IsPayload (category (code_of code)) payload content → SpellsContent depth code content t → SpellsItems depth code n b ts
+        → SpellsItems depth code (suc n) (payload ++ b) (t ∷ ts)
 
   -- so many keys and values in turn, inserted into the pairs that are there: a present key keeps its place
-  pub data Entries : ℕ → ℕ → List ℕ → Pairs → Pairs → Type 0 where
-    no_entry : (depth : ℕ) (done : Pairs) → Entries depth 0 [] done done
+  pub data SpellsEntries : ℕ → ℕ → List ℕ → Pairs → Pairs → Type 0 where
+    no_entry : (depth : ℕ) (done : Pairs) → SpellsEntries depth 0 [] done done
     entry : (depth n : ℕ) (a b rest : List ℕ) (k v : Tree) (done ps : Pairs)
-        → Spells depth a k → Spells depth b v → Entries depth n rest (insert_tree done k v) ps
-        → Entries depth (suc n) (a ++ (b ++ rest)) done ps
+        → Spells depth a k → Spells depth b v → SpellsEntries depth n rest (insert_tree done k v) ps
+        → SpellsEntries depth (suc n) (a ++ (b ++ rest)) done ps

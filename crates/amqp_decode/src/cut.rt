@@ -5,7 +5,7 @@ ghost use Rattle.amqp_data.specs.FormatCode.{code_of};
 ghost use Rattle.amqp_frame.specs.Code.{category};
 ghost use Rattle.amqp_decode.specs.Parsed.{cut, number_at, sized_at, content_at, counted_in};
 
-use crate::shape::Count;
+use crate::payload_shape::Count;
 use amqp_data::{EncodingCodes, Error};
 
 // So many bytes, and those after them.
@@ -26,8 +26,8 @@ fn read_number(wide: bool, bytes: &[u8]) -> Result<(u32, &[u8]), Error>
     ensures err { IfErr result (λ e. number_at wide bytes.now ≡ None) }
 {
     if wide {
-        let (front, rest) = cut_at(bytes, 4)?;
-        let number = u32::from_be_bytes([front[0], front[1], front[2], front[3]]);
+        let (prefix, rest) = cut_at(bytes, 4)?;
+        let number = u32::from_be_bytes([prefix[0], prefix[1], prefix[2], prefix[3]]);
         Ok((number, rest))
     } else {
         match bytes.split_first() {

@@ -2,7 +2,7 @@
 
 ghost use Rattle.std.specs.Prelude.{◌≡◌, ◌≤◌, ℕ, List, true};
 ghost use Rattle.amqp_frame.specs.Frame.{IsFrame};
-ghost use Rattle.amqp_ser.specs.Encoding.{enc};
+ghost use Rattle.amqp_ser.specs.Encoding.{encoding};
 ghost use Rattle.amqp_ser.specs.Ranged.{IsRanged};
 ghost use Rattle.amqp_ser.specs.Tree.{Tree};
 ghost use Rattle.amqp_ser.specs.Writable.{writable};
@@ -25,17 +25,17 @@ pub fn spelled_frame()
 /// The bytes of a tree spell its image, where the tree can be written and nothing in it is lazy or transparent.
 pub fn own_bytes()
     ensures { (t : Tree) (d : ℕ) → IsRanged t → writable t ≡ true →
-        IsOrdinary t → depth_of t ≤ d → Spells d (enc t) (image t) }
+        IsOrdinary t → depth_of t ≤ d → Spells d (encoding t) (image t) }
 {}
 
 /// Two trees that can be written and have nothing lazy or transparent in them have one image where they have the same
 /// bytes, at whatever depths.
 pub fn same_bytes_same_image()
     ensures { (t u : Tree) → IsRanged t → IsRanged u → writable t ≡ true → writable u ≡ true →
-        IsOrdinary t → IsOrdinary u → enc t ≡ enc u → image t ≡ image u }
+        IsOrdinary t → IsOrdinary u → encoding t ≡ encoding u → image t ≡ image u }
 {}
 
 /// Plain trees have the same bytes where they have one image.
 pub fn same_image_same_bytes()
-    ensures { (t u : Tree) → IsPlain t → IsPlain u → image t ≡ image u → enc t ≡ enc u }
+    ensures { (t u : Tree) → IsPlain t → IsPlain u → image t ≡ image u → encoding t ≡ encoding u }
 {}

@@ -6,11 +6,11 @@
 #![tactic(auto)]
 
 mod cut;
-mod gathered;
 pub mod laws;
+mod map_value;
+mod payload_shape;
 mod read;
 mod scalar;
-mod shape;
 #[cfg(test)]
 mod tests;
 

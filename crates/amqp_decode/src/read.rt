@@ -4,13 +4,13 @@ ghost use Rattle.std.specs.Prelude.{◌≡◌, ℕ, IfOk, IfErr, Some, None};
 ghost use Rattle.amqp_data.specs.declared.error.Error.TheVariants.{OutOfMemory};
 ghost use Rattle.amqp_ser.specs.Tree.{Tree};
 ghost use Rattle.amqp_value.specs.TreeOf.{tree_of};
-ghost use Rattle.amqp_decode.specs.Parsed.{parse, held, payload_in, content_of, frame_in, list_in, map_in, array_in};
+ghost use Rattle.amqp_decode.specs.Parsed.{parse, parse_content, payload_in, content_of, frame_in, parse_list, parse_map, parse_array};
 ghost use Rattle.amqp_decode.specs.Spells.{Spells};
 
 use crate::cut::{read_count, read_payload};
-use crate::gathered::map_of;
+use crate::map_value::map_value;
+use crate::payload_shape::{PayloadShape, payload_shape, primitive_code};
 use crate::scalar::{read_descriptor, read_scalar};
-use crate::shape::{Shape, primitive_code, shape_of};
 use amqp_data::{Array, Described, EncodingCodes, Error};
 use amqp_value::Value;
 use indexmap::IndexMap;
@@ -68,9 +68,9 @@ fn read_frame_over<'a>(
     depth: u16,
 ) -> Result<(Value, &'a [u8]), Error>
     ensures ok { IfOk result (λ r.
-        frame_in (parse depth) (held depth) bytes.now ≡ Some (tree_of r.0, r.1.now)) }
+        frame_in (parse depth) (parse_content depth) bytes.now ≡ Some (tree_of r.0, r.1.now)) }
     ensures err { IfErr result (λ e. ¬ (e ≡ OutOfMemory) →
-        frame_in (parse depth) (held depth) bytes.now ≡ None) }
+        frame_in (parse depth) (parse_content depth) bytes.now ≡ None) }
 {
     match bytes.split_first() {
         None => Err(Error::UnexpectedEof),
@@ -98,9 +98,9 @@ fn read_item<'a>(
     depth: u16,
 ) -> Result<(Value, &'a [u8]), Error>
     ensures ok { IfOk result (λ r.
-        payload_in (held depth) code bytes.now ≡ Some (tree_of r.0, r.1.now)) }
+        payload_in (parse_content depth) code bytes.now ≡ Some (tree_of r.0, r.1.now)) }
     ensures err { IfErr result (λ e. ¬ (e ≡ OutOfMemory) →
-        payload_in (held depth) code bytes.now ≡ None) }
+        payload_in (parse_content depth) code bytes.now ≡ None) }
 {
     let (content, rest) = read_payload(code, bytes)?;
     let value = read_content(alloc, code, content, depth)?;
@@ -115,8 +115,8 @@ fn read_content(
     content: &[u8],
     depth: u16,
 ) -> Result<Value, Error>
-    ensures ok { IfOk result (λ v. held depth code content.now ≡ Some (tree_of v)) }
-    ensures err { IfErr result (λ e. ¬ (e ≡ OutOfMemory) → held depth code content.now ≡ None) }
+    ensures ok { IfOk result (λ v. parse_content depth code content.now ≡ Some (tree_of v)) }
+    ensures err { IfErr result (λ e. ¬ (e ≡ OutOfMemory) → parse_content depth code content.now ≡ None) }
 {
     if depth == 0 {
         return Err(Error::InvalidValue);
@@ -133,22 +133,22 @@ fn read_content_over(
     depth: u16,
 ) -> Result<Value, Error>
     ensures ok { IfOk result (λ v.
-        content_of (parse depth) (held depth) code content.now ≡ Some (tree_of v)) }
+        content_of (parse depth) (parse_content depth) code content.now ≡ Some (tree_of v)) }
     ensures err { IfErr result (λ e. ¬ (e ≡ OutOfMemory) →
-        content_of (parse depth) (held depth) code content.now ≡ None) }
+        content_of (parse depth) (parse_content depth) code content.now ≡ None) }
 {
-    match shape_of(code) {
-        Shape::Described => Err(Error::InvalidValue),
-        Shape::Scalar => read_scalar(alloc, code, content),
-        Shape::List(count) => {
+    match payload_shape(code) {
+        PayloadShape::Described => Err(Error::InvalidValue),
+        PayloadShape::Scalar => read_scalar(alloc, code, content),
+        PayloadShape::List(count) => {
             let (count, body) = read_count(count, content)?;
             read_list(alloc, count, body, depth)
         }
-        Shape::Map(count) => {
+        PayloadShape::Map(count) => {
             let (count, body) = read_count(count, content)?;
             read_map(alloc, count, body, depth)
         }
-        Shape::Array(count) => {
+        PayloadShape::Array(count) => {
             let (count, body) = read_count(count, content)?;
             read_array(alloc, count, body, depth)
         }
@@ -158,9 +158,9 @@ fn read_content_over(
 // The list of so many encoded values, which fill the body.
 #[cycle(read)]
 fn read_list(alloc: Global, count: u32, body: &[u8], depth: u16) -> Result<Value, Error>
-    ensures ok { IfOk result (λ v. list_in (parse depth) (count, body.now) ≡ Some (tree_of v)) }
+    ensures ok { IfOk result (λ v. parse_list (parse depth) (count, body.now) ≡ Some (tree_of v)) }
     ensures err { IfErr result (λ e. ¬ (e ≡ OutOfMemory) →
-        list_in (parse depth) (count, body.now) ≡ None) }
+        parse_list (parse depth) (count, body.now) ≡ None) }
 {
     let mut items = Vec::new(alloc);
     let mut rest = body;
@@ -179,9 +179,9 @@ fn read_list(alloc: Global, count: u32, body: &[u8], depth: u16) -> Result<Value
 // The map of so many encoded values, keys and values in turn, which fill the body.
 #[cycle(read)]
 fn read_map(alloc: Global, count: u32, body: &[u8], depth: u16) -> Result<Value, Error>
-    ensures ok { IfOk result (λ v. map_in (parse depth) (count, body.now) ≡ Some (tree_of v)) }
+    ensures ok { IfOk result (λ v. parse_map (parse depth) (count, body.now) ≡ Some (tree_of v)) }
     ensures err { IfErr result (λ e. ¬ (e ≡ OutOfMemory) →
-        map_in (parse depth) (count, body.now) ≡ None) }
+        parse_map (parse depth) (count, body.now) ≡ None) }
 {
     if count % 2 != 0 {
         return Err(Error::InvalidValue);
@@ -195,7 +195,7 @@ fn read_map(alloc: Global, count: u32, body: &[u8], depth: u16) -> Result<Value,
         rest = after;
     }
     if rest.is_empty() {
-        map_of(alloc, pairs)
+        map_value(alloc, pairs)
     } else {
         Err(Error::InvalidValue)
     }
@@ -204,9 +204,9 @@ fn read_map(alloc: Global, count: u32, body: &[u8], depth: u16) -> Result<Value,
 // The array of the values of so many payloads, which fill the body after their constructor.
 #[cycle(read)]
 fn read_array(alloc: Global, count: u32, body: &[u8], depth: u16) -> Result<Value, Error>
-    ensures ok { IfOk result (λ v. array_in (held depth) (count, body.now) ≡ Some (tree_of v)) }
+    ensures ok { IfOk result (λ v. parse_array (parse_content depth) (count, body.now) ≡ Some (tree_of v)) }
     ensures err { IfErr result (λ e. ¬ (e ≡ OutOfMemory) →
-        array_in (held depth) (count, body.now) ≡ None) }
+        parse_array (parse_content depth) (count, body.now) ≡ None) }
 {
     let mut items = Vec::new(alloc);
     match body.split_first() {

@@ -10,7 +10,7 @@ ghost use Rattle.amqp_decode.specs.Scalars.{next, single, exact, truth, characte
 ghost use Rattle.amqp_decode.specs.Parsed.{tree_descriptor, descriptor_at};
 
 use crate::cut::read_payload;
-use crate::shape::primitive_code;
+use crate::payload_shape::primitive_code;
 use amqp_data::{
     ByteBuf, Dec32, Dec64, Dec128, Descriptor, EncodingCodes, Error, F32Bits, F64Bits, Symbol,
     Timestamp, Uuid,

@@ -2,26 +2,26 @@
 use Rattle.std.proofs.Common.{◌≡◌, ℕ, zero, suc, ◌+◌, ◌<◌, List, [], ◌∷◌, ◌++◌, length, refl, sym, ap, ◌∙◌, append_assoc, arith, length-append}
 use Rattle.std.proofs.lemmas.List.{append-nil}
 use Rattle.std.specs.List.{AllByRecursion, concat}
-use Rattle.amqp_frame.specs.Frame.{IsFrame, IsBeginning, HasFrame}
+use Rattle.amqp_frame.specs.Frame.{IsFrame, IsIncomplete, HasFrame}
 use Rattle.amqp_frame.specs.Cut.{IsCut}
 use Rattle.amqp_frame.proofs.FirstFrame.{Outcome, cut, cut-means, Means}
-use Rattle.amqp_frame.proofs.FirstFrame.Outcome.{whole, broken, partial}
-use Rattle.amqp_frame.proofs.Fronts.{frame-frame, frame-broken, frame-beginning}
+use Rattle.amqp_frame.proofs.FirstFrame.Outcome.{whole, malformed, partial}
+use Rattle.amqp_frame.proofs.Prefixes.{frame-frame, frame-malformed, frame-incomplete}
 
 pub some-byte : (f : List ℕ) → IsFrame f → 0 < length f
-some-byte [] h = absurd (frame-beginning [] ([], [], h, refl) IsBeginning.nothing)
+some-byte [] h = absurd (frame-incomplete [] ([], [], h, refl) IsIncomplete.nothing)
 some-byte (x ∷ f) h = omega arith
 
 abbrev SomeCut : List ℕ → Type 0
 SomeCut s = (frames : List (List ℕ)) × (rest : List ℕ) × IsCut s frames rest
 
 no-cut : (s : List ℕ) → ¬ HasFrame s → SomeCut s
-no-cut s none = ([], s, record { whole = refl; each = tt; over = none })
+no-cut s none = ([], s, record { whole = refl; each = tt; no_frame = none })
 
 add-cut : (s f r : List ℕ) → IsFrame f → s ≡ f ++ r → SomeCut r → SomeCut s
 add-cut s f r h e (frames, rest, c) =
     let all = e ∙ ap (λ l. f ++ l) c.whole ∙ sym (append_assoc f (concat frames) rest) in
-    (f ∷ frames, rest, record { whole = all; each = (h, c.each); over = c.over })
+    (f ∷ frames, rest, record { whole = all; each = (h, c.each); no_frame = c.no_frame })
 
 cut-by : (s : List ℕ) → ((r : List ℕ) → length r < length s → SomeCut r) → (o : Outcome) → Means s o → SomeCut s
 cut-by s later (whole f r) m =
@@ -29,8 +29,8 @@ cut-by s later (whole f r) m =
     let e = ap length m.1 in
     let some = some-byte f m.0 in
     add-cut s f r m.0 m.1 (later r (omega arith))
-cut-by s later (broken b r) m = no-cut s (λ f. frame-broken s f (b, r, m.0, m.1))
-cut-by s later partial m = no-cut s (λ f. frame-beginning s f m)
+cut-by s later (malformed b r) m = no-cut s (λ f. frame-malformed s f (b, r, m.0, m.1))
+cut-by s later partial m = no-cut s (λ f. frame-incomplete s f m)
 
 pub some-cut-within : (n : ℕ) (s : List ℕ) → length s < n → SomeCut s
 some-cut-within zero s h = absurd (omega arith)
@@ -45,17 +45,17 @@ pub one-cut : (s rest last : List ℕ) (frames others : List (List ℕ)) → IsC
     → (frames ≡ others) × (rest ≡ last)
 one-cut s rest last [] [] c d = (refl, sym c.whole ∙ d.whole)
 one-cut s rest last [] (g ∷ others) c d =
-    absurd (c.over (g, concat others ++ last, d.each.0, sym c.whole ∙ d.whole ∙ append_assoc g (concat others) last))
+    absurd (c.no_frame (g, concat others ++ last, d.each.0, sym c.whole ∙ d.whole ∙ append_assoc g (concat others) last))
 one-cut s rest last (f ∷ frames) [] c d =
-    absurd (d.over (f, concat frames ++ rest, c.each.0, sym d.whole ∙ c.whole ∙ append_assoc f (concat frames) rest))
+    absurd (d.no_frame (f, concat frames ++ rest, c.each.0, sym d.whole ∙ c.whole ∙ append_assoc f (concat frames) rest))
 one-cut s rest last (f ∷ frames) (g ∷ others) c d =
     let x = concat frames ++ rest in
     let y = concat others ++ last in
     let e : f ++ x ≡ g ++ y = sym (append_assoc f (concat frames) rest) ∙ sym c.whole ∙ d.whole
     ∙ append_assoc g (concat others) last in
     let same = frame-frame f g x y c.each.0 d.each.0 e in
-    let c' : IsCut x frames rest = record { whole = refl; each = c.each.1; over = c.over } in
-    let d' : IsCut x others last = record { whole = same.1; each = d.each.1; over = d.over } in
+    let c' : IsCut x frames rest = record { whole = refl; each = c.each.1; no_frame = c.no_frame } in
+    let d' : IsCut x others last = record { whole = same.1; each = d.each.1; no_frame = d.no_frame } in
     let both = one-cut x rest last frames others c' d' in
     (cc, both.1)
 
@@ -66,4 +66,4 @@ none-in-nothing (f, r, h, e) =
     omega (arith, length-append f r)
 
 pub cut-back : (frames : List (List ℕ)) → AllByRecursion IsFrame frames → IsCut (concat frames) frames []
-cut-back frames each = record { whole = sym (append-nil (concat frames)); each = each; over = none-in-nothing }
+cut-back frames each = record { whole = sym (append-nil (concat frames)); each = each; no_frame = none-in-nothing }

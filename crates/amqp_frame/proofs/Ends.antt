@@ -3,13 +3,13 @@ use Rattle.std.proofs.Common.{◌≡◌, ℕ, ◌-◌, ◌<◌, ◌≤◌, false
 use Rattle.std.proofs.lemmas.List.{append-nil}
 use Rattle.std.specs.Io.KnownBytes.{Consumes}
 use Rattle.amqp_frame.specs.Code.{is_primitive_code, category, payload_len}
-use Rattle.amqp_frame.specs.Frame.{IsFrame, IsBeginning, IsBroken, HasFrame, HasBroken}
+use Rattle.amqp_frame.specs.Frame.{IsFrame, IsIncomplete, IsMalformed, HasFrame, HasMalformed}
 use Rattle.amqp_frame.specs.Reader.{Takes, RunsOut}
-use Rattle.amqp_frame.specs.Taking.{TakesBeginning, TakesBroken, Refuses, DecidedBy}
+use Rattle.amqp_frame.specs.Taking.{TakesIncomplete, TakesMalformed, FrameRefuses, DecidedBy}
 use Rattle.amqp_data.specs.declared.error.Error.{Error}
 use Rattle.amqp_data.specs.declared.error.Error.TheVariants.{OutOfMemory, TooLong, InvalidValue, InvalidFormatCode, UnexpectedEof, Io, Message}
-use Rattle.amqp_frame.proofs.Fronts.{frame-broken, frame-beginning, broken-beginning}
-use Rattle.amqp_frame.proofs.Open.{Open, open-less, open-broken, open-beginning}
+use Rattle.amqp_frame.proofs.Prefixes.{frame-malformed, frame-incomplete, malformed-incomplete}
+use Rattle.amqp_frame.proofs.Open.{Open, open-less, open-malformed, open-incomplete}
 use Rattle.amqp_frame.proofs.Taking.{FallsShort}
 
 no-bytes : (x : List ℕ) → length x < 1 → x ≡ []
@@ -17,26 +17,26 @@ no-bytes [] h = refl
 no-bytes (b ∷ x) h = absurd (omega arith)
 
 pub ends-at-code : (a b c : Option (List ℕ)) (taken : List ℕ) (n : ℕ) → Open taken n → 0 < n → Consumes a b taken
-    → RunsOut b c 1 → TakesBeginning a c
+    → RunsOut b c 1 → TakesIncomplete a c
 ends-at-code None b c taken n o pos t r = tt
 ends-at-code (Some s) None c taken n o pos t r = absurd t
 ends-at-code (Some s) (Some x) c taken n o pos t r =
     let all : s ≡ taken ++ [] = t ∙ ap (λ l. taken ++ l) (no-bytes x r.0) in
-    (rw all (open-beginning taken [] n pos IsBeginning.nothing o), r.1)
+    (rw all (open-incomplete taken [] n pos IsIncomplete.nothing o), r.1)
 
 pub ends-in-payload : (a b c : Option (List ℕ)) (taken : List ℕ) (code n : ℕ) → Open taken n → 0 < n
     → IsTrue (is_primitive_code code) → Consumes a b (taken ++ code ∷ []) → FallsShort (category code) b c
-    → TakesBeginning a c
+    → TakesIncomplete a c
 ends-in-payload None b c taken code n o pos ok t r = tt
 ends-in-payload (Some s) None c taken code n o pos ok t r = absurd t
 ends-in-payload (Some s) (Some x) c taken code n o pos ok t r =
     let all : s ≡ taken ++ (code ∷ x) = t ∙ append_assoc taken (code ∷ []) x in
-    (rw all (open-beginning taken (code ∷ x) n pos (IsBeginning.short code x ok r.0) o), r.1)
+    (rw all (open-incomplete taken (code ∷ x) n pos (IsIncomplete.short code x ok r.0) o), r.1)
 
 pub loses-code : (a b : Option (List ℕ)) (taken : List ℕ) (code n : ℕ) → Open taken n → 0 < n → 0 < code
-    → is_primitive_code code ≡ false → Consumes a b (taken ++ code ∷ []) → TakesBroken a b
+    → is_primitive_code code ≡ false → Consumes a b (taken ++ code ∷ []) → TakesMalformed a b
 loses-code a b taken code n o pos some bad t =
-    (taken ++ code ∷ [], open-broken taken (code ∷ []) n pos (IsBroken.refused code some bad) o, t)
+    (taken ++ code ∷ [], open-malformed taken (code ∷ []) n pos (IsMalformed.refused code some bad) o, t)
 
 pub keeps-primitive : (taken after : List ℕ) (code n : ℕ) (bytes : List ℕ) → Open taken n → 0 < n
     → IsTrue (is_primitive_code code) → length bytes ≡ payload_len (category code) bytes
@@ -52,15 +52,15 @@ grown taken after more bytes e = omega
 -- each answer excludes the cases of the others
 pub decided : {T : Type 0} (r : Result T Error) (P : T → List ℕ) (old new : Option (List ℕ)) (f g : ℕ)
     → IfOk r (λ v. IsFrame (P v) × Consumes old new (P v))
-    → IfErr r (Refuses old new f g (TakesBeginning old new) (TakesBroken old new)) → IfSome old (λ s. DecidedBy s r)
+    → IfErr r (FrameRefuses old new f g (TakesIncomplete old new) (TakesMalformed old new)) → IfSome old (λ s. DecidedBy s r)
 decided r P None new f g ok err = tt
 decided (Ok v) P (Some s) None f g ok err = absurd ok.1
 decided (Ok v) P (Some s) (Some x) f g ok err =
     let has : HasFrame s = (P v, x, ok.0, ok.1) in
     inr (inr (
       (λ _. has, λ _. refl),
-      (λ e. cc, λ b. absurd (frame-broken s has b)),
-      (λ e. cc, λ b. absurd (frame-beginning s has b)),
+      (λ e. cc, λ b. absurd (frame-malformed s has b)),
+      (λ e. cc, λ b. absurd (frame-incomplete s has b)),
     ))
 decided (Err OutOfMemory) P (Some s) new f g ok err = inl refl
 decided (Err Io) P (Some s) new f g ok err = inr (inl refl)
@@ -69,22 +69,22 @@ decided (Err InvalidValue) P (Some s) new f g ok err = absurd err
 decided (Err (Message words)) P (Some s) new f g ok err = absurd err
 decided (Err InvalidFormatCode) P (Some s) None f g ok err = absurd err.2
 decided (Err InvalidFormatCode) P (Some s) (Some x) f g ok err =
-    let has : HasBroken s = (err.0, x, err.1, err.2) in
+    let has : HasMalformed s = (err.0, x, err.1, err.2) in
     inr (inr (
-      (λ e. cc, λ h. absurd (frame-broken s h has)),
+      (λ e. cc, λ h. absurd (frame-malformed s h has)),
       (λ _. has, λ _. refl),
-      (λ e. cc, λ b. absurd (broken-beginning s has b)),
+      (λ e. cc, λ b. absurd (malformed-incomplete s has b)),
     ))
 decided (Err UnexpectedEof) P (Some s) new f g ok err =
     inr (inr (
-      (λ e. cc, λ h. absurd (frame-beginning s h err.0)),
-      (λ e. cc, λ b. absurd (broken-beginning s b err.0)),
+      (λ e. cc, λ h. absurd (frame-incomplete s h err.0)),
+      (λ e. cc, λ b. absurd (malformed-incomplete s b err.0)),
       (λ _. err.0, λ _. refl),
     ))
 
 -- no refusal loses a byte
 pub kept : {T : Type 0} (r : Result T Error) (old new : Option (List ℕ)) (f g : ℕ)
-    → IfErr r (Refuses old new f g (TakesBeginning old new) (TakesBroken old new)) → OnErr r (Takes old new)
+    → IfErr r (FrameRefuses old new f g (TakesIncomplete old new) (TakesMalformed old new)) → OnErr r (Takes old new)
 kept (Ok v) old new f g err = tt
 kept (Err OutOfMemory) old new f g err = err
 kept (Err Io) old new f g err = err.0

@@ -11,12 +11,12 @@ use borrow.Rule.Slice.PartMut.{put_mid, post_of}
 pub fills-more : (a b c : Option (List ℕ)) (at n k : ℕ) (buf part : List ℕ) → at ≤ length buf → n ≤ length part
     → Consumes a b (take at buf) → Consumes b c (take n part) → Consumes a c (take (at + n) (put_mid at k buf part))
 fills-more a b c at n k buf part within fits was now =
-    let front : length (take at buf) ≡ at = omega (arith, length-take at buf) in
+    let prefix : length (take at buf) ≡ at = omega (arith, length-take at buf) in
     let joined : take (length (take at buf) + n) (take at buf ++ (part ++ post_of at k buf)) ≡ take at buf ++ take n
     (part ++ post_of at k buf) = take-append-add (take at buf) (part ++ post_of at k buf) n in
     let rest : take n (part ++ post_of at k buf) ≡ take n part = take-append-le n part (post_of at k buf) fits in
     let whole : take (at + n) (put_mid at k buf part) ≡ take at buf ++ take n part
-    = ap (λ m. take (m + n) (put_mid at k buf part)) (sym front) ∙ joined ∙ ap (λ l. take at buf ++ l) rest in
+    = ap (λ m. take (m + n) (put_mid at k buf part)) (sym prefix) ∙ joined ∙ ap (λ l. take at buf ++ l) rest in
     subst (Consumes a c) (sym whole) (Consumes-trans a b c _ _ was now)
 
 -- a byte that was looked at, and then what was read

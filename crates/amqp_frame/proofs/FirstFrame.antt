@@ -8,22 +8,22 @@ use Rattle.std.proofs.lemmas.Bool.Decides.{nat_tests}
 use Rattle.amqp_frame.specs.declared.code.Category.{Category}
 use Rattle.amqp_frame.specs.declared.code.Category.TheVariants.{Fixed, OneByteSize, FourByteSize}
 use Rattle.amqp_frame.specs.Code.{is_primitive_code, category, size_width, body_len, payload_len}
-use Rattle.amqp_frame.specs.Frame.{IsFrame, IsBeginning, IsBroken}
+use Rattle.amqp_frame.specs.Frame.{IsFrame, IsIncomplete, IsMalformed}
 
 pub data Outcome : Type 0 where
   whole : List ℕ → List ℕ → Outcome
-  broken : List ℕ → List ℕ → Outcome
+  malformed : List ℕ → List ℕ → Outcome
   partial : Outcome
 
 -- more bytes before what was taken
 abbrev pub shift : List ℕ → Outcome → Outcome
 shift d (whole f r) = whole (d ++ f) r
-shift d (broken f r) = broken (d ++ f) r
+shift d (malformed f r) = malformed (d ++ f) r
 shift d partial = partial
 
 abbrev pub join : (List ℕ → Outcome) → Outcome → Outcome
 join next (whole d r) = shift (0 ∷ d) (next r)
-join next (broken b r) = broken (0 ∷ b) r
+join next (malformed b r) = malformed (0 ∷ b) r
 join next partial = partial
 
 -- a code and its payload of n bytes, and what follows
@@ -35,7 +35,7 @@ fit_cut fits c s = cond fits (split_after (payload_len (category c) s) c s) part
 
 abbrev pub primitive_cut : ℕ → List ℕ → Outcome
 primitive_cut c s =
-    cond (is_primitive_code c) (fit_cut (leb (payload_len (category c) s) (length s)) c s) (broken (c ∷ []) s)
+    cond (is_primitive_code c) (fit_cut (leb (payload_len (category c) s) (length s)) c s) (malformed (c ∷ []) s)
 
 abbrev pub cut : ℕ → List ℕ → Outcome
 cut zero s = partial
@@ -55,15 +55,15 @@ body_len-take FourByteSize j s h =
     let h3 : 3 < j = omega arith in
     simp get_or-take
 
-pub body_len-front : (k : Category) (p x : List ℕ) → size_width k ≤ length p → body_len k (p ++ x) ≡ body_len k p
-body_len-front k p x h =
-    let front : body_len k (take (length p) (p ++ x)) ≡ body_len k (p ++ x) = body_len-take k (length p) (p ++ x) h in
+pub body_len-prefix : (k : Category) (p x : List ℕ) → size_width k ≤ length p → body_len k (p ++ x) ≡ body_len k p
+body_len-prefix k p x h =
+    let prefix : body_len k (take (length p) (p ++ x)) ≡ body_len k (p ++ x) = body_len-take k (length p) (p ++ x) h in
     let same : take (length p) (p ++ x) ≡ p = take-append_seam p x in
-    sym (rw same at front)
+    sym (rw same at prefix)
 
 pub payload_len-more : (k : Category) (p x : List ℕ) → payload_len k p ≤ length p
     → payload_len k (p ++ x) ≡ payload_len k p
-payload_len-more k p x h = ap (λ n. size_width k + n) (body_len-front k p x (omega arith))
+payload_len-more k p x h = ap (λ n. size_width k + n) (body_len-prefix k p x (omega arith))
 
 pub primitive-not-zero : (c : ℕ) → IsTrue (is_primitive_code c) → eqb c 0 ≡ false
 unfolding is_primitive_code
@@ -99,47 +99,47 @@ cut-frame (IsFrame.described d v fd fv) (suc n) x h =
     let second : cut n (v ++ x) ≡ whole v x = cut-frame fv n x (omega arith) in
     rw (first, second) refl
 
-pub cut-broken : {a : List ℕ} → IsBroken a → (n : ℕ) (x : List ℕ) → length a ≤ n → cut n (a ++ x) ≡ broken a x
-cut-broken (IsBroken.refused c pos bad) zero x h = absurd (omega arith)
-cut-broken (IsBroken.refused c pos bad) (suc n) x h = rw (positive-not-zero c pos, bad) refl
-cut-broken (IsBroken.in_descriptor b br) zero x h = absurd (omega arith)
-cut-broken (IsBroken.in_descriptor b br) (suc n) x h =
-    let first : cut n (b ++ x) ≡ broken b x = cut-broken br n x (omega arith) in
+pub cut-malformed : {a : List ℕ} → IsMalformed a → (n : ℕ) (x : List ℕ) → length a ≤ n → cut n (a ++ x) ≡ malformed a x
+cut-malformed (IsMalformed.refused c pos bad) zero x h = absurd (omega arith)
+cut-malformed (IsMalformed.refused c pos bad) (suc n) x h = rw (positive-not-zero c pos, bad) refl
+cut-malformed (IsMalformed.in_descriptor b br) zero x h = absurd (omega arith)
+cut-malformed (IsMalformed.in_descriptor b br) (suc n) x h =
+    let first : cut n (b ++ x) ≡ malformed b x = cut-malformed br n x (omega arith) in
     rw first refl
-cut-broken (IsBroken.in_value d b fd br) zero x h = absurd (omega arith)
-cut-broken (IsBroken.in_value d b fd br) (suc n) x h =
+cut-malformed (IsMalformed.in_value d b fd br) zero x h = absurd (omega arith)
+cut-malformed (IsMalformed.in_value d b fd br) (suc n) x h =
     let len = length-append d b in
     let first : cut n ((d ++ b) ++ x) ≡ whole d (b ++ x) = rw append_assoc (cut-frame fd n (b ++ x) (omega arith)) in
-    let second : cut n (b ++ x) ≡ broken b x = cut-broken br n x (omega arith) in
+    let second : cut n (b ++ x) ≡ malformed b x = cut-malformed br n x (omega arith) in
     rw (first, second) refl
 
-pub cut-beginning : {s : List ℕ} → IsBeginning s → (n : ℕ) → length s ≤ n → cut n s ≡ partial
-cut-beginning IsBeginning.nothing zero h = refl
-cut-beginning IsBeginning.nothing (suc n) h = refl
-cut-beginning (IsBeginning.short c p ok len) zero h = refl
-cut-beginning (IsBeginning.short c p ok len) (suc n) h = rw (primitive-not-zero c ok) (cut-short c p ok len)
-cut-beginning (IsBeginning.in_descriptor b be) zero h = refl
-cut-beginning (IsBeginning.in_descriptor b be) (suc n) h =
-    let first : cut n b ≡ partial = cut-beginning be n (omega arith) in
+pub cut-incomplete : {s : List ℕ} → IsIncomplete s → (n : ℕ) → length s ≤ n → cut n s ≡ partial
+cut-incomplete IsIncomplete.nothing zero h = refl
+cut-incomplete IsIncomplete.nothing (suc n) h = refl
+cut-incomplete (IsIncomplete.short c p ok len) zero h = refl
+cut-incomplete (IsIncomplete.short c p ok len) (suc n) h = rw (primitive-not-zero c ok) (cut-short c p ok len)
+cut-incomplete (IsIncomplete.in_descriptor b be) zero h = refl
+cut-incomplete (IsIncomplete.in_descriptor b be) (suc n) h =
+    let first : cut n b ≡ partial = cut-incomplete be n (omega arith) in
     rw first refl
-cut-beginning (IsBeginning.in_value d b fd be) zero h = refl
-cut-beginning (IsBeginning.in_value d b fd be) (suc n) h =
+cut-incomplete (IsIncomplete.in_value d b fd be) zero h = refl
+cut-incomplete (IsIncomplete.in_value d b fd be) (suc n) h =
     let len = length-append d b in
     let first : cut n (d ++ b) ≡ whole d b = cut-frame fd n b (omega arith) in
-    let second : cut n b ≡ partial = cut-beginning be n (omega arith) in
+    let second : cut n b ≡ partial = cut-incomplete be n (omega arith) in
     rw (first, second) refl
 
 -- What the function finds, the grammar says.
 
 abbrev pub Means : List ℕ → Outcome → Type 0
 Means s (whole f r) = IsFrame f × (s ≡ f ++ r)
-Means s (broken b r) = IsBroken b × (s ≡ b ++ r)
-Means s partial = IsBeginning s
+Means s (malformed b r) = IsMalformed b × (s ≡ b ++ r)
+Means s partial = IsIncomplete s
 
 shift-means : (d r : List ℕ) → IsFrame d → (o : Outcome) → Means r o → Means (0 ∷ d ++ r) (shift (0 ∷ d) o)
 shift-means d r fd (whole f x) m = (IsFrame.described d f fd m.0, rw (m.1, append_assoc) refl)
-shift-means d r fd (broken f x) m = (IsBroken.in_value d f fd m.0, rw (m.1, append_assoc) refl)
-shift-means d r fd partial m = IsBeginning.in_value d r fd m
+shift-means d r fd (malformed f x) m = (IsMalformed.in_value d f fd m.0, rw (m.1, append_assoc) refl)
+shift-means d r fd partial m = IsIncomplete.in_value d r fd m
 
 join-means : (s : List ℕ) (next : List ℕ → Outcome) → ((r : List ℕ) → length r ≤ length s → Means r (next r))
     → (o : Outcome) → Means s o → Means (0 ∷ s) (join next o)
@@ -147,8 +147,8 @@ join-means s next h (whole d r) m =
     let len = length-append d r in
     let e = ap length m.1 in
     rw m.1 (shift-means d r m.0 (next r) (h r (omega arith)))
-join-means s next h (broken b r) m = (IsBroken.in_descriptor b m.0, rw m.1 refl)
-join-means s next h partial m = IsBeginning.in_descriptor s m
+join-means s next h (malformed b r) m = (IsMalformed.in_descriptor b m.0, rw m.1 refl)
+join-means s next h partial m = IsIncomplete.in_descriptor s m
 
 primitive-means : (c : ℕ) (s : List ℕ) → 0 < c → Means (c ∷ s) (primitive_cut c s)
 primitive-means c s pos = by_code (is_primitive_code c) refl
@@ -162,16 +162,16 @@ primitive-means c s pos = by_code (is_primitive_code c) refl
         let same : payload_len (category c) (take m s) ≡ m
         = ap (λ n. size_width (category c) + n) (body_len-take (category c) m s (omega arith)) in
         (IsFrame.primitive c (take m s) ok (len ∙ sym same), rw take-append-drop refl)
-    by_len false ok e = IsBeginning.short c s ok (leb-false _ _ e)
+    by_len false ok e = IsIncomplete.short c s ok (leb-false _ _ e)
 
     by_code : (b : Bool) → is_primitive_code c ≡ b
-        → Means (c ∷ s) (cond b (fit_cut (leb (payload_len (category c) s) (length s)) c s) (broken (c ∷ []) s))
+        → Means (c ∷ s) (cond b (fit_cut (leb (payload_len (category c) s) (length s)) c s) (malformed (c ∷ []) s))
     by_code true e = by_len _ e refl
-    by_code false e = (IsBroken.refused c pos e, refl)
+    by_code false e = (IsMalformed.refused c pos e, refl)
 
 pub cut-means : (n : ℕ) (s : List ℕ) → length s < n → Means s (cut n s)
 cut-means zero s h = absurd (omega arith)
-cut-means (suc n) [] h = IsBeginning.nothing
+cut-means (suc n) [] h = IsIncomplete.nothing
 cut-means (suc n) (zero ∷ s) h = join-means s (cut n) (λ r k. cut-means n r (omega arith)) (cut n s)
     (cut-means n s (omega arith))
 cut-means (suc n) (suc c ∷ s) h = rw (positive-not-zero (suc c) (omega arith)) (primitive-means (suc c) s (omega arith))

@@ -1,5 +1,5 @@
 pub mod FirstFrame
-pub mod Fronts
+pub mod Prefixes
 pub mod Cuts
 pub mod Open
 pub mod Primitive

@@ -3,25 +3,25 @@ use Rattle.std.proofs.Common.{◌≡◌, ◌≢◌, ℕ, suc, ◌+◌, ◌-◌, 
 use Rattle.std.proofs.lemmas.List.{take-append-drop, take_more}
 use Rattle.std.proofs.Math.Seq.{take-add}
 use Rattle.amqp_frame.specs.Code.{is_primitive_code, category, body_len, payload_len}
-use Rattle.amqp_frame.specs.Frame.{IsFrame, IsBeginning, IsBroken, HasFrame, HasBroken}
+use Rattle.amqp_frame.specs.Frame.{IsFrame, IsIncomplete, IsMalformed, HasFrame, HasMalformed}
 use Rattle.amqp_frame.proofs.FirstFrame.{body_len-take}
-use Rattle.amqp_frame.proofs.Fronts.{frame-frame, frame-broken, frame-beginning}
-use Rattle.amqp_frame.proofs.Open.{Open, open-less, open-more, open-broken, open-beginning}
+use Rattle.amqp_frame.proofs.Prefixes.{frame-frame, frame-malformed, frame-incomplete}
+use Rattle.amqp_frame.proofs.Open.{Open, open-less, open-more, open-malformed, open-incomplete}
 
-pub front-refused : (bs : List ℕ) → 0 < length bs → slice_index bs 0 ≢ 0 → is_primitive_code (slice_index bs 0) ≡ false
-    → HasBroken bs
-front-refused [] some code bad = absurd (omega arith)
-front-refused (c ∷ p) some code bad = (c ∷ [], p, IsBroken.refused c (omega arith) bad, refl)
+pub prefix-refused : (bs : List ℕ) → 0 < length bs → slice_index bs 0 ≢ 0 → is_primitive_code (slice_index bs 0) ≡ false
+    → HasMalformed bs
+prefix-refused [] some code bad = absurd (omega arith)
+prefix-refused (c ∷ p) some code bad = (c ∷ [], p, IsMalformed.refused c (omega arith) bad, refl)
 
-pub front-short : (bs : List ℕ) → 0 < length bs → IsTrue (is_primitive_code (slice_index bs 0))
-    → length (drop 1 bs) < payload_len (category (slice_index bs 0)) (drop 1 bs) → IsBeginning bs
-front-short [] some ok short = absurd (omega arith)
-front-short (c ∷ p) some ok short = IsBeginning.short c p ok short
+pub prefix-short : (bs : List ℕ) → 0 < length bs → IsTrue (is_primitive_code (slice_index bs 0))
+    → length (drop 1 bs) < payload_len (category (slice_index bs 0)) (drop 1 bs) → IsIncomplete bs
+prefix-short [] some ok short = absurd (omega arith)
+prefix-short (c ∷ p) some ok short = IsIncomplete.short c p ok short
 
-pub front-frame : (bs : List ℕ) (n : ℕ) → 0 < length bs → IsTrue (is_primitive_code (slice_index bs 0))
+pub prefix-frame : (bs : List ℕ) (n : ℕ) → 0 < length bs → IsTrue (is_primitive_code (slice_index bs 0))
     → n ≡ payload_len (category (slice_index bs 0)) (drop 1 bs) → n ≤ length (drop 1 bs) → IsFrame (take (1 + n) bs)
-front-frame [] n some ok len fits = absurd (omega arith)
-front-frame (c ∷ p) n some ok len fits =
+prefix-frame [] n some ok len fits = absurd (omega arith)
+prefix-frame (c ∷ p) n some ok len fits =
     let k = category c in
     let same : body_len k (take n p) ≡ body_len k p = body_len-take k n p (omega arith) in
     let size : length (take n p) ≡ n = omega (arith, length-take n p) in
@@ -29,21 +29,21 @@ front-frame (c ∷ p) n some ok len fits =
     rw e (IsFrame.primitive c (take n p) ok (omega arith))
 
 -- where no encoded value can come
-pub open-none : (s : List ℕ) (at n : ℕ) → 0 < n → Open (take at s) n → HasBroken (drop at s) ⊎ IsBeginning (drop at s)
+pub open-none : (s : List ℕ) (at n : ℕ) → 0 < n → Open (take at s) n → HasMalformed (drop at s) ⊎ IsIncomplete (drop at s)
     → ¬ HasFrame s
 open-none s at n pos o (inl (b, r, br, e)) has =
     let all : s ≡ (take at s ++ b) ++ r = sym (take-append-drop at s) ∙ ap (λ l. take at s ++ l) e
     ∙ sym (append_assoc (take at s) b r) in
-    frame-broken s has (take at s ++ b, r, open-broken _ _ _ pos br o, all)
+    frame-malformed s has (take at s ++ b, r, open-malformed _ _ _ pos br o, all)
 open-none s at n pos o (inr be) has =
-    let whole : IsBeginning s = rw (take-append-drop at s) at (open-beginning (take at s) (drop at s) n pos be o) in
-    frame-beginning s has whole
+    let whole : IsIncomplete s = rw (take-append-drop at s) at (open-incomplete (take at s) (drop at s) n pos be o) in
+    frame-incomplete s has whole
 
 -- an encoded value that is a prefix is that prefix
-pub only-length : (s front rest : List ℕ) (n : ℕ) → n ≤ length s → IsFrame (take n s) → IsFrame front
-    → s ≡ front ++ rest → n ≡ length front
-only-length s front rest n within f g e =
-    let same = frame-frame (take n s) front (drop n s) rest f g (take-append-drop n s ∙ e) in
+pub only-length : (s prefix rest : List ℕ) (n : ℕ) → n ≤ length s → IsFrame (take n s) → IsFrame prefix
+    → s ≡ prefix ++ rest → n ≡ length prefix
+only-length s prefix rest n within f g e =
+    let same = frame-frame (take n s) prefix (drop n s) rest f g (take-append-drop n s ∙ e) in
     let size : length (take n s) ≡ n = omega (arith, length-take n s) in
     sym size ∙ ap length same.0
 

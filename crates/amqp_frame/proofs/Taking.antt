@@ -10,8 +10,8 @@ use Rattle.amqp_data.specs.declared.error.Error.TheVariants.{OutOfMemory, TooLon
 use Rattle.amqp_frame.specs.declared.code.Category.{Category}
 use Rattle.amqp_frame.specs.Code.{size_width, body_len, payload_len}
 use Rattle.amqp_frame.specs.Reader.{Failed, RunsOut}
-use Rattle.amqp_frame.specs.Taking.{Refuses, Moves}
-use Rattle.amqp_frame.proofs.FirstFrame.{body_len-front}
+use Rattle.amqp_frame.specs.Taking.{FrameRefuses, Moves}
+use Rattle.amqp_frame.proofs.FirstFrame.{body_len-prefix}
 
 failed-later : (f g h : ℕ) → f ≤ g → g ≤ h → Failed g h → Failed f h
 failed-later f g h fg gh (inl rose) = inl (omega arith)
@@ -20,7 +20,7 @@ failed-later f g h fg gh (inr last) =
 
 -- a call that refuses, after bytes were taken
 pub refuses-later : (a b c : Option (List ℕ)) (f g h : ℕ) (taken : List ℕ) {E E' C C' : Type 0} → Consumes a b taken
-    → f ≤ g → g ≤ h → (E → E') → (C → C') → (e : Error) → Refuses b c g h E C e → Refuses a c f h E' C' e
+    → f ≤ g → g ≤ h → (E → E') → (C → C') → (e : Error) → FrameRefuses b c g h E C e → FrameRefuses a c f h E' C' e
 refuses-later a b c f g h taken t fg gh at_end at_code OutOfMemory (more, r) =
     (taken ++ more, Consumes-trans a b c taken more t r)
 refuses-later a b c f g h taken t fg gh at_end at_code TooLong r = r
@@ -33,7 +33,7 @@ refuses-later a b c f g h taken t fg gh at_end at_code (Message words) r = r
 
 pub refuses-last : {T : Type 0} (r : Result T Error) (a b c : Option (List ℕ)) (f g h : ℕ)
     (taken : List ℕ) {E E' C C' : Type 0} → Consumes a b taken → f ≤ g → g ≤ h → (E → E') → (C → C')
-    → IfErr r (Refuses b c g h E C) → IfErr r (Refuses a c f h E' C')
+    → IfErr r (FrameRefuses b c g h E C) → IfErr r (FrameRefuses a c f h E' C')
 refuses-last (Ok x) a b c f g h taken t fg gh at_end at_code r = tt
 refuses-last (Err e) a b c f g h taken t fg gh at_end at_code r = refuses-later a b c f g h taken t fg gh at_end at_code
     e r
@@ -59,7 +59,7 @@ falls-short-body k None b c head n t len e r = tt
 falls-short-body k (Some s) None c head n t len e r = absurd t
 falls-short-body k (Some s) (Some x) c head n t len e r =
     let size : length s ≡ length head + length x = ap length t ∙ length-append head x in
-    let told : body_len k s ≡ body_len k head = ap (body_len k) t ∙ body_len-front k head x (omega arith) in
+    let told : body_len k s ≡ body_len k head = ap (body_len k) t ∙ body_len-prefix k head x (omega arith) in
     (omega (arith, r.0), r.1)
 
 pub moves-payload : {T : Type 0} (r : Result T Error) (k : Category) (a b c : Option (List ℕ))
@@ -67,7 +67,7 @@ pub moves-payload : {T : Type 0} (r : Result T Error) (k : Category) (a b c : Op
     → n ≡ body_len k head → OnOk r (Moves b c mid after (λ bytes. length bytes ≡ n))
     → OnOk r (Moves a c before after (λ bytes. length bytes ≡ payload_len k bytes))
 moves-payload (Ok x) k a b c before mid after head n t m len e (body, u, v, size) =
-    let told : body_len k (head ++ body) ≡ body_len k head = body_len-front k head body (omega arith) in
+    let told : body_len k (head ++ body) ≡ body_len k head = body_len-prefix k head body (omega arith) in
     let whole : after ≡ before ++ (head ++ body) = v ∙ ap (λ l. l ++ body) m ∙ append_assoc before head body in
     (head ++ body, Consumes-trans a b c head body t u, whole, omega (arith, length-append head body))
 moves-payload (Err d) k a b c before mid after head n t m len e h = tt

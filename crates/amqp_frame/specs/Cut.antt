@@ -7,4 +7,4 @@ use Rattle.amqp_frame.specs.Frame.{IsFrame, HasFrame}
 pub record IsCut (s : List ℕ) (frames : List (List ℕ)) (rest : List ℕ) : Type 0 where
   pub whole : s ≡ concat frames ++ rest
   pub each : AllByRecursion IsFrame frames
-  pub over : ¬ HasFrame rest
+  pub no_frame : ¬ HasFrame rest

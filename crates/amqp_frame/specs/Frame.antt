@@ -10,28 +10,28 @@ pub data IsFrame : List ℕ → Type 0 where
   described : (descriptor value : List ℕ) → IsFrame descriptor → IsFrame value → IsFrame (0 ∷ descriptor ++ value)
 
 -- incomplete: less than an encoded value, which more bytes can complete (sections 1.2.1 to 1.2.4)
-pub data IsBeginning : List ℕ → Type 0 where
-  nothing : IsBeginning []
+pub data IsIncomplete : List ℕ → Type 0 where
+  nothing : IsIncomplete []
   short : (code : ℕ) (payload : List ℕ) → IsTrue (is_primitive_code code)
-      → length payload < payload_len (category code) payload → IsBeginning (code ∷ payload)
-  in_descriptor : (bytes : List ℕ) → IsBeginning bytes → IsBeginning (0 ∷ bytes)
-  in_value : (descriptor bytes : List ℕ) → IsFrame descriptor → IsBeginning bytes
-      → IsBeginning (0 ∷ descriptor ++ bytes)
+      → length payload < payload_len (category code) payload → IsIncomplete (code ∷ payload)
+  in_descriptor : (bytes : List ℕ) → IsIncomplete bytes → IsIncomplete (0 ∷ bytes)
+  in_value : (descriptor bytes : List ℕ) → IsFrame descriptor → IsIncomplete bytes
+      → IsIncomplete (0 ∷ descriptor ++ bytes)
 
 -- malformed: a refused code stands where a value was to begin, and ends the bytes (section 1.2)
-pub data IsBroken : List ℕ → Type 0 where
-  refused : (code : ℕ) → 0 < code → IsFalse (is_primitive_code code) → IsBroken (code ∷ [])
-  in_descriptor : (bytes : List ℕ) → IsBroken bytes → IsBroken (0 ∷ bytes)
-  in_value : (descriptor bytes : List ℕ) → IsFrame descriptor → IsBroken bytes
-      → IsBroken (0 ∷ descriptor ++ bytes)
+pub data IsMalformed : List ℕ → Type 0 where
+  refused : (code : ℕ) → 0 < code → IsFalse (is_primitive_code code) → IsMalformed (code ∷ [])
+  in_descriptor : (bytes : List ℕ) → IsMalformed bytes → IsMalformed (0 ∷ bytes)
+  in_value : (descriptor bytes : List ℕ) → IsFrame descriptor → IsMalformed bytes
+      → IsMalformed (0 ∷ descriptor ++ bytes)
 
 -- a prefix of the bytes is an encoded value
 abbrev pub HasFrame : List ℕ → Type 0
-HasFrame s = (front rest : List ℕ) × IsFrame front × (s ≡ front ++ rest)
+HasFrame s = (prefix rest : List ℕ) × IsFrame prefix × (s ≡ prefix ++ rest)
 
 -- a prefix of the bytes is malformed
-abbrev pub HasBroken : List ℕ → Type 0
-HasBroken s = (front rest : List ℕ) × IsBroken front × (s ≡ front ++ rest)
+abbrev pub HasMalformed : List ℕ → Type 0
+HasMalformed s = (prefix rest : List ℕ) × IsMalformed prefix × (s ≡ prefix ++ rest)
 
 -- one of the three holds, and no other
 abbrev pub ExactlyOne : Type 0 → Type 0 → Type 0 → Type 0

@@ -3,7 +3,7 @@ use Rattle.std.specs.Prelude.{◌≡◌, ℕ, ◌⊎◌, ◌↔◌, List, [], �
 use Rattle.std.specs.Io.KnownBytes.{Consumes}
 use Rattle.amqp_data.specs.declared.error.Error.{Error}
 use Rattle.amqp_data.specs.declared.error.Error.TheVariants.{OutOfMemory, TooLong, InvalidValue, InvalidFormatCode, UnexpectedEof, Io, Message}
-use Rattle.amqp_frame.specs.Frame.{IsBeginning, IsBroken, HasFrame, HasBroken}
+use Rattle.amqp_frame.specs.Frame.{IsIncomplete, IsMalformed, HasFrame, HasMalformed}
 use Rattle.amqp_frame.specs.Reader.{Takes, Failed}
 
 -- bytes of which P holds went from a reader to the end of a list
@@ -11,25 +11,25 @@ abbrev pub Moves : Option (List ℕ) → Option (List ℕ) → List ℕ → List
 Moves old new before after P = (bytes : List ℕ) × Consumes old new bytes × (after ≡ before ++ bytes) × P bytes
 
 -- what was left was incomplete, and all of it was taken
-abbrev pub TakesBeginning : Option (List ℕ) → Option (List ℕ) → Type 0
-TakesBeginning old new = IfSome old (λ s. IsBeginning s × (new ≡ Some []))
+abbrev pub TakesIncomplete : Option (List ℕ) → Option (List ℕ) → Type 0
+TakesIncomplete old new = IfSome old (λ s. IsIncomplete s × (new ≡ Some []))
 
 -- just a malformed prefix was taken, which ends with the refused code
-abbrev pub TakesBroken : Option (List ℕ) → Option (List ℕ) → Type 0
-TakesBroken old new = (front : List ℕ) × IsBroken front × Consumes old new front
+abbrev pub TakesMalformed : Option (List ℕ) → Option (List ℕ) → Type 0
+TakesMalformed old new = (prefix : List ℕ) × IsMalformed prefix × Consumes old new prefix
 
 -- what a refusal says, error by error: at the input's end and at a refused code what the caller names
-abbrev pub Refuses : Option (List ℕ) → Option (List ℕ) → ℕ → ℕ → Type 0 → Type 0 → Error → Type 0
-Refuses old new before after at_end at_code OutOfMemory = Takes old new
-Refuses old new before after at_end at_code UnexpectedEof = at_end
-Refuses old new before after at_end at_code InvalidFormatCode = at_code
-Refuses old new before after at_end at_code Io = Takes old new × Failed before after
-Refuses old new before after at_end at_code TooLong = ⊥
-Refuses old new before after at_end at_code InvalidValue = ⊥
-Refuses old new before after at_end at_code (Message words) = ⊥
+abbrev pub FrameRefuses : Option (List ℕ) → Option (List ℕ) → ℕ → ℕ → Type 0 → Type 0 → Error → Type 0
+FrameRefuses old new before after at_end at_code OutOfMemory = Takes old new
+FrameRefuses old new before after at_end at_code UnexpectedEof = at_end
+FrameRefuses old new before after at_end at_code InvalidFormatCode = at_code
+FrameRefuses old new before after at_end at_code Io = Takes old new × Failed before after
+FrameRefuses old new before after at_end at_code TooLong = ⊥
+FrameRefuses old new before after at_end at_code InvalidValue = ⊥
+FrameRefuses old new before after at_end at_code (Message words) = ⊥
 
 -- out of memory and failed reads aside, the bytes that were left decide the answer
 abbrev pub DecidedBy : {T : Type 0} → List ℕ → Result T Error → Type 0
 DecidedBy s r =
     IsErrOf r OutOfMemory ⊎ (IsErrOf r Io ⊎ ((IsOk r ↔ HasFrame s)
-    × (IsErrOf r InvalidFormatCode ↔ HasBroken s) × (IsErrOf r UnexpectedEof ↔ IsBeginning s)))
+    × (IsErrOf r InvalidFormatCode ↔ HasMalformed s) × (IsErrOf r UnexpectedEof ↔ IsIncomplete s)))

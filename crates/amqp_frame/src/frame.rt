@@ -1,7 +1,7 @@
 //! Where the first encoded value of a slice ends.
 
 ghost use Rattle.std.specs.Prelude.{◌≡◌, ◌≢◌, ◌≤◌, ◌<◌, ◌⊎◌, ◌++◌, ℕ, List, IfSome, IfNone, Some, length, take, slice_index};
-ghost use Rattle.amqp_frame.specs.Frame.{IsFrame, IsBeginning, HasFrame, HasBroken};
+ghost use Rattle.amqp_frame.specs.Frame.{IsFrame, IsIncomplete, HasFrame, HasMalformed};
 
 use crate::code::{body_len_of, category_of, is_primitive, size_width_of};
 
@@ -24,8 +24,8 @@ use crate::code::{body_len_of, category_of, is_primitive, size_width_of};
 /// `4010`: `Some(1)`. `00a1016145`: `Some(5)`. `10`, `a10561` and no bytes: `None`.
 pub fn frame_len(bytes: &[u8]) -> Option<usize>
     ensures found { IfSome result (λ n. (n ≤ length bytes.now) × IsFrame (take n bytes.now)) }
-    ensures only { (front rest : List ℕ) → IsFrame front → bytes.now ≡ front ++ rest →
-        result ≡ Some (length front) }
+    ensures only { (prefix rest : List ℕ) → IsFrame prefix → bytes.now ≡ prefix ++ rest →
+        result ≡ Some (length prefix) }
     ensures none { IfNone result (¬ HasFrame bytes.now) }
 {
     let mut at = 0;
@@ -54,7 +54,7 @@ fn primitive_len(bytes: &[u8]) -> Option<usize>
     requires code { slice_index bytes.now 0 ≢ 0 }
     ensures bound { IfSome result (λ n. (0 < n) × (n ≤ length bytes.now)) }
     ensures found { IfSome result (λ n. IsFrame (take n bytes.now)) }
-    ensures none { IfNone result (HasBroken bytes.now ⊎ IsBeginning bytes.now) }
+    ensures none { IfNone result (HasMalformed bytes.now ⊎ IsIncomplete bytes.now) }
 {
     let code = bytes[0];
     let payload = &bytes[1..];

@@ -3,7 +3,7 @@
 ghost use Rattle.std.specs.Prelude.{◌≡◌, ◌<◌, ℕ, List, [], ◌++◌, length};
 ghost use Rattle.std.specs.List.{AllByRecursion, concat};
 ghost use Rattle.amqp_frame.specs.Cut.{IsCut};
-ghost use Rattle.amqp_frame.specs.Frame.{IsFrame, IsBeginning, IsBroken, HasFrame, HasBroken, ExactlyOne};
+ghost use Rattle.amqp_frame.specs.Frame.{IsFrame, IsIncomplete, IsMalformed, HasFrame, HasMalformed, ExactlyOne};
 
 /// Of the prefixes of a string at most one is an encoded value, so no encoded value is a proper prefix
 /// of another.
@@ -12,14 +12,14 @@ pub fn one_frame()
 {}
 
 /// Of the prefixes of a string at most one is malformed.
-pub fn one_broken()
-    ensures { (a b x y : List ℕ) → IsBroken a → IsBroken b → a ++ x ≡ b ++ y → (a ≡ b) × (x ≡ y) }
+pub fn one_malformed()
+    ensures { (a b x y : List ℕ) → IsMalformed a → IsMalformed b → a ++ x ≡ b ++ y → (a ≡ b) × (x ≡ y) }
 {}
 
 /// Every string has exactly one of three: an encoded value as a prefix, a malformed prefix, being
 /// itself incomplete.
 pub fn one_case()
-    ensures { (s : List ℕ) → ExactlyOne (HasFrame s) (HasBroken s) (IsBeginning s) }
+    ensures { (s : List ℕ) → ExactlyOne (HasFrame s) (HasMalformed s) (IsIncomplete s) }
 {}
 
 /// An encoded value has a byte at least.

@@ -4,11 +4,11 @@ ghost use Rattle.std.specs.Prelude.{◌≡◌, ◌≤◌, IfOk, IfErr, OnErr, If
 ghost use Rattle.std.specs.Io.KnownBytes.{Consumes};
 ghost use Rattle.amqp_frame.specs.Frame.{IsFrame};
 ghost use Rattle.amqp_frame.specs.Reader.{Takes};
-ghost use Rattle.amqp_frame.specs.Taking.{TakesBeginning, TakesBroken, Refuses, DecidedBy};
+ghost use Rattle.amqp_frame.specs.Taking.{TakesIncomplete, TakesMalformed, FrameRefuses, DecidedBy};
 
 use crate::code::{category_of, is_primitive};
-use crate::intake::{take_byte, take_payload};
 use crate::read::Read;
+use crate::take_value::{take_byte, take_payload};
 use amqp_data::Error;
 use bytes::Bytes;
 use std::alloc::Global;
@@ -67,15 +67,15 @@ impl LazyValue {
             IsFrame value × Consumes (R.left reader.old) (R.left reader.new) value) }
         // When each answer comes.
         ensures exact { IfSome (R.left reader.old) (λ s. DecidedBy s result) }
-        ensures refused { IfErr result (Refuses (R.left reader.old) (R.left reader.new)
+        ensures refused { IfErr result (FrameRefuses (R.left reader.old) (R.left reader.new)
             (R.failures reader.old) (R.failures reader.new)
-            (TakesBeginning (R.left reader.old) (R.left reader.new))
-            (TakesBroken (R.left reader.old) (R.left reader.new))) }
+            (TakesIncomplete (R.left reader.old) (R.left reader.new))
+            (TakesMalformed (R.left reader.old) (R.left reader.new))) }
         // What stays.
         ensures kept { OnErr result (Takes (R.left reader.old) (R.left reader.new)) }
         ensures count { R.failures reader.old ≤ R.failures reader.new }
     {
-        take_frame(alloc, reader)
+        take_value(alloc, reader)
     }
 
     /// The bytes.
@@ -141,13 +141,13 @@ impl From<LazyValue> for Bytes {
 }
 
 // The next encoded value, code by code, with a count of those that are still open.
-fn take_frame<R: Read>(alloc: Global, reader: &mut R) -> Result<LazyValue, Error>
+fn take_value<R: Read>(alloc: Global, reader: &mut R) -> Result<LazyValue, Error>
     ensures frame { IfOk result (λ value.
         IsFrame value × Consumes (R.left reader.old) (R.left reader.new) value) }
-    ensures refused { IfErr result (Refuses (R.left reader.old) (R.left reader.new)
+    ensures refused { IfErr result (FrameRefuses (R.left reader.old) (R.left reader.new)
         (R.failures reader.old) (R.failures reader.new)
-        (TakesBeginning (R.left reader.old) (R.left reader.new))
-        (TakesBroken (R.left reader.old) (R.left reader.new))) }
+        (TakesIncomplete (R.left reader.old) (R.left reader.new))
+        (TakesMalformed (R.left reader.old) (R.left reader.new))) }
     ensures count { R.failures reader.old ≤ R.failures reader.new }
 {
     let mut taken = Vec::new(alloc);

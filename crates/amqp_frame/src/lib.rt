@@ -8,11 +8,11 @@
 
 mod code;
 mod frame;
-mod intake;
 pub mod laws;
 mod lazy;
 mod read;
 mod readers;
+mod take_value;
 #[cfg(test)]
 mod tests;
 

@@ -135,16 +135,16 @@ fn length_of_each_code(rt: HostRuntime) {
 }
 
 #[test]
-fn fronts_of_a_frame_end_too_early(rt: HostRuntime) {
+fn prefixes_of_a_frame_end_too_early(rt: HostRuntime) {
     let alloc = rt.alloc();
     for (row, (bytes, length, _)) in ROWS.iter().enumerate() {
         let Ok(length) = length else {
             continue;
         };
         for end in 0..*length {
-            let front = bytes.get(..end).unwrap_or(&[]);
-            assert_eq!(rt; frame_len(front), None, "row {row} to {end}");
-            let answer = cut_slice(alloc, front);
+            let prefix = bytes.get(..end).unwrap_or(&[]);
+            assert_eq!(rt; frame_len(prefix), None, "row {row} to {end}");
+            let answer = cut_slice(alloc, prefix);
             assert_eq!(rt;
                 answer,
                 (Err(Error::UnexpectedEof), 0),

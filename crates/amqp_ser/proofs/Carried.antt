@@ -19,7 +19,7 @@ transparent_kind : (o : Option Trees) → marked mark.Transparent (as_kind kind.
 transparent_kind None = refl
 transparent_kind (Some ts) = refl
 
-variant_kind : (i : ℕ) (o : Option Trees) → as_kind (kind.Fields i) o ≡ option_map (λ ts. tree.variant i (tree.list ts)) o
+variant_kind : (i : ℕ) (o : Option Trees) → as_kind (kind.Variant i) o ≡ option_map (λ ts. tree.variant i (tree.list ts)) o
 variant_kind i None = refl
 variant_kind i (Some ts) = refl
 
@@ -35,6 +35,6 @@ pub whole_transparent : (ps : List (Option Tree)) → marked mark.Transparent (w
 unfolding whole
 whole_transparent ps = transparent_kind (all_trees ps)
 
-pub whole_variant : (i : ℕ) (ps : List (Option Tree)) → whole (kind.Fields i) ps ≡ option_map (λ ts. tree.variant i (tree.list ts)) (all_trees ps)
+pub whole_variant : (i : ℕ) (ps : List (Option Tree)) → whole (kind.Variant i) ps ≡ option_map (λ ts. tree.variant i (tree.list ts)) (all_trees ps)
 unfolding whole
 whole_variant i ps = variant_kind i (all_trees ps)

@@ -4,7 +4,7 @@ use Rattle.amqp_ser.specs.Tree.{Scalar, null, bool, ubyte, ushort, uint, ulong, 
 use Rattle.amqp_ser.specs.Limits.{is_short}
 use Rattle.amqp_ser.specs.Scalars.{scalar_code, scalar_payload, scalar_form, is_small}
 use Rattle.amqp_ser.specs.Forms.{IsForm, has_one_form}
-use Rattle.amqp_ser.specs.Encoding.{con, enc, payload, enc_each, enc_pairs, payload_each, first_con, wide, counted, list_form, array_form}
+use Rattle.amqp_ser.specs.Encoding.{constructor, encoding, payload, encoding_each, encoding_pairs, payload_each, array_constructor, wide, counted, list_form, array_form}
 
 if_form : (b : Bool) (c : ℕ) (p xs ys : List ℕ) → IsForm c p xs → IsForm c p ys → IsForm c p (if b then xs else ys)
 if_form true c p xs ys f g = f
@@ -47,13 +47,13 @@ array_IsForm n content = if_form (is_short (length content) && nat_le n 255) _ _
 same : {A : Type 0} {a b : A} → Some a ≡ Some b → a ≡ b
 same h = cc
 
-pub con_IsForm : (t : Tree) (c : ℕ) → con t ≡ Some c → IsForm c (payload t) (enc t)
+pub con_IsForm : (t : Tree) (c : ℕ) → constructor t ≡ Some c → IsForm c (payload t) (encoding t)
 con_IsForm (scalar s) c h = subst (λ k. IsForm k (scalar_payload s) (scalar_form s)) (same h) (scalar_IsForm s)
-con_IsForm (list ts) c h = subst (λ k. IsForm k (payload (list ts)) (enc (list ts))) (same h) (list_IsForm (count ts) (enc_each ts))
-con_IsForm (array ts) c h = subst (λ k. IsForm k (payload (array ts)) (enc (array ts))) (same h) (array_IsForm (count ts) (first_con ts ++ payload_each ts))
-con_IsForm (map ps) c h = subst (λ k. IsForm k (payload (map ps)) (enc (map ps))) (same h) (counted_IsForm 0xc1 0xd1 (pair_count ps * 2) (enc_pairs ps))
+con_IsForm (list ts) c h = subst (λ k. IsForm k (payload (list ts)) (encoding (list ts))) (same h) (list_IsForm (count ts) (encoding_each ts))
+con_IsForm (array ts) c h = subst (λ k. IsForm k (payload (array ts)) (encoding (array ts))) (same h) (array_IsForm (count ts) (array_constructor ts ++ payload_each ts))
+con_IsForm (map ps) c h = subst (λ k. IsForm k (payload (map ps)) (encoding (map ps))) (same h) (counted_IsForm 0xc1 0xd1 (pair_count ps * 2) (encoding_pairs ps))
 con_IsForm (described d t) c h = cc
-con_IsForm (variant i t) c h = subst (λ k. IsForm k (payload (variant i t)) (enc (variant i t))) (same h) (counted_IsForm 0xc1 0xd1 2 (scalar_form (uint i) ++ enc t))
+con_IsForm (variant i t) c h = subst (λ k. IsForm k (payload (variant i t)) (encoding (variant i t))) (same h) (counted_IsForm 0xc1 0xd1 2 (scalar_form (uint i) ++ encoding t))
 con_IsForm (lazy bs) c h = cc
 con_IsForm (transparent ts) c h = cc
 

@@ -4,8 +4,8 @@ use Rattle.amqp_ser.specs.Tree.{Scalar, null, bool, ubyte, ushort, uint, ulong, 
 use Rattle.amqp_ser.specs.Limits.{fits, is_short}
 use Rattle.amqp_ser.specs.Ranged.{IsRanged, IsRangedScalar}
 use Rattle.amqp_ser.specs.Scalars.{scalar_form, is_small, sized}
-use Rattle.amqp_ser.specs.Encoding.{enc, enc_each, enc_pairs, payload_each, first_con, counted, list_form, array_form}
-use Rattle.amqp_ser.specs.Writable.{within, scalar_fits}
+use Rattle.amqp_ser.specs.Encoding.{encoding, encoding_each, encoding_pairs, payload_each, array_constructor, counted, list_form, array_form}
+use Rattle.amqp_ser.specs.Writable.{within_limits, scalar_fits}
 use Rattle.amqp_ser.proofs.Bools.{is_le, left_true}
 
 if_length : (b : Bool) (n : ℕ) (xs ys : List ℕ) → length xs ≤ n → length ys ≤ n → length (if b then xs else ys) ≤ n
@@ -56,12 +56,12 @@ scalar_length (binary bs) r h = below (length bs) _ h (let l = length-sized 0xa0
 scalar_length (string bs) r h = below (length bs) _ h (let l = length-sized 0xa1 0xb1 bs in omega arith)
 scalar_length (symbol bs) r h = below (length bs) _ h (let l = length-sized 0xa3 0xb3 bs in omega arith)
 
-pub within_length : (t : Tree) → IsRanged t → within t ≡ true → length (enc t) < 2 ^ 64
+pub within_length : (t : Tree) → IsRanged t → within_limits t ≡ true → length (encoding t) < 2 ^ 64
 within_length (scalar s) r h = scalar_length s r h
-within_length (list ts) r h = below (length (enc_each ts)) _ (left_true _ _ h) (length-list_form (count ts) (enc_each ts))
-within_length (array ts) r h = let content = first_con ts ++ payload_each ts in below (length content) _ (left_true _ _ h) (length-array_form (count ts) content)
-within_length (map ps) r h = below (length (enc_pairs ps)) _ (left_true _ _ h) (length-counted 0xc1 0xd1 (pair_count ps * 2) (enc_pairs ps))
-within_length (described d t) r h = let l = is_le (length (enc (described d t))) 18446744073709551615 (left_true _ _ h) in omega arith
-within_length (variant i t) r h = let body = scalar_form (uint i) ++ enc t in below (length body) _ (left_true _ _ h) (length-counted 0xc1 0xd1 2 body)
+within_length (list ts) r h = below (length (encoding_each ts)) _ (left_true _ _ h) (length-list_form (count ts) (encoding_each ts))
+within_length (array ts) r h = let content = array_constructor ts ++ payload_each ts in below (length content) _ (left_true _ _ h) (length-array_form (count ts) content)
+within_length (map ps) r h = below (length (encoding_pairs ps)) _ (left_true _ _ h) (length-counted 0xc1 0xd1 (pair_count ps * 2) (encoding_pairs ps))
+within_length (described d t) r h = let l = is_le (length (encoding (described d t))) 18446744073709551615 (left_true _ _ h) in omega arith
+within_length (variant i t) r h = let body = scalar_form (uint i) ++ encoding t in below (length body) _ (left_true _ _ h) (length-counted 0xc1 0xd1 2 body)
 within_length (lazy bs) r h = let l = is_le (length bs) 18446744073709551615 h in omega arith
-within_length (transparent ts) r h = let l = is_le (length (enc_each ts)) 18446744073709551615 (left_true _ _ h) in omega arith
+within_length (transparent ts) r h = let l = is_le (length (encoding_each ts)) 18446744073709551615 (left_true _ _ h) in omega arith

@@ -1,16 +1,16 @@
 -- Parts that are keys and values in turn.
 use Rattle.amqp_ser.specs.Tree.{Tree, Trees, Pairs, no_trees, more, no_pairs, pair}
-use Rattle.amqp_ser.specs.Compounds.{all_trees, before, in_pairs, before_pairs, paired}
-use Rattle.amqp_ser.specs.Encoding.{enc, enc_each, enc_pairs}
-use Rattle.amqp_ser.specs.Writable.{alike, alike_each, alike_pairs, within, within_each, within_pairs, inside, inside_each, inside_pairs}
+use Rattle.amqp_ser.specs.Compounds.{all_trees, prepend, in_pairs, prepend_pair, paired}
+use Rattle.amqp_ser.specs.Encoding.{encoding, encoding_each, encoding_pairs}
+use Rattle.amqp_ser.specs.Writable.{uniform_arrays, uniform_arrays_each, uniform_arrays_pairs, within_limits, within_limits_each, within_limits_pairs, inside, inside_each, inside_pairs}
 use Rattle.std.proofs.Common.{◌≡◌, List, [], ◌∷◌, ◌++◌, Option, Some, None, Bool, true, false, not, ◌&&◌, refl, ap, sym, ◌∙◌, subst}
 
 pub record Pairing (ts : Trees) : Type 0 where
   pub pairs : Pairs
   pub are : in_pairs ts ≡ Some pairs
-  pub bytes : enc_pairs pairs ≡ enc_each ts
-  pub alike_too : alike_pairs pairs ≡ alike_each ts
-  pub within_too : within_pairs pairs ≡ within_each ts
+  pub bytes : encoding_pairs pairs ≡ encoding_each ts
+  pub alike_too : uniform_arrays_pairs pairs ≡ uniform_arrays_each ts
+  pub within_too : within_limits_pairs pairs ≡ within_limits_each ts
   pub inside_too : inside_pairs pairs ≡ inside_each ts
 
 abbrev pub even : Trees → Bool
@@ -28,14 +28,14 @@ pairing (more k (more v ts)) h =
     let r = pairing ts (sym (not_not (even ts)) ∙ h) in
     record {
       pairs = pair k v r.pairs;
-      are = ap (before_pairs k v) r.are;
-      bytes = ap (λ bs. enc k ++ (enc v ++ bs)) r.bytes;
-      alike_too = ap (λ b. alike k && (alike v && b)) r.alike_too;
-      within_too = ap (λ b. within k && (within v && b)) r.within_too;
+      are = ap (prepend_pair k v) r.are;
+      bytes = ap (λ bs. encoding k ++ (encoding v ++ bs)) r.bytes;
+      alike_too = ap (λ b. uniform_arrays k && (uniform_arrays v && b)) r.alike_too;
+      within_too = ap (λ b. within_limits k && (within_limits v && b)) r.within_too;
       inside_too = ap (λ b. inside k && (inside v && b)) r.inside_too;
     }
 
-go : (p : Option Tree) (o : Option Trees) (b : Bool) → ((us : Trees) → o ≡ Some us → b ≡ even us) → (ts : Trees) → before p o ≡ Some ts → not b ≡ even ts
+go : (p : Option Tree) (o : Option Trees) (b : Bool) → ((us : Trees) → o ≡ Some us → b ≡ even us) → (ts : Trees) → prepend p o ≡ Some ts → not b ≡ even ts
 go None o b f ts h = cc
 go (Some t) None b f ts h = cc
 go (Some t) (Some us) b f ts h =

@@ -5,25 +5,25 @@ use Rattle.amqp_ser.specs.declared.kind.Kind.{Kind}
 use Rattle.amqp_ser.specs.declared.kind.Kind.TheVariants as kind
 
 -- the trees of a part and of those after it
-abbrev pub before : Option Tree → Option Trees → Option Trees
-before None rest = None
-before (Some t) None = None
-before (Some t) (Some ts) = Some (more t ts)
+abbrev pub prepend : Option Tree → Option Trees → Option Trees
+prepend None rest = None
+prepend (Some t) None = None
+prepend (Some t) (Some ts) = Some (more t ts)
 
 -- the trees of all the parts
 abbrev pub all_trees : List (Option Tree) → Option Trees
 all_trees [] = Some no_trees
-all_trees (p ∷ ps) = before p (all_trees ps)
+all_trees (p ∷ ps) = prepend p (all_trees ps)
 
-abbrev pub before_pairs : Tree → Tree → Option Pairs → Option Pairs
-before_pairs k v None = None
-before_pairs k v (Some ps) = Some (pair k v ps)
+abbrev pub prepend_pair : Tree → Tree → Option Pairs → Option Pairs
+prepend_pair k v None = None
+prepend_pair k v (Some ps) = Some (pair k v ps)
 
 -- keys and values in turn
 abbrev pub in_pairs : Trees → Option Pairs
 in_pairs no_trees = Some no_pairs
 in_pairs (more k no_trees) = None
-in_pairs (more k (more v ts)) = before_pairs k v (in_pairs ts)
+in_pairs (more k (more v ts)) = prepend_pair k v (in_pairs ts)
 
 abbrev pub as_map : Option Pairs → Option Tree
 as_map None = None
@@ -45,9 +45,9 @@ abbrev pub as_kind : Kind → Option Trees → Option Tree
 as_kind k None = None
 as_kind kind.List (Some ts) = Some (list ts)
 as_kind kind.Map (Some ts) = as_map (in_pairs ts)
-as_kind (kind.Fields i) (Some ts) = Some (variant i (list ts))
-as_kind (kind.Only i) (Some ts) = as_variant i (only ts)
-as_kind kind.Bare (Some ts) = only ts
+as_kind (kind.Variant i) (Some ts) = Some (variant i (list ts))
+as_kind (kind.NewtypeVariant i) (Some ts) = as_variant i (only ts)
+as_kind kind.Single (Some ts) = only ts
 
 -- the tree of a compound of these parts
 unfoldable pub whole : Kind → List (Option Tree) → Option Tree
@@ -62,13 +62,13 @@ paired (p ∷ ps) = not (paired ps)
 abbrev pub complete : Kind → List (Option Tree) → Bool
 complete kind.List ps = true
 complete kind.Map ps = paired ps
-complete (kind.Fields i) ps = true
-complete (kind.Only i) [] = false
-complete (kind.Only i) (p ∷ []) = true
-complete (kind.Only i) (p ∷ (q ∷ ps)) = false
-complete kind.Bare [] = false
-complete kind.Bare (p ∷ []) = true
-complete kind.Bare (p ∷ (q ∷ ps)) = false
+complete (kind.Variant i) ps = true
+complete (kind.NewtypeVariant i) [] = false
+complete (kind.NewtypeVariant i) (p ∷ []) = true
+complete (kind.NewtypeVariant i) (p ∷ (q ∷ ps)) = false
+complete kind.Single [] = false
+complete kind.Single (p ∷ []) = true
+complete kind.Single (p ∷ (q ∷ ps)) = false
 
 -- the parts of a map: keys and values in turn
 abbrev pub parts_of : {K V : Type 0} → (K → Option Tree) → (V → Option Tree) → List (K × V) → List (Option Tree)

@@ -6,24 +6,24 @@ use Rattle.amqp_ser.specs.Limits.{is_short}
 use Rattle.amqp_ser.specs.Scalars.{scalar_code, scalar_payload, scalar_form}
 
 -- the constructor that a tree has as an array's element, if it can be one
-abbrev pub con : Tree → Option ℕ
-con (scalar s) = Some (scalar_code s)
-con (list ts) = Some 0xd0
-con (array ts) = Some 0xf0
-con (map ps) = Some 0xd1
-con (described d t) = None
-con (variant i t) = Some 0xd1
-con (lazy bs) = None
-con (transparent ts) = None
+abbrev pub constructor : Tree → Option ℕ
+constructor (scalar s) = Some (scalar_code s)
+constructor (list ts) = Some 0xd0
+constructor (array ts) = Some 0xf0
+constructor (map ps) = Some 0xd1
+constructor (described d t) = None
+constructor (variant i t) = Some 0xd1
+constructor (lazy bs) = None
+constructor (transparent ts) = None
 
 abbrev pub code_list : Option ℕ → List ℕ
 code_list None = []
 code_list (Some c) = c ∷ []
 
 -- the constructor of an array's elements, that of the first
-abbrev pub first_con : Trees → List ℕ
-first_con no_trees = []
-first_con (more t ts) = code_list (con t)
+abbrev pub array_constructor : Trees → List ℕ
+array_constructor no_trees = []
+array_constructor (more t ts) = code_list (constructor t)
 
 -- a size and a count in four bytes each, and a body
 abbrev pub wide : ℕ → List ℕ → List ℕ
@@ -54,34 +54,34 @@ descriptor_form (code n) = scalar_form (ulong n)
 -- a tree by itself, and as an array's element after the constructor; a variant is the map of one pair,
 -- from its index to its payload
 abbrev mutual
-  pub enc : Tree → List ℕ
-  enc (scalar s) = scalar_form s
-  enc (list ts) = list_form (count ts) (enc_each ts)
-  enc (array ts) = array_form (count ts) (first_con ts ++ payload_each ts)
-  enc (map ps) = map_form (pair_count ps * 2) (enc_pairs ps)
-  enc (described d t) = 0x00 ∷ (descriptor_form d ++ enc t)
-  enc (variant i t) = map_form 2 (scalar_form (uint i) ++ enc t)
-  enc (lazy bs) = bs
-  enc (transparent ts) = enc_each ts
+  pub encoding : Tree → List ℕ
+  encoding (scalar s) = scalar_form s
+  encoding (list ts) = list_form (count ts) (encoding_each ts)
+  encoding (array ts) = array_form (count ts) (array_constructor ts ++ payload_each ts)
+  encoding (map ps) = map_form (pair_count ps * 2) (encoding_pairs ps)
+  encoding (described d t) = 0x00 ∷ (descriptor_form d ++ encoding t)
+  encoding (variant i t) = map_form 2 (scalar_form (uint i) ++ encoding t)
+  encoding (lazy bs) = bs
+  encoding (transparent ts) = encoding_each ts
 
   pub payload : Tree → List ℕ
   payload (scalar s) = scalar_payload s
-  payload (list ts) = wide (count ts) (enc_each ts)
-  payload (array ts) = wide (count ts) (first_con ts ++ payload_each ts)
-  payload (map ps) = wide (pair_count ps * 2) (enc_pairs ps)
+  payload (list ts) = wide (count ts) (encoding_each ts)
+  payload (array ts) = wide (count ts) (array_constructor ts ++ payload_each ts)
+  payload (map ps) = wide (pair_count ps * 2) (encoding_pairs ps)
   payload (described d t) = []
-  payload (variant i t) = wide 2 (scalar_form (uint i) ++ enc t)
+  payload (variant i t) = wide 2 (scalar_form (uint i) ++ encoding t)
   payload (lazy bs) = []
   payload (transparent ts) = []
 
-  pub enc_each : Trees → List ℕ
-  enc_each no_trees = []
-  enc_each (more t ts) = enc t ++ enc_each ts
+  pub encoding_each : Trees → List ℕ
+  encoding_each no_trees = []
+  encoding_each (more t ts) = encoding t ++ encoding_each ts
 
   pub payload_each : Trees → List ℕ
   payload_each no_trees = []
   payload_each (more t ts) = payload t ++ payload_each ts
 
-  pub enc_pairs : Pairs → List ℕ
-  enc_pairs no_pairs = []
-  enc_pairs (pair k v ps) = enc k ++ (enc v ++ enc_pairs ps)
+  pub encoding_pairs : Pairs → List ℕ
+  encoding_pairs no_pairs = []
+  encoding_pairs (pair k v ps) = encoding k ++ (encoding v ++ encoding_pairs ps)

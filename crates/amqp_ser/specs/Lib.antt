@@ -10,7 +10,7 @@ pub mod Compounds
 pub mod Composites
 pub mod Structs
 pub mod Ranged
-pub mod Permitted
+pub mod SizeAndBytes
 pub mod Same
 pub mod Fixed
 pub mod Carried

@@ -20,12 +20,12 @@ mark_of n =
     else mark.Other
 
 -- the key of the field that is a struct's descriptor
-abbrev pub is_descriptor : List ℕ → Bool
-is_descriptor n = bytes_eq n (codes "__DESCRIPTOR")
+abbrev pub is_descriptor_name : List ℕ → Bool
+is_descriptor_name n = bytes_eq n (codes "__DESCRIPTOR")
 
 -- the name of an enum whose newtype variants are written bare
-abbrev pub is_value : List ℕ → Bool
-is_value n = bytes_eq n (codes "__VALUE")
+abbrev pub is_value_name : List ℕ → Bool
+is_value_name n = bytes_eq n (codes "__VALUE")
 
 -- a scalar, if its content has this length
 abbrev pub of_length : ℕ → List ℕ → Scalar → Option Tree

@@ -3,9 +3,9 @@ use Rattle.std.specs.Prelude.{ℕ, List, [], ◌∷◌, Option, Some, None, Bool
 use Rattle.amqp_ser.specs.Tree.{Tree, scalar, string}
 use Rattle.amqp_ser.specs.Compounds.{whole}
 use Rattle.amqp_ser.specs.Composites.{as_described, descriptor_of}
-use Rattle.amqp_ser.specs.Marked.{is_descriptor, is_value}
-use Rattle.amqp_ser.specs.declared.body.Body.{Body}
-use Rattle.amqp_ser.specs.declared.body.Body.TheVariants as body
+use Rattle.amqp_ser.specs.Marked.{is_descriptor_name, is_value_name}
+use Rattle.amqp_ser.specs.declared.struct_form.StructForm.{StructForm}
+use Rattle.amqp_ser.specs.declared.struct_form.StructForm.TheVariants as form
 use Rattle.amqp_ser.specs.declared.kind.Kind.{Kind}
 use Rattle.amqp_ser.specs.declared.kind.Kind.TheVariants as kind
 
@@ -19,27 +19,27 @@ abbrev pub is_map_name : List ℕ → Bool
 is_map_name n = bytes_eq n (codes "__DESCRIBED_MAP")
 
 -- a struct's fields are one value, a map from their names, or a list
-abbrev pub struct_body : List ℕ → Body
-struct_body n = if is_basic_name n then body.Bare else if is_map_name n then body.Map else body.List
+abbrev pub struct_form : List ℕ → StructForm
+struct_form n = if is_basic_name n then form.Single else if is_map_name n then form.Map else form.List
 
 -- a tuple struct's fields are one value or a list
-abbrev pub bare_or_list : Bool → Body
-bare_or_list true = body.Bare
-bare_or_list false = body.List
+abbrev pub single_or_list : Bool → StructForm
+single_or_list true = form.Single
+single_or_list false = form.List
 
 -- a tuple struct of such a name has its descriptor as its first field
 abbrev pub is_tagged : List ℕ → Bool
 is_tagged n = is_basic_name n || is_list_name n
 
-abbrev pub body_kind : Body → Kind
-body_kind body.List = kind.List
-body_kind body.Map = kind.Map
-body_kind body.Bare = kind.Bare
+abbrev pub form_kind : StructForm → Kind
+form_kind form.List = kind.List
+form_kind form.Map = kind.Map
+form_kind form.Single = kind.Single
 
--- what is open: a bare compound until the first field is taken, and then the body
-abbrev pub open_kind : Bool → Body → Kind
-open_kind false b = kind.Bare
-open_kind true b = body_kind b
+-- what is open: a single compound until the first field is taken, and then the body
+abbrev pub open_kind : Bool → StructForm → Kind
+open_kind false b = kind.Single
+open_kind true b = form_kind b
 
 -- fields with names stand in a map, others in a list
 abbrev pub fields_kind : Bool → Kind
@@ -52,22 +52,22 @@ field_parts false key t = t ∷ []
 field_parts true key t = Some (scalar (string key)) ∷ (t ∷ [])
 
 -- a second or late descriptor, and a second field of a bare body
-abbrev pub is_misplaced : Body → Bool → Bool → Bool → Bool
+abbrev pub is_misplaced : StructForm → Bool → Bool → Bool → Bool
 is_misplaced b described opened true = described || opened
-is_misplaced body.Bare described opened false = opened
+is_misplaced form.Single described opened false = opened
 is_misplaced b described opened false = false
 
 -- a body after a descriptor, if there is one
-abbrev pub fronted : Option (Option Tree) → Option Tree → Option Tree
-fronted None t = t
-fronted (Some d) t = as_described (descriptor_of d) t
+abbrev pub optionally_described : Option (Option Tree) → Option Tree → Option Tree
+optionally_described None t = t
+optionally_described (Some d) t = as_described (descriptor_of d) t
 
 -- the variant of one value: bare or refused in the enums of these names
 abbrev pub named_variant : List ℕ → ℕ → Option Tree → Option Tree
-named_variant n i t = if is_value n then t else if is_descriptor n then None else whole (kind.Only i) (t ∷ [])
+named_variant n i t = if is_value_name n then t else if is_descriptor_name n then None else whole (kind.NewtypeVariant i) (t ∷ [])
 
 -- a compound that stands after a descriptor, if there is one: what is answered there is an answer on the whole
 unfoldable pub Stands : {S H R : Type 0} → (S → Option Tree → R → S → Type 0) → (S → Kind → S → H → List (Option Tree) → Type 0) →
     S → Option (Option Tree) → Kind → S → H → List (Option Tree) → Type 0
-Stands {S} {H} {R} permits has start front k now held ps =
-    (mid : S) × (has mid k now held ps × ((t : Option Tree) (r : R) (after : S) → permits mid t r after → permits start (fronted front t) r after))
+Stands {S} {H} {R} permits has start prefix k now held ps =
+    (mid : S) × (has mid k now held ps × ((t : Option Tree) (r : R) (after : S) → permits mid t r after → permits start (optionally_described prefix t) r after))

@@ -42,7 +42,7 @@ symbol_map_of fields = whole kind.Map (in_turn symbol_key fields)
 
 -- the variant of an index whose payload is the list of these parts
 abbrev pub variant_of : ℕ → List (Option Tree) → Option Tree
-variant_of index parts = whole (kind.Fields index) parts
+variant_of index parts = whole (kind.Variant index) parts
 
 -- the same after a descriptor
 abbrev pub list_composite : Descriptor → List (Option Tree) → Option Tree

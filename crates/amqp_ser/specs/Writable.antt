@@ -3,7 +3,7 @@ use Rattle.std.specs.Prelude.{ℕ, ◌++◌, Option, Some, None, Bool, true, fal
 use Rattle.amqp_ser.specs.Tree.{Scalar, binary, string, symbol, uint, Descriptor, name, code, Tree, Trees, Pairs, scalar, list, array, map, described, variant, lazy, transparent, no_trees, more, no_pairs, pair, count}
 use Rattle.amqp_ser.specs.Limits.{fits, is_count, is_length}
 use Rattle.amqp_ser.specs.Scalars.{scalar_form}
-use Rattle.amqp_ser.specs.Encoding.{enc, enc_each, enc_pairs, payload_each, first_con, con}
+use Rattle.amqp_ser.specs.Encoding.{encoding, encoding_each, encoding_pairs, payload_each, array_constructor, constructor}
 
 -- a text or a binary fits
 abbrev pub scalar_fits : Scalar → Bool
@@ -18,58 +18,58 @@ descriptor_fits (code n) = true
 
 -- every text, body, content and count is within its limit, and so is the length of the whole
 abbrev mutual
-  pub within : Tree → Bool
-  within (scalar s) = scalar_fits s
-  within (list ts) = fits (length (enc_each ts)) && within_each ts
-  within (array ts) = fits (length (first_con ts ++ payload_each ts)) && (is_count (count ts) && within_each ts)
-  within (map ps) = fits (length (enc_pairs ps)) && within_pairs ps
-  within (described d t) = is_length (length (enc (described d t))) && (descriptor_fits d && within t)
-  within (variant i t) = fits (length (scalar_form (uint i) ++ enc t)) && within t
-  within (lazy bs) = is_length (length bs)
-  within (transparent ts) = is_length (length (enc_each ts)) && within_each ts
+  pub within_limits : Tree → Bool
+  within_limits (scalar s) = scalar_fits s
+  within_limits (list ts) = fits (length (encoding_each ts)) && within_limits_each ts
+  within_limits (array ts) = fits (length (array_constructor ts ++ payload_each ts)) && (is_count (count ts) && within_limits_each ts)
+  within_limits (map ps) = fits (length (encoding_pairs ps)) && within_limits_pairs ps
+  within_limits (described d t) = is_length (length (encoding (described d t))) && (descriptor_fits d && within_limits t)
+  within_limits (variant i t) = fits (length (scalar_form (uint i) ++ encoding t)) && within_limits t
+  within_limits (lazy bs) = is_length (length bs)
+  within_limits (transparent ts) = is_length (length (encoding_each ts)) && within_limits_each ts
 
-  pub within_each : Trees → Bool
-  within_each no_trees = true
-  within_each (more t ts) = within t && within_each ts
+  pub within_limits_each : Trees → Bool
+  within_limits_each no_trees = true
+  within_limits_each (more t ts) = within_limits t && within_limits_each ts
 
-  pub within_pairs : Pairs → Bool
-  within_pairs no_pairs = true
-  within_pairs (pair k v ps) = within k && (within v && within_pairs ps)
+  pub within_limits_pairs : Pairs → Bool
+  within_limits_pairs no_pairs = true
+  within_limits_pairs (pair k v ps) = within_limits k && (within_limits v && within_limits_pairs ps)
 
 -- this constructor is that one
-abbrev pub same_con : Option ℕ → Option ℕ → Bool
-same_con None d = false
-same_con (Some c) None = false
-same_con (Some c) (Some d) = nat_eq c d
+abbrev pub same_constructor : Option ℕ → Option ℕ → Bool
+same_constructor None d = false
+same_constructor (Some c) None = false
+same_constructor (Some c) (Some d) = nat_eq c d
 
-abbrev pub each_con : Option ℕ → Trees → Bool
-each_con c no_trees = true
-each_con c (more t ts) = same_con c (con t) && each_con c ts
+abbrev pub each_constructor : Option ℕ → Trees → Bool
+each_constructor c no_trees = true
+each_constructor c (more t ts) = same_constructor c (constructor t) && each_constructor c ts
 
 -- all have one and the same constructor
-abbrev pub one_con : Trees → Bool
-one_con no_trees = true
-one_con (more t ts) = each_con (con t) (more t ts)
+abbrev pub one_constructor : Trees → Bool
+one_constructor no_trees = true
+one_constructor (more t ts) = each_constructor (constructor t) (more t ts)
 
 -- the elements of each array, at every depth, share one constructor
 abbrev mutual
-  pub alike : Tree → Bool
-  alike (scalar s) = true
-  alike (list ts) = alike_each ts
-  alike (array ts) = one_con ts && alike_each ts
-  alike (map ps) = alike_pairs ps
-  alike (described d t) = alike t
-  alike (variant i t) = alike t
-  alike (lazy bs) = true
-  alike (transparent ts) = alike_each ts
+  pub uniform_arrays : Tree → Bool
+  uniform_arrays (scalar s) = true
+  uniform_arrays (list ts) = uniform_arrays_each ts
+  uniform_arrays (array ts) = one_constructor ts && uniform_arrays_each ts
+  uniform_arrays (map ps) = uniform_arrays_pairs ps
+  uniform_arrays (described d t) = uniform_arrays t
+  uniform_arrays (variant i t) = uniform_arrays t
+  uniform_arrays (lazy bs) = true
+  uniform_arrays (transparent ts) = uniform_arrays_each ts
 
-  pub alike_each : Trees → Bool
-  alike_each no_trees = true
-  alike_each (more t ts) = alike t && alike_each ts
+  pub uniform_arrays_each : Trees → Bool
+  uniform_arrays_each no_trees = true
+  uniform_arrays_each (more t ts) = uniform_arrays t && uniform_arrays_each ts
 
-  pub alike_pairs : Pairs → Bool
-  alike_pairs no_pairs = true
-  alike_pairs (pair k v ps) = alike k && (alike v && alike_pairs ps)
+  pub uniform_arrays_pairs : Pairs → Bool
+  uniform_arrays_pairs no_pairs = true
+  uniform_arrays_pairs (pair k v ps) = uniform_arrays k && (uniform_arrays v && uniform_arrays_pairs ps)
 
 -- no transparent tree, at any depth
 abbrev mutual
@@ -109,4 +109,4 @@ abbrev mutual
 
 -- the tree can be written
 abbrev pub writable : Tree → Bool
-writable t = within t && (alike t && placed t)
+writable t = within_limits t && (uniform_arrays t && placed t)

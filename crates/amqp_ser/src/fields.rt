@@ -265,11 +265,11 @@ impl<F: Fields> Serialize for ListOf<F> {
 pub struct VariantOf<F>(pub u32, pub F);
 
 impl<F: Fields> Serialize for VariantOf<F> {
-    ghost tree = { λ v. whole (kind.Fields v.0) (up_to_last (values_of (F.named v.1))) };
+    ghost tree = { λ v. whole (kind.Variant v.0) (up_to_last (values_of (F.named v.1))) };
 
     #[inline(always)]
     fn serialize<S: Serializer>(&self, serializer: &mut S) -> Result<S::Ok, S::Error> {
-        serialize_values(serializer, Kind::Fields(self.0), &self.1)
+        serialize_values(serializer, Kind::Variant(self.0), &self.1)
     }
 }
 

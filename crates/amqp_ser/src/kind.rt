@@ -8,9 +8,9 @@ pub enum Kind {
     /// A map of its keys and values, fed in turn.
     Map,
     /// The variant of this index whose payload is the list of its fields.
-    Fields(u32),
+    Variant(u32),
     /// The variant of this index whose payload is its one value.
-    Only(u32),
+    NewtypeVariant(u32),
     /// One value, that stands for itself.
-    Bare,
+    Single,
 }

@@ -5,7 +5,7 @@
 pub mod trees_of_carried_types;
 
 ghost use Rattle.std.specs.Prelude.{◌≡◌, ◌∷◌, ◌<◌, ◌^◌, ℕ, Some, true, length};
-ghost use Rattle.amqp_ser.specs.Encoding.{con, enc, payload};
+ghost use Rattle.amqp_ser.specs.Encoding.{constructor, encoding, payload};
 ghost use Rattle.amqp_ser.specs.Forms.{IsForm, has_one_form};
 ghost use Rattle.amqp_ser.specs.Ranged.{IsRanged};
 ghost use Rattle.amqp_ser.specs.Scalars.{scalar_code, scalar_payload};
@@ -14,16 +14,16 @@ ghost use Rattle.amqp_ser.specs.Writable.{writable};
 
 /// The length of a tree that can be written is a number of 64 bits.
 pub fn written_lengths_fit()
-    ensures { (t : Tree) → IsRanged t → writable t ≡ true → length (enc t) < 2 ^ 64 }
+    ensures { (t : Tree) → IsRanged t → writable t ≡ true → length (encoding t) < 2 ^ 64 }
 {}
 
 /// A tree that can be an array's element is written as there, after its constructor, unless it has a shorter form.
 pub fn forms_are_those_of_arrays_or_shorter()
-    ensures { (t : Tree) (c : ℕ) → con t ≡ Some c → IsForm c (payload t) (enc t) }
+    ensures { (t : Tree) (c : ℕ) → constructor t ≡ Some c → IsForm c (payload t) (encoding t) }
 {}
 
 /// A scalar that has one form alone is written as in an array, after its constructor.
 pub fn one_form_is_that_of_arrays()
     ensures { (s : Scalar) → has_one_form s ≡ true →
-        enc (scalar s) ≡ scalar_code s ∷ scalar_payload s }
+        encoding (scalar s) ≡ scalar_code s ∷ scalar_payload s }
 {}

@@ -5,7 +5,6 @@
 //! has the traits, the compounds and the trees of Rust's own types; it writes no byte.
 #![tactic(auto)]
 
-mod body;
 mod compound;
 mod fields;
 mod fixed;
@@ -15,8 +14,8 @@ pub mod laws;
 mod mark;
 mod serialize;
 mod serializer;
+mod struct_form;
 
-pub use body::Body;
 pub use compound::{
     SerializeMap, SerializeSeq, SerializeStruct, SerializeStructVariant, SerializeTuple,
     SerializeTupleStruct, SerializeTupleVariant,
@@ -27,6 +26,7 @@ pub use kind::Kind;
 pub use mark::{Mark, mark_named};
 pub use serialize::Serialize;
 pub use serializer::Serializer;
+pub use struct_form::StructForm;
 
 /// The fields of a struct, in order: `fields! { "name": value, "other"?: option, .. }`.
 ///

@@ -1,10 +1,10 @@
 //! What the name of a newtype or of a struct asks for.
 
 ghost use Rattle.std.specs.Prelude.{◌≡◌};
-ghost use Rattle.amqp_ser.specs.Marked.{is_descriptor, is_value, mark_of};
-ghost use Rattle.amqp_ser.specs.Structs.{is_basic_name, is_tagged, struct_body};
+ghost use Rattle.amqp_ser.specs.Marked.{is_descriptor_name, is_value_name, mark_of};
+ghost use Rattle.amqp_ser.specs.Structs.{is_basic_name, is_tagged, struct_form};
 
-use crate::body::Body;
+use crate::struct_form::StructForm;
 use amqp_data::markers;
 
 /// What the name of a newtype makes of the tree inside it.
@@ -69,15 +69,15 @@ pub fn mark_named(name: &str) -> Mark
 /// # Memory
 /// Takes none.
 #[inline(always)]
-pub fn struct_body(name: &str) -> Body
-    ensures { result ≡ struct_body name.now }
+pub fn struct_form(name: &str) -> StructForm
+    ensures { result ≡ struct_form name.now }
 {
     if is_basic_name(name) {
-        Body::Bare
+        StructForm::Single
     } else if name.len() == markers::DESCRIBED_MAP.len() && name == markers::DESCRIBED_MAP {
-        Body::Map
+        StructForm::Map
     } else {
-        Body::List
+        StructForm::List
     }
 }
 
@@ -107,7 +107,7 @@ pub fn is_tagged(name: &str) -> bool
 /// # Memory
 /// Takes none.
 pub fn is_value_name(name: &str) -> bool
-    ensures { result ≡ is_value name.now }
+    ensures { result ≡ is_value_name name.now }
 {
     name == markers::VALUE
 }
@@ -117,8 +117,8 @@ pub fn is_value_name(name: &str) -> bool
 /// # Memory
 /// Takes none.
 #[inline(always)]
-pub fn is_descriptor_key(key: &str) -> bool
-    ensures { result ≡ is_descriptor key.now }
+pub fn is_descriptor_name(key: &str) -> bool
+    ensures { result ≡ is_descriptor_name key.now }
 {
     key.len() == markers::DESCRIPTOR.len() && key == markers::DESCRIPTOR
 }

@@ -5,11 +5,10 @@ ghost use Rattle.amqp_ser.specs.Tree.{Tree, Scalar, scalar, null, bool, ubyte, u
 ghost use Rattle.amqp_ser.specs.Fixed.{fixed_scalar};
 ghost use Rattle.amqp_ser.specs.Compounds.{whole, complete, paired};
 ghost use Rattle.amqp_ser.specs.Composites.{as_described, descriptor_of};
-ghost use Rattle.amqp_ser.specs.Marked.{is_descriptor, is_value, marked, mark_of};
-ghost use Rattle.amqp_ser.specs.Structs.{Stands, struct_body, is_basic_name, is_tagged, named_variant};
+ghost use Rattle.amqp_ser.specs.Marked.{is_descriptor_name, is_value_name, marked, mark_of};
+ghost use Rattle.amqp_ser.specs.Structs.{Stands, struct_form, is_basic_name, is_tagged, named_variant};
 ghost use Rattle.amqp_data.specs.Fixed.{f32_bits, f64_bits};
 
-use crate::body::serialize_described;
 use crate::compound::feed::feed_part;
 use crate::compound::{
     SerializeMap, SerializeSeq, SerializeStruct, SerializeStructVariant, SerializeTuple,
@@ -18,9 +17,10 @@ use crate::compound::{
 use crate::fixed::Fixed;
 use crate::kind::Kind;
 use crate::mark::{
-    Mark, is_basic_name, is_descriptor_key, is_tagged, is_value_name, mark_named, struct_body,
+    Mark, is_basic_name, is_descriptor_name, is_tagged, is_value_name, mark_named, struct_form,
 };
 use crate::serialize::Serialize;
+use crate::struct_form::serialize_described;
 use amqp_data::{F32Bits, F64Bits};
 
 /// Turns data trees into answers of one kind, as their length, their bytes or an untyped value.
@@ -54,7 +54,7 @@ pub trait Serializer {
     /// The same, and the serializer is ready for the next part.
     ghost awaits: { Self → Kind → Self → Self.Open → List (Option Tree) → Type 0 };
 
-    /// A bare compound, opened by the first serializer, is ready for the descriptor of its one value.
+    /// A single compound, opened by the first serializer, is ready for the descriptor of its one value.
     ghost awaits_descriptor: { Self → Self → Self.Open → Type 0 };
 
     /// The refusal of a misuse, as of a value without a key.
@@ -92,12 +92,12 @@ pub trait Serializer {
     /// A compound that was never opened, which stands where one was moved out.
     fn vacant(&self) -> Self::Open;
 
-    /// Makes ready for the next part. The first of a bare compound stands where the compound was opened: any call may
+    /// Makes ready for the next part. The first of a single compound stands where the compound was opened: any call may
     /// come there.
     fn begin_part(&mut self, held: &mut Self::Open)
         ensures ready { (start : Self) (kind : Kind) (ps : List (Option Tree)) →
             has start kind self.old held.old ps → awaits start kind self.new held.new ps }
-        ensures bare { (start : Self) → has start Kind.Bare self.old held.old [] →
+        ensures single { (start : Self) → has start Kind.Single self.old held.old [] →
             (t : Option Tree) (r : Result Self.Ok Self.Error) (after : Self) →
             permits self.new t r after → permits start t r after };
 
@@ -133,9 +133,9 @@ pub trait Serializer {
             has start kind self.new held.new ps × permits start None (Err result) self.new }
         ensures invalid { is_misuse result };
 
-    /// Makes ready for a descriptor, before the one value of a bare compound.
+    /// Makes ready for a descriptor, before the one value of a single compound.
     fn begin_descriptor(&mut self, held: &mut Self::Open)
-        ensures { (start : Self) → has start Kind.Bare self.old held.old [] →
+        ensures { (start : Self) → has start Kind.Single self.old held.old [] →
             awaits_descriptor start self.new held.new };
 
     /// Takes the answer on a descriptor: the value to come is described by it, or the compound is as it was. A refused
@@ -149,10 +149,10 @@ pub trait Serializer {
             awaits_descriptor start before held.old → permits before d part self.old →
             MatchResult result
             (λ _. (mid : Self)
-            × (has mid Kind.Bare self.new held.new []
+            × (has mid Kind.Single self.new held.new []
             × ((t : Option Tree) (r : Result Self.Ok Self.Error) (after : Self) →
             permits mid t r after → permits start (as_described (descriptor_of d) t) r after)))
-            (λ e. has start Kind.Bare self.new held.new [] × ((t : Option Tree) →
+            (λ e. has start Kind.Single self.new held.new [] × ((t : Option Tree) →
             permits start (as_described (descriptor_of d) t) (Err e) self.new)) }
         ensures refused { IfErr part (λ _. IsErr result) }
         ensures other_kinds { (start before : Self) (d : Option Tree) →
@@ -383,24 +383,24 @@ pub trait Serializer {
             IfOk result
             (λ fields. Stands Self.permits Self.has self.old None Kind.List fields.serializer.now
             fields.held []) }
-        ensures bare { is_tagged name.now ≡ true →
+        ensures single { is_tagged name.now ≡ true →
             IfOk result
-            (λ fields. Stands Self.permits Self.has self.old None Kind.Bare fields.serializer.now
+            (λ fields. Stands Self.permits Self.has self.old None Kind.Single fields.serializer.now
             fields.held []) }
-        ensures body { IfOk result (λ fields. fields.bare ≡ is_basic_name name.now) }
+        ensures form { IfOk result (λ fields. fields.single ≡ is_basic_name name.now) }
         ensures awaits { IfOk result (λ fields. (fields.awaits ≡ is_tagged name.now)
             × (fields.opened ≡ not (is_tagged name.now))) }
         ensures same_reference { IfOk result
             (λ fields. fields.serializer.ghost_name ≡ self.entry.ghost_name) }
         ensures succeeds { IsOk result }
     {
-        let bare = is_basic_name(name);
+        let single = is_basic_name(name);
         if is_tagged(name) {
-            let held = self.begin(Kind::Bare);
-            return Ok(SerializeTupleStruct::new(self, held, bare, true));
+            let held = self.begin(Kind::Single);
+            return Ok(SerializeTupleStruct::new(self, held, single, true));
         }
         let held = self.begin(Kind::List);
-        Ok(SerializeTupleStruct::new(self, held, bare, false))
+        Ok(SerializeTupleStruct::new(self, held, single, false))
     }
 
     /// Begins to serialize a struct: a list of its fields, a map from their names or the one field itself, as its name
@@ -415,17 +415,17 @@ pub trait Serializer {
     where
         Self: Sized,
         ensures opened { IfOk result
-            (λ fields. Stands Self.permits Self.has self.old None Kind.Bare fields.serializer.now
+            (λ fields. Stands Self.permits Self.has self.old None Kind.Single fields.serializer.now
             fields.held []) }
-        ensures body { IfOk result (λ fields. fields.body ≡ struct_body name.now) }
+        ensures form { IfOk result (λ fields. fields.form ≡ struct_form name.now) }
         ensures empty { IfOk result (λ fields. (fields.described ≡ false)
             × (fields.opened ≡ false)) }
         ensures same_reference { IfOk result
             (λ fields. fields.serializer.ghost_name ≡ self.entry.ghost_name) }
         ensures succeeds { IsOk result }
     {
-        let held = self.begin(Kind::Bare);
-        Ok(SerializeStruct::new(self, held, struct_body(name)))
+        let held = self.begin(Kind::Single);
+        Ok(SerializeStruct::new(self, held, struct_form(name)))
     }
 
     /// Serializes a described value: a descriptor, which is a ulong or a symbol, before a value.
@@ -477,14 +477,14 @@ pub trait Serializer {
         Self: Sized,
         ensures answered { Self.permits self.old (named_variant name.now index (T.tree v.now))
             result self.new }
-        ensures invalid { is_value name.now ≡ false → is_descriptor name.now ≡ true →
+        ensures invalid { is_value_name name.now ≡ false → is_descriptor_name name.now ≡ true →
             IsErr result × IfErr result Self.is_misuse }
     {
         if is_value_name(name) {
             return v.serialize(self);
         }
-        let mut held = self.begin(Kind::Only(index));
-        if is_descriptor_key(name) {
+        let mut held = self.begin(Kind::NewtypeVariant(index));
+        if is_descriptor_name(name) {
             return Err(self.misuse(&mut held));
         }
         feed_part(self, &mut held, v)?;
@@ -503,13 +503,13 @@ pub trait Serializer {
     where
         Self: Sized,
         ensures opened { IfOk result
-            (λ variant. Self.has self.old (Kind.Fields index) variant.serializer.now
+            (λ variant. Self.has self.old (Kind.Variant index) variant.serializer.now
             variant.held []) }
         ensures same_reference { IfOk result
             (λ variant. variant.serializer.ghost_name ≡ self.entry.ghost_name) }
         ensures succeeds { IsOk result }
     {
-        let held = self.begin(Kind::Fields(index));
+        let held = self.begin(Kind::Variant(index));
         Ok(SerializeTupleVariant::new(self, held))
     }
 
@@ -525,13 +525,13 @@ pub trait Serializer {
     where
         Self: Sized,
         ensures opened { IfOk result
-            (λ variant. Self.has self.old (Kind.Fields index) variant.serializer.now
+            (λ variant. Self.has self.old (Kind.Variant index) variant.serializer.now
             variant.held []) }
         ensures same_reference { IfOk result
             (λ variant. variant.serializer.ghost_name ≡ self.entry.ghost_name) }
         ensures succeeds { IsOk result }
     {
-        let opened = self.begin(Kind::Fields(index));
+        let opened = self.begin(Kind::Variant(index));
         Ok(SerializeStructVariant::new(self, opened))
     }
 }

@@ -5,24 +5,24 @@ use Rattle.amqp_size.specs.declared.refusal.Refusal.TheVariants as error
 use Rattle.amqp_ser.specs.Tree.{Scalar, null, bool, ubyte, ushort, uint, ulong, byte, short, int, long, float, double, decimal32, decimal64, decimal128, char, timestamp, uuid, binary, string, symbol, Descriptor, name, code, Tree, scalar, list, array, map, described, variant, lazy, transparent}
 use Rattle.amqp_ser.specs.Limits.{is_length}
 use Rattle.amqp_ser.specs.Scalars.{scalar_form}
-use Rattle.amqp_ser.specs.Encoding.{enc, descriptor_form}
-use Rattle.amqp_ser.specs.Writable.{alike, within, scalar_fits, descriptor_fits}
+use Rattle.amqp_ser.specs.Encoding.{encoding, descriptor_form}
+use Rattle.amqp_ser.specs.Writable.{uniform_arrays, within_limits, scalar_fits, descriptor_fits}
 use Rattle.amqp_ser.specs.Composites.{scalar_descriptor, descriptor_of, as_described}
 use Rattle.amqp_ser.specs.Marked.{marked}
 use Rattle.amqp_ser.specs.declared.mark.Mark.TheVariants as mark
 use Rattle.amqp_size.specs.Refused.{refuses_none}
 use Rattle.amqp_ser.proofs.Bools.{left_false, right_false, le_false, le_true, is_le}
-use Rattle.amqp_size.specs.Place.{outer, meant, rest, stand, suits, next, extent, within_at, described_under, the_mark}
-use Rattle.amqp_size.specs.Counted.{at_place, refused}
-use Rattle.amqp_size.specs.Take.{undescribed}
-use Rattle.amqp_size.specs.declared.place.Base.{Base}
-use Rattle.amqp_size.specs.declared.place.Base.TheVariants as base
-use Rattle.amqp_size.specs.WholePlace.{Place}
-use Rattle.amqp_size.specs.WholePlace as place
-use Rattle.amqp_size.specs.WholeUnder.{Under}
-use Rattle.amqp_size.specs.WholeUnder as under
-use Rattle.amqp_size.specs.declared.place.ScalarMark.{ScalarMark}
-use Rattle.amqp_size.specs.declared.place.ScalarMark.TheVariants as scalar_mark
+use Rattle.amqp_size.specs.Position.{position_of, meant, without_prefix, base_position, suits, next, extent, within_limits_at, described_pending, the_mark}
+use Rattle.amqp_size.specs.SizeSerializer.{at_position, refused}
+use Rattle.amqp_size.specs.AddPart.{undescribed}
+use Rattle.amqp_size.specs.declared.position.BasePosition.{BasePosition}
+use Rattle.amqp_size.specs.declared.position.BasePosition.TheVariants as base
+use Rattle.amqp_size.specs.WholePosition.{Position}
+use Rattle.amqp_size.specs.WholePosition as position
+use Rattle.amqp_size.specs.WholePending.{Pending}
+use Rattle.amqp_size.specs.WholePending as pending
+use Rattle.amqp_size.specs.declared.position.ScalarMark.{ScalarMark}
+use Rattle.amqp_size.specs.declared.position.ScalarMark.TheVariants as scalar_mark
 
 -- the bytes and the limit of a descriptor are those of its scalar
 of_scalar : (s : Scalar) (x : Descriptor) → scalar_descriptor s ≡ Some x → (scalar_fits s ≡ descriptor_fits x) × (scalar_form s ≡ descriptor_form x)
@@ -49,7 +49,7 @@ of_scalar (binary bs) x h = cc
 of_scalar (string bs) x h = cc
 
 -- so a tree that is a descriptor
-pub of_tree : (t : Tree) (x : Descriptor) → descriptor_of (Some t) ≡ Some x → (within t ≡ descriptor_fits x) × ((enc t ≡ descriptor_form x) × (alike t ≡ true))
+pub of_tree : (t : Tree) (x : Descriptor) → descriptor_of (Some t) ≡ Some x → (within_limits t ≡ descriptor_fits x) × ((encoding t ≡ descriptor_form x) × (uniform_arrays t ≡ true))
 of_tree (scalar s) x h = let e = of_scalar s x h in (e.0, (e.1, refl))
 of_tree (list ts) x h = cc
 of_tree (array ts) x h = cc
@@ -64,53 +64,53 @@ some_of None h = cc
 some_of (Some x) h = (x, refl)
 
 -- a descriptor that was counted
-pub counted_descriptor : (d : Option Tree) (n : ℕ) (after : Under) → at_place place.Descriptor d (Ok n) after →
+pub counted_descriptor : (d : Option Tree) (n : ℕ) (after : Pending) → at_position position.Descriptor d (Ok n) after →
     (x : Descriptor) × ((descriptor_of d ≡ Some x) × ((n ≡ length (descriptor_form x)) × (descriptor_fits x ≡ true)))
 counted_descriptor None n after h = absurd h
 counted_descriptor (Some t) n after h =
     let s = some_of (descriptor_of (Some t)) h.suited in
     let e = of_tree t s.0 s.1 in
-    (s.0, (s.1, (h.len ∙ ap length e.1.0, sym e.0 ∙ h.within_it)))
+    (s.0, (s.1, (h.len ∙ ap length e.1.0, sym e.0 ∙ h.within_limits_it)))
 
-pub length-described : (x : Descriptor) (t : Tree) (n : ℕ) → n ≡ length (descriptor_form x) → length (enc (described x t)) ≡ n + 1 + length (enc t)
+pub length-described : (x : Descriptor) (t : Tree) (n : ℕ) → n ≡ length (descriptor_form x) → length (encoding (described x t)) ≡ n + 1 + length (encoding t)
 length-described x t n e = simp length-append (omega arith)
 
-value_step : (p : Place) (k : ℕ) (b : Base) (x : Descriptor) → rest p ≡ stand b → ((t : Tree) → within_at (place.Value k b) t ≡ within_at p (described x t)) → ((t : Tree) → suits (place.Value k b) t ≡ suits p (described x t)) →
-    ((t : Tree) → suits p (described x t) ≡ true → extent (place.Value k b) t ≡ extent p (described x t)) → ((t : Tree) → next p (described x t) ≡ stand b) →
-    (t : Option Tree) (r : Result ℕ Refusal) (after : Under) → at_place (place.Value k b) t r after → at_place p (as_described (Some x) t) r after
+value_step : (p : Position) (k : ℕ) (b : BasePosition) (x : Descriptor) → without_prefix p ≡ base_position b → ((t : Tree) → within_limits_at (position.Value k b) t ≡ within_limits_at p (described x t)) → ((t : Tree) → suits (position.Value k b) t ≡ suits p (described x t)) →
+    ((t : Tree) → suits p (described x t) ≡ true → extent (position.Value k b) t ≡ extent p (described x t)) → ((t : Tree) → next p (described x t) ≡ base_position b) →
+    (t : Option Tree) (r : Result ℕ Refusal) (after : Pending) → at_position (position.Value k b) t r after → at_position p (as_described (Some x) t) r after
 value_step p k b x same limit fitting len then None (Ok n) after h = absurd h
-value_step p k b x same limit fitting len then None (Err e) after h = (h.0, h.1 ∙ ap under.Plain (sym same))
+value_step p k b x same limit fitting len then None (Err e) after h = (h.0, h.1 ∙ ap pending.Plain (sym same))
 value_step p k b x same limit fitting len then (Some t) (Ok n) after h =
     let s = sym (fitting t) ∙ h.suited in
     record {
-      within_it = sym (limit t) ∙ h.within_it;
-      alike_it = h.alike_it;
+      within_limits_it = sym (limit t) ∙ h.within_limits_it;
+      uniform_arrays_it = h.uniform_arrays_it;
       suited = s;
       len = h.len ∙ len t s;
-      place = h.place ∙ ap under.Plain (sym (then t));
+      position = h.position ∙ ap pending.Plain (sym (then t));
     }
-value_step p k b x same limit fitting len then (Some t) (Err error.TooLong) after h = (sym (limit t) ∙ h.0, h.1 ∙ ap under.Plain (sym same))
-value_step p k b x same limit fitting len then (Some t) (Err error.InvalidValue) after h = (ap (λ s. alike t && s) (sym (fitting t)) ∙ h.0, h.1 ∙ ap under.Plain (sym same))
+value_step p k b x same limit fitting len then (Some t) (Err error.TooLong) after h = (sym (limit t) ∙ h.0, h.1 ∙ ap pending.Plain (sym same))
+value_step p k b x same limit fitting len then (Some t) (Err error.InvalidValue) after h = (ap (λ s. uniform_arrays t && s) (sym (fitting t)) ∙ h.0, h.1 ∙ ap pending.Plain (sym same))
 value_step p k b x same limit fitting len then (Some t) (Err e) after h = absurd h.0
 
--- the limits of a described value at a place
+-- the limits of a described value at a position
 nested : (a b f w : Bool) → f ≡ true → (a ≡ true → b ≡ true) → (a && w) ≡ (a && (b && (f && w)))
 nested true b f w q r = sym (ap (λ x. x && (f && w)) (r refl) ∙ ap (λ x. x && w) q)
 nested false b f w q r = refl
 
 limit_after : (x : Descriptor) (n h : ℕ) → n ≡ length (descriptor_form x) → descriptor_fits x ≡ true → (t : Tree) →
-    (is_length (h + (n + 1) + length (enc t)) && within t) ≡ (is_length (h + length (enc (described x t))) && (is_length (length (enc (described x t))) && (descriptor_fits x && within t)))
+    (is_length (h + (n + 1) + length (encoding t)) && within_limits t) ≡ (is_length (h + length (encoding (described x t))) && (is_length (length (encoding (described x t))) && (descriptor_fits x && within_limits t)))
 limit_after x n h e f t =
     let len = length-described x t n e in
-    let same : h + (n + 1) + length (enc t) ≡ h + length (enc (described x t)) = omega arith in
-    ap (λ k. is_length k && within t) same ∙
-    nested (is_length (h + length (enc (described x t)))) (is_length (length (enc (described x t)))) (descriptor_fits x) (within t) f
-    (λ q. let l = is_le (h + length (enc (described x t))) 18446744073709551615 q in le_true (length (enc (described x t))) 18446744073709551615 (omega arith))
+    let same : h + (n + 1) + length (encoding t) ≡ h + length (encoding (described x t)) = omega arith in
+    ap (λ k. is_length k && within_limits t) same ∙
+    nested (is_length (h + length (encoding (described x t)))) (is_length (length (encoding (described x t)))) (descriptor_fits x) (within_limits t) f
+    (λ q. let l = is_le (h + length (encoding (described x t))) 18446744073709551615 q in le_true (length (encoding (described x t))) 18446744073709551615 (omega arith))
 
 limit_here : (x : Descriptor) (n : ℕ) → n ≡ length (descriptor_form x) → descriptor_fits x ≡ true → (t : Tree) →
-    (is_length (n + 1 + length (enc t)) && within t) ≡ (is_length (length (enc (described x t))) && (descriptor_fits x && within t))
+    (is_length (n + 1 + length (encoding t)) && within_limits t) ≡ (is_length (length (encoding (described x t))) && (descriptor_fits x && within_limits t))
 limit_here x n e f t =
-    ap (λ k. is_length k && within t) (sym (length-described x t n e)) ∙ ap (λ b. is_length (length (enc (described x t))) && (b && within t)) (sym f)
+    ap (λ k. is_length k && within_limits t) (sym (length-described x t n e)) ∙ ap (λ b. is_length (length (encoding (described x t))) && (b && within_limits t)) (sym f)
 
 never : false ≡ true → ⊥
 never q = cc
@@ -132,81 +132,81 @@ pub no_transparent_described : (x : Descriptor) (t : Option Tree) → marked mar
 no_transparent_described x None = refl
 no_transparent_described x (Some t) = refl
 
-some_under : (u v : Under) → Some u ≡ Some v → v ≡ u
-some_under u v q = cc
+some_pending : (u v : Pending) → Some u ≡ Some v → v ≡ u
+some_pending u v q = cc
 
--- an answer under the place that is meant, and one where nothing is
-answered : (u v : Under) (t : Option Tree) (r : Result ℕ Refusal) (after : Under) → v ≡ u → at_place (outer v) (meant v t) r after → at_place (outer u) (meant u t) r after
-answered u v t r after q h = subst (λ w. at_place (outer w) (meant w t) r after) q h
+-- an answer under the position that is meant, and one where nothing is
+answered : (u v : Pending) (t : Option Tree) (r : Result ℕ Refusal) (after : Pending) → v ≡ u → at_position (position_of v) (meant v t) r after → at_position (position_of u) (meant u t) r after
+answered u v t r after q h = subst (λ w. at_position (position_of w) (meant w t) r after) q h
 
 -- what is answered on a value is an answer on the described one
-pub described_step : (u v : Under) (n : ℕ) (x : Descriptor) → described_under u n ≡ Some v → n ≡ length (descriptor_form x) → descriptor_fits x ≡ true →
-    (t : Option Tree) (r : Result ℕ Refusal) (after : Under) → at_place (outer v) (meant v t) r after → at_place (outer u) (meant u (as_described (Some x) t)) r after
-described_step (under.Plain place.Root) v n x s e f t r after h =
-    value_step place.Root (n + 1) base.Root x refl (λ t. limit_here x n e f t) (λ t. refl) (λ t q. sym (length-described x t n e)) (λ t. refl) t r after
-    (answered (under.Plain (place.Value (n + 1) base.Root)) v t r after (some_under _ v s) h)
-described_step (under.Plain place.Inside) v n x s e f t r after h =
-    value_step place.Inside (n + 1) base.Inside x refl (λ t. limit_here x n e f t) (λ t. refl) (λ t q. sym (length-described x t n e)) (λ t. refl) t r after
-    (answered (under.Plain (place.Value (n + 1) base.Inside)) v t r after (some_under _ v s) h)
-described_step (under.Plain place.First) v n x s e f t r after h =
-    value_step place.First (n + 1) base.First x refl (λ t. limit_here x n e f t) (λ t. refl) (λ t q. absurd (never q)) (λ t. refl) t r after
-    (answered (under.Plain (place.Value (n + 1) base.First)) v t r after (some_under _ v s) h)
-described_step (under.Plain (place.Element c)) v n x s e f t r after h =
-    value_step (place.Element c) (n + 1) (base.Element c) x refl (λ t. limit_here x n e f t) (λ t. refl) (λ t q. absurd (never q)) (λ t. refl) t r after
-    (answered (under.Plain (place.Value (n + 1) (base.Element c))) v t r after (some_under _ v s) h)
-described_step (under.Plain place.Descriptor) v n x s e f t r after h = cc
-described_step (under.Plain (place.Value k b)) v n x s e f t r after h =
-    value_step (place.Value k b) (k + (n + 1)) b x refl (λ t. limit_after x n k e f t) (λ t. refl)
+pub described_step : (u v : Pending) (n : ℕ) (x : Descriptor) → described_pending u n ≡ Some v → n ≡ length (descriptor_form x) → descriptor_fits x ≡ true →
+    (t : Option Tree) (r : Result ℕ Refusal) (after : Pending) → at_position (position_of v) (meant v t) r after → at_position (position_of u) (meant u (as_described (Some x) t)) r after
+described_step (pending.Plain position.Root) v n x s e f t r after h =
+    value_step position.Root (n + 1) base.Root x refl (λ t. limit_here x n e f t) (λ t. refl) (λ t q. sym (length-described x t n e)) (λ t. refl) t r after
+    (answered (pending.Plain (position.Value (n + 1) base.Root)) v t r after (some_pending _ v s) h)
+described_step (pending.Plain position.Inside) v n x s e f t r after h =
+    value_step position.Inside (n + 1) base.Inside x refl (λ t. limit_here x n e f t) (λ t. refl) (λ t q. sym (length-described x t n e)) (λ t. refl) t r after
+    (answered (pending.Plain (position.Value (n + 1) base.Inside)) v t r after (some_pending _ v s) h)
+described_step (pending.Plain position.First) v n x s e f t r after h =
+    value_step position.First (n + 1) base.First x refl (λ t. limit_here x n e f t) (λ t. refl) (λ t q. absurd (never q)) (λ t. refl) t r after
+    (answered (pending.Plain (position.Value (n + 1) base.First)) v t r after (some_pending _ v s) h)
+described_step (pending.Plain (position.Element c)) v n x s e f t r after h =
+    value_step (position.Element c) (n + 1) (base.Element c) x refl (λ t. limit_here x n e f t) (λ t. refl) (λ t q. absurd (never q)) (λ t. refl) t r after
+    (answered (pending.Plain (position.Value (n + 1) (base.Element c))) v t r after (some_pending _ v s) h)
+described_step (pending.Plain position.Descriptor) v n x s e f t r after h = cc
+described_step (pending.Plain (position.Value k b)) v n x s e f t r after h =
+    value_step (position.Value k b) (k + (n + 1)) b x refl (λ t. limit_after x n k e f t) (λ t. refl)
     (λ t q. let len = length-described x t n e in omega arith) (λ t. refl) t r after
-    (answered (under.Plain (place.Value (k + (n + 1)) b)) v t r after (some_under _ v s) h)
-described_step (under.Array p) v n x s e f t r after h =
-    subst (λ o. at_place p o r after) (sym (no_array_described x t)) (answered (under.Nothing p) v t r after (some_under _ v s) h)
-described_step (under.Transparent p) v n x s e f t r after h =
-    subst (λ o. at_place p o r after) (sym (no_transparent_described x t)) (answered (under.Nothing p) v t r after (some_under _ v s) h)
-described_step (under.Scalar m p) v n x s e f t r after h =
-    subst (λ o. at_place p o r after) (sym (no_scalar_described m x t)) (answered (under.Nothing p) v t r after (some_under _ v s) h)
-described_step (under.Nothing p) v n x s e f t r after h = answered (under.Nothing p) v t r after (some_under _ v s) h
+    (answered (pending.Plain (position.Value (k + (n + 1)) b)) v t r after (some_pending _ v s) h)
+described_step (pending.Array p) v n x s e f t r after h =
+    subst (λ o. at_position p o r after) (sym (no_array_described x t)) (answered (pending.Nothing p) v t r after (some_pending _ v s) h)
+described_step (pending.Transparent p) v n x s e f t r after h =
+    subst (λ o. at_position p o r after) (sym (no_transparent_described x t)) (answered (pending.Nothing p) v t r after (some_pending _ v s) h)
+described_step (pending.Scalar m p) v n x s e f t r after h =
+    subst (λ o. at_position p o r after) (sym (no_scalar_described m x t)) (answered (pending.Nothing p) v t r after (some_pending _ v s) h)
+described_step (pending.Nothing p) v n x s e f t r after h = answered (pending.Nothing p) v t r after (some_pending _ v s) h
 
--- the serializer comes back to the place of the described value
-pub described_rest : (u v : Under) (n : ℕ) → described_under u n ≡ Some v → rest (outer u) ≡ rest (outer v)
-described_rest (under.Plain place.Root) v n s = sym (ap (λ w. rest (outer w)) (some_under _ v s))
-described_rest (under.Plain place.Inside) v n s = sym (ap (λ w. rest (outer w)) (some_under _ v s))
-described_rest (under.Plain place.First) v n s = sym (ap (λ w. rest (outer w)) (some_under _ v s))
-described_rest (under.Plain (place.Element c)) v n s = sym (ap (λ w. rest (outer w)) (some_under _ v s))
-described_rest (under.Plain place.Descriptor) v n s = cc
-described_rest (under.Plain (place.Value k b)) v n s = sym (ap (λ w. rest (outer w)) (some_under _ v s))
-described_rest (under.Array p) v n s = sym (ap (λ w. rest (outer w)) (some_under _ v s))
-described_rest (under.Transparent p) v n s = sym (ap (λ w. rest (outer w)) (some_under _ v s))
-described_rest (under.Scalar m p) v n s = sym (ap (λ w. rest (outer w)) (some_under _ v s))
-described_rest (under.Nothing p) v n s = sym (ap (λ w. rest (outer w)) (some_under _ v s))
+-- the serializer comes back to the position of the described value
+pub described_rest : (u v : Pending) (n : ℕ) → described_pending u n ≡ Some v → without_prefix (position_of u) ≡ without_prefix (position_of v)
+described_rest (pending.Plain position.Root) v n s = sym (ap (λ w. without_prefix (position_of w)) (some_pending _ v s))
+described_rest (pending.Plain position.Inside) v n s = sym (ap (λ w. without_prefix (position_of w)) (some_pending _ v s))
+described_rest (pending.Plain position.First) v n s = sym (ap (λ w. without_prefix (position_of w)) (some_pending _ v s))
+described_rest (pending.Plain (position.Element c)) v n s = sym (ap (λ w. without_prefix (position_of w)) (some_pending _ v s))
+described_rest (pending.Plain position.Descriptor) v n s = cc
+described_rest (pending.Plain (position.Value k b)) v n s = sym (ap (λ w. without_prefix (position_of w)) (some_pending _ v s))
+described_rest (pending.Array p) v n s = sym (ap (λ w. without_prefix (position_of w)) (some_pending _ v s))
+described_rest (pending.Transparent p) v n s = sym (ap (λ w. without_prefix (position_of w)) (some_pending _ v s))
+described_rest (pending.Scalar m p) v n s = sym (ap (λ w. without_prefix (position_of w)) (some_pending _ v s))
+described_rest (pending.Nothing p) v n s = sym (ap (λ w. without_prefix (position_of w)) (some_pending _ v s))
 
 -- no value may come after a descriptor that passes the limit, and a described value is no descriptor
-past_here : (x : Descriptor) (n : ℕ) → n ≡ length (descriptor_form x) → 18446744073709551615 < 0 + (n + 1) → (t : Tree) → within (described x t) ≡ false
+past_here : (x : Descriptor) (n : ℕ) → n ≡ length (descriptor_form x) → 18446744073709551615 < 0 + (n + 1) → (t : Tree) → within_limits (described x t) ≡ false
 past_here x n e h t =
     let len = length-described x t n e in
-    left_false (is_length (length (enc (described x t)))) (descriptor_fits x && within t) (le_false (length (enc (described x t))) 18446744073709551615 (omega arith))
+    left_false (is_length (length (encoding (described x t)))) (descriptor_fits x && within_limits t) (le_false (length (encoding (described x t))) 18446744073709551615 (omega arith))
 
-past_after : (k : ℕ) (b : Base) (x : Descriptor) (n : ℕ) → n ≡ length (descriptor_form x) → 18446744073709551615 < k + (n + 1) → (t : Tree) → within_at (place.Value k b) (described x t) ≡ false
+past_after : (k : ℕ) (b : BasePosition) (x : Descriptor) (n : ℕ) → n ≡ length (descriptor_form x) → 18446744073709551615 < k + (n + 1) → (t : Tree) → within_limits_at (position.Value k b) (described x t) ≡ false
 past_after k b x n e h t =
     let len = length-described x t n e in
-    left_false (is_length (k + length (enc (described x t)))) (within (described x t)) (le_false (k + length (enc (described x t))) 18446744073709551615 (omega arith))
+    left_false (is_length (k + length (encoding (described x t)))) (within_limits (described x t)) (le_false (k + length (encoding (described x t))) 18446744073709551615 (omega arith))
 
-too_long : (p : Place) (x : Descriptor) → ((t : Tree) → within_at p (described x t) ≡ false) → (t : Option Tree) (e : Refusal) → e ≡ error.TooLong → at_place p (as_described (Some x) t) (Err e) (under.Plain (rest p))
+too_long : (p : Position) (x : Descriptor) → ((t : Tree) → within_limits_at p (described x t) ≡ false) → (t : Option Tree) (e : Refusal) → e ≡ error.TooLong → at_position p (as_described (Some x) t) (Err e) (pending.Plain (without_prefix p))
 too_long p x h None e q = (subst refuses_none (sym q) tt, refl)
 too_long p x h (Some t) e q = (subst (λ y. refused p (described x t) y) (sym q) (h t), refl)
 
-pub no_nested : (x : Descriptor) (t : Option Tree) (e : Refusal) → e ≡ error.InvalidValue → at_place place.Descriptor (as_described (Some x) t) (Err e) (under.Plain place.Descriptor)
+pub no_nested : (x : Descriptor) (t : Option Tree) (e : Refusal) → e ≡ error.InvalidValue → at_position position.Descriptor (as_described (Some x) t) (Err e) (pending.Plain position.Descriptor)
 no_nested x None e q = (subst refuses_none (sym q) tt, refl)
-no_nested x (Some t) e q = (subst (λ y. refused place.Descriptor (described x t) y) (sym q) (right_false (alike t) false refl), refl)
+no_nested x (Some t) e q = (subst (λ y. refused position.Descriptor (described x t) y) (sym q) (right_false (uniform_arrays t) false refl), refl)
 
-pub described_refusal : (u : Under) (n : ℕ) (x : Descriptor) (e : Refusal) → undescribed u n e → n ≡ length (descriptor_form x) → (t : Option Tree) → at_place (outer u) (meant u (as_described (Some x) t)) (Err e) (under.Plain (rest (outer u)))
-described_refusal (under.Plain place.Root) n x e h l t = too_long place.Root x (past_here x n l h.1) t e h.0
-described_refusal (under.Plain place.Inside) n x e h l t = too_long place.Inside x (past_here x n l h.1) t e h.0
-described_refusal (under.Plain place.First) n x e h l t = too_long place.First x (past_here x n l h.1) t e h.0
-described_refusal (under.Plain (place.Element c)) n x e h l t = too_long (place.Element c) x (past_here x n l h.1) t e h.0
-described_refusal (under.Plain place.Descriptor) n x e h l t = no_nested x t e h
-described_refusal (under.Plain (place.Value k b)) n x e h l t = too_long (place.Value k b) x (past_after k b x n l h.1) t e h.0
-described_refusal (under.Array p) n x e h l t = absurd h
-described_refusal (under.Transparent p) n x e h l t = absurd h
-described_refusal (under.Scalar m p) n x e h l t = absurd h
-described_refusal (under.Nothing p) n x e h l t = absurd h
+pub described_refusal : (u : Pending) (n : ℕ) (x : Descriptor) (e : Refusal) → undescribed u n e → n ≡ length (descriptor_form x) → (t : Option Tree) → at_position (position_of u) (meant u (as_described (Some x) t)) (Err e) (pending.Plain (without_prefix (position_of u)))
+described_refusal (pending.Plain position.Root) n x e h l t = too_long position.Root x (past_here x n l h.1) t e h.0
+described_refusal (pending.Plain position.Inside) n x e h l t = too_long position.Inside x (past_here x n l h.1) t e h.0
+described_refusal (pending.Plain position.First) n x e h l t = too_long position.First x (past_here x n l h.1) t e h.0
+described_refusal (pending.Plain (position.Element c)) n x e h l t = too_long (position.Element c) x (past_here x n l h.1) t e h.0
+described_refusal (pending.Plain position.Descriptor) n x e h l t = no_nested x t e h
+described_refusal (pending.Plain (position.Value k b)) n x e h l t = too_long (position.Value k b) x (past_after k b x n l h.1) t e h.0
+described_refusal (pending.Array p) n x e h l t = absurd h
+described_refusal (pending.Transparent p) n x e h l t = absurd h
+described_refusal (pending.Scalar m p) n x e h l t = absurd h
+described_refusal (pending.Nothing p) n x e h l t = absurd h

@@ -6,134 +6,134 @@ use Rattle.amqp_ser.specs.Tree.{Tree}
 use Rattle.amqp_ser.specs.Compounds.{whole}
 use Rattle.amqp_ser.specs.declared.kind.Kind.{Kind}
 use Rattle.amqp_ser.specs.declared.kind.Kind.TheVariants as kinds
-use Rattle.amqp_size.specs.Place.{outer, meant, rest, is_array, is_gathered, limit_of}
-use Rattle.amqp_size.specs.Counted.{at_place, Holds, HoldsTransparent, HoldsBare, Holding}
-use Rattle.amqp_size.specs.Take.{opens_in, over}
-use Rattle.amqp_size.specs.WholePlace.{Root}
-use Rattle.amqp_size.specs.WholeUnder.{Under}
-use Rattle.amqp_size.specs.WholeUnder as under
-use Rattle.amqp_size.specs.declared.place.Shape.{Shape}
-use Rattle.amqp_size.specs.declared.place.Shape.TheVariants as shapes
+use Rattle.amqp_size.specs.Position.{position_of, meant, without_prefix, is_array, is_gathered, limit_of}
+use Rattle.amqp_size.specs.SizeSerializer.{at_position, HoldsGathered, HoldsTransparent, HoldsSingle, Holding}
+use Rattle.amqp_size.specs.AddPart.{opens_in, passes_limit}
+use Rattle.amqp_size.specs.WholePosition.{Root}
+use Rattle.amqp_size.specs.WholePending.{Pending}
+use Rattle.amqp_size.specs.WholePending as pending
+use Rattle.amqp_size.specs.declared.position.Shape.{Shape}
+use Rattle.amqp_size.specs.declared.position.Shape.TheVariants as shapes
 use Rattle.amqp_size.specs.declared.serializer.SizeSerializer.{SizeSerializer}
-use Rattle.amqp_size.specs.declared.open_compound.Open.{Open}
+use Rattle.amqp_size.specs.declared.open_compound.OpenCompound.{OpenCompound}
 use Rattle.amqp_size.proofs.Refusing.{refused_part}
 use Rattle.amqp_size.proofs.Part.{end_taken}
 use Rattle.amqp_size.proofs.Transparent.{taken_transparent, refused_transparent, over_transparent}
-use Rattle.amqp_size.proofs.Bare.{refused_bare, second_bare, first_bare}
+use Rattle.amqp_size.proofs.Single.{refused_single, second_single, first_single}
 
 -- between steps the serializer stands where it was opened
-pub at_rest : (start : SizeSerializer) (kind : Kind) (held : Open) (ps : List (Option Tree)) → Holding start kind held ps → rest held.place ≡ rest (outer start.place)
-at_rest start kind held ps (inl h) = ap rest h.place
-at_rest start kind held ps (inr (inl h)) = ap rest h.place
-at_rest start kind held ps (inr (inr h)) = h.place
+pub at_rest : (start : SizeSerializer) (kind : Kind) (held : OpenCompound) (ps : List (Option Tree)) → Holding start kind held ps → without_prefix held.position ≡ without_prefix (position_of start.position)
+at_rest start kind held ps (inl h) = ap without_prefix h.position
+at_rest start kind held ps (inr (inl h)) = ap without_prefix h.position
+at_rest start kind held ps (inr (inr h)) = h.position
 
 not_gathered : (s t : Shape) → s ≡ t → is_gathered t ≡ false → is_gathered s ≡ true → ⊥
 not_gathered s t q f g = let e = sym (ap is_gathered q) ∙ g in cc
 
-not_bare : shapes.Transparent ≡ shapes.Bare → ⊥
-not_bare q = cc
+not_single : shapes.Transparent ≡ shapes.Single → ⊥
+not_single q = cc
 
-no_list : kinds.Bare ≡ kinds.List → ⊥
+no_list : kinds.Single ≡ kinds.List → ⊥
 no_list q = cc
 
 -- the relation of each shape
-pub gathered_of : (start : SizeSerializer) (kind : Kind) (held : Open) (ps : List (Option Tree)) → Holding start kind held ps → is_gathered held.shape ≡ true → Holds start kind held ps
+pub gathered_of : (start : SizeSerializer) (kind : Kind) (held : OpenCompound) (ps : List (Option Tree)) → Holding start kind held ps → is_gathered held.shape ≡ true → HoldsGathered start kind held ps
 gathered_of start kind held ps (inl h) g = h
 gathered_of start kind held ps (inr (inl h)) g = absurd (not_gathered held.shape shapes.Transparent h.shape refl g)
-gathered_of start kind held ps (inr (inr h)) g = absurd (not_gathered held.shape shapes.Bare h.shape refl g)
+gathered_of start kind held ps (inr (inr h)) g = absurd (not_gathered held.shape shapes.Single h.shape refl g)
 
-pub transparent_of : (start : SizeSerializer) (kind : Kind) (held : Open) (ps : List (Option Tree)) → Holding start kind held ps → held.shape ≡ shapes.Transparent → HoldsTransparent start kind held ps
+pub transparent_of : (start : SizeSerializer) (kind : Kind) (held : OpenCompound) (ps : List (Option Tree)) → Holding start kind held ps → held.shape ≡ shapes.Transparent → HoldsTransparent start kind held ps
 transparent_of start kind held ps (inl h) s = absurd (not_gathered held.shape shapes.Transparent s refl h.gathered)
 transparent_of start kind held ps (inr (inl h)) s = h
-transparent_of start kind held ps (inr (inr h)) s = absurd (not_bare (sym s ∙ h.shape))
+transparent_of start kind held ps (inr (inr h)) s = absurd (not_single (sym s ∙ h.shape))
 
-pub bare_shape : (start : SizeSerializer) (kind : Kind) (held : Open) (ps : List (Option Tree)) → Holding start kind held ps → held.shape ≡ shapes.Bare → HoldsBare start kind held ps
-bare_shape start kind held ps (inl h) s = absurd (not_gathered held.shape shapes.Bare s refl h.gathered)
-bare_shape start kind held ps (inr (inl h)) s = absurd (not_bare (sym h.shape ∙ s))
-bare_shape start kind held ps (inr (inr h)) s = h
+pub single_shape : (start : SizeSerializer) (kind : Kind) (held : OpenCompound) (ps : List (Option Tree)) → Holding start kind held ps → held.shape ≡ shapes.Single → HoldsSingle start kind held ps
+single_shape start kind held ps (inl h) s = absurd (not_gathered held.shape shapes.Single s refl h.gathered)
+single_shape start kind held ps (inr (inl h)) s = absurd (not_single (sym h.shape ∙ s))
+single_shape start kind held ps (inr (inr h)) s = h
 
-pub bare_of : (start : SizeSerializer) (held : Open) (ps : List (Option Tree)) → Holding start kinds.Bare held ps → HoldsBare start kinds.Bare held ps
-bare_of start held ps (inl h) = absurd (not_gathered held.shape shapes.Bare h.shape refl h.gathered)
-bare_of start held ps (inr (inl h)) = absurd (no_list h.kind_is)
-bare_of start held ps (inr (inr h)) = h
+pub single_of : (start : SizeSerializer) (held : OpenCompound) (ps : List (Option Tree)) → Holding start kinds.Single held ps → HoldsSingle start kinds.Single held ps
+single_of start held ps (inl h) = absurd (not_gathered held.shape shapes.Single h.shape refl h.gathered)
+single_of start held ps (inr (inl h)) = absurd (no_list h.kind_is)
+single_of start held ps (inr (inr h)) = h
 
-no_maps : (kinds.Map ≡ kinds.List → ⊥) × (kinds.Map ≡ kinds.Bare → ⊥)
+no_maps : (kinds.Map ≡ kinds.List → ⊥) × (kinds.Map ≡ kinds.Single → ⊥)
 no_maps = (λ q. cc, λ q. cc)
 
-pub map_of : (start : SizeSerializer) (held : Open) (ps : List (Option Tree)) → Holding start kinds.Map held ps → Holds start kinds.Map held ps
+pub map_of : (start : SizeSerializer) (held : OpenCompound) (ps : List (Option Tree)) → Holding start kinds.Map held ps → HoldsGathered start kinds.Map held ps
 map_of start held ps (inl h) = h
 map_of start held ps (inr (inl h)) = absurd (no_maps.0 h.kind_is)
 map_of start held ps (inr (inr h)) = absurd (no_maps.1 h.kind_is)
 
 -- a refused part
-pub refused_any : (start : SizeSerializer) (kind : Kind) (held : Open) (ps : List (Option Tree)) → Holding start kind held ps → (p : Option Tree) (e : Refusal) (after : Under) →
-    at_place (outer held.inner) (meant held.inner p) (Err e) after → (others : List (Option Tree)) →
-    at_place (outer start.place) (meant start.place (whole kind (ps ++ (p ∷ others)))) (Err e) (under.Plain (rest held.place))
+pub refused_any : (start : SizeSerializer) (kind : Kind) (held : OpenCompound) (ps : List (Option Tree)) → Holding start kind held ps → (p : Option Tree) (e : Refusal) (after : Pending) →
+    at_position (position_of held.inner) (meant held.inner p) (Err e) after → (others : List (Option Tree)) →
+    at_position (position_of start.position) (meant start.position (whole kind (ps ++ (p ∷ others)))) (Err e) (pending.Plain (without_prefix held.position))
 refused_any start kind held ps (inl h) p e after r others =
-    refused_part start kind held ps h p e after (subst (λ u. at_place (outer u) (meant u p) (Err e) after) h.fed.inner r) others
+    refused_part start kind held ps h p e after (subst (λ u. at_position (position_of u) (meant u p) (Err e) after) h.fed.inner r) others
 refused_any start kind held ps (inr (inl h)) p e after r others =
-    refused_transparent start kind held ps h p e after (subst (λ u. at_place (outer u) (meant u p) (Err e) after) h.inner r) others
-refused_any start kind held ps (inr (inr h)) p e after r others = refused_bare start kind held ps h p e after r others
+    refused_transparent start kind held ps h p e after (subst (λ u. at_position (position_of u) (meant u p) (Err e) after) h.inner r) others
+refused_any start kind held ps (inr (inr h)) p e after r others = refused_single start kind held ps h p e after r others
 
 -- what is known of a part's counting
-pub record Taking (held new : Open) (size : ℕ) (after : Under) (res : Result (Unit {0}) Refusal) : Type 0 where
-  pub place : new.place ≡ held.place
+pub record Taking (held new : OpenCompound) (size : ℕ) (after : Pending) (res : Result (Unit {0}) Refusal) : Type 0 where
+  pub position : new.position ≡ held.position
   pub shape : new.shape ≡ held.shape
   pub few : held.count ≤ 4294967295 → new.count ≤ 4294967295
   pub small : new.sum ≤ limit_of new.shape
   pub kept : IfErr res (λ _. new ≡ held)
-  pub before : is_gathered held.shape ≡ true → IfOk res (λ _. new.before ≡ held.sum)
+  pub before_last : is_gathered held.shape ≡ true → IfOk res (λ _. new.before_last ≡ held.sum)
   pub gathered : is_gathered held.shape ≡ true → MatchResult res
       (λ _. (new.sum ≡ size + opens_in (is_array held.shape) held.inner after + held.sum) × ((new.count ≡ if is_array held.shape then held.count + 1 else held.count) × (new.inner ≡ if is_array held.shape then after else held.inner)))
-      (λ e. (e ≡ error.TooLong) × over (is_array held.shape) held.count (size + opens_in (is_array held.shape) held.inner after + held.sum))
+      (λ e. (e ≡ error.TooLong) × passes_limit (is_array held.shape) held.count (size + opens_in (is_array held.shape) held.inner after + held.sum))
   pub transparent : held.shape ≡ shapes.Transparent → MatchResult res
       (λ _. (new.sum ≡ size + held.sum) × (new.inner ≡ held.inner))
       (λ e. (e ≡ error.TooLong) × (18446744073709551615 < size + held.sum))
-  pub bare : held.shape ≡ shapes.Bare → MatchResult res
+  pub single : held.shape ≡ shapes.Single → MatchResult res
       (λ _. (held.count ≡ 0) × ((new.count ≡ 1) × ((new.sum ≡ size) × (new.inner ≡ after))))
       (λ e. (e ≡ error.InvalidValue) × (1 ≤ held.count))
 
-taken_joined : (start : SizeSerializer) (kind : Kind) (held new : Open) (ps : List (Option Tree)) → HoldsTransparent start kind held ps → (p : Option Tree) (size : ℕ) (after : Under) → at_place Root p (Ok size) after →
+taken_joined : (start : SizeSerializer) (kind : Kind) (held new : OpenCompound) (ps : List (Option Tree)) → HoldsTransparent start kind held ps → (p : Option Tree) (size : ℕ) (after : Pending) → at_position Root p (Ok size) after →
     (res : Result (Unit {0}) Refusal) → Taking held new size after res →
     MatchResult res (λ _. Holding start kind new (ps ++ (p ∷ [])))
-    (λ e. (others : List (Option Tree)) → at_place (outer start.place) (meant start.place (whole kind (ps ++ (p ∷ others)))) (Err e) (under.Plain (rest held.place)))
+    (λ e. (others : List (Option Tree)) → at_position (position_of start.position) (meant start.position (whole kind (ps ++ (p ∷ others)))) (Err e) (pending.Plain (without_prefix held.position)))
 taken_joined start kind held new ps h None size after r res k = absurd r
 taken_joined start kind held new ps h (Some t) size after r (Ok u) k =
     let m = k.transparent h.shape in
-    inr (inl (taken_transparent start kind held new ps h t size after r k.place k.shape m.0 m.1))
+    inr (inl (taken_transparent start kind held new ps h t size after r k.position k.shape m.0 m.1))
 taken_joined start kind held new ps h (Some t) size after r (Err e) k = λ others.
     let m = k.transparent h.shape in
-    subst (λ (x : Refusal). at_place (outer start.place) (meant start.place (whole kind (ps ++ (Some t ∷ others)))) (Err x) (under.Plain (rest held.place))) (sym m.0)
+    subst (λ (x : Refusal). at_position (position_of start.position) (meant start.position (whole kind (ps ++ (Some t ∷ others)))) (Err x) (pending.Plain (without_prefix held.position))) (sym m.0)
     (over_transparent start kind held ps h t size r.len m.1 others)
 
-taken_one : (start : SizeSerializer) (kind : Kind) (held new : Open) (ps : List (Option Tree)) → HoldsBare start kind held ps → (p : Option Tree) (size : ℕ) (after : Under) → at_place (outer held.inner) (meant held.inner p) (Ok size) after →
+taken_one : (start : SizeSerializer) (kind : Kind) (held new : OpenCompound) (ps : List (Option Tree)) → HoldsSingle start kind held ps → (p : Option Tree) (size : ℕ) (after : Pending) → at_position (position_of held.inner) (meant held.inner p) (Ok size) after →
     (res : Result (Unit {0}) Refusal) → Taking held new size after res →
     MatchResult res (λ _. Holding start kind new (ps ++ (p ∷ [])))
-    (λ e. (others : List (Option Tree)) → at_place (outer start.place) (meant start.place (whole kind (ps ++ (p ∷ others)))) (Err e) (under.Plain (rest held.place)))
+    (λ e. (others : List (Option Tree)) → at_position (position_of start.position) (meant start.position (whole kind (ps ++ (p ∷ others)))) (Err e) (pending.Plain (without_prefix held.position)))
 taken_one start kind held new ps h p size after r (Ok u) k =
-    let m = k.bare h.shape in
-    inr (inr (first_bare start kind held new ps h p size after r m.0 m.1.0 m.1.1.0 m.1.1.1 k.place k.shape))
+    let m = k.single h.shape in
+    inr (inr (first_single start kind held new ps h p size after r m.0 m.1.0 m.1.1.0 m.1.1.1 k.position k.shape))
 taken_one start kind held new ps h p size after r (Err e) k = λ others.
-    let m = k.bare h.shape in
-    subst (λ (x : Refusal). at_place (outer start.place) (meant start.place (whole kind (ps ++ (p ∷ others)))) (Err x) (under.Plain (rest held.place))) (sym m.0)
-    (second_bare start kind held ps h m.1 p others)
+    let m = k.single h.shape in
+    subst (λ (x : Refusal). at_position (position_of start.position) (meant start.position (whole kind (ps ++ (p ∷ others)))) (Err x) (pending.Plain (without_prefix held.position))) (sym m.0)
+    (second_single start kind held ps h m.1 p others)
 
-gathers : (start : SizeSerializer) (kind : Kind) (held new : Open) (ps : List (Option Tree)) (p : Option Tree) (res : Result (Unit {0}) Refusal) →
-    MatchResult res (λ _. Holds start kind new (ps ++ (p ∷ [])))
-    (λ e. (others : List (Option Tree)) → at_place (outer start.place) (meant start.place (whole kind (ps ++ (p ∷ others)))) (Err e) (under.Plain (rest held.place))) →
+gathers : (start : SizeSerializer) (kind : Kind) (held new : OpenCompound) (ps : List (Option Tree)) (p : Option Tree) (res : Result (Unit {0}) Refusal) →
+    MatchResult res (λ _. HoldsGathered start kind new (ps ++ (p ∷ [])))
+    (λ e. (others : List (Option Tree)) → at_position (position_of start.position) (meant start.position (whole kind (ps ++ (p ∷ others)))) (Err e) (pending.Plain (without_prefix held.position))) →
     MatchResult res (λ _. Holding start kind new (ps ++ (p ∷ [])))
-    (λ e. (others : List (Option Tree)) → at_place (outer start.place) (meant start.place (whole kind (ps ++ (p ∷ others)))) (Err e) (under.Plain (rest held.place)))
+    (λ e. (others : List (Option Tree)) → at_position (position_of start.position) (meant start.position (whole kind (ps ++ (p ∷ others)))) (Err e) (pending.Plain (without_prefix held.position)))
 gathers start kind held new ps p (Ok u) m = inl m
 gathers start kind held new ps p (Err e) m = m
 
 -- a part that was counted
-pub taken_any : (start : SizeSerializer) (kind : Kind) (held new : Open) (ps : List (Option Tree)) → Holding start kind held ps → (p : Option Tree) (size : ℕ) (after : Under) →
-    at_place (outer held.inner) (meant held.inner p) (Ok size) after → (res : Result (Unit {0}) Refusal) → Taking held new size after res →
+pub taken_any : (start : SizeSerializer) (kind : Kind) (held new : OpenCompound) (ps : List (Option Tree)) → Holding start kind held ps → (p : Option Tree) (size : ℕ) (after : Pending) →
+    at_position (position_of held.inner) (meant held.inner p) (Ok size) after → (res : Result (Unit {0}) Refusal) → Taking held new size after res →
     MatchResult res (λ _. Holding start kind new (ps ++ (p ∷ [])))
-    (λ e. (others : List (Option Tree)) → at_place (outer start.place) (meant start.place (whole kind (ps ++ (p ∷ others)))) (Err e) (under.Plain (rest held.place)))
+    (λ e. (others : List (Option Tree)) → at_position (position_of start.position) (meant start.position (whole kind (ps ++ (p ∷ others)))) (Err e) (pending.Plain (without_prefix held.position)))
 taken_any start kind held new ps (inl h) p size after r res k =
     gathers start kind held new ps p res
-    (end_taken start kind held new ps h p size after (subst (λ u. at_place (outer u) (meant u p) (Ok size) after) h.fed.inner r) k.place k.shape k.few k.small res (k.before h.gathered) k.kept (k.gathered h.gathered))
+    (end_taken start kind held new ps h p size after (subst (λ u. at_position (position_of u) (meant u p) (Ok size) after) h.fed.inner r) k.position k.shape k.few k.small res (k.before_last h.gathered) k.kept (k.gathered h.gathered))
 taken_any start kind held new ps (inr (inl h)) p size after r res k =
-    taken_joined start kind held new ps h p size after (subst (λ u. at_place (outer u) (meant u p) (Ok size) after) h.inner r) res k
+    taken_joined start kind held new ps h p size after (subst (λ u. at_position (position_of u) (meant u p) (Ok size) after) h.inner r) res k
 taken_any start kind held new ps (inr (inr h)) p size after r res k = taken_one start kind held new ps h p size after r res k

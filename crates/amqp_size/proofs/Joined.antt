@@ -1,37 +1,37 @@
 -- The bytes of parts after others.
 use Rattle.std.proofs.Common.{◌≡◌, ℕ, ◌+◌, List, Option, Some, None, Bool, true, false, length, refl, ap, arith, length-append}
 use Rattle.amqp_ser.specs.Tree.{Tree, Trees, no_trees, more}
-use Rattle.amqp_ser.specs.Encoding.{enc_each, payload, payload_each, code_list, con}
-use Rattle.amqp_ser.specs.Writable.{same_con, each_con}
+use Rattle.amqp_ser.specs.Encoding.{encoding_each, payload, payload_each, code_list, constructor}
+use Rattle.amqp_ser.specs.Writable.{same_constructor, each_constructor}
 use Rattle.amqp_ser.proofs.Bools.{left_true}
-use Rattle.amqp_ser.proofs.Joins.{join, enc_each-join, payload_each-join}
-use Rattle.amqp_size.specs.Place.{element, next, form}
-use Rattle.amqp_size.specs.Counted.{content, inner_of, one_in}
-use Rattle.amqp_size.specs.Take.{opens}
-use Rattle.amqp_size.specs.WholePlace.{First}
+use Rattle.amqp_ser.proofs.Joins.{join, encoding_each-join, payload_each-join}
+use Rattle.amqp_size.specs.Position.{element, next, form}
+use Rattle.amqp_size.specs.SizeSerializer.{content, inner_of, one_in}
+use Rattle.amqp_size.specs.AddPart.{opens}
+use Rattle.amqp_size.specs.WholePosition.{First}
 
 -- the rest of the bytes
 abbrev pub rest_of : Bool → Trees → List ℕ
-rest_of false us = enc_each us
+rest_of false us = encoding_each us
 rest_of true us = payload_each us
 
 code_list-opens : (o : Option ℕ) → length (code_list o) ≡ opens First (element o)
 code_list-opens None = refl
 code_list-opens (Some c) = refl
 
-pub some_con : (o : Option ℕ) → same_con o o ≡ true → (c : ℕ) × (o ≡ Some c)
+pub some_con : (o : Option ℕ) → same_constructor o o ≡ true → (c : ℕ) × (o ≡ Some c)
 some_con None h = cc
 some_con (Some c) h = (c, refl)
 
 -- the bytes of the parts, one more and others
 pub content-join : (arr : Bool) (ts : Trees) (t : Tree) (us : Trees) → one_in arr ts ≡ true →
     length (content arr (join ts (more t us))) ≡ length (form (inner_of arr ts) t) + opens (inner_of arr ts) (next (inner_of arr ts) t) + length (content arr ts) + length (rest_of arr us)
-content-join false ts t us h = simp (enc_each-join, length-append) (omega arith)
-content-join true no_trees t us h = let e = code_list-opens (con t) in simp length-append (omega arith)
+content-join false ts t us h = simp (encoding_each-join, length-append) (omega arith)
+content-join true no_trees t us h = let e = code_list-opens (constructor t) in simp length-append (omega arith)
 content-join true (more v ts) t us h =
-    let s = some_con (con v) (left_true (same_con (con v) (con v)) (each_con (con v) ts) h) in
-    let e : con v ≡ Some s.0 = s.1 in
-    let a : form (element (con v)) t ≡ payload t = ap (λ o. form (element o) t) e in
-    let b : opens (element (con v)) (next (element (con v)) t) ≡ 0 = ap (λ o. opens (element o) (next (element o) t)) e in
+    let s = some_con (constructor v) (left_true (same_constructor (constructor v) (constructor v)) (each_constructor (constructor v) ts) h) in
+    let e : constructor v ≡ Some s.0 = s.1 in
+    let a : form (element (constructor v)) t ≡ payload t = ap (λ o. form (element o) t) e in
+    let b : opens (element (constructor v)) (next (element (constructor v)) t) ≡ 0 = ap (λ o. opens (element o) (next (element o) t)) e in
     let c = ap length a in
     simp (payload_each-join, length-append) (omega arith)

@@ -4,7 +4,7 @@ use Rattle.std.proofs.lemmas.Bool.Decides.{nat_tests}
 use Rattle.amqp_ser.specs.Tree.{Tree, uint}
 use Rattle.amqp_ser.specs.Limits.{is_short}
 use Rattle.amqp_ser.specs.Scalars.{scalar_form}
-use Rattle.amqp_ser.specs.Encoding.{enc, counted, wide, list_form}
+use Rattle.amqp_ser.specs.Encoding.{encoding, counted, wide, list_form}
 use Rattle.amqp_size.specs.Width.{map_width, list_width, uint_width}
 
 if_len : (t : Bool) (xs ys : List ℕ) (m n : ℕ) → length xs ≡ m → length ys ≡ n → length (if t then xs else ys) ≡ (if t then m else n)
@@ -21,5 +21,5 @@ pub length-list_form : (n : ℕ) (body : List ℕ) → length (list_form n body)
 length-list_form n [] = refl
 length-list_form n (b ∷ bs) = let e = length-counted 0xc0 0xd0 n (b ∷ bs) in grind (arith, nat_tests)
 
-pub length-variant : (i : ℕ) (t : Tree) (size : ℕ) → size ≡ length (enc t) → length (scalar_form (uint i) ++ enc t) ≡ uint_width i + size
+pub length-variant : (i : ℕ) (t : Tree) (size : ℕ) → size ≡ length (encoding t) → length (scalar_form (uint i) ++ encoding t) ≡ uint_width i + size
 length-variant i t size e = let u = length-uint i in simp length-append (omega arith)

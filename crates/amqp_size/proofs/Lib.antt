@@ -1,4 +1,4 @@
-pub mod Bare
+pub mod Single
 pub mod Described
 pub mod Fixed
 pub mod Holding
@@ -6,7 +6,7 @@ pub mod Joined
 pub mod Lengths
 pub mod NoTree
 pub mod Part
-pub mod Places
+pub mod Positions
 pub mod Refusing
 pub mod Root
 pub mod Settled

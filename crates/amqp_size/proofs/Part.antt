@@ -3,25 +3,25 @@ use Rattle.std.proofs.Common.{◌≡◌, ℕ, ◌+◌, ◌≤◌, List, [], ◌�
 use Rattle.amqp_size.specs.declared.refusal.Refusal.{Refusal}
 use Rattle.amqp_size.specs.declared.refusal.Refusal.TheVariants as error
 use Rattle.amqp_ser.specs.Tree.{Tree, Trees, no_trees, more}
-use Rattle.amqp_ser.specs.Encoding.{con}
-use Rattle.amqp_ser.specs.Writable.{same_con, each_con, alike, alike_each, within, within_each, inside, inside_each}
-use Rattle.amqp_ser.specs.Compounds.{all_trees, before, whole, paired}
+use Rattle.amqp_ser.specs.Encoding.{constructor}
+use Rattle.amqp_ser.specs.Writable.{same_constructor, each_constructor, uniform_arrays, uniform_arrays_each, within_limits, within_limits_each, inside, inside_each}
+use Rattle.amqp_ser.specs.Compounds.{all_trees, prepend, whole, paired}
 use Rattle.amqp_ser.specs.declared.kind.Kind.{Kind}
 use Rattle.amqp_ser.specs.declared.kind.Kind.TheVariants as kinds
 use Rattle.amqp_ser.proofs.Bools.{nat_eq-refl, both, left_true, right_true, le_true, is_le}
-use Rattle.amqp_ser.proofs.Joins.{join, joined, all_trees-append, alike-join, within-join, inside-join, each-join, count-join}
+use Rattle.amqp_ser.proofs.Joins.{join, joined, all_trees-append, uniform_arrays-join, within_limits-join, inside-join, each-join, count-join}
 use Rattle.amqp_ser.proofs.Last.{last_off, paired-last}
 use Rattle.amqp_ser.proofs.Pairing.{even}
-use Rattle.amqp_size.specs.Place.{outer, meant, rest, limit_of, shape_of, is_array, is_gathered, element, next, suits, form}
-use Rattle.amqp_size.specs.Counted.{at_place, Counted, Holds, content, counts, one_in, inner_of}
-use Rattle.amqp_size.specs.Take.{opens, opens_in, over}
-use Rattle.amqp_size.specs.WholePlace.{Place}
-use Rattle.amqp_size.specs.WholeUnder.{Under}
-use Rattle.amqp_size.specs.WholeUnder as under
+use Rattle.amqp_size.specs.Position.{position_of, meant, without_prefix, limit_of, shape_of, is_array, is_gathered, element, next, suits, form}
+use Rattle.amqp_size.specs.SizeSerializer.{at_position, Counted, HoldsGathered, content, counts, one_in, inner_of}
+use Rattle.amqp_size.specs.AddPart.{opens, opens_in, passes_limit}
+use Rattle.amqp_size.specs.WholePosition.{Position}
+use Rattle.amqp_size.specs.WholePending.{Pending}
+use Rattle.amqp_size.specs.WholePending as pending
 use Rattle.amqp_size.specs.declared.serializer.SizeSerializer.{SizeSerializer}
-use Rattle.amqp_size.specs.declared.open_compound.Open.{Open}
+use Rattle.amqp_size.specs.declared.open_compound.OpenCompound.{OpenCompound}
 use Rattle.amqp_size.proofs.Joined.{content-join, rest_of, some_con}
-use Rattle.amqp_size.proofs.Places.{within_inner, extent_inner, gathered_limit}
+use Rattle.amqp_size.proofs.Positions.{within_inner, extent_inner, gathered_limit}
 use Rattle.amqp_size.proofs.Refusing.{over_part}
 
 more_counted : (arr : Bool) (ts : Trees) (t : Tree) (n : ℕ) → n ≡ counts arr ts → (if arr then n + 1 else n) ≡ counts arr (join ts (more t no_trees))
@@ -32,7 +32,7 @@ nothing_after : (arr : Bool) → length (rest_of arr no_trees) ≡ 0
 nothing_after true = refl
 nothing_after false = refl
 
-is_some-same : (o : Option ℕ) → is_some o ≡ true → same_con o o ≡ true
+is_some-same : (o : Option ℕ) → is_some o ≡ true → same_constructor o o ≡ true
 is_some-same None h = cc
 is_some-same (Some c) h = nat_eq-refl c
 
@@ -40,39 +40,39 @@ pub next_inner : (arr : Bool) (ts : Trees) (t : Tree) → one_in arr ts ≡ true
 next_inner false ts t h = refl
 next_inner true no_trees t h = refl
 next_inner true (more v ts) t h =
-    let c = some_con (con v) (left_true (same_con (con v) (con v)) (each_con (con v) ts) h) in
+    let c = some_con (constructor v) (left_true (same_constructor (constructor v) (constructor v)) (each_constructor (constructor v) ts) h) in
     ap (λ o. next (element o) t) c.1 ∙ sym (ap element c.1)
 
--- what suits its place has nothing transparent inside
+-- what suits its position has nothing transparent inside
 pub suited_inside : (arr : Bool) (ts : Trees) (t : Tree) → one_in arr ts ≡ true → suits (inner_of arr ts) t ≡ true → inside t ≡ true
 suited_inside false ts t h s = s
-suited_inside true no_trees t h s = right_true (is_some (con t)) (inside t) s
+suited_inside true no_trees t h s = right_true (is_some (constructor t)) (inside t) s
 suited_inside true (more v ts) t h s =
-    let c = some_con (con v) (left_true (same_con (con v) (con v)) (each_con (con v) ts) h) in
-    right_true (same_con (Some c.0) (con t)) (inside t) (sym (ap (λ o. suits (element o) t) c.1) ∙ s)
+    let c = some_con (constructor v) (left_true (same_constructor (constructor v) (constructor v)) (each_constructor (constructor v) ts) h) in
+    right_true (same_constructor (Some c.0) (constructor t)) (inside t) (sym (ap (λ o. suits (element o) t) c.1) ∙ s)
 
 pub more_one : (arr : Bool) (ts : Trees) (t : Tree) → one_in arr ts ≡ true → suits (inner_of arr ts) t ≡ true → one_in arr (join ts (more t no_trees)) ≡ true
 more_one false ts t h s = refl
-more_one true no_trees t h s = both (same_con (con t) (con t)) true (is_some-same (con t) (left_true (is_some (con t)) (inside t) s)) refl
+more_one true no_trees t h s = both (same_constructor (constructor t) (constructor t)) true (is_some-same (constructor t) (left_true (is_some (constructor t)) (inside t) s)) refl
 more_one true (more v ts) t h s =
-    let mine = left_true (same_con (con v) (con v)) (each_con (con v) ts) h in
-    let others = right_true (same_con (con v) (con v)) (each_con (con v) ts) h in
-    let c = some_con (con v) mine in
-    let new : same_con (con v) (con t) ≡ true = ap (λ o. same_con o (con t)) c.1 ∙ left_true (same_con (Some c.0) (con t)) (inside t) (sym (ap (λ o. suits (element o) t) c.1) ∙ s) in
-    both (same_con (con v) (con v)) (each_con (con v) (join ts (more t no_trees))) mine
-    (each-join (con v) ts (more t no_trees) ∙ both (each_con (con v) ts) (same_con (con v) (con t) && true) others (both (same_con (con v) (con t)) true new refl))
+    let mine = left_true (same_constructor (constructor v) (constructor v)) (each_constructor (constructor v) ts) h in
+    let others = right_true (same_constructor (constructor v) (constructor v)) (each_constructor (constructor v) ts) h in
+    let c = some_con (constructor v) mine in
+    let new : same_constructor (constructor v) (constructor t) ≡ true = ap (λ o. same_constructor o (constructor t)) c.1 ∙ left_true (same_constructor (Some c.0) (constructor t)) (inside t) (sym (ap (λ o. suits (element o) t) c.1) ∙ s) in
+    both (same_constructor (constructor v) (constructor v)) (each_constructor (constructor v) (join ts (more t no_trees))) mine
+    (each-join (constructor v) ts (more t no_trees) ∙ both (each_constructor (constructor v) ts) (same_constructor (constructor v) (constructor t) && true) others (both (same_constructor (constructor v) (constructor t)) true new refl))
 
-opens_same : (arr : Bool) (ts : Trees) (q : Place) → opens_in arr (under.Plain (inner_of arr ts)) (under.Plain q) ≡ opens (inner_of arr ts) q
+opens_same : (arr : Bool) (ts : Trees) (q : Position) → opens_in arr (pending.Plain (inner_of arr ts)) (pending.Plain q) ≡ opens (inner_of arr ts) q
 opens_same false ts q = refl
 opens_same true ts q = refl
 
-new_inner : (arr : Bool) (ts : Trees) (t : Tree) (old after : Under) → one_in arr ts ≡ true → old ≡ under.Plain (inner_of arr ts) → after ≡ under.Plain (next (inner_of arr ts) t) →
-    (if arr then after else old) ≡ under.Plain (inner_of arr (join ts (more t no_trees)))
+new_inner : (arr : Bool) (ts : Trees) (t : Tree) (old after : Pending) → one_in arr ts ≡ true → old ≡ pending.Plain (inner_of arr ts) → after ≡ pending.Plain (next (inner_of arr ts) t) →
+    (if arr then after else old) ≡ pending.Plain (inner_of arr (join ts (more t no_trees)))
 new_inner false ts t old after h e q = e
-new_inner true ts t old after h e q = q ∙ ap under.Plain (next_inner true ts t h)
+new_inner true ts t old after h e q = q ∙ ap pending.Plain (next_inner true ts t h)
 
 -- what is added to the sum
-added : (start : SizeSerializer) (kind : Kind) (held : Open) (ps : List (Option Tree)) (h : Holds start kind held ps) (t : Tree) (size : ℕ) (after : Under) → Counted (inner_of (is_array held.shape) h.ts) t size after →
+added : (start : SizeSerializer) (kind : Kind) (held : OpenCompound) (ps : List (Option Tree)) (h : HoldsGathered start kind held ps) (t : Tree) (size : ℕ) (after : Pending) → Counted (inner_of (is_array held.shape) h.ts) t size after →
     size + opens_in (is_array held.shape) held.inner after + held.sum ≡
     length (form (inner_of (is_array held.shape) h.ts) t) + opens (inner_of (is_array held.shape) h.ts) (next (inner_of (is_array held.shape) h.ts) t) + length (content (is_array held.shape) h.ts)
 added start kind held ps h t size after k =
@@ -80,17 +80,17 @@ added start kind held ps h t size after k =
     let i = inner_of arr h.ts in
     let len : size ≡ length (form i t) = k.len ∙ extent_inner arr h.ts t in
     let opened : opens_in arr held.inner after ≡ opens i (next i t) =
-    ap (λ u. opens_in arr u after) h.fed.inner ∙ ap (λ u. opens_in arr (under.Plain i) u) k.place ∙ opens_same arr h.ts (next i t) in
+    ap (λ u. opens_in arr u after) h.fed.inner ∙ ap (λ u. opens_in arr (pending.Plain i) u) k.position ∙ opens_same arr h.ts (next i t) in
     let sum = h.fed.sum in
     omega arith
 
 -- a part that was taken
-pub taken_part : (start : SizeSerializer) (kind : Kind) (held new : Open) (ps : List (Option Tree)) (h : Holds start kind held ps) (t : Tree) (size : ℕ) (after : Under) →
+pub taken_part : (start : SizeSerializer) (kind : Kind) (held new : OpenCompound) (ps : List (Option Tree)) (h : HoldsGathered start kind held ps) (t : Tree) (size : ℕ) (after : Pending) →
     Counted (inner_of (is_array held.shape) h.ts) t size after →
-    new.place ≡ held.place → new.shape ≡ held.shape →
+    new.position ≡ held.position → new.shape ≡ held.shape →
     new.sum ≡ size + opens_in (is_array held.shape) held.inner after + held.sum → new.count ≡ (if is_array held.shape then held.count + 1 else held.count) → new.count ≤ 4294967295 →
-    new.inner ≡ (if is_array held.shape then after else held.inner) → new.before ≡ held.sum → new.sum ≤ limit_of new.shape →
-    Holds start kind new (ps ++ (Some t ∷ []))
+    new.inner ≡ (if is_array held.shape then after else held.inner) → new.before_last ≡ held.sum → new.sum ≤ limit_of new.shape →
+    HoldsGathered start kind new (ps ++ (Some t ∷ []))
 taken_part start kind held new ps h t size after k a b d e few f was small =
     let arr = is_array held.shape in
     let ts = h.ts in
@@ -103,7 +103,7 @@ taken_part start kind held new ps h t size after k a b d e few f was small =
     record {
       ts = us;
       trees = all_trees-append ps (Some t ∷ []) ∙ ap (λ o. joined o (Some (more t no_trees))) h.trees;
-      place = a ∙ h.place;
+      position = a ∙ h.position;
       shape = b ∙ h.shape;
       gathered = ap is_gathered b ∙ h.gathered;
       back = λ odd qs q e. record {
@@ -116,63 +116,63 @@ taken_part start kind held new ps h t size after k a b d e few f was small =
         fits_sum = le_true new.sum 4294967291 (subst (λ m. new.sum ≤ m) (gathered_limit new.shape (ap is_gathered b ∙ h.gathered)) small);
         counted = e ∙ more_counted arr ts t held.count h.fed.counted ∙ sym (ap (λ x. counts x us) c);
         few = le_true new.count 4294967295 few;
-        inner = f ∙ new_inner arr ts t held.inner after h.fed.one h.fed.inner k.place ∙ sym (ap (λ x. under.Plain (inner_of x us)) c);
-        alike_parts = alike-join ts (more t no_trees) ∙ both (alike_each ts) (alike t && true) h.fed.alike_parts (both (alike t) true k.alike_it refl);
-        within_parts = within-join ts (more t no_trees) ∙ both (within_each ts) (within t && true) h.fed.within_parts (both (within t) true (sym (within_inner arr ts t) ∙ k.within_it) refl);
+        inner = f ∙ new_inner arr ts t held.inner after h.fed.one h.fed.inner k.position ∙ sym (ap (λ x. pending.Plain (inner_of x us)) c);
+        uniform_arrays_parts = uniform_arrays-join ts (more t no_trees) ∙ both (uniform_arrays_each ts) (uniform_arrays t && true) h.fed.uniform_arrays_parts (both (uniform_arrays t) true k.uniform_arrays_it refl);
+        within_limits_parts = within_limits-join ts (more t no_trees) ∙ both (within_limits_each ts) (within_limits t && true) h.fed.within_limits_parts (both (within_limits t) true (sym (within_inner arr ts t) ∙ k.within_limits_it) refl);
         inside_parts = inside-join ts (more t no_trees) ∙ both (inside_each ts) (inside t && true) h.fed.inside_parts (both (inside t) true (suited_inside arr ts t h.fed.one k.suited) refl);
         one = ap (λ x. one_in x us) c ∙ more_one arr ts t h.fed.one k.suited;
       };
     }
 
 -- what is known after a part was counted, or passed a limit
-pub end_taken : (start : SizeSerializer) (kind : Kind) (held new : Open) (ps : List (Option Tree)) (h : Holds start kind held ps) (p : Option Tree) (size : ℕ) (after : Under) →
-    at_place (inner_of (is_array held.shape) h.ts) p (Ok size) after → new.place ≡ held.place → new.shape ≡ held.shape → (held.count ≤ 4294967295 → new.count ≤ 4294967295) → new.sum ≤ limit_of new.shape →
-    (res : Result (Unit {0}) Refusal) → IfOk res (λ _. new.before ≡ held.sum) → IfErr res (λ _. new ≡ held) →
+pub end_taken : (start : SizeSerializer) (kind : Kind) (held new : OpenCompound) (ps : List (Option Tree)) (h : HoldsGathered start kind held ps) (p : Option Tree) (size : ℕ) (after : Pending) →
+    at_position (inner_of (is_array held.shape) h.ts) p (Ok size) after → new.position ≡ held.position → new.shape ≡ held.shape → (held.count ≤ 4294967295 → new.count ≤ 4294967295) → new.sum ≤ limit_of new.shape →
+    (res : Result (Unit {0}) Refusal) → IfOk res (λ _. new.before_last ≡ held.sum) → IfErr res (λ _. new ≡ held) →
     MatchResult res (λ _. (new.sum ≡ size + opens_in (is_array held.shape) held.inner after + held.sum) × ((new.count ≡ if is_array held.shape then held.count + 1 else held.count) × (new.inner ≡ if is_array held.shape then after else held.inner)))
-    (λ e. (e ≡ error.TooLong) × over (is_array held.shape) held.count (size + opens_in (is_array held.shape) held.inner after + held.sum)) →
-    MatchResult res (λ _. Holds start kind new (ps ++ (p ∷ [])))
-    (λ e. (others : List (Option Tree)) → at_place (outer start.place) (meant start.place (whole kind (ps ++ (p ∷ others)))) (Err e) (under.Plain (rest held.place)))
+    (λ e. (e ≡ error.TooLong) × passes_limit (is_array held.shape) held.count (size + opens_in (is_array held.shape) held.inner after + held.sum)) →
+    MatchResult res (λ _. HoldsGathered start kind new (ps ++ (p ∷ [])))
+    (λ e. (others : List (Option Tree)) → at_position (position_of start.position) (meant start.position (whole kind (ps ++ (p ∷ others)))) (Err e) (pending.Plain (without_prefix held.position)))
 end_taken start kind held new ps h None size after r a b few small res was same m = absurd r
 end_taken start kind held new ps h (Some t) size after r a b few small (Ok u) was same m =
     taken_part start kind held new ps h t size after r a b m.0 m.1.0 (few (is_le held.count 4294967295 h.fed.few)) m.1.1 was small
 end_taken start kind held new ps h (Some t) size after r a b few small (Err e) was same m = λ others.
-    subst (λ (x : Refusal). at_place (outer start.place) (meant start.place (whole kind (ps ++ (Some t ∷ others)))) (Err x) (under.Plain (rest held.place))) (sym m.0)
-    (over_part start kind held ps h t (subst (λ n. over (is_array held.shape) held.count n) (added start kind held ps h t size after r) m.1) others)
+    subst (λ (x : Refusal). at_position (position_of start.position) (meant start.position (whole kind (ps ++ (Some t ∷ others)))) (Err x) (pending.Plain (without_prefix held.position))) (sym m.0)
+    (over_part start kind held ps h t (subst (λ n. passes_limit (is_array held.shape) held.count n) (added start kind held ps h t size after r) m.1) others)
 
-no_array : (u : Under) → is_array (shape_of u kinds.Map) ≡ false
-no_array (under.Plain p) = refl
-no_array (under.Array p) = refl
-no_array (under.Transparent p) = refl
-no_array (under.Scalar m p) = refl
-no_array (under.Nothing p) = refl
+no_array : (u : Pending) → is_array (shape_of u kinds.Map) ≡ false
+no_array (pending.Plain p) = refl
+no_array (pending.Array p) = refl
+no_array (pending.Transparent p) = refl
+no_array (pending.Scalar m p) = refl
+no_array (pending.Nothing p) = refl
 
-one_less : (us ts : Trees) (p : Option Tree) → joined (Some us) (before p (Some no_trees)) ≡ Some ts → alike_each ts ≡ true → within_each ts ≡ true → inside_each ts ≡ true →
-    (alike_each us ≡ true) × ((within_each us ≡ true) × (inside_each us ≡ true))
+one_less : (us ts : Trees) (p : Option Tree) → joined (Some us) (prepend p (Some no_trees)) ≡ Some ts → uniform_arrays_each ts ≡ true → within_limits_each ts ≡ true → inside_each ts ≡ true →
+    (uniform_arrays_each us ≡ true) × ((within_limits_each us ≡ true) × (inside_each us ≡ true))
 one_less us ts None e a w i = cc
 one_less us ts (Some t) e a w i =
     let same : ts ≡ join us (more t no_trees) = cc in (
-      left_true (alike_each us) _ (sym (alike-join us (more t no_trees)) ∙ sym (ap alike_each same) ∙ a),
+      left_true (uniform_arrays_each us) _ (sym (uniform_arrays-join us (more t no_trees)) ∙ sym (ap uniform_arrays_each same) ∙ a),
       (
-        left_true (within_each us) _ (sym (within-join us (more t no_trees)) ∙ sym (ap within_each same) ∙ w),
+        left_true (within_limits_each us) _ (sym (within_limits-join us (more t no_trees)) ∙ sym (ap within_limits_each same) ∙ w),
         left_true (inside_each us) _ (sym (inside-join us (more t no_trees)) ∙ sym (ap inside_each same) ∙ i),
       ),
     )
 
 -- the last part taken back
-pub undone : (start : SizeSerializer) (held new : Open) (ps : List (Option Tree)) (p : Option Tree) → Holds start kinds.Map held (ps ++ (p ∷ [])) → paired ps ≡ true →
-    new.place ≡ held.place → new.shape ≡ held.shape → new.sum ≡ held.before → new.count ≡ held.count → new.inner ≡ held.inner → new.sum ≤ limit_of new.shape → Holds start kinds.Map new ps
+pub undone : (start : SizeSerializer) (held new : OpenCompound) (ps : List (Option Tree)) (p : Option Tree) → HoldsGathered start kinds.Map held (ps ++ (p ∷ [])) → paired ps ≡ true →
+    new.position ≡ held.position → new.shape ≡ held.shape → new.sum ≡ held.before_last → new.count ≡ held.count → new.inner ≡ held.inner → new.sum ≤ limit_of new.shape → HoldsGathered start kinds.Map new ps
 undone start held new ps p h even a b d e f small =
     let odd : paired (ps ++ (p ∷ [])) ≡ false = paired-last ps p ∙ ap not even in
     let was = h.back odd ps p refl in
-    let plain : is_array held.shape ≡ false = ap is_array h.shape ∙ no_array start.place in
+    let plain : is_array held.shape ≡ false = ap is_array h.shape ∙ no_array start.position in
     let c : is_array new.shape ≡ is_array held.shape = ap is_array b in
     let now : is_array new.shape ≡ false = c ∙ plain in
-    let trees : joined (Some was.us) (before p (Some no_trees)) ≡ Some h.ts = sym (ap (λ o. joined o (before p (Some no_trees))) was.trees) ∙ sym (all_trees-append ps (p ∷ [])) ∙ h.trees in
-    let less = one_less was.us h.ts p trees h.fed.alike_parts h.fed.within_parts h.fed.inside_parts in
+    let trees : joined (Some was.us) (prepend p (Some no_trees)) ≡ Some h.ts = sym (ap (λ o. joined o (prepend p (Some no_trees))) was.trees) ∙ sym (all_trees-append ps (p ∷ [])) ∙ h.trees in
+    let less = one_less was.us h.ts p trees h.fed.uniform_arrays_parts h.fed.within_limits_parts h.fed.inside_parts in
     record {
       ts = was.us;
       trees = was.trees;
-      place = a ∙ h.place;
+      position = a ∙ h.position;
       shape = b ∙ h.shape;
       gathered = ap is_gathered b ∙ h.gathered;
       back = λ odd_now. absurd (both_ways (sym even ∙ odd_now));
@@ -181,9 +181,9 @@ undone start held new ps p h even a b d e f small =
         fits_sum = le_true new.sum 4294967291 (subst (λ m. new.sum ≤ m) (gathered_limit new.shape (ap is_gathered b ∙ h.gathered)) small);
         counted = e ∙ h.fed.counted ∙ ap (λ x. counts x h.ts) plain ∙ ap (λ x. counts x was.us) (sym now);
         few = ap (λ n. nat_le n 4294967295) e ∙ h.fed.few;
-        inner = f ∙ h.fed.inner ∙ ap (λ x. under.Plain (inner_of x h.ts)) plain ∙ ap (λ x. under.Plain (inner_of x was.us)) (sym now);
-        alike_parts = less.0;
-        within_parts = less.1.0;
+        inner = f ∙ h.fed.inner ∙ ap (λ x. pending.Plain (inner_of x h.ts)) plain ∙ ap (λ x. pending.Plain (inner_of x was.us)) (sym now);
+        uniform_arrays_parts = less.0;
+        within_limits_parts = less.1.0;
         inside_parts = less.1.1;
         one = ap (λ x. one_in x was.us) now;
       };

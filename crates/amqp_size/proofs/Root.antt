@@ -3,34 +3,34 @@ use Rattle.std.proofs.Common.{◌≡◌, ℕ, Option, Some, None, ◌&&◌, Resu
 use Rattle.amqp_size.specs.declared.refusal.Refusal.{Refusal}
 use Rattle.amqp_size.specs.declared.refusal.Refusal.TheVariants as refusal
 use Rattle.amqp_ser.specs.Tree.{Tree}
-use Rattle.amqp_ser.specs.Writable.{alike, within, placed}
-use Rattle.amqp_ser.specs.Permitted.{IsSizeOf}
+use Rattle.amqp_ser.specs.Writable.{uniform_arrays, within_limits, placed}
+use Rattle.amqp_ser.specs.SizeAndBytes.{IsSizeOf}
 use Rattle.amqp_ser.proofs.Bools.{both}
-use Rattle.amqp_size.specs.Place.{outer, meant}
+use Rattle.amqp_size.specs.Position.{position_of, meant}
 use Rattle.amqp_size.specs.Refused.{told}
-use Rattle.amqp_size.specs.Counted.{at_place, size_permits}
-use Rattle.amqp_size.specs.WholePlace.{Root}
-use Rattle.amqp_size.specs.WholeUnder.{Under}
-use Rattle.amqp_size.specs.WholeUnder.{Plain}
+use Rattle.amqp_size.specs.SizeSerializer.{at_position, size_permits}
+use Rattle.amqp_size.specs.WholePosition.{Root}
+use Rattle.amqp_size.specs.WholePending.{Pending}
+use Rattle.amqp_size.specs.WholePending.{Plain}
 use Rattle.amqp_size.specs.declared.serializer.SizeSerializer.{SizeSerializer}
 
-root_size : (o : Option Tree) (r : Result ℕ Refusal) (after : Under) → at_place Root o r after → IsSizeOf o (told r) × (after ≡ Plain Root)
+root_size : (o : Option Tree) (r : Result ℕ Refusal) (after : Pending) → at_position Root o r after → IsSizeOf o (told r) × (after ≡ Plain Root)
 root_size None (Ok n) after h = absurd h
 root_size None (Err refusal.TooLong) after h = h
 root_size None (Err refusal.InvalidValue) after h = h
 root_size None (Err e) after h = absurd h.0
-root_size (Some t) (Ok n) after h = ((both (within t) (alike t && placed t) h.within_it (both (alike t) (placed t) h.alike_it h.suited), h.len), h.place)
+root_size (Some t) (Ok n) after h = ((both (within_limits t) (uniform_arrays t && placed t) h.within_limits_it (both (uniform_arrays t) (placed t) h.uniform_arrays_it h.suited), h.len), h.position)
 root_size (Some t) (Err refusal.TooLong) after h = h
 root_size (Some t) (Err refusal.InvalidValue) after h = h
 root_size (Some t) (Err e) after h = absurd h.0
 
-at_root : (s : SizeSerializer) (o : Option Tree) (r : Result ℕ Refusal) (after : SizeSerializer) → s.place ≡ Plain Root → size_permits s o r after → at_place Root o r after.place
-at_root s o r after q h = subst (λ u. at_place (outer u) (meant u o) r after.place) q h
+at_root : (s : SizeSerializer) (o : Option Tree) (r : Result ℕ Refusal) (after : SizeSerializer) → s.position ≡ Plain Root → size_permits s o r after → at_position Root o r after.position
+at_root s o r after q h = subst (λ u. at_position (position_of u) (meant u o) r after.position) q h
 
 -- its answer is the length of the bytes
-pub is_size : (s : SizeSerializer) (o : Option Tree) (r : Result ℕ Refusal) (after : SizeSerializer) → s.place ≡ Plain Root → size_permits s o r after → IsSizeOf o (told r)
-is_size s o r after q h = (root_size o r after.place (at_root s o r after q h)).0
+pub is_size : (s : SizeSerializer) (o : Option Tree) (r : Result ℕ Refusal) (after : SizeSerializer) → s.position ≡ Plain Root → size_permits s o r after → IsSizeOf o (told r)
+is_size s o r after q h = (root_size o r after.position (at_root s o r after q h)).0
 
 -- it is fresh afterwards
-pub fresh : (s : SizeSerializer) (o : Option Tree) (r : Result ℕ Refusal) (after : SizeSerializer) → s.place ≡ Plain Root → size_permits s o r after → after.place ≡ Plain Root
-fresh s o r after q h = (root_size o r after.place (at_root s o r after q h)).1
+pub fresh : (s : SizeSerializer) (o : Option Tree) (r : Result ℕ Refusal) (after : SizeSerializer) → s.position ≡ Plain Root → size_permits s o r after → after.position ≡ Plain Root
+fresh s o r after q h = (root_size o r after.position (at_root s o r after q h)).1

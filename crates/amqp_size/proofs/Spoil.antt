@@ -5,37 +5,37 @@ use Rattle.amqp_size.specs.declared.refusal.Refusal.TheVariants as error
 use Rattle.amqp_ser.specs.Tree.{uint, Tree, Trees, list, array, map, variant, no_trees, more}
 use Rattle.amqp_ser.specs.Limits.{fits, is_count}
 use Rattle.amqp_ser.specs.Scalars.{scalar_form}
-use Rattle.amqp_ser.specs.Encoding.{enc, enc_each}
-use Rattle.amqp_ser.specs.Writable.{one_con, alike, alike_each, alike_pairs, within, within_each, within_pairs, inside, inside_each, inside_pairs, placed}
-use Rattle.amqp_ser.specs.Compounds.{all_trees, before, as_kind, as_map, as_variant, in_pairs, only, whole}
+use Rattle.amqp_ser.specs.Encoding.{encoding, encoding_each}
+use Rattle.amqp_ser.specs.Writable.{one_constructor, uniform_arrays, uniform_arrays_each, uniform_arrays_pairs, within_limits, within_limits_each, within_limits_pairs, inside, inside_each, inside_pairs, placed}
+use Rattle.amqp_ser.specs.Compounds.{all_trees, prepend, as_kind, as_map, as_variant, in_pairs, only, whole}
 use Rattle.amqp_size.specs.Refused.{refuses_none}
 use Rattle.amqp_ser.specs.declared.kind.Kind.{Kind}
 use Rattle.amqp_ser.specs.declared.kind.Kind.TheVariants as kinds
 use Rattle.amqp_ser.proofs.Bools.{and_assoc, left_false, right_false, one_false, le_false, not_le}
 use Rattle.amqp_ser.proofs.Joins.{join, joined, all_trees-append, kind_none}
 use Rattle.amqp_ser.proofs.Pairing.{pairing, even}
-use Rattle.amqp_size.specs.Place.{outer, meant, rest, shape_of, is_array, is_gathered, suits}
-use Rattle.amqp_size.specs.Counted.{at_place, Holds, content, counts, one_in}
-use Rattle.amqp_size.specs.WholePlace.{Place}
-use Rattle.amqp_size.specs.WholeUnder.{Under}
-use Rattle.amqp_size.specs.WholeUnder as under
-use Rattle.amqp_size.specs.declared.place.Shape.TheVariants as shape
+use Rattle.amqp_size.specs.Position.{position_of, meant, without_prefix, shape_of, is_array, is_gathered, suits}
+use Rattle.amqp_size.specs.SizeSerializer.{at_position, HoldsGathered, content, counts, one_in}
+use Rattle.amqp_size.specs.WholePosition.{Position}
+use Rattle.amqp_size.specs.WholePending.{Pending}
+use Rattle.amqp_size.specs.WholePending as pending
+use Rattle.amqp_size.specs.declared.position.Shape.TheVariants as shape
 use Rattle.amqp_size.specs.declared.serializer.SizeSerializer.{SizeSerializer}
-use Rattle.amqp_size.specs.declared.open_compound.Open.{Open}
-use Rattle.amqp_size.proofs.Places.{long_at, not_inside, meant_none}
+use Rattle.amqp_size.specs.declared.open_compound.OpenCompound.{OpenCompound}
+use Rattle.amqp_size.proofs.Positions.{long_at, not_inside, meant_none}
 use Rattle.amqp_size.proofs.Whole.{stands_none, refused_shape}
 
 -- parts of which the whole is refused with this error
 abbrev pub bad_in : Bool → Trees → Refusal → Type 0
-bad_in arr ws error.TooLong = (fits (length (content arr ws)) && (is_count (counts arr ws) && within_each ws)) ≡ false
-bad_in arr ws error.InvalidValue = (one_in arr ws && (alike_each ws && inside_each ws)) ≡ false
+bad_in arr ws error.TooLong = (fits (length (content arr ws)) && (is_count (counts arr ws) && within_limits_each ws)) ≡ false
+bad_in arr ws error.InvalidValue = (one_in arr ws && (uniform_arrays_each ws && inside_each ws)) ≡ false
 bad_in arr ws e = ⊥
 
--- a tree that spoils any place
-spoiled : (p : Place) (t : Tree) → placed t ≡ inside t → (alike t && inside t) ≡ false → (alike t && suits p t) ≡ false
-spoiled p t e h = elim (one_false (alike t) (inside t) h) [
-  | inl a ↦ left_false (alike t) (suits p t) a
-  | inr b ↦ right_false (alike t) (suits p t) (not_inside p t e b)
+-- a tree that spoils any position
+spoiled : (p : Position) (t : Tree) → placed t ≡ inside t → (uniform_arrays t && inside t) ≡ false → (uniform_arrays t && suits p t) ≡ false
+spoiled p t e h = elim (one_false (uniform_arrays t) (inside t) h) [
+  | inl a ↦ left_false (uniform_arrays t) (suits p t) a
+  | inr b ↦ right_false (uniform_arrays t) (suits p t) (not_inside p t e b)
 ]
 
 pub odd_none : (ws : Trees) → even ws ≡ false → in_pairs ws ≡ None
@@ -48,130 +48,130 @@ odd_none (more k (more v ts)) h = let e = odd_none ts (not_not (even ts) h) in r
     not_not false h = refl
 
 -- the refusal of no map, whatever the error
-none_map : (p : Place) (ws : Trees) (e : Refusal) → refuses_none e → even ws ≡ false → at_place p (as_map (in_pairs ws)) (Err e) (under.Plain (rest p))
-none_map p ws e r q = subst (λ o. at_place p (as_map o) (Err e) (under.Plain (rest p))) (sym (odd_none ws q)) (r, refl)
+none_map : (p : Position) (ws : Trees) (e : Refusal) → refuses_none e → even ws ≡ false → at_position p (as_map (in_pairs ws)) (Err e) (pending.Plain (without_prefix p))
+none_map p ws e r q = subst (λ o. at_position p (as_map o) (Err e) (pending.Plain (without_prefix p))) (sym (odd_none ws q)) (r, refl)
 
-long_map : (p : Place) (ws : Trees) → bad_in false ws error.TooLong → (b : Bool) → even ws ≡ b → at_place p (as_map (in_pairs ws)) (Err error.TooLong) (under.Plain (rest p))
+long_map : (p : Position) (ws : Trees) → bad_in false ws error.TooLong → (b : Bool) → even ws ≡ b → at_position p (as_map (in_pairs ws)) (Err error.TooLong) (pending.Plain (without_prefix p))
 long_map p ws h false q = none_map p ws error.TooLong tt q
 long_map p ws h true q =
     let r = pairing ws q in
-    let e : within (map r.pairs) ≡ false = ap (λ bs. fits (length bs) && within_pairs r.pairs) r.bytes ∙ ap (λ b. fits (length (enc_each ws)) && b) r.within_too ∙ h in
-    subst (λ o. at_place p (as_map o) (Err error.TooLong) (under.Plain (rest p))) (sym r.are) (long_at p (map r.pairs) e, refl)
+    let e : within_limits (map r.pairs) ≡ false = ap (λ bs. fits (length bs) && within_limits_pairs r.pairs) r.bytes ∙ ap (λ b. fits (length (encoding_each ws)) && b) r.within_too ∙ h in
+    subst (λ o. at_position p (as_map o) (Err error.TooLong) (pending.Plain (without_prefix p))) (sym r.are) (long_at p (map r.pairs) e, refl)
 
-bad_map : (p : Place) (ws : Trees) → (alike_each ws && inside_each ws) ≡ false → (b : Bool) → even ws ≡ b → at_place p (as_map (in_pairs ws)) (Err error.InvalidValue) (under.Plain (rest p))
+bad_map : (p : Position) (ws : Trees) → (uniform_arrays_each ws && inside_each ws) ≡ false → (b : Bool) → even ws ≡ b → at_position p (as_map (in_pairs ws)) (Err error.InvalidValue) (pending.Plain (without_prefix p))
 bad_map p ws h false q = none_map p ws error.InvalidValue tt q
 bad_map p ws h true q =
     let r = pairing ws q in
-    let e : (alike_pairs r.pairs && inside_pairs r.pairs) ≡ false = ap (λ b. b && inside_pairs r.pairs) r.alike_too ∙ ap (λ b. alike_each ws && b) r.inside_too ∙ h in
-    subst (λ o. at_place p (as_map o) (Err error.InvalidValue) (under.Plain (rest p))) (sym r.are) (spoiled p (map r.pairs) refl e, refl)
+    let e : (uniform_arrays_pairs r.pairs && inside_pairs r.pairs) ≡ false = ap (λ b. b && inside_pairs r.pairs) r.alike_too ∙ ap (λ b. uniform_arrays_each ws && b) r.inside_too ∙ h in
+    subst (λ o. at_position p (as_map o) (Err error.InvalidValue) (pending.Plain (without_prefix p))) (sym r.are) (spoiled p (map r.pairs) refl e, refl)
 
 and_true : (b : Bool) → (b && true) ≡ false → b ≡ false
 and_true true h = h
 and_true false h = refl
 
-long_one : (i : ℕ) (t : Tree) → (fits (length (enc t ++ [])) && (within t && true)) ≡ false → within (variant i t) ≡ false
-long_one i t h = elim (one_false (fits (length (enc t ++ []))) (within t && true) h) [
+long_one : (i : ℕ) (t : Tree) → (fits (length (encoding t ++ [])) && (within_limits t && true)) ≡ false → within_limits (variant i t) ≡ false
+long_one i t h = elim (one_false (fits (length (encoding t ++ []))) (within_limits t && true) h) [
   | inl a ↦
-      let past : 4294967291 < length (enc t ++ []) = not_le _ _ a in
-      let e : length (enc t ++ []) ≡ length (enc t) + 0 = length-append (enc t) [] in
-      let f : length (scalar_form (uint i) ++ enc t) ≡ length (scalar_form (uint i)) + length (enc t) = length-append (scalar_form (uint i)) (enc t) in
-      left_false _ (within t) (le_false (length (scalar_form (uint i) ++ enc t)) 4294967291 (omega arith))
-  | inr b ↦ right_false (fits (length (scalar_form (uint i) ++ enc t))) (within t) (and_true (within t) b)
+      let past : 4294967291 < length (encoding t ++ []) = not_le _ _ a in
+      let e : length (encoding t ++ []) ≡ length (encoding t) + 0 = length-append (encoding t) [] in
+      let f : length (scalar_form (uint i) ++ encoding t) ≡ length (scalar_form (uint i)) + length (encoding t) = length-append (scalar_form (uint i)) (encoding t) in
+      left_false _ (within_limits t) (le_false (length (scalar_form (uint i) ++ encoding t)) 4294967291 (omega arith))
+  | inr b ↦ right_false (fits (length (scalar_form (uint i) ++ encoding t))) (within_limits t) (and_true (within_limits t) b)
 ]
 
-bad_one : (p : Place) (i : ℕ) (t : Tree) → ((alike t && true) && (inside t && true)) ≡ false → (alike t && suits p (variant i t)) ≡ false
-bad_one p i t h = spoiled p (variant i t) refl (elim (one_false (alike t && true) (inside t && true) h) [
-  | inl a ↦ left_false (alike t) (inside t) (and_true (alike t) a)
-  | inr b ↦ right_false (alike t) (inside t) (and_true (inside t) b)
+bad_one : (p : Position) (i : ℕ) (t : Tree) → ((uniform_arrays t && true) && (inside t && true)) ≡ false → (uniform_arrays t && suits p (variant i t)) ≡ false
+bad_one p i t h = spoiled p (variant i t) refl (elim (one_false (uniform_arrays t && true) (inside t && true) h) [
+  | inl a ↦ left_false (uniform_arrays t) (inside t) (and_true (uniform_arrays t) a)
+  | inr b ↦ right_false (uniform_arrays t) (inside t) (and_true (inside t) b)
 ])
 
-long_only : (p : Place) (i : ℕ) (ws : Trees) → bad_in false ws error.TooLong → at_place p (as_variant i (only ws)) (Err error.TooLong) (under.Plain (rest p))
+long_only : (p : Position) (i : ℕ) (ws : Trees) → bad_in false ws error.TooLong → at_position p (as_variant i (only ws)) (Err error.TooLong) (pending.Plain (without_prefix p))
 long_only p i no_trees h = (tt, refl)
 long_only p i (more t no_trees) h = (long_at p (variant i t) (long_one i t h), refl)
 long_only p i (more t (more v ts)) h = (tt, refl)
 
-bad_only : (p : Place) (i : ℕ) (ws : Trees) → (alike_each ws && inside_each ws) ≡ false → at_place p (as_variant i (only ws)) (Err error.InvalidValue) (under.Plain (rest p))
+bad_only : (p : Position) (i : ℕ) (ws : Trees) → (uniform_arrays_each ws && inside_each ws) ≡ false → at_position p (as_variant i (only ws)) (Err error.InvalidValue) (pending.Plain (without_prefix p))
 bad_only p i no_trees h = (tt, refl)
 bad_only p i (more t no_trees) h = (bad_one p i t h, refl)
 bad_only p i (more t (more v ts)) h = (tt, refl)
 
 -- the refusal of no tree, by a shape that its marker does not take
-none_bad : (u : Under) (o : Option Tree) (e : Refusal) → refuses_none e → meant u o ≡ None → at_place (outer u) (meant u o) (Err e) (under.Plain (rest (outer u)))
-none_bad u o e r h = stands_none u (outer u) o (Err e) (under.Plain (rest (outer u))) refl h (r, refl)
+none_bad : (u : Pending) (o : Option Tree) (e : Refusal) → refuses_none e → meant u o ≡ None → at_position (position_of u) (meant u o) (Err e) (pending.Plain (without_prefix (position_of u)))
+none_bad u o e r h = stands_none u (position_of u) o (Err e) (pending.Plain (without_prefix (position_of u))) refl h (r, refl)
 
 bad_none : (arr : Bool) (ws : Trees) (e : Refusal) → bad_in arr ws e → refuses_none e
 bad_none arr ws error.TooLong h = tt
 bad_none arr ws error.InvalidValue h = tt
 bad_none arr ws e h = absurd h
 
-shapeless : (arr : Bool) (u : Under) (k : Kind) (ws : Trees) (e : Refusal) → bad_in arr ws e → shape_of u k ≡ shape.Refused → at_place (outer u) (meant u (as_kind k (Some ws))) (Err e) (under.Plain (rest (outer u)))
+shapeless : (arr : Bool) (u : Pending) (k : Kind) (ws : Trees) (e : Refusal) → bad_in arr ws e → shape_of u k ≡ shape.Refused → at_position (position_of u) (meant u (as_kind k (Some ws))) (Err e) (pending.Plain (without_prefix (position_of u)))
 shapeless arr u k ws e b h = none_bad u (as_kind k (Some ws)) e (bad_none arr ws e b) (refused_shape u k (Some ws) h)
 
-spoiled_list : (p : Place) (ws : Trees) (e : Refusal) → bad_in false ws e → at_place p (Some (list ws)) (Err e) (under.Plain (rest p))
+spoiled_list : (p : Position) (ws : Trees) (e : Refusal) → bad_in false ws e → at_position p (Some (list ws)) (Err e) (pending.Plain (without_prefix p))
 spoiled_list p ws error.TooLong h = (long_at p (list ws) h, refl)
 spoiled_list p ws error.InvalidValue h = (spoiled p (list ws) refl h, refl)
 spoiled_list p ws e h = absurd h
 
-spoiled_array : (p : Place) (ws : Trees) (e : Refusal) → bad_in true ws e → at_place p (Some (array ws)) (Err e) (under.Plain (rest p))
+spoiled_array : (p : Position) (ws : Trees) (e : Refusal) → bad_in true ws e → at_position p (Some (array ws)) (Err e) (pending.Plain (without_prefix p))
 spoiled_array p ws error.TooLong h = (long_at p (array ws) h, refl)
-spoiled_array p ws error.InvalidValue h = (spoiled p (array ws) refl (and_assoc (one_con ws) (alike_each ws) (inside_each ws) ∙ h), refl)
+spoiled_array p ws error.InvalidValue h = (spoiled p (array ws) refl (and_assoc (one_constructor ws) (uniform_arrays_each ws) (inside_each ws) ∙ h), refl)
 spoiled_array p ws e h = absurd h
 
-spoiled_map : (p : Place) (ws : Trees) (e : Refusal) → bad_in false ws e → at_place p (as_map (in_pairs ws)) (Err e) (under.Plain (rest p))
+spoiled_map : (p : Position) (ws : Trees) (e : Refusal) → bad_in false ws e → at_position p (as_map (in_pairs ws)) (Err e) (pending.Plain (without_prefix p))
 spoiled_map p ws error.TooLong h = long_map p ws h (even ws) refl
 spoiled_map p ws error.InvalidValue h = bad_map p ws h (even ws) refl
 spoiled_map p ws e h = absurd h
 
-spoiled_fields : (p : Place) (i : ℕ) (ws : Trees) (e : Refusal) → bad_in false ws e → at_place p (Some (variant i (list ws))) (Err e) (under.Plain (rest p))
-spoiled_fields p i ws error.TooLong h = (long_at p (variant i (list ws)) (right_false (fits (length (scalar_form (uint i) ++ enc (list ws)))) (within (list ws)) h), refl)
+spoiled_fields : (p : Position) (i : ℕ) (ws : Trees) (e : Refusal) → bad_in false ws e → at_position p (Some (variant i (list ws))) (Err e) (pending.Plain (without_prefix p))
+spoiled_fields p i ws error.TooLong h = (long_at p (variant i (list ws)) (right_false (fits (length (scalar_form (uint i) ++ encoding (list ws)))) (within_limits (list ws)) h), refl)
 spoiled_fields p i ws error.InvalidValue h = (spoiled p (variant i (list ws)) refl h, refl)
 spoiled_fields p i ws e h = absurd h
 
-spoiled_only : (p : Place) (i : ℕ) (ws : Trees) (e : Refusal) → bad_in false ws e → at_place p (as_variant i (only ws)) (Err e) (under.Plain (rest p))
+spoiled_only : (p : Position) (i : ℕ) (ws : Trees) (e : Refusal) → bad_in false ws e → at_position p (as_variant i (only ws)) (Err e) (pending.Plain (without_prefix p))
 spoiled_only p i ws error.TooLong h = long_only p i ws h
 spoiled_only p i ws error.InvalidValue h = bad_only p i ws h
 spoiled_only p i ws e h = absurd h
 
 -- a whole of spoiled parts
-spoiled_whole : (u : Under) (k : Kind) (ws : Trees) (e : Refusal) → is_gathered (shape_of u k) ≡ true → bad_in (is_array (shape_of u k)) ws e → at_place (outer u) (meant u (as_kind k (Some ws))) (Err e) (under.Plain (rest (outer u)))
-spoiled_whole u kinds.Bare ws e g h = cc
-spoiled_whole (under.Plain p) kinds.List ws e g h = spoiled_list p ws e h
-spoiled_whole (under.Plain p) kinds.Map ws e g h = spoiled_map p ws e h
-spoiled_whole (under.Plain p) (kinds.Fields i) ws e g h = spoiled_fields p i ws e h
-spoiled_whole (under.Plain p) (kinds.Only i) ws e g h = spoiled_only p i ws e h
-spoiled_whole (under.Array p) kinds.List ws e g h = spoiled_array p ws e h
-spoiled_whole (under.Transparent p) kinds.List ws e g h = cc
-spoiled_whole (under.Array p) kinds.Map ws e g h = shapeless false (under.Array p) kinds.Map ws e h refl
-spoiled_whole (under.Array p) (kinds.Fields i) ws e g h = shapeless false (under.Array p) (kinds.Fields i) ws e h refl
-spoiled_whole (under.Array p) (kinds.Only i) ws e g h = shapeless false (under.Array p) (kinds.Only i) ws e h refl
-spoiled_whole (under.Transparent p) kinds.Map ws e g h = shapeless false (under.Transparent p) kinds.Map ws e h refl
-spoiled_whole (under.Transparent p) (kinds.Fields i) ws e g h = shapeless false (under.Transparent p) (kinds.Fields i) ws e h refl
-spoiled_whole (under.Transparent p) (kinds.Only i) ws e g h = shapeless false (under.Transparent p) (kinds.Only i) ws e h refl
-spoiled_whole (under.Scalar m p) kinds.List ws e g h = shapeless false (under.Scalar m p) kinds.List ws e h refl
-spoiled_whole (under.Scalar m p) kinds.Map ws e g h = shapeless false (under.Scalar m p) kinds.Map ws e h refl
-spoiled_whole (under.Scalar m p) (kinds.Fields i) ws e g h = shapeless false (under.Scalar m p) (kinds.Fields i) ws e h refl
-spoiled_whole (under.Scalar m p) (kinds.Only i) ws e g h = shapeless false (under.Scalar m p) (kinds.Only i) ws e h refl
-spoiled_whole (under.Nothing p) kinds.List ws e g h = shapeless false (under.Nothing p) kinds.List ws e h refl
-spoiled_whole (under.Nothing p) kinds.Map ws e g h = shapeless false (under.Nothing p) kinds.Map ws e h refl
-spoiled_whole (under.Nothing p) (kinds.Fields i) ws e g h = shapeless false (under.Nothing p) (kinds.Fields i) ws e h refl
-spoiled_whole (under.Nothing p) (kinds.Only i) ws e g h = shapeless false (under.Nothing p) (kinds.Only i) ws e h refl
+spoiled_whole : (u : Pending) (k : Kind) (ws : Trees) (e : Refusal) → is_gathered (shape_of u k) ≡ true → bad_in (is_array (shape_of u k)) ws e → at_position (position_of u) (meant u (as_kind k (Some ws))) (Err e) (pending.Plain (without_prefix (position_of u)))
+spoiled_whole u kinds.Single ws e g h = cc
+spoiled_whole (pending.Plain p) kinds.List ws e g h = spoiled_list p ws e h
+spoiled_whole (pending.Plain p) kinds.Map ws e g h = spoiled_map p ws e h
+spoiled_whole (pending.Plain p) (kinds.Variant i) ws e g h = spoiled_fields p i ws e h
+spoiled_whole (pending.Plain p) (kinds.NewtypeVariant i) ws e g h = spoiled_only p i ws e h
+spoiled_whole (pending.Array p) kinds.List ws e g h = spoiled_array p ws e h
+spoiled_whole (pending.Transparent p) kinds.List ws e g h = cc
+spoiled_whole (pending.Array p) kinds.Map ws e g h = shapeless false (pending.Array p) kinds.Map ws e h refl
+spoiled_whole (pending.Array p) (kinds.Variant i) ws e g h = shapeless false (pending.Array p) (kinds.Variant i) ws e h refl
+spoiled_whole (pending.Array p) (kinds.NewtypeVariant i) ws e g h = shapeless false (pending.Array p) (kinds.NewtypeVariant i) ws e h refl
+spoiled_whole (pending.Transparent p) kinds.Map ws e g h = shapeless false (pending.Transparent p) kinds.Map ws e h refl
+spoiled_whole (pending.Transparent p) (kinds.Variant i) ws e g h = shapeless false (pending.Transparent p) (kinds.Variant i) ws e h refl
+spoiled_whole (pending.Transparent p) (kinds.NewtypeVariant i) ws e g h = shapeless false (pending.Transparent p) (kinds.NewtypeVariant i) ws e h refl
+spoiled_whole (pending.Scalar m p) kinds.List ws e g h = shapeless false (pending.Scalar m p) kinds.List ws e h refl
+spoiled_whole (pending.Scalar m p) kinds.Map ws e g h = shapeless false (pending.Scalar m p) kinds.Map ws e h refl
+spoiled_whole (pending.Scalar m p) (kinds.Variant i) ws e g h = shapeless false (pending.Scalar m p) (kinds.Variant i) ws e h refl
+spoiled_whole (pending.Scalar m p) (kinds.NewtypeVariant i) ws e g h = shapeless false (pending.Scalar m p) (kinds.NewtypeVariant i) ws e h refl
+spoiled_whole (pending.Nothing p) kinds.List ws e g h = shapeless false (pending.Nothing p) kinds.List ws e h refl
+spoiled_whole (pending.Nothing p) kinds.Map ws e g h = shapeless false (pending.Nothing p) kinds.Map ws e h refl
+spoiled_whole (pending.Nothing p) (kinds.Variant i) ws e g h = shapeless false (pending.Nothing p) (kinds.Variant i) ws e h refl
+spoiled_whole (pending.Nothing p) (kinds.NewtypeVariant i) ws e g h = shapeless false (pending.Nothing p) (kinds.NewtypeVariant i) ws e h refl
 
 -- a whole that one part spoils
-pub spoiled_rest : (u : Under) (k : Kind) (ts : Trees) (e : Refusal) → is_gathered (shape_of u k) ≡ true → refuses_none e → (p : Option Tree) (o : Option Trees) → ((t : Tree) (us : Trees) → p ≡ Some t → bad_in (is_array (shape_of u k)) (join ts (more t us)) e) →
-    at_place (outer u) (meant u (as_kind k (joined (Some ts) (before p o)))) (Err e) (under.Plain (rest (outer u)))
+pub spoiled_rest : (u : Pending) (k : Kind) (ts : Trees) (e : Refusal) → is_gathered (shape_of u k) ≡ true → refuses_none e → (p : Option Tree) (o : Option Trees) → ((t : Tree) (us : Trees) → p ≡ Some t → bad_in (is_array (shape_of u k)) (join ts (more t us)) e) →
+    at_position (position_of u) (meant u (as_kind k (joined (Some ts) (prepend p o)))) (Err e) (pending.Plain (without_prefix (position_of u)))
 spoiled_rest u k ts e g r None o bad = none_bad u (as_kind k None) e r (ap (meant u) (kind_none k) ∙ meant_none u)
 spoiled_rest u k ts e g r (Some t) None bad = none_bad u (as_kind k None) e r (ap (meant u) (kind_none k) ∙ meant_none u)
 spoiled_rest u k ts e g r (Some t) (Some us) bad = spoiled_whole u k (join ts (more t us)) e g (bad t us refl)
 
 -- where the next part spoils every whole
-pub with_rest : (start : SizeSerializer) (kind : Kind) (held : Open) (ps : List (Option Tree)) (h : Holds start kind held ps) (p : Option Tree) (e : Refusal) → refuses_none e →
+pub with_rest : (start : SizeSerializer) (kind : Kind) (held : OpenCompound) (ps : List (Option Tree)) (h : HoldsGathered start kind held ps) (p : Option Tree) (e : Refusal) → refuses_none e →
     ((t : Tree) (us : Trees) → p ≡ Some t → bad_in (is_array held.shape) (join h.ts (more t us)) e) → (others : List (Option Tree)) →
-    at_place (outer start.place) (meant start.place (whole kind (ps ++ (p ∷ others)))) (Err e) (under.Plain (rest held.place))
+    at_position (position_of start.position) (meant start.position (whole kind (ps ++ (p ∷ others)))) (Err e) (pending.Plain (without_prefix held.position))
 unfolding whole
 with_rest start kind held ps h p e r bad others =
-    let u = start.place in
+    let u = start.position in
     let arr : is_array held.shape ≡ is_array (shape_of u kind) = ap is_array h.shape in
-    let trees : all_trees (ps ++ (p ∷ others)) ≡ joined (Some h.ts) (before p (all_trees others)) = all_trees-append ps (p ∷ others) ∙ ap (λ o. joined o (before p (all_trees others))) h.trees in
+    let trees : all_trees (ps ++ (p ∷ others)) ≡ joined (Some h.ts) (prepend p (all_trees others)) = all_trees-append ps (p ∷ others) ∙ ap (λ o. joined o (prepend p (all_trees others))) h.trees in
     let here = spoiled_rest u kind h.ts e (sym (ap is_gathered h.shape) ∙ h.gathered) r p (all_trees others) (λ t us q. subst (λ a. bad_in a (join h.ts (more t us)) e) arr (bad t us q)) in
-    subst (λ q. at_place (outer u) (meant u (whole kind (ps ++ (p ∷ others)))) (Err e) (under.Plain (rest q))) (sym h.place)
-    (subst (λ o. at_place (outer u) (meant u (as_kind kind o)) (Err e) (under.Plain (rest (outer u)))) (sym trees) here)
+    subst (λ q. at_position (position_of u) (meant u (whole kind (ps ++ (p ∷ others)))) (Err e) (pending.Plain (without_prefix q))) (sym h.position)
+    (subst (λ o. at_position (position_of u) (meant u (as_kind kind o)) (Err e) (pending.Plain (without_prefix (position_of u)))) (sym trees) here)

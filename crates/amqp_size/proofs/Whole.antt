@@ -4,8 +4,8 @@ use Rattle.amqp_size.specs.declared.refusal.Refusal.{Refusal}
 use Rattle.amqp_ser.specs.Tree.{uint, Tree, Trees, Pairs, list, map, variant, count, pair_count}
 use Rattle.amqp_ser.specs.Limits.{fits}
 use Rattle.amqp_ser.specs.Scalars.{scalar_form}
-use Rattle.amqp_ser.specs.Encoding.{enc, payload, enc_each, enc_pairs}
-use Rattle.amqp_ser.specs.Writable.{alike, within, within_each, within_pairs, inside}
+use Rattle.amqp_ser.specs.Encoding.{encoding, payload, encoding_each, encoding_pairs}
+use Rattle.amqp_ser.specs.Writable.{uniform_arrays, within_limits, within_limits_each, within_limits_pairs, inside}
 use Rattle.amqp_ser.specs.Compounds.{as_kind, as_map, as_variant, in_pairs, only, whole, complete}
 use Rattle.amqp_ser.specs.Marked.{marked, marked_tree}
 use Rattle.amqp_ser.specs.declared.kind.Kind.{Kind}
@@ -13,79 +13,79 @@ use Rattle.amqp_ser.specs.declared.kind.Kind.TheVariants as kinds
 use Rattle.amqp_ser.specs.declared.mark.Mark.TheVariants as mark
 use Rattle.amqp_ser.proofs.Bools.{both}
 use Rattle.amqp_ser.proofs.Pairing.{Pairing, pairing, paired-even}
-use Rattle.amqp_size.specs.Place.{outer, meant, shape_of, is_array, the_mark}
-use Rattle.amqp_size.specs.Counted.{at_place, Holds, content}
+use Rattle.amqp_size.specs.Position.{position_of, meant, shape_of, is_array, the_mark}
+use Rattle.amqp_size.specs.SizeSerializer.{at_position, HoldsGathered, content}
 use Rattle.amqp_size.specs.Width.{map_width, list_width, uint_width}
-use Rattle.amqp_size.specs.WholePlace.{Place}
-use Rattle.amqp_size.specs.WholeUnder.{Under}
-use Rattle.amqp_size.specs.WholeUnder as under
-use Rattle.amqp_size.specs.declared.place.ScalarMark.{ScalarMark}
-use Rattle.amqp_size.specs.declared.place.ScalarMark.TheVariants as scalar_mark
-use Rattle.amqp_size.specs.declared.place.Shape.TheVariants as shape
+use Rattle.amqp_size.specs.WholePosition.{Position}
+use Rattle.amqp_size.specs.WholePending.{Pending}
+use Rattle.amqp_size.specs.WholePending as pending
+use Rattle.amqp_size.specs.declared.position.ScalarMark.{ScalarMark}
+use Rattle.amqp_size.specs.declared.position.ScalarMark.TheVariants as scalar_mark
+use Rattle.amqp_size.specs.declared.position.Shape.TheVariants as shape
 use Rattle.amqp_size.specs.declared.serializer.SizeSerializer.{SizeSerializer}
-use Rattle.amqp_size.specs.declared.open_compound.Open.{Open}
+use Rattle.amqp_size.specs.declared.open_compound.OpenCompound.{OpenCompound}
 use Rattle.amqp_size.proofs.Lengths.{length-counted, length-list_form, length-variant}
 
 -- an answer on the tree that is meant
-pub stands : (u : Under) (q : Place) (o : Option Tree) (x : Tree) (r : Result ℕ Refusal) (after : Under) → outer u ≡ q → meant u o ≡ Some x → at_place q (Some x) r after → at_place (outer u) (meant u o) r after
-stands u q o x r after a b h = subst (λ w. at_place w (meant u o) r after) (sym a) (subst (λ w. at_place q w r after) (sym b) h)
+pub stands : (u : Pending) (q : Position) (o : Option Tree) (x : Tree) (r : Result ℕ Refusal) (after : Pending) → position_of u ≡ q → meant u o ≡ Some x → at_position q (Some x) r after → at_position (position_of u) (meant u o) r after
+stands u q o x r after a b h = subst (λ w. at_position w (meant u o) r after) (sym a) (subst (λ w. at_position q w r after) (sym b) h)
 
-pub stands_none : (u : Under) (q : Place) (o : Option Tree) (r : Result ℕ Refusal) (after : Under) → outer u ≡ q → meant u o ≡ None → at_place q None r after → at_place (outer u) (meant u o) r after
-stands_none u q o r after a b h = subst (λ w. at_place w (meant u o) r after) (sym a) (subst (λ w. at_place q w r after) (sym b) h)
+pub stands_none : (u : Pending) (q : Position) (o : Option Tree) (r : Result ℕ Refusal) (after : Pending) → position_of u ≡ q → meant u o ≡ None → at_position q None r after → at_position (position_of u) (meant u o) r after
+stands_none u q o r after a b h = subst (λ w. at_position w (meant u o) r after) (sym a) (subst (λ w. at_position q w r after) (sym b) h)
 
-pub map_shape : (u : Under) (k : Kind) → shape_of u k ≡ shape.Map → (u ≡ under.Plain (outer u)) × (k ≡ kinds.Map)
-map_shape (under.Plain p) kinds.List h = cc
-map_shape (under.Plain p) kinds.Map h = (refl, refl)
-map_shape (under.Plain p) (kinds.Fields i) h = cc
-map_shape (under.Plain p) (kinds.Only i) h = cc
-map_shape (under.Plain p) kinds.Bare h = cc
-map_shape (under.Array p) kinds.List h = cc
-map_shape (under.Array p) kinds.Map h = cc
-map_shape (under.Array p) (kinds.Fields i) h = cc
-map_shape (under.Array p) (kinds.Only i) h = cc
-map_shape (under.Array p) kinds.Bare h = cc
-map_shape (under.Transparent p) kinds.List h = cc
-map_shape (under.Transparent p) kinds.Map h = cc
-map_shape (under.Transparent p) (kinds.Fields i) h = cc
-map_shape (under.Transparent p) (kinds.Only i) h = cc
-map_shape (under.Transparent p) kinds.Bare h = cc
-map_shape (under.Scalar m p) kinds.List h = cc
-map_shape (under.Scalar m p) kinds.Map h = cc
-map_shape (under.Scalar m p) (kinds.Fields i) h = cc
-map_shape (under.Scalar m p) (kinds.Only i) h = cc
-map_shape (under.Scalar m p) kinds.Bare h = cc
-map_shape (under.Nothing p) kinds.List h = cc
-map_shape (under.Nothing p) kinds.Map h = cc
-map_shape (under.Nothing p) (kinds.Fields i) h = cc
-map_shape (under.Nothing p) (kinds.Only i) h = cc
-map_shape (under.Nothing p) kinds.Bare h = cc
+pub map_shape : (u : Pending) (k : Kind) → shape_of u k ≡ shape.Map → (u ≡ pending.Plain (position_of u)) × (k ≡ kinds.Map)
+map_shape (pending.Plain p) kinds.List h = cc
+map_shape (pending.Plain p) kinds.Map h = (refl, refl)
+map_shape (pending.Plain p) (kinds.Variant i) h = cc
+map_shape (pending.Plain p) (kinds.NewtypeVariant i) h = cc
+map_shape (pending.Plain p) kinds.Single h = cc
+map_shape (pending.Array p) kinds.List h = cc
+map_shape (pending.Array p) kinds.Map h = cc
+map_shape (pending.Array p) (kinds.Variant i) h = cc
+map_shape (pending.Array p) (kinds.NewtypeVariant i) h = cc
+map_shape (pending.Array p) kinds.Single h = cc
+map_shape (pending.Transparent p) kinds.List h = cc
+map_shape (pending.Transparent p) kinds.Map h = cc
+map_shape (pending.Transparent p) (kinds.Variant i) h = cc
+map_shape (pending.Transparent p) (kinds.NewtypeVariant i) h = cc
+map_shape (pending.Transparent p) kinds.Single h = cc
+map_shape (pending.Scalar m p) kinds.List h = cc
+map_shape (pending.Scalar m p) kinds.Map h = cc
+map_shape (pending.Scalar m p) (kinds.Variant i) h = cc
+map_shape (pending.Scalar m p) (kinds.NewtypeVariant i) h = cc
+map_shape (pending.Scalar m p) kinds.Single h = cc
+map_shape (pending.Nothing p) kinds.List h = cc
+map_shape (pending.Nothing p) kinds.Map h = cc
+map_shape (pending.Nothing p) (kinds.Variant i) h = cc
+map_shape (pending.Nothing p) (kinds.NewtypeVariant i) h = cc
+map_shape (pending.Nothing p) kinds.Single h = cc
 
-pub fields_shape : (i : ℕ) (u : Under) (k : Kind) → shape_of u k ≡ shape.Fields i → (u ≡ under.Plain (outer u)) × (k ≡ kinds.Fields i)
-fields_shape j (under.Plain p) kinds.List h = cc
-fields_shape j (under.Plain p) kinds.Map h = cc
-fields_shape j (under.Plain p) (kinds.Fields i) h = (refl, cc)
-fields_shape j (under.Plain p) (kinds.Only i) h = cc
-fields_shape j (under.Plain p) kinds.Bare h = cc
-fields_shape j (under.Array p) kinds.List h = cc
-fields_shape j (under.Array p) kinds.Map h = cc
-fields_shape j (under.Array p) (kinds.Fields i) h = cc
-fields_shape j (under.Array p) (kinds.Only i) h = cc
-fields_shape j (under.Array p) kinds.Bare h = cc
-fields_shape j (under.Transparent p) kinds.List h = cc
-fields_shape j (under.Transparent p) kinds.Map h = cc
-fields_shape j (under.Transparent p) (kinds.Fields i) h = cc
-fields_shape j (under.Transparent p) (kinds.Only i) h = cc
-fields_shape j (under.Transparent p) kinds.Bare h = cc
-fields_shape j (under.Scalar m p) kinds.List h = cc
-fields_shape j (under.Scalar m p) kinds.Map h = cc
-fields_shape j (under.Scalar m p) (kinds.Fields i) h = cc
-fields_shape j (under.Scalar m p) (kinds.Only i) h = cc
-fields_shape j (under.Scalar m p) kinds.Bare h = cc
-fields_shape j (under.Nothing p) kinds.List h = cc
-fields_shape j (under.Nothing p) kinds.Map h = cc
-fields_shape j (under.Nothing p) (kinds.Fields i) h = cc
-fields_shape j (under.Nothing p) (kinds.Only i) h = cc
-fields_shape j (under.Nothing p) kinds.Bare h = cc
+pub fields_shape : (i : ℕ) (u : Pending) (k : Kind) → shape_of u k ≡ shape.Variant i → (u ≡ pending.Plain (position_of u)) × (k ≡ kinds.Variant i)
+fields_shape j (pending.Plain p) kinds.List h = cc
+fields_shape j (pending.Plain p) kinds.Map h = cc
+fields_shape j (pending.Plain p) (kinds.Variant i) h = (refl, cc)
+fields_shape j (pending.Plain p) (kinds.NewtypeVariant i) h = cc
+fields_shape j (pending.Plain p) kinds.Single h = cc
+fields_shape j (pending.Array p) kinds.List h = cc
+fields_shape j (pending.Array p) kinds.Map h = cc
+fields_shape j (pending.Array p) (kinds.Variant i) h = cc
+fields_shape j (pending.Array p) (kinds.NewtypeVariant i) h = cc
+fields_shape j (pending.Array p) kinds.Single h = cc
+fields_shape j (pending.Transparent p) kinds.List h = cc
+fields_shape j (pending.Transparent p) kinds.Map h = cc
+fields_shape j (pending.Transparent p) (kinds.Variant i) h = cc
+fields_shape j (pending.Transparent p) (kinds.NewtypeVariant i) h = cc
+fields_shape j (pending.Transparent p) kinds.Single h = cc
+fields_shape j (pending.Scalar m p) kinds.List h = cc
+fields_shape j (pending.Scalar m p) kinds.Map h = cc
+fields_shape j (pending.Scalar m p) (kinds.Variant i) h = cc
+fields_shape j (pending.Scalar m p) (kinds.NewtypeVariant i) h = cc
+fields_shape j (pending.Scalar m p) kinds.Single h = cc
+fields_shape j (pending.Nothing p) kinds.List h = cc
+fields_shape j (pending.Nothing p) kinds.Map h = cc
+fields_shape j (pending.Nothing p) (kinds.Variant i) h = cc
+fields_shape j (pending.Nothing p) (kinds.NewtypeVariant i) h = cc
+fields_shape j (pending.Nothing p) kinds.Single h = cc
 
 no_scalar_list : (m : ScalarMark) (ts : Trees) → marked_tree (the_mark m) (list ts) ≡ None
 no_scalar_list scalar_mark.Symbol ts = refl
@@ -135,96 +135,96 @@ no_transparent_variant : (i : ℕ) (o : Option Tree) → marked mark.Transparent
 no_transparent_variant i None = refl
 no_transparent_variant i (Some t) = refl
 
--- no compound is a scalar, but for a bare one
-no_scalar : (p : Place) (m : ScalarMark) (k : Kind) (o : Option Trees) → shape_of (under.Scalar m p) k ≡ shape.Refused → marked (the_mark m) (as_kind k o) ≡ None
+-- no compound is a scalar, but for a single one
+no_scalar : (p : Position) (m : ScalarMark) (k : Kind) (o : Option Trees) → shape_of (pending.Scalar m p) k ≡ shape.Refused → marked (the_mark m) (as_kind k o) ≡ None
 no_scalar p m kinds.List None h = refl
 no_scalar p m kinds.Map None h = refl
-no_scalar p m (kinds.Fields i) None h = refl
-no_scalar p m (kinds.Only i) None h = refl
+no_scalar p m (kinds.Variant i) None h = refl
+no_scalar p m (kinds.NewtypeVariant i) None h = refl
 no_scalar p m kinds.List (Some ts) h = no_scalar_list m ts
 no_scalar p m kinds.Map (Some ts) h = as_map_scalar m (in_pairs ts)
-no_scalar p m (kinds.Fields i) (Some ts) h = no_scalar_variant m i (list ts)
-no_scalar p m (kinds.Only i) (Some ts) h = as_variant_scalar m i (only ts)
-no_scalar p m kinds.Bare o h = cc
+no_scalar p m (kinds.Variant i) (Some ts) h = no_scalar_variant m i (list ts)
+no_scalar p m (kinds.NewtypeVariant i) (Some ts) h = as_variant_scalar m i (only ts)
+no_scalar p m kinds.Single o h = cc
 
-pub refused_shape : (u : Under) (k : Kind) (o : Option Trees) → shape_of u k ≡ shape.Refused → meant u (as_kind k o) ≡ None
-refused_shape (under.Plain p) kinds.List o h = cc
-refused_shape (under.Plain p) kinds.Map o h = cc
-refused_shape (under.Plain p) (kinds.Fields i) o h = cc
-refused_shape (under.Plain p) (kinds.Only i) o h = cc
-refused_shape (under.Plain p) kinds.Bare o h = cc
-refused_shape (under.Array p) kinds.List o h = cc
-refused_shape (under.Array p) kinds.Map None h = refl
-refused_shape (under.Array p) kinds.Map (Some ts) h = no_array_map (in_pairs ts)
-refused_shape (under.Array p) (kinds.Fields i) None h = refl
-refused_shape (under.Array p) (kinds.Fields i) (Some ts) h = refl
-refused_shape (under.Array p) (kinds.Only i) None h = refl
-refused_shape (under.Array p) (kinds.Only i) (Some ts) h = no_array_variant i (only ts)
-refused_shape (under.Array p) kinds.Bare o h = cc
-refused_shape (under.Transparent p) kinds.List o h = cc
-refused_shape (under.Transparent p) kinds.Map None h = refl
-refused_shape (under.Transparent p) kinds.Map (Some ts) h = no_transparent_map (in_pairs ts)
-refused_shape (under.Transparent p) (kinds.Fields i) None h = refl
-refused_shape (under.Transparent p) (kinds.Fields i) (Some ts) h = refl
-refused_shape (under.Transparent p) (kinds.Only i) None h = refl
-refused_shape (under.Transparent p) (kinds.Only i) (Some ts) h = no_transparent_variant i (only ts)
-refused_shape (under.Transparent p) kinds.Bare o h = cc
-refused_shape (under.Scalar m p) k o h = no_scalar p m k o h
-refused_shape (under.Nothing p) k o h = refl
+pub refused_shape : (u : Pending) (k : Kind) (o : Option Trees) → shape_of u k ≡ shape.Refused → meant u (as_kind k o) ≡ None
+refused_shape (pending.Plain p) kinds.List o h = cc
+refused_shape (pending.Plain p) kinds.Map o h = cc
+refused_shape (pending.Plain p) (kinds.Variant i) o h = cc
+refused_shape (pending.Plain p) (kinds.NewtypeVariant i) o h = cc
+refused_shape (pending.Plain p) kinds.Single o h = cc
+refused_shape (pending.Array p) kinds.List o h = cc
+refused_shape (pending.Array p) kinds.Map None h = refl
+refused_shape (pending.Array p) kinds.Map (Some ts) h = no_array_map (in_pairs ts)
+refused_shape (pending.Array p) (kinds.Variant i) None h = refl
+refused_shape (pending.Array p) (kinds.Variant i) (Some ts) h = refl
+refused_shape (pending.Array p) (kinds.NewtypeVariant i) None h = refl
+refused_shape (pending.Array p) (kinds.NewtypeVariant i) (Some ts) h = no_array_variant i (only ts)
+refused_shape (pending.Array p) kinds.Single o h = cc
+refused_shape (pending.Transparent p) kinds.List o h = cc
+refused_shape (pending.Transparent p) kinds.Map None h = refl
+refused_shape (pending.Transparent p) kinds.Map (Some ts) h = no_transparent_map (in_pairs ts)
+refused_shape (pending.Transparent p) (kinds.Variant i) None h = refl
+refused_shape (pending.Transparent p) (kinds.Variant i) (Some ts) h = refl
+refused_shape (pending.Transparent p) (kinds.NewtypeVariant i) None h = refl
+refused_shape (pending.Transparent p) (kinds.NewtypeVariant i) (Some ts) h = no_transparent_variant i (only ts)
+refused_shape (pending.Transparent p) kinds.Single o h = cc
+refused_shape (pending.Scalar m p) k o h = no_scalar p m k o h
+refused_shape (pending.Nothing p) k o h = refl
 
 -- a map that has ended: its tree and its lengths
-pub record MapEnd (start : SizeSerializer) (kind : Kind) (held : Open) (ps : List (Option Tree)) : Type 0 where
+pub record MapEnd (start : SizeSerializer) (kind : Kind) (held : OpenCompound) (ps : List (Option Tree)) : Type 0 where
   pub pairs : Pairs
-  pub is : meant start.place (whole kind ps) ≡ Some (map pairs)
-  pub within_it : within (map pairs) ≡ true
-  pub alike_it : alike (map pairs) ≡ true
+  pub is : meant start.position (whole kind ps) ≡ Some (map pairs)
+  pub within_limits_it : within_limits (map pairs) ≡ true
+  pub uniform_arrays_it : uniform_arrays (map pairs) ≡ true
   pub inside_it : inside (map pairs) ≡ true
-  pub ordinary : length (enc (map pairs)) ≡ map_width held.sum
+  pub ordinary : length (encoding (map pairs)) ≡ map_width held.sum
   pub wide : length (payload (map pairs)) ≡ held.sum + 8
 
-pub map_end : (start : SizeSerializer) (kind : Kind) (held : Open) (ps : List (Option Tree)) → Holds start kind held ps → complete kind ps ≡ true → held.shape ≡ shape.Map → MapEnd start kind held ps
+pub map_end : (start : SizeSerializer) (kind : Kind) (held : OpenCompound) (ps : List (Option Tree)) → HoldsGathered start kind held ps → complete kind ps ≡ true → held.shape ≡ shape.Map → MapEnd start kind held ps
 unfolding whole
 map_end start kind held ps h done s =
-    let inv = map_shape start.place kind (sym h.shape ∙ s) in
+    let inv = map_shape start.position kind (sym h.shape ∙ s) in
     let even = sym (paired-even ps h.ts h.trees) ∙ subst (λ k. complete k ps ≡ true) inv.1 done in
     let p : Pairing h.ts = pairing h.ts even in
     let tree : whole kind ps ≡ Some (map p.pairs) = ap (λ k. whole k ps) inv.1 ∙ ap (as_kind kinds.Map) h.trees ∙ ap as_map p.are in
-    let plain : meant start.place (whole kind ps) ≡ whole kind ps = ap (λ u. meant u (whole kind ps)) inv.0 in
+    let plain : meant start.position (whole kind ps) ≡ whole kind ps = ap (λ u. meant u (whole kind ps)) inv.0 in
     let none_array : is_array held.shape ≡ false = ap is_array s in
-    let sum : held.sum ≡ length (enc_pairs p.pairs) = h.fed.sum ∙ ap (λ b. length (content b h.ts)) none_array ∙ ap length (sym p.bytes) in
+    let sum : held.sum ≡ length (encoding_pairs p.pairs) = h.fed.sum ∙ ap (λ b. length (content b h.ts)) none_array ∙ ap length (sym p.bytes) in
     record {
       pairs = p.pairs;
       is = plain ∙ tree;
-      within_it = both (fits (length (enc_pairs p.pairs))) (within_pairs p.pairs) (ap fits (sym sum) ∙ h.fed.fits_sum) (p.within_too ∙ h.fed.within_parts);
-      alike_it = p.alike_too ∙ h.fed.alike_parts;
+      within_limits_it = both (fits (length (encoding_pairs p.pairs))) (within_limits_pairs p.pairs) (ap fits (sym sum) ∙ h.fed.fits_sum) (p.within_too ∙ h.fed.within_limits_parts);
+      uniform_arrays_it = p.alike_too ∙ h.fed.uniform_arrays_parts;
       inside_it = p.inside_too ∙ h.fed.inside_parts;
-      ordinary = length-counted 0xc1 0xd1 (pair_count p.pairs * 2) (enc_pairs p.pairs) ∙ ap map_width (sym sum);
+      ordinary = length-counted 0xc1 0xd1 (pair_count p.pairs * 2) (encoding_pairs p.pairs) ∙ ap map_width (sym sum);
       wide = omega arith;
     }
 
 -- a variant of fields that has ended
 pub record FieldsEnd (i : ℕ) (start : SizeSerializer) (kind : Kind) (ps : List (Option Tree)) (size : ℕ) : Type 0 where
   pub ts : Trees
-  pub is : meant start.place (whole kind ps) ≡ Some (variant i (list ts))
-  pub within_it : within (list ts) ≡ true
-  pub alike_it : alike (list ts) ≡ true
+  pub is : meant start.position (whole kind ps) ≡ Some (variant i (list ts))
+  pub within_limits_it : within_limits (list ts) ≡ true
+  pub uniform_arrays_it : uniform_arrays (list ts) ≡ true
   pub inside_it : inside (list ts) ≡ true
-  pub bytes : length (scalar_form (uint i) ++ enc (list ts)) ≡ uint_width i + size
+  pub bytes : length (scalar_form (uint i) ++ encoding (list ts)) ≡ uint_width i + size
 
-pub fields_end : (i : ℕ) (start : SizeSerializer) (kind : Kind) (held : Open) (ps : List (Option Tree)) (size : ℕ) → Holds start kind held ps → held.shape ≡ shape.Fields i → size ≡ list_width held.sum → FieldsEnd i start kind ps size
+pub fields_end : (i : ℕ) (start : SizeSerializer) (kind : Kind) (held : OpenCompound) (ps : List (Option Tree)) (size : ℕ) → HoldsGathered start kind held ps → held.shape ≡ shape.Variant i → size ≡ list_width held.sum → FieldsEnd i start kind ps size
 unfolding whole
 fields_end i start kind held ps size h s e =
-    let inv = fields_shape i start.place kind (sym h.shape ∙ s) in
-    let tree : whole kind ps ≡ Some (variant i (list h.ts)) = ap (λ k. whole k ps) inv.1 ∙ ap (as_kind (kinds.Fields i)) h.trees in
-    let plain : meant start.place (whole kind ps) ≡ whole kind ps = ap (λ u. meant u (whole kind ps)) inv.0 in
+    let inv = fields_shape i start.position kind (sym h.shape ∙ s) in
+    let tree : whole kind ps ≡ Some (variant i (list h.ts)) = ap (λ k. whole k ps) inv.1 ∙ ap (as_kind (kinds.Variant i)) h.trees in
+    let plain : meant start.position (whole kind ps) ≡ whole kind ps = ap (λ u. meant u (whole kind ps)) inv.0 in
     let none_array : is_array held.shape ≡ false = ap is_array s in
-    let sum : held.sum ≡ length (enc_each h.ts) = h.fed.sum ∙ ap (λ b. length (content b h.ts)) none_array in
-    let len : size ≡ length (enc (list h.ts)) = e ∙ ap list_width sum ∙ sym (length-list_form (count h.ts) (enc_each h.ts)) in
+    let sum : held.sum ≡ length (encoding_each h.ts) = h.fed.sum ∙ ap (λ b. length (content b h.ts)) none_array in
+    let len : size ≡ length (encoding (list h.ts)) = e ∙ ap list_width sum ∙ sym (length-list_form (count h.ts) (encoding_each h.ts)) in
     record {
       ts = h.ts;
       is = plain ∙ tree;
-      within_it = both (fits (length (enc_each h.ts))) (within_each h.ts) (ap fits (sym sum) ∙ h.fed.fits_sum) h.fed.within_parts;
-      alike_it = h.fed.alike_parts;
+      within_limits_it = both (fits (length (encoding_each h.ts))) (within_limits_each h.ts) (ap fits (sym sum) ∙ h.fed.fits_sum) h.fed.within_limits_parts;
+      uniform_arrays_it = h.fed.uniform_arrays_parts;
       inside_it = h.fed.inside_parts;
       bytes = length-variant i (list h.ts) size len;
     }

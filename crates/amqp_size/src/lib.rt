@@ -8,12 +8,12 @@ mod accept;
 mod compounds;
 mod form;
 mod open_compound;
-mod place;
+mod pending;
+mod position;
 mod refusal;
 mod serializer;
 #[cfg(test)]
 mod tests;
-mod under;
 pub mod width;
 
 pub use compounds::{
@@ -21,7 +21,7 @@ pub use compounds::{
     TupleStructSerializer, VariantSerializer,
 };
 pub use form::Form;
-pub use open_compound::Open;
-pub use place::{Base, Place, ScalarMark, Shape, Under};
+pub use open_compound::OpenCompound;
+pub use position::{BasePosition, Pending, Position, ScalarMark, Shape};
 pub use refusal::Refusal;
 pub use serializer::{SizeSerializer, serialized_size};

@@ -1,60 +1,60 @@
 //! A compound whose parts are still counted.
 
 ghost use Rattle.std.specs.Prelude.{◌≡◌, ◌<◌, ◌+◌, ◌≤◌, ℕ, Some, true, false, MatchResult, IfOk, IfErr, if◌then◌else◌};
-ghost use Rattle.amqp_size.specs.Place.{limit_of};
+ghost use Rattle.amqp_size.specs.Position.{limit_of};
 
-use crate::place::{Place, Shape, Under};
+use crate::position::{Pending, Position, Shape};
 use crate::refusal::Refusal;
 use crate::width::{LONGEST, MOST};
 use std::marker::Model;
 
 /// A compound whose parts are still counted: how many bytes they have, and where the next one stands.
 #[derive(Debug, Drop)]
-pub struct Open {
-    place: Place,
+pub struct OpenCompound {
+    position: Position,
     shape: Shape,
-    inner: Under,
-    /// How many bytes stand before the value, where one of the two places is after descriptors.
-    head: usize,
+    inner: Pending,
+    /// How many bytes stand before the value, where one of the two positions is after descriptors.
+    prefix_len: usize,
     sum: usize,
-    before: usize,
+    before_last: usize,
     count: usize,
 }
 
-impl Model for Open {
+impl Model for OpenCompound {
     ghost use Rattle.std.specs.Prelude.{◌≤◌};
-    ghost use Rattle.amqp_size.specs.State.{place_at, under_at, OpenState};
-    ghost use Rattle.amqp_size.specs.Place.{limit_of};
+    ghost use Rattle.amqp_size.specs.State.{position_at, pending_at, OpenState};
+    ghost use Rattle.amqp_size.specs.Position.{limit_of};
 
     ghost Value = { OpenState };
 
-    ghost view = { λ a. record { place = place_at a.place a.head; shape = a.shape; inner = under_at a.inner a.head; head = a.head; sum = a.sum; before = a.before; count = a.count } };
+    ghost view = { λ a. record { position = position_at a.position a.prefix_len; shape = a.shape; inner = pending_at a.inner a.prefix_len; prefix_len = a.prefix_len; sum = a.sum; before_last = a.before_last; count = a.count } };
 
-    ghost invariant = { λ a. (a.sum ≤ limit_of a.shape) × (a.before ≤ limit_of a.shape) };
+    ghost invariant = { λ a. (a.sum ≤ limit_of a.shape) × (a.before_last ≤ limit_of a.shape) };
 }
 
-impl Open {
-    ghost use Rattle.amqp_size.specs.State.{place_at, under_at};
-    ghost use Rattle.amqp_size.specs.Take.{opens_in, over, undescribed};
-    ghost use Rattle.amqp_size.specs.Place.{outer, rest, con_of, is_array, is_gathered, inner_under, described_under};
+impl OpenCompound {
+    ghost use Rattle.amqp_size.specs.State.{position_at, pending_at};
+    ghost use Rattle.amqp_size.specs.AddPart.{opens_in, passes_limit, undescribed};
+    ghost use Rattle.amqp_size.specs.Position.{position_of, without_prefix, element_constructor, is_array, is_gathered, inner_pending, described_pending};
 
     /// A compound of this shape, opened there, with no part yet.
     #[inline(always)]
-    pub(crate) fn new(under: Under, head: usize, shape: Shape) -> Open
-        ensures place { result.place ≡ outer (under_at under head) }
+    pub(crate) fn new(pending: Pending, prefix_len: usize, shape: Shape) -> OpenCompound
+        ensures position { result.position ≡ position_of (pending_at pending prefix_len) }
         ensures shape { result.shape ≡ shape }
-        ensures inner { result.inner ≡ inner_under shape (under_at under head) }
-        ensures head { result.head ≡ head }
+        ensures inner { result.inner ≡ inner_pending shape (pending_at pending prefix_len) }
+        ensures prefix_len { result.prefix_len ≡ prefix_len }
         ensures sum { result.sum ≡ 0 }
         ensures count { result.count ≡ 0 }
     {
-        Open {
-            place: under.outer(),
+        OpenCompound {
+            position: pending.position(),
             shape,
-            inner: shape.inner(under),
-            head,
+            inner: shape.inner(pending),
+            prefix_len,
             sum: 0,
-            before: 0,
+            before_last: 0,
             count: 0,
         }
     }
@@ -79,33 +79,33 @@ impl Open {
     /// The constructor of an array's elements, once there is one.
     #[inline(always)]
     pub fn constructor(&self) -> Option<u8>
-        ensures { result ≡ con_of (outer self.now.inner) }
+        ensures { result ≡ element_constructor (position_of self.now.inner) }
     {
-        self.inner.outer().constructor()
+        self.inner.position().constructor()
     }
 
     /// Where the compound stands.
     #[inline(always)]
-    pub(crate) fn place(&self) -> Place
-        ensures { place_at result self.now.head ≡ self.now.place }
+    pub(crate) fn position(&self) -> Position
+        ensures { position_at result self.now.prefix_len ≡ self.now.position }
     {
-        self.place
+        self.position
     }
 
-    /// Where the next part stands; of a bare compound that was fed, what comes after it.
+    /// Where the next part stands; of a single compound that was fed, what comes after it.
     #[inline(always)]
-    pub(crate) fn inner(&self) -> Under
-        ensures { under_at result self.now.head ≡ self.now.inner }
+    pub(crate) fn inner(&self) -> Pending
+        ensures { pending_at result self.now.prefix_len ≡ self.now.inner }
     {
         self.inner
     }
 
     /// How many bytes stand before the value, where one of the two is after descriptors.
     #[inline(always)]
-    pub(crate) fn head(&self) -> usize
-        ensures { result ≡ self.now.head }
+    pub(crate) fn prefix_len(&self) -> usize
+        ensures { result ≡ self.now.prefix_len }
     {
-        self.head
+        self.prefix_len
     }
 
     /// How many elements an array has.
@@ -119,51 +119,51 @@ impl Open {
     /// Takes the last part back.
     #[inline(always)]
     pub(crate) fn undo(&mut self)
-        ensures sum { self.new.sum ≡ self.old.before }
-        ensures place { self.new.place ≡ self.old.place }
+        ensures sum { self.new.sum ≡ self.old.before_last }
+        ensures position { self.new.position ≡ self.old.position }
         ensures shape { self.new.shape ≡ self.old.shape }
         ensures small { self.new.sum ≤ limit_of self.new.shape }
         ensures count { self.new.count ≡ self.old.count }
         ensures inner { self.new.inner ≡ self.old.inner }
     {
-        self.sum = self.before;
+        self.sum = self.before_last;
     }
 
     /// Counts a part of this size, after which the serializer stands there.
     #[inline(always)]
-    pub(crate) fn take(&mut self, size: usize, after: Under) -> Result<(), Refusal>
+    pub(crate) fn add_part(&mut self, size: usize, after: Pending) -> Result<(), Refusal>
         ensures gathered { is_gathered self.old.shape ≡ true → MatchResult result
             (λ _.
             (self.new.sum ≡ size + opens_in (is_array self.old.shape) self.old.inner
-            (under_at after self.old.head) + self.old.sum)
+            (pending_at after self.old.prefix_len) + self.old.sum)
             × ((self.new.count ≡ if is_array self.old.shape then self.old.count + 1
             else self.old.count)
-            × (self.new.inner ≡ if is_array self.old.shape then under_at after self.old.head
+            × (self.new.inner ≡ if is_array self.old.shape then pending_at after self.old.prefix_len
             else self.old.inner)))
             (λ e. (e ≡ Refusal.TooLong)
-            × over (is_array self.old.shape) self.old.count
-            (size + opens_in (is_array self.old.shape) self.old.inner (under_at after self.old.head)
+            × passes_limit (is_array self.old.shape) self.old.count
+            (size + opens_in (is_array self.old.shape) self.old.inner (pending_at after self.old.prefix_len)
             + self.old.sum)) }
         ensures transparent { self.old.shape ≡ Shape.Transparent → MatchResult result
             (λ _. (self.new.sum ≡ size + self.old.sum) × (self.new.inner ≡ self.old.inner))
             (λ e. (e ≡ Refusal.TooLong) × (18446744073709551615 < size + self.old.sum)) }
-        ensures bare { self.old.shape ≡ Shape.Bare → MatchResult result
+        ensures single { self.old.shape ≡ Shape.Single → MatchResult result
             (λ _. (self.old.count ≡ 0)
             × ((self.new.count ≡ 1)
-            × ((self.new.sum ≡ size) × (self.new.inner ≡ under_at after self.old.head))))
+            × ((self.new.sum ≡ size) × (self.new.inner ≡ pending_at after self.old.prefix_len))))
             (λ e. (e ≡ Refusal.InvalidValue) × (1 ≤ self.old.count)) }
-        ensures before { is_gathered self.old.shape ≡ true →
-            IfOk result (λ _. self.new.before ≡ self.old.sum) }
+        ensures before_last { is_gathered self.old.shape ≡ true →
+            IfOk result (λ _. self.new.before_last ≡ self.old.sum) }
         ensures kept { IfErr result (λ _. self.new ≡ self.old) }
         ensures few { self.old.count ≤ 4294967295 → self.new.count ≤ 4294967295 }
-        ensures place { self.new.place ≡ self.old.place }
+        ensures position { self.new.position ≡ self.old.position }
         ensures shape { self.new.shape ≡ self.old.shape }
         ensures small { self.new.sum ≤ limit_of self.new.shape }
     {
         match self.shape {
-            Shape::Array => self.take_element(size, after),
+            Shape::Array => self.add_element(size, after),
             Shape::Transparent => self.add(size, usize::MAX),
-            Shape::Bare => self.take_value(size, after),
+            Shape::Single => self.add_single(size, after),
             _ => self.add(size, LONGEST),
         }
     }
@@ -174,9 +174,9 @@ impl Open {
         requires enough { self.old.sum ≤ limit }
         requires allowed { limit ≤ limit_of self.old.shape }
         ensures kept { MatchResult result
-            (λ _. (self.new.sum ≡ size + self.old.sum) × (self.new.before ≡ self.old.sum))
+            (λ _. (self.new.sum ≡ size + self.old.sum) × (self.new.before_last ≡ self.old.sum))
             (λ e. (self.new ≡ self.old) × ((e ≡ Refusal.TooLong) × (limit < size + self.old.sum))) }
-        ensures place { self.new.place ≡ self.old.place }
+        ensures position { self.new.position ≡ self.old.position }
         ensures shape { self.new.shape ≡ self.old.shape }
         ensures small { self.new.sum ≤ limit_of self.new.shape }
         ensures inner { self.new.inner ≡ self.old.inner }
@@ -185,34 +185,34 @@ impl Open {
         if size > limit - self.sum {
             return Err(Refusal::TooLong);
         }
-        self.before = self.sum;
+        self.before_last = self.sum;
         self.sum += size;
         Ok(())
     }
 
     /// Counts an element of an array, and the constructor before the first.
     #[inline(always)]
-    fn take_element(&mut self, size: usize, after: Under) -> Result<(), Refusal>
+    fn add_element(&mut self, size: usize, after: Pending) -> Result<(), Refusal>
         requires { self.old.shape ≡ Shape.Array }
         ensures kept { MatchResult result
             (λ _.
-            (self.new.sum ≡ size + opens_in true self.old.inner (under_at after self.old.head)
+            (self.new.sum ≡ size + opens_in true self.old.inner (pending_at after self.old.prefix_len)
             + self.old.sum)
             × ((self.new.count ≡ self.old.count + 1)
-            × (self.new.inner ≡ under_at after self.old.head)))
+            × (self.new.inner ≡ pending_at after self.old.prefix_len)))
             (λ e. (self.new ≡ self.old)
             × ((e ≡ Refusal.TooLong)
-            × over true self.old.count
-            (size + opens_in true self.old.inner (under_at after self.old.head) + self.old.sum))) }
-        ensures before { IfOk result (λ _. self.new.before ≡ self.old.sum) }
+            × passes_limit true self.old.count
+            (size + opens_in true self.old.inner (pending_at after self.old.prefix_len) + self.old.sum))) }
+        ensures before_last { IfOk result (λ _. self.new.before_last ≡ self.old.sum) }
         ensures few { self.old.count ≤ 4294967295 → self.new.count ≤ 4294967295 }
-        ensures place { self.new.place ≡ self.old.place }
+        ensures position { self.new.position ≡ self.old.position }
         ensures shape { self.new.shape ≡ self.old.shape }
         ensures small { self.new.sum ≤ limit_of self.new.shape }
     {
         // The serializer stands at the constructor that the first element left there.
         let opened = match (self.inner, after) {
-            (Under::Plain(Place::First), Under::Plain(Place::Element(_))) => 1,
+            (Pending::Plain(Position::First), Pending::Plain(Position::Element(_))) => 1,
             _ => 0,
         };
         let most = LONGEST - self.sum;
@@ -223,22 +223,22 @@ impl Open {
             return Err(Refusal::TooLong);
         }
         self.count += 1;
-        self.before = self.sum;
+        self.before_last = self.sum;
         self.sum = self.sum + size + opened;
         self.inner = after;
         Ok(())
     }
 
-    /// Keeps the one value of a bare compound, and what comes after it.
+    /// Keeps the one value of a single compound, and what comes after it.
     #[inline(always)]
-    fn take_value(&mut self, size: usize, after: Under) -> Result<(), Refusal>
-        requires { self.old.shape ≡ Shape.Bare }
+    fn add_single(&mut self, size: usize, after: Pending) -> Result<(), Refusal>
+        requires { self.old.shape ≡ Shape.Single }
         ensures kept { MatchResult result
             (λ _. (self.old.count ≡ 0)
             × ((self.new.count ≡ 1)
-            × ((self.new.sum ≡ size) × (self.new.inner ≡ under_at after self.old.head))))
+            × ((self.new.sum ≡ size) × (self.new.inner ≡ pending_at after self.old.prefix_len))))
             (λ e. (self.new ≡ self.old) × ((e ≡ Refusal.InvalidValue) × (1 ≤ self.old.count))) }
-        ensures place { self.new.place ≡ self.old.place }
+        ensures position { self.new.position ≡ self.old.position }
         ensures shape { self.new.shape ≡ self.old.shape }
         ensures small { self.new.sum ≤ limit_of self.new.shape }
     {
@@ -251,31 +251,31 @@ impl Open {
         Ok(())
     }
 
-    /// Counts a descriptor of this size before the value of a bare compound.
+    /// Counts a descriptor of this size before the value of a single compound.
     #[inline(always)]
     pub(crate) fn describe(&mut self, size: usize) -> Result<(), Refusal>
         ensures kept { MatchResult result
-            (λ _. described_under self.old.inner size ≡ Some self.new.inner)
+            (λ _. described_pending self.old.inner size ≡ Some self.new.inner)
             (λ e. (self.new ≡ self.old) × undescribed self.old.inner size e) }
-        ensures place { rest self.new.place ≡ rest self.old.place }
+        ensures position { without_prefix self.new.position ≡ without_prefix self.old.position }
         ensures shape { self.new.shape ≡ self.old.shape }
         ensures sum { self.new.sum ≡ self.old.sum }
         ensures count { self.new.count ≡ self.old.count }
     {
-        let Under::Plain(place) = self.inner else {
-            self.inner = Under::Nothing(self.inner.outer());
+        let Pending::Plain(position) = self.inner else {
+            self.inner = Pending::Nothing(self.inner.position());
             return Ok(());
         };
-        let inner = match place.described() {
+        let inner = match position.described() {
             Ok(inner) => inner,
             Err(e) => return Err(e),
         };
-        let before = place.before(self.head);
-        if size >= usize::MAX - before {
+        let prefix_len = position.prefix_len(self.prefix_len);
+        if size >= usize::MAX - prefix_len {
             return Err(Refusal::TooLong);
         }
-        self.head = before + (size + 1);
-        self.inner = Under::Plain(inner);
+        self.prefix_len = prefix_len + (size + 1);
+        self.inner = Pending::Plain(inner);
         Ok(())
     }
 }

@@ -1,7 +1,7 @@
 //! Rows that no contract states: lengths from the encoding tables, worked by hand.
 
 ghost use Rattle.std.specs.Prelude.{None};
-ghost use Rattle.amqp_ser.specs.Permitted.{IsSizeOf};
+ghost use Rattle.amqp_ser.specs.SizeAndBytes.{IsSizeOf};
 ghost use Rattle.amqp_size.specs.Refused.{told};
 
 mod calls;
@@ -157,9 +157,9 @@ fn compounds_pass_over_what_they_refuse(rt: HostRuntime) {
 }
 
 #[test]
-fn second_value_of_a_bare_compound(rt: HostRuntime) {
+fn second_value_of_a_single_compound(rt: HostRuntime) {
     let mut serializer = SizeSerializer::new();
-    let mut held = serializer.begin(Kind::Bare);
+    let mut held = serializer.begin(Kind::Single);
     serializer.begin_part(&mut held);
     let first = serializer.serialize_u8(1);
     assert_eq!(rt; serializer.end_part(&mut held, first), Ok(()));
@@ -176,7 +176,7 @@ fn second_value_of_a_bare_compound(rt: HostRuntime) {
 #[test]
 fn descriptor_after_a_string(rt: HostRuntime) {
     let mut serializer = SizeSerializer::new();
-    let mut held = serializer.begin(Kind::Bare);
+    let mut held = serializer.begin(Kind::Single);
     serializer.begin_descriptor(&mut held);
     let text = serializer.serialize_str("a");
     assert_eq!(rt;

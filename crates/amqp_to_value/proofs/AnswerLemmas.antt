@@ -3,75 +3,75 @@ use Rattle.std.proofs.Common.{◌≡◌, ◌≤◌, false, List, [], ◌∷◌, 
 use Rattle.amqp_data.specs.declared.error.Error.{Error}
 use Rattle.amqp_data.specs.declared.error.Error.TheVariants as error
 use Rattle.amqp_ser.specs.Tree.{Descriptor, Tree, Trees}
-use Rattle.amqp_ser.specs.Compounds.{all_trees, before, as_kind, whole}
+use Rattle.amqp_ser.specs.Compounds.{all_trees, prepend, as_kind, whole}
 use Rattle.amqp_ser.specs.declared.kind.Kind.TheVariants as kinds
 use Rattle.amqp_ser.specs.declared.mark.Mark.TheVariants as mark
 use Rattle.amqp_value.specs.TreeOf.{tree_of}
 use Rattle.amqp_value.specs.declared.value.Value.{Value}
-use Rattle.amqp_to_value.specs.Around.{Pending, described_in, described_by, standing}
-use Rattle.amqp_to_value.specs.Holds.{IsAside, IsFresh, IsKept, Leaves, meant_by, value_permits}
-use Rattle.amqp_to_value.specs.Permitted.{refuses, StandsFor}
-use Rattle.amqp_to_value.specs.Under.{meant}
-use Rattle.amqp_to_value.specs.declared.under.Under.TheVariants as under
+use Rattle.amqp_to_value.specs.PendingDescriptors.{DescriptorsState, described_in, described_by, standing}
+use Rattle.amqp_to_value.specs.ValueSerializer.{IsSaved, IsFresh, IsKept, Leaves, meant_by, value_permits}
+use Rattle.amqp_to_value.specs.ImageOf.{refuses, StandsFor}
+use Rattle.amqp_to_value.specs.PendingMark.{meant}
+use Rattle.amqp_to_value.specs.declared.pending_mark.PendingMark.TheVariants as pending
 use Rattle.amqp_to_value.specs.declared.serializer.Serializer.{Serializer}
-use Rattle.amqp_to_value.proofs.AroundLemmas.{described_by-None, refuses_in, standing_left, stands_in}
-use Rattle.amqp_to_value.proofs.HoldsLemmas.{meant_none}
+use Rattle.amqp_to_value.proofs.PendingDescriptorLemmas.{described_by-None, refuses_in, standing_left, stands_in}
+use Rattle.amqp_to_value.proofs.ValueSerializerLemmas.{meant_none}
 
 -- a value in all that it stood in
-pub finished : (start after : Serializer) (t : Option Tree) (v w : Value) (others ds : List Descriptor) → others ≡ start.around.kept → ds ≡ standing start.around
-    → after.under ≡ under.Mark mark.Other → after.around.kept ≡ others → after.around.next ≡ false → length (others ++ ds) ≤ after.around.room
-    → tree_of w ≡ described_in ds (tree_of v) → StandsFor v (meant start.under t) → value_permits start t (Ok w) after
+pub finished : (start after : Serializer) (t : Option Tree) (v w : Value) (others ds : List Descriptor) → others ≡ start.descriptors.kept → ds ≡ standing start.descriptors
+    → after.pending ≡ pending.Mark mark.Other → after.descriptors.kept ≡ others → after.descriptors.next ≡ false → length (others ++ ds) ≤ after.descriptors.room
+    → tree_of w ≡ described_in ds (tree_of v) → StandsFor v (meant start.pending t) → value_permits start t (Ok w) after
 finished start after t v w others ds e f fresh is none room d s = (
-  stands_in (standing start.around) (meant start.under t) v w (d ∙ ap (λ x. described_in x (tree_of v)) f) s,
-  (((fresh, none), is ∙ e), subst (λ n. n ≤ after.around.room) (λ i. length (e i ++ f i)) room),
+  stands_in (standing start.descriptors) (meant start.pending t) v w (d ∙ ap (λ x. described_in x (tree_of v)) f) s,
+  (((fresh, none), is ∙ e), subst (λ n. n ≤ after.descriptors.room) (λ i. length (e i ++ f i)) room),
 )
 
 -- a refusal
-pub finished_not : (start after : Serializer) (t : Option Tree) (e : Error) (old : Pending) → old.kept ≡ start.around.kept → standing old ≡ standing start.around
-    → after.under ≡ under.Mark mark.Other → after.around.kept ≡ old.kept → after.around.later ≡ old.later → after.around.next ≡ false → refuses e (meant start.under t) → value_permits start t (Err e) after
+pub finished_not : (start after : Serializer) (t : Option Tree) (e : Error) (old : DescriptorsState) → old.kept ≡ start.descriptors.kept → standing old ≡ standing start.descriptors
+    → after.pending ≡ pending.Mark mark.Other → after.descriptors.kept ≡ old.kept → after.descriptors.later ≡ old.later → after.descriptors.next ≡ false → refuses e (meant start.pending t) → value_permits start t (Err e) after
 finished_not start after t e old p q fresh is left none r =
     let more = standing_left old in
-    (refuses_in (standing start.around) (meant start.under t) e r, (((fresh, none), is ∙ p), (more.0, left ∙ more.1 ∙ ap (λ ds. ds ++ more.0) q)))
+    (refuses_in (standing start.descriptors) (meant start.pending t) e r, (((fresh, none), is ∙ p), (more.0, left ∙ more.1 ∙ ap (λ ds. ds ++ more.0) q)))
 
 -- what is kept stays so by an answer
-pub kept_on : (ds : List Descriptor) (start after : Serializer) (r : Result Value Error) → IsKept ds start → Leaves start.around.kept (standing start.around) r after → IsKept ds after
+pub kept_on : (ds : List Descriptor) (start after : Serializer) (r : Result Value Error) → IsKept ds start → Leaves start.descriptors.kept (standing start.descriptors) r after → IsKept ds after
 kept_on ds start after (Ok v) h k = (k.0.0, k.0.1 ∙ h.1)
 kept_on ds start after (Err e) h k = (k.0.0, k.0.1 ∙ h.1)
 
 -- after a part, what the compound stands in is put aside again
-pub parted_again : (start now : Serializer) → IsKept (start.around.kept ++ standing start.around) now
-    → now.around.kept ++ now.around.later ≡ start.around.kept ++ (standing start.around ++ now.around.later)
-parted_again start now k = ap (λ ds. ds ++ now.around.later) k.1 ∙ append_assoc start.around.kept (standing start.around) now.around.later
+pub parted_again : (start now : Serializer) → IsKept (start.descriptors.kept ++ standing start.descriptors) now
+    → now.descriptors.kept ++ now.descriptors.later ≡ start.descriptors.kept ++ (standing start.descriptors ++ now.descriptors.later)
+parted_again start now k = ap (λ ds. ds ++ now.descriptors.later) k.1 ∙ append_assoc start.descriptors.kept (standing start.descriptors) now.descriptors.later
 
-pub aside_again : (start now : Serializer) (around : Pending) (more : List Descriptor) → IsFresh now → around.next ≡ now.around.next
-    → (around.kept ≡ start.around.kept) × (around.later ≡ standing start.around ++ more) → IsAside start (record { alloc = now.alloc; under = now.under; around = around })
-aside_again start now around more fresh next rel = (((fresh.0, next ∙ fresh.1), rel.0), (more, rel.1))
+pub aside_again : (start now : Serializer) (descriptors : DescriptorsState) (more : List Descriptor) → IsFresh now → descriptors.next ≡ now.descriptors.next
+    → (descriptors.kept ≡ start.descriptors.kept) × (descriptors.later ≡ standing start.descriptors ++ more) → IsSaved start (record { alloc = now.alloc; pending = now.pending; descriptors = descriptors })
+aside_again start now descriptors more fresh next rel = (((fresh.0, next ∙ fresh.1), rel.0), (more, rel.1))
 
 -- nothing is permitted on none but a refusal
 pub none_refused : (s : Serializer) → refuses error.InvalidValue (meant_by s None)
-none_refused s = subst (refuses error.InvalidValue) (sym (ap (described_by (standing s.around)) (meant_none s.under) ∙ described_by-None (standing s.around))) tt
+none_refused s = subst (refuses error.InvalidValue) (sym (ap (described_by (standing s.descriptors)) (meant_none s.pending) ∙ described_by-None (standing s.descriptors))) tt
 
--- two parts make no bare compound
-two_trees : (t u : Tree) (o : Option Trees) → as_kind kinds.Bare (before (Some t) (before (Some u) o)) ≡ None
+-- two parts make no single compound
+two_trees : (t u : Tree) (o : Option Trees) → as_kind kinds.Single (prepend (Some t) (prepend (Some u) o)) ≡ None
 two_trees t u None = refl
 two_trees t u (Some ts) = refl
 
-two_parts : (p q : Option Tree) (rest : List (Option Tree)) → whole kinds.Bare (p ∷ (q ∷ rest)) ≡ None
+two_parts : (p q : Option Tree) (rest : List (Option Tree)) → whole kinds.Single (p ∷ (q ∷ rest)) ≡ None
 unfolding whole
 two_parts None q rest = refl
 two_parts (Some t) None rest = refl
 two_parts (Some t) (Some u) rest = two_trees t u (all_trees rest)
 
--- a refusal of the one value of a bare compound, and of a second
-pub bare_refused : (s : Serializer) (p : Option Tree) (e : Error) (rest : List (Option Tree)) → refuses e (meant_by s p) → refuses e (meant_by s (whole kinds.Bare (p ∷ rest)))
+-- a refusal of the one value of a single compound, and of a second
+pub single_refused : (s : Serializer) (p : Option Tree) (e : Error) (rest : List (Option Tree)) → refuses e (meant_by s p) → refuses e (meant_by s (whole kinds.Single (p ∷ rest)))
 unfolding whole
-bare_refused s None e rest r = r
-bare_refused s (Some t) e [] r = r
-bare_refused s (Some t) error.OutOfMemory (q ∷ rest) r = tt
-bare_refused s (Some t) error.InvalidValue (q ∷ rest) r = subst (λ o. refuses error.InvalidValue (meant_by s o)) (sym (two_parts (Some t) q rest)) (none_refused s)
-bare_refused s (Some t) e (q ∷ rest) r = absurd r
+single_refused s None e rest r = r
+single_refused s (Some t) e [] r = r
+single_refused s (Some t) error.OutOfMemory (q ∷ rest) r = tt
+single_refused s (Some t) error.InvalidValue (q ∷ rest) r = subst (λ o. refuses error.InvalidValue (meant_by s o)) (sym (two_parts (Some t) q rest)) (none_refused s)
+single_refused s (Some t) e (q ∷ rest) r = absurd r
 
-pub second_refused : (s : Serializer) (p q : Option Tree) (e : Error) (rest : List (Option Tree)) → refuses e None → refuses e (meant_by s (whole kinds.Bare (p ∷ (q ∷ rest))))
+pub second_refused : (s : Serializer) (p q : Option Tree) (e : Error) (rest : List (Option Tree)) → refuses e None → refuses e (meant_by s (whole kinds.Single (p ∷ (q ∷ rest))))
 second_refused s p q error.OutOfMemory rest r = tt
 second_refused s p q error.InvalidValue rest r = subst (λ o. refuses error.InvalidValue (meant_by s o)) (sym (two_parts p q rest)) (none_refused s)
 second_refused s p q e rest r = absurd r

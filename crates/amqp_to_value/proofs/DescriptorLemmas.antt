@@ -1,4 +1,4 @@
--- A bare compound after the answer on a descriptor.
+-- A single compound after the answer on a descriptor.
 use Rattle.std.proofs.Common.{◌≡◌, ◌+◌, true, List, [], ◌∷◌, ◌++◌, Option, Some, None, Result, Ok, Err, length, refl, ap, sym, ◌∙◌, subst, append_assoc, arith}
 use Rattle.std.proofs.lemmas.List.{length-append}
 use Rattle.amqp_data.specs.declared.error.Error.{Error}
@@ -8,11 +8,11 @@ use Rattle.amqp_ser.specs.Composites.{as_described, descriptor_of}
 use Rattle.amqp_value.specs.Image.{image}
 use Rattle.amqp_value.specs.TreeOf.{tree_of}
 use Rattle.amqp_value.specs.declared.value.Value.{Value}
-use Rattle.amqp_to_value.specs.Around.{described_by, standing}
-use Rattle.amqp_to_value.specs.Holds.{Leaves, meant_by, value_permits}
-use Rattle.amqp_to_value.specs.Permitted.{refuses, StandsFor, IsImageOf}
-use Rattle.amqp_to_value.specs.Under.{meant}
-use Rattle.amqp_to_value.specs.declared.under.Under.{Under}
+use Rattle.amqp_to_value.specs.PendingDescriptors.{described_by, standing}
+use Rattle.amqp_to_value.specs.ValueSerializer.{Leaves, meant_by, value_permits}
+use Rattle.amqp_to_value.specs.ImageOf.{refuses, StandsFor, IsImageOf}
+use Rattle.amqp_to_value.specs.PendingMark.{meant}
+use Rattle.amqp_to_value.specs.declared.pending_mark.PendingMark.{PendingMark}
 use Rattle.amqp_to_value.specs.declared.serializer.Serializer.{Serializer}
 use Rattle.amqp_to_value.proofs.AnswerLemmas.{none_refused}
 
@@ -45,20 +45,20 @@ described_by-last : (ds : List Descriptor) (d : Descriptor) (t : Option Tree) �
 described_by-last [] d t = refl
 described_by-last (e ∷ ds) d t = ap (as_described (Some e)) (described_by-last ds d t)
 
-leaves-front : (others own : List Descriptor) (d : Descriptor) (r : Result Value Error) (s : Serializer) → Leaves others (own ++ (d ∷ [])) r s → Leaves others own r s
-leaves-front others own d (Ok v) s k =
+leaves-prefix : (others own : List Descriptor) (d : Descriptor) (r : Result Value Error) (s : Serializer) → Leaves others (own ++ (d ∷ [])) r s → Leaves others own r s
+leaves-prefix others own d (Ok v) s k =
     let sum : length (others ++ (own ++ (d ∷ []))) ≡ length (others ++ own) + 1 = ap length (sym (append_assoc others own (d ∷ []))) ∙ length-append (others ++ own) (d ∷ []) in
     let le = k.1 in
     (k.0, omega arith)
-leaves-front others own d (Err e) s k = (k.0, ((d ∷ []) ++ k.1.0, k.1.1 ∙ append_assoc own (d ∷ []) k.1.0))
+leaves-prefix others own d (Err e) s k = (k.0, ((d ∷ []) ++ k.1.0, k.1.1 ∙ append_assoc own (d ∷ []) k.1.0))
 
 -- what is permitted after one descriptor more, is permitted before it on the described value
-pub permitted_before : (start : Serializer) (inner : Under) (x : Descriptor) (d t : Option Tree) (r : Result Value Error) (after : Serializer) → descriptor_of d ≡ Some x
-    → as_described (Some x) (meant inner t) ≡ meant start.under (as_described (Some x) t)
-    → value_permits (record { alloc = start.alloc; under = inner; around = record { kept = start.around.kept; later = standing start.around ++ (x ∷ []); next = true; room = 0 } }) t r after
+pub permitted_before : (start : Serializer) (inner : PendingMark) (x : Descriptor) (d t : Option Tree) (r : Result Value Error) (after : Serializer) → descriptor_of d ≡ Some x
+    → as_described (Some x) (meant inner t) ≡ meant start.pending (as_described (Some x) t)
+    → value_permits (record { alloc = start.alloc; pending = inner; descriptors = record { kept = start.descriptors.kept; later = standing start.descriptors ++ (x ∷ []); next = true; room = 0 } }) t r after
     → value_permits start (as_described (descriptor_of d) t) r after
 permitted_before start inner x d t r after is means p = (
   subst (λ o. IsImageOf o r)
-      (described_by-last (standing start.around) x (meant inner t) ∙ ap (described_by (standing start.around)) (means ∙ ap (λ o. meant start.under (as_described o t)) (sym is))) p.0,
-  leaves-front start.around.kept (standing start.around) x r after p.1,
+      (described_by-last (standing start.descriptors) x (meant inner t) ∙ ap (described_by (standing start.descriptors)) (means ∙ ap (λ o. meant start.pending (as_described o t)) (sym is))) p.0,
+  leaves-prefix start.descriptors.kept (standing start.descriptors) x r after p.1,
 )

@@ -1,7 +1,7 @@
-pub mod AroundLemmas
-pub mod FedLemmas
+pub mod PendingDescriptorLemmas
+pub mod HeldImagesLemmas
 pub mod MapLemmas
-pub mod HoldsLemmas
+pub mod ValueSerializerLemmas
 pub mod AnswerLemmas
 pub mod PartLemmas
 pub mod DescriptorLemmas

@@ -8,7 +8,7 @@ use Rattle.amqp_value.specs.TreeOf.{tree_of, pairs_trees}
 use Rattle.amqp_value.specs.declared.value.Value.{Value}
 use Rattle.amqp_value.proofs.Sameness.{equal}
 use Rattle.amqp_value.proofs.TreeLemmas.{pairs_trees-insert}
-use Rattle.amqp_to_value.specs.Fed.{feed}
+use Rattle.amqp_to_value.specs.HeldImages.{feed}
 
 module _ {K : Type 0} (eq : K → K → Bool) where
   lacks : (k : K) (ks : List K) → AllByRecursion (λ y. eq k y ≡ false) ks → LacksKey eq k ks

@@ -9,79 +9,79 @@ use Rattle.amqp_ser.specs.declared.mark.Mark.TheVariants as mark
 use Rattle.amqp_value.specs.Image.{image}
 use Rattle.amqp_value.specs.TreeOf.{tree_of}
 use Rattle.amqp_value.specs.declared.value.Value.{Value}
-use Rattle.amqp_to_value.specs.Around.{described_in, described_by, standing}
-use Rattle.amqp_to_value.specs.Holds.{HasParts, IsAside, IsFresh, IsReady, Leaves, meant_by, value_permits}
-use Rattle.amqp_to_value.specs.Permitted.{refuses, StandsFor}
-use Rattle.amqp_to_value.specs.Under.{meant}
-use Rattle.amqp_to_value.specs.declared.under.Under.{Under}
-use Rattle.amqp_to_value.specs.declared.under.Under.TheVariants as under
-use Rattle.amqp_to_value.specs.declared.open.Body.{Body}
-use Rattle.amqp_to_value.specs.declared.open.Body.TheVariants as body
+use Rattle.amqp_to_value.specs.PendingDescriptors.{described_in, described_by, standing}
+use Rattle.amqp_to_value.specs.ValueSerializer.{HasParts, IsSaved, IsFresh, IsReady, Leaves, meant_by, value_permits}
+use Rattle.amqp_to_value.specs.ImageOf.{refuses, StandsFor}
+use Rattle.amqp_to_value.specs.PendingMark.{meant}
+use Rattle.amqp_to_value.specs.declared.pending_mark.PendingMark.{PendingMark}
+use Rattle.amqp_to_value.specs.declared.pending_mark.PendingMark.TheVariants as pending
+use Rattle.amqp_to_value.specs.declared.open_value.OpenBody.{OpenBody}
+use Rattle.amqp_to_value.specs.declared.open_value.OpenBody.TheVariants as body
 use Rattle.amqp_to_value.specs.declared.serializer.Serializer.{Serializer}
-use Rattle.amqp_to_value.proofs.AroundLemmas.{refuses_in, stood}
-use Rattle.amqp_to_value.proofs.AnswerLemmas.{bare_refused, kept_on, parted_again, refuses_too, second_refused}
-use Rattle.amqp_to_value.proofs.HoldsLemmas.{plain_answer, refused}
+use Rattle.amqp_to_value.proofs.PendingDescriptorLemmas.{refuses_in, stood}
+use Rattle.amqp_to_value.proofs.AnswerLemmas.{single_refused, kept_on, parted_again, refuses_too, second_refused}
+use Rattle.amqp_to_value.proofs.ValueSerializerLemmas.{plain_answer, refused}
 
--- what a bare compound means before its value
-same_meant : (start before : Serializer) (u : Under) (p : Option Tree) → IsReady start before (body.Bare u None) → meant_by before p ≡ meant_by start p
+-- what a single compound means before its value
+same_meant : (start before : Serializer) (u : PendingMark) (p : Option Tree) → IsReady start before (body.Single u None) → meant_by before p ≡ meant_by start p
 same_meant start before u p ready = λ i. described_by (ready.2 i) (meant (ready.0 i) p)
 
-refusal : (start before : Serializer) (k : Kind) (b : Body) (ps : List (Option Tree)) (p : Option Tree) (e : Error) → HasParts start.under k b ps → IsReady start before b
+refusal : (start before : Serializer) (k : Kind) (b : OpenBody) (ps : List (Option Tree)) (p : Option Tree) (e : Error) → HasParts start.pending k b ps → IsReady start before b
     → refuses e (meant_by before p) → (rest : List (Option Tree)) → refuses e (meant_by start (whole k (ps ++ (p ∷ rest))))
-refusal start before k (body.Bare u None) [] p e h ready r rest =
-    subst (λ x. refuses e (meant_by start (whole x (p ∷ rest)))) (sym h.0) (bare_refused start p e rest (subst (refuses e) (same_meant start before u p ready) r))
-refusal start before k (body.Bare u None) (q ∷ ps) p e h ready r rest = absurd h.2
-refusal start before k (body.Bare u (Some v)) [] p e h ready r rest = absurd h.2
-refusal start before k (body.Bare u (Some v)) (q ∷ []) p e h ready r rest =
+refusal start before k (body.Single u None) [] p e h ready r rest =
+    subst (λ x. refuses e (meant_by start (whole x (p ∷ rest)))) (sym h.0) (single_refused start p e rest (subst (refuses e) (same_meant start before u p ready) r))
+refusal start before k (body.Single u None) (q ∷ ps) p e h ready r rest = absurd h.2
+refusal start before k (body.Single u (Some v)) [] p e h ready r rest = absurd h.2
+refusal start before k (body.Single u (Some v)) (q ∷ []) p e h ready r rest =
     subst (λ x. refuses e (meant_by start (whole x (q ∷ (p ∷ rest))))) (sym h.0) (second_refused start q p e rest (refuses_too e (meant_by before p) r))
-refusal start before k (body.Bare u (Some v)) (q ∷ (s ∷ ps)) p e h ready r rest = absurd h.2
+refusal start before k (body.Single u (Some v)) (q ∷ (s ∷ ps)) p e h ready r rest = absurd h.2
 refusal start before k (body.Parts parts) ps p e h ready r rest =
-    refuses_in (standing start.around) (meant start.under (whole k (ps ++ (p ∷ rest)))) e
-    (refused start.under k ps p e (plain_answer before (start.around.kept ++ (standing start.around)) p (Err e) ready r) rest)
+    refuses_in (standing start.descriptors) (meant start.pending (whole k (ps ++ (p ∷ rest)))) e
+    (refused start.pending k ps p e (plain_answer before (start.descriptors.kept ++ (standing start.descriptors)) p (Err e) ready r) rest)
 
 -- what a refused part leaves of what is put aside
-pub left_by_refusal : (start before now : Serializer) (b : Body) (e : Error) → IsReady start before b → Leaves before.around.kept (standing before.around) (Err e) now
-    → IsFresh now × (more : List Descriptor) × (now.around.kept ++ now.around.later ≡ start.around.kept ++ (standing start.around ++ more))
-left_by_refusal start before now (body.Bare u None) e ready k = (k.0.0, k.1.0, (λ i. (k.0.1 ∙ ready.1) i ++ (k.1.1 ∙ ap (λ ds. ds ++ k.1.0) ready.2) i))
-left_by_refusal start before now (body.Bare u (Some v)) e ready k = (k.0.0, now.around.later, parted_again start now (kept_on _ before now (Err e) ready k))
-left_by_refusal start before now (body.Parts parts) e ready k = (k.0.0, now.around.later, parted_again start now (kept_on _ before now (Err e) ready k))
+pub left_by_refusal : (start before now : Serializer) (b : OpenBody) (e : Error) → IsReady start before b → Leaves before.descriptors.kept (standing before.descriptors) (Err e) now
+    → IsFresh now × (more : List Descriptor) × (now.descriptors.kept ++ now.descriptors.later ≡ start.descriptors.kept ++ (standing start.descriptors ++ more))
+left_by_refusal start before now (body.Single u None) e ready k = (k.0.0, k.1.0, (λ i. (k.0.1 ∙ ready.1) i ++ (k.1.1 ∙ ap (λ ds. ds ++ k.1.0) ready.2) i))
+left_by_refusal start before now (body.Single u (Some v)) e ready k = (k.0.0, now.descriptors.later, parted_again start now (kept_on _ before now (Err e) ready k))
+left_by_refusal start before now (body.Parts parts) e ready k = (k.0.0, now.descriptors.later, parted_again start now (kept_on _ before now (Err e) ready k))
 
 -- after a refused part
-pub part_refused : (start before after : Serializer) (k : Kind) (b : Body) (ps : List (Option Tree)) (p : Option Tree) (e : Error) → HasParts start.under k b ps → IsReady start before b
-    → refuses e (meant_by before p) → IsAside start after → IsAside start after × ((rest : List (Option Tree)) → value_permits start (whole k (ps ++ (p ∷ rest))) (Err e) after)
-part_refused start before after k b ps p e h ready r aside = (aside, λ rest. (refusal start before k b ps p e h ready r rest, aside))
+pub part_refused : (start before after : Serializer) (k : Kind) (b : OpenBody) (ps : List (Option Tree)) (p : Option Tree) (e : Error) → HasParts start.pending k b ps → IsReady start before b
+    → refuses e (meant_by before p) → IsSaved start after → IsSaved start after × ((rest : List (Option Tree)) → value_permits start (whole k (ps ++ (p ∷ rest))) (Err e) after)
+part_refused start before after k b ps p e h ready r saved = (saved, λ rest. (refusal start before k b ps p e h ready r rest, saved))
 
--- after a second value of a bare compound
-pub second_part : (start after : Serializer) (k : Kind) (u : Under) (v : Value) (ps : List (Option Tree)) (p : Option Tree) → HasParts start.under k (body.Bare u (Some v)) ps
-    → IsAside start after → IsAside start after × ((rest : List (Option Tree)) → value_permits start (whole k (ps ++ (p ∷ rest))) (Err error.InvalidValue) after)
-second_part start after k u v [] p h aside = absurd h.2
-second_part start after k u v (q ∷ []) p h aside =
-    (aside, λ rest. (subst (λ x. refuses error.InvalidValue (meant_by start (whole x (q ∷ (p ∷ rest))))) (sym h.0) (second_refused start q p error.InvalidValue rest tt), aside))
-second_part start after k u v (q ∷ (s ∷ ps)) p h aside = absurd h.2
+-- after a second value of a single compound
+pub second_part : (start after : Serializer) (k : Kind) (u : PendingMark) (v : Value) (ps : List (Option Tree)) (p : Option Tree) → HasParts start.pending k (body.Single u (Some v)) ps
+    → IsSaved start after → IsSaved start after × ((rest : List (Option Tree)) → value_permits start (whole k (ps ++ (p ∷ rest))) (Err error.InvalidValue) after)
+second_part start after k u v [] p h saved = absurd h.2
+second_part start after k u v (q ∷ []) p h saved =
+    (saved, λ rest. (subst (λ x. refuses error.InvalidValue (meant_by start (whole x (q ∷ (p ∷ rest))))) (sym h.0) (second_refused start q p error.InvalidValue rest tt), saved))
+second_part start after k u v (q ∷ (s ∷ ps)) p h saved = absurd h.2
 
--- the value of a bare compound stands in what the compound stands in, for which there is room
+-- the value of a single compound stands in what the compound stands in, for which there is room
 pub record Stood (start after : Serializer) (p : Option Tree) (v : Value) : Type 0 where
   pub tree : Tree
-  pub others : after.around.kept ≡ start.around.kept
-  pub none : after.around.next ≡ false
-  pub room : length (start.around.kept ++ (standing start.around)) ≤ after.around.room
-  pub within : tree_of v ≡ described_in (standing start.around) (image tree)
-  pub means : meant start.under p ≡ Some tree
+  pub others : after.descriptors.kept ≡ start.descriptors.kept
+  pub none : after.descriptors.next ≡ false
+  pub room : length (start.descriptors.kept ++ (standing start.descriptors)) ≤ after.descriptors.room
+  pub within : tree_of v ≡ described_in (standing start.descriptors) (image tree)
+  pub means : meant start.pending p ≡ Some tree
 
-pub stands : (start before after : Serializer) (u : Under) (p : Option Tree) (v : Value) → IsReady start before (body.Bare u None) → value_permits before p (Ok v) after → Stood start after p v
+pub stands : (start before after : Serializer) (u : PendingMark) (p : Option Tree) (v : Value) → IsReady start before (body.Single u None) → value_permits before p (Ok v) after → Stood start after p v
 stands start before after u p v ready r =
-    let s = stood (standing start.around) (meant start.under p) v (subst (StandsFor v) (same_meant start before u p ready) r.0) in
+    let s = stood (standing start.descriptors) (meant start.pending p) v (subst (StandsFor v) (same_meant start before u p ready) r.0) in
     record {
       tree = s.0;
       others = r.1.0.1 ∙ ready.1;
       none = r.1.0.0.1;
-      room = subst (λ n. n ≤ after.around.room) (λ i. length (ready.1 i ++ ready.2 i)) r.1.1;
+      room = subst (λ n. n ≤ after.descriptors.room) (λ i. length (ready.1 i ++ ready.2 i)) r.1.1;
       within = s.2;
       means = s.1;
     }
 
-pub bare_taken : (start after : Serializer) (k : Kind) (u : Under) (v : Value) (ps : List (Option Tree)) (p : Option Tree) (t : Tree) → HasParts start.under k (body.Bare u None) ps
-    → meant start.under p ≡ Some t → after.under ≡ under.Mark mark.Other → (tree_of v ≡ image t) × (after.around.kept ≡ start.around.kept) × (after.around.later ≡ standing start.around) × (after.around.next ≡ false)
-    → HasParts start.under k (body.Bare u (Some v)) (ps ++ (p ∷ [])) × IsAside start after
-bare_taken start after k u v [] p t h m fresh is = ((h.0, h.1, subst (StandsFor v) (sym m) is.0), (((fresh, is.3), is.1), ([], is.2 ∙ sym (append-nil _))))
-bare_taken start after k u v (q ∷ ps) p t h m fresh is = absurd h.2
+pub single_taken : (start after : Serializer) (k : Kind) (u : PendingMark) (v : Value) (ps : List (Option Tree)) (p : Option Tree) (t : Tree) → HasParts start.pending k (body.Single u None) ps
+    → meant start.pending p ≡ Some t → after.pending ≡ pending.Mark mark.Other → (tree_of v ≡ image t) × (after.descriptors.kept ≡ start.descriptors.kept) × (after.descriptors.later ≡ standing start.descriptors) × (after.descriptors.next ≡ false)
+    → HasParts start.pending k (body.Single u (Some v)) (ps ++ (p ∷ [])) × IsSaved start after
+single_taken start after k u v [] p t h m fresh is = ((h.0, h.1, subst (StandsFor v) (sym m) is.0), (((fresh, is.3), is.1), ([], is.2 ∙ sym (append-nil _))))
+single_taken start after k u v (q ∷ ps) p t h m fresh is = absurd h.2

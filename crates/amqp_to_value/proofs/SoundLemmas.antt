@@ -4,7 +4,7 @@ use Rattle.amqp_data.specs.declared.error.Error.{Error}
 use Rattle.amqp_ser.specs.Tree.{Tree}
 use Rattle.amqp_value.specs.Sound.{IsSound}
 use Rattle.amqp_value.specs.declared.value.Value.{Value}
-use Rattle.amqp_to_value.specs.Permitted.{IsImageOf}
+use Rattle.amqp_to_value.specs.ImageOf.{IsImageOf}
 use Rattle.amqp_value.proofs.SoundLemmas.{sound-image}
 
 pub answer_sound : (t : Option Tree) (r : Result Value Error) → IsImageOf t r → IfOk r IsSound

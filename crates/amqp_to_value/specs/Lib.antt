@@ -1,7 +1,7 @@
--- Contracts of public items rest on all of these, but for `contents` and `described_in` in Around, and `feed` and
--- `TakesPairs` in Fed, which private clauses alone cite.
-pub mod Around
-pub mod Permitted
-pub mod Under
-pub mod Fed
-pub mod Holds
+-- Contracts of public items rest on all of these, but for `descriptors_of` and `described_in` in PendingDescriptors, and `feed` and
+-- `TakesPairs` in HeldImages, which private clauses alone cite.
+pub mod PendingDescriptors
+pub mod ImageOf
+pub mod PendingMark
+pub mod HeldImages
+pub mod ValueSerializer

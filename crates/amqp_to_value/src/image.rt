@@ -3,7 +3,7 @@
 ghost use Rattle.std.specs.Prelude.{IfOk, Option, Result};
 ghost use Rattle.amqp_ser.specs.Tree.{Tree};
 ghost use Rattle.amqp_value.specs.Sound.{IsSound};
-ghost use Rattle.amqp_to_value.specs.Permitted.{IsImageOf};
+ghost use Rattle.amqp_to_value.specs.ImageOf.{IsImageOf};
 
 use crate::serializer::Serializer;
 use amqp_data::Error;

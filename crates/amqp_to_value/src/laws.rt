@@ -3,14 +3,14 @@
 //! A law is a function that does nothing: its clause is the law. A caller's proof learns it by a call.
 
 ghost use Rattle.std.specs.Prelude.{◌≡◌, Some, true};
-ghost use Rattle.amqp_ser.specs.Encoding.{enc};
+ghost use Rattle.amqp_ser.specs.Encoding.{encoding};
 ghost use Rattle.amqp_ser.specs.Tree.{Scalar, Tree, scalar};
 ghost use Rattle.amqp_ser.specs.Writable.{writable};
 ghost use Rattle.amqp_value.specs.AsMap.{read_as_map};
 ghost use Rattle.amqp_value.specs.Plain.{IsPlain};
 ghost use Rattle.amqp_value.specs.Sound.{IsSound};
 ghost use Rattle.amqp_value.specs.TreeOf.{tree_of};
-ghost use Rattle.amqp_to_value.specs.Permitted.{StandsFor};
+ghost use Rattle.amqp_to_value.specs.ImageOf.{StandsFor};
 
 use amqp_value::Value;
 
@@ -31,7 +31,7 @@ pub fn plain_trees_keep_their_bytes()
     ensures writable { (t : Tree) (v : Value) → IsPlain t → StandsFor v (Some t) →
         writable (tree_of v) ≡ writable t }
     ensures bytes { (t : Tree) (v : Value) → IsPlain t → StandsFor v (Some t) →
-        enc (tree_of v) ≡ enc t }
+        encoding (tree_of v) ≡ encoding t }
 {}
 
 /// A value that stands for a sound one has its tree, and is equal to it.

@@ -5,17 +5,17 @@
 //! vectors, whose images are lists, and for maps two of whose keys have one image.
 #![tactic(auto)]
 
-mod around;
-mod gathered;
 mod image;
 pub mod laws;
-mod open;
+mod map_builder;
+mod open_value;
 mod parts;
+mod pending_descriptors;
+mod pending_mark;
 mod scalars;
 mod serializer;
 #[cfg(test)]
 mod tests;
-mod under;
 
 pub use image::{TryFromSerializable, to_value};
 pub use serializer::{

@@ -5,12 +5,12 @@ ghost use Rattle.amqp_ser.specs.Tree.{Tree, Trees, Pairs, no_trees};
 ghost use Rattle.amqp_ser.specs.Compounds.{as_kind, in_pairs};
 ghost use Rattle.amqp_value.specs.Image.{image, variant_map};
 ghost use Rattle.amqp_value.specs.TreeOf.{tree_of};
-ghost use Rattle.amqp_to_value.specs.Fed.{Fed, is_bare, made, then, TakesPairs};
-ghost use Rattle.amqp_to_value.specs.Permitted.{IsImageOf};
-ghost use Rattle.amqp_to_value.specs.Under.{meant};
+ghost use Rattle.amqp_to_value.specs.HeldImages.{HoldsImages, is_single, compound_tree, then, TakesPairs};
+ghost use Rattle.amqp_to_value.specs.ImageOf.{IsImageOf};
+ghost use Rattle.amqp_to_value.specs.PendingMark.{meant};
 
-use crate::gathered::Gathered;
-use crate::under::Under;
+use crate::map_builder::MapBuilder;
+use crate::pending_mark::PendingMark;
 use amqp_data::{Array, Error, OrderedMap};
 use amqp_ser::{Kind, Mark};
 use amqp_value::Value;
@@ -26,51 +26,56 @@ pub enum Parts {
     /// A list of these elements, that stand one after another.
     Transparent(Vec<Value>),
     /// A map.
-    Map(Gathered),
+    Map(MapBuilder),
     /// The variant of this index and the list of its fields.
-    Fields(u32, Vec<Value>),
+    Variant(u32, Vec<Value>),
     /// The variant of this index and its one value.
-    Only(u32, Vec<Value>),
+    NewtypeVariant(u32, Vec<Value>),
     /// A compound that its marker does not take: it keeps nothing.
     Refused,
 }
 
 impl Parts {
-    /// What a compound of this kind is under a marker. A bare one is none of these.
+    /// What a compound of this kind is under a marker. A single one is none of these.
     #[inline(always)]
-    pub fn new(alloc: Global, under: Under, kind: Kind) -> Parts
-        ensures makes { is_bare kind ≡ false → (o : Option Trees) →
-            meant under (as_kind kind o) ≡ made result o }
-        ensures empty { Fed result no_trees }
+    pub fn new(alloc: Global, pending: PendingMark, kind: Kind) -> Parts
+        ensures makes { is_single kind ≡ false → (o : Option Trees) →
+            meant pending (as_kind kind o) ≡ compound_tree result o }
+        ensures empty { HoldsImages result no_trees }
     {
-        match (under, kind) {
-            (Under::Mark(Mark::Other), Kind::List) => Parts::List(Vec::new(alloc)),
-            (Under::Mark(Mark::Other), Kind::Map) => Parts::Map(Gathered::new(alloc)),
-            (Under::Mark(Mark::Other), Kind::Fields(index)) => Parts::Fields(
+        match (pending, kind) {
+            (PendingMark::Mark(Mark::Other), Kind::List) => Parts::List(Vec::new(alloc)),
+            (PendingMark::Mark(Mark::Other), Kind::Map) => Parts::Map(MapBuilder::new(alloc)),
+            (PendingMark::Mark(Mark::Other), Kind::Variant(index)) => Parts::Variant(
                 index,
                 Vec::new(alloc),
             ),
-            (Under::Mark(Mark::Other), Kind::Only(index)) => Parts::Only(index, Vec::new(alloc)),
-            (Under::Mark(Mark::Array), Kind::List) => Parts::Array(Vec::new(alloc)),
-            (Under::Mark(Mark::Transparent), Kind::List) => Parts::Transparent(Vec::new(alloc)),
+            (PendingMark::Mark(Mark::Other), Kind::NewtypeVariant(index)) => Parts::NewtypeVariant(
+                index,
+                Vec::new(alloc),
+            ),
+            (PendingMark::Mark(Mark::Array), Kind::List) => Parts::Array(Vec::new(alloc)),
+            (PendingMark::Mark(Mark::Transparent), Kind::List) => Parts::Transparent(Vec::new(
+                alloc,
+            )),
             _ => Parts::Refused,
         }
     }
 
     /// Takes one part more.
     #[inline(always)]
-    pub fn take(&mut self, part: Value) -> Result<(), AllocError>
-        ensures makes { (o : Option Trees) → made self.new o ≡ made self.old o }
-        ensures step { (ts : Trees) (t : Tree) → Fed self.old ts → tree_of part ≡ image t →
-            MatchResult result (λ _. Fed self.new (then ts t)) (λ _. Fed self.new ts) }
+    pub fn add_part(&mut self, part: Value) -> Result<(), AllocError>
+        ensures makes { (o : Option Trees) → compound_tree self.new o ≡ compound_tree self.old o }
+        ensures step { (ts : Trees) (t : Tree) → HoldsImages self.old ts → tree_of part ≡ image t →
+            MatchResult result (λ _. HoldsImages self.new (then ts t)) (λ _. HoldsImages self.new ts) }
     {
         match self {
             Parts::List(items) => gather(items, part),
             Parts::Array(items) => gather(items, part),
             Parts::Transparent(items) => gather(items, part),
-            Parts::Map(pairs) => pairs.take(part),
-            Parts::Fields(_, items) => gather(items, part),
-            Parts::Only(_, items) => gather(items, part),
+            Parts::Map(pairs) => pairs.add_part(part),
+            Parts::Variant(_, items) => gather(items, part),
+            Parts::NewtypeVariant(_, items) => gather(items, part),
             Parts::Refused => {
                 let_go(part);
                 Ok(())
@@ -81,9 +86,9 @@ impl Parts {
     /// Takes a map's pending key back.
     #[inline(always)]
     pub fn undo(&mut self)
-        ensures makes { (o : Option Trees) → made self.new o ≡ made self.old o }
+        ensures makes { (o : Option Trees) → compound_tree self.new o ≡ compound_tree self.old o }
         ensures back { (ts : Trees) (ps : Pairs) (t : Tree) → in_pairs ts ≡ Some ps →
-            TakesPairs self.old → Fed self.old (then ts t) → Fed self.new ts }
+            TakesPairs self.old → HoldsImages self.old (then ts t) → HoldsImages self.new ts }
     {
         if let Parts::Map(pairs) = self {
             pairs.undo();
@@ -93,15 +98,15 @@ impl Parts {
     /// The value of the compound.
     #[inline(always)]
     pub fn into_value(self, alloc: Global) -> Result<Value, Error>
-        ensures { (ts : Trees) → Fed self ts → IsImageOf (made self (Some ts)) result }
+        ensures { (ts : Trees) → HoldsImages self ts → IsImageOf (compound_tree self (Some ts)) result }
     {
         match self {
             Parts::List(items) => Ok(Value::List(items)),
             Parts::Array(items) => Ok(Value::Array(Array::from(items))),
             Parts::Transparent(items) => Ok(Value::List(items)),
             Parts::Map(pairs) => pairs.into_value(alloc),
-            Parts::Fields(index, items) => variant(alloc, index, Value::List(items)),
-            Parts::Only(index, items) => match only(items) {
+            Parts::Variant(index, items) => variant(alloc, index, Value::List(items)),
+            Parts::NewtypeVariant(index, items) => match only(items) {
                 Some(payload) => variant(alloc, index, payload),
                 None => Err(Error::InvalidValue),
             },

@@ -6,10 +6,10 @@ ghost use Rattle.amqp_ser.specs.Composites.{descriptor_of};
 ghost use Rattle.amqp_ser.specs.Tree.{scalar, binary, string};
 ghost use Rattle.amqp_ser.specs.Fixed.{fixed_scalar};
 ghost use Rattle.amqp_value.specs.TreeOf.{tree_of};
-ghost use Rattle.amqp_to_value.specs.Permitted.{IsImageOf};
-ghost use Rattle.amqp_to_value.specs.Under.{meant};
+ghost use Rattle.amqp_to_value.specs.ImageOf.{IsImageOf};
+ghost use Rattle.amqp_to_value.specs.PendingMark.{meant};
 
-use crate::under::Under;
+use crate::pending_mark::PendingMark;
 use amqp_data::{
     ByteBuf, Dec32, Dec64, Dec128, Descriptor, Error, F32Bits, F64Bits, Symbol, Timestamp, Uuid,
 };
@@ -41,39 +41,41 @@ pub fn fixed_value(fixed: Fixed) -> Value
 
 /// The value of a scalar of fixed width under a marker.
 #[inline(always)]
-pub fn marked_fixed(under: Under, fixed: Fixed) -> Result<Value, Error>
-    ensures { IsImageOf (meant under (Some (scalar (fixed_scalar fixed)))) result }
+pub fn marked_fixed(pending: PendingMark, fixed: Fixed) -> Result<Value, Error>
+    ensures { IsImageOf (meant pending (Some (scalar (fixed_scalar fixed)))) result }
 {
-    match (under, fixed) {
-        (Under::Mark(Mark::Other), fixed) => Ok(fixed_value(fixed)),
-        (Under::Mark(Mark::Timestamp), Fixed::Long(v)) => Ok(Value::Timestamp(Timestamp::from(v))),
+    match (pending, fixed) {
+        (PendingMark::Mark(Mark::Other), fixed) => Ok(fixed_value(fixed)),
+        (PendingMark::Mark(Mark::Timestamp), Fixed::Long(v)) => Ok(Value::Timestamp(Timestamp::from(
+            v,
+        ))),
         _ => Err(Error::InvalidValue),
     }
 }
 
 /// The value of a text under a marker.
 #[inline(always)]
-pub fn marked_text(alloc: Global, under: Under, text: &str) -> Result<Value, Error>
-    ensures { IsImageOf (meant under (Some (scalar (string text.now)))) result }
+pub fn marked_text(alloc: Global, pending: PendingMark, text: &str) -> Result<Value, Error>
+    ensures { IsImageOf (meant pending (Some (scalar (string text.now)))) result }
 {
-    match under {
-        Under::Mark(Mark::Other) => Ok(Value::String(String::from_str(alloc, text)?)),
-        Under::Mark(Mark::Symbol) => Ok(Value::Symbol(Symbol::try_from_str(alloc, text)?)),
+    match pending {
+        PendingMark::Mark(Mark::Other) => Ok(Value::String(String::from_str(alloc, text)?)),
+        PendingMark::Mark(Mark::Symbol) => Ok(Value::Symbol(Symbol::try_from_str(alloc, text)?)),
         _ => Err(Error::InvalidValue),
     }
 }
 
 /// The value of a binary under a marker.
 #[inline(never)]
-pub fn marked_bytes(alloc: Global, under: Under, bytes: &[u8]) -> Result<Value, Error>
-    ensures { IsImageOf (meant under (Some (scalar (binary bytes.now)))) result }
+pub fn marked_bytes(alloc: Global, pending: PendingMark, bytes: &[u8]) -> Result<Value, Error>
+    ensures { IsImageOf (meant pending (Some (scalar (binary bytes.now)))) result }
 {
-    match under {
-        Under::Mark(Mark::Other) => Ok(Value::Binary(ByteBuf::from(bytes.to_vec(alloc)?))),
-        Under::Mark(Mark::Decimal32) => Ok(Value::Decimal32(Dec32::try_from(bytes)?)),
-        Under::Mark(Mark::Decimal64) => Ok(Value::Decimal64(Dec64::try_from(bytes)?)),
-        Under::Mark(Mark::Decimal128) => Ok(Value::Decimal128(Dec128::try_from(bytes)?)),
-        Under::Mark(Mark::Uuid) => Ok(Value::Uuid(Uuid::try_from(bytes)?)),
+    match pending {
+        PendingMark::Mark(Mark::Other) => Ok(Value::Binary(ByteBuf::from(bytes.to_vec(alloc)?))),
+        PendingMark::Mark(Mark::Decimal32) => Ok(Value::Decimal32(Dec32::try_from(bytes)?)),
+        PendingMark::Mark(Mark::Decimal64) => Ok(Value::Decimal64(Dec64::try_from(bytes)?)),
+        PendingMark::Mark(Mark::Decimal128) => Ok(Value::Decimal128(Dec128::try_from(bytes)?)),
+        PendingMark::Mark(Mark::Uuid) => Ok(Value::Uuid(Uuid::try_from(bytes)?)),
         _ => Err(Error::InvalidValue),
     }
 }

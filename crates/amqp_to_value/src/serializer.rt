@@ -2,16 +2,16 @@
 
 ghost use Rattle.std.specs.Prelude.{◌≡◌, ◌++◌, ◌∷◌, [], List, Option, Result, Err, MatchResult, IfErr, IsErr};
 ghost use Rattle.amqp_ser.specs.Tree.{Tree};
-ghost use Rattle.amqp_to_value.specs.Around.{standing};
-ghost use Rattle.amqp_to_value.specs.Holds.{IsFresh, value_permits};
-ghost use Rattle.amqp_to_value.specs.Permitted.{IsImageOf};
-ghost use Rattle.amqp_to_value.specs.Under.{meant};
+ghost use Rattle.amqp_to_value.specs.PendingDescriptors.{standing};
+ghost use Rattle.amqp_to_value.specs.ValueSerializer.{IsFresh, value_permits};
+ghost use Rattle.amqp_to_value.specs.ImageOf.{IsImageOf};
+ghost use Rattle.amqp_to_value.specs.PendingMark.{meant};
 
-use crate::around::Around;
-use crate::open::{Body, Open, keep};
+use crate::open_value::{OpenBody, OpenValue, keep};
 use crate::parts::let_go;
+use crate::pending_descriptors::PendingDescriptors;
+use crate::pending_mark::PendingMark;
 use crate::scalars::{descriptor_from, marked_bytes, marked_fixed, marked_text};
-use crate::under::Under;
 use amqp_data::Error;
 use amqp_ser::{
     Fixed, Kind, Mark, SerializeMap, SerializeSeq, SerializeStruct, SerializeStructVariant,
@@ -29,8 +29,8 @@ use std::mem;
 #[derive(Drop)]
 pub struct Serializer {
     alloc: Global,
-    under: Under,
-    around: Around,
+    pending: PendingMark,
+    descriptors: PendingDescriptors,
 }
 
 /// A list whose elements are still gathered.
@@ -65,34 +65,34 @@ impl Serializer {
     {
         Serializer {
             alloc,
-            under: Under::Mark(Mark::Other),
-            around: Around::new(alloc),
+            pending: PendingMark::Mark(Mark::Other),
+            descriptors: PendingDescriptors::new(alloc),
         }
     }
 
     // What the next tree stands under, which is used up.
     #[inline(always)]
-    fn take_under(&mut self) -> Under
-        ensures under { result ≡ self.old.under }
-        ensures none { self.new.under ≡ Under.Mark Mark.Other }
-        ensures around { self.new.around ≡ self.old.around }
+    fn take_pending(&mut self) -> PendingMark
+        ensures pending { result ≡ self.old.pending }
+        ensures none { self.new.pending ≡ PendingMark.Mark Mark.Other }
+        ensures descriptors { self.new.descriptors ≡ self.old.descriptors }
     {
-        mem::replace(&mut self.under, Under::Mark(Mark::Other))
+        mem::replace(&mut self.pending, PendingMark::Mark(Mark::Other))
     }
 
     // Answers with the value in all that it stands in; a refusal puts that aside.
     #[inline(always)]
     fn finish(&mut self, answer: Result<Value, Error>) -> Result<Value, Error>
         ensures { (start : Serializer) (t : Option Tree) →
-            self.old.around.kept ≡ start.around.kept →
-            standing self.old.around ≡ standing start.around →
-            self.old.under ≡ Under.Mark Mark.Other → IsImageOf (meant start.under t) answer →
+            self.old.descriptors.kept ≡ start.descriptors.kept →
+            standing self.old.descriptors ≡ standing start.descriptors →
+            self.old.pending ≡ PendingMark.Mark Mark.Other → IsImageOf (meant start.pending t) answer →
             value_permits start t result self.new }
     {
         match answer {
-            Ok(value) => Ok(self.around.wrap(value)),
+            Ok(value) => Ok(self.descriptors.wrap(value)),
             Err(e) => {
-                self.around.leave();
+                self.descriptors.leave();
                 Err(e)
             }
         }
@@ -104,13 +104,13 @@ impl amqp_ser::Serializer for Serializer {
     ghost use Rattle.amqp_ser.specs.Composites.{as_described, descriptor_of};
     ghost use Rattle.amqp_ser.specs.Compounds.{whole};
     ghost use Rattle.amqp_ser.specs.declared.kind.Kind.{Kind};
-    ghost use Rattle.amqp_to_value.specs.Holds.{all_held, value_permits, value_has, value_awaits, value_awaits_descriptor, no_value_of_none};
+    ghost use Rattle.amqp_to_value.specs.ValueSerializer.{all_held, value_permits, value_has, value_awaits, value_awaits_descriptor, no_value_of_none};
 
     type Ok = Value;
 
     type Error = Error;
 
-    type Open = Open;
+    type Open = OpenValue;
 
     ghost permits = { value_permits };
 
@@ -126,8 +126,8 @@ impl amqp_ser::Serializer for Serializer {
 
     #[inline(always)]
     fn serialize_fixed(&mut self, fixed: Fixed) -> Result<Value, Error> {
-        let under = self.take_under();
-        self.finish(marked_fixed(under, fixed))
+        let pending = self.take_pending();
+        self.finish(marked_fixed(pending, fixed))
     }
 
     #[inline(always)]
@@ -137,56 +137,56 @@ impl amqp_ser::Serializer for Serializer {
 
     #[inline(always)]
     fn serialize_str(&mut self, v: &str) -> Result<Value, Error> {
-        let under = self.take_under();
-        self.finish(marked_text(self.alloc, under, v))
+        let pending = self.take_pending();
+        self.finish(marked_text(self.alloc, pending, v))
     }
 
     #[inline(always)]
     fn serialize_bytes(&mut self, v: &[u8]) -> Result<Value, Error> {
-        let under = self.take_under();
-        self.finish(marked_bytes(self.alloc, under, v))
+        let pending = self.take_pending();
+        self.finish(marked_bytes(self.alloc, pending, v))
     }
 
     #[inline(always)]
     fn mark(&mut self, mark: Mark) {
-        self.under = self.under.with(mark);
+        self.pending = self.pending.with(mark);
     }
 
     #[inline(always)]
-    fn begin(&mut self, kind: Kind) -> Open
+    fn begin(&mut self, kind: Kind) -> OpenValue
         ensures opened { value_has self.old kind self.new result [] }
         // What refused values left is let go.
-        ensures held { all_held self.new ≡ self.old.around.kept ++ standing self.old.around }
+        ensures held { all_held self.new ≡ self.old.descriptors.kept ++ standing self.old.descriptors }
     {
-        let under = self.take_under();
-        let aside = self.around.put_aside();
-        Open {
-            aside,
-            body: Body::new(self.alloc, under, kind),
+        let pending = self.take_pending();
+        let saved = self.descriptors.save();
+        OpenValue {
+            saved,
+            body: OpenBody::new(self.alloc, pending, kind),
         }
     }
 
     #[inline(always)]
-    fn vacant(&self) -> Open {
-        Open {
-            aside: self.around.vacant(),
-            body: Body::Bare(self.under, None),
+    fn vacant(&self) -> OpenValue {
+        OpenValue {
+            saved: self.descriptors.vacant(),
+            body: OpenBody::Single(self.pending, None),
         }
     }
 
     #[inline(always)]
-    fn begin_part(&mut self, held: &mut Open) {
+    fn begin_part(&mut self, held: &mut OpenValue) {
         match &held.body {
-            Body::Bare(under, None) => {
-                self.under = *under;
-                self.around.take_back(held.aside);
+            OpenBody::Single(pending, None) => {
+                self.pending = *pending;
+                self.descriptors.restore(held.saved);
             }
-            _ => self.around.keep(held.aside),
+            _ => self.descriptors.keep(held.saved),
         }
     }
 
     #[inline(always)]
-    fn end_part(&mut self, held: &mut Open, part: Result<Value, Error>) -> Result<(), Error>
+    fn end_part(&mut self, held: &mut OpenValue, part: Result<Value, Error>) -> Result<(), Error>
         ensures step { (start : Serializer) (kind : Kind) (before : Serializer)
             (ps : List (Option Tree)) (p : Option Tree) →
             value_awaits start kind before held.old ps → value_permits before p part self.old →
@@ -196,12 +196,12 @@ impl amqp_ser::Serializer for Serializer {
             value_permits start (whole kind (ps ++ (p ∷ rest))) (Err e) self.new)) }
         ensures refused { IfErr part (λ _. IsErr result) }
     {
-        self.around.release(held.aside);
+        self.descriptors.release(held.saved);
         let value = part?;
         match &mut held.body {
-            Body::Bare(_, first) => match first {
+            OpenBody::Single(_, first) => match first {
                 None => {
-                    keep(first, self.around.unwrap(held.aside, value)?);
+                    keep(first, self.descriptors.unwrap(held.saved, value)?);
                     Ok(())
                 }
                 Some(_) => {
@@ -209,7 +209,7 @@ impl amqp_ser::Serializer for Serializer {
                     Err(Error::InvalidValue)
                 }
             },
-            Body::Parts(parts) => match parts.take(value) {
+            OpenBody::Parts(parts) => match parts.add_part(value) {
                 Ok(()) => Ok(()),
                 Err(_) => Err(Error::OutOfMemory),
             },
@@ -217,49 +217,55 @@ impl amqp_ser::Serializer for Serializer {
     }
 
     #[inline(always)]
-    fn undo_part(&mut self, held: &mut Open) {
+    fn undo_part(&mut self, held: &mut OpenValue) {
         held.body.undo();
     }
 
     #[inline(always)]
-    fn misuse(&mut self, _held: &mut Open) -> Error {
+    fn misuse(&mut self, _held: &mut OpenValue) -> Error {
         Error::InvalidValue
     }
 
     #[inline(always)]
-    fn begin_descriptor(&mut self, held: &mut Open) {
-        self.around.keep(held.aside);
+    fn begin_descriptor(&mut self, held: &mut OpenValue) {
+        self.descriptors.keep(held.saved);
     }
 
     #[inline(always)]
-    fn end_descriptor(&mut self, held: &mut Open, part: Result<Value, Error>) -> Result<(), Error>
+    fn end_descriptor(
+        &mut self,
+        held: &mut OpenValue,
+        part: Result<Value, Error>,
+    ) -> Result<(), Error>
         ensures step { (start before : Serializer) (d : Option Tree) →
             value_awaits_descriptor start before held.old → value_permits before d part self.old →
             MatchResult result
             (λ _. (mid : Serializer)
-            × (value_has mid Kind.Bare self.new held.new []
+            × (value_has mid Kind.Single self.new held.new []
             × ((t : Option Tree) (r : Result Value Error) (after : Serializer) →
             value_permits mid t r after →
             value_permits start (as_described (descriptor_of d) t) r after)))
-            (λ e. value_has start Kind.Bare self.new held.new [] × ((t : Option Tree) →
+            (λ e. value_has start Kind.Single self.new held.new [] × ((t : Option Tree) →
             value_permits start (as_described (descriptor_of d) t) (Err e) self.new)) }
         ensures refused { IfErr part (λ _. IsErr result) }
         ensures other_kinds { (start before : Serializer) (d : Option Tree) →
             value_awaits_descriptor start before held.old → value_permits before d part self.old →
             descriptor_of d ≡ None → IsErr result }
     {
-        self.around.release(held.aside);
+        self.descriptors.release(held.saved);
         let descriptor = descriptor_from(part?)?;
-        held.aside = self.around.describe(held.aside, self.alloc, descriptor)?;
+        held.saved = self
+            .descriptors
+            .describe(held.saved, self.alloc, descriptor)?;
         held.body.describe();
         Ok(())
     }
 
     #[inline(always)]
-    fn end(&mut self, held: Open) -> Result<Value, Error> {
-        let Open { aside, body } = held;
+    fn end(&mut self, held: OpenValue) -> Result<Value, Error> {
+        let OpenValue { saved, body } = held;
         let answer = body.into_value(self.alloc);
-        self.around.take_back(aside);
+        self.descriptors.restore(saved);
         self.finish(answer)
     }
 }

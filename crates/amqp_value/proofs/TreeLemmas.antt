@@ -8,7 +8,7 @@ use Rattle.amqp_data.specs.declared.ordered_map.OrderedMap as ordered_map
 use Rattle.amqp_ser.specs.Carried.{descriptor_content}
 use Rattle.amqp_ser.specs.Tree as tree
 use Rattle.amqp_ser.specs.Tree.{Tree, Trees, Pairs, trees_of, more, pair}
-use Rattle.amqp_ser.specs.Compounds.{all_trees, before, before_pairs, in_pairs, as_map, as_kind, whole, parts_of}
+use Rattle.amqp_ser.specs.Compounds.{all_trees, prepend, prepend_pair, in_pairs, as_map, as_kind, whole, parts_of}
 use Rattle.amqp_ser.specs.Marked.{marked}
 use Rattle.amqp_ser.specs.declared.kind.Kind.TheVariants as kind
 use Rattle.amqp_ser.specs.declared.mark.Mark.TheVariants as mark
@@ -44,7 +44,7 @@ pairs_trees-append (e ∷ es) fs = ap (pair (tree_of e.0) (tree_of e.1)) (pairs_
 -- parts that all have trees
 pub all_trees-Some : {X : Type 0} (f : X → Tree) (xs : List X) → all_trees (map (λ x. Some (f x)) xs) ≡ Some (trees_of (map f xs))
 all_trees-Some f [] = refl
-all_trees-Some f (x ∷ xs) = ap (before (Some (f x))) (all_trees-Some f xs)
+all_trees-Some f (x ∷ xs) = ap (prepend (Some (f x))) (all_trees-Some f xs)
 
 -- make a list
 pub whole-List : {X : Type 0} (f : X → Tree) (xs : List X) → whole kind.List (map (λ x. Some (f x)) xs) ≡ Some (tree.list (trees_of (map f xs)))
@@ -62,11 +62,11 @@ module _ {K V : Type 0} (f : K → Tree) (g : V → Tree) where
 
   parts_of-Some : (es : List (K × V)) → all_trees (parts_of (λ k. Some (f k)) (λ v. Some (g v)) es) ≡ Some (trees_of (in_turn (map both es)))
   parts_of-Some [] = refl
-  parts_of-Some (e ∷ es) = ap (λ ts. before (Some (f e.0)) (before (Some (g e.1)) ts)) (parts_of-Some es)
+  parts_of-Some (e ∷ es) = ap (λ ts. prepend (Some (f e.0)) (prepend (Some (g e.1)) ts)) (parts_of-Some es)
 
   in_pairs-in_turn : (es : List (Tree × Tree)) → in_pairs (trees_of (in_turn es)) ≡ Some (pairs_of es)
   in_pairs-in_turn [] = refl
-  in_pairs-in_turn (e ∷ es) = ap (before_pairs e.0 e.1) (in_pairs-in_turn es)
+  in_pairs-in_turn (e ∷ es) = ap (prepend_pair e.0 e.1) (in_pairs-in_turn es)
 
   -- make a map
   pub whole-Map : (es : List (K × V)) → whole kind.Map (parts_of (λ k. Some (f k)) (λ v. Some (g v)) es) ≡ Some (tree.map (pairs_of (map both es)))

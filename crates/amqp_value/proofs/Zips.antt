@@ -15,13 +15,13 @@ zip_push R [] (z ∷ ys) x y h r = absurd h
 zip_push R (w ∷ xs) [] x y h r = absurd h
 zip_push R (w ∷ xs) (z ∷ ys) x y h r = (h.0, zip_push R xs ys x y h.1 r)
 
-taken_front : {X A : Type 0} (s : IntoIter X A) (xs : List X) (t : IntoIter X A) → Yields into_iter_steps s xs t → into_iter_items s ≡ xs ++ into_iter_items t
-taken_front s [] t y = ap into_iter_items y
-taken_front s (x ∷ xs) t y = y.1.0 ∙ ap (λ ys. x ∷ ys) (taken_front y.0 xs t y.2)
+taken_prefix : {X A : Type 0} (s : IntoIter X A) (xs : List X) (t : IntoIter X A) → Yields into_iter_steps s xs t → into_iter_items s ≡ xs ++ into_iter_items t
+taken_prefix s [] t y = ap into_iter_items y
+taken_prefix s (x ∷ xs) t y = y.1.0 ∙ ap (λ ys. x ∷ ys) (taken_prefix y.0 xs t y.2)
 
 -- the items given so far, this one, and those that are left
 pub taken_one : {X A : Type 0} (s : IntoIter X A) (xs : List X) (t : IntoIter X A) (x : X) (u : IntoIter X A) → Yields into_iter_steps s xs t → into_iter_steps t (Some x) u → into_iter_items s ≡ xs ++ x ∷ into_iter_items u
-taken_one s xs t x u y z = taken_front s xs t y ∙ ap (λ r. xs ++ r) z.0
+taken_one s xs t x u y z = taken_prefix s xs t y ∙ ap (λ r. xs ++ r) z.0
 
 pub stops : {A B Z : Type 0} (Fits : A → B → Type 0) (Fails : A → Value → Type 0) (all : List A) (s : IntoIter A Z) (xs : List A) (t : IntoIter A Z) (x : A) (u : IntoIter A Z) (done : List B) (v : Value)
     → into_iter_items s ≡ all → Yields into_iter_steps s xs t → into_iter_steps t (Some x) u → AllZip Fits xs done → Fails x v → StopsAt Fits Fails all v
@@ -35,16 +35,16 @@ stops Fits Fails all s xs t x u done v is y z fit unfit = record {
   fails = unfit;
 }
 
-front : {A B : Type 0} (Fits : A → B → Type 0) (xs : List A) (x : A) (rest : List A) (done : List B) (y : B) → AllZip Fits xs done → Fits x y → FirstFits Fits (xs ++ x ∷ rest)
-front Fits [] x rest done y fit here = (y, here)
-front Fits (w ∷ xs) x rest [] y fit here = absurd fit
-front Fits (w ∷ xs) x rest (d ∷ done) y fit here = (d, fit.0)
+prefix : {A B : Type 0} (Fits : A → B → Type 0) (xs : List A) (x : A) (rest : List A) (done : List B) (y : B) → AllZip Fits xs done → Fits x y → FirstFits Fits (xs ++ x ∷ rest)
+prefix Fits [] x rest done y fit here = (y, here)
+prefix Fits (w ∷ xs) x rest [] y fit here = absurd fit
+prefix Fits (w ∷ xs) x rest (d ∷ done) y fit here = (d, fit.0)
 
 -- those so far fit, and so does this one
 pub first_fits : {A B Z : Type 0} (Fits : A → B → Type 0) (all : List A) (s : IntoIter A Z) (xs : List A) (t : IntoIter A Z) (x : A) (u : IntoIter A Z) (done : List B) (y : B)
     → into_iter_items s ≡ all → Yields into_iter_steps s xs t → into_iter_steps t (Some x) u → AllZip Fits xs done → Fits x y → FirstFits Fits all
 first_fits Fits all s xs t x u done y is yields step fit here =
-    subst (FirstFits Fits) (sym (taken_one s xs t x u yields step) ∙ is) (front Fits xs x (into_iter_items u) done y fit here)
+    subst (FirstFits Fits) (sym (taken_one s xs t x u yields step) ∙ is) (prefix Fits xs x (into_iter_items u) done y fit here)
 
 -- out of memory, once this part fits
 pub wants_memory : {A B R Z : Type 0} (Fits : A → B → Type 0) (Fails : A → Value → Type 0) (Made : List B → R → Type 0) (all : List A) (s : IntoIter A Z) (xs : List A) (t : IntoIter A Z) (x : A) (u : IntoIter A Z) (done : List B) (y : B) (r : Result R ConvertFault)

@@ -1,7 +1,7 @@
 -- The format code of a tree's kind (AMQP 1.0 part 1, sections 1.2 and 1.6).
 use Rattle.std.specs.Prelude.{◌≡◌, ℕ, [], ◌∷◌, Option, Some, None}
 use Rattle.amqp_ser.specs.Tree.{Tree, Trees, no_trees, more}
-use Rattle.amqp_ser.specs.Encoding.{con, first_con}
+use Rattle.amqp_ser.specs.Encoding.{constructor, array_constructor}
 use Rattle.amqp_value.specs.Image.{image}
 
 -- a constructor, or the 00 that a described tree begins with
@@ -11,7 +11,7 @@ code_or_zero None = 0x00
 
 -- the constructor that the tree has as an array's element; one that can be none has 00
 abbrev pub code_of_kind : Tree → ℕ
-code_of_kind t = code_or_zero (con t)
+code_of_kind t = code_or_zero (constructor t)
 
 -- the trees and their images all have this code
 abbrev pub AllHaveCode : ℕ → Trees → Type 0
@@ -20,4 +20,4 @@ AllHaveCode c (more t ts) = (code_of_kind t ≡ c) × (code_of_kind (image t) �
 
 -- one code for all of them, which is the constructor that stands before them in an array
 abbrev pub HasOneCode : Trees → Type 0
-HasOneCode ts = (c : ℕ) × (first_con ts ≡ c ∷ []) × AllHaveCode c ts
+HasOneCode ts = (c : ℕ) × (array_constructor ts ≡ c ∷ []) × AllHaveCode c ts

@@ -8,8 +8,8 @@ ghost use Rattle.amqp_data.specs.Items.{array_items};
 ghost use Rattle.amqp_data.specs.Pairs.{entries_of, insert_pair, AreDistinct};
 ghost use Rattle.amqp_ser.specs.Tree.{Scalar, Tree, scalar};
 ghost use Rattle.amqp_ser.specs.Same.{same_tree};
-ghost use Rattle.amqp_ser.specs.Encoding.{enc, con};
-ghost use Rattle.amqp_ser.specs.Writable.{within, alike, placed, writable};
+ghost use Rattle.amqp_ser.specs.Encoding.{encoding, constructor};
+ghost use Rattle.amqp_ser.specs.Writable.{within_limits, uniform_arrays, placed, writable};
 ghost use Rattle.amqp_value.specs.Image.{image};
 ghost use Rattle.amqp_value.specs.Plain.{IsPlain};
 ghost use Rattle.amqp_value.specs.AsMap.{read_as_map};
@@ -127,10 +127,10 @@ pub fn image_of_a_plain_tree()
 /// # Memory
 /// Takes none.
 pub fn variants_are_written_as_maps()
-    ensures bytes { (t : Tree) → enc (read_as_map t) ≡ enc t }
-    ensures constructor { (t : Tree) → con (read_as_map t) ≡ con t }
-    ensures limits { (t : Tree) → within (read_as_map t) ≡ within t }
-    ensures constructors { (t : Tree) → alike (read_as_map t) ≡ alike t }
+    ensures bytes { (t : Tree) → encoding (read_as_map t) ≡ encoding t }
+    ensures constructor { (t : Tree) → constructor (read_as_map t) ≡ constructor t }
+    ensures limits { (t : Tree) → within_limits (read_as_map t) ≡ within_limits t }
+    ensures constructors { (t : Tree) → uniform_arrays (read_as_map t) ≡ uniform_arrays t }
     ensures places { (t : Tree) → placed (read_as_map t) ≡ placed t }
 {}
 
@@ -140,10 +140,10 @@ pub fn variants_are_written_as_maps()
 /// Takes none.
 pub fn image_is_written_as_the_same_bytes()
     ensures writable { (t : Tree) → IsPlain t → writable (image t) ≡ writable t }
-    ensures bytes { (t : Tree) → IsPlain t → enc (image t) ≡ enc t }
-    ensures constructor { (t : Tree) → IsPlain t → con (image t) ≡ con t }
-    ensures limits { (t : Tree) → IsPlain t → within (image t) ≡ within t }
-    ensures constructors { (t : Tree) → IsPlain t → alike (image t) ≡ alike t }
+    ensures bytes { (t : Tree) → IsPlain t → encoding (image t) ≡ encoding t }
+    ensures constructor { (t : Tree) → IsPlain t → constructor (image t) ≡ constructor t }
+    ensures limits { (t : Tree) → IsPlain t → within_limits (image t) ≡ within_limits t }
+    ensures constructors { (t : Tree) → IsPlain t → uniform_arrays (image t) ≡ uniform_arrays t }
     ensures places { (t : Tree) → IsPlain t → placed (image t) ≡ placed t }
 {}
 

@@ -2,25 +2,25 @@
 use Rattle.std.proofs.Common.{◌≡◌, ℕ, ◌≤◌, List, [], ◌++◌, Option, Some, None, Bool, true, false, ◌&&◌, Result, Ok, Err, length, drop, refl, ap, sym, ◌∙◌, subst, arith, append-nil, nat_le}
 use Rattle.std.specs.Vec.{vec_capacity}
 use Rattle.amqp_ser.specs.Tree.{Tree}
-use Rattle.amqp_ser.specs.Encoding.{enc}
-use Rattle.amqp_ser.specs.Permitted.{AreBytesOf}
-use Rattle.amqp_ser.specs.Writable.{alike, within, placed}
+use Rattle.amqp_ser.specs.Encoding.{encoding}
+use Rattle.amqp_ser.specs.SizeAndBytes.{AreBytesOf}
+use Rattle.amqp_ser.specs.Writable.{uniform_arrays, within_limits, placed}
 use Rattle.amqp_ser.proofs.Bools.{both, le_true}
-use Rattle.amqp_size.specs.Place.{outer, meant}
-use Rattle.amqp_size.specs.Counted.{at_place, size_permits}
-use Rattle.amqp_size.specs.WholePlace.{Root}
-use Rattle.amqp_size.specs.WholeUnder.{Under, Plain}
+use Rattle.amqp_size.specs.Position.{position_of, meant}
+use Rattle.amqp_size.specs.SizeSerializer.{at_position, size_permits}
+use Rattle.amqp_size.specs.WholePosition.{Root}
+use Rattle.amqp_size.specs.WholePending.{Pending, Plain}
 use Rattle.amqp_size.specs.declared.refusal.Refusal.{Refusal}
 use Rattle.amqp_size.specs.declared.refusal.Refusal.TheVariants as refusal
 use Rattle.amqp_size.specs.declared.serializer.SizeSerializer.{SizeSerializer}
-use Rattle.amqp_wire.specs.Entries.{entries}
-use Rattle.amqp_wire.specs.Listed.{listed, headers_permits}
-use Rattle.amqp_wire.specs.Written.{Kept, Meets, Wrote, wrote, writes_tree, accepts, writer_permits}
-use Rattle.amqp_wire.specs.declared.headers.Headers.{Headers}
+use Rattle.amqp_wire.specs.TreeHeaders.{headers_of}
+use Rattle.amqp_wire.specs.Measurer.{listed, measurer_permits}
+use Rattle.amqp_wire.specs.Writer.{Kept, FitsOutput, Written, wrote, writes_tree, accepts, writer_permits}
+use Rattle.amqp_wire.specs.declared.measurer.Measurer.{Measurer}
 use Rattle.amqp_wire.specs.declared.output.Output.{Output}
 use Rattle.amqp_wire.specs.declared.table.Header.{Header}
 use Rattle.amqp_wire.specs.declared.writer.Writer.{Writer}
-use Rattle.amqp_wire.proofs.Few.{no_false}
+use Rattle.amqp_wire.proofs.CountWithinBytes.{no_false}
 
 -- the first walk went well: the length and the headers of a tree that may be written
 record Ready (s : Output) (n : ℕ) (hs : List Header) : Type 0 where
@@ -29,72 +29,72 @@ record Ready (s : Output) (n : ℕ) (hs : List Header) : Type 0 where
   out : s.out.items ≡ []
   room : n ≤ vec_capacity s.out
 
-meets : (t : Tree) (n : ℕ) (u : Under) (hs : List Header) (s : Output) → at_place Root (Some t) (Ok n) u → listed (Some t) [] hs → Ready s n hs → Meets Root s t
+meets : (t : Tree) (n : ℕ) (u : Pending) (hs : List Header) (s : Output) → at_position Root (Some t) (Ok n) u → listed (Some t) [] hs → Ready s n hs → FitsOutput Root s t
 meets t n u hs s h l r = record {
-  within_it = h.within_it;
-  solid_it = l.1;
+  within_limits_it = h.within_limits_it;
+  dense_it = l.1;
   rest = [];
-  listed = ap (λ k. drop k s.table.items) r.taken ∙ (r.table ∙ (l.0 ∙ sym (append-nil (entries t))));
-  room = let a : length s.out.items ≡ 0 = ap length r.out in let b : n ≡ length (enc t) = h.len in let c = r.room in omega arith;
+  listed = ap (λ k. drop k s.table.items) r.taken ∙ (r.table ∙ (l.0 ∙ sym (append-nil (headers_of t))));
+  room = let a : length s.out.items ≡ 0 = ap length r.out in let b : n ≡ length (encoding t) = h.len in let c = r.room in omega arith;
 }
 
-at_root : (s : SizeSerializer) (o : Option Tree) (r : Result ℕ Refusal) (after : SizeSerializer) → s.place ≡ Plain Root → size_permits s o r after → at_place Root o r after.place
-at_root s o r after q h = subst (λ u. at_place (outer u) (meant u o) r after.place) q h
+at_root : (s : SizeSerializer) (o : Option Tree) (r : Result ℕ Refusal) (after : SizeSerializer) → s.position ≡ Plain Root → size_permits s o r after → at_position Root o r after.position
+at_root s o r after q h = subst (λ u. at_position (position_of u) (meant u o) r after.position) q h
 
-listed_root : (headers : Headers) (o : Option Tree) (hs : List Header) → headers.size.place ≡ Plain Root → headers.table.headers.items ≡ [] → listed (meant headers.size.place o) headers.table.headers.items hs → listed o [] hs
-listed_root headers o hs p e l = subst (λ u. listed (meant u o) [] hs) p (subst (λ b. listed (meant headers.size.place o) b hs) e l)
+listed_root : (measurer : Measurer) (o : Option Tree) (hs : List Header) → measurer.size.position ≡ Plain Root → measurer.table.headers.items ≡ [] → listed (meant measurer.size.position o) measurer.table.headers.items hs → listed o [] hs
+listed_root measurer o hs p e l = subst (λ u. listed (meant u o) [] hs) p (subst (λ b. listed (meant measurer.size.position o) b hs) e l)
 
-accepts_root : (w : Writer) (o : Option Tree) (r : Result (Unit {0}) Refusal) (after : Under) → w.place ≡ Plain Root → accepts (outer w.place) (meant w.place o) r after → accepts Root o r after
-accepts_root w o r after p h = subst (λ u. accepts (outer u) (meant u o) r after) p h
+accepts_root : (w : Writer) (o : Option Tree) (r : Result (Unit {0}) Refusal) (after : Pending) → w.position ≡ Plain Root → accepts (position_of w.position) (meant w.position o) r after → accepts Root o r after
+accepts_root w o r after p h = subst (λ u. accepts (position_of u) (meant u o) r after) p h
 
-writes_root : (w : Writer) (o : Option Tree) (r : Result (Unit {0}) Refusal) (after : Output) → w.place ≡ Plain Root → writes_tree (outer w.place) w.output (meant w.place o) r after → writes_tree Root w.output o r after
-writes_root w o r after p h = subst (λ u. writes_tree (outer u) w.output (meant u o) r after) p h
+writes_root : (w : Writer) (o : Option Tree) (r : Result (Unit {0}) Refusal) (after : Output) → w.position ≡ Plain Root → writes_tree (position_of w.position) w.output (meant w.position o) r after → writes_tree Root w.output o r after
+writes_root w o r after p h = subst (λ u. writes_tree (position_of u) w.output (meant u o) r after) p h
 
-go_well : (o : Option Tree) (n : ℕ) (u : Under) (hs : List Header) (s after : Output) → at_place Root o (Ok n) u → listed o [] hs → Ready s n hs → wrote Root s o after → AreBytesOf o (Ok after.out.items)
+go_well : (o : Option Tree) (n : ℕ) (u : Pending) (hs : List Header) (s after : Output) → at_position Root o (Ok n) u → listed o [] hs → Ready s n hs → wrote Root s o after → AreBytesOf o (Ok after.out.items)
 go_well None n u hs s after h l r w = absurd h
 go_well (Some t) n u hs s after h l r w =
-    let written : Wrote Root s t after = w (meets t n u hs s h l r) in
-    (both (within t) (alike t && placed t) h.within_it (both (alike t) (placed t) h.alike_it h.suited), written.out ∙ ap (λ b. b ++ enc t) r.out)
+    let written : Written Root s t after = w (meets t n u hs s h l r) in
+    (both (within_limits t) (uniform_arrays t && placed t) h.within_limits_it (both (uniform_arrays t) (placed t) h.uniform_arrays_it h.suited), written.out ∙ ap (λ b. b ++ encoding t) r.out)
 
-no_refusal : (t : Tree) (n : ℕ) (u v : Under) (e : Refusal) → at_place Root (Some t) (Ok n) u → at_place Root (Some t) (Err e) v → ⊥
-no_refusal t n u v refusal.TooLong h w = no_false (sym w.0 ∙ h.within_it)
-no_refusal t n u v refusal.InvalidValue h w = no_false (sym w.0 ∙ both (alike t) (placed t) h.alike_it h.suited)
+no_refusal : (t : Tree) (n : ℕ) (u v : Pending) (e : Refusal) → at_position Root (Some t) (Ok n) u → at_position Root (Some t) (Err e) v → ⊥
+no_refusal t n u v refusal.TooLong h w = no_false (sym w.0 ∙ h.within_limits_it)
+no_refusal t n u v refusal.InvalidValue h w = no_false (sym w.0 ∙ both (uniform_arrays t) (placed t) h.uniform_arrays_it h.suited)
 no_refusal t n u v refusal.OutOfMemory h w = absurd w.0
 
-go_wrong : (o : Option Tree) (n : ℕ) (u v : Under) (e : Refusal) → at_place Root o (Ok n) u → at_place Root o (Err e) v → ⊥
+go_wrong : (o : Option Tree) (n : ℕ) (u v : Pending) (e : Refusal) → at_position Root o (Ok n) u → at_position Root o (Err e) v → ⊥
 go_wrong None n u v e h w = absurd h
 go_wrong (Some t) n u v e h w = no_refusal t n u v e h w
 
 -- all headers are taken, and no more
-go_whole : (o : Option Tree) (n : ℕ) (u : Under) (hs : List Header) (s after : Output) → at_place Root o (Ok n) u → listed o [] hs → Ready s n hs → Kept s after → wrote Root s o after → nat_le after.taken (length after.table.items) ≡ true
+go_whole : (o : Option Tree) (n : ℕ) (u : Pending) (hs : List Header) (s after : Output) → at_position Root o (Ok n) u → listed o [] hs → Ready s n hs → Kept s after → wrote Root s o after → nat_le after.taken (length after.table.items) ≡ true
 go_whole None n u hs s after h l r k w = absurd h
 go_whole (Some t) n u hs s after h l r k w =
-    let written : Wrote Root s t after = w (meets t n u hs s h l r) in
+    let written : Written Root s t after = w (meets t n u hs s h l r) in
     let a = written.taken in
     let b = r.taken in
-    let same : length after.table.items ≡ length (entries t) = ap (λ v. length v.items) k.table ∙ ap length r.table ∙ ap length l.0 in
+    let same : length after.table.items ≡ length (headers_of t) = ap (λ v. length v.items) k.table ∙ ap length r.table ∙ ap length l.0 in
     le_true after.taken (length after.table.items) (omega arith)
 
 -- the bytes are the tree's
-pub walked : (headers counted : Headers) (o : Option Tree) (n : ℕ) (start done : Writer) (x : Unit {0}) → headers.size.place ≡ Plain Root → headers.table.headers.items ≡ [] → headers_permits headers o (Ok n) counted →
-    start.place ≡ Plain Root → start.output.table.items ≡ counted.table.headers.items → start.output.taken ≡ 0 → start.output.out.items ≡ [] → n ≤ vec_capacity start.output.out →
+pub walked : (measurer counted : Measurer) (o : Option Tree) (n : ℕ) (start done : Writer) (x : Unit {0}) → measurer.size.position ≡ Plain Root → measurer.table.headers.items ≡ [] → measurer_permits measurer o (Ok n) counted →
+    start.position ≡ Plain Root → start.output.table.items ≡ counted.table.headers.items → start.output.taken ≡ 0 → start.output.out.items ≡ [] → n ≤ vec_capacity start.output.out →
     writer_permits start o (Ok x) done → AreBytesOf o (Ok done.output.out.items)
-walked headers counted o n start done x p e h q t k b room w =
-    go_well o n counted.size.place counted.table.headers.items start.output done.output (at_root headers.size o (Ok n) counted.size p h.1.0)
-    (listed_root headers o counted.table.headers.items p e h.1.1) (record { table = t; taken = k; out = b; room = room }) (writes_root start o (Ok x) done.output q w.1.1)
+walked measurer counted o n start done x p e h q t k b room w =
+    go_well o n counted.size.position counted.table.headers.items start.output done.output (at_root measurer.size o (Ok n) counted.size p h.1.0)
+    (listed_root measurer o counted.table.headers.items p e h.1.1) (record { table = t; taken = k; out = b; room = room }) (writes_root start o (Ok x) done.output q w.1.1)
 
 -- the second walk refuses nothing
-pub never_refused : (headers counted : Headers) (o : Option Tree) (n : ℕ) (start done : Writer) (x : Refusal) → headers.size.place ≡ Plain Root → headers_permits headers o (Ok n) counted → start.place ≡ Plain Root → writer_permits start o (Err x) done → ⊥
-never_refused headers counted o n start done x p h q w =
-    go_wrong o n counted.size.place done.place x (at_root headers.size o (Ok n) counted.size p h.1.0) (accepts_root start o (Err x) done.place q w.1.0)
+pub never_refused : (measurer counted : Measurer) (o : Option Tree) (n : ℕ) (start done : Writer) (x : Refusal) → measurer.size.position ≡ Plain Root → measurer_permits measurer o (Ok n) counted → start.position ≡ Plain Root → writer_permits start o (Err x) done → ⊥
+never_refused measurer counted o n start done x p h q w =
+    go_wrong o n counted.size.position done.position x (at_root measurer.size o (Ok n) counted.size p h.1.0) (accepts_root start o (Err x) done.position q w.1.0)
 
 -- and the table and the room suffice
-pub never_short : (headers counted : Headers) (o : Option Tree) (n : ℕ) (start done : Writer) (x : Unit {0}) → headers.size.place ≡ Plain Root → headers.table.headers.items ≡ [] → headers_permits headers o (Ok n) counted →
-    start.place ≡ Plain Root → start.output.table.items ≡ counted.table.headers.items → start.output.taken ≡ 0 → start.output.out.items ≡ [] → n ≤ vec_capacity start.output.out →
+pub never_short : (measurer counted : Measurer) (o : Option Tree) (n : ℕ) (start done : Writer) (x : Unit {0}) → measurer.size.position ≡ Plain Root → measurer.table.headers.items ≡ [] → measurer_permits measurer o (Ok n) counted →
+    start.position ≡ Plain Root → start.output.table.items ≡ counted.table.headers.items → start.output.taken ≡ 0 → start.output.out.items ≡ [] → n ≤ vec_capacity start.output.out →
     writer_permits start o (Ok x) done → nat_le done.output.taken (length done.output.table.items) ≡ true
-never_short headers counted o n start done x p e h q t k b room w =
-    go_whole o n counted.size.place counted.table.headers.items start.output done.output (at_root headers.size o (Ok n) counted.size p h.1.0)
-    (listed_root headers o counted.table.headers.items p e h.1.1) (record { table = t; taken = k; out = b; room = room }) w.0 (writes_root start o (Ok x) done.output q w.1.1)
+never_short measurer counted o n start done x p e h q t k b room w =
+    go_whole o n counted.size.position counted.table.headers.items start.output done.output (at_root measurer.size o (Ok n) counted.size p h.1.0)
+    (listed_root measurer o counted.table.headers.items p e h.1.1) (record { table = t; taken = k; out = b; room = room }) w.0 (writes_root start o (Ok x) done.output q w.1.1)
 
 -- what the first walk answered, where no growth was refused
 pub kept_answer : (refused : Bool) (r a : Result ℕ Refusal) (n : ℕ) → (refused ≡ true → r ≡ Err refusal.OutOfMemory) → (refused ≡ false → r ≡ a) → r ≡ Ok n → a ≡ Ok n

@@ -1,18 +1,18 @@
--- The second walk, where it stands: it keeps no number beside a place, and none is needed.
-use Rattle.amqp_size.specs.WholePlace.{Place}
-use Rattle.amqp_size.specs.WholeUnder.{Under}
-use Rattle.amqp_size.specs.declared.place.Shape.{Shape}
+-- The second walk, where it stands: it keeps no number beside a position, and none is needed.
+use Rattle.amqp_size.specs.WholePosition.{Position}
+use Rattle.amqp_size.specs.WholePending.{Pending}
+use Rattle.amqp_size.specs.declared.position.Shape.{Shape}
 use Rattle.amqp_wire.specs.declared.output.Output.{Output}
-use Rattle.amqp_wire.specs.declared.output.Position.{Position}
+use Rattle.amqp_wire.specs.declared.output.Checkpoint.{Checkpoint}
 
 pub record WriterState : Type 0 where
-  pub place : Under
+  pub position : Pending
   pub output : Output
 
 -- an open compound
 pub record WritingState : Type 0 where
-  pub place : Place
+  pub position : Position
   pub shape : Shape
-  pub inner : Under
-  pub part : Position
-  pub last : Position
+  pub inner : Pending
+  pub before_current : Checkpoint
+  pub before_last : Checkpoint

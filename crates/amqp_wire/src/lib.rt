@@ -5,14 +5,14 @@
 //! exactly the tree's bytes exactly where the tree can be written, out of memory aside.
 #![tactic(auto)]
 
-mod head;
-mod headers;
+mod header;
+mod measurer;
 mod output;
-mod stance;
+mod position;
 mod table;
 #[cfg(test)]
 mod tests;
-mod walks;
+mod two_walks;
 mod writer;
 
-pub use walks::to_vec;
+pub use two_walks::to_vec;

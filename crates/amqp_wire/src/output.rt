@@ -9,7 +9,7 @@ use amqp_size::{Form, Refusal};
 
 /// How far an output has come.
 #[derive(Clone, Copy, Debug)]
-pub struct Position {
+pub struct Checkpoint {
     /// How many headers were taken.
     pub taken: usize,
     /// How many bytes were written.
@@ -25,8 +25,8 @@ pub struct Output {
 }
 
 impl Output {
-    ghost use Rattle.amqp_wire.specs.Heads.{pick, text_head};
-    ghost use Rattle.amqp_wire.specs.Written.{Kept, puts, nexts};
+    ghost use Rattle.amqp_wire.specs.HeaderBytes.{pick, text_header};
+    ghost use Rattle.amqp_wire.specs.Writer.{Kept, puts, nexts};
     ghost use Rattle.amqp_ser.specs.Fixed.{fixed_scalar};
     ghost use Rattle.amqp_ser.specs.Scalars.{scalar_form, scalar_payload};
     ghost use Rattle.amqp_size.specs.Width.{text_at};
@@ -61,11 +61,11 @@ impl Output {
 
     /// How far it has come.
     #[inline(always)]
-    pub fn position(&self) -> Position
+    pub fn checkpoint(&self) -> Checkpoint
         ensures taken { result.taken ≡ self.now.taken }
         ensures len { result.len ≡ length self.now.out.items }
     {
-        Position {
+        Checkpoint {
             taken: self.taken,
             len: self.out.len(),
         }
@@ -73,14 +73,14 @@ impl Output {
 
     /// Goes back to where it was.
     #[inline(always)]
-    pub fn restore(&mut self, position: Position)
+    pub fn restore(&mut self, checkpoint: Checkpoint)
         ensures table { self.new.table ≡ self.old.table }
-        ensures taken { self.new.taken ≡ position.taken }
+        ensures taken { self.new.taken ≡ checkpoint.taken }
         ensures capacity { vec_capacity self.new.out ≡ vec_capacity self.old.out }
-        ensures out { self.new.out.items ≡ take position.len self.old.out.items }
+        ensures out { self.new.out.items ≡ take checkpoint.len self.old.out.items }
     {
-        self.taken = position.taken;
-        self.out.truncate(position.len);
+        self.taken = checkpoint.taken;
+        self.out.truncate(checkpoint.len);
     }
 
     /// Takes no header more, until it goes back.
@@ -225,7 +225,7 @@ impl Output {
         requires { n ≤ 4294967291 }
         ensures kept { Kept self.old self.new }
         ensures taken { self.new.taken ≡ self.old.taken }
-        ensures written { puts self.old (text_head in_array short long n) result self.new }
+        ensures written { puts self.old (text_header in_array short long n) result self.new }
         ensures full { IfErr result (λ e. e ≡ Refusal.TooLong) }
     {
         let [a, b, c, d] = (n as u32).to_be_bytes();

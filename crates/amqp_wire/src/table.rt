@@ -37,8 +37,8 @@ fn narrow(n: usize) -> u32
 }
 
 impl Table {
-    ghost use Rattle.amqp_wire.specs.Entries.{places, made, made_fits};
-    ghost use Rattle.amqp_wire.specs.Listed.{appended, fills};
+    ghost use Rattle.amqp_wire.specs.TreeHeaders.{header_count, headers_from, headers_fit};
+    ghost use Rattle.amqp_wire.specs.Measurer.{appended, fills};
 
     /// A table of no headers.
     #[inline(always)]
@@ -89,7 +89,7 @@ impl Table {
         self.headers.truncate(len);
     }
 
-    /// Takes a place at the end, and says whether its growth was refused.
+    /// Takes a slot at the end, and says whether its growth was refused.
     #[inline(always)]
     fn append(&mut self) -> bool
         ensures appended { appended 1 self.old.headers.items result self.new.headers.items }
@@ -109,17 +109,17 @@ impl Table {
         }
     }
 
-    /// Takes the places of a compound, and says whether a growth was refused.
+    /// Takes the slots of a compound, and says whether a growth was refused.
     #[inline(always)]
     pub fn open(&mut self, shape: Shape) -> bool
-        ensures appended { appended (places shape) self.old.headers.items result
+        ensures appended { appended (header_count shape) self.old.headers.items result
             self.new.headers.items }
-        ensures none { places shape ≡ 0 → self.new.headers.items ≡ self.old.headers.items }
+        ensures none { header_count shape ≡ 0 → self.new.headers.items ≡ self.old.headers.items }
         ensures refused { self.new.refused ≡ (self.old.refused || result) }
     {
         match shape {
-            Shape::Refused | Shape::Transparent | Shape::Bare => false,
-            Shape::Fields(_) => {
+            Shape::Refused | Shape::Transparent | Shape::Single => false,
+            Shape::Variant(_) => {
                 if self.append() {
                     return true;
                 }
@@ -129,7 +129,7 @@ impl Table {
         }
     }
 
-    /// Writes a header into its place.
+    /// Writes a header into its slot.
     #[inline(always)]
     fn put(&mut self, at: usize, header: Header)
         ensures put { at + 1 ≤ length self.old.headers.items →
@@ -142,19 +142,19 @@ impl Table {
         }
     }
 
-    /// Writes the headers of a compound into its places, from the header of its parts.
+    /// Writes the headers of a compound into its slots, from the header of its parts.
     #[inline(always)]
     pub fn fill(&mut self, at: usize, shape: Shape, header: Header)
         requires { header.len ≤ 4294967291 }
-        ensures filled { made_fits shape header.len →
-            at + places shape ≤ length self.old.headers.items →
-            self.new.headers.items ≡ fills (made shape header) at self.old.headers.items }
-        ensures none { places shape ≡ 0 → self.new.headers.items ≡ self.old.headers.items }
+        ensures filled { headers_fit shape header.len →
+            at + header_count shape ≤ length self.old.headers.items →
+            self.new.headers.items ≡ fills (headers_from shape header) at self.old.headers.items }
+        ensures none { header_count shape ≡ 0 → self.new.headers.items ≡ self.old.headers.items }
         ensures refused { self.new.refused ≡ self.old.refused }
     {
         match shape {
-            Shape::Refused | Shape::Transparent | Shape::Bare => {}
-            Shape::Only(index) => self.put(
+            Shape::Refused | Shape::Transparent | Shape::Single => {}
+            Shape::NewtypeVariant(index) => self.put(
                 at,
                 Header {
                     len: narrow(uint_width(index) + header.len as usize),
@@ -162,7 +162,7 @@ impl Table {
                     constructor: None,
                 },
             ),
-            Shape::Fields(index) => {
+            Shape::Variant(index) => {
                 self.put(
                     at,
                     Header {

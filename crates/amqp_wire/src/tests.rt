@@ -21,9 +21,9 @@ fn writes<T: Serialize>(alloc: Global, value: &T, bytes: &[u8]) -> bool {
 }
 
 /// Whether the value has so many bytes, and these come first.
-fn begins<T: Serialize>(alloc: Global, value: &T, len: usize, front: &[u8]) -> bool {
+fn begins<T: Serialize>(alloc: Global, value: &T, len: usize, prefix: &[u8]) -> bool {
     match to_vec(alloc, value) {
-        Ok(written) => written.len() == len && written.as_slice().starts_with(front),
+        Ok(written) => written.len() == len && written.as_slice().starts_with(prefix),
         Err(_) => false,
     }
 }

@@ -3,18 +3,18 @@ use Rattle.std.proofs.Common.{◌≡◌, ℕ, ◌+◌, ◌^◌, ◌≤◌, inr, 
 use Rattle.amqp_data.specs.declared.error.Error.{Error}
 use Rattle.amqp_data.specs.declared.error.Error.TheVariants.{TooLong}
 use Rattle.amqp_ser.specs.Tree.{Tree, Trees, Pairs, list, map, variant, no_trees, more}
-use Rattle.amqp_ser.specs.Compounds.{all_trees, before, before_pairs, in_pairs, as_kind, as_map, as_variant, only, whole, paired, complete}
+use Rattle.amqp_ser.specs.Compounds.{all_trees, prepend, prepend_pair, in_pairs, as_kind, as_map, as_variant, only, whole, paired, complete}
 use Rattle.amqp_ser.specs.declared.kind.Kind.{Kind}
 use Rattle.amqp_ser.specs.declared.kind.Kind.TheVariants as kinds
 use Rattle.amqp_ser.proofs.Joins.{join, joined, all_trees-append, kind_none}
 use Rattle.amqp_ser.proofs.Last.{last_off, paired-last}
 use Rattle.amqp_ser.proofs.Pairing.{even, paired-even, pairing}
 use Rattle.example_nodes.specs.Nodes.{nodes, nodes_each, nodes_of_pairs, CountsFrom, CountsParts, Holds, IsRefusal, fresh, own_nodes, for_part, meant_parts}
-use Rattle.example_nodes.specs.Under.{fits, meant}
+use Rattle.example_nodes.specs.PendingMark.{fits, meant}
 use Rattle.example_nodes.proofs.Meanings.{Sums, as_it_is, barred, is_refusal, never, through}
 use Rattle.example_nodes.specs.declared.counter.Counting.{Counting}
 use Rattle.example_nodes.specs.declared.counter.NodeCounter.{NodeCounter}
-use Rattle.example_nodes.specs.declared.under.Under.{Under}
+use Rattle.example_nodes.specs.declared.pending_mark.PendingMark.{PendingMark}
 
 nodes_each-join : (ts us : Trees) → nodes_each (join ts us) ≡ nodes_each ts + nodes_each us
 nodes_each-join no_trees us = omega arith
@@ -30,7 +30,7 @@ record Among (o : Option Trees) (p : Option Tree) (q : Option Trees) (us : Trees
   others : q ≡ Some rs
   sum : nodes_each us ≡ nodes_each ts + (nodes t + nodes_each rs)
 
-among : (o : Option Trees) (p : Option Tree) (q : Option Trees) (us : Trees) → joined o (before p q) ≡ Some us → Among o p q us
+among : (o : Option Trees) (p : Option Tree) (q : Option Trees) (us : Trees) → joined o (prepend p q) ≡ Some us → Among o p q us
 among None p q us e = cc
 among (Some ts) None q us e = cc
 among (Some ts) (Some t) None us e = cc
@@ -42,75 +42,75 @@ among_parts : (ps rest : List (Option Tree)) (p : Option Tree) (us : Trees) → 
 among_parts ps rest p us e = among (all_trees ps) p (all_trees rest) us (sym (all_trees-append ps (p ∷ rest)) ∙ e)
 
 -- one part more is counted
-one_more : (front m n inner : ℕ) (o : Option Trees) (q : Option Tree) → CountsParts front o (m + inner) → CountsFrom inner q (Ok n) → CountsParts front (joined o (before q (Some no_trees))) (m + n)
-one_more front m n inner None q h g = h
-one_more front m n inner (Some ts) None h g = g
-one_more front m n inner (Some ts) (Some t) h g = let e = nodes_each-join ts (more t no_trees) in omega arith
+one_more : (descriptors m n inner : ℕ) (o : Option Trees) (q : Option Tree) → CountsParts descriptors o (m + inner) → CountsFrom inner q (Ok n) → CountsParts descriptors (joined o (prepend q (Some no_trees))) (m + n)
+one_more descriptors m n inner None q h g = h
+one_more descriptors m n inner (Some ts) None h g = g
+one_more descriptors m n inner (Some ts) (Some t) h g = let e = nodes_each-join ts (more t no_trees) in omega arith
 
-at_parts : (front m n : ℕ) (o p : Option Trees) → o ≡ p → m ≡ n → CountsParts front o m → CountsParts front p n
-at_parts front m n o p e f h = subst (λ x. CountsParts front x n) e (subst (λ k. CountsParts front o k) f h)
+at_parts : (descriptors m n : ℕ) (o p : Option Trees) → o ≡ p → m ≡ n → CountsParts descriptors o m → CountsParts descriptors p n
+at_parts descriptors m n o p e f h = subst (λ x. CountsParts descriptors x n) e (subst (λ k. CountsParts descriptors o k) f h)
 
-counted_at : (front n : ℕ) (o : Option Trees) (ts : Trees) → CountsParts front o n → o ≡ Some ts → n ≡ nodes_each ts + front
-counted_at front n o ts h e = subst (λ x. CountsParts front x n) e h
+counted_at : (descriptors n : ℕ) (o : Option Trees) (ts : Trees) → CountsParts descriptors o n → o ≡ Some ts → n ≡ nodes_each ts + descriptors
+counted_at descriptors n o ts h e = subst (λ x. CountsParts descriptors x n) e h
 
 -- one part more, as it is meant
 meant_more : (kind : Kind) (start : NodeCounter) (ps rest : List (Option Tree)) (p : Option Tree) →
-    meant_parts kind start.under (ps ++ (p ∷ rest)) ≡ meant_parts kind start.under ps ++ (meant (for_part kind ps start).under p ∷ rest)
-meant_more kinds.Bare start [] rest p = refl
-meant_more kinds.Bare start (q ∷ ps) rest p = ap (λ x. meant start.under q ∷ (ps ++ (x ∷ rest))) (as_it_is p)
+    meant_parts kind start.pending (ps ++ (p ∷ rest)) ≡ meant_parts kind start.pending ps ++ (meant (for_part kind ps start).pending p ∷ rest)
+meant_more kinds.Single start [] rest p = refl
+meant_more kinds.Single start (q ∷ ps) rest p = ap (λ x. meant start.pending q ∷ (ps ++ (x ∷ rest))) (as_it_is p)
 meant_more kind start ps rest p = ap (λ x. ps ++ (x ∷ rest)) (as_it_is p)
 
 held_more : (start : NodeCounter) (kind : Kind) (held : Counting) (ps rest : List (Option Tree)) (p : Option Tree) → Holds start kind held ps →
-    meant_parts kind start.under (ps ++ (p ∷ rest)) ≡ meant_parts kind start.under ps ++ (meant held.next.under p ∷ rest)
+    meant_parts kind start.pending (ps ++ (p ∷ rest)) ≡ meant_parts kind start.pending ps ++ (meant held.next.pending p ∷ rest)
 held_more start kind held ps rest p h =
-    meant_more kind start ps rest p ∙ ap (λ (a : NodeCounter). meant_parts kind start.under ps ++ (meant a.under p ∷ rest)) (sym h.next)
+    meant_more kind start ps rest p ∙ ap (λ (a : NodeCounter). meant_parts kind start.pending ps ++ (meant a.pending p ∷ rest)) (sym h.next)
 
 for_next : (start : NodeCounter) (kind : Kind) (ps : List (Option Tree)) (p : Option Tree) → fresh ≡ for_part kind (ps ++ (p ∷ [])) start
-for_next start kinds.Bare [] p = refl
-for_next start kinds.Bare (q ∷ ps) p = refl
+for_next start kinds.Single [] p = refl
+for_next start kinds.Single (q ∷ ps) p = refl
 for_next start kind ps p = refl
 
 -- the parts of a map as they are
-map_count : (start : NodeCounter) (kind : Kind) (held : Counting) (ps : List (Option Tree)) → kind ≡ kinds.Map → Holds start kind held ps → CountsParts start.front (all_trees ps) (held.count + 0)
+map_count : (start : NodeCounter) (kind : Kind) (held : Counting) (ps : List (Option Tree)) → kind ≡ kinds.Map → Holds start kind held ps → CountsParts start.descriptors (all_trees ps) (held.count + 0)
 map_count start kind held ps is h =
-    subst (λ k. CountsParts start.front (all_trees (meant_parts k start.under ps)) (held.count + (for_part k ps start).front)) is
-    (subst (λ (a : NodeCounter). CountsParts start.front (all_trees (meant_parts kind start.under ps)) (held.count + a.front)) h.next h.count)
+    subst (λ k. CountsParts start.descriptors (all_trees (meant_parts k start.pending ps)) (held.count + (for_part k ps start).descriptors)) is
+    (subst (λ (a : NodeCounter). CountsParts start.descriptors (all_trees (meant_parts kind start.pending ps)) (held.count + a.descriptors)) h.next h.count)
 
 pub taken : (start : NodeCounter) (n : ℕ) (kind : Kind) (held new : Counting) (ps : List (Option Tree)) (p : Option Tree) → Holds start kind held ps →
-    CountsFrom held.next.front (meant held.next.under p) (Ok n) → new.own ≡ held.own → new.fits ≡ held.fits → new.next ≡ fresh → new.count ≡ held.count + n → new.before ≡ held.count →
+    CountsFrom held.next.descriptors (meant held.next.pending p) (Ok n) → new.own ≡ held.own → new.fits ≡ held.fits → new.next ≡ fresh → new.count ≡ held.count + n → new.before_last ≡ held.count →
     Holds start kind new (ps ++ (p ∷ []))
 taken start n kind held new ps p h g a b c d f = record {
   own = a ∙ h.own;
   fits = b ∙ h.fits;
   next = c ∙ for_next start kind ps p;
   count =
-      let qs = meant_parts kind start.under ps in
-      let q = meant held.next.under p in
-      let i : new.next.front ≡ 0 = ap (λ (a : NodeCounter). a.front) c in
-      at_parts start.front (held.count + n) (new.count + new.next.front) (joined (all_trees qs) (before q (Some no_trees))) (all_trees (meant_parts kind start.under (ps ++ (p ∷ []))))
+      let qs = meant_parts kind start.pending ps in
+      let q = meant held.next.pending p in
+      let i : new.next.descriptors ≡ 0 = ap (λ (a : NodeCounter). a.descriptors) c in
+      at_parts start.descriptors (held.count + n) (new.count + new.next.descriptors) (joined (all_trees qs) (prepend q (Some no_trees))) (all_trees (meant_parts kind start.pending (ps ++ (p ∷ []))))
       (sym (all_trees-append qs (q ∷ [])) ∙ ap all_trees (sym (held_more start kind held ps [] p h)))
       (omega arith)
-      (one_more start.front held.count n held.next.front (all_trees qs) q h.count g);
-  before = λ is odd qs q e. at_parts start.front (held.count + 0) new.before (all_trees ps) (all_trees qs) (ap all_trees (last_off ps qs p q e)) (omega arith) (map_count start kind held ps is h);
+      (one_more start.descriptors held.count n held.next.descriptors (all_trees qs) q h.count g);
+  before_last = λ is odd qs q e. at_parts start.descriptors (held.count + 0) new.before_last (all_trees ps) (all_trees qs) (ap all_trees (last_off ps qs p q e)) (omega arith) (map_count start kind held ps is h);
 }
 
 pub undone : (start : NodeCounter) (held new : Counting) (ps : List (Option Tree)) (p : Option Tree) → Holds start kinds.Map held (ps ++ (p ∷ [])) → paired ps ≡ true →
-    new.own ≡ held.own → new.fits ≡ held.fits → new.next ≡ held.next → new.count ≡ held.before → Holds start kinds.Map new ps
+    new.own ≡ held.own → new.fits ≡ held.fits → new.next ≡ held.next → new.count ≡ held.before_last → Holds start kinds.Map new ps
 undone start held new ps p h even a b c d = record {
   own = a ∙ h.own;
   fits = b ∙ h.fits;
   next = c ∙ h.next;
   count =
-      let i : new.next.front ≡ 0 = ap (λ (a : NodeCounter). a.front) (c ∙ h.next) in
-      at_parts start.front held.before (new.count + new.next.front) (all_trees ps) (all_trees ps) refl (omega arith) (h.before refl (paired-last ps p ∙ ap not even) ps p refl);
-  before = λ is odd. absurd (never (sym even ∙ odd));
+      let i : new.next.descriptors ≡ 0 = ap (λ (a : NodeCounter). a.descriptors) (c ∙ h.next) in
+      at_parts start.descriptors held.before_last (new.count + new.next.descriptors) (all_trees ps) (all_trees ps) refl (omega arith) (h.before_last refl (paired-last ps p ∙ ap not even) ps p refl);
+  before_last = λ is odd. absurd (never (sym even ∙ odd));
 }
 
 abbrev PairsCount : Option Pairs → ℕ → Type 0
 PairsCount None n = Unit {0}
 PairsCount (Some ps) n = nodes_of_pairs ps ≡ n
 
-more_pairs : (k v : Tree) (o : Option Pairs) (n : ℕ) → PairsCount o n → PairsCount (before_pairs k v o) (nodes k + (nodes v + n))
+more_pairs : (k v : Tree) (o : Option Pairs) (n : ℕ) → PairsCount o n → PairsCount (prepend_pair k v o) (nodes k + (nodes v + n))
 more_pairs k v None n h = tt
 more_pairs k v (Some ps) n h = ap (λ m. nodes k + (nodes v + m)) h
 
@@ -137,13 +137,13 @@ only_nodes (more t (more u ts)) w e = cc
 kind_nodes : (kind : Kind) (ts : Trees) (w : Tree) → as_kind kind (Some ts) ≡ Some w → nodes w ≡ nodes_each ts + own_nodes kind
 kind_nodes kinds.List ts w e = let same : w ≡ list ts = cc in ap nodes same
 kind_nodes kinds.Map ts w e = map_nodes (in_pairs ts) (nodes_each ts) w (pairs_nodes ts) e
-kind_nodes (kinds.Fields i) ts w e = let same : w ≡ variant i (list ts) = cc in let k = ap nodes same in omega arith
-kind_nodes (kinds.Only i) ts w e =
+kind_nodes (kinds.Variant i) ts w e = let same : w ≡ variant i (list ts) = cc in let k = ap nodes same in omega arith
+kind_nodes (kinds.NewtypeVariant i) ts w e =
     let v = variant_nodes i (only ts) w e in
     let k = only_nodes ts v.0 v.1.0 in
     let j = v.1.1 in
     omega arith
-kind_nodes kinds.Bare ts w e = let k = only_nodes ts w e in omega arith
+kind_nodes kinds.Single ts w e = let k = only_nodes ts w e in omega arith
 
 whole_nodes : (kind : Kind) (o : Option Trees) (w : Tree) → as_kind kind o ≡ Some w → (ts : Trees) × ((o ≡ Some ts) × (nodes w ≡ nodes_each ts + own_nodes kind))
 whole_nodes kind None w e = let k = kind_none kind in cc
@@ -161,59 +161,59 @@ only_variant i (Some t) h = refl
 makes_tree : (kind : Kind) (ps : List (Option Tree)) (ts : Trees) → complete kind ps ≡ true → all_trees ps ≡ Some ts → is_some (as_kind kind (Some ts)) ≡ true
 makes_tree kinds.List ps ts done e = refl
 makes_tree kinds.Map ps ts done e = ap (λ o. is_some (as_map o)) ((pairing ts (sym (paired-even ps ts e) ∙ done)).are)
-makes_tree (kinds.Fields i) ps ts done e = refl
-makes_tree (kinds.Only i) [] ts done e = absurd (never (sym done))
-makes_tree (kinds.Only i) (p ∷ []) ts done e = only_variant i (only ts) (only_tree p ts e)
-makes_tree (kinds.Only i) (p ∷ (q ∷ ps)) ts done e = absurd (never (sym done))
-makes_tree kinds.Bare [] ts done e = absurd (never (sym done))
-makes_tree kinds.Bare (p ∷ []) ts done e = only_tree p ts e
-makes_tree kinds.Bare (p ∷ (q ∷ ps)) ts done e = absurd (never (sym done))
+makes_tree (kinds.Variant i) ps ts done e = refl
+makes_tree (kinds.NewtypeVariant i) [] ts done e = absurd (never (sym done))
+makes_tree (kinds.NewtypeVariant i) (p ∷ []) ts done e = only_variant i (only ts) (only_tree p ts e)
+makes_tree (kinds.NewtypeVariant i) (p ∷ (q ∷ ps)) ts done e = absurd (never (sym done))
+makes_tree kinds.Single [] ts done e = absurd (never (sym done))
+makes_tree kinds.Single (p ∷ []) ts done e = only_tree p ts e
+makes_tree kinds.Single (p ∷ (q ∷ ps)) ts done e = absurd (never (sym done))
 
-complete_meant : (kind : Kind) (u : Under) (ps : List (Option Tree)) → complete kind (meant_parts kind u ps) ≡ complete kind ps
-complete_meant kinds.Bare u [] = refl
-complete_meant kinds.Bare u (p ∷ []) = refl
-complete_meant kinds.Bare u (p ∷ (q ∷ ps)) = refl
+complete_meant : (kind : Kind) (u : PendingMark) (ps : List (Option Tree)) → complete kind (meant_parts kind u ps) ≡ complete kind ps
+complete_meant kinds.Single u [] = refl
+complete_meant kinds.Single u (p ∷ []) = refl
+complete_meant kinds.Single u (p ∷ (q ∷ ps)) = refl
 complete_meant kind u ps = refl
 
-nothing_left : (start : NodeCounter) (kind : Kind) (ps : List (Option Tree)) → complete kind ps ≡ true → (for_part kind ps start).front ≡ 0
-nothing_left start kinds.Bare [] e = absurd (never (sym e))
-nothing_left start kinds.Bare (p ∷ ps) e = refl
+nothing_left : (start : NodeCounter) (kind : Kind) (ps : List (Option Tree)) → complete kind ps ≡ true → (for_part kind ps start).descriptors ≡ 0
+nothing_left start kinds.Single [] e = absurd (never (sym e))
+nothing_left start kinds.Single (p ∷ ps) e = refl
 nothing_left start kind ps e = refl
 
 -- a checked sum is the count of the nodes, or they are too many
-summed : (front m : ℕ) (o : Option Tree) (r : Result ℕ Error) → is_some o ≡ true → Sums m r → ((w : Tree) → o ≡ Some w → m ≡ nodes w + front) → CountsFrom front o r
-summed front m None r is h f = absurd (never (sym is))
-summed front m (Some w) (Ok n) is h f = h ∙ f w refl
-summed front m (Some w) (Err x) is h f = (h.0, let k = h.1 in let e = f w refl in omega arith)
+summed : (descriptors m : ℕ) (o : Option Tree) (r : Result ℕ Error) → is_some o ≡ true → Sums m r → ((w : Tree) → o ≡ Some w → m ≡ nodes w + descriptors) → CountsFrom descriptors o r
+summed descriptors m None r is h f = absurd (never (sym is))
+summed descriptors m (Some w) (Ok n) is h f = h ∙ f w refl
+summed descriptors m (Some w) (Err x) is h f = (h.0, let k = h.1 in let e = f w refl in omega arith)
 
-ended_on : (front m own : ℕ) (kind : Kind) (o : Option Trees) (r : Result ℕ Error) → CountsParts front o m → own ≡ own_nodes kind → ((ts : Trees) → o ≡ Some ts → is_some (as_kind kind (Some ts)) ≡ true) →
-    Sums (m + own) r → CountsFrom front (as_kind kind o) r
-ended_on front m own kind None r h e f sum = absurd h
-ended_on front m own kind (Some ts) r h e f sum = summed front (m + own) (as_kind kind (Some ts)) r (f ts refl) sum (λ w is. let k = kind_nodes kind ts w is in omega arith)
+ended_on : (descriptors m own : ℕ) (kind : Kind) (o : Option Trees) (r : Result ℕ Error) → CountsParts descriptors o m → own ≡ own_nodes kind → ((ts : Trees) → o ≡ Some ts → is_some (as_kind kind (Some ts)) ≡ true) →
+    Sums (m + own) r → CountsFrom descriptors (as_kind kind o) r
+ended_on descriptors m own kind None r h e f sum = absurd h
+ended_on descriptors m own kind (Some ts) r h e f sum = summed descriptors (m + own) (as_kind kind (Some ts)) r (f ts refl) sum (λ w is. let k = kind_nodes kind ts w is in omega arith)
 
 pub ended : (start : NodeCounter) (kind : Kind) (held : Counting) (ps : List (Option Tree)) (r : Result ℕ Error) → Holds start kind held ps → complete kind ps ≡ true → held.fits ≡ true →
-    Sums (held.count + held.own) r → CountsFrom start.front (meant start.under (whole kind ps)) r
+    Sums (held.count + held.own) r → CountsFrom start.descriptors (meant start.pending (whole kind ps)) r
 unfolding whole
 ended start kind held ps r h done fit sum =
-    let qs = meant_parts kind start.under ps in
-    let i : held.next.front ≡ 0 = ap (λ (a : NodeCounter). a.front) h.next ∙ nothing_left start kind ps done in
-    through start.under kind start.front ps r (sym h.fits ∙ fit)
-    (ended_on start.front held.count held.own kind (all_trees qs) r (at_parts start.front (held.count + held.next.front) held.count (all_trees qs) (all_trees qs) refl (omega arith) h.count) h.own
-    (λ ts e. makes_tree kind qs ts (complete_meant kind start.under ps ∙ done) e) sum)
+    let qs = meant_parts kind start.pending ps in
+    let i : held.next.descriptors ≡ 0 = ap (λ (a : NodeCounter). a.descriptors) h.next ∙ nothing_left start kind ps done in
+    through start.pending kind start.descriptors ps r (sym h.fits ∙ fit)
+    (ended_on start.descriptors held.count held.own kind (all_trees qs) r (at_parts start.descriptors (held.count + held.next.descriptors) held.count (all_trees qs) (all_trees qs) refl (omega arith) h.count) h.own
+    (λ ts e. makes_tree kind qs ts (complete_meant kind start.pending ps ∙ done) e) sum)
 
 -- an answer is on the tree, where there is one
-on_tree : (front : ℕ) (o : Option Tree) (e : Error) → IsRefusal e → ((w : Tree) → o ≡ Some w → CountsFrom front (Some w) (Err e)) → CountsFrom front o (Err e)
-on_tree front None e h f = h
-on_tree front (Some w) e h f = f w refl
+on_tree : (descriptors : ℕ) (o : Option Tree) (e : Error) → IsRefusal e → ((w : Tree) → o ≡ Some w → CountsFrom descriptors (Some w) (Err e)) → CountsFrom descriptors o (Err e)
+on_tree descriptors None e h f = h
+on_tree descriptors (Some w) e h f = f w refl
 
 -- a refusal of a part, whatever others would have come
-past : (front m inner : ℕ) (kind : Kind) (qs rest : List (Option Tree)) (q : Option Tree) (e : Error) → CountsParts front (all_trees qs) (m + inner) → IsRefusal e →
-    ((t : Tree) → q ≡ Some t → (e ≡ TooLong) × (2 ^ 64 ≤ m + (nodes t + inner))) → CountsFrom front (whole kind (qs ++ (q ∷ rest))) (Err e)
+past : (descriptors m inner : ℕ) (kind : Kind) (qs rest : List (Option Tree)) (q : Option Tree) (e : Error) → CountsParts descriptors (all_trees qs) (m + inner) → IsRefusal e →
+    ((t : Tree) → q ≡ Some t → (e ≡ TooLong) × (2 ^ 64 ≤ m + (nodes t + inner))) → CountsFrom descriptors (whole kind (qs ++ (q ∷ rest))) (Err e)
 unfolding whole
-past front m inner kind qs rest q e h refusal f = on_tree front (whole kind (qs ++ (q ∷ rest))) e refusal (λ w is.
+past descriptors m inner kind qs rest q e h refusal f = on_tree descriptors (whole kind (qs ++ (q ∷ rest))) e refusal (λ w is.
     let b = whole_nodes kind (all_trees (qs ++ (q ∷ rest))) w is in
     let a = among_parts qs rest q b.0 b.1.0 in
-    let k = counted_at front (m + inner) (all_trees qs) a.ts h a.first in
+    let k = counted_at descriptors (m + inner) (all_trees qs) a.ts h a.first in
     let g = f a.t a.it in
     let n = b.1.1 in
     let s = a.sum in
@@ -221,28 +221,28 @@ past front m inner kind qs rest q e h refusal f = on_tree front (whole kind (qs 
     (g.0, omega arith))
 
 -- the same of the compound as it is meant
-past_held : (b : Bool) (start : NodeCounter) (kind : Kind) (held : Counting) (ps rest : List (Option Tree)) (p : Option Tree) (e : Error) → fits start.under kind ≡ b → Holds start kind held ps → IsRefusal e →
-    ((t : Tree) → meant held.next.under p ≡ Some t → (e ≡ TooLong) × (2 ^ 64 ≤ held.count + (nodes t + held.next.front))) →
-    CountsFrom start.front (meant start.under (whole kind (ps ++ (p ∷ rest)))) (Err e)
+past_held : (b : Bool) (start : NodeCounter) (kind : Kind) (held : Counting) (ps rest : List (Option Tree)) (p : Option Tree) (e : Error) → fits start.pending kind ≡ b → Holds start kind held ps → IsRefusal e →
+    ((t : Tree) → meant held.next.pending p ≡ Some t → (e ≡ TooLong) × (2 ^ 64 ≤ held.count + (nodes t + held.next.descriptors))) →
+    CountsFrom start.descriptors (meant start.pending (whole kind (ps ++ (p ∷ rest)))) (Err e)
 past_held true start kind held ps rest p e fit h refusal f =
-    through start.under kind start.front (ps ++ (p ∷ rest)) (Err e) fit
-    (subst (λ xs. CountsFrom start.front (whole kind xs) (Err e)) (sym (held_more start kind held ps rest p h))
-    (past start.front held.count held.next.front kind (meant_parts kind start.under ps) rest (meant held.next.under p) e h.count refusal f))
-past_held false start kind held ps rest p e fit h refusal f = barred start.under kind start.front (ps ++ (p ∷ rest)) e fit refusal
+    through start.pending kind start.descriptors (ps ++ (p ∷ rest)) (Err e) fit
+    (subst (λ xs. CountsFrom start.descriptors (whole kind xs) (Err e)) (sym (held_more start kind held ps rest p h))
+    (past start.descriptors held.count held.next.descriptors kind (meant_parts kind start.pending ps) rest (meant held.next.pending p) e h.count refusal f))
+past_held false start kind held ps rest p e fit h refusal f = barred start.pending kind start.descriptors (ps ++ (p ∷ rest)) e fit refusal
 
 -- the answer on a part that has a tree
-answer : (front : ℕ) (o : Option Tree) (r : Result ℕ Error) (t : Tree) → CountsFrom front o r → o ≡ Some t → CountsFrom front (Some t) r
-answer front o r t h e = subst (λ q. CountsFrom front q r) e h
+answer : (descriptors : ℕ) (o : Option Tree) (r : Result ℕ Error) (t : Tree) → CountsFrom descriptors o r → o ≡ Some t → CountsFrom descriptors (Some t) r
+answer descriptors o r t h e = subst (λ q. CountsFrom descriptors q r) e h
 
-pub refused : (start : NodeCounter) (kind : Kind) (held : Counting) (ps : List (Option Tree)) (p : Option Tree) (e : Error) → Holds start kind held ps → CountsFrom held.next.front (meant held.next.under p) (Err e) →
-    (rest : List (Option Tree)) → CountsFrom start.front (meant start.under (whole kind (ps ++ (p ∷ rest)))) (Err e)
-refused start kind held ps p e h g rest = past_held (fits start.under kind) start kind held ps rest p e refl h (is_refusal held.next.front (meant held.next.under p) e g) (λ t is.
-    let a = answer held.next.front (meant held.next.under p) (Err e) t g is in
+pub refused : (start : NodeCounter) (kind : Kind) (held : Counting) (ps : List (Option Tree)) (p : Option Tree) (e : Error) → Holds start kind held ps → CountsFrom held.next.descriptors (meant held.next.pending p) (Err e) →
+    (rest : List (Option Tree)) → CountsFrom start.descriptors (meant start.pending (whole kind (ps ++ (p ∷ rest)))) (Err e)
+refused start kind held ps p e h g rest = past_held (fits start.pending kind) start kind held ps rest p e refl h (is_refusal held.next.descriptors (meant held.next.pending p) e g) (λ t is.
+    let a = answer held.next.descriptors (meant held.next.pending p) (Err e) t g is in
     let m = a.1 in
     (a.0, omega arith))
 
-pub too_many : (start : NodeCounter) (n : ℕ) (kind : Kind) (held : Counting) (ps : List (Option Tree)) (p : Option Tree) → Holds start kind held ps → CountsFrom held.next.front (meant held.next.under p) (Ok n) →
-    2 ^ 64 ≤ held.count + n → (rest : List (Option Tree)) → CountsFrom start.front (meant start.under (whole kind (ps ++ (p ∷ rest)))) (Err TooLong)
-too_many start n kind held ps p h g m rest = past_held (fits start.under kind) start kind held ps rest p TooLong refl h (inr refl) (λ t is.
-    let a = answer held.next.front (meant held.next.under p) (Ok n) t g is in
+pub too_many : (start : NodeCounter) (n : ℕ) (kind : Kind) (held : Counting) (ps : List (Option Tree)) (p : Option Tree) → Holds start kind held ps → CountsFrom held.next.descriptors (meant held.next.pending p) (Ok n) →
+    2 ^ 64 ≤ held.count + n → (rest : List (Option Tree)) → CountsFrom start.descriptors (meant start.pending (whole kind (ps ++ (p ∷ rest)))) (Err TooLong)
+too_many start n kind held ps p h g m rest = past_held (fits start.pending kind) start kind held ps rest p TooLong refl h (inr refl) (λ t is.
+    let a = answer held.next.descriptors (meant held.next.pending p) (Ok n) t g is in
     (refl, omega arith))

@@ -3,15 +3,15 @@ use Rattle.std.proofs.Common.{◌≡◌, ℕ, ◌^◌, ◌≤◌, inr, List, [],
 use Rattle.amqp_data.specs.declared.error.Error.{Error}
 use Rattle.amqp_data.specs.declared.error.Error.TheVariants.{TooLong}
 use Rattle.amqp_ser.specs.Tree.{Tree, Trees, Pairs, scalar, list, array, map, described, variant, lazy, transparent, no_trees, more}
-use Rattle.amqp_ser.specs.Compounds.{all_trees, before, as_kind, as_map, as_variant, in_pairs, only, whole}
+use Rattle.amqp_ser.specs.Compounds.{all_trees, prepend, as_kind, as_map, as_variant, in_pairs, only, whole}
 use Rattle.amqp_ser.specs.Marked.{marked_tree}
 use Rattle.amqp_ser.specs.declared.kind.Kind.{Kind}
 use Rattle.amqp_ser.specs.declared.kind.Kind.TheVariants as kinds
 use Rattle.amqp_ser.specs.declared.mark.Mark.TheVariants as mark
 use Rattle.example_nodes.specs.Nodes.{CountsFrom, IsRefusal, meant_parts}
-use Rattle.example_nodes.specs.Under.{fits, meant}
-use Rattle.example_nodes.specs.declared.under.Under.{Under}
-use Rattle.example_nodes.specs.declared.under.Under.TheVariants as under
+use Rattle.example_nodes.specs.PendingMark.{fits, meant}
+use Rattle.example_nodes.specs.declared.pending_mark.PendingMark.{PendingMark}
+use Rattle.example_nodes.specs.declared.pending_mark.PendingMark.TheVariants as pending
 
 pub never : true ≡ false → ⊥
 never q = cc
@@ -31,74 +31,74 @@ unmarked (lazy bs) = refl
 unmarked (transparent ts) = refl
 
 -- under no marker each tree is meant as it is
-pub as_it_is : (p : Option Tree) → p ≡ meant (under.Mark mark.Other) p
+pub as_it_is : (p : Option Tree) → p ≡ meant (pending.Mark mark.Other) p
 as_it_is None = refl
 as_it_is (Some t) = unmarked t
 
-first_bare : (u : Under) (t : Tree) (m : Option Tree) (o : Option Trees) → m ≡ meant u (Some t) → as_kind kinds.Bare (before m o) ≡ meant u (as_kind kinds.Bare (before (Some t) o))
-first_bare u t None None e = refl
-first_bare u t (Some w) None e = refl
-first_bare u t None (Some no_trees) e = e
-first_bare u t (Some w) (Some no_trees) e = e
-first_bare u t None (Some (more x xs)) e = refl
-first_bare u t (Some w) (Some (more x xs)) e = refl
+first_single : (u : PendingMark) (t : Tree) (m : Option Tree) (o : Option Trees) → m ≡ meant u (Some t) → as_kind kinds.Single (prepend m o) ≡ meant u (as_kind kinds.Single (prepend (Some t) o))
+first_single u t None None e = refl
+first_single u t (Some w) None e = refl
+first_single u t None (Some no_trees) e = e
+first_single u t (Some w) (Some no_trees) e = e
+first_single u t None (Some (more x xs)) e = refl
+first_single u t (Some w) (Some (more x xs)) e = refl
 
-bare_meant : (u : Under) (ps : List (Option Tree)) → whole kinds.Bare (meant_parts kinds.Bare u ps) ≡ meant u (whole kinds.Bare ps)
+single_meant : (u : PendingMark) (ps : List (Option Tree)) → whole kinds.Single (meant_parts kinds.Single u ps) ≡ meant u (whole kinds.Single ps)
 unfolding whole
-bare_meant u [] = refl
-bare_meant u (None ∷ ps) = refl
-bare_meant u (Some t ∷ ps) = first_bare u t (meant u (Some t)) (all_trees ps) refl
+single_meant u [] = refl
+single_meant u (None ∷ ps) = refl
+single_meant u (Some t ∷ ps) = first_single u t (meant u (Some t)) (all_trees ps) refl
 
 -- an array and a transparent vector have as many nodes as the list
-marked_list : (front : ℕ) (o : Option Trees) (r : Result ℕ Error) → CountsFrom front (as_kind kinds.List o) r →
-    CountsFrom front (meant (under.Mark mark.Array) (as_kind kinds.List o)) r × CountsFrom front (meant (under.Mark mark.Transparent) (as_kind kinds.List o)) r
-marked_list front None r h = (h, h)
-marked_list front (Some ts) (Ok n) h = (h, h)
-marked_list front (Some ts) (Err e) h = (h, h)
+marked_list : (descriptors : ℕ) (o : Option Trees) (r : Result ℕ Error) → CountsFrom descriptors (as_kind kinds.List o) r →
+    CountsFrom descriptors (meant (pending.Mark mark.Array) (as_kind kinds.List o)) r × CountsFrom descriptors (meant (pending.Mark mark.Transparent) (as_kind kinds.List o)) r
+marked_list descriptors None r h = (h, h)
+marked_list descriptors (Some ts) (Ok n) h = (h, h)
+marked_list descriptors (Some ts) (Err e) h = (h, h)
 
 -- an answer on what the parts make, as they are meant, is one on the compound as it is meant
-pub through : (u : Under) (kind : Kind) (front : ℕ) (ps : List (Option Tree)) (r : Result ℕ Error) → fits u kind ≡ true →
-    CountsFrom front (whole kind (meant_parts kind u ps)) r → CountsFrom front (meant u (whole kind ps)) r
+pub through : (u : PendingMark) (kind : Kind) (descriptors : ℕ) (ps : List (Option Tree)) (r : Result ℕ Error) → fits u kind ≡ true →
+    CountsFrom descriptors (whole kind (meant_parts kind u ps)) r → CountsFrom descriptors (meant u (whole kind ps)) r
 unfolding whole
-through u kinds.Bare front ps r f h = subst (λ t. CountsFrom front t r) (bare_meant u ps) h
-through (under.Mark mark.Other) kind front ps r f h = subst (λ t. CountsFrom front t r) (as_it_is (as_kind kind (all_trees ps))) h
-through (under.Mark mark.Array) kinds.List front ps r f h = (marked_list front (all_trees ps) r h).0
-through (under.Mark mark.Transparent) kinds.List front ps r f h = (marked_list front (all_trees ps) r h).1
-through u kind front ps r f h = absurd (never (sym f))
+through u kinds.Single descriptors ps r f h = subst (λ t. CountsFrom descriptors t r) (single_meant u ps) h
+through (pending.Mark mark.Other) kind descriptors ps r f h = subst (λ t. CountsFrom descriptors t r) (as_it_is (as_kind kind (all_trees ps))) h
+through (pending.Mark mark.Array) kinds.List descriptors ps r f h = (marked_list descriptors (all_trees ps) r h).0
+through (pending.Mark mark.Transparent) kinds.List descriptors ps r f h = (marked_list descriptors (all_trees ps) r h).1
+through u kind descriptors ps r f h = absurd (never (sym f))
 
-no_list : (u : Under) (ts : Trees) → fits u kinds.List ≡ false → meant u (Some (list ts)) ≡ None
-no_list (under.Mark mark.Other) ts f = absurd (never f)
-no_list (under.Mark mark.Array) ts f = absurd (never f)
-no_list (under.Mark mark.Transparent) ts f = absurd (never f)
+no_list : (u : PendingMark) (ts : Trees) → fits u kinds.List ≡ false → meant u (Some (list ts)) ≡ None
+no_list (pending.Mark mark.Other) ts f = absurd (never f)
+no_list (pending.Mark mark.Array) ts f = absurd (never f)
+no_list (pending.Mark mark.Transparent) ts f = absurd (never f)
 no_list u ts f = refl
 
-no_map : (u : Under) (o : Option Pairs) → fits u kinds.Map ≡ false → meant u (as_map o) ≡ None
+no_map : (u : PendingMark) (o : Option Pairs) → fits u kinds.Map ≡ false → meant u (as_map o) ≡ None
 no_map u None f = refl
-no_map (under.Mark mark.Other) (Some ps) f = absurd (never f)
+no_map (pending.Mark mark.Other) (Some ps) f = absurd (never f)
 no_map u (Some ps) f = refl
 
-no_fields : (u : Under) (i : ℕ) (t : Tree) → fits u (kinds.Fields i) ≡ false → meant u (Some (variant i t)) ≡ None
-no_fields (under.Mark mark.Other) i t f = absurd (never f)
+no_fields : (u : PendingMark) (i : ℕ) (t : Tree) → fits u (kinds.Variant i) ≡ false → meant u (Some (variant i t)) ≡ None
+no_fields (pending.Mark mark.Other) i t f = absurd (never f)
 no_fields u i t f = refl
 
-no_variant : (u : Under) (i : ℕ) (o : Option Tree) → fits u (kinds.Only i) ≡ false → meant u (as_variant i o) ≡ None
+no_variant : (u : PendingMark) (i : ℕ) (o : Option Tree) → fits u (kinds.NewtypeVariant i) ≡ false → meant u (as_variant i o) ≡ None
 no_variant u i None f = refl
-no_variant (under.Mark mark.Other) i (Some t) f = absurd (never f)
+no_variant (pending.Mark mark.Other) i (Some t) f = absurd (never f)
 no_variant u i (Some t) f = refl
 
-no_compound : (u : Under) (kind : Kind) (o : Option Trees) → fits u kind ≡ false → meant u (as_kind kind o) ≡ None
-no_compound u kinds.Bare o f = absurd (never f)
+no_compound : (u : PendingMark) (kind : Kind) (o : Option Trees) → fits u kind ≡ false → meant u (as_kind kind o) ≡ None
+no_compound u kinds.Single o f = absurd (never f)
 no_compound u kind None f = refl
 no_compound u kinds.List (Some ts) f = no_list u ts f
 no_compound u kinds.Map (Some ts) f = no_map u (in_pairs ts) f
-no_compound u (kinds.Fields i) (Some ts) f = no_fields u i (list ts) f
-no_compound u (kinds.Only i) (Some ts) f = no_variant u i (only ts) f
+no_compound u (kinds.Variant i) (Some ts) f = no_fields u i (list ts) f
+no_compound u (kinds.NewtypeVariant i) (Some ts) f = no_variant u i (only ts) f
 
 -- where the compound may not stand it is refused
-pub barred : (u : Under) (kind : Kind) (front : ℕ) (ps : List (Option Tree)) (e : Error) → fits u kind ≡ false → IsRefusal e → CountsFrom front (meant u (whole kind ps)) (Err e)
+pub barred : (u : PendingMark) (kind : Kind) (descriptors : ℕ) (ps : List (Option Tree)) (e : Error) → fits u kind ≡ false → IsRefusal e → CountsFrom descriptors (meant u (whole kind ps)) (Err e)
 unfolding whole
-barred u kind front ps e f h = subst (λ t. CountsFrom front t (Err e)) (sym (no_compound u kind (all_trees ps) f)) h
+barred u kind descriptors ps e f h = subst (λ t. CountsFrom descriptors t (Err e)) (sym (no_compound u kind (all_trees ps) f)) h
 
-pub is_refusal : (front : ℕ) (o : Option Tree) (e : Error) → CountsFrom front o (Err e) → IsRefusal e
-is_refusal front None e h = h
-is_refusal front (Some t) e h = inr h.0
+pub is_refusal : (descriptors : ℕ) (o : Option Tree) (e : Error) → CountsFrom descriptors o (Err e) → IsRefusal e
+is_refusal descriptors None e h = h
+is_refusal descriptors (Some t) e h = inr h.0

@@ -7,11 +7,11 @@ use Rattle.amqp_ser.specs.Compounds.{all_trees, paired}
 use Rattle.amqp_ser.specs.declared.kind.Kind.{Kind}
 use Rattle.amqp_ser.specs.declared.kind.Kind.TheVariants as kinds
 use Rattle.amqp_ser.specs.declared.mark.Mark.TheVariants as mark
-use Rattle.example_nodes.specs.Under.{fits, meant}
+use Rattle.example_nodes.specs.PendingMark.{fits, meant}
 use Rattle.example_nodes.specs.declared.counter.Counting.{Counting}
 use Rattle.example_nodes.specs.declared.counter.NodeCounter.{NodeCounter}
-use Rattle.example_nodes.specs.declared.under.Under.{Under}
-use Rattle.example_nodes.specs.declared.under.Under.TheVariants as under
+use Rattle.example_nodes.specs.declared.pending_mark.PendingMark.{PendingMark}
+use Rattle.example_nodes.specs.declared.pending_mark.PendingMark.TheVariants as pending
 
 abbrev mutual
   pub nodes : Tree → ℕ
@@ -39,10 +39,10 @@ IsRefusal e = (e ≡ InvalidValue) ⊎ (e ≡ TooLong)
 -- an answer on a tree behind so many descriptors: all their nodes, or too long where these are 2^64 or more;
 -- on none a refusal
 abbrev pub CountsFrom : ℕ → Option Tree → Result ℕ Error → Type 0
-CountsFrom front (Some t) (Ok n) = n ≡ nodes t + front
-CountsFrom front (Some t) (Err e) = (e ≡ TooLong) × (2 ^ 64 ≤ nodes t + front)
-CountsFrom front None (Ok n) = ⊥
-CountsFrom front None (Err e) = IsRefusal e
+CountsFrom descriptors (Some t) (Ok n) = n ≡ nodes t + descriptors
+CountsFrom descriptors (Some t) (Err e) = (e ≡ TooLong) × (2 ^ 64 ≤ nodes t + descriptors)
+CountsFrom descriptors None (Ok n) = ⊥
+CountsFrom descriptors None (Err e) = IsRefusal e
 
 -- an answer on a tree by itself
 abbrev pub CountsNodes : Option Tree → Result ℕ Error → Type 0
@@ -50,11 +50,11 @@ CountsNodes t r = CountsFrom 0 t r
 
 -- before a tree by itself: after no descriptor and under no marker
 abbrev pub fresh : NodeCounter
-fresh = record { front = 0; under = under.Mark mark.Other }
+fresh = record { descriptors = 0; pending = pending.Mark mark.Other }
 
 -- the counter's answer on a tree; it is fresh after it
 abbrev pub Permits : NodeCounter → Option Tree → Result ℕ Error → NodeCounter → Type 0
-Permits before t r after = CountsFrom before.front (meant before.under t) r × (after ≡ fresh)
+Permits before t r after = CountsFrom before.descriptors (meant before.pending t) r × (after ≡ fresh)
 
 -- a value without a tree is not counted
 pub no_count_on_none : (before : NodeCounter) (n : ℕ) (after : NodeCounter) → Permits before None (Ok n) after → ⊥
@@ -62,32 +62,32 @@ no_count_on_none before n after h = h.0
 
 -- how many nodes a compound adds to those of its parts
 abbrev pub own_nodes : Kind → ℕ
-own_nodes (kinds.Fields i) = 2
-own_nodes kinds.Bare = 0
+own_nodes (kinds.Variant i) = 2
+own_nodes kinds.Single = 0
 own_nodes k = 1
 
--- where the next part stands: the one part of a bare compound where that was opened
+-- where the next part stands: the one part of a single compound where that was opened
 abbrev pub for_part : Kind → List (Option Tree) → NodeCounter → NodeCounter
-for_part kinds.Bare [] start = start
+for_part kinds.Single [] start = start
 for_part k ps start = fresh
 
 -- the parts as they are meant
-abbrev pub meant_parts : Kind → Under → List (Option Tree) → List (Option Tree)
-meant_parts kinds.Bare u (p ∷ ps) = meant u p ∷ ps
+abbrev pub meant_parts : Kind → PendingMark → List (Option Tree) → List (Option Tree)
+meant_parts kinds.Single u (p ∷ ps) = meant u p ∷ ps
 meant_parts k u ps = ps
 
 -- a count of the nodes of these parts and of the descriptors before the compound
 abbrev pub CountsParts : ℕ → Option Trees → ℕ → Type 0
-CountsParts front None n = ⊥
-CountsParts front (Some ts) n = n ≡ nodes_each ts + front
+CountsParts descriptors None n = ⊥
+CountsParts descriptors (Some ts) n = n ≡ nodes_each ts + descriptors
 
 -- an open compound that was fed these parts
 pub record Holds (start : NodeCounter) (kind : Kind) (held : Counting) (ps : List (Option Tree)) : Type 0 where
   pub own : held.own ≡ own_nodes kind
-  pub fits : held.fits ≡ fits start.under kind
+  pub fits : held.fits ≡ fits start.pending kind
   pub next : held.next ≡ for_part kind ps start
-  pub count : CountsParts start.front (all_trees (meant_parts kind start.under ps)) (held.count + held.next.front)
-  pub before : kind ≡ kinds.Map → paired ps ≡ false → (qs : List (Option Tree)) (q : Option Tree) → ps ≡ qs ++ (q ∷ []) → CountsParts start.front (all_trees qs) held.before
+  pub count : CountsParts start.descriptors (all_trees (meant_parts kind start.pending ps)) (held.count + held.next.descriptors)
+  pub before_last : kind ≡ kinds.Map → paired ps ≡ false → (qs : List (Option Tree)) (q : Option Tree) → ps ≡ qs ++ (q ∷ []) → CountsParts start.descriptors (all_trees qs) held.before_last
 
 -- a compound that the counter opened first, and the counter between its parts
 abbrev pub Has : NodeCounter → Kind → NodeCounter → Counting → List (Option Tree) → Type 0
@@ -97,6 +97,6 @@ Has start kind now held ps = Holds start kind held ps × (now ≡ fresh)
 abbrev pub Awaits : NodeCounter → Kind → NodeCounter → Counting → List (Option Tree) → Type 0
 Awaits start kind now held ps = Holds start kind held ps × (now ≡ held.next)
 
--- a bare compound, and the counter in the place of its value's descriptor
+-- a single compound, and the counter in the place of its value's descriptor
 abbrev pub AwaitsDescriptor : NodeCounter → NodeCounter → Counting → Type 0
-AwaitsDescriptor start now held = Holds start kinds.Bare held [] × (now ≡ record { front = 0; under = under.Descriptor })
+AwaitsDescriptor start now held = Holds start kinds.Single held [] × (now ≡ record { descriptors = 0; pending = pending.Descriptor })

@@ -5,7 +5,7 @@ ghost use Rattle.amqp_data.specs.declared.error.Error.TheVariants.{InvalidValue,
 ghost use Rattle.amqp_ser.specs.Tree.{Tree};
 ghost use Rattle.example_nodes.specs.Nodes.{CountsNodes, fresh};
 
-use crate::under::Under;
+use crate::pending_mark::PendingMark;
 use amqp_data::Error;
 use amqp_ser::{Fixed, Kind, Mark, Serialize, Serializer};
 use std::mem;
@@ -14,9 +14,9 @@ use std::mem;
 #[derive(Clone, Copy)]
 pub struct NodeCounter {
     /// The descriptors before the next tree: each is one node more.
-    front: u64,
+    descriptors: u64,
     /// The marker that the next tree stands under.
-    under: Under,
+    pending: PendingMark,
 }
 
 /// A compound whose parts are still counted.
@@ -31,7 +31,7 @@ pub struct Counting {
     /// The nodes so far.
     count: u64,
     /// The nodes before the last part.
-    before: u64,
+    before_last: u64,
 }
 
 /// The sum of two counts.
@@ -47,8 +47,8 @@ impl NodeCounter {
         ensures { result ≡ fresh }
     {
         NodeCounter {
-            front: 0,
-            under: Under::Mark(Mark::Other),
+            descriptors: 0,
+            pending: PendingMark::Mark(Mark::Other),
         }
     }
 
@@ -63,13 +63,13 @@ impl NodeCounter {
     /// Counts one node and the descriptors before it, if a tree like it may stand here.
     fn count_one(&mut self, fits: bool) -> Result<u64, Error>
         ensures fresh { self.new ≡ fresh }
-        ensures counts { fits ≡ true → MatchResult result (λ n. n ≡ self.old.front + 1)
-            (λ e. (e ≡ TooLong) × (2 ^ 64 ≤ self.old.front + 1)) }
+        ensures counts { fits ≡ true → MatchResult result (λ n. n ≡ self.old.descriptors + 1)
+            (λ e. (e ≡ TooLong) × (2 ^ 64 ≤ self.old.descriptors + 1)) }
         ensures refuses { fits ≡ false → result ≡ Err InvalidValue }
     {
-        let front = self.take().front;
+        let descriptors = self.take().descriptors;
         if fits {
-            add(front, 1)
+            add(descriptors, 1)
         } else {
             Err(Error::InvalidValue)
         }
@@ -101,7 +101,7 @@ impl Serializer for NodeCounter {
     ghost refuses_none = { no_count_on_none };
 
     fn serialize_fixed(&mut self, fixed: Fixed) -> Result<u64, Error> {
-        self.count_one(self.under.takes_fixed(fixed))
+        self.count_one(self.pending.takes_fixed(fixed))
     }
 
     fn serialize_null(&mut self) -> Result<u64, Error> {
@@ -109,32 +109,32 @@ impl Serializer for NodeCounter {
     }
 
     fn serialize_str(&mut self, _v: &str) -> Result<u64, Error> {
-        self.count_one(self.under.takes_str())
+        self.count_one(self.pending.takes_str())
     }
 
     fn serialize_bytes(&mut self, v: &[u8]) -> Result<u64, Error> {
-        self.count_one(self.under.takes_bytes(v.len()))
+        self.count_one(self.pending.takes_bytes(v.len()))
     }
 
     /// A marked tree has as many nodes as the tree that it was, but not every tree can be marked so.
     fn mark(&mut self, mark: Mark) {
-        self.under = self.under.with(mark);
+        self.pending = self.pending.with(mark);
     }
 
-    /// What stands before a bare compound stands before its one part.
+    /// What stands before a single compound stands before its one part.
     fn begin(&mut self, kind: Kind) -> Counting {
         let start = self.take();
         let (own, next, count) = match kind {
-            Kind::Bare => (0, start, 0),
-            Kind::Fields(_) => (2, *self, start.front),
-            _ => (1, *self, start.front),
+            Kind::Single => (0, start, 0),
+            Kind::Variant(_) => (2, *self, start.descriptors),
+            _ => (1, *self, start.descriptors),
         };
         Counting {
             own,
-            fits: start.under.takes(kind),
+            fits: start.pending.takes(kind),
             next,
             count,
-            before: 0,
+            before_last: 0,
         }
     }
 
@@ -144,7 +144,7 @@ impl Serializer for NodeCounter {
             fits: false,
             next: *self,
             count: 0,
-            before: 0,
+            before_last: 0,
         }
     }
 
@@ -164,14 +164,14 @@ impl Serializer for NodeCounter {
     {
         let nodes = part?;
         let count = add(held.count, nodes)?;
-        held.before = held.count;
+        held.before_last = held.count;
         held.count = count;
         held.next = NodeCounter::new();
         Ok(())
     }
 
     fn undo_part(&mut self, held: &mut Counting) {
-        held.count = held.before;
+        held.count = held.before_last;
     }
 
     fn misuse(&mut self, _held: &mut Counting) -> Error {
@@ -179,17 +179,17 @@ impl Serializer for NodeCounter {
     }
 
     fn begin_descriptor(&mut self, _held: &mut Counting) {
-        self.under = Under::Descriptor;
+        self.pending = PendingMark::Descriptor;
     }
 
     fn end_descriptor(&mut self, held: &mut Counting, part: Result<u64, Error>) -> Result<(), Error>
         ensures step { (start before : NodeCounter) (d : Option Tree) →
             AwaitsDescriptor start before held.old → Permits before d part self.old →
             MatchResult result
-            (λ _. (mid : NodeCounter) × (Has mid Kind.Bare self.new held.new [] ×
+            (λ _. (mid : NodeCounter) × (Has mid Kind.Single self.new held.new [] ×
             ((t : Option Tree) (r : Result ℕ Error) (after : NodeCounter) →
             Permits mid t r after → Permits start (as_described (descriptor_of d) t) r after)))
-            (λ e. Has start Kind.Bare self.new held.new [] ×
+            (λ e. Has start Kind.Single self.new held.new [] ×
             ((t : Option Tree) →
             Permits start (as_described (descriptor_of d) t) (Err e) self.new)) }
         ensures refused { IfErr part (λ _. IsErr result) }
@@ -198,8 +198,8 @@ impl Serializer for NodeCounter {
             descriptor_of d ≡ None → IsErr result }
     {
         part?;
-        held.next.front = add(held.next.front, 1)?;
-        held.next.under = held.next.under.with_descriptor();
+        held.next.descriptors = add(held.next.descriptors, 1)?;
+        held.next.pending = held.next.pending.with_descriptor();
         Ok(())
     }
 

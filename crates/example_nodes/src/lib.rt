@@ -5,11 +5,11 @@
 #![tactic(auto)]
 
 mod counter;
+mod pending_mark;
 mod reading;
 #[cfg(test)]
 mod tests;
-mod under;
 
 pub use counter::{Counting, NodeCounter, count_nodes};
+pub use pending_mark::PendingMark;
 pub use reading::Reading;
-pub use under::Under;

@@ -16,7 +16,7 @@ use Rattle.example_reading.specs.declared.sky.Sky.TheVariants as sky
 -- an index alone, or the variant of one value, or of a list
 abbrev pub of_sky : Sky → Option Tree
 of_sky sky.Clear = of_u32 0
-of_sky (sky.Cloudy eighths) = whole (kind.Only 1) (of_u8 eighths ∷ [])
+of_sky (sky.Cloudy eighths) = whole (kind.NewtypeVariant 1) (of_u8 eighths ∷ [])
 of_sky (sky.Windy speed from) = variant_of 2 (of_u16 speed ∷ of_u16 from ∷ [])
 of_sky (sky.Storm name until) = variant_of 3 (of_string name ∷ optional of_u32 until ∷ [])
 

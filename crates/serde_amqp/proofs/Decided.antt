@@ -5,39 +5,39 @@ use Rattle.std.specs.List.{AllByRecursion, concat}
 use Rattle.amqp_data.specs.declared.error.Error.{Error}
 use Rattle.amqp_data.specs.declared.error.Error.TheVariants.{OutOfMemory, TooLong, InvalidValue, InvalidFormatCode, UnexpectedEof, Io, Message}
 use Rattle.amqp_frame.specs.Cut.{IsCut}
-use Rattle.amqp_frame.specs.Frame.{IsFrame, IsBeginning, HasFrame, HasBroken, ExactlyOne}
+use Rattle.amqp_frame.specs.Frame.{IsFrame, IsIncomplete, HasFrame, HasMalformed, ExactlyOne}
 use Rattle.serde_amqp.specs.CutRun.{Prints, PrintsMost, IsCutShort, CutRefuses, CutDecidedBy}
 
-module _ (one_case : (s : List ℕ) → ExactlyOne (HasFrame s) (HasBroken s) (IsBeginning s)) where
-  whole-beginning : (s : List ℕ) → HasBroken s → ¬ IsBeginning s
-  whole-beginning s broken begins =
-      elim (one_case s) [ inl a ↦ a.1 broken | inr (inl b) ↦ b.2 begins | inr (inr c) ↦ c.1 broken ]
+module _ (one_case : (s : List ℕ) → ExactlyOne (HasFrame s) (HasMalformed s) (IsIncomplete s)) where
+  whole-incomplete : (s : List ℕ) → HasMalformed s → ¬ IsIncomplete s
+  whole-incomplete s malformed begins =
+      elim (one_case s) [ inl a ↦ a.1 malformed | inr (inl b) ↦ b.2 begins | inr (inr c) ↦ c.1 malformed ]
 
-  nothing-broken : (s : List ℕ) → HasBroken s → s ≢ []
-  nothing-broken s broken none = whole-beginning s broken (rw none IsBeginning.nothing)
+  nothing-malformed : (s : List ℕ) → HasMalformed s → s ≢ []
+  nothing-malformed s malformed none = whole-incomplete s malformed (rw none IsIncomplete.nothing)
 
   -- the three answers that a rest may ask for
   abbrev asks : {T : Type 0} → Result T Error → List ℕ → Type 0
-  asks r rest = (IsOk r ↔ (rest ≡ [])) × (IsErrOf r InvalidFormatCode ↔ HasBroken rest) × (IsErrOf r UnexpectedEof ↔ IsCutShort rest)
+  asks r rest = (IsOk r ↔ (rest ≡ [])) × (IsErrOf r InvalidFormatCode ↔ HasMalformed rest) × (IsErrOf r UnexpectedEof ↔ IsCutShort rest)
 
   asks-ok : {T : Type 0} (x : T) (rest : List ℕ) → rest ≡ [] → asks (Ok x) rest
   asks-ok x rest over = (
     ((λ h. over), (λ h. refl)),
-    ((λ h. absurd (cc)), (λ h. absurd (nothing-broken rest h over))),
+    ((λ h. absurd (cc)), (λ h. absurd (nothing-malformed rest h over))),
     ((λ h. absurd (cc)), (λ h. absurd (h.0 over))),
   )
 
-  asks-broken : (T : Type 0) (rest : List ℕ) → HasBroken rest → asks {T = T} (Err InvalidFormatCode) rest
-  asks-broken T rest broken = (
-    ((λ h. absurd (false≢true h)), (λ h. absurd (nothing-broken rest broken h))),
-    ((λ h. broken), (λ h. refl)),
-    ((λ h. absurd (cc)), (λ h. absurd (whole-beginning rest broken h.1))),
+  asks-malformed : (T : Type 0) (rest : List ℕ) → HasMalformed rest → asks {T = T} (Err InvalidFormatCode) rest
+  asks-malformed T rest malformed = (
+    ((λ h. absurd (false≢true h)), (λ h. absurd (nothing-malformed rest malformed h))),
+    ((λ h. malformed), (λ h. refl)),
+    ((λ h. absurd (cc)), (λ h. absurd (whole-incomplete rest malformed h.1))),
   )
 
   asks-short : (T : Type 0) (rest : List ℕ) → IsCutShort rest → asks {T = T} (Err UnexpectedEof) rest
   asks-short T rest short = (
     ((λ h. absurd (false≢true h)), (λ h. absurd (short.0 h))),
-    ((λ h. absurd (cc)), (λ h. absurd (whole-beginning rest h short.1))),
+    ((λ h. absurd (cc)), (λ h. absurd (whole-incomplete rest h short.1))),
     ((λ h. short), (λ h. refl)),
   )
 
@@ -60,14 +60,14 @@ module _ (some_byte : (frame : List ℕ) → IsFrame frame → 0 < length frame)
       let left = some-left rest more in
       omega (arith, ap length whole, length-append (concat frames) rest)
 
-module _ (one_case : (s : List ℕ) → ExactlyOne (HasFrame s) (HasBroken s) (IsBeginning s)) (one_cut : (s rest last : List ℕ) (frames others : List (List ℕ)) → IsCut s frames rest → IsCut s others last → (frames ≡ others) × (rest ≡ last)) (some_byte : (frame : List ℕ) → IsFrame frame → 0 < length frame) where
+module _ (one_case : (s : List ℕ) → ExactlyOne (HasFrame s) (HasMalformed s) (IsIncomplete s)) (one_cut : (s rest last : List ℕ) (frames others : List (List ℕ)) → IsCut s frames rest → IsCut s others last → (frames ≡ others) × (rest ≡ last)) (some_byte : (frame : List ℕ) → IsFrame frame → 0 < length frame) where
   same-rest : (s : List ℕ) (w u : Option (List ℕ)) (P : List ℕ → Type 0) (frames : List (List ℕ)) (rest : List ℕ) → IsCut s frames rest → Prints s w u P → P rest
   same-rest s w u P frames rest c (others, last, d, put, here) = subst P (one_cut s last rest others frames d c).1 here
 
   pub run-decided : {T : Type 0} (r : Result T Error) (a w u : Option (List ℕ)) → OnOk r (IfSome a (λ s. Prints s w u (λ rest. rest ≡ []))) → IfErr r (λ e. IfSome a (λ s. CutRefuses s w u e)) → IfSome a (λ s. CutDecidedBy s r)
   run-decided r None w u ok err = tt
   run-decided (Ok x) (Some s) w u ok err = λ frames rest c. inr (inr (inr (asks-ok one_case x rest (same-rest s w u (λ l. l ≡ []) frames rest c ok))))
-  run-decided {T} (Err InvalidFormatCode) (Some s) w u ok err = λ frames rest c. inr (inr (inr (asks-broken one_case T rest (same-rest s w u HasBroken frames rest c err))))
+  run-decided {T} (Err InvalidFormatCode) (Some s) w u ok err = λ frames rest c. inr (inr (inr (asks-malformed one_case T rest (same-rest s w u HasMalformed frames rest c err))))
   run-decided {T} (Err UnexpectedEof) (Some s) w u ok err = λ frames rest c. inr (inr (inr (asks-short one_case T rest (same-rest s w u IsCutShort frames rest c err))))
   run-decided (Err OutOfMemory) (Some s) w u ok err = λ frames rest c. inl refl
   run-decided (Err Io) (Some s) w u ok err = λ frames rest c. inr (inl refl)

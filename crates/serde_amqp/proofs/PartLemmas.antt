@@ -26,9 +26,9 @@ one-part (b ∷ part) =
 
 more-parts : (part next : List ℕ) (more lines : List (List ℕ)) → Joins lines (next ∷ more) → Joins (part ∷ lines) (part ∷ next ∷ more)
 more-parts part next more lines (inl e) = inl (append_assoc part (10 ∷ []) (ended lines) ∙ ap (λ l. part ++ 10 ∷ l) e)
-more-parts part next more lines (inr (e, (front, last, is, full))) = inr (
+more-parts part next more lines (inr (e, (prefix, last, is, full))) = inr (
   append_assoc part (10 ∷ []) (ended lines) ∙ ap (λ l. part ++ 10 ∷ l) e ∙ sym (append_assoc part (10 ∷ join_with_byte 10 (next ∷ more)) (10 ∷ [])),
-  (part ∷ front, last, ap (λ l. part ∷ l) is, full),
+  (part ∷ prefix, last, ap (λ l. part ∷ l) is, full),
 )
 
 joins : (part : List ℕ) (parts : List (List ℕ)) → Joins (without_empty_last (part ∷ parts)) (part ∷ parts)
@@ -36,13 +36,13 @@ joins part [] = one-part part
 joins part (next ∷ more) = more-parts part next more (without_empty_last (next ∷ more)) (joins next more)
 
 -- no part has the byte at which the text was cut
-front-within : (x : ℕ) → x ≢ 10 → (parts : List (List ℕ)) → AllByRecursion Text parts → AllByRecursion Text (onto_first x parts)
-front-within x other [] each = ((other, tt), tt)
-front-within x other (part ∷ parts) each = ((other, each.0), each.1)
+prefix-within : (x : ℕ) → x ≢ 10 → (parts : List (List ℕ)) → AllByRecursion Text parts → AllByRecursion Text (onto_first x parts)
+prefix-within x other [] each = ((other, tt), tt)
+prefix-within x other (part ∷ parts) each = ((other, each.0), each.1)
 
 cut-within : (x : ℕ) (s : List ℕ) (b : Bool) → (x == 10) ≡ b → AllByRecursion Text (slice_split (λ b. b == 10) s) → AllByRecursion Text (slice_split (λ b. b == 10) (x ∷ s))
 cut-within x s true is each = rw (slice_split-cons_yes (λ b. b == 10) x s is) (tt, each)
-cut-within x s false is each = rw (slice_split-cons_no (λ b. b == 10) x s is) (front-within x (other-byte x is) (slice_split (λ b. b == 10) s) each)
+cut-within x s false is each = rw (slice_split-cons_no (λ b. b == 10) x s is) (prefix-within x (other-byte x is) (slice_split (λ b. b == 10) s) each)
 
 split-within : (s : List ℕ) → AllByRecursion Text (slice_split (λ b. b == 10) s)
 split-within [] = (tt, tt)

@@ -10,11 +10,11 @@ use Rattle.std.proofs.KnownBytes.{Consumes-trans, Appends-trans, Appends-kept}
 use Rattle.amqp_data.specs.declared.error.Error.{Error}
 use Rattle.amqp_data.specs.declared.error.Error.TheVariants.{OutOfMemory, TooLong, InvalidValue, InvalidFormatCode, UnexpectedEof, Io, Message}
 use Rattle.amqp_frame.specs.Cut.{IsCut}
-use Rattle.amqp_frame.specs.Frame.{IsFrame, HasFrame, HasBroken}
+use Rattle.amqp_frame.specs.Frame.{IsFrame, HasFrame, HasMalformed}
 use Rattle.amqp_frame.specs.Reader.{Failed}
-use Rattle.serde_amqp.specs.Writer.{TakesFront}
+use Rattle.serde_amqp.specs.Writer.{TakesPrefix}
 use Rattle.serde_amqp.specs.CutLines.{cut_line, cut_lines}
-use Rattle.serde_amqp.specs.CutRun.{Prints, PrintsFront, IsCutShort, CutRefuses}
+use Rattle.serde_amqp.specs.CutRun.{Prints, PrintsPrefix, IsCutShort, CutRefuses}
 use Rattle.serde_amqp.specs.CutSteps.{PrintsNext, StopsInLine, StepRefuses}
 
 -- so many encoded values were taken, and their lines were put
@@ -51,7 +51,7 @@ pub run-ends : ((f : List ℕ) → IsFrame f → 0 < length f) → (a b w v u : 
 run-ends some_byte None b w v u n p over kept = tt
 run-ends some_byte (Some s) None w v u n p over kept = absurd p.3
 run-ends some_byte (Some s) (Some x) w v u n (frames, size, each, read, put) over kept =
-    (frames, [], record { whole = read ∙ ap (λ l. concat frames ++ l) over; each = each; over = none-in-nothing some_byte }, Appends-kept w v u _ put kept, refl)
+    (frames, [], record { whole = read ∙ ap (λ l. concat frames ++ l) over; each = each; no_frame = none-in-nothing some_byte }, Appends-kept w v u _ put kept, refl)
 
 -- all was taken then
 pub run-reads : (a b c w v : Option (List ℕ)) (n : ℕ) → Progress a b w v n → IsAtEnd b → Keeps b c → IfSome a (λ _. IsAtEnd c)
@@ -62,15 +62,15 @@ run-reads (Some s) (Some x) (Some y) w v n p over kept = kept ∙ over
 
 -- a step refused, over a string that has a cut
 module _ (some_cut : (s : List ℕ) → (frames : List (List ℕ)) × (rest : List ℕ) × IsCut s frames rest) where
-  stops-between : (s t : List ℕ) (w v u : Option (List ℕ)) (n : ℕ) → Progress (Some s) (Some t) w v n → Keeps v u → PrintsFront s w u
+  stops-between : (s t : List ℕ) (w v u : Option (List ℕ)) (n : ℕ) → Progress (Some s) (Some t) w v n → Keeps v u → PrintsPrefix s w u
   stops-between s t w v u n (frames, size, each, read, put) kept =
       let more = some_cut t in
       let c = more.2 in
       let whole : s ≡ concat (frames ++ more.0) ++ more.1 = read ∙ ap (λ l. concat frames ++ l) c.whole ∙ sym (append_assoc (concat frames) (concat more.0) more.1) ∙ ap (λ l. l ++ more.1) (sym (concat-append frames more.0)) in
       let text : cut_lines frames ≡ take (length (cut_lines frames)) (cut_lines (frames ++ more.0)) = sym (take-append_seam (cut_lines frames) (cut_lines more.0)) ∙ ap (take (length (cut_lines frames))) (sym (flat_map-append cut_line frames more.0)) in
-      (frames ++ more.0, more.1, record { whole = whole; each = all-append frames more.0 each c.each; over = c.over }, (length (cut_lines frames), subst (Appends w u) text (Appends-kept w v u _ put kept)))
+      (frames ++ more.0, more.1, record { whole = whole; each = all-append frames more.0 each c.each; no_frame = c.no_frame }, (length (cut_lines frames), subst (Appends w u) text (Appends-kept w v u _ put kept)))
 
-  stops-in-line : (s t : List ℕ) (w v u : Option (List ℕ)) (n : ℕ) (f r : List ℕ) → Progress (Some s) (Some t) w v n → IsFrame f → t ≡ f ++ r → TakesFront v u (cut_line f) → PrintsFront s w u
+  stops-in-line : (s t : List ℕ) (w v u : Option (List ℕ)) (n : ℕ) (f r : List ℕ) → Progress (Some s) (Some t) w v n → IsFrame f → t ≡ f ++ r → TakesPrefix v u (cut_line f) → PrintsPrefix s w u
   stops-in-line s t w v u n f r (frames, size, each, read, put) h e (k, line) =
       let more = some_cut r in
       let c = more.2 in
@@ -81,19 +81,19 @@ module _ (some_cut : (s : List ℕ) → (frames : List (List ℕ)) × (rest : Li
       let m = min k (length own) in
       let part : take m (own ++ cut_lines more.0) ≡ take k own = take-append-le m own (cut_lines more.0) (omega arith) ∙ take_min k own in
       let text : cut_lines frames ++ take k own ≡ take (length (cut_lines frames) + m) (cut_lines (frames ++ all)) = ap (λ l. cut_lines frames ++ l) (sym part) ∙ sym (take-append-add (cut_lines frames) (cut_lines all) m) ∙ ap (take (length (cut_lines frames) + m)) (sym (flat_map-append cut_line frames all)) in
-      (frames ++ all, more.1, record { whole = whole; each = all-append frames all each (h, c.each); over = c.over }, (length (cut_lines frames) + m, subst (Appends w u) text (Appends-trans w v u _ _ put line)))
+      (frames ++ all, more.1, record { whole = whole; each = all-append frames all each (h, c.each); no_frame = c.no_frame }, (length (cut_lines frames) + m, subst (Appends w u) text (Appends-trans w v u _ _ put line)))
 
-  stops : (s t : List ℕ) (w v u : Option (List ℕ)) (n : ℕ) → Progress (Some s) (Some t) w v n → StopsInLine t v u → PrintsFront s w u
+  stops : (s t : List ℕ) (w v u : Option (List ℕ)) (n : ℕ) → Progress (Some s) (Some t) w v n → StopsInLine t v u → PrintsPrefix s w u
   stops s t w v u n p (inl kept) = stops-between s t w v u n p kept
   stops s t w v u n p (inr (f, r, h, e, line)) = stops-in-line s t w v u n f r p h e line
 
   at-rest : (s t : List ℕ) (w v u : Option (List ℕ)) (n : ℕ) (P : List ℕ → Type 0) → Progress (Some s) (Some t) w v n → Keeps v u → ¬ HasFrame t → P t → Prints s w u P
   at-rest s t w v u n P (frames, size, each, read, put) kept over here =
-      (frames, t, record { whole = read; each = each; over = over }, Appends-kept w v u _ put kept, here)
+      (frames, t, record { whole = read; each = each; no_frame = over }, Appends-kept w v u _ put kept, here)
 
   step-refused : (s t : List ℕ) (w v u : Option (List ℕ)) (n : ℕ) (e : Error) → Progress (Some s) (Some t) w v n → StepRefuses t v u e → CutRefuses s w u e
   step-refused s t w v u n OutOfMemory p h = stops s t w v u n p h
-  step-refused s t w v u n InvalidFormatCode p h = at-rest s t w v u n HasBroken p h.2 h.1 h.0
+  step-refused s t w v u n InvalidFormatCode p h = at-rest s t w v u n HasMalformed p h.2 h.1 h.0
   step-refused s t w v u n UnexpectedEof p h = at-rest s t w v u n IsCutShort p h.2 h.1 h.0
   step-refused s t w v u n Io p h = stops s t w v u n p h
   step-refused s t w v u n TooLong p h = absurd h

@@ -6,8 +6,8 @@ use Rattle.std.proofs.KnownBytes.{Keeps-refl}
 use Rattle.amqp_data.specs.declared.error.Error.{Error}
 use Rattle.amqp_data.specs.declared.error.Error.TheVariants.{OutOfMemory, TooLong, InvalidValue, InvalidFormatCode, UnexpectedEof, Io, Message}
 use Rattle.amqp_frame.specs.Frame.{IsFrame, HasFrame}
-use Rattle.amqp_frame.specs.Taking.{TakesBeginning, TakesBroken, Refuses, DecidedBy}
-use Rattle.serde_amqp.specs.Writer.{TakesFront}
+use Rattle.amqp_frame.specs.Taking.{TakesIncomplete, TakesMalformed, FrameRefuses, DecidedBy}
+use Rattle.serde_amqp.specs.Writer.{TakesPrefix}
 use Rattle.serde_amqp.specs.CutLines.{cut_line}
 use Rattle.serde_amqp.specs.CutSteps.{StopsInLine, StepRefuses}
 
@@ -22,7 +22,7 @@ some-byte s o some first none =
     let no : false ≡ true = sym (ap is_some gone) ∙ some in
     false≢true no
 
-frame-refused-at : (T : Type 0) (s : List ℕ) (c : Option (List ℕ)) (f g : ℕ) (w : Option (List ℕ)) (e : Error) → s ≢ [] → DecidedBy {T = T} s (Err e) → Refuses (Some s) c f g (TakesBeginning (Some s) c) (TakesBroken (Some s) c) e → StepRefuses s w w e
+frame-refused-at : (T : Type 0) (s : List ℕ) (c : Option (List ℕ)) (f g : ℕ) (w : Option (List ℕ)) (e : Error) → s ≢ [] → DecidedBy {T = T} s (Err e) → FrameRefuses (Some s) c f g (TakesIncomplete (Some s) c) (TakesMalformed (Some s) c) e → StepRefuses s w w e
 frame-refused-at T s c f g w OutOfMemory some d h = inl (Keeps-refl w)
 frame-refused-at T s None f g w InvalidFormatCode some d h = absurd h.2
 frame-refused-at T s (Some x) f g w InvalidFormatCode some d h =
@@ -35,7 +35,7 @@ frame-refused-at T s c f g w InvalidValue some d h = h
 frame-refused-at T s c f g w (Message words) some d h = h
 
 -- no encoded value came after a byte was seen
-pub frame-refused : (T : Type 0) (a b c : Option (List ℕ)) (f g : ℕ) (w : Option (List ℕ)) (o : Option ℕ) (e : Error) → is_some o ≡ true → IfSome a (λ s. o ≡ slice_get s 0) → Keeps a b → IfSome b (λ s. DecidedBy {T = T} s (Err e)) → Refuses b c f g (TakesBeginning b c) (TakesBroken b c) e → IfSome a (λ s. StepRefuses s w w e)
+pub frame-refused : (T : Type 0) (a b c : Option (List ℕ)) (f g : ℕ) (w : Option (List ℕ)) (o : Option ℕ) (e : Error) → is_some o ≡ true → IfSome a (λ s. o ≡ slice_get s 0) → Keeps a b → IfSome b (λ s. DecidedBy {T = T} s (Err e)) → FrameRefuses b c f g (TakesIncomplete b c) (TakesMalformed b c) e → IfSome a (λ s. StepRefuses s w w e)
 frame-refused T None b c f g w o e some first kept d h = tt
 frame-refused T (Some s) None c f g w o e some first kept d h = absurd kept
 frame-refused T (Some s) (Some t) c f g w o e some first kept d h =
@@ -43,7 +43,7 @@ frame-refused T (Some s) (Some t) c f g w o e some first kept d h =
     subst P kept (frame-refused-at T t c f g w e (λ none. some-byte s o some first (sym kept ∙ none)) d h)
 
 -- the line of an encoded value was not put whole
-pub put-refused : (a b c w v : Option (List ℕ)) (frame line : List ℕ) (e : Error) → Keeps a b → IsFrame frame → Consumes b c frame → line ≡ cut_line frame → TakesFront w v line → (e ≡ OutOfMemory) ⊎ (e ≡ Io) → IfSome a (λ s. StepRefuses s w v e)
+pub put-refused : (a b c w v : Option (List ℕ)) (frame line : List ℕ) (e : Error) → Keeps a b → IsFrame frame → Consumes b c frame → line ≡ cut_line frame → TakesPrefix w v line → (e ≡ OutOfMemory) ⊎ (e ≡ Io) → IfSome a (λ s. StepRefuses s w v e)
 put-refused None b c w v frame line e kept h t is put why = tt
 put-refused (Some s) None c w v frame line e kept h t is put why = absurd kept
 put-refused (Some s) (Some x) None w v frame line e kept h t is put why = absurd t

@@ -3,12 +3,12 @@ use Rattle.std.proofs.Common.{◌≡◌, ℕ, ◌⊎◌, inl, inr, ◌&&◌, Lis
 use Rattle.amqp_data.specs.declared.error.Error.{Error}
 use Rattle.amqp_data.specs.declared.error.Error.TheVariants.{OutOfMemory, TooLong, InvalidValue, InvalidFormatCode, UnexpectedEof, Io, Message}
 use Rattle.amqp_ser.specs.Tree.{string, Tree, Trees, scalar, trees_of}
-use Rattle.amqp_ser.specs.Compounds.{all_trees, before, as_kind, whole}
+use Rattle.amqp_ser.specs.Compounds.{all_trees, prepend, as_kind, whole}
 use Rattle.amqp_ser.specs.declared.kind.Kind.TheVariants as kind
-use Rattle.amqp_ser.specs.Encoding.{enc}
-use Rattle.amqp_ser.specs.Writable.{alike, alike_each, inside_each, placed, writable}
-use Rattle.amqp_ser.specs.Permitted.{IsSizeOf, AreBytesOf}
-use Rattle.amqp_to_value.specs.Permitted.{IsImageOf}
+use Rattle.amqp_ser.specs.Encoding.{encoding}
+use Rattle.amqp_ser.specs.Writable.{uniform_arrays, uniform_arrays_each, inside_each, placed, writable}
+use Rattle.amqp_ser.specs.SizeAndBytes.{IsSizeOf, AreBytesOf}
+use Rattle.amqp_to_value.specs.ImageOf.{IsImageOf}
 use Rattle.amqp_value.specs.declared.value.Value.{Value}
 use Rattle.amqp_value.specs.Image.{image}
 use Rattle.amqp_value.specs.Text.{text_of}
@@ -20,7 +20,7 @@ string_trees lines = trees_of (map (λ line. scalar (string line)) lines)
 
 all-strings : (items : List (Bor (List ℕ))) → all_trees (map (λ s. Some (scalar (string s.now))) items) ≡ Some (string_trees (texts items))
 all-strings [] = refl
-all-strings (x ∷ items) = ap (before (Some (scalar (string x.now)))) (all-strings items)
+all-strings (x ∷ items) = ap (prepend (Some (scalar (string x.now)))) (all-strings items)
 
 -- the tree of a vector of strings
 abbrev pub vector_tree : List (Bor (List ℕ)) → Option Tree
@@ -31,24 +31,24 @@ pub strings-whole : (items : List (Bor (List ℕ))) → vector_tree items ≡ So
 unfolding whole strings_tree
 strings-whole items = ap (as_kind kind.List) (all-strings items)
 
-each-alike : (lines : List (List ℕ)) → alike_each (string_trees lines) ≡ true
-each-alike [] = refl
-each-alike (line ∷ lines) = each-alike lines
+each-uniform_arrays : (lines : List (List ℕ)) → uniform_arrays_each (string_trees lines) ≡ true
+each-uniform_arrays [] = refl
+each-uniform_arrays (line ∷ lines) = each-uniform_arrays lines
 
 each-inside : (lines : List (List ℕ)) → inside_each (string_trees lines) ≡ true
 each-inside [] = refl
 each-inside (line ∷ lines) = each-inside lines
 
-strings-fair : (lines : List (List ℕ)) → (alike (strings_tree lines) && placed (strings_tree lines)) ≡ true
+strings-fair : (lines : List (List ℕ)) → (uniform_arrays (strings_tree lines) && placed (strings_tree lines)) ≡ true
 unfolding strings_tree
-strings-fair lines = ap (λ b. b && inside_each (string_trees lines)) (each-alike lines) ∙ each-inside lines
+strings-fair lines = ap (λ b. b && inside_each (string_trees lines)) (each-uniform_arrays lines) ∙ each-inside lines
 
 -- the only refusals, and when each comes
 abbrev pub RefusesReport : List (Bor (List ℕ)) → Error → Type 0
 RefusesReport items e = ((e ≡ TooLong) ⊎ (e ≡ OutOfMemory)) × (e ≡ TooLong → writable (strings_tree (texts items)) ≡ false)
 
 size-refused-at : (items : List (Bor (List ℕ))) (e : Error) → IsSizeOf (Some (strings_tree (texts items))) (Err e) → RefusesReport items e
-size-refused-at items TooLong h = (inl refl, λ k. ap (λ b. b && (alike (strings_tree (texts items)) && placed (strings_tree (texts items)))) h)
+size-refused-at items TooLong h = (inl refl, λ k. ap (λ b. b && (uniform_arrays (strings_tree (texts items)) && placed (strings_tree (texts items)))) h)
 size-refused-at items InvalidValue h = absurd (cc (strings-fair (texts items)))
 size-refused-at items OutOfMemory h = absurd h
 size-refused-at items InvalidFormatCode h = absurd h
@@ -61,7 +61,7 @@ pub size-refused : (items : List (Bor (List ℕ))) (e : Error) → IsSizeOf (vec
 size-refused items e h = size-refused-at items e (subst (λ t. IsSizeOf t (Err e)) (strings-whole items) h)
 
 bytes-refused-at : (items : List (Bor (List ℕ))) (e : Error) → AreBytesOf (Some (strings_tree (texts items))) (Err e) → RefusesReport items e
-bytes-refused-at items TooLong h = (inl refl, λ k. ap (λ b. b && (alike (strings_tree (texts items)) && placed (strings_tree (texts items)))) h)
+bytes-refused-at items TooLong h = (inl refl, λ k. ap (λ b. b && (uniform_arrays (strings_tree (texts items)) && placed (strings_tree (texts items)))) h)
 bytes-refused-at items InvalidValue h = absurd (cc (strings-fair (texts items)))
 bytes-refused-at items OutOfMemory h = (inr refl, λ k. absurd (cc))
 bytes-refused-at items InvalidFormatCode h = absurd h
@@ -89,11 +89,11 @@ value-refused items e h = value-refused-at items e (subst (λ t. IsImageOf t (Er
 -- what is printed of a length, bytes and a value
 pub reported : (items : List (Bor (List ℕ))) (size : ℕ) (bytes : List ℕ) (value : Value) → IsSizeOf (vector_tree items) (Ok size) → AreBytesOf (vector_tree items) (Ok bytes) → IsImageOf (vector_tree items) (Ok value) → (writable (strings_tree (texts items)) ≡ true) × (three_lines size bytes (text_of (tree_of value)) ≡ report (strings_tree (texts items)))
 reported items size bytes value s b v =
-    let size_is : (writable (strings_tree (texts items)) ≡ true) × (size ≡ length (enc (strings_tree (texts items)))) = subst (λ t. IsSizeOf t (Ok size)) (strings-whole items) s in
-    let bytes_are : (writable (strings_tree (texts items)) ≡ true) × (bytes ≡ enc (strings_tree (texts items))) = subst (λ t. AreBytesOf t (Ok bytes)) (strings-whole items) b in
+    let size_is : (writable (strings_tree (texts items)) ≡ true) × (size ≡ length (encoding (strings_tree (texts items)))) = subst (λ t. IsSizeOf t (Ok size)) (strings-whole items) s in
+    let bytes_are : (writable (strings_tree (texts items)) ≡ true) × (bytes ≡ encoding (strings_tree (texts items))) = subst (λ t. AreBytesOf t (Ok bytes)) (strings-whole items) b in
     let value_is : tree_of value ≡ image (strings_tree (texts items)) = subst (λ t. IsImageOf t (Ok value)) (strings-whole items) v in (
       size_is.0,
       ap (λ n. three_lines n bytes (text_of (tree_of value))) size_is.1
-          ∙ (ap (λ l. three_lines (length (enc (strings_tree (texts items)))) l (text_of (tree_of value))) bytes_are.1
-          ∙ ap (λ t. three_lines (length (enc (strings_tree (texts items)))) (enc (strings_tree (texts items))) (text_of t)) value_is),
+          ∙ (ap (λ l. three_lines (length (encoding (strings_tree (texts items)))) l (text_of (tree_of value))) bytes_are.1
+          ∙ ap (λ t. three_lines (length (encoding (strings_tree (texts items)))) (encoding (strings_tree (texts items))) (text_of t)) value_is),
     )

@@ -5,8 +5,8 @@ use Rattle.std.specs.Io.KnownBytes.{Appends}
 use Rattle.amqp_data.specs.declared.error.Error.{Error}
 use Rattle.amqp_data.specs.declared.error.Error.TheVariants.{OutOfMemory, TooLong, InvalidValue, InvalidFormatCode, UnexpectedEof, Io, Message}
 use Rattle.amqp_frame.specs.Cut.{IsCut}
-use Rattle.amqp_frame.specs.Frame.{IsFrame, IsBeginning, HasBroken}
-use Rattle.serde_amqp.specs.Writer.{TakesFront}
+use Rattle.amqp_frame.specs.Frame.{IsFrame, IsIncomplete, HasMalformed}
+use Rattle.serde_amqp.specs.Writer.{TakesPrefix}
 use Rattle.serde_amqp.specs.CutLines.{cut_lines}
 
 -- the lines of all values of the cut were put, and P holds of its rest
@@ -14,8 +14,8 @@ abbrev pub Prints : List ℕ → Option (List ℕ) → Option (List ℕ) → (Li
 Prints s old new P = (frames : List (List ℕ)) × (rest : List ℕ) × IsCut s frames rest × Appends old new (cut_lines frames) × P rest
 
 -- a prefix of the lines of the cut was put
-abbrev pub PrintsFront : List ℕ → Option (List ℕ) → Option (List ℕ) → Type 0
-PrintsFront s old new = (frames : List (List ℕ)) × (rest : List ℕ) × IsCut s frames rest × TakesFront old new (cut_lines frames)
+abbrev pub PrintsPrefix : List ℕ → Option (List ℕ) → Option (List ℕ) → Type 0
+PrintsPrefix s old new = (frames : List (List ℕ)) × (rest : List ℕ) × IsCut s frames rest × TakesPrefix old new (cut_lines frames)
 
 -- the lines of as many values as a run may take were put, and more bytes follow them
 abbrev pub PrintsMost : List ℕ → Option (List ℕ) → Option (List ℕ) → Type 0
@@ -25,15 +25,15 @@ PrintsMost s old new =
 
 -- an incomplete value that has a byte at least
 abbrev pub IsCutShort : List ℕ → Type 0
-IsCutShort rest = (rest ≢ []) × IsBeginning rest
+IsCutShort rest = (rest ≢ []) × IsIncomplete rest
 
 -- what was put at each refusal
 abbrev pub CutRefuses : List ℕ → Option (List ℕ) → Option (List ℕ) → Error → Type 0
-CutRefuses s old new OutOfMemory = PrintsFront s old new
+CutRefuses s old new OutOfMemory = PrintsPrefix s old new
 CutRefuses s old new TooLong = PrintsMost s old new
-CutRefuses s old new InvalidFormatCode = Prints s old new HasBroken
+CutRefuses s old new InvalidFormatCode = Prints s old new HasMalformed
 CutRefuses s old new UnexpectedEof = Prints s old new IsCutShort
-CutRefuses s old new Io = PrintsFront s old new
+CutRefuses s old new Io = PrintsPrefix s old new
 CutRefuses s old new InvalidValue = ⊥
 CutRefuses s old new (Message words) = ⊥
 
@@ -42,4 +42,4 @@ abbrev pub CutDecidedBy : {T : Type 0} → List ℕ → Result T Error → Type 
 CutDecidedBy s r =
     (frames : List (List ℕ)) (rest : List ℕ) → IsCut s frames rest
     → IsErrOf r OutOfMemory ⊎ (IsErrOf r Io ⊎ ((IsErrOf r TooLong × (2 ^ 64 ≤ length s)) ⊎ ((IsOk r ↔ (rest ≡ []))
-    × (IsErrOf r InvalidFormatCode ↔ HasBroken rest) × (IsErrOf r UnexpectedEof ↔ IsCutShort rest))))
+    × (IsErrOf r InvalidFormatCode ↔ HasMalformed rest) × (IsErrOf r UnexpectedEof ↔ IsCutShort rest))))

@@ -3,8 +3,8 @@ use Rattle.std.specs.Prelude.{◌≡◌, ℕ, ◌⊎◌, List, ◌++◌, Option}
 use Rattle.std.specs.Io.KnownBytes.{Keeps, Consumes, Appends}
 use Rattle.amqp_data.specs.declared.error.Error.{Error}
 use Rattle.amqp_data.specs.declared.error.Error.TheVariants.{OutOfMemory, TooLong, InvalidValue, InvalidFormatCode, UnexpectedEof, Io, Message}
-use Rattle.amqp_frame.specs.Frame.{IsFrame, HasFrame, HasBroken}
-use Rattle.serde_amqp.specs.Writer.{TakesFront}
+use Rattle.amqp_frame.specs.Frame.{IsFrame, HasFrame, HasMalformed}
+use Rattle.serde_amqp.specs.Writer.{TakesPrefix}
 use Rattle.serde_amqp.specs.CutLines.{cut_line}
 use Rattle.serde_amqp.specs.CutRun.{IsCutShort}
 
@@ -15,12 +15,12 @@ PrintsNext old new before after = (frame : List ℕ) × IsFrame frame × Consume
 -- a step at s stopped before its line was put, or in it
 abbrev pub StopsInLine : List ℕ → Option (List ℕ) → Option (List ℕ) → Type 0
 StopsInLine s before after =
-    Keeps before after ⊎ ((frame rest : List ℕ) × IsFrame frame × (s ≡ frame ++ rest) × TakesFront before after (cut_line frame))
+    Keeps before after ⊎ ((frame rest : List ℕ) × IsFrame frame × (s ≡ frame ++ rest) × TakesPrefix before after (cut_line frame))
 
 -- what was put at each refusal of a step at s
 abbrev pub StepRefuses : List ℕ → Option (List ℕ) → Option (List ℕ) → Error → Type 0
 StepRefuses s before after OutOfMemory = StopsInLine s before after
-StepRefuses s before after InvalidFormatCode = HasBroken s × ¬ HasFrame s × Keeps before after
+StepRefuses s before after InvalidFormatCode = HasMalformed s × ¬ HasFrame s × Keeps before after
 StepRefuses s before after UnexpectedEof = IsCutShort s × ¬ HasFrame s × Keeps before after
 StepRefuses s before after Io = StopsInLine s before after
 StepRefuses s before after TooLong = ⊥

@@ -23,7 +23,7 @@ pub use Rattle.amqp_ser.specs.Encoding
 pub use Rattle.amqp_ser.specs.Limits
 pub use Rattle.amqp_ser.specs.Marked
 pub use Rattle.amqp_ser.specs.Named
-pub use Rattle.amqp_ser.specs.Permitted
+pub use Rattle.amqp_ser.specs.SizeAndBytes
 pub use Rattle.amqp_ser.specs.Structs
 pub use Rattle.amqp_ser.specs.Tree
 pub use Rattle.amqp_ser.specs.Words

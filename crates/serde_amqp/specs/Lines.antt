@@ -5,7 +5,7 @@ use Rattle.std.specs.Borrow.{Bor}
 use Rattle.std.specs.List.{AllByRecursion, flat_map, slice_split}
 use Rattle.std.specs.Fmt.{decimal}
 use Rattle.amqp_ser.specs.Tree.{string, Tree, scalar, list, trees_of}
-use Rattle.amqp_ser.specs.Encoding.{enc}
+use Rattle.amqp_ser.specs.Encoding.{encoding}
 use Rattle.amqp_value.specs.Image.{image}
 use Rattle.amqp_value.specs.Text.{text_of}
 use Rattle.amqp_data.specs.Hexadecimal.{hex}
@@ -39,7 +39,7 @@ three_lines size bytes text =
 
 -- the length and the bytes of a tree, and the text of its image
 abbrev pub report : Tree → List ℕ
-report t = three_lines (length (enc t)) (enc t) (text_of (image t))
+report t = three_lines (length (encoding t)) (encoding t) (text_of (image t))
 
 -- what is printed for the lines of a text
 abbrev pub lines_out : List ℕ → List ℕ
@@ -51,7 +51,7 @@ ended lines = flat_map (λ line. line ++ 10 ∷ []) lines
 
 -- the last of some texts is there, and is not empty
 abbrev pub EndsFull : List (List ℕ) → Type 0
-EndsFull lines = (front : List (List ℕ)) × (last : List ℕ) × (lines ≡ front ++ last ∷ []) × (last ≢ [])
+EndsFull lines = (prefix : List (List ℕ)) × (last : List ℕ) × (lines ≡ prefix ++ last ∷ []) × (last ≢ [])
 
 -- these are the lines of s: without 0A, and with 0A after each they are s, which may leave out the last one
 pub record AreLines (s : List ℕ) (lines : List (List ℕ)) : Type 0 where

@@ -4,7 +4,7 @@ use Rattle.std.specs.Io.KnownBytes.{Keeps}
 use Rattle.amqp_data.specs.declared.error.Error.{Error}
 use Rattle.amqp_data.specs.declared.error.Error.TheVariants.{OutOfMemory, TooLong, InvalidValue, InvalidFormatCode, UnexpectedEof, Io, Message}
 use Rattle.amqp_ser.specs.Writable.{writable}
-use Rattle.serde_amqp.specs.Writer.{TakesFront}
+use Rattle.serde_amqp.specs.Writer.{TakesPrefix}
 use Rattle.serde_amqp.specs.Lines.{lines_tree, lines_out}
 
 -- the text is UTF-8, and the list of its lines can be written
@@ -16,15 +16,15 @@ abbrev pub IsTooLong : List ℕ → Type 0
 IsTooLong s = IsUtf8 s × (writable (lines_tree s) ≡ false)
 
 -- a prefix of the report was put, if there is one to put
-abbrev pub PutsFront : List ℕ → Option (List ℕ) → Option (List ℕ) → Type 0
-PutsFront s old new = Keeps old new ⊎ (IsReportable s × TakesFront old new (lines_out s))
+abbrev pub PutsPrefix : List ℕ → Option (List ℕ) → Option (List ℕ) → Type 0
+PutsPrefix s old new = Keeps old new ⊎ (IsReportable s × TakesPrefix old new (lines_out s))
 
 -- what was put at each refusal
 abbrev pub LinesRefuses : List ℕ → Option (List ℕ) → Option (List ℕ) → Error → Type 0
-LinesRefuses s old new OutOfMemory = PutsFront s old new
+LinesRefuses s old new OutOfMemory = PutsPrefix s old new
 LinesRefuses s old new TooLong = IsTooLong s × Keeps old new
 LinesRefuses s old new InvalidValue = ¬ IsUtf8 s × Keeps old new
-LinesRefuses s old new Io = PutsFront s old new
+LinesRefuses s old new Io = PutsPrefix s old new
 LinesRefuses s old new InvalidFormatCode = ⊥
 LinesRefuses s old new UnexpectedEof = ⊥
 LinesRefuses s old new (Message words) = ⊥

@@ -3,5 +3,5 @@ use Rattle.std.specs.Prelude.{ℕ, List, Option, take}
 use Rattle.std.specs.Io.KnownBytes.{Appends}
 
 -- a prefix of the bytes was taken
-abbrev pub TakesFront : Option (List ℕ) → Option (List ℕ) → List ℕ → Type 0
-TakesFront old new bytes = (n : ℕ) × Appends old new (take n bytes)
+abbrev pub TakesPrefix : Option (List ℕ) → Option (List ℕ) → List ℕ → Type 0
+TakesPrefix old new bytes = (n : ℕ) × Appends old new (take n bytes)

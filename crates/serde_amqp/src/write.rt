@@ -3,7 +3,7 @@
 ghost use Rattle.std.specs.Prelude.{◌≡◌, ◌≤◌, ◌⊎◌, ℕ, Bool, List, Option, OnOk, OnErr, IfErr, IsErrOf, IsOkUnless};
 ghost use Rattle.std.specs.Io.KnownBytes.{Keeps, Appends};
 ghost use Rattle.amqp_frame.specs.Reader.{last_count, Failed, answers_io};
-ghost use Rattle.serde_amqp.specs.Writer.{TakesFront};
+ghost use Rattle.serde_amqp.specs.Writer.{TakesPrefix};
 
 use amqp_data::Error;
 
@@ -38,8 +38,8 @@ pub trait Write {
     /// Takes the writer's own, if it has any.
     fn put(&mut self, bytes: &[u8]) -> Result<(), Error>
         ensures ok { OnOk result (Appends (written self.old) (written self.new) bytes.now) }
-        ensures front { OnErr result
-            (TakesFront (written self.old) (written self.new) bytes.now) }
+        ensures prefix { OnErr result
+            (TakesPrefix (written self.old) (written self.new) bytes.now) }
         ensures io { IsErrOf result Error.Io → Failed (failures self.old) (failures self.new) }
         ensures others { IfErr result (λ e. (e ≡ Error.OutOfMemory) ⊎ (e ≡ Error.Io)) }
         ensures last { failures self.old ≡ last_count → IsErrOf result Error.Io }

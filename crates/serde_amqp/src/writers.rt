@@ -3,7 +3,7 @@
 ghost use Rattle.std.specs.Prelude.{◌≡◌, ◌<◌, ◌+◌, [], Some, OnOk, OnErr, IsOkUnless};
 ghost use Rattle.std.specs.Io.KnownBytes.{Appends};
 ghost use Rattle.amqp_frame.specs.Reader.{last_count, CountsOne, answers_io};
-ghost use Rattle.serde_amqp.specs.Writer.{TakesFront};
+ghost use Rattle.serde_amqp.specs.Writer.{TakesPrefix};
 
 use crate::write::Write;
 use amqp_data::Error;
@@ -126,8 +126,8 @@ impl<W: io::Write> Write for IoWriter<W> {
 fn put_all<W: io::Write>(inner: &mut W, bytes: &[u8], failures: &mut u64) -> Result<(), Error>
     requires { failures.old < last_count }
     ensures ok { OnOk result (Appends (W.contents inner.old) (W.contents inner.new) bytes.now) }
-    ensures front { OnErr result
-        (TakesFront (W.contents inner.old) (W.contents inner.new) bytes.now) }
+    ensures prefix { OnErr result
+        (TakesPrefix (W.contents inner.old) (W.contents inner.new) bytes.now) }
     ensures io { IsOkUnless result Error.Io }
     ensures counts { CountsOne (answers_io result) failures.old failures.new }
     ensures count { OnErr result (failures.new ≡ failures.old + 1) }

@@ -3,7 +3,7 @@
 ghost use Rattle.std.specs.Prelude.{◌≡◌, List};
 ghost use Rattle.amqp_ser.specs.Tree.{Tree};
 ghost use Rattle.amqp_de.specs.Access.{ReadsNext, RestoresNext};
-ghost use Rattle.amqp_de.specs.Answers.{Takes};
+ghost use Rattle.amqp_de.specs.Answers.{TakesNext};
 
 use crate::de::{Deserialize, Deserializer, Refusal};
 use crate::seed::{Of, Seed};
@@ -26,7 +26,7 @@ pub trait SeqAccess: Sized + Drop {
 
     /// Takes the next element.
     fn next_item(&mut self) -> Option<Self::Item>
-        ensures { Takes Self.Item.value (left self.old) (left self.new) result };
+        ensures { TakesNext Self.Item.value (left self.old) (left self.new) result };
 
     /// Reads the next element by a seed; `None` after the last. A refused element is taken too.
     ///

@@ -144,8 +144,8 @@ fn a_list_composite_is_read_from_its_list(rt: HostRuntime) -> Result<(), Fail> {
 #[test]
 fn a_composite_of_names_is_read_from_its_list_and_its_map(rt: HostRuntime) -> Result<(), Fail> {
     let alloc = rt.alloc();
-    let by_place = list(alloc, [Value::Int(-3), Value::Uint(8)])?;
-    let limits: Limits = from_value(alloc, described(alloc, 0x15, by_place)?)?;
+    let by_position = list(alloc, [Value::Int(-3), Value::Uint(8)])?;
+    let limits: Limits = from_value(alloc, described(alloc, 0x15, by_position)?)?;
     assert_eq!(rt;
         limits,
         Limits {

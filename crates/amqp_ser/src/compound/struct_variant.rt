@@ -69,7 +69,7 @@ impl<'a, S: Serializer> SerializeStructVariant<'a, S> {
     ) -> Result<(), S::Error>
         ensures same { self.new.serializer.ghost_name ≡ self.old.serializer.ghost_name }
         ensures step { (i : ℕ) →
-            Feeds S.permits S.has (Kind.Fields i) (T.tree value.now) self.old.serializer.now
+            Feeds S.permits S.has (Kind.Variant i) (T.tree value.now) self.old.serializer.now
             self.old.held result self.new.serializer.now self.new.held }
     {
         feed_part(&mut *self.serializer, &mut self.held, value)
@@ -82,8 +82,8 @@ impl<'a, S: Serializer> SerializeStructVariant<'a, S> {
     #[inline(always)]
     pub fn end(self) -> Result<S::Ok, S::Error>
         ensures { (start : S) (i : ℕ) (ps : List (Option Tree)) →
-            S.has start (Kind.Fields i) self.entry.serializer.now self.entry.held ps →
-            S.permits start (whole (Kind.Fields i) ps) result self.exit.0.now }
+            S.has start (Kind.Variant i) self.entry.serializer.now self.entry.held ps →
+            S.permits start (whole (Kind.Variant i) ps) result self.exit.0.now }
     {
         let SerializeStructVariant { serializer, held } = self;
         serializer.end(held)

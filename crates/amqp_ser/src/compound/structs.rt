@@ -6,14 +6,14 @@ ghost use Rattle.std.specs.Borrow.{Lends, sem};
 ghost use Rattle.amqp_ser.specs.Tree.{Tree, scalar, string};
 ghost use Rattle.amqp_ser.specs.Compounds.{whole, paired};
 ghost use Rattle.amqp_ser.specs.Composites.{as_described, descriptor_of};
-ghost use Rattle.amqp_ser.specs.Marked.{is_descriptor};
-ghost use Rattle.amqp_ser.specs.Structs.{Stands, body_kind, open_kind, fronted, is_misplaced};
+ghost use Rattle.amqp_ser.specs.Marked.{is_descriptor_name};
+ghost use Rattle.amqp_ser.specs.Structs.{Stands, form_kind, open_kind, optionally_described, is_misplaced};
 
-use crate::body::{Body, end_fields, feed_listed, feed_moved};
 use crate::kind::Kind;
-use crate::mark::is_descriptor_key;
+use crate::mark::is_descriptor_name;
 use crate::serialize::Serialize;
 use crate::serializer::Serializer;
+use crate::struct_form::{StructForm, end_fields, feed_any, feed_list_field};
 
 /// A struct whose fields are still fed: a list of them, a map from their names, or the one field itself, as the
 /// struct's name says. A first field of the descriptor's key makes it described.
@@ -23,7 +23,7 @@ use crate::serializer::Serializer;
 pub struct SerializeStruct<'a, S: Serializer> {
     serializer: &'a mut S,
     held: S::Open,
-    body: Body,
+    form: StructForm,
     /// The descriptor was taken.
     described: bool,
     /// A field was taken.
@@ -38,7 +38,7 @@ impl<S: Serializer> Drop for SerializeStruct<'_, S> {
         let SerializeStruct {
             serializer: _,
             held: _,
-            body: _,
+            form: _,
             described: _,
             opened: _,
         } = self;
@@ -49,18 +49,22 @@ impl<'a, S: Serializer> SerializeStruct<'a, S> {
     ghost use Rattle.amqp_ser.specs.contracts.compound.structs.SerializeStruct.{the_row};
 
     #[inline(always)]
-    pub(crate) fn new(serializer: &'a mut S, held: S::Open, body: Body) -> SerializeStruct<'a, S>
+    pub(crate) fn new(
+        serializer: &'a mut S,
+        held: S::Open,
+        form: StructForm,
+    ) -> SerializeStruct<'a, S>
         ensures same_reference { result.serializer.ghost_name ≡ serializer.entry.ghost_name }
         ensures now { result.serializer.now ≡ serializer.old }
         ensures held { result.held ≡ held }
-        ensures body { result.body ≡ body }
+        ensures form { result.form ≡ form }
         ensures described { result.described ≡ false }
         ensures opened { result.opened ≡ false }
     {
         SerializeStruct {
             serializer,
             held,
-            body,
+            form,
             described: false,
             opened: false,
         }
@@ -91,101 +95,101 @@ impl<'a, S: Serializer> SerializeStruct<'a, S> {
         value: &T,
     ) -> Result<(), S::Error>
         ensures same { self.new.serializer.ghost_name ≡ self.old.serializer.ghost_name }
-        ensures body { self.new.body ≡ self.old.body }
+        ensures form { self.new.form ≡ self.old.form }
         ensures as_it_was { IfErr result (λ _. (self.new.described ≡ self.old.described)
             × (self.new.opened ≡ self.old.opened)) }
         ensures described { IfOk result
-            (λ _. self.new.described ≡ (is_descriptor key.now || self.old.described)) }
+            (λ _. self.new.described ≡ (is_descriptor_name key.now || self.old.described)) }
         ensures opened { IfOk result
-            (λ _. self.new.opened ≡ (not (is_descriptor key.now) || self.old.opened)) }
-        ensures descriptor { is_descriptor key.now ≡ true → self.old.described ≡ false →
+            (λ _. self.new.opened ≡ (not (is_descriptor_name key.now) || self.old.opened)) }
+        ensures descriptor { is_descriptor_name key.now ≡ true → self.old.described ≡ false →
             self.old.opened ≡ false → (start : S) →
-            Stands S.permits S.has start None Kind.Bare self.old.serializer.now self.old.held [] →
+            Stands S.permits S.has start None Kind.Single self.old.serializer.now self.old.held [] →
             MatchResult result
-            (λ _. Stands S.permits S.has start (Some (T.tree value.now)) Kind.Bare
+            (λ _. Stands S.permits S.has start (Some (T.tree value.now)) Kind.Single
             self.new.serializer.now self.new.held [])
-            (λ e. Stands S.permits S.has start None Kind.Bare self.new.serializer.now
+            (λ e. Stands S.permits S.has start None Kind.Single self.new.serializer.now
             self.new.held [] × ((t : Option Tree) →
             S.permits start (as_described (descriptor_of (T.tree value.now)) t)
             (Err e) self.new.serializer.now)) }
-        ensures first_of_list { is_descriptor key.now ≡ false → self.old.opened ≡ false →
-            self.old.body ≡ Body.List → (start : S) (front : Option (Option Tree)) →
-            Stands S.permits S.has start front Kind.Bare self.old.serializer.now self.old.held [] →
+        ensures first_of_list { is_descriptor_name key.now ≡ false → self.old.opened ≡ false →
+            self.old.form ≡ StructForm.List → (start : S) (prefix : Option (Option Tree)) →
+            Stands S.permits S.has start prefix Kind.Single self.old.serializer.now self.old.held [] →
             MatchResult result
-            (λ _. Stands S.permits S.has start front Kind.List self.new.serializer.now self.new.held
+            (λ _. Stands S.permits S.has start prefix Kind.List self.new.serializer.now self.new.held
             (T.tree value.now ∷ []))
-            (λ e. Stands S.permits S.has start front Kind.Bare self.new.serializer.now
+            (λ e. Stands S.permits S.has start prefix Kind.Single self.new.serializer.now
             self.new.held [] × ((rest : List (Option Tree)) →
-            S.permits start (fronted front (whole Kind.List (T.tree value.now ∷ rest)))
+            S.permits start (optionally_described prefix (whole Kind.List (T.tree value.now ∷ rest)))
             (Err e) self.new.serializer.now)) }
-        ensures next_of_list { is_descriptor key.now ≡ false → self.old.opened ≡ true →
-            self.old.body ≡ Body.List →
-            (start : S) (front : Option (Option Tree)) (ps : List (Option Tree)) →
-            Stands S.permits S.has start front Kind.List self.old.serializer.now self.old.held ps →
+        ensures next_of_list { is_descriptor_name key.now ≡ false → self.old.opened ≡ true →
+            self.old.form ≡ StructForm.List →
+            (start : S) (prefix : Option (Option Tree)) (ps : List (Option Tree)) →
+            Stands S.permits S.has start prefix Kind.List self.old.serializer.now self.old.held ps →
             MatchResult result
-            (λ _. Stands S.permits S.has start front Kind.List self.new.serializer.now self.new.held
+            (λ _. Stands S.permits S.has start prefix Kind.List self.new.serializer.now self.new.held
             (ps ++ (T.tree value.now ∷ [])))
-            (λ e. Stands S.permits S.has start front Kind.List self.new.serializer.now
+            (λ e. Stands S.permits S.has start prefix Kind.List self.new.serializer.now
             self.new.held ps × ((rest : List (Option Tree)) →
-            S.permits start (fronted front (whole Kind.List (ps ++ (T.tree value.now ∷ rest))))
+            S.permits start (optionally_described prefix (whole Kind.List (ps ++ (T.tree value.now ∷ rest))))
             (Err e) self.new.serializer.now)) }
-        ensures first_of_map { is_descriptor key.now ≡ false → self.old.opened ≡ false →
-            self.old.body ≡ Body.Map → (start : S) (front : Option (Option Tree)) →
-            Stands S.permits S.has start front Kind.Bare self.old.serializer.now self.old.held [] →
+        ensures first_of_map { is_descriptor_name key.now ≡ false → self.old.opened ≡ false →
+            self.old.form ≡ StructForm.Map → (start : S) (prefix : Option (Option Tree)) →
+            Stands S.permits S.has start prefix Kind.Single self.old.serializer.now self.old.held [] →
             MatchResult result
-            (λ _. Stands S.permits S.has start front Kind.Map self.new.serializer.now self.new.held
+            (λ _. Stands S.permits S.has start prefix Kind.Map self.new.serializer.now self.new.held
             (Some (scalar (string key.now)) ∷ (T.tree value.now ∷ [])))
-            (λ e. Stands S.permits S.has start front Kind.Bare self.new.serializer.now
+            (λ e. Stands S.permits S.has start prefix Kind.Single self.new.serializer.now
             self.new.held [] × ((rest : List (Option Tree)) →
             S.permits start
-            (fronted front
+            (optionally_described prefix
             (whole Kind.Map (Some (scalar (string key.now)) ∷ (T.tree value.now ∷ rest))))
             (Err e) self.new.serializer.now)) }
-        ensures next_of_map { is_descriptor key.now ≡ false → self.old.opened ≡ true →
-            self.old.body ≡ Body.Map →
-            (start : S) (front : Option (Option Tree)) (ps : List (Option Tree)) →
-            Stands S.permits S.has start front Kind.Map self.old.serializer.now self.old.held ps →
+        ensures next_of_map { is_descriptor_name key.now ≡ false → self.old.opened ≡ true →
+            self.old.form ≡ StructForm.Map →
+            (start : S) (prefix : Option (Option Tree)) (ps : List (Option Tree)) →
+            Stands S.permits S.has start prefix Kind.Map self.old.serializer.now self.old.held ps →
             paired ps ≡ true →
             MatchResult result
-            (λ _. Stands S.permits S.has start front Kind.Map self.new.serializer.now self.new.held
+            (λ _. Stands S.permits S.has start prefix Kind.Map self.new.serializer.now self.new.held
             (ps ++ (Some (scalar (string key.now)) ∷ (T.tree value.now ∷ []))))
-            (λ e. Stands S.permits S.has start front Kind.Map self.new.serializer.now
+            (λ e. Stands S.permits S.has start prefix Kind.Map self.new.serializer.now
             self.new.held ps × ((rest : List (Option Tree)) →
             S.permits start
-            (fronted front
+            (optionally_described prefix
             (whole Kind.Map (ps ++ (Some (scalar (string key.now)) ∷ (T.tree value.now ∷ rest)))))
             (Err e) self.new.serializer.now)) }
-        ensures alone { is_descriptor key.now ≡ false → self.old.opened ≡ false →
-            self.old.body ≡ Body.Bare → (start : S) (front : Option (Option Tree)) →
-            Stands S.permits S.has start front Kind.Bare self.old.serializer.now self.old.held [] →
+        ensures alone { is_descriptor_name key.now ≡ false → self.old.opened ≡ false →
+            self.old.form ≡ StructForm.Single → (start : S) (prefix : Option (Option Tree)) →
+            Stands S.permits S.has start prefix Kind.Single self.old.serializer.now self.old.held [] →
             MatchResult result
-            (λ _. Stands S.permits S.has start front Kind.Bare self.new.serializer.now self.new.held
+            (λ _. Stands S.permits S.has start prefix Kind.Single self.new.serializer.now self.new.held
             (T.tree value.now ∷ []))
-            (λ e. Stands S.permits S.has start front Kind.Bare self.new.serializer.now
+            (λ e. Stands S.permits S.has start prefix Kind.Single self.new.serializer.now
             self.new.held []
-            × S.permits start (fronted front (T.tree value.now)) (Err e) self.new.serializer.now) }
-        ensures misuse { is_misplaced self.old.body self.old.described self.old.opened
-            (is_descriptor key.now) ≡ true →
-            IsErr result × ((start : S) (front : Option (Option Tree)) (ps : List (Option Tree)) →
-            Stands S.permits S.has start front (open_kind self.old.opened self.old.body)
+            × S.permits start (optionally_described prefix (T.tree value.now)) (Err e) self.new.serializer.now) }
+        ensures misuse { is_misplaced self.old.form self.old.described self.old.opened
+            (is_descriptor_name key.now) ≡ true →
+            IsErr result × ((start : S) (prefix : Option (Option Tree)) (ps : List (Option Tree)) →
+            Stands S.permits S.has start prefix (open_kind self.old.opened self.old.form)
             self.old.serializer.now self.old.held ps →
             IfErr result
-            (λ e. Stands S.permits S.has start front (open_kind self.old.opened self.old.body)
+            (λ e. Stands S.permits S.has start prefix (open_kind self.old.opened self.old.form)
             self.new.serializer.now self.new.held ps
             × S.permits start None (Err e) self.new.serializer.now)) }
-        ensures invalid { is_misplaced self.old.body self.old.described self.old.opened
-            (is_descriptor key.now) ≡ true → IfErr result S.is_misuse }
-        ensures other_kinds { is_descriptor key.now ≡ true → self.old.described ≡ false →
+        ensures invalid { is_misplaced self.old.form self.old.described self.old.opened
+            (is_descriptor_name key.now) ≡ true → IfErr result S.is_misuse }
+        ensures other_kinds { is_descriptor_name key.now ≡ true → self.old.described ≡ false →
             self.old.opened ≡ false → (start : S) →
-            Stands S.permits S.has start None Kind.Bare self.old.serializer.now self.old.held [] →
+            Stands S.permits S.has start None Kind.Single self.old.serializer.now self.old.held [] →
             descriptor_of (T.tree value.now) ≡ None → IsErr result }
     {
-        let descriptor = is_descriptor_key(key);
-        if descriptor || !matches!(self.body, Body::List) {
-            return match feed_moved(
+        let descriptor = is_descriptor_name(key);
+        if descriptor || !matches!(self.form, StructForm::List) {
+            return match feed_any(
                 &mut *self.serializer,
                 &mut self.held,
-                self.body,
+                self.form,
                 self.described,
                 self.opened,
                 key,
@@ -202,7 +206,7 @@ impl<'a, S: Serializer> SerializeStruct<'a, S> {
                 Err(e) => Err(e),
             };
         }
-        match feed_listed(&mut *self.serializer, &mut self.held, self.opened, value) {
+        match feed_list_field(&mut *self.serializer, &mut self.held, self.opened, value) {
             Ok(()) => {
                 self.opened = true;
                 Ok(())
@@ -218,35 +222,35 @@ impl<'a, S: Serializer> SerializeStruct<'a, S> {
     #[tactic(auto, unfolding(crate::specs::Structs::Stands))]
     #[inline(always)]
     pub fn end(self) -> Result<S::Ok, S::Error>
-        ensures list { self.entry.opened ≡ true → self.entry.body ≡ Body.List →
-            (start : S) (front : Option (Option Tree)) (ps : List (Option Tree)) →
-            Stands S.permits S.has start front Kind.List self.entry.serializer.now
+        ensures list { self.entry.opened ≡ true → self.entry.form ≡ StructForm.List →
+            (start : S) (prefix : Option (Option Tree)) (ps : List (Option Tree)) →
+            Stands S.permits S.has start prefix Kind.List self.entry.serializer.now
             self.entry.held ps →
-            S.permits start (fronted front (whole Kind.List ps)) result self.exit.0.now }
-        ensures map { self.entry.opened ≡ true → self.entry.body ≡ Body.Map →
-            (start : S) (front : Option (Option Tree)) (ps : List (Option Tree)) →
-            Stands S.permits S.has start front Kind.Map self.entry.serializer.now
+            S.permits start (optionally_described prefix (whole Kind.List ps)) result self.exit.0.now }
+        ensures map { self.entry.opened ≡ true → self.entry.form ≡ StructForm.Map →
+            (start : S) (prefix : Option (Option Tree)) (ps : List (Option Tree)) →
+            Stands S.permits S.has start prefix Kind.Map self.entry.serializer.now
             self.entry.held ps → paired ps ≡ true →
-            S.permits start (fronted front (whole Kind.Map ps)) result self.exit.0.now }
-        ensures alone { self.entry.opened ≡ true → self.entry.body ≡ Body.Bare →
-            (start : S) (front : Option (Option Tree)) (p : Option Tree) →
-            Stands S.permits S.has start front Kind.Bare self.entry.serializer.now self.entry.held
-            (p ∷ []) → S.permits start (fronted front p) result self.exit.0.now }
-        ensures empty { self.entry.opened ≡ false → (start : S) (front : Option (Option Tree)) →
-            Stands S.permits S.has start front Kind.Bare self.entry.serializer.now
+            S.permits start (optionally_described prefix (whole Kind.Map ps)) result self.exit.0.now }
+        ensures alone { self.entry.opened ≡ true → self.entry.form ≡ StructForm.Single →
+            (start : S) (prefix : Option (Option Tree)) (p : Option Tree) →
+            Stands S.permits S.has start prefix Kind.Single self.entry.serializer.now self.entry.held
+            (p ∷ []) → S.permits start (optionally_described prefix p) result self.exit.0.now }
+        ensures empty { self.entry.opened ≡ false → (start : S) (prefix : Option (Option Tree)) →
+            Stands S.permits S.has start prefix Kind.Single self.entry.serializer.now
             self.entry.held [] →
-            S.permits start (fronted front (whole (body_kind self.entry.body) [])) result
+            S.permits start (optionally_described prefix (whole (form_kind self.entry.form) [])) result
             self.exit.0.now }
-        ensures invalid { self.entry.opened ≡ false → self.entry.body ≡ Body.Bare →
+        ensures invalid { self.entry.opened ≡ false → self.entry.form ≡ StructForm.Single →
             IsErr result × IfErr result S.is_misuse }
     {
         let SerializeStruct {
             serializer,
             held,
-            body,
+            form,
             described: _,
             opened,
         } = self;
-        end_fields(serializer, held, body, opened)
+        end_fields(serializer, held, form, opened)
     }
 }

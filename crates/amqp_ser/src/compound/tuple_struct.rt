@@ -6,13 +6,13 @@ ghost use Rattle.std.specs.Borrow.{Lends, sem};
 ghost use Rattle.amqp_ser.specs.Tree.{Tree};
 ghost use Rattle.amqp_ser.specs.Compounds.{whole};
 ghost use Rattle.amqp_ser.specs.Composites.{as_described, descriptor_of};
-ghost use Rattle.amqp_ser.specs.Structs.{Stands, bare_or_list, body_kind, open_kind, fronted, is_misplaced};
+ghost use Rattle.amqp_ser.specs.Structs.{Stands, single_or_list, form_kind, open_kind, optionally_described, is_misplaced};
 
-use crate::body::{Body, end_fields, feed_alone, feed_descriptor, feed_first};
 use crate::compound::feed::feed_part;
 use crate::kind::Kind;
 use crate::serialize::Serialize;
 use crate::serializer::Serializer;
+use crate::struct_form::{StructForm, end_fields, feed_descriptor, feed_single, open_body};
 
 /// A tuple struct whose fields are still fed: a list of them, or the one field itself. Where its name asks for a
 /// descriptor, the first field is that.
@@ -23,7 +23,7 @@ pub struct SerializeTupleStruct<'a, S: Serializer> {
     serializer: &'a mut S,
     held: S::Open,
     /// There is one field alone.
-    bare: bool,
+    single: bool,
     /// The descriptor is still to come.
     awaits: bool,
     /// A field was taken, or the list stands open from the start.
@@ -38,7 +38,7 @@ impl<S: Serializer> Drop for SerializeTupleStruct<'_, S> {
         let SerializeTupleStruct {
             serializer: _,
             held: _,
-            bare: _,
+            single: _,
             awaits: _,
             opened: _,
         } = self;
@@ -52,20 +52,20 @@ impl<'a, S: Serializer> SerializeTupleStruct<'a, S> {
     pub(crate) fn new(
         serializer: &'a mut S,
         held: S::Open,
-        bare: bool,
+        single: bool,
         awaits: bool,
     ) -> SerializeTupleStruct<'a, S>
         ensures same_reference { result.serializer.ghost_name ≡ serializer.entry.ghost_name }
         ensures now { result.serializer.now ≡ serializer.old }
         ensures held { result.held ≡ held }
-        ensures bare { result.bare ≡ bare }
+        ensures single { result.single ≡ single }
         ensures awaits { result.awaits ≡ awaits }
         ensures opened { result.opened ≡ not awaits }
     {
         SerializeTupleStruct {
             serializer,
             held,
-            bare,
+            single,
             awaits,
             opened: !awaits,
         }
@@ -92,64 +92,64 @@ impl<'a, S: Serializer> SerializeTupleStruct<'a, S> {
     #[inline(always)]
     pub fn serialize_field<T: Serialize>(&mut self, value: &T) -> Result<(), S::Error>
         ensures same { self.new.serializer.ghost_name ≡ self.old.serializer.ghost_name }
-        ensures bare { self.new.bare ≡ self.old.bare }
+        ensures single { self.new.single ≡ self.old.single }
         ensures as_it_was { IfErr result (λ _. (self.new.awaits ≡ self.old.awaits)
             × (self.new.opened ≡ self.old.opened)) }
         ensures flags { IfOk result
             (λ _. (self.new.awaits ≡ false)
             × (self.new.opened ≡ (not self.old.awaits || self.old.opened))) }
         ensures descriptor { self.old.awaits ≡ true → (start : S) →
-            Stands S.permits S.has start None Kind.Bare self.old.serializer.now self.old.held [] →
+            Stands S.permits S.has start None Kind.Single self.old.serializer.now self.old.held [] →
             MatchResult result
-            (λ _. Stands S.permits S.has start (Some (T.tree value.now)) Kind.Bare
+            (λ _. Stands S.permits S.has start (Some (T.tree value.now)) Kind.Single
             self.new.serializer.now self.new.held [])
-            (λ e. Stands S.permits S.has start None Kind.Bare self.new.serializer.now
+            (λ e. Stands S.permits S.has start None Kind.Single self.new.serializer.now
             self.new.held [] × ((t : Option Tree) →
             S.permits start (as_described (descriptor_of (T.tree value.now)) t)
             (Err e) self.new.serializer.now)) }
-        ensures first { self.old.awaits ≡ false → self.old.opened ≡ false → self.old.bare ≡ false →
-            (start : S) (front : Option (Option Tree)) →
-            Stands S.permits S.has start front Kind.Bare self.old.serializer.now self.old.held [] →
+        ensures first { self.old.awaits ≡ false → self.old.opened ≡ false → self.old.single ≡ false →
+            (start : S) (prefix : Option (Option Tree)) →
+            Stands S.permits S.has start prefix Kind.Single self.old.serializer.now self.old.held [] →
             MatchResult result
-            (λ _. Stands S.permits S.has start front Kind.List self.new.serializer.now self.new.held
+            (λ _. Stands S.permits S.has start prefix Kind.List self.new.serializer.now self.new.held
             (T.tree value.now ∷ []))
-            (λ e. Stands S.permits S.has start front Kind.Bare self.new.serializer.now
+            (λ e. Stands S.permits S.has start prefix Kind.Single self.new.serializer.now
             self.new.held [] × ((rest : List (Option Tree)) →
-            S.permits start (fronted front (whole Kind.List (T.tree value.now ∷ rest)))
+            S.permits start (optionally_described prefix (whole Kind.List (T.tree value.now ∷ rest)))
             (Err e) self.new.serializer.now)) }
-        ensures next { self.old.awaits ≡ false → self.old.opened ≡ true → self.old.bare ≡ false →
-            (start : S) (front : Option (Option Tree)) (ps : List (Option Tree)) →
-            Stands S.permits S.has start front Kind.List self.old.serializer.now self.old.held ps →
+        ensures next { self.old.awaits ≡ false → self.old.opened ≡ true → self.old.single ≡ false →
+            (start : S) (prefix : Option (Option Tree)) (ps : List (Option Tree)) →
+            Stands S.permits S.has start prefix Kind.List self.old.serializer.now self.old.held ps →
             MatchResult result
-            (λ _. Stands S.permits S.has start front Kind.List self.new.serializer.now self.new.held
+            (λ _. Stands S.permits S.has start prefix Kind.List self.new.serializer.now self.new.held
             (ps ++ (T.tree value.now ∷ [])))
-            (λ e. Stands S.permits S.has start front Kind.List self.new.serializer.now
+            (λ e. Stands S.permits S.has start prefix Kind.List self.new.serializer.now
             self.new.held ps × ((rest : List (Option Tree)) →
-            S.permits start (fronted front (whole Kind.List (ps ++ (T.tree value.now ∷ rest))))
+            S.permits start (optionally_described prefix (whole Kind.List (ps ++ (T.tree value.now ∷ rest))))
             (Err e) self.new.serializer.now)) }
-        ensures alone { self.old.awaits ≡ false → self.old.opened ≡ false → self.old.bare ≡ true →
-            (start : S) (front : Option (Option Tree)) →
-            Stands S.permits S.has start front Kind.Bare self.old.serializer.now self.old.held [] →
+        ensures alone { self.old.awaits ≡ false → self.old.opened ≡ false → self.old.single ≡ true →
+            (start : S) (prefix : Option (Option Tree)) →
+            Stands S.permits S.has start prefix Kind.Single self.old.serializer.now self.old.held [] →
             MatchResult result
-            (λ _. Stands S.permits S.has start front Kind.Bare self.new.serializer.now self.new.held
+            (λ _. Stands S.permits S.has start prefix Kind.Single self.new.serializer.now self.new.held
             (T.tree value.now ∷ []))
-            (λ e. Stands S.permits S.has start front Kind.Bare self.new.serializer.now
+            (λ e. Stands S.permits S.has start prefix Kind.Single self.new.serializer.now
             self.new.held []
-            × S.permits start (fronted front (T.tree value.now)) (Err e) self.new.serializer.now) }
-        ensures misuse { (not self.old.awaits && is_misplaced (bare_or_list self.old.bare) true
+            × S.permits start (optionally_described prefix (T.tree value.now)) (Err e) self.new.serializer.now) }
+        ensures misuse { (not self.old.awaits && is_misplaced (single_or_list self.old.single) true
             self.old.opened false) ≡ true →
-            IsErr result × ((start : S) (front : Option (Option Tree)) (ps : List (Option Tree)) →
-            Stands S.permits S.has start front
-            (open_kind self.old.opened (bare_or_list self.old.bare)) self.old.serializer.now
+            IsErr result × ((start : S) (prefix : Option (Option Tree)) (ps : List (Option Tree)) →
+            Stands S.permits S.has start prefix
+            (open_kind self.old.opened (single_or_list self.old.single)) self.old.serializer.now
             self.old.held ps →
             IfErr result
-            (λ e. Stands S.permits S.has start front
-            (open_kind self.old.opened (bare_or_list self.old.bare)) self.new.serializer.now
+            (λ e. Stands S.permits S.has start prefix
+            (open_kind self.old.opened (single_or_list self.old.single)) self.new.serializer.now
             self.new.held ps × S.permits start None (Err e) self.new.serializer.now)) }
-        ensures invalid { (not self.old.awaits && is_misplaced (bare_or_list self.old.bare) true
+        ensures invalid { (not self.old.awaits && is_misplaced (single_or_list self.old.single) true
             self.old.opened false) ≡ true → IfErr result S.is_misuse }
         ensures other_kinds { self.old.awaits ≡ true → (start : S) →
-            Stands S.permits S.has start None Kind.Bare self.old.serializer.now self.old.held [] →
+            Stands S.permits S.has start None Kind.Single self.old.serializer.now self.old.held [] →
             descriptor_of (T.tree value.now) ≡ None → IsErr result }
     {
         if self.awaits {
@@ -158,15 +158,15 @@ impl<'a, S: Serializer> SerializeTupleStruct<'a, S> {
             return Ok(());
         }
         if self.opened {
-            if self.bare {
+            if self.single {
                 return Err(self.serializer.misuse(&mut self.held));
             }
             return feed_part(&mut *self.serializer, &mut self.held, value);
         }
-        if self.bare {
-            feed_alone(&mut *self.serializer, &mut self.held, value)?;
+        if self.single {
+            feed_single(&mut *self.serializer, &mut self.held, value)?;
         } else {
-            feed_first(&mut *self.serializer, &mut self.held, false, "", value)?;
+            open_body(&mut *self.serializer, &mut self.held, false, "", value)?;
         }
         self.opened = true;
         Ok(())
@@ -179,31 +179,35 @@ impl<'a, S: Serializer> SerializeTupleStruct<'a, S> {
     #[tactic(auto, unfolding(crate::specs::Structs::Stands))]
     #[inline(always)]
     pub fn end(self) -> Result<S::Ok, S::Error>
-        ensures list { self.entry.opened ≡ true → self.entry.bare ≡ false →
-            (start : S) (front : Option (Option Tree)) (ps : List (Option Tree)) →
-            Stands S.permits S.has start front Kind.List self.entry.serializer.now
+        ensures list { self.entry.opened ≡ true → self.entry.single ≡ false →
+            (start : S) (prefix : Option (Option Tree)) (ps : List (Option Tree)) →
+            Stands S.permits S.has start prefix Kind.List self.entry.serializer.now
             self.entry.held ps →
-            S.permits start (fronted front (whole Kind.List ps)) result self.exit.0.now }
-        ensures alone { self.entry.opened ≡ true → self.entry.bare ≡ true →
-            (start : S) (front : Option (Option Tree)) (p : Option Tree) →
-            Stands S.permits S.has start front Kind.Bare self.entry.serializer.now self.entry.held
-            (p ∷ []) → S.permits start (fronted front p) result self.exit.0.now }
-        ensures empty { self.entry.opened ≡ false → (start : S) (front : Option (Option Tree)) →
-            Stands S.permits S.has start front Kind.Bare self.entry.serializer.now
+            S.permits start (optionally_described prefix (whole Kind.List ps)) result self.exit.0.now }
+        ensures alone { self.entry.opened ≡ true → self.entry.single ≡ true →
+            (start : S) (prefix : Option (Option Tree)) (p : Option Tree) →
+            Stands S.permits S.has start prefix Kind.Single self.entry.serializer.now self.entry.held
+            (p ∷ []) → S.permits start (optionally_described prefix p) result self.exit.0.now }
+        ensures empty { self.entry.opened ≡ false → (start : S) (prefix : Option (Option Tree)) →
+            Stands S.permits S.has start prefix Kind.Single self.entry.serializer.now
             self.entry.held [] →
-            S.permits start (fronted front (whole (body_kind (bare_or_list self.entry.bare)) []))
+            S.permits start (optionally_described prefix (whole (form_kind (single_or_list self.entry.single)) []))
             result self.exit.0.now }
-        ensures invalid { self.entry.opened ≡ false → self.entry.bare ≡ true →
+        ensures invalid { self.entry.opened ≡ false → self.entry.single ≡ true →
             IsErr result × IfErr result S.is_misuse }
     {
         let SerializeTupleStruct {
             serializer,
             held,
-            bare,
+            single,
             awaits: _,
             opened,
         } = self;
-        let body = if bare { Body::Bare } else { Body::List };
-        end_fields(serializer, held, body, opened)
+        let form = if single {
+            StructForm::Single
+        } else {
+            StructForm::List
+        };
+        end_fields(serializer, held, form, opened)
     }
 }

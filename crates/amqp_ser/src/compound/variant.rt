@@ -65,7 +65,7 @@ impl<'a, S: Serializer> SerializeTupleVariant<'a, S> {
     pub fn serialize_field<T: Serialize>(&mut self, value: &T) -> Result<(), S::Error>
         ensures same { self.new.serializer.ghost_name ≡ self.old.serializer.ghost_name }
         ensures step { (i : ℕ) →
-            Feeds S.permits S.has (Kind.Fields i) (T.tree value.now) self.old.serializer.now
+            Feeds S.permits S.has (Kind.Variant i) (T.tree value.now) self.old.serializer.now
             self.old.held result self.new.serializer.now self.new.held }
     {
         feed_part(&mut *self.serializer, &mut self.held, value)
@@ -78,8 +78,8 @@ impl<'a, S: Serializer> SerializeTupleVariant<'a, S> {
     #[inline(always)]
     pub fn end(self) -> Result<S::Ok, S::Error>
         ensures { (start : S) (i : ℕ) (ps : List (Option Tree)) →
-            S.has start (Kind.Fields i) self.entry.serializer.now self.entry.held ps →
-            S.permits start (whole (Kind.Fields i) ps) result self.exit.0.now }
+            S.has start (Kind.Variant i) self.entry.serializer.now self.entry.held ps →
+            S.permits start (whole (Kind.Variant i) ps) result self.exit.0.now }
     {
         let SerializeTupleVariant { serializer, held } = self;
         serializer.end(held)

@@ -112,7 +112,7 @@ fn a_refused_value_takes_its_key_back(rt: HostRuntime) -> Result<(), Fail> {
 fn names_ask_for_kinds(rt: HostRuntime) -> Result<(), Fail> {
     let alloc = rt.alloc();
     let reading = Reading {
-        place: Symbol::try_from_str(alloc, "roof")?,
+        position: Symbol::try_from_str(alloc, "roof")?,
         at: Timestamp::from(13),
         value: None,
     };
@@ -175,7 +175,7 @@ fn descriptors_come_before_bodies(rt: HostRuntime) -> Result<(), Fail> {
 }
 
 #[test]
-fn enums_of_a_name_are_bare_or_refused(rt: HostRuntime) -> Result<(), Fail> {
+fn enums_of_a_name_are_single_or_refused(rt: HostRuntime) -> Result<(), Fail> {
     let alloc = rt.alloc();
     assert_eq!(rt;
         calls_of(alloc, &Named("Name", 1)).as_str(),

@@ -54,14 +54,14 @@ fn feed_described<S: amqp_ser::Serializer>(serializer: &mut S) -> Result<(S::Ok,
     Ok((fields.end()?, descriptor && again && second))
 }
 
-// A bare compound in the place of a described value takes its one value, and refuses a second; then the value comes.
+// A single compound in the place of a described value takes its one value, and refuses a second; then the value comes.
 fn refuse_late<S: amqp_ser::Serializer>(serializer: &mut S) -> Result<S::Ok, S::Error> {
-    let mut outer = serializer.begin(Kind::Bare);
+    let mut outer = serializer.begin(Kind::Single);
     serializer.begin_descriptor(&mut outer);
     let code = serializer.serialize_u64(1);
     serializer.end_descriptor(&mut outer, code)?;
     serializer.begin_part(&mut outer);
-    let mut inner = serializer.begin(Kind::Bare);
+    let mut inner = serializer.begin(Kind::Single);
     for n in [2u8, 3] {
         serializer.begin_part(&mut inner);
         let part = serializer.serialize_u8(n);
@@ -75,7 +75,7 @@ fn refuse_late<S: amqp_ser::Serializer>(serializer: &mut S) -> Result<S::Ok, S::
     serializer.end(outer)
 }
 
-fn map_of(alloc: Global, pairs: &[(&str, u8)]) -> Result<Value, Fail> {
+fn map_value(alloc: Global, pairs: &[(&str, u8)]) -> Result<Value, Fail> {
     let mut map = OrderedMap::new(alloc);
     for (key, value) in pairs {
         let key = Value::String(String::from_str(alloc, *key)?);
@@ -93,10 +93,13 @@ fn one_pair(alloc: Global, index: u32, payload: Value) -> Result<Value, Fail> {
 #[test]
 fn a_present_key_keeps_its_place(rt: HostRuntime) -> Result<(), Fail> {
     let mut serializer = Serializer::new(rt.alloc());
-    assert_eq!(rt; feed_map(&mut serializer, &[])?, map_of(rt.alloc(), &[])?);
+    assert_eq!(rt;
+        feed_map(&mut serializer, &[])?,
+        map_value(rt.alloc(), &[])?
+    );
     assert_eq!(rt;
         feed_map(&mut serializer, &[("a", 1), ("b", 2), ("a", 3)])?,
-        map_of(rt.alloc(), &[("a", 3), ("b", 2)])?
+        map_value(rt.alloc(), &[("a", 3), ("b", 2)])?
     );
     Ok(())
 }
@@ -106,7 +109,7 @@ fn misuse_leaves_a_map_as_it_was(rt: HostRuntime) -> Result<(), Fail> {
     let mut serializer = Serializer::new(rt.alloc());
     let (map, refused) = misuse_map(&mut serializer)?;
     assert!(rt; refused);
-    assert_eq!(rt; map, map_of(rt.alloc(), &[("a", 1)])?);
+    assert_eq!(rt; map, map_value(rt.alloc(), &[("a", 1)])?);
     assert_eq!(rt; end_with_a_key(&mut serializer), Err(Error::InvalidValue));
     Ok(())
 }

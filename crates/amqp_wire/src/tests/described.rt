@@ -1,7 +1,7 @@
 //! Described values and transparent vectors.
 
 use super::{begins, writes};
-use crate::headers::Headers;
+use crate::measurer::Measurer;
 use crate::writer::Writer;
 use amqp_data::{
     Array, Described, Descriptor, Error, OrderedMap, Symbol, SymbolRef, TransparentVec,
@@ -115,9 +115,9 @@ fn passes_over<S: Serializer, T: Serialize, U: Serialize>(
 fn both_walks_refuse_what_is_misplaced(rt: HostRuntime) -> Result<(), Fail> {
     let vector = TransparentVec::new(vec![in rt.alloc(); true]?);
     let array = Array::from(vec![in rt.alloc(); coded(1, 2u8)]?);
-    let mut headers = Headers::new(rt.alloc());
-    assert_eq!(rt; passes_over(&mut headers, &vector, &array), Ok(5));
-    let table = headers.into_headers();
+    let mut measurer = Measurer::new(rt.alloc());
+    assert_eq!(rt; passes_over(&mut measurer, &vector, &array), Ok(5));
+    let table = measurer.into_headers();
     assert_eq!(rt; table.len(), 1, "of the list alone");
     let mut writer = Writer::new(table, Vec::with_capacity(rt.alloc(), 50)?);
     assert_eq!(rt; passes_over(&mut writer, &vector, &array), Ok(()));

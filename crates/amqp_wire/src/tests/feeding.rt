@@ -6,7 +6,7 @@ ghost use Rattle.amqp_ser.specs.Tree.{scalar, ubyte};
 ghost use Rattle.amqp_ser.specs.declared.kind.Kind.TheVariants.{List};
 
 use super::refused::NoTree;
-use crate::headers::Headers;
+use crate::measurer::Measurer;
 use crate::writer::Writer;
 use amqp_data::{Error, TransparentVec, markers};
 use amqp_ser::{Mark, Serialize, Serializer};
@@ -21,12 +21,12 @@ pub(super) trait Feed {
 /// The bytes, where all three walks agree on their number.
 fn fed<F: Feed>(alloc: Global, what: &F) -> Result<Vec<u8>, Error> {
     let size = what.feed(&mut SizeSerializer::new());
-    let mut headers = Headers::new(alloc);
-    let len = what.feed(&mut headers)?;
+    let mut measurer = Measurer::new(alloc);
+    let len = what.feed(&mut measurer)?;
     if size != Ok(len) {
         return Err(Error::Message("two lengths"));
     }
-    let mut writer = Writer::new(headers.into_headers(), Vec::with_capacity(alloc, len)?);
+    let mut writer = Writer::new(measurer.into_headers(), Vec::with_capacity(alloc, len)?);
     what.feed(&mut writer)?;
     Ok(writer.into_bytes())
 }

@@ -1,6 +1,6 @@
 //! What goes on after refusals: both walks refuse at the same calls, and the bytes are those of what was taken.
 
-use crate::headers::Headers;
+use crate::measurer::Measurer;
 use crate::writer::Writer;
 use amqp_data::Error;
 use amqp_ser::{Fixed, Kind, Mark, Serializer};
@@ -177,7 +177,7 @@ fn alone<S: Serializer>(
     seed: u64,
     depth: u32,
 ) -> Result<S::Ok, S::Error> {
-    let mut held = serializer.begin(Kind::Bare);
+    let mut held = serializer.begin(Kind::Single);
     for part in 0..pick(seed, 3, 3) {
         let next = child(seed, part.wrapping_add(100));
         if refused.skips(next) {
@@ -215,7 +215,7 @@ fn only<S: Serializer>(
     seed: u64,
     depth: u32,
 ) -> Result<S::Ok, S::Error> {
-    let mut held = serializer.begin(Kind::Only(7));
+    let mut held = serializer.begin(Kind::NewtypeVariant(7));
     for part in 0..3u64 {
         if feed(
             &mut *serializer,
@@ -256,7 +256,7 @@ fn value<S: Serializer>(
             serializer.mark(Mark::Symbol);
             sequence(serializer, Kind::List, refused, seed, below)
         }
-        7 => sequence(serializer, Kind::Fields(3), refused, seed, below),
+        7 => sequence(serializer, Kind::Variant(3), refused, seed, below),
         8 => only(serializer, refused, seed, below),
         9 | 10 => alone(serializer, refused, seed, below),
         11 => pairs(serializer, refused, seed, below),
@@ -272,13 +272,13 @@ fn walked(
     len: usize,
     refused: &mut Refused,
 ) -> Result<Vec<u8>, Error> {
-    let mut headers = Headers::new(alloc);
-    let counted = value(&mut headers, &mut *refused, seed, depth)?;
+    let mut measurer = Measurer::new(alloc);
+    let counted = value(&mut measurer, &mut *refused, seed, depth)?;
     if counted != len {
         return Err(Error::Message("two lengths"));
     }
     let out = Vec::with_capacity(alloc, counted)?;
-    let mut writer = Writer::new(headers.into_headers(), out);
+    let mut writer = Writer::new(measurer.into_headers(), out);
     value(&mut writer, refused, seed, depth)?;
     if !writer.is_whole() {
         return Err(Error::Message("cut short"));
@@ -303,8 +303,8 @@ fn agrees(alloc: Global, seed: u64, depth: u32) -> bool {
             }
         }
         Err(size) => {
-            let mut headers = Headers::new(alloc);
-            match value(&mut headers, &mut Refused::new(), seed, depth) {
+            let mut measurer = Measurer::new(alloc);
+            match value(&mut measurer, &mut Refused::new(), seed, depth) {
                 Ok(_) => false,
                 Err(e) => size == e,
             }

@@ -2,7 +2,7 @@
 
 ghost use Rattle.std.specs.Prelude.{None};
 
-use crate::headers::Headers;
+use crate::measurer::Measurer;
 use crate::writer::Writer;
 use amqp_data::Error;
 use amqp_ser::{Mark, Serialize, Serializer};
@@ -33,10 +33,10 @@ fn passes_over<S: Serializer>(serializer: &mut S) -> Result<S::Ok, S::Error> {
 
 #[test]
 fn a_refused_element_leaves_no_header_and_no_byte(rt: HostRuntime) -> Result<(), Fail> {
-    let mut headers = Headers::new(rt.alloc());
-    assert_eq!(rt; passes_over(&mut headers), Ok(12));
-    assert!(rt; !headers.is_refused());
-    let table = headers.into_headers();
+    let mut measurer = Measurer::new(rt.alloc());
+    assert_eq!(rt; passes_over(&mut measurer), Ok(12));
+    assert!(rt; !measurer.is_refused());
+    let table = measurer.into_headers();
     assert_eq!(rt; table.len(), 2, "of the list and of the list of b");
     let mut writer = Writer::new(table, Vec::with_capacity(rt.alloc(), 12)?);
     assert_eq!(rt; passes_over(&mut writer), Ok(()));
@@ -60,9 +60,9 @@ fn passes_over_an_entry<S: Serializer>(serializer: &mut S) -> Result<S::Ok, S::E
 
 #[test]
 fn a_refused_value_takes_its_key_back(rt: HostRuntime) -> Result<(), Fail> {
-    let mut headers = Headers::new(rt.alloc());
-    assert_eq!(rt; passes_over_an_entry(&mut headers), Ok(16));
-    let table = headers.into_headers();
+    let mut measurer = Measurer::new(rt.alloc());
+    assert_eq!(rt; passes_over_an_entry(&mut measurer), Ok(16));
+    let table = measurer.into_headers();
     assert_eq!(rt; table.len(), 2, "of the map and of its first key");
     let mut writer = Writer::new(table, Vec::with_capacity(rt.alloc(), 16)?);
     assert_eq!(rt; passes_over_an_entry(&mut writer), Ok(()));

@@ -3,7 +3,7 @@
 ghost use Rattle.std.specs.Prelude.{Some, [], ◌∷◌};
 ghost use Rattle.amqp_ser.specs.Tree.{scalar, ulong, int, string, uint, bool};
 ghost use Rattle.amqp_ser.specs.Compounds.{whole};
-ghost use Rattle.amqp_ser.specs.declared.kind.Kind.TheVariants.{Only, Fields};
+ghost use Rattle.amqp_ser.specs.declared.kind.Kind.TheVariants.{NewtypeVariant, Variant};
 
 use super::{begins, writes};
 use amqp_data::{Array, Dec32, OrderedMap, SymbolRef, Timestamp, Uuid};
@@ -192,7 +192,7 @@ fn maps(rt: HostRuntime) -> Result<(), Fail> {
 struct Number(u64);
 
 impl Serialize for Number {
-    ghost tree = { λ v. whole (Only 1) (Some (scalar (ulong v.0)) ∷ []) };
+    ghost tree = { λ v. whole (NewtypeVariant 1) (Some (scalar (ulong v.0)) ∷ []) };
 
     fn serialize<S: Serializer>(&self, serializer: &mut S) -> Result<S::Ok, S::Error> {
         serializer.serialize_newtype_variant("Sample", 1, "Number", &self.0)
@@ -203,7 +203,7 @@ impl Serialize for Number {
 struct Pair(i32, &'static str);
 
 impl Serialize for Pair {
-    ghost tree = { λ v. whole (Fields 1)
+    ghost tree = { λ v. whole (Variant 1)
         (Some (scalar (int v.0)) ∷ Some (scalar (string v.1.now)) ∷ []) };
 
     fn serialize<S: Serializer>(&self, serializer: &mut S) -> Result<S::Ok, S::Error> {

@@ -88,11 +88,15 @@ fn widths_turn_long(rt: HostRuntime) -> Result<(), Fail> {
         (b'\n', 127, b"size 257\nbytes c0ff7fa100a100"),
         (b'\n', 128, b"size 265\nbytes d00000010400000080a100a100"),
     ];
-    for (byte, count, front) in rows {
+    for (byte, count, prefix) in rows {
         let input = vec![in alloc; byte; count]?;
         let (answer, put) = lines(alloc, &mut SliceReader::new(&input));
         assert_eq!(rt; answer, Ok(()), "{count} bytes {byte}");
-        assert_eq!(rt; put.get(..front.len()), Some(front), "{count} bytes {byte}");
+        assert_eq!(rt;
+            put.get(..prefix.len()),
+            Some(prefix),
+            "{count} bytes {byte}"
+        );
     }
     Ok(())
 }

@@ -17,7 +17,7 @@ use std::test::Fail;
 struct Newtype(u64);
 
 impl Serialize for Newtype {
-    ghost tree = { λ n. whole (kind.Only 1) (Some (scalar (ulong n.0)) ∷ []) };
+    ghost tree = { λ n. whole (kind.NewtypeVariant 1) (Some (scalar (ulong n.0)) ∷ []) };
 
     fn serialize<S: Serializer>(&self, serializer: &mut S) -> Result<S::Ok, S::Error> {
         serializer.serialize_newtype_variant("Sample", 1, "Newtype", &self.0)
@@ -30,7 +30,7 @@ struct Tuple(i32, &'static str);
 
 impl Serialize for Tuple {
     ghost tree = { λ t.
-        whole (kind.Fields 1) (Some (scalar (int t.0)) ∷ (Some (scalar (string t.1.now)) ∷ [])) };
+        whole (kind.Variant 1) (Some (scalar (int t.0)) ∷ (Some (scalar (string t.1.now)) ∷ [])) };
 
     fn serialize<S: Serializer>(&self, serializer: &mut S) -> Result<S::Ok, S::Error> {
         let mut fields = serializer.serialize_tuple_variant("Sample", 1, "Tuple", 2)?;
@@ -46,7 +46,7 @@ struct Struct(u32, bool);
 
 impl Serialize for Struct {
     ghost tree = { λ s.
-        whole (kind.Fields 0) (Some (scalar (uint s.0)) ∷ (Some (scalar (bool s.1)) ∷ [])) };
+        whole (kind.Variant 0) (Some (scalar (uint s.0)) ∷ (Some (scalar (bool s.1)) ∷ [])) };
 
     fn serialize<S: Serializer>(&self, serializer: &mut S) -> Result<S::Ok, S::Error> {
         let mut fields = serializer.serialize_struct_variant("Sample", 0, "Struct", 2)?;

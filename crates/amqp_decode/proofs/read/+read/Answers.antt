@@ -1,19 +1,19 @@
 use Rattle.std.proofs.Common.{rules, ◌≡◌, [], ◌∷◌, ◌++◌, Some, None, sym, ap, ◌∙◌, map, ◌+◌, ◌-◌, ◌/◌, arith}
 use Rattle.amqp_value.specs.TreeOf.{tree_of, pairs_trees}
 use Rattle.amqp_decode.specs.Codes.{primitive_of}
-use Rattle.amqp_decode.specs.Parsed.{parse, held, payload_in, list_in, map_in, array_in, insert}
+use Rattle.amqp_decode.specs.Parsed.{parse, parse_content, payload_in, parse_list, parse_map, parse_array, insert}
 use Rattle.amqp_decode.proofs.MapLemmas.{pairs_trees-insert_entry}
-use Rattle.amqp_decode.proofs.Steps.{held-zero, held-at, parse-zero, parse-at, values-next, insert-next, insert-no_key, insert-no_value, list-none, map-none, array-none}
+use Rattle.amqp_decode.proofs.Steps.{parse_content-zero, parse_content-at, parse-zero, parse-at, values-next, insert-next, insert-no_key, insert-no_value, list-none, map-none, array-none}
 use Rattle.amqp_decode.proofs.read.+read.Goals as goal
 
 pub read_content-returns-then-depth-eq0-clause-err : goal.read_content-returns-then-depth-eq0-clause-err
-read_content-returns-then-depth-eq0-clause-err t c = λ _. held-zero c.args.depth c.args.code c.args.content.now c.if-depth-eq0.true
+read_content-returns-then-depth-eq0-clause-err t c = λ _. parse_content-zero c.args.depth c.args.code c.args.content.now c.if-depth-eq0.true
 
 pub read_content-returns-clause-ok : goal.read_content-returns-clause-ok
-read_content-returns-clause-ok t c = rw (held-at c.args.depth c.args.code c.args.content.now (omega (arith, c.if-depth-eq0.false))) c.read_content_over.ensures.ok
+read_content-returns-clause-ok t c = rw (parse_content-at c.args.depth c.args.code c.args.content.now (omega (arith, c.if-depth-eq0.false))) c.read_content_over.ensures.ok
 
 pub read_content-returns-clause-err : goal.read_content-returns-clause-err
-read_content-returns-clause-err t c = rw (held-at c.args.depth c.args.code c.args.content.now (omega (arith, c.if-depth-eq0.false))) c.read_content_over.ensures.err
+read_content-returns-clause-err t c = rw (parse_content-at c.args.depth c.args.code c.args.content.now (omega (arith, c.if-depth-eq0.false))) c.read_content_over.ensures.err
 
 pub read_frame-returns-then-depth-eq0-clause-err : goal.read_frame-returns-then-depth-eq0-clause-err
 read_frame-returns-then-depth-eq0-clause-err t c = λ _. parse-zero c.args.depth c.args.bytes.now c.if-depth-eq0.true
@@ -32,7 +32,7 @@ read_list-loop-preserved t c =
 
 pub read_list-returns-in_err-item-clause-err : goal.read_list-returns-in_err-item-clause-err
 read_list-returns-in_err-item-clause-err t c =
-    let none : parse c.args.depth c.loop.rest.now ≡ None → list_in (parse c.args.depth) (c.args.count, c.args.body.now) ≡ None =
+    let none : parse c.args.depth c.loop.rest.now ≡ None → parse_list (parse c.args.depth) (c.args.count, c.args.body.now) ≡ None =
     λ h. list-none (parse c.args.depth) c.args.count c.loop.counter c.loop.rest.now c.args.body.now (map tree_of c.loop.items.items) c.loop-test.true c.loop.invariant h in
     search (rules, none)
 
@@ -44,21 +44,21 @@ read_map-loop-preserved t c =
 
 pub read_map-returns-in_err-key-clause-err : goal.read_map-returns-in_err-key-clause-err
 read_map-returns-in_err-key-clause-err t c =
-    let none : parse c.args.depth c.loop.rest.now ≡ None → map_in (parse c.args.depth) (c.args.count, c.args.body.now) ≡ None =
+    let none : parse c.args.depth c.loop.rest.now ≡ None → parse_map (parse c.args.depth) (c.args.count, c.args.body.now) ≡ None =
     λ h. map-none (parse c.args.depth) c.args.count c.args.body.now
     (sym c.loop.invariant ∙ insert-no_key (parse c.args.depth) (c.args.count / 2) c.loop.counter c.loop.rest.now (pairs_trees c.loop.pairs.entries) c.loop-test.true h) in
     search (rules, none)
 
 pub read_map-returns-in_err-value-clause-err : goal.read_map-returns-in_err-value-clause-err
 read_map-returns-in_err-value-clause-err t c =
-    let none : parse c.args.depth c.in_ok-key.after.now ≡ None → map_in (parse c.args.depth) (c.args.count, c.args.body.now) ≡ None =
+    let none : parse c.args.depth c.in_ok-key.after.now ≡ None → parse_map (parse c.args.depth) (c.args.count, c.args.body.now) ≡ None =
     λ h. map-none (parse c.args.depth) c.args.count c.args.body.now
     (sym c.loop.invariant ∙ insert-no_value (parse c.args.depth) (c.args.count / 2) c.loop.counter c.loop.rest.now c.in_ok-key.after.now (tree_of c.in_ok-key.key) (pairs_trees c.loop.pairs.entries) c.loop-test.true c.in_ok-key.ensures.ok h) in
     search (rules, none)
 
 pub read_array-loop-preserved : goal.read_array-loop-preserved
 read_array-loop-preserved t c =
-    let step = values-next (payload_in (held c.args.depth) c.in_ok-code-in-Some.code) c.args.count c.loop.counter c.loop.rest.now c.in_ok-item-in-Some.after.now c.in_ok-item-in-Some.item c.loop.items.items c.loop-test.true c.in_ok-item-in-Some.ensures.ok in
+    let step = values-next (payload_in (parse_content c.args.depth) c.in_ok-code-in-Some.code) c.args.count c.loop.counter c.loop.rest.now c.in_ok-item-in-Some.after.now c.in_ok-item-in-Some.item c.loop.items.items c.loop-test.true c.in_ok-item-in-Some.ensures.ok in
     let pushed : c.push.new.self.items ≡ c.loop.items.items ++ c.in_ok-item-in-Some.item ∷ [] = search rules in
     rw pushed (step ∙ c.loop.invariant)
 
@@ -66,6 +66,6 @@ pub read_array-returns-in_err-item-in-Some-clause-err : goal.read_array-returns-
 read_array-returns-in_err-item-in-Some-clause-err t c =
     let body : c.args.body.now ≡ c.in-Some.constructor.now ∷ c.in-Some.rest.now = search rules in
     let named : primitive_of c.in-Some.constructor.now ≡ Some c.in_ok-code-in-Some.code = search rules in
-    let none : payload_in (held c.args.depth) c.in_ok-code-in-Some.code c.loop.rest.now ≡ None → array_in (held c.args.depth) (c.args.count, c.args.body.now) ≡ None =
-    λ h. array-none (held c.args.depth) c.in-Some.constructor.now c.in_ok-code-in-Some.code c.args.count c.loop.counter c.loop.rest.now c.args.body.now c.in-Some.rest.now (map tree_of c.loop.items.items) c.loop-test.true named body c.loop.invariant h in
+    let none : payload_in (parse_content c.args.depth) c.in_ok-code-in-Some.code c.loop.rest.now ≡ None → parse_array (parse_content c.args.depth) (c.args.count, c.args.body.now) ≡ None =
+    λ h. array-none (parse_content c.args.depth) c.in-Some.constructor.now c.in_ok-code-in-Some.code c.args.count c.loop.counter c.loop.rest.now c.args.body.now c.in-Some.rest.now (map tree_of c.loop.items.items) c.loop-test.true named body c.loop.invariant h in
     search (rules, none)

@@ -1,7 +1,7 @@
 use Rattle.std.proofs.Common.{◌≡◌, [], map, ◌+◌, ◌-◌, ◌*◌, ◌/◌}
 use Rattle.amqp_ser.specs.Tree.{no_pairs}
 use Rattle.amqp_value.specs.TreeOf.{tree_of, pairs_trees}
-use Rattle.amqp_decode.specs.Parsed.{parse, held, payload_in, gather, insert}
+use Rattle.amqp_decode.specs.Parsed.{parse, parse_content, payload_in, gather, insert}
 use Rattle.amqp_decode.proofs.read.+read.Given as goal
 
 -- what stands in a compound has a lesser depth, and calls for encoded values and items of that same depth
@@ -40,4 +40,4 @@ invariant-read_map-loop l =
 
 abbrev pub invariant-read_array-loop : goal.invariant-read_array-loop
 invariant-read_array-loop l =
-    gather (payload_in (held l.depth) l.code) (l.count - l.counter) l.rest (map tree_of l.items.items) ≡ gather (payload_in (held l.depth) l.code) l.count l.initial.rest []
+    gather (payload_in (parse_content l.depth) l.code) (l.count - l.counter) l.rest (map tree_of l.items.items) ≡ gather (payload_in (parse_content l.depth) l.code) l.count l.initial.rest []

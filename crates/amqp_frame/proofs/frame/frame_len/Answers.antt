@@ -1,6 +1,6 @@
 use Rattle.std.proofs.Common.{◌≡◌, inr, ap, Some, arith, length-drop}
 use Rattle.std.proofs.lemmas.List.{drop_all}
-use Rattle.amqp_frame.specs.Frame.{IsBeginning}
+use Rattle.amqp_frame.specs.Frame.{IsIncomplete}
 use Rattle.amqp_frame.proofs.Open.{open-frame}
 use Rattle.amqp_frame.proofs.Primitive.{open-none, only-length, rest-is, open-skip, open-zero}
 use Rattle.amqp_frame.proofs.frame.frame_len.Goals as goal
@@ -9,7 +9,7 @@ pub returns-then-at-bytes-clause-none : goal.returns-then-at-bytes-clause-none
 returns-then-at-bytes-clause-none c =
     let o = c.loop-open.invariant in
     open-none c.args.bytes.now c.loop-open.at c.loop-open.open (omega arith) o.completes
-    (inr (rw (drop_all c.loop-open.at c.args.bytes.now (omega arith)) IsBeginning.nothing))
+    (inr (rw (drop_all c.loop-open.at c.args.bytes.now (omega arith)) IsIncomplete.nothing))
 
 pub loop-open-preserved-then-bytes-at-eq0 : goal.loop-open-preserved-then-bytes-at-eq0
 loop-open-preserved-then-bytes-at-eq0 c =
@@ -43,10 +43,10 @@ loop-open-preserved c =
     }
 
 pub returns-then-at-bytes-clause-only : goal.returns-then-at-bytes-clause-only
-returns-then-at-bytes-clause-only c = λ front rest f e. absurd (returns-then-at-bytes-clause-none c (front, rest, f, e))
+returns-then-at-bytes-clause-only c = λ prefix rest f e. absurd (returns-then-at-bytes-clause-none c (prefix, rest, f, e))
 
 pub returns-in_default-clause-only : goal.returns-in_default-clause-only
-returns-in_default-clause-only c = λ front rest f e. absurd (returns-in_default-clause-none c (front, rest, f, e))
+returns-in_default-clause-only c = λ prefix rest f e. absurd (returns-in_default-clause-none c (prefix, rest, f, e))
 
 pub returns-clause-found : goal.returns-clause-found
 returns-clause-found c =
@@ -56,6 +56,6 @@ returns-clause-found c =
     (o.within, open-frame _ (rw zero at whole))
 
 pub returns-clause-only : goal.returns-clause-only
-returns-clause-only c = λ front rest f e.
+returns-clause-only c = λ prefix rest f e.
     let found = returns-clause-found c in
-    ap Some (only-length c.args.bytes.now front rest c.loop-open.at found.0 found.1 f e)
+    ap Some (only-length c.args.bytes.now prefix rest c.loop-open.at found.0 found.1 f e)

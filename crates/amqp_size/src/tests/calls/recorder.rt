@@ -3,7 +3,7 @@
 ghost use Rattle.std.specs.Prelude.{◌≡◌, ◌++◌, ◌∷◌, [], ℕ, Err, IfErr, IsErr, List, MatchResult, None, Option, Result};
 ghost use Rattle.amqp_ser.specs.Tree.{Tree};
 
-use crate::open_compound::Open;
+use crate::open_compound::OpenCompound;
 use crate::{Refusal, SizeSerializer};
 use amqp_ser::{Fixed, Kind, Mark, Serialize, Serializer};
 use std::alloc::Global;
@@ -37,7 +37,7 @@ impl Calls {
 }
 
 impl Serializer for Calls {
-    ghost use Rattle.amqp_size.specs.Counted.{size_permits, size_has, size_awaits, size_awaits_descriptor, no_count_on_none};
+    ghost use Rattle.amqp_size.specs.SizeSerializer.{size_permits, size_has, size_awaits, size_awaits_descriptor, no_count_on_none};
     ghost use Rattle.amqp_size.specs.declared.refusal.Refusal.TheVariants.{InvalidValue};
     ghost use Rattle.amqp_ser.specs.Compounds.{whole};
     ghost use Rattle.amqp_ser.specs.Composites.{as_described, descriptor_of};
@@ -47,7 +47,7 @@ impl Serializer for Calls {
 
     type Error = Refusal;
 
-    type Open = Open;
+    type Open = OpenCompound;
 
     ghost permits = { λ s t r after. size_permits s.inner t r after.inner };
 
@@ -111,27 +111,31 @@ impl Serializer for Calls {
         self.inner.mark(mark);
     }
 
-    fn begin(&mut self, kind: Kind) -> Open {
+    fn begin(&mut self, kind: Kind) -> OpenCompound {
         self.note(match kind {
             Kind::List => "[",
             Kind::Map => "{",
-            Kind::Fields(_) => "fields [",
-            Kind::Only(_) => "only [",
-            Kind::Bare => "bare [",
+            Kind::Variant(_) => "fields [",
+            Kind::NewtypeVariant(_) => "only [",
+            Kind::Single => "bare [",
         });
         self.inner.begin(kind)
     }
 
-    fn vacant(&self) -> Open {
+    fn vacant(&self) -> OpenCompound {
         self.inner.vacant()
     }
 
-    fn begin_part(&mut self, held: &mut Open) {
+    fn begin_part(&mut self, held: &mut OpenCompound) {
         self.note(" ");
         self.inner.begin_part(held);
     }
 
-    fn end_part(&mut self, held: &mut Open, part: Result<usize, Refusal>) -> Result<(), Refusal>
+    fn end_part(
+        &mut self,
+        held: &mut OpenCompound,
+        part: Result<usize, Refusal>,
+    ) -> Result<(), Refusal>
         ensures step { (start : Calls) (kind : Kind) (before : Calls) (ps : List (Option Tree))
             (p : Option Tree) →
             size_awaits start.inner kind before.inner held.old ps →
@@ -147,14 +151,14 @@ impl Serializer for Calls {
         self.inner.end_part(held, part)
     }
 
-    fn begin_descriptor(&mut self, held: &mut Open) {
+    fn begin_descriptor(&mut self, held: &mut OpenCompound) {
         self.note(" by ");
         self.inner.begin_descriptor(held);
     }
 
     fn end_descriptor(
         &mut self,
-        held: &mut Open,
+        held: &mut OpenCompound,
         part: Result<usize, Refusal>,
     ) -> Result<(), Refusal>
         ensures step { (start before : Calls) (d : Option Tree) →
@@ -162,11 +166,11 @@ impl Serializer for Calls {
             size_permits before.inner d part self.old.inner →
             MatchResult result
             (λ _. (mid : Calls)
-            × (size_has mid.inner Kind.Bare self.new.inner held.new []
+            × (size_has mid.inner Kind.Single self.new.inner held.new []
             × ((t : Option Tree) (r : Result ℕ Refusal) (after : Calls) →
             size_permits mid.inner t r after.inner →
             size_permits start.inner (as_described (descriptor_of d) t) r after.inner)))
-            (λ e. size_has start.inner Kind.Bare self.new.inner held.new [] × ((t : Option Tree) →
+            (λ e. size_has start.inner Kind.Single self.new.inner held.new [] × ((t : Option Tree) →
             size_permits start.inner (as_described (descriptor_of d) t) (Err e) self.new.inner)) }
         ensures refused { IfErr part (λ _. IsErr result) }
         ensures other_kinds { (start before : Calls) (d : Option Tree) →
@@ -177,19 +181,19 @@ impl Serializer for Calls {
         self.inner.end_descriptor(held, part)
     }
 
-    fn undo_part(&mut self, held: &mut Open) {
+    fn undo_part(&mut self, held: &mut OpenCompound) {
         self.note(" undone,");
         self.inner.undo_part(held);
     }
 
-    fn misuse(&mut self, held: &mut Open) -> Refusal {
+    fn misuse(&mut self, held: &mut OpenCompound) -> Refusal {
         self.note(" misuse,");
         self.inner.misuse(held)
     }
 
-    fn end(&mut self, held: Open) -> Result<usize, Refusal> {
+    fn end(&mut self, held: OpenCompound) -> Result<usize, Refusal> {
         self.note(match held.shape() {
-            crate::place::Shape::Map => " }",
+            crate::position::Shape::Map => " }",
             _ => " ]",
         });
         self.inner.end(held)

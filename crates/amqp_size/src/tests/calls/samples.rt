@@ -14,20 +14,20 @@ use amqp_ser::{Serialize, Serializer};
 /// A struct of three fields: a list of them.
 #[derive(Drop)]
 pub struct Reading {
-    pub place: Symbol,
+    pub position: Symbol,
     pub at: Timestamp,
     pub value: Option<u8>,
 }
 
 impl Serialize for Reading {
     ghost tree = { λ r. whole kind.List
-        (Some (scalar (symbol (symbol_text r.place)))
+        (Some (scalar (symbol (symbol_text r.position)))
         ∷ Some (scalar (timestamp (milliseconds_of r.at))) ∷ optional (λ n. Some (scalar (ubyte n)))
         r.value ∷ []) };
 
     fn serialize<S: Serializer>(&self, serializer: &mut S) -> Result<S::Ok, S::Error> {
         let mut fields = serializer.serialize_struct("Reading", 3)?;
-        fields.serialize_field("place", &self.place)?;
+        fields.serialize_field("place", &self.position)?;
         fields.serialize_field("at", &self.at)?;
         fields.serialize_field("value", &self.value)?;
         fields.end()

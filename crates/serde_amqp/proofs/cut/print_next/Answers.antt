@@ -14,4 +14,4 @@ returns-in_err-put-clause-refused g c =
     let p = err_from_is_err_and c.from_residual-in_err-put.result c.from_residual-in_err-put.ensures.1 in
     let frame = c.in_ok-frame.ensures.frame in
     let line = c.deref.ensures.value ∙ c.in_ok-line.ensures.ok ∙ ap cut_line c.as_slice.ensures.bytes in
-    rw (p.1, p.2) (put-refused _ _ _ _ _ c.in_ok-frame.frame _ c.in_err-put.field-0.0 c.in_ok-peek.ensures.kept frame.0 frame.1 line c.in_err-put.ensures.front c.in_err-put.ensures.others)
+    rw (p.1, p.2) (put-refused _ _ _ _ _ c.in_ok-frame.frame _ c.in_err-put.field-0.0 c.in_ok-peek.ensures.kept frame.0 frame.1 line c.in_err-put.ensures.prefix c.in_err-put.ensures.others)

@@ -2,13 +2,13 @@ use Rattle.std.proofs.Common.{◌≡◌, sym, refl, ◌∙◌, ap, arith, ◌&&�
 use Rattle.amqp_ser.specs.Tree.{uint, map, variant, list}
 use Rattle.amqp_ser.specs.Limits.{fits}
 use Rattle.amqp_ser.specs.Scalars.{scalar_form}
-use Rattle.amqp_ser.specs.Encoding.{enc}
-use Rattle.amqp_ser.specs.Writable.{within}
+use Rattle.amqp_ser.specs.Encoding.{encoding}
+use Rattle.amqp_ser.specs.Writable.{within_limits}
 use Rattle.amqp_ser.specs.Compounds.{whole, all_trees}
 use Rattle.amqp_size.specs.Width.{map_width, list_width}
-use Rattle.amqp_size.specs.State.{place_at}
-use Rattle.amqp_size.specs.Place.{rest, is_gathered}
-use Rattle.amqp_size.specs.WholeUnder.{Plain}
+use Rattle.amqp_size.specs.State.{position_at}
+use Rattle.amqp_size.specs.Position.{without_prefix, is_gathered}
+use Rattle.amqp_size.specs.WholePending.{Plain}
 use Rattle.amqp_size.proofs.Holding.{gathered_of}
 use Rattle.amqp_size.proofs.Lengths.{length-counted}
 use Rattle.amqp_size.proofs.NoTree.{open_none}
@@ -17,32 +17,32 @@ use Rattle.amqp_size.proofs.serializer.SizeSerializerSerializer.end.Goals as goa
 
 pub returns-in-Map-clause-answered : goal.returns-in-Map-clause-answered
 returns-in-Map-clause-answered c = λ start kind ps h done.
-    let there : place_at c.place-place.result c.head-head.result ≡ c.args.held.place = ap (place_at c.place-place.result) c.head-head.ensures ∙ c.place-place.ensures in
+    let there : position_at c.position-position.result c.prefix_len-prefix_len.result ≡ c.args.held.position = ap (position_at c.position-position.result) c.prefix_len-prefix_len.ensures ∙ c.position-position.ensures in
     let g = gathered_of start kind c.args.held ps h.0 (ap is_gathered (sym c.shape.ensures ∙ c.in-Map.is)) in
     let m : MapEnd start kind c.args.held ps = map_end start kind c.args.held ps g done (sym c.shape.ensures ∙ c.in-Map.is) in
     let sum = c.sum-sum.ensures.sum in
-    stands start.place (place_at c.place-place.result c.head-head.result) (whole kind ps) (map m.pairs) _ _ (sym g.place ∙ sym there) m.is
-    (c.accept-in-Map.ensures (h.1 ∙ ap (λ q. Plain (rest q)) (sym there)) (map m.pairs) refl m.within_it m.alike_it m.inside_it m.inside_it (m.ordinary ∙ ap map_width (sym sum) ∙ sym c.map_width.ensures) (let w = m.wide in omega arith))
+    stands start.position (position_at c.position-position.result c.prefix_len-prefix_len.result) (whole kind ps) (map m.pairs) _ _ (sym g.position ∙ sym there) m.is
+    (c.accept-in-Map.ensures (h.1 ∙ ap (λ q. Plain (without_prefix q)) (sym there)) (map m.pairs) refl m.within_limits_it m.uniform_arrays_it m.inside_it m.inside_it (m.ordinary ∙ ap map_width (sym sum) ∙ sym c.map_width.ensures) (let w = m.wide in omega arith))
 
-pub returns-in-Fields-clause-answered : goal.returns-in-Fields-clause-answered
-returns-in-Fields-clause-answered c = λ start kind ps h done.
-    let there : place_at c.place-place.result c.head-head.result ≡ c.args.held.place = ap (place_at c.place-place.result) c.head-head.ensures ∙ c.place-place.ensures in
-    let i = c.in-Fields.index in
-    let g = gathered_of start kind c.args.held ps h.0 (ap is_gathered (sym c.shape.ensures ∙ c.in-Fields.is)) in
-    let m : FieldsEnd i start kind ps c.list_width-in-Fields.result =
-    fields_end i start kind c.args.held ps c.list_width-in-Fields.result g (sym c.shape.ensures ∙ c.in-Fields.is) (c.list_width-in-Fields.ensures ∙ ap list_width c.sum-sum.ensures.sum) in
+pub returns-in-Variant-clause-answered : goal.returns-in-Variant-clause-answered
+returns-in-Variant-clause-answered c = λ start kind ps h done.
+    let there : position_at c.position-position.result c.prefix_len-prefix_len.result ≡ c.args.held.position = ap (position_at c.position-position.result) c.prefix_len-prefix_len.ensures ∙ c.position-position.ensures in
+    let i = c.in-Variant.index in
+    let g = gathered_of start kind c.args.held ps h.0 (ap is_gathered (sym c.shape.ensures ∙ c.in-Variant.is)) in
+    let m : FieldsEnd i start kind ps c.list_width-in-Variant.result =
+    fields_end i start kind c.args.held ps c.list_width-in-Variant.result g (sym c.shape.ensures ∙ c.in-Variant.is) (c.list_width-in-Variant.ensures ∙ ap list_width c.sum-sum.ensures.sum) in
     let bytes = m.bytes in
-    stands start.place (place_at c.place-place.result c.head-head.result) (whole kind ps) (variant i (list m.ts)) _ _ (sym g.place ∙ sym there) m.is
-    (c.variant.ensures (h.1 ∙ ap (λ q. Plain (rest q)) (sym there)) (variant i (list m.ts)) (list m.ts) refl m.alike_it m.inside_it m.inside_it m.within_it (ap (λ n. fits n && within (list m.ts)) bytes)
-    (length-counted 0xc1 0xd1 2 (scalar_form (uint i) ++ enc (list m.ts)) ∙ ap map_width bytes) (omega (arith, bytes)))
+    stands start.position (position_at c.position-position.result c.prefix_len-prefix_len.result) (whole kind ps) (variant i (list m.ts)) _ _ (sym g.position ∙ sym there) m.is
+    (c.variant.ensures (h.1 ∙ ap (λ q. Plain (without_prefix q)) (sym there)) (variant i (list m.ts)) (list m.ts) refl m.uniform_arrays_it m.inside_it m.inside_it m.within_limits_it (ap (λ n. fits n && within_limits (list m.ts)) bytes)
+    (length-counted 0xc1 0xd1 2 (scalar_form (uint i) ++ encoding (list m.ts)) ∙ ap map_width bytes) (omega (arith, bytes)))
 
 pub returns-in-Refused-clause-answered : goal.returns-in-Refused-clause-answered
 unfolding whole
 returns-in-Refused-clause-answered c = λ start kind ps h done.
-    let there : place_at c.place-place.result c.head-head.result ≡ c.args.held.place = ap (place_at c.place-place.result) c.head-head.ensures ∙ c.place-place.ensures in
+    let there : position_at c.position-position.result c.prefix_len-prefix_len.result ≡ c.args.held.position = ap (position_at c.position-position.result) c.prefix_len-prefix_len.ensures ∙ c.position-position.ensures in
     let g = gathered_of start kind c.args.held ps h.0 (ap is_gathered (sym c.shape.ensures ∙ c.in-Refused.is)) in
-    stands_none start.place (place_at c.place-place.result c.head-head.result) (whole kind ps) _ _ (sym g.place ∙ sym there)
-    (refused_shape start.place kind (all_trees ps) (sym g.shape ∙ sym c.shape.ensures ∙ c.in-Refused.is)) (tt, h.1 ∙ ap (λ q. Plain (rest q)) (sym there))
+    stands_none start.position (position_at c.position-position.result c.prefix_len-prefix_len.result) (whole kind ps) _ _ (sym g.position ∙ sym there)
+    (refused_shape start.position kind (all_trees ps) (sym g.shape ∙ sym c.shape.ensures ∙ c.in-Refused.is)) (tt, h.1 ∙ ap (λ q. Plain (without_prefix q)) (sym there))
 
 pub returns-in-List-clause-no_tree : goal.returns-in-List-clause-no_tree
 returns-in-List-clause-no_tree c = λ start kind ps h done none. let other = sym c.in-List.is ∙ c.shape.ensures ∙ open_none start kind c.args.held ps h.0 done none in cc
@@ -50,11 +50,11 @@ returns-in-List-clause-no_tree c = λ start kind ps h done none. let other = sym
 pub returns-in-Map-clause-no_tree : goal.returns-in-Map-clause-no_tree
 returns-in-Map-clause-no_tree c = λ start kind ps h done none. let other = sym c.in-Map.is ∙ c.shape.ensures ∙ open_none start kind c.args.held ps h.0 done none in cc
 
-pub returns-in-Fields-clause-no_tree : goal.returns-in-Fields-clause-no_tree
-returns-in-Fields-clause-no_tree c = λ start kind ps h done none. let other = sym c.in-Fields.is ∙ c.shape.ensures ∙ open_none start kind c.args.held ps h.0 done none in cc
+pub returns-in-Variant-clause-no_tree : goal.returns-in-Variant-clause-no_tree
+returns-in-Variant-clause-no_tree c = λ start kind ps h done none. let other = sym c.in-Variant.is ∙ c.shape.ensures ∙ open_none start kind c.args.held ps h.0 done none in cc
 
-pub returns-in-Only-clause-no_tree : goal.returns-in-Only-clause-no_tree
-returns-in-Only-clause-no_tree c = λ start kind ps h done none. let other = sym c.in-Only.is ∙ c.shape.ensures ∙ open_none start kind c.args.held ps h.0 done none in cc
+pub returns-in-NewtypeVariant-clause-no_tree : goal.returns-in-NewtypeVariant-clause-no_tree
+returns-in-NewtypeVariant-clause-no_tree c = λ start kind ps h done none. let other = sym c.in-NewtypeVariant.is ∙ c.shape.ensures ∙ open_none start kind c.args.held ps h.0 done none in cc
 
 pub returns-in-Array-clause-no_tree : goal.returns-in-Array-clause-no_tree
 returns-in-Array-clause-no_tree c = λ start kind ps h done none. let other = sym c.in-Array.is ∙ c.shape.ensures ∙ open_none start kind c.args.held ps h.0 done none in cc
@@ -62,5 +62,5 @@ returns-in-Array-clause-no_tree c = λ start kind ps h done none. let other = sy
 pub returns-in-Transparent-clause-no_tree : goal.returns-in-Transparent-clause-no_tree
 returns-in-Transparent-clause-no_tree c = λ start kind ps h done none. let other = sym c.in-Transparent.is ∙ c.shape.ensures ∙ open_none start kind c.args.held ps h.0 done none in cc
 
-pub returns-in-Bare-clause-no_tree : goal.returns-in-Bare-clause-no_tree
-returns-in-Bare-clause-no_tree c = λ start kind ps h done none. let other = sym c.in-Bare.is ∙ c.shape.ensures ∙ open_none start kind c.args.held ps h.0 done none in cc
+pub returns-in-Single-clause-no_tree : goal.returns-in-Single-clause-no_tree
+returns-in-Single-clause-no_tree c = λ start kind ps h done none. let other = sym c.in-Single.is ∙ c.shape.ensures ∙ open_none start kind c.args.held ps h.0 done none in cc

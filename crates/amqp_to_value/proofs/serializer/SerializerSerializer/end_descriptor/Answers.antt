@@ -2,68 +2,68 @@ use Rattle.std.proofs.Common.{◌≡◌, true, [], ◌∷◌, ◌++◌, Ok, Err,
 use Rattle.amqp_data.specs.declared.error.Error.TheVariants.{InvalidValue}
 use Rattle.amqp_ser.specs.Carried.{descriptor_content}
 use Rattle.amqp_ser.specs.Composites.{as_described, descriptor_of}
-use Rattle.amqp_to_value.specs.Around.{standing}
-use Rattle.amqp_to_value.specs.Holds.{IsAside, meant_by, value_permits}
-use Rattle.amqp_to_value.specs.Permitted.{refuses}
+use Rattle.amqp_to_value.specs.PendingDescriptors.{standing}
+use Rattle.amqp_to_value.specs.ValueSerializer.{IsSaved, meant_by, value_permits}
+use Rattle.amqp_to_value.specs.ImageOf.{refuses}
 use Rattle.amqp_to_value.proofs.AnswerLemmas.{aside_again, kept_on, parted_again}
-use Rattle.amqp_to_value.proofs.HoldsLemmas.{plain_answer}
+use Rattle.amqp_to_value.proofs.ValueSerializerLemmas.{plain_answer}
 use Rattle.amqp_to_value.proofs.DescriptorLemmas.{descriptor_refused, no_descriptor, permitted_before, same_descriptor}
 use Rattle.amqp_to_value.proofs.serializer.SerializerSerializer.end_descriptor.Goals as goal
 
 pub returns-in_err-part-clause-step : goal.returns-in_err-part-clause-step
 returns-in_err-part-clause-step c = λ start before d h r.
     let e = c.in_err-part.field-0.0 in
-    let all = start.around.kept ++ standing start.around in
+    let all = start.descriptors.kept ++ standing start.descriptors in
     let answer = subst (λ x. value_permits before d x c.args.self.now) c.in_err-part.was r in
     let kept = kept_on all before c.args.self.now (Err e) h.2 answer.1 in
-    let aside = aside_again start c.args.self.now c.release.new.self c.args.self.now.around.later kept.0 c.release.ensures.next
-    (c.release.ensures.parted start.around.kept (standing start.around) _ (parted_again start c.args.self.now kept) h.0) in
+    let saved = aside_again start c.args.self.now c.release.new.self c.args.self.now.descriptors.later kept.0 c.release.ensures.next
+    (c.release.ensures.parted start.descriptors.kept (standing start.descriptors) _ (parted_again start c.args.self.now kept) h.0) in
     let refused = plain_answer before all d (Err e) h.2 answer.0 in
     let same : c.from_residual.result ≡ Err e = search rules in
-    rw same ((h.0, h.1, aside), λ t. (descriptor_refused start d e refused t, aside))
+    rw same ((h.0, h.1, saved), λ t. (descriptor_refused start d e refused t, saved))
 
 pub returns-in_err-descriptor-clause-step : goal.returns-in_err-descriptor-clause-step
 returns-in_err-descriptor-clause-step c = λ start before d h r.
     let v = c.in_ok-part.field-0 in
-    let all = start.around.kept ++ standing start.around in
+    let all = start.descriptors.kept ++ standing start.descriptors in
     let answer = subst (λ x. value_permits before d x c.args.self.now) c.in_ok-part.was r in
     let kept = kept_on all before c.args.self.now (Ok v) h.2 answer.1 in
-    let aside = aside_again start c.args.self.now c.release.new.self c.args.self.now.around.later kept.0 c.release.ensures.next
-    (c.release.ensures.parted start.around.kept (standing start.around) _ (parted_again start c.args.self.now kept) h.0) in
+    let saved = aside_again start c.args.self.now c.release.new.self c.args.self.now.descriptors.later kept.0 c.release.ensures.next
+    (c.release.ensures.parted start.descriptors.kept (standing start.descriptors) _ (parted_again start c.args.self.now kept) h.0) in
     let stands = plain_answer before all d (Ok v) h.2 answer.0 in
     let none = c.in_err-descriptor.ensures in
     let same : c.from_residual-in_err-descriptor.result ≡ Err InvalidValue = search rules in
-    rw same ((h.0, h.1, aside), λ t. (no_descriptor start d t (same_descriptor v d stands ∙ none.0), aside))
+    rw same ((h.0, h.1, saved), λ t. (no_descriptor start d t (same_descriptor v d stands ∙ none.0), saved))
 
 pub returns-in_err-held-clause-step : goal.returns-in_err-held-clause-step
 returns-in_err-held-clause-step c = λ start before d h r.
     let v = c.in_ok-part.field-0 in
     let e = c.in_err-held.field-0.0 in
-    let all = start.around.kept ++ standing start.around in
+    let all = start.descriptors.kept ++ standing start.descriptors in
     let answer = subst (λ x. value_permits before d x c.args.self.now) c.in_ok-part.was r in
     let kept = kept_on all before c.args.self.now (Ok v) h.2 answer.1 in
-    let rel = c.release.ensures.parted start.around.kept (standing start.around) _ (parted_again start c.args.self.now kept) h.0 in
-    let after = c.in_err-held.ensures start.around.kept (standing start.around) c.args.self.now.around.later rel.0 rel.1 (c.release.ensures.next ∙ kept.0.1) h.0 in
-    let aside : IsAside start (record { alloc = c.args.self.now.alloc; under = c.args.self.now.under; around = c.describe.new.self }) = (((kept.0.0, after.4), after.1), (after.2, after.3)) in
+    let rel = c.release.ensures.parted start.descriptors.kept (standing start.descriptors) _ (parted_again start c.args.self.now kept) h.0 in
+    let after = c.in_err-held.ensures start.descriptors.kept (standing start.descriptors) c.args.self.now.descriptors.later rel.0 rel.1 (c.release.ensures.next ∙ kept.0.1) h.0 in
+    let saved : IsSaved start (record { alloc = c.args.self.now.alloc; pending = c.args.self.now.pending; descriptors = c.describe.new.self }) = (((kept.0.0, after.4), after.1), (after.2, after.3)) in
     let same : c.from_residual-in_err-held.result ≡ Err e = search rules in
-    rw same ((h.0, h.1, aside), λ t. (subst (λ x. refuses x (meant_by start (as_described (descriptor_of d) t))) (sym after.0) tt, aside))
+    rw same ((h.0, h.1, saved), λ t. (subst (λ x. refuses x (meant_by start (as_described (descriptor_of d) t))) (sym after.0) tt, saved))
 
 pub returns-clause-step : goal.returns-clause-step
 returns-clause-step c = λ start before d h r.
     let v = c.in_ok-part.field-0 in
     let x = descriptor_content c.in_ok-descriptor.descriptor in
-    let all = start.around.kept ++ standing start.around in
+    let all = start.descriptors.kept ++ standing start.descriptors in
     let answer = subst (λ x. value_permits before d x c.args.self.now) c.in_ok-part.was r in
     let kept = kept_on all before c.args.self.now (Ok v) h.2 answer.1 in
     let stands = plain_answer before all d (Ok v) h.2 answer.0 in
-    let rel = c.release.ensures.parted start.around.kept (standing start.around) _ (parted_again start c.args.self.now kept) h.0 in
-    let after = c.in_ok-held.ensures start.around.kept (standing start.around) c.args.self.now.around.later rel.0 rel.1 (c.release.ensures.next ∙ kept.0.1) h.0 in
-    let inner = c.describe-2.ensures start.under h.1 in
+    let rel = c.release.ensures.parted start.descriptors.kept (standing start.descriptors) _ (parted_again start c.args.self.now kept) h.0 in
+    let after = c.in_ok-held.ensures start.descriptors.kept (standing start.descriptors) c.args.self.now.descriptors.later rel.0 rel.1 (c.release.ensures.next ∙ kept.0.1) h.0 in
+    let inner = c.describe-2.ensures start.pending h.1 in
     let is = same_descriptor v d stands ∙ c.in_ok-descriptor.ensures in (
       record {
         alloc = start.alloc;
-        under = inner.0;
-        around = record { kept = start.around.kept; later = standing start.around ++ (x ∷ []); next = true; room = 0 };
+        pending = inner.0;
+        descriptors = record { kept = start.descriptors.kept; later = standing start.descriptors ++ (x ∷ []); next = true; room = 0 };
       },
       (
         (after.0, inner.1, (((kept.0.0, after.3), after.1), ([], after.2 ∙ sym (append-nil _)))),

@@ -1,12 +1,12 @@
 use Rattle.std.proofs.Common.{Some, ap, subst}
 use Rattle.amqp_ser.specs.Fixed.{fixed_scalar}
 use Rattle.amqp_ser.specs.Tree.{scalar}
-use Rattle.amqp_to_value.specs.Around.{standing}
-use Rattle.amqp_to_value.specs.Permitted.{IsImageOf}
-use Rattle.amqp_to_value.specs.Under.{meant}
+use Rattle.amqp_to_value.specs.PendingDescriptors.{standing}
+use Rattle.amqp_to_value.specs.ImageOf.{IsImageOf}
+use Rattle.amqp_to_value.specs.PendingMark.{meant}
 use Rattle.amqp_to_value.proofs.serializer.SerializerSerializer.serialize_fixed.Goals as goal
 
 pub returns : goal.returns
 returns c =
-    c.finish.ensures c.args.self.now _ (ap (λ a. a.kept) c.take_under-under.ensures.around) (ap standing c.take_under-under.ensures.around) c.take_under-under.ensures.none
-    (subst (λ u. IsImageOf (meant u (Some (scalar (fixed_scalar c.args.fixed)))) c.marked_fixed.result) c.take_under-under.ensures.under c.marked_fixed.ensures)
+    c.finish.ensures c.args.self.now _ (ap (λ a. a.kept) c.take_pending-pending.ensures.descriptors) (ap standing c.take_pending-pending.ensures.descriptors) c.take_pending-pending.ensures.none
+    (subst (λ u. IsImageOf (meant u (Some (scalar (fixed_scalar c.args.fixed)))) c.marked_fixed.result) c.take_pending-pending.ensures.pending c.marked_fixed.ensures)

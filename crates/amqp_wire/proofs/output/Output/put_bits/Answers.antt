@@ -1,6 +1,6 @@
 use Rattle.std.proofs.Common.{◌≡◌, ◌≤◌, ◌-◌, ℕ, zero, suc, take, drop, refl, subst, ap, ◌∙◌, arith}
 use Rattle.std.specs.Int.{bytes_high_first}
-use Rattle.amqp_wire.specs.Written.{puts}
+use Rattle.amqp_wire.specs.Writer.{puts}
 use Rattle.amqp_wire.proofs.output.Output.put_bits.Goals as goal
 
 -- the last w of eight bytes

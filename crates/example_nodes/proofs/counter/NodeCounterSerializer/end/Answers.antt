@@ -7,4 +7,4 @@ pub returns-then-held : goal.returns-then-held
 returns-then-held c = λ start kind ps h done. (ended start kind c.args.held ps c.add.result h.0 done c.if-held.true c.add.ensures, h.1)
 
 pub returns-else-held : goal.returns-else-held
-returns-else-held c = λ start kind ps h done. (barred start.under kind start.front ps _ (sym h.0.fits ∙ c.if-held.false) (inl refl), h.1)
+returns-else-held c = λ start kind ps h done. (barred start.pending kind start.descriptors ps _ (sym h.0.fits ∙ c.if-held.false) (inl refl), h.1)

@@ -19,6 +19,6 @@ returns g c done fits holds =
           let (some, last) = before_last (λ p q. eq q.0 p.0 ≡ false) done pair each in
           let absent : hashed.get eq old pair.0 ≡ None = holds.0.0 pair.0 ∙ new_is_absent eq g.met.K.Eq.laws.symm done (λ _. None) pair.0 refl last in
           let added = put_new eq old new pair.0 pair.1 c.insert.result c.insert.ensures.old c.insert.ensures.entries ok absent in
-          let front = IsPermutation-trans _ _ _ (IsPermutation-to_front done pair) (IsPermutation-cons pair done old.entries (holds.1 some)) in
-          IsPermutation-trans _ _ _ front added,
+          let prefix = IsPermutation-trans _ _ _ (IsPermutation-to_front done pair) (IsPermutation-cons pair done old.entries (holds.1 some)) in
+          IsPermutation-trans _ _ _ prefix added,
     )

@@ -1,5 +1,5 @@
 use Rattle.std.proofs.Common.{sym, subst}
-use Rattle.amqp_size.specs.Counted.{size_permits}
+use Rattle.amqp_size.specs.SizeSerializer.{size_permits}
 use Rattle.amqp_size.proofs.tests.calls.recorder.CallsSerializer.end_part.Goals as goal
 
 pub returns-clause-step : goal.returns-clause-step

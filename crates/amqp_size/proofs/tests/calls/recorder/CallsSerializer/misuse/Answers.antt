@@ -1,5 +1,5 @@
 use Rattle.std.proofs.Common.{sym, subst}
-use Rattle.amqp_size.specs.Counted.{size_has}
+use Rattle.amqp_size.specs.SizeSerializer.{size_has}
 use Rattle.amqp_size.proofs.tests.calls.recorder.CallsSerializer.misuse.Goals as goal
 
 pub returns-clause-kept : goal.returns-clause-kept

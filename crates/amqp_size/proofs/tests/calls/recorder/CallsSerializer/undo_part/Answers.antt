@@ -1,6 +1,6 @@
 use Rattle.std.proofs.Common.{◌∷◌, [], ◌++◌, Err, sym, subst}
 use Rattle.amqp_ser.specs.declared.kind.Kind.TheVariants as kinds
-use Rattle.amqp_size.specs.Counted.{size_has, size_permits}
+use Rattle.amqp_size.specs.SizeSerializer.{size_has, size_permits}
 use Rattle.amqp_size.proofs.tests.calls.recorder.CallsSerializer.undo_part.Goals as goal
 
 pub returns-clause-back : goal.returns-clause-back

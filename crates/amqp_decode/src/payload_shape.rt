@@ -1,0 +1,63 @@
+//! What the payload of a code holds.
+
+ghost use Rattle.std.specs.Prelude.{◌≡◌, IfOk, IfErr, Some, None};
+ghost use Rattle.amqp_decode.specs.Codes.{primitive_of, shape_of_code};
+
+use amqp_data::{EncodingCodes, Error};
+
+/// How the count of elements is written.
+#[derive(Clone, Copy, Debug, PartialEq, Eq)]
+pub enum Count {
+    /// Not at all: there are no elements.
+    Absent,
+    /// In one byte.
+    OneByte,
+    /// In four bytes.
+    FourBytes,
+}
+
+/// What the payload of a code holds (AMQP 1.0 part 1, sections 1.2 and 1.6).
+#[derive(Clone, Copy, Debug, PartialEq, Eq)]
+pub enum PayloadShape {
+    /// A descriptor and a value, with no payload of their own.
+    Described,
+    /// Null or a scalar.
+    Scalar,
+    /// A count and elements, each with its code.
+    List(Count),
+    /// A count and elements, keys and values in turn.
+    Map(Count),
+    /// A count, a code, and elements without theirs.
+    Array(Count),
+}
+
+/// What the payload of the code holds.
+pub fn payload_shape(code: EncodingCodes) -> PayloadShape
+    ensures { result ≡ shape_of_code code }
+{
+    match code {
+        EncodingCodes::DescribedType => PayloadShape::Described,
+        EncodingCodes::List0 => PayloadShape::List(Count::Absent),
+        EncodingCodes::List8 => PayloadShape::List(Count::OneByte),
+        EncodingCodes::List32 => PayloadShape::List(Count::FourBytes),
+        EncodingCodes::Map8 => PayloadShape::Map(Count::OneByte),
+        EncodingCodes::Map32 => PayloadShape::Map(Count::FourBytes),
+        EncodingCodes::Array8 => PayloadShape::Array(Count::OneByte),
+        EncodingCodes::Array32 => PayloadShape::Array(Count::FourBytes),
+        _ => PayloadShape::Scalar,
+    }
+}
+
+/// The primitive code of a byte.
+///
+/// # Errors
+/// `InvalidValue` for the code of a described value, `InvalidFormatCode` where no name has this code.
+pub fn primitive_code(byte: u8) -> Result<EncodingCodes, Error>
+    ensures ok { IfOk result (λ code. primitive_of byte ≡ Some code) }
+    ensures err { IfErr result (λ e. primitive_of byte ≡ None) }
+{
+    if byte == 0 {
+        return Err(Error::InvalidValue);
+    }
+    EncodingCodes::try_from(byte)
+}

@@ -1,0 +1,90 @@
+//! What is taken from a reader, and kept.
+
+ghost use Rattle.std.specs.Prelude.{◌≡◌, ◌≤◌, ◌<◌, [], ◌∷◌, ◌++◌, IfOk, OnOk, IfErr, IfSome, Some, length};
+ghost use Rattle.std.specs.Io.KnownBytes.{Consumes};
+ghost use Rattle.amqp_frame.specs.Code.{payload_len};
+ghost use Rattle.amqp_frame.specs.Reader.{RunsOut};
+ghost use Rattle.amqp_frame.specs.Taking.{FrameRefuses, Moves};
+
+use crate::code::{Category, body_len_of, size_width_of};
+use crate::read::Read;
+use amqp_data::Error;
+
+// How many bytes are asked for at once, at most, so that a false size takes no more memory than there
+// are bytes.
+const PIECE: usize = 4096;
+
+/// Takes one byte.
+pub fn take_byte<R: Read>(reader: &mut R, taken: &mut Vec<u8>) -> Result<u8, Error>
+    ensures bytes { IfOk result (λ byte. taken.new.items ≡ taken.old.items ++ byte ∷ []) }
+    ensures ok { IfOk result (λ byte.
+        Consumes (R.left reader.old) (R.left reader.new) (byte ∷ [])) }
+    ensures refused { IfErr result (FrameRefuses (R.left reader.old) (R.left reader.new)
+        (R.failures reader.old) (R.failures reader.new)
+        (RunsOut (R.left reader.old) (R.left reader.new) 1) ⊥) }
+    ensures count { R.failures reader.old ≤ R.failures reader.new }
+{
+    let Some(byte) = reader.next()? else {
+        return Err(Error::UnexpectedEof);
+    };
+    taken.push(byte)?;
+    Ok(byte)
+}
+
+/// Takes a payload of this category.
+pub fn take_payload<R: Read>(
+    reader: &mut R,
+    taken: &mut Vec<u8>,
+    category: Category,
+) -> Result<(), Error>
+    ensures ok { OnOk result (Moves (R.left reader.old) (R.left reader.new)
+        taken.old.items taken.new.items
+        (λ bytes. length bytes ≡ payload_len category bytes)) }
+    ensures refused { IfErr result (FrameRefuses (R.left reader.old) (R.left reader.new)
+        (R.failures reader.old) (R.failures reader.new)
+        (IfSome (R.left reader.old) (λ s.
+        (length s < payload_len category s) × (R.left reader.new ≡ Some []))) ⊥) }
+    ensures count { R.failures reader.old ≤ R.failures reader.new }
+{
+    let at = taken.len();
+    let width = size_width_of(category);
+    take_bytes(reader, taken, width as u32)?;
+    let body = body_len_of(category, &taken[at..]);
+    take_bytes(reader, taken, body)
+}
+
+// Takes `count` bytes, in pieces.
+fn take_bytes<R: Read>(reader: &mut R, taken: &mut Vec<u8>, count: u32) -> Result<(), Error>
+    ensures ok { OnOk result (Moves (R.left reader.old) (R.left reader.new)
+        taken.old.items taken.new.items
+        (λ bytes. length bytes ≡ count)) }
+    ensures refused { IfErr result (FrameRefuses (R.left reader.old) (R.left reader.new)
+        (R.failures reader.old) (R.failures reader.new)
+        (RunsOut (R.left reader.old) (R.left reader.new) count) ⊥) }
+    ensures count { R.failures reader.old ≤ R.failures reader.new }
+{
+    let mut left = count as usize;
+    while left > 0 {
+        let len = left.min(PIECE);
+        take_piece(reader, taken, len)?;
+        left -= len;
+    }
+    Ok(())
+}
+
+// Takes `len` bytes at once.
+fn take_piece<R: Read>(reader: &mut R, taken: &mut Vec<u8>, len: usize) -> Result<(), Error>
+    requires { len ≤ 4096 }
+    ensures ok { OnOk result (Moves (R.left reader.old) (R.left reader.new)
+        taken.old.items taken.new.items
+        (λ bytes. length bytes ≡ len)) }
+    ensures refused { IfErr result (FrameRefuses (R.left reader.old) (R.left reader.new)
+        (R.failures reader.old) (R.failures reader.new)
+        (RunsOut (R.left reader.old) (R.left reader.new) len) ⊥) }
+    ensures count { R.failures reader.old ≤ R.failures reader.new }
+{
+    let at = taken.len();
+    taken.resize(at + len, 0)?;
+    reader.read_exact(&mut taken[at..])?;
+    Ok(())
+}

@@ -1,0 +1,22 @@
+-- One value that stands for itself.
+use Rattle.std.proofs.Common.{◌≡◌, List, [], ◌∷◌, Option, Some, None, Result, Ok, Err, MatchResult, refl, subst}
+use Rattle.amqp_ser.specs.Tree.{Tree}
+use Rattle.amqp_ser.specs.Compounds.{whole}
+use Rattle.amqp_ser.specs.declared.kind.Kind.{Kind}
+use Rattle.amqp_ser.specs.declared.kind.Kind.TheVariants as kind
+
+pub whole_single : (p : Option Tree) → whole kind.Single (p ∷ []) ≡ p
+unfolding whole
+whole_single None = refl
+whole_single (Some t) = refl
+
+pub no_value : whole kind.Single [] ≡ None
+unfolding whole
+no_value = refl
+
+-- the one value of a single compound
+pub one_value : {S H O E U : Type 0} (permits : S → Option Tree → Result O E → S → Type 0) (has : S → Kind → S → H → List (Option Tree) → Type 0) (start now : S) (held : H) (p : Option Tree) (r : Result U E) →
+    MatchResult r (λ u. has start kind.Single now held (p ∷ [])) (λ e. has start kind.Single now held [] × ((rest : List (Option Tree)) → permits start (whole kind.Single (p ∷ rest)) (Err e) now)) →
+    MatchResult r (λ u. has start kind.Single now held (p ∷ [])) (λ e. has start kind.Single now held [] × permits start p (Err e) now)
+one_value permits has start now held p (Ok u) h = h
+one_value permits has start now held p (Err e) h = (h.0, subst (λ t. permits start t (Err e) now) (whole_single p) (h.1 []))

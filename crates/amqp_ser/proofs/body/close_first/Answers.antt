@@ -1,9 +1,0 @@
-use Rattle.std.proofs.Common.{[], Err, subst}
-use Rattle.amqp_ser.specs.declared.kind.Kind.TheVariants.{Bare}
-use Rattle.amqp_ser.proofs.Bare.{whole_bare}
-use Rattle.amqp_ser.proofs.body.close_first.Goals as goal
-
-pub returns-in-Err : goal.returns-in-Err
-returns-in-Err g c = λ start before w p r.
-    let k = c.in-Err.ensures.step start Bare before [] p w r in
-    (k.0, subst (λ t. g.S.Serializer.permits start t (Err c.in-Err.e) c.end_part.new.self) (whole_bare p) (k.1 []))

@@ -1,0 +1,20 @@
+use Rattle.std.proofs.Common.{[], ◌++◌, Err, subst}
+use Rattle.amqp_ser.specs.Compounds.{whole}
+use Rattle.amqp_ser.specs.Structs.{fields_kind, field_parts}
+use Rattle.amqp_ser.specs.declared.kind.Kind.TheVariants.{Single}
+use Rattle.amqp_ser.proofs.Single.{whole_single}
+use Rattle.amqp_ser.proofs.struct_form.open_body.Goals as goal
+
+-- the single compound takes the refusal of its body
+pub returns-in-Err-end_part : goal.returns-in-Err-end_part
+returns-in-Err-end_part g c = λ start h.
+    let s1 = c.begin_part.new.self in
+    let ready = c.begin_part.ensures.ready start Single [] h in
+    let k = fields_kind c.args.named in
+    let parts = field_parts c.args.named c.args.key.now (g.T.Serialize.tree c.args.value.now) in
+    let opened = subst (λ x. g.S.Serializer.has s1 x c.begin-fields.new.self c.begin-fields.result []) c.fields_kind.ensures c.begin-fields.ensures in
+    let refused = c.in-Err.ensures s1 opened in
+    let all = c.in-Err-end_part.ensures.step start Single s1 [] in (
+      (all (whole k (parts ++ [])) ready (refused.1 [])).0,
+      λ rest. subst (λ t. g.S.Serializer.permits start t (Err c.in-Err-end_part.e) c.end_part.new.self) (whole_single (whole k (parts ++ rest))) ((all (whole k (parts ++ rest)) ready (refused.1 rest)).1 []),
+    )

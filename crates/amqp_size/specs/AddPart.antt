@@ -1,0 +1,29 @@
+-- A part counted in a compound.
+use Rattle.std.specs.Prelude.{◌≡◌, ℕ, ◌+◌, Bool, true, ◌⊎◌, ◌<◌, ◌≤◌}
+use Rattle.amqp_size.specs.declared.refusal.Refusal.{Refusal}
+use Rattle.amqp_size.specs.declared.refusal.Refusal.TheVariants as error
+use Rattle.amqp_size.specs.Position.{prefix_len_of}
+use Rattle.amqp_size.specs.WholePosition.{Position}
+use Rattle.amqp_size.specs.WholePosition.{First, Element, Descriptor}
+use Rattle.amqp_size.specs.WholePending.{Pending}
+use Rattle.amqp_size.specs.WholePending as pending
+
+-- the constructor's byte, at the first element
+abbrev pub opens : Position → Position → ℕ
+opens First (Element c) = 1
+opens p q = 0
+
+-- the same, in an array or not, where what comes next stands there
+abbrev pub opens_in : Bool → Pending → Pending → ℕ
+opens_in true (pending.Plain p) (pending.Plain q) = opens p q
+opens_in arr u v = 0
+
+-- a limit is passed by one part more
+abbrev pub passes_limit : Bool → ℕ → ℕ → Type 0
+passes_limit array count sum = (4294967291 < sum) ⊎ ((array ≡ true) × (4294967295 ≤ count))
+
+-- why no value may come after a descriptor of this length
+abbrev pub undescribed : Pending → ℕ → Refusal → Type 0
+undescribed (pending.Plain Descriptor) n e = e ≡ error.InvalidValue
+undescribed (pending.Plain p) n e = (e ≡ error.TooLong) × (18446744073709551615 < prefix_len_of p + (n + 1))
+undescribed u n e = ⊥

@@ -1,0 +1,10 @@
+-- The same, and the marker that it stands under.
+use Rattle.amqp_size.specs.declared.position.ScalarMark.{ScalarMark}
+use Rattle.amqp_size.specs.WholePosition.{Position}
+
+pub data Pending : Type 0 where
+  Plain : Position → Pending
+  Array : Position → Pending
+  Transparent : Position → Pending
+  Scalar : ScalarMark → Position → Pending
+  Nothing : Position → Pending

@@ -1,0 +1,11 @@
+-- Where a value stands, with the bytes of the descriptors before it.
+use Rattle.std.specs.Prelude.{ℕ}
+use Rattle.amqp_size.specs.declared.position.BasePosition.{BasePosition}
+
+pub data Position : Type 0 where
+  Root : Position
+  Inside : Position
+  First : Position
+  Element : ℕ → Position
+  Descriptor : Position
+  Value : ℕ → BasePosition → Position

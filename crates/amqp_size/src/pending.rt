@@ -1,0 +1,125 @@
+//! What a marker leaves of a position.
+
+ghost use Rattle.std.specs.Prelude.{◌≡◌, ℕ, Option};
+ghost use Rattle.amqp_ser.specs.Tree.{Tree};
+ghost use Rattle.amqp_ser.specs.Marked.{marked};
+ghost use Rattle.amqp_size.specs.State.{position_at, pending_at};
+ghost use Rattle.amqp_size.specs.Position.{position_of, meant, without_prefix, shape_of, the_mark};
+
+use crate::position::{Pending, Position, ScalarMark, Shape};
+use amqp_ser::{Kind, Mark};
+
+impl Pending {
+    /// The position itself.
+    #[inline(always)]
+    pub fn position(self) -> Position
+        ensures { (h : ℕ) → position_at result h ≡ position_of (pending_at self h) }
+    {
+        match self {
+            Pending::Plain(position) => position,
+            Pending::Array(position) => position,
+            Pending::Transparent(position) => position,
+            Pending::Scalar(position, _) => position,
+            Pending::Nothing(position) => position,
+        }
+    }
+
+    /// Where a serializer stands after a refusal there.
+    #[inline(always)]
+    pub fn without_prefix(self) -> Position
+        ensures { (h k : ℕ) → position_at result k ≡ without_prefix (position_of (pending_at self h)) }
+    {
+        self.position().without_prefix()
+    }
+
+    /// What is opened there.
+    #[inline(always)]
+    pub fn shape(self, kind: Kind) -> Shape
+        ensures { (h : ℕ) → result ≡ shape_of (pending_at self h) kind }
+    {
+        match self {
+            Pending::Plain(_) => match kind {
+                Kind::List => Shape::List,
+                Kind::Map => Shape::Map,
+                Kind::Variant(index) => Shape::Variant(index),
+                Kind::NewtypeVariant(index) => Shape::NewtypeVariant(index),
+                Kind::Single => Shape::Single,
+            },
+            pending => match kind {
+                Kind::List => pending.marked_list(),
+                Kind::Single => Shape::Single,
+                _ => Shape::Refused,
+            },
+        }
+    }
+
+    /// What a list becomes under a marker.
+    #[inline(always)]
+    fn marked_list(self) -> Shape
+        ensures { (h : ℕ) → result ≡ shape_of (pending_at self h) Kind.List }
+    {
+        match self {
+            Pending::Plain(_) => Shape::List,
+            Pending::Array(_) => Shape::Array,
+            Pending::Transparent(_) => Shape::Transparent,
+            _ => Shape::Refused,
+        }
+    }
+
+    /// The position under one marker more.
+    #[inline(always)]
+    pub fn marked(self, mark: Mark) -> Pending
+        ensures meant { (h : ℕ) (t : Option Tree) →
+            meant (pending_at result h) t ≡ meant (pending_at self h) (marked mark t) }
+        ensures position { (h : ℕ) → position_of (pending_at result h) ≡ position_of (pending_at self h) }
+    {
+        match mark {
+            Mark::Other => self,
+            Mark::Array => self.mark_array(),
+            Mark::Symbol => self.mark_scalar(ScalarMark::Symbol),
+            Mark::Timestamp => self.mark_scalar(ScalarMark::Timestamp),
+            Mark::Decimal32 => self.mark_scalar(ScalarMark::Decimal32),
+            Mark::Decimal64 => self.mark_scalar(ScalarMark::Decimal64),
+            Mark::Decimal128 => self.mark_scalar(ScalarMark::Decimal128),
+            Mark::Uuid => self.mark_scalar(ScalarMark::Uuid),
+            Mark::Transparent => self.mark_transparent(),
+            Mark::Lazy => Pending::Nothing(self.position()),
+        }
+    }
+
+    #[inline(always)]
+    fn mark_array(self) -> Pending
+        ensures meant { (h : ℕ) (t : Option Tree) →
+            meant (pending_at result h) t ≡ meant (pending_at self h) (marked Mark.Array t) }
+        ensures position { (h : ℕ) → position_of (pending_at result h) ≡ position_of (pending_at self h) }
+    {
+        match self {
+            Pending::Plain(position) => Pending::Array(position),
+            pending => Pending::Nothing(pending.position()),
+        }
+    }
+
+    #[inline(always)]
+    fn mark_transparent(self) -> Pending
+        ensures meant { (h : ℕ) (t : Option Tree) →
+            meant (pending_at result h) t ≡ meant (pending_at self h) (marked Mark.Transparent t) }
+        ensures position { (h : ℕ) → position_of (pending_at result h) ≡ position_of (pending_at self h) }
+    {
+        match self {
+            Pending::Plain(position) => Pending::Transparent(position),
+            pending => Pending::Nothing(pending.position()),
+        }
+    }
+
+    #[inline(always)]
+    fn mark_scalar(self, mark: ScalarMark) -> Pending
+        ensures meant { (h : ℕ) (t : Option Tree) →
+            meant (pending_at result h) t ≡ meant (pending_at self h) (marked (the_mark mark) t) }
+        ensures position { (h : ℕ) → position_of (pending_at result h) ≡ position_of (pending_at self h) }
+    {
+        match self {
+            Pending::Plain(position) => Pending::Scalar(position, mark),
+            pending => Pending::Nothing(pending.position()),
+        }
+    }
+}

@@ -1,0 +1,182 @@
+//! Where a value stands, and under which marker.
+
+ghost use Rattle.std.specs.Prelude.{◌≡◌, ◌+◌, ℕ, Some, MatchResult};
+ghost use Rattle.amqp_size.specs.State.{position_at, pending_at};
+ghost use Rattle.amqp_size.specs.Position.{without_prefix, base_position, takes_described, element_constructor, described_position, prefix_len_of, inner_pending};
+
+use crate::refusal::Refusal;
+
+/// Where a described value stands.
+#[derive(Clone, Copy, Debug)]
+pub enum BasePosition {
+    /// At the root.
+    Root,
+    /// Inside a list, a map or a variant.
+    Inside,
+    /// The first element of an array.
+    First,
+    /// An element of an array with this constructor.
+    Element(u8),
+}
+
+/// Where a value stands.
+#[derive(Clone, Copy, Debug)]
+pub enum Position {
+    /// At the root.
+    Root,
+    /// Inside a list, a map or a variant.
+    Inside,
+    /// The first element of an array.
+    First,
+    /// An element of an array with this constructor.
+    Element(u8),
+    /// Before a described value.
+    Descriptor,
+    /// After the code of described values and the descriptors: how many bytes those are stands beside the position.
+    Value(BasePosition),
+}
+
+/// The marker of a scalar.
+#[derive(Clone, Copy, Debug)]
+pub enum ScalarMark {
+    /// A symbol, over a string.
+    Symbol,
+    /// A timestamp, over a long.
+    Timestamp,
+    /// A decimal32, over a binary of 4 bytes.
+    Decimal32,
+    /// A decimal64, over a binary of 8 bytes.
+    Decimal64,
+    /// A decimal128, over a binary of 16 bytes.
+    Decimal128,
+    /// A uuid, over a binary of 16 bytes.
+    Uuid,
+}
+
+/// Where a value stands, and the marker that it stands under.
+#[derive(Clone, Copy, Debug)]
+pub enum Pending {
+    /// Under no marker.
+    Plain(Position),
+    /// Under the marker of arrays.
+    Array(Position),
+    /// Under the marker of transparent vectors.
+    Transparent(Position),
+    /// Under a scalar's marker.
+    Scalar(Position, ScalarMark),
+    /// Under markers that no value satisfies.
+    Nothing(Position),
+}
+
+/// What a compound becomes where it stands.
+#[derive(Clone, Copy, Debug)]
+pub enum Shape {
+    /// A list.
+    List,
+    /// A map.
+    Map,
+    /// The variant of this index and the list of its fields.
+    Variant(u32),
+    /// The variant of this index and its one value.
+    NewtypeVariant(u32),
+    /// An array.
+    Array,
+    /// The elements one after another.
+    Transparent,
+    /// One value that stands for itself.
+    Single,
+    /// A compound that its marker does not take.
+    Refused,
+}
+
+impl BasePosition {
+    /// The position itself.
+    #[inline(always)]
+    pub fn position(self) -> Position
+        ensures { (h : ℕ) → position_at result h ≡ base_position self }
+    {
+        match self {
+            BasePosition::Root => Position::Root,
+            BasePosition::Inside => Position::Inside,
+            BasePosition::First => Position::First,
+            BasePosition::Element(code) => Position::Element(code),
+        }
+    }
+
+    /// Whether a described value may stand there: it is no array's element.
+    #[inline(always)]
+    pub fn takes_described(self) -> bool
+        ensures { result ≡ takes_described self }
+    {
+        matches!(self, BasePosition::Root | BasePosition::Inside)
+    }
+}
+
+impl Position {
+    /// Where a serializer stands between steps and after a refusal.
+    #[inline(always)]
+    pub fn without_prefix(self) -> Position
+        ensures { (h k : ℕ) → position_at result k ≡ without_prefix (position_at self h) }
+    {
+        match self {
+            Position::Value(base) => base.position(),
+            position => position,
+        }
+    }
+
+    /// The position after a descriptor.
+    #[inline(always)]
+    pub(crate) fn described(self) -> Result<Position, Refusal>
+        ensures { MatchResult result
+            (λ p. (h n : ℕ) →
+            described_position (position_at self h) n
+            ≡ Some (position_at p (prefix_len_of (position_at self h) + (n + 1))))
+            (λ e. (self ≡ Position.Descriptor) × (e ≡ Refusal.InvalidValue)) }
+    {
+        match self {
+            Position::Root => Ok(Position::Value(BasePosition::Root)),
+            Position::Inside => Ok(Position::Value(BasePosition::Inside)),
+            Position::First => Ok(Position::Value(BasePosition::First)),
+            Position::Element(code) => Ok(Position::Value(BasePosition::Element(code))),
+            Position::Descriptor => Err(Refusal::InvalidValue),
+            Position::Value(base) => Ok(Position::Value(base)),
+        }
+    }
+
+    /// How many bytes stand before a value there, where this many stand after descriptors.
+    #[inline(always)]
+    pub(crate) fn prefix_len(self, prefix_len: usize) -> usize
+        ensures { result ≡ prefix_len_of (position_at self prefix_len) }
+    {
+        match self {
+            Position::Value(_) => prefix_len,
+            _ => 0,
+        }
+    }
+
+    /// The constructor of an array's elements, once there is one.
+    #[inline(always)]
+    pub fn constructor(self) -> Option<u8>
+        ensures { (h : ℕ) → result ≡ element_constructor (position_at self h) }
+    {
+        match self {
+            Position::Element(code) => Some(code),
+            _ => None,
+        }
+    }
+}
+
+impl Shape {
+    /// Where the first part stands.
+    #[inline(always)]
+    pub fn inner(self, pending: Pending) -> Pending
+        ensures { (h : ℕ) → pending_at result h ≡ inner_pending self (pending_at pending h) }
+    {
+        match self {
+            Shape::Array => Pending::Plain(Position::First),
+            Shape::Transparent => Pending::Plain(Position::Root),
+            Shape::Single => pending,
+            _ => Pending::Plain(Position::Inside),
+        }
+    }
+}

@@ -1,0 +1,116 @@
+-- Parts fed one after another.
+use Rattle.std.proofs.Common.{◌≡◌, ℕ, List, [], ◌∷◌, ◌++◌, Option, Some, None, Result, Ok, Err, MatchResult, refl, ap, sym, ◌∙◌, subst}
+use Rattle.std.specs.declared.alloc.AllocError.{AllocError}
+use Rattle.amqp_data.specs.declared.error.Error.{Error}
+use Rattle.amqp_data.specs.declared.error.Error.TheVariants as error
+use Rattle.amqp_ser.specs.Tree.{Tree, Trees, Pairs, map, no_trees, more, no_pairs}
+use Rattle.amqp_ser.specs.Compounds.{all_trees, as_map, as_variant, prepend_pair, in_pairs, only}
+use Rattle.amqp_ser.proofs.Joins.{join, joined, all_trees-append}
+use Rattle.amqp_value.specs.Image.{image, images, images_onto, insert_tree}
+use Rattle.amqp_value.specs.TreeOf.{tree_of, all_of}
+use Rattle.amqp_value.specs.declared.value.Value.{Value}
+use Rattle.amqp_to_value.specs.HeldImages.{then, feed, fed_onto}
+use Rattle.amqp_to_value.specs.ImageOf.{refuses, IsImageOf}
+
+pub join_then : (ts : Trees) (t : Tree) → join ts (more t no_trees) ≡ then ts t
+join_then no_trees t = refl
+join_then (more u ts) t = ap (more u) (join_then ts t)
+
+-- the trees of one part more
+pub all_trees-then : (ps : List (Option Tree)) (ts : Trees) (t : Tree) → all_trees ps ≡ Some ts → all_trees (ps ++ (Some t ∷ [])) ≡ Some (then ts t)
+all_trees-then ps ts t h = all_trees-append ps (Some t ∷ []) ∙ ap (λ o. joined o (Some (more t no_trees))) h ∙ ap Some (join_then ts t)
+
+images-then : (ts : Trees) (t : Tree) → images (then ts t) ≡ then (images ts) (image t)
+images-then no_trees t = refl
+images-then (more u ts) t = ap (more (image u)) (images-then ts t)
+
+all_of-push : (vs : List Value) (v : Value) → all_of (vs ++ (v ∷ [])) ≡ then (all_of vs) (tree_of v)
+all_of-push [] v = refl
+all_of-push (w ∷ vs) v = ap (more (tree_of w)) (all_of-push vs v)
+
+-- a value put last
+pub all_of-then : (vs : List Value) (v : Value) (ts : Trees) (t : Tree) → all_of vs ≡ images ts → tree_of v ≡ image t → all_of (vs ++ (v ∷ [])) ≡ images (then ts t)
+all_of-then vs v ts t h e = all_of-push vs v ∙ (λ i. then (h i) (e i)) ∙ sym (images-then ts t)
+
+-- a key or a value more
+pub fed_onto-then : (ts : Trees) (t : Tree) (done : Pairs) → fed_onto (then ts t) done ≡ feed (fed_onto ts done) (image t)
+fed_onto-then no_trees t done = refl
+fed_onto-then (more k no_trees) t done = refl
+fed_onto-then (more k (more v ts)) t done = fed_onto-then ts t (insert_tree done (image k) (image v))
+
+-- what is held at the end: a pending key where the trees are no pairs, otherwise the images of the pairs
+abbrev pub Ends : Option Pairs → Pairs × Option Tree → Pairs → Type 0
+Ends None h done = (k : Tree) × (h.1 ≡ Some k)
+Ends (Some ps) h done = h ≡ (images_onto ps done, None)
+
+ends_before : (k v : Tree) (o : Option Pairs) (h : Pairs × Option Tree) (done : Pairs) → Ends o h (insert_tree done (image k) (image v)) → Ends (prepend_pair k v o) h done
+ends_before k v None h done e = e
+ends_before k v (Some ps) h done e = e
+
+pub ends : (ts : Trees) (done : Pairs) → Ends (in_pairs ts) (fed_onto ts done) done
+ends no_trees done = refl
+ends (more k no_trees) done = (image k, refl)
+ends (more k (more v ts)) done = ends_before k v (in_pairs ts) (fed_onto (more k (more v ts)) done) done (ends ts (insert_tree done (image k) (image v)))
+
+not_ended : (o : Option Pairs) (h : Pairs × Option Tree) (k : Tree) → Ends o h no_pairs → h.1 ≡ Some k → refuses error.InvalidValue (as_map o)
+not_ended None h k e is = tt
+not_ended (Some ps) h k e is = absurd (none-some k (sym (ap (λ x. x.1) e) ∙ is))
+  where
+    none-some : (k : Tree) → None ≡ Some k → ⊥
+    none-some k q = cc
+
+-- a map whose last key has no value is none
+pub pending_end : (ts : Trees) (k : Tree) → (fed_onto ts no_pairs).1 ≡ Some k → refuses error.InvalidValue (as_map (in_pairs ts))
+pending_end ts k is = not_ended (in_pairs ts) (fed_onto ts no_pairs) k (ends ts no_pairs) is
+
+ended : (o : Option Pairs) (h : Pairs × Option Tree) (ps : Pairs) (r : Result Value Error) → Ends o h no_pairs → h ≡ (ps, None)
+    → MatchResult r (λ v. tree_of v ≡ map ps) (λ e. e ≡ error.OutOfMemory) → IsImageOf (as_map o) r
+ended None h ps r e is compound_tree = absurd (none-some e.0 (sym (ap (λ x. x.1) is) ∙ e.1))
+  where
+    none-some : (k : Tree) → None ≡ Some k → ⊥
+    none-some k q = cc
+ended (Some qs) h ps (Ok v) e is compound_tree = compound_tree ∙ ap (λ x. map x.0) (sym is ∙ e)
+ended (Some qs) h ps (Err e) k is compound_tree = subst (λ x. refuses x (Some (map qs))) (sym compound_tree) tt
+
+-- a map of pairs alone
+pub paired_end : (ts : Trees) (ps : Pairs) (r : Result Value Error) → fed_onto ts no_pairs ≡ (ps, None)
+    → MatchResult r (λ v. tree_of v ≡ map ps) (λ e. e ≡ error.OutOfMemory) → IsImageOf (as_map (in_pairs ts)) r
+paired_end ts ps r is compound_tree = ended (in_pairs ts) (fed_onto ts no_pairs) ps r (ends ts no_pairs) is compound_tree
+
+even_end : (o : Option Pairs) (h : Pairs × Option Tree) (done ps : Pairs) → Ends o h done → o ≡ Some ps → h.1 ≡ None
+even_end None h done ps e is = absurd (none-some ps is)
+  where
+    none-some : (ps : Pairs) → None ≡ Some ps → ⊥
+    none-some ps q = cc
+even_end (Some qs) h done ps e is = ap (λ x. x.1) e
+
+fed_key : (h : Pairs × Option Tree) (t : Tree) → h.1 ≡ None → ((feed h t).0, None) ≡ h
+fed_key h t is = ap (λ o. ((feed (h.0, o) t).0, None)) is ∙ ap (λ o. (h.0, o)) (sym is)
+
+-- a key that is taken back
+pub key_back : (ts : Trees) (ps : Pairs) (t : Tree) (old new : Pairs × Option Tree) → in_pairs ts ≡ Some ps → old ≡ fed_onto (then ts t) no_pairs → new ≡ (old.0, None) → new ≡ fed_onto ts no_pairs
+key_back ts ps t old new p was is =
+    is ∙ ap (λ h. (h.0, None)) (was ∙ fed_onto-then ts t no_pairs)
+    ∙ fed_key (fed_onto ts no_pairs) (image t) (even_end (in_pairs ts) (fed_onto ts no_pairs) no_pairs ps (ends ts no_pairs) p)
+
+-- one element more, or none
+pub item_taken : (r : Result (Unit {0}) AllocError) (old new : List Value) (v : Value) (ts : Trees) (t : Tree)
+    → MatchResult r (λ _. new ≡ old ++ (v ∷ [])) (λ _. new ≡ old) → all_of old ≡ images ts → tree_of v ≡ image t
+    → MatchResult r (λ _. all_of new ≡ images (then ts t)) (λ _. all_of new ≡ images ts)
+item_taken (Ok u) old new v ts t is h e = ap all_of is ∙ all_of-then old v ts t h e
+item_taken (Err e) old new v ts t is h k = ap all_of is ∙ h
+
+-- one key or value more, or none
+pub pair_taken : (r : Result (Unit {0}) AllocError) (old new : Pairs × Option Tree) (v : Value) (ts : Trees) (t : Tree)
+    → MatchResult r (λ _. new ≡ feed old (tree_of v)) (λ _. new ≡ old) → old ≡ fed_onto ts no_pairs → tree_of v ≡ image t
+    → MatchResult r (λ _. new ≡ fed_onto (then ts t) no_pairs) (λ _. new ≡ fed_onto ts no_pairs)
+pair_taken (Ok u) old new v ts t is h e = is ∙ (λ i. feed (h i) (e i)) ∙ sym (fed_onto-then ts t no_pairs)
+pair_taken (Err e) old new v ts t is h k = is ∙ h
+
+-- parts that are not one make no variant of one value
+pub not_one : (vs : List Value) (ts : Trees) (i : ℕ) → all_of vs ≡ images ts → ((v : Value) → vs ≡ v ∷ [] → ⊥) → refuses error.InvalidValue (as_variant i (only ts))
+not_one vs no_trees i h none = tt
+not_one [] (more t no_trees) i h none = cc
+not_one (v ∷ []) (more t no_trees) i h none = absurd (none v refl)
+not_one (v ∷ (w ∷ vs)) (more t no_trees) i h none = cc
+not_one vs (more t (more u ts)) i h none = tt

@@ -1,0 +1,168 @@
+-- Values after their descriptors.
+use Rattle.std.proofs.Common.{◌≡◌, if◌then◌else◌, Bool, true, false, true≢false, ℕ, ◌+◌, ◌≤◌, ◌<◌, List, [], ◌∷◌, ◌++◌, Option, Some, None, Result, Ok, Err, MatchResult, Box, Global, length, take, drop, refl, ap, sym, ◌∙◌, subst, append-nil, append_assoc, arith, rules}
+use Rattle.std.proofs.lemmas.List.{map-append, take-map, drop-map, take-append-drop, take-append-le, drop-append-le, length-append}
+use Rattle.std.proofs.Math.Seq.{take-append_seam, drop-append_seam}
+use Rattle.amqp_data.specs.declared.described.Described.{Described}
+use Rattle.amqp_data.specs.declared.error.Error.{Error}
+use Rattle.amqp_data.specs.declared.error.Error.TheVariants as error
+use Rattle.amqp_ser.specs.Carried.{descriptor_content}
+use Rattle.amqp_ser.specs.Tree.{Descriptor, Tree, described}
+use Rattle.amqp_value.specs.Image.{image}
+use Rattle.amqp_value.specs.TreeOf.{tree_of, tree_step}
+use Rattle.amqp_value.specs.declared.value.Value.{Value, the_lemmas, out-Value, roll-Value, roll-out-Value, map-Value, fold-roll-Value}
+use Rattle.amqp_value.specs.declared.value.Value.TheOpen.{Value-F}
+use Rattle.amqp_value.specs.declared.value.Value.TheVariants.{Described as DescribedValue}
+use Rattle.amqp_to_value.specs.PendingDescriptors.{DescriptorsState, descriptors_of, described_in, described_by, standing}
+use Rattle.amqp_to_value.specs.ImageOf.{refuses, StandsFor}
+
+-- what comes after the kept ones begins with what the next value stands in
+pub standing_left : (p : DescriptorsState) → (more : List Descriptor) × (p.later ≡ standing p ++ more)
+standing_left p = by p.next refl
+  where
+    by : (b : Bool) → p.next ≡ b → (more : List Descriptor) × (p.later ≡ standing p ++ more)
+    by true is = ([], ap (λ b. if b then p.later else []) (sym is) ∙ sym (append-nil (standing p)))
+    by false is = (p.later, ap (λ b. (if b then p.later else []) ++ p.later) (sym is))
+
+pub standing_next : (p : DescriptorsState) → p.next ≡ true → standing p ≡ p.later
+standing_next p is = ap (λ b. if b then p.later else []) is
+
+pub standing_none : (p : DescriptorsState) → p.next ≡ false → standing p ≡ []
+standing_none p is = ap (λ b. if b then p.later else []) is
+
+-- one descriptor more, the innermost
+pub described_in-last : (ds : List Descriptor) (d : Descriptor) (t : Tree) → described_in (ds ++ (d ∷ [])) t ≡ described_in ds (described d t)
+described_in-last [] d t = refl
+described_in-last (e ∷ ds) d t = ap (described e) (described_in-last ds d t)
+
+image-described_in : (ds : List Descriptor) (t : Tree) → image (described_in ds t) ≡ described_in ds (image t)
+image-described_in [] t = refl
+image-described_in (d ∷ ds) t = ap (described d) (image-described_in ds t)
+
+described_by-Some : (ds : List Descriptor) (t : Tree) → described_by ds (Some t) ≡ Some (described_in ds t)
+described_by-Some [] t = refl
+described_by-Some (d ∷ ds) t = rw (described_by-Some ds t) refl
+
+pub described_by-None : (ds : List Descriptor) → described_by ds None ≡ None
+described_by-None [] = refl
+described_by-None (d ∷ ds) = rw (described_by-None ds) refl
+
+-- a value in what it stands in
+pub stands_in : (ds : List Descriptor) (o : Option Tree) (v w : Value) → tree_of w ≡ described_in ds (tree_of v) → StandsFor v o → StandsFor w (described_by ds o)
+stands_in ds None v w is s = absurd s
+stands_in ds (Some t) v w is s = subst (StandsFor w) (sym (described_by-Some ds t)) (is ∙ ap (described_in ds) s ∙ sym (image-described_in ds t))
+
+-- and back
+pub stood : (ds : List Descriptor) (o : Option Tree) (v : Value) → StandsFor v (described_by ds o) → (t : Tree) × (o ≡ Some t) × (tree_of v ≡ described_in ds (image t))
+stood ds None v s = absurd (subst (StandsFor v) (described_by-None ds) s)
+stood ds (Some t) v s = (t, refl, subst (StandsFor v) (described_by-Some ds t) s ∙ image-described_in ds t)
+
+-- a refusal there
+pub refuses_in : (ds : List Descriptor) (o : Option Tree) (e : Error) → refuses e o → refuses e (described_by ds o)
+refuses_in ds o error.OutOfMemory r = tt
+refuses_in ds None error.InvalidValue r = subst (refuses error.InvalidValue) (sym (described_by-None ds)) tt
+refuses_in ds (Some t) error.InvalidValue r = absurd r
+refuses_in ds o e r = absurd r
+
+-- what is kept stands before
+pub all_contents : (bs : List (Box (Described Value) Global)) (kept : ℕ) (others later : List Descriptor) → descriptors_of (take kept bs) ≡ others → descriptors_of (drop kept bs) ≡ later → descriptors_of bs ≡ others ++ later
+all_contents bs kept others later o l = ap descriptors_of (sym (take-append-drop kept bs)) ∙ map-append _ (take kept bs) (drop kept bs) ∙ (λ i. o i ++ l i)
+
+-- those up to a place, and those after it
+pub parted : (bs : List (Box (Described Value) Global)) (others own : List Descriptor) (n : ℕ) → descriptors_of bs ≡ others ++ own → n ≡ length others
+    → (descriptors_of (take n bs) ≡ others) × (descriptors_of (drop n bs) ≡ own)
+parted bs others own n is e = (
+  sym (take-map _ n bs) ∙ (λ i. take (e i) (is i)) ∙ take-append_seam others own,
+  sym (drop-map _ n bs) ∙ (λ i. drop (e i) (is i)) ∙ drop-append_seam others own,
+)
+
+-- the first of them
+pub prefix : (bs cs : List (Box (Described Value) Global)) (ds later : List Descriptor) (n : ℕ) → descriptors_of bs ≡ ds ++ later → n ≡ length ds → cs ≡ take n bs → descriptors_of cs ≡ ds
+prefix bs cs ds later n is e f = ap descriptors_of f ∙ (parted bs ds later n is e).0
+
+-- a value that was taken out of what is put aside again
+pub put_again : (r : Result Value Error) (cs ns : List (Box (Described Value) Global)) (others own : List Descriptor) (t : Tree) (n : ℕ) (next : Bool) → descriptors_of cs ≡ others → n ≡ length others → next ≡ false
+    → MatchResult r (λ v. (tree_of v ≡ t) × (descriptors_of ns ≡ descriptors_of cs ++ own)) (λ _. ⊥)
+    → MatchResult r (λ v. (tree_of v ≡ t) × (descriptors_of (take n ns) ≡ others) × (descriptors_of (drop n ns) ≡ own) × (next ≡ false)) (λ _. ⊥)
+put_again (Ok v) cs ns others own t n next is e idle h = let all = parted ns others own n (h.1 ∙ ap (λ ds. ds ++ own) is) e in (h.0, all.0, all.1, idle)
+put_again (Err e) cs ns others own t n next is e' idle h = h
+
+-- the last of those from the first on, and the others
+module _ (bs : List (Box (Described Value) Global)) (b : Box (Described Value) Global) (first : ℕ) (le : first ≤ length bs) where
+  pub take-prefix : take first (bs ++ (b ∷ [])) ≡ take first bs
+  take-prefix = take-append-le first bs (b ∷ []) le
+
+  descriptors_of-prefix : descriptors_of (drop first (bs ++ (b ∷ []))) ≡ descriptors_of (drop first bs) ++ (descriptor_content b.value.descriptor ∷ [])
+  descriptors_of-prefix = ap descriptors_of (drop-append-le first bs (b ∷ []) le) ∙ map-append _ (drop first bs) (b ∷ [])
+
+  pub described-prefix : (t : Tree) → described_in (descriptors_of (drop first (bs ++ (b ∷ [])))) t ≡ described_in (descriptors_of (drop first bs)) (described (descriptor_content b.value.descriptor) t)
+  described-prefix t = ap (λ ds. described_in ds t) descriptors_of-prefix ∙ described_in-last (descriptors_of (drop first bs)) (descriptor_content b.value.descriptor) t
+
+tree_of-Described : (b : Box (Described Value) Global) → tree_of (DescribedValue b) ≡ described (descriptor_content b.value.descriptor) (tree_of b.value.value)
+tree_of-Described b = search (rules, the_lemmas)
+
+-- a value that is put into the last of them
+pub wrapped : (prefix all initial : List (Box (Described Value) Global)) (b w : Box (Described Value) Global) (first : ℕ) (v : Value) (whole : Tree) → all ≡ prefix ++ (b ∷ []) → first < length all
+    → w.value.descriptor ≡ b.value.descriptor → w.value.value ≡ v
+    → (take first all ≡ take first initial) × (described_in (descriptors_of (drop first all)) (tree_of v) ≡ whole)
+    → (take first prefix ≡ take first initial) × (described_in (descriptors_of (drop first prefix)) (tree_of (DescribedValue w)) ≡ whole)
+wrapped prefix all initial b w first v whole is lt same inner h =
+    let count : length all ≡ length prefix + 1 = ap length is ∙ length-append prefix (b ∷ []) in
+    let le : first ≤ length prefix = omega arith in (
+      sym (take-prefix prefix b first le) ∙ ap (take first) (sym is) ∙ h.0,
+      ap (described_in (descriptors_of (drop first prefix))) (tree_of-Described w ∙ (λ i. described (descriptor_content (same i)) (tree_of (inner i))))
+          ∙ sym (described-prefix prefix b first le (tree_of v))
+          ∙ ap (λ bs. described_in (descriptors_of (drop first bs)) (tree_of v)) (sym is)
+          ∙ h.1,
+    )
+
+-- a described value, taken apart
+module _ (b : Box (Described Value) Global) (d : Descriptor) (t : Tree) (is : tree_of (DescribedValue b) ≡ described d t) where
+  abbrev head : Tree → Descriptor
+  head (described e u) = e
+  head u = d
+
+  abbrev body : Tree → Tree
+  body (described e u) = u
+  body u = u
+
+  peeled : (descriptor_content b.value.descriptor ≡ d) × (tree_of b.value.value ≡ t)
+  peeled = let e = sym (tree_of-Described b) ∙ is in (ap head e, ap body e)
+
+abbrev tagged : Tree → Bool
+tagged (described d t) = true
+tagged t = false
+
+abbrev NoBox : Value → Type 0
+NoBox v = (b : Box (Described Value) Global) → v ≡ DescribedValue b → ⊥
+
+untagged : (y : Value-F Value) → NoBox (roll-Value y) → tagged (tree_step (map-Value Value Tree tree_of y)) ≡ false
+untagged (Value-F.Described b) none = absurd (none b (search (rules, the_lemmas)))
+untagged _ none = refl
+
+-- a value that is not described has no described tree
+pub not_described : (v : Value) → NoBox v → (d : Descriptor) (t : Tree) → tree_of v ≡ described d t → ⊥
+not_described v none d t is =
+    let rolled = roll-out-Value v in
+    let no = untagged (out-Value v) (subst NoBox (sym rolled) none) in
+    true≢false (ap tagged (sym is ∙ ap tree_of (sym rolled) ∙ fold-roll-Value Tree tree_step (out-Value v)) ∙ no)
+
+-- one descriptor of the rest is put last
+pub unwrapped : (rest : List Descriptor) (old new : List (Box (Described Value) Global)) (b w : Box (Described Value) Global) (v : Value) (all : List Descriptor) (t : Tree) (at count len len' cap cap' : ℕ)
+    → length rest + at ≡ count → at < count → len + length rest ≤ cap → len' ≡ len + 1 → cap ≤ cap'
+    → descriptors_of old ++ rest ≡ all → new ≡ old ++ (w ∷ []) → w.value.descriptor ≡ b.value.descriptor → v ≡ b.value.value → tree_of (DescribedValue b) ≡ described_in rest t
+    → (x : List Descriptor) × (length x + (at + 1) ≡ count) × (len' + length x ≤ cap') × (descriptors_of new ++ x ≡ all) × (tree_of v ≡ described_in x t)
+unwrapped [] old new b w v all t at count len len' cap cap' n lt room grows more sum put same inner is = absurd (omega arith)
+unwrapped (d ∷ rest) old new b w v all t at count len len' cap cap' n lt room grows more sum put same inner is =
+    let p = peeled b d (described_in rest t) is in (
+      rest,
+      omega arith,
+      omega arith,
+      ap (λ bs. descriptors_of bs ++ rest) put ∙ ap (λ ds. ds ++ rest) (map-append _ old (w ∷ [])) ∙ append_assoc (descriptors_of old) _ rest
+          ∙ ap (λ e. descriptors_of old ++ (e ∷ rest)) (ap descriptor_content same ∙ p.0) ∙ sum,
+      ap tree_of inner ∙ p.1,
+    )
+
+-- the rest is not empty before the last
+pub more_rest : (rest : List Descriptor) (at count : ℕ) (t : Tree) → length rest + at ≡ count → at < count → (d : Descriptor) × (u : Tree) × (described_in rest t ≡ described d u)
+more_rest [] at count t n lt = absurd (omega arith)
+more_rest (d ∷ rest) at count t n lt = (d, described_in rest t, refl)

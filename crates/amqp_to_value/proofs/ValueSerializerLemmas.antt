@@ -1,0 +1,147 @@
+-- What an open compound holds after one part more, or one less.
+use Rattle.std.proofs.Common.{◌≡◌, List, [], ◌∷◌, ◌++◌, Option, Some, None, Result, ok_or, true, true≢false, refl, ap, sym, ◌∙◌, subst}
+use Rattle.amqp_data.specs.declared.error.Error.{Error}
+use Rattle.amqp_data.specs.declared.error.Error.TheVariants as error
+use Rattle.amqp_ser.specs.Tree.{Descriptor, Tree, Trees, Pairs, null, scalar, list, array, map, described, variant, lazy, transparent, no_trees, more}
+use Rattle.amqp_ser.specs.Compounds.{all_trees, prepend, complete, in_pairs, as_kind, whole, paired}
+use Rattle.amqp_ser.specs.Marked.{marked, marked_tree}
+use Rattle.amqp_ser.specs.declared.kind.Kind.{Kind}
+use Rattle.amqp_ser.specs.declared.kind.Kind.TheVariants as kinds
+use Rattle.amqp_ser.specs.declared.mark.Mark.TheVariants as mark
+use Rattle.amqp_ser.proofs.Joins.{join, joined, all_trees-append, kind_none}
+use Rattle.amqp_ser.proofs.Pairing.{Pairing, pairing, paired-even}
+use Rattle.amqp_value.specs.Image.{image}
+use Rattle.amqp_value.specs.TreeOf.{tree_of}
+use Rattle.amqp_value.specs.declared.value.Value.{Value}
+use Rattle.amqp_to_value.specs.ImageOf.{refuses, StandsFor, IsImageOf}
+use Rattle.amqp_to_value.specs.PendingMark.{meant}
+use Rattle.amqp_to_value.specs.HeldImages.{then, HoldsImages, compound_tree, TakesPairs}
+use Rattle.amqp_to_value.specs.PendingDescriptors.{described_by}
+use Rattle.amqp_to_value.specs.ValueSerializer.{HoldsParts, HasParts, HasValue, IsKept, meant_by}
+use Rattle.amqp_to_value.specs.declared.pending_mark.PendingMark.{PendingMark}
+use Rattle.amqp_to_value.specs.declared.pending_mark.PendingMark.TheVariants as pending
+use Rattle.amqp_to_value.specs.declared.open_value.OpenBody.TheVariants as body
+use Rattle.amqp_to_value.specs.declared.parts.Parts.{Parts}
+use Rattle.amqp_to_value.specs.declared.parts.Parts.TheVariants as parts
+use Rattle.amqp_to_value.specs.declared.serializer.Serializer.{Serializer}
+use Rattle.amqp_to_value.proofs.PendingDescriptorLemmas.{standing_none}
+use Rattle.amqp_to_value.proofs.HeldImagesLemmas.{join_then, all_trees-then}
+
+none-some : (t : Tree) → None ≡ Some t → ⊥
+none-some t q = cc
+
+unmarked : (t : Tree) → marked_tree mark.Other t ≡ Some t
+unmarked (scalar s) = refl
+unmarked (list ts) = refl
+unmarked (array ts) = refl
+unmarked (map ps) = refl
+unmarked (described d t) = refl
+unmarked (variant i t) = refl
+unmarked (lazy bs) = refl
+unmarked (transparent ts) = refl
+
+other : (p : Option Tree) → marked mark.Other p ≡ p
+other None = refl
+other (Some t) = unmarked t
+
+-- what is meant with nothing before it
+pub plain_answer : (s : Serializer) (ds : List Descriptor) (p : Option Tree) (r : Result Value Error) → IsKept ds s → IsImageOf (meant_by s p) r → IsImageOf p r
+plain_answer s ds p r kept is =
+    subst (λ o. IsImageOf o r) (ap (λ ds. described_by ds (meant s.pending p)) (standing_none s.descriptors kept.0.1) ∙ ap (λ u. meant u p) kept.0.0 ∙ other p) is
+
+pub meant_none : (u : PendingMark) → meant u None ≡ None
+meant_none (pending.Mark m) = refl
+meant_none pending.Nothing = refl
+
+joined_none : (o : Option Trees) → joined o None ≡ None
+joined_none None = refl
+joined_none (Some ts) = refl
+
+-- one part without a tree leaves the whole without one
+without : (u : PendingMark) (kind : Kind) (ps rest : List (Option Tree)) → meant u (whole kind (ps ++ (None ∷ rest))) ≡ None
+unfolding whole
+without u kind ps rest =
+    ap (λ o. meant u (as_kind kind o)) (all_trees-append ps (None ∷ rest) ∙ joined_none (all_trees ps)) ∙ ap (meant u) (kind_none kind) ∙ meant_none u
+
+-- the refusal of a part is permitted on every continuation
+pub refused : (u : PendingMark) (kind : Kind) (ps : List (Option Tree)) (p : Option Tree) (e : Error) → refuses e p → (rest : List (Option Tree)) → refuses e (meant u (whole kind (ps ++ (p ∷ rest))))
+refused u kind ps p error.OutOfMemory r rest = tt
+refused u kind ps None error.InvalidValue r rest = subst (refuses error.InvalidValue) (sym (without u kind ps rest)) tt
+refused u kind ps (Some t) error.InvalidValue r rest = absurd r
+refused u kind ps p e r rest = absurd r
+
+module _ (u : PendingMark) (kind : Kind) (old new : Parts) (ps : List (Option Tree)) (h : HoldsParts u kind old ps) (makes : (o : Option Trees) → compound_tree new o ≡ compound_tree old o) where
+  -- the same parts
+  kept : HoldsImages new h.ts → HoldsParts u kind new ps
+  kept fed = record { ts = h.ts; trees = h.trees; fed = fed; makes = λ o. h.makes o ∙ sym (makes o) }
+
+  -- one part more
+  pub part_taken : (p : Option Tree) (v : Value) → StandsFor v p → ((ts : Trees) (t : Tree) → HoldsImages old ts → tree_of v ≡ image t → HoldsImages new (then ts t)) → HoldsParts u kind new (ps ++ (p ∷ []))
+  part_taken None v s step = absurd s
+  part_taken (Some t) v s step = record {
+    ts = then h.ts t;
+    trees = all_trees-then ps h.ts t h.trees;
+    fed = step h.ts t h.fed s;
+    makes = λ o. h.makes o ∙ sym (makes o);
+  }
+
+  -- no part more
+  pub part_left : (p : Option Tree) (v : Value) → StandsFor v p → ((ts : Trees) (t : Tree) → HoldsImages old ts → tree_of v ≡ image t → HoldsImages new ts) → HoldsParts u kind new ps
+  part_left None v s step = absurd s
+  part_left (Some t) v s step = kept (step h.ts t h.fed s)
+
+-- a compound of the kind map takes keys and values in turn
+takes_pairs : (u : PendingMark) (o : Parts) → ((ts : Option Trees) → meant u (as_kind kinds.Map ts) ≡ compound_tree o ts) → TakesPairs o
+takes_pairs u (parts.Map g) m = tt
+takes_pairs u parts.Refused m = tt
+takes_pairs u (parts.List v) m = absurd (none-some _ (sym (meant_none u) ∙ m (Some (more (scalar null) no_trees))))
+takes_pairs u (parts.Array v) m = absurd (none-some _ (sym (meant_none u) ∙ m (Some (more (scalar null) no_trees))))
+takes_pairs u (parts.Transparent v) m = absurd (none-some _ (sym (meant_none u) ∙ m (Some (more (scalar null) no_trees))))
+takes_pairs u (parts.Variant i v) m = absurd (none-some _ (sym (meant_none u) ∙ m (Some (more (scalar null) no_trees))))
+takes_pairs u (parts.NewtypeVariant i v) m = absurd (none-some _ (sym (meant_none u) ∙ m (Some (more (scalar null) no_trees))))
+
+-- the last of the parts
+last_part : (o : Option Trees) (p : Option Tree) (ts : Trees) → joined o (prepend p (Some no_trees)) ≡ Some ts → (us : Trees) × (t : Tree) × (o ≡ Some us) × (ts ≡ then us t)
+last_part None p ts h = cc
+last_part (Some us) None ts h = cc
+last_part (Some us) (Some t) ts h = let e : join us (more t no_trees) ≡ ts = cc in (us, t, refl, sym e ∙ join_then us t)
+
+-- a key that is taken back
+pub undone : (u : PendingMark) (old new : Parts) (ps : List (Option Tree)) (p : Option Tree) → HoldsParts u kinds.Map old (ps ++ (p ∷ [])) → paired ps ≡ true
+    → ((o : Option Trees) → compound_tree new o ≡ compound_tree old o)
+    → ((ts : Trees) (qs : Pairs) (t : Tree) → in_pairs ts ≡ Some qs → TakesPairs old → HoldsImages old (then ts t) → HoldsImages new ts)
+    → HoldsParts u kinds.Map new ps
+undone u old new ps p h even makes back =
+    let last = last_part (all_trees ps) p h.ts (sym (all_trees-append ps (p ∷ [])) ∙ h.trees) in
+    let us = last.0 in
+    let pairs : Pairing us = pairing us (sym (paired-even ps us last.2) ∙ even) in
+    record {
+      ts = us;
+      trees = last.2;
+      fed = back us pairs.pairs last.1 pairs.are (takes_pairs u old h.makes) (subst (HoldsImages old) last.3 h.fed);
+      makes = λ o. h.makes o ∙ sym (makes o);
+    }
+
+-- the value of a single compound
+single_answer : (u : PendingMark) (o : Option Value) (r : Result Value Error) (ps : List (Option Tree)) → HasValue u o ps → complete kinds.Single ps ≡ true → r ≡ ok_or o error.InvalidValue
+    → IsImageOf (meant u (whole kinds.Single ps)) r
+unfolding whole
+single_answer u None r [] h c e = absurd (true≢false (sym c))
+single_answer u None r (p ∷ ps) h c e = absurd h
+single_answer u (Some v) r [] h c e = absurd h
+single_answer u (Some v) r (None ∷ []) h c e = absurd (subst (StandsFor v) (meant_none u) h)
+single_answer u (Some v) r (Some t ∷ []) h c e = subst (IsImageOf (meant u (Some t))) (sym e) h
+single_answer u (Some v) r (p ∷ (q ∷ ps)) h c e = absurd h
+
+pub single_value : (u w : PendingMark) (k : Kind) (o : Option Value) (r : Result Value Error) (ps : List (Option Tree)) → HasParts u k (body.Single w o) ps → complete k ps ≡ true
+    → r ≡ ok_or o error.InvalidValue → IsImageOf (meant u (whole k ps)) r
+single_value u w k o r ps h c e =
+    subst (λ x. IsImageOf (meant u (whole x ps)) r) (sym h.0)
+    (single_answer u o r ps h.2 (subst (λ x. complete x ps ≡ true) h.0 c) e)
+
+-- the value of a compound of parts
+pub parts_value : (u : PendingMark) (k : Kind) (parts : Parts) (r : Result Value Error) (ps : List (Option Tree)) → HoldsParts u k parts ps
+    → ((ts : Trees) → HoldsImages parts ts → IsImageOf (compound_tree parts (Some ts)) r) → IsImageOf (meant u (whole k ps)) r
+unfolding whole
+parts_value u k parts r ps h gives =
+    subst (λ o. IsImageOf o r) (sym (h.makes (Some h.ts)) ∙ ap (λ o. meant u (as_kind k o)) (sym h.trees)) (gives h.ts h.fed)

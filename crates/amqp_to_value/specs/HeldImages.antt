@@ -1,0 +1,67 @@
+-- What a compound holds of the trees that it was fed.
+use Rattle.std.specs.Prelude.{◌≡◌, Bool, true, false, Option, Some, None, option_map}
+use Rattle.amqp_ser.specs.Tree.{Tree, Trees, Pairs, no_trees, more, no_pairs}
+use Rattle.amqp_ser.specs.Compounds.{as_kind}
+use Rattle.amqp_ser.specs.Marked.{marked}
+use Rattle.amqp_ser.specs.declared.kind.Kind.{Kind}
+use Rattle.amqp_ser.specs.declared.kind.Kind.TheVariants as kind
+use Rattle.amqp_ser.specs.declared.mark.Mark.TheVariants as mark
+use Rattle.amqp_value.specs.Image.{image, images, insert_tree}
+use Rattle.amqp_value.specs.TreeOf.{tree_of, all_of, pairs_trees}
+use Rattle.amqp_to_value.specs.declared.map_builder.MapBuilder.{MapBuilder}
+use Rattle.amqp_to_value.specs.declared.parts.Parts.{Parts}
+use Rattle.amqp_to_value.specs.declared.parts.Parts.TheVariants as held
+
+-- these trees and one more
+abbrev pub then : Trees → Tree → Trees
+then no_trees t = more t no_trees
+then (more u ts) t = more u (then ts t)
+
+-- the images of a map's pairs, and of the key whose value comes next
+abbrev pub held_pairs : MapBuilder → Pairs × Option Tree
+held_pairs g = (pairs_trees g.pairs.entries, option_map tree_of g.key)
+
+-- one part more: a key, or the value of the pending key
+abbrev pub feed : Pairs × Option Tree → Tree → Pairs × Option Tree
+feed held t = by held.1
+  where
+    by : Option Tree → Pairs × Option Tree
+    by None = (held.0, Some t)
+    by (Some k) = (insert_tree held.0 k t, None)
+
+-- what is held after keys and values in turn
+abbrev pub fed_onto : Trees → Pairs → Pairs × Option Tree
+fed_onto no_trees done = (done, None)
+fed_onto (more k no_trees) done = (done, Some (image k))
+fed_onto (more k (more v ts)) done = fed_onto ts (insert_tree done (image k) (image v))
+
+-- the images of these trees are held, in order
+abbrev pub HoldsImages : Parts → Trees → Type 0
+HoldsImages (held.List v) ts = all_of v.items ≡ images ts
+HoldsImages (held.Array v) ts = all_of v.items ≡ images ts
+HoldsImages (held.Transparent v) ts = all_of v.items ≡ images ts
+HoldsImages (held.Map g) ts = held_pairs g ≡ fed_onto ts no_pairs
+HoldsImages (held.Variant i v) ts = all_of v.items ≡ images ts
+HoldsImages (held.NewtypeVariant i v) ts = all_of v.items ≡ images ts
+HoldsImages held.Refused ts = Unit {0}
+
+-- one value that stands for itself
+abbrev pub is_single : Kind → Bool
+is_single kind.Single = true
+is_single k = false
+
+-- the tree that a compound makes of its parts
+abbrev pub compound_tree : Parts → Option Trees → Option Tree
+compound_tree (held.List v) ts = as_kind kind.List ts
+compound_tree (held.Array v) ts = marked mark.Array (as_kind kind.List ts)
+compound_tree (held.Transparent v) ts = marked mark.Transparent (as_kind kind.List ts)
+compound_tree (held.Map g) ts = as_kind kind.Map ts
+compound_tree (held.Variant i v) ts = as_kind (kind.Variant i) ts
+compound_tree (held.NewtypeVariant i v) ts = as_kind (kind.NewtypeVariant i) ts
+compound_tree held.Refused ts = None
+
+-- a compound of keys and values in turn
+abbrev pub TakesPairs : Parts → Type 0
+TakesPairs (held.Map g) = Unit {0}
+TakesPairs held.Refused = Unit {0}
+TakesPairs o = ⊥

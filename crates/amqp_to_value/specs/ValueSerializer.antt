@@ -1,0 +1,107 @@
+-- What the value serializer may answer, and what its compounds were fed.
+use Rattle.std.specs.Prelude.{◌≡◌, ◌≤◌, false, List, [], ◌∷◌, ◌++◌, length, Option, Some, None, Result, Ok, Err}
+use Rattle.std.proofs.Common.{refl, ap, ◌∙◌, subst}
+use Rattle.amqp_data.specs.declared.error.Error.{Error}
+use Rattle.amqp_ser.specs.Composites.{as_described}
+use Rattle.amqp_ser.specs.Tree.{Descriptor, Tree, Trees}
+use Rattle.amqp_ser.specs.Compounds.{all_trees, as_kind}
+use Rattle.amqp_ser.specs.declared.kind.Kind.{Kind}
+use Rattle.amqp_ser.specs.declared.kind.Kind.TheVariants as kind
+use Rattle.amqp_ser.specs.declared.mark.Mark.TheVariants as mark
+use Rattle.amqp_value.specs.declared.value.Value.{Value}
+use Rattle.amqp_to_value.specs.PendingDescriptors.{saved_of, described_by, standing}
+use Rattle.amqp_to_value.specs.ImageOf.{IsImageOf, StandsFor}
+use Rattle.amqp_to_value.specs.PendingMark.{meant}
+use Rattle.amqp_to_value.specs.HeldImages.{HoldsImages, is_single, compound_tree}
+use Rattle.amqp_to_value.specs.declared.pending_mark.PendingMark.{PendingMark}
+use Rattle.amqp_to_value.specs.declared.pending_mark.PendingMark.TheVariants as pending
+use Rattle.amqp_to_value.specs.declared.open_value.OpenValue.{OpenValue}
+use Rattle.amqp_to_value.specs.declared.open_value.OpenBody.{OpenBody}
+use Rattle.amqp_to_value.specs.declared.open_value.OpenBody.TheVariants as body
+use Rattle.amqp_to_value.specs.declared.parts.Parts.{Parts}
+use Rattle.amqp_to_value.specs.declared.serializer.Serializer.{Serializer}
+
+-- under no marker, and after no descriptor
+abbrev pub IsFresh : Serializer → Type 0
+IsFresh s = (s.pending ≡ pending.Mark mark.Other) × (s.descriptors.next ≡ false)
+
+-- the tree that is meant: under its marker, after its descriptors
+abbrev pub meant_by : Serializer → Option Tree → Option Tree
+meant_by s t = described_by (standing s.descriptors) (meant s.pending t)
+
+-- all the descriptors that it holds
+abbrev pub all_held : Serializer → List Descriptor
+all_held s = s.descriptors.kept ++ s.descriptors.later
+
+-- fresh, and these descriptors are kept, no more and no fewer
+abbrev pub IsKept : List Descriptor → Serializer → Type 0
+IsKept ds s = IsFresh s × (s.descriptors.kept ≡ ds)
+
+-- these are left after them, with some that are needed no more
+abbrev pub IsLeft : List Descriptor → Serializer → Type 0
+IsLeft ds s = (more : List Descriptor) × (s.descriptors.later ≡ ds ++ more)
+
+-- what is kept stays as it was; a value uses up its own descriptors, and leaves their room, and a refusal leaves them
+abbrev pub Leaves : List Descriptor → List Descriptor → Result Value Error → Serializer → Type 0
+Leaves others own (Ok v) s = IsKept others s × (length (others ++ own) ≤ s.descriptors.room)
+Leaves others own (Err e) s = IsKept others s × IsLeft own s
+
+abbrev pub value_permits : Serializer → Option Tree → Result Value Error → Serializer → Type 0
+value_permits s t r after = IsImageOf (meant_by s t) r × Leaves s.descriptors.kept (standing s.descriptors) r after
+
+-- an open compound, of the parts that it was fed
+pub record HoldsParts (pending : PendingMark) (kind : Kind) (held : Parts) (ps : List (Option Tree)) : Type 0 where
+  pub ts : Trees
+  pub trees : all_trees ps ≡ Some ts
+  pub fed : HoldsImages held ts
+  pub makes : (o : Option Trees) → meant pending (as_kind kind o) ≡ compound_tree held o
+
+-- a single compound has no value and no part, or the value of its one part
+abbrev pub HasValue : PendingMark → Option Value → List (Option Tree) → Type 0
+HasValue u None [] = Unit {0}
+HasValue u None (p ∷ ps) = ⊥
+HasValue u (Some v) [] = ⊥
+HasValue u (Some v) (p ∷ []) = StandsFor v (meant u p)
+HasValue u (Some v) (p ∷ (q ∷ ps)) = ⊥
+
+-- a compound, opened under this, may have been fed these parts
+abbrev pub HasParts : PendingMark → Kind → OpenBody → List (Option Tree) → Type 0
+HasParts u k (body.Single w v) ps = (k ≡ kind.Single) × (w ≡ u) × HasValue u v ps
+HasParts u k (body.Parts parts) ps = (is_single k ≡ false) × HoldsParts u k parts ps
+
+-- what the compound stands in is put aside
+abbrev pub IsSaved : Serializer → Serializer → Type 0
+IsSaved start s = IsKept start.descriptors.kept s × IsLeft (standing start.descriptors) s
+
+-- it is kept, for the time of a part
+abbrev pub IsKeeping : Serializer → Serializer → Type 0
+IsKeeping start s = IsKept (start.descriptors.kept ++ standing start.descriptors) s
+
+-- before its value a single compound has the serializer stand as at its opening
+abbrev pub IsReady : Serializer → Serializer → OpenBody → Type 0
+IsReady start s (body.Single u None) = (s.pending ≡ start.pending) × (s.descriptors.kept ≡ start.descriptors.kept) × (standing s.descriptors ≡ standing start.descriptors)
+IsReady start s (body.Single u (Some v)) = IsKeeping start s
+IsReady start s (body.Parts parts) = IsKeeping start s
+
+abbrev pub value_has : Serializer → Kind → Serializer → OpenValue → List (Option Tree) → Type 0
+value_has start k s held ps = (held.saved ≡ saved_of start.descriptors.kept (standing start.descriptors)) × HasParts start.pending k held.body ps × IsSaved start s
+
+abbrev pub value_awaits : Serializer → Kind → Serializer → OpenValue → List (Option Tree) → Type 0
+value_awaits start k s held ps = (held.saved ≡ saved_of start.descriptors.kept (standing start.descriptors)) × HasParts start.pending k held.body ps × IsReady start s held.body
+
+-- a single compound is ready for a descriptor
+abbrev pub value_awaits_descriptor : Serializer → Serializer → OpenValue → Type 0
+value_awaits_descriptor start s held = (held.saved ≡ saved_of start.descriptors.kept (standing start.descriptors)) × HasParts start.pending kind.Single held.body [] × IsKeeping start s
+
+described_none : (ds : List Descriptor) → described_by ds None ≡ None
+described_none [] = refl
+described_none (d ∷ ds) = ap (as_described (Some d)) (described_none ds)
+
+none_meant : (u : PendingMark) → meant u None ≡ None
+none_meant (pending.Mark m) = refl
+none_meant pending.Nothing = refl
+
+-- where there is no tree there is no value
+pub no_value_of_none : (s : Serializer) (v : Value) (after : Serializer) → value_permits s None (Ok v) after → ⊥
+no_value_of_none s v after h =
+    let none : meant_by s None ≡ None = ap (described_by (standing s.descriptors)) (none_meant s.pending) ∙ described_none (standing s.descriptors) in subst (StandsFor v) none h.0

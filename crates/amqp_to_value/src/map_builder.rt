@@ -1,0 +1,85 @@
+//! The pairs of a map that is still fed.
+
+ghost use Rattle.std.specs.Prelude.{◌≡◌, MatchResult, None};
+ghost use Rattle.amqp_ser.specs.Tree.{Trees, map, no_pairs};
+ghost use Rattle.amqp_ser.specs.Compounds.{as_map, in_pairs};
+ghost use Rattle.amqp_value.specs.TreeOf.{tree_of, pairs_trees};
+ghost use Rattle.amqp_to_value.specs.HeldImages.{held_pairs, feed, fed_onto};
+ghost use Rattle.amqp_to_value.specs.ImageOf.{IsImageOf};
+
+use amqp_data::{Error, OrderedMap};
+use amqp_value::Value;
+use indexmap::IndexMap;
+use std::alloc::{AllocError, Global};
+
+/// The pairs of a map, in order, and the key whose value comes next.
+#[derive(Drop)]
+pub struct MapBuilder {
+    pairs: IndexMap<Value, Value>,
+    key: Option<Value>,
+}
+
+impl MapBuilder {
+    /// No pairs.
+    pub fn new(alloc: Global) -> MapBuilder
+        ensures { held_pairs result ≡ (no_pairs, None) }
+    {
+        MapBuilder {
+            pairs: IndexMap::new(alloc),
+            key: None,
+        }
+    }
+
+    /// Takes a key, or the value of the pending key.
+    #[inline(never)]
+    pub fn add_part(&mut self, part: Value) -> Result<(), AllocError>
+        ensures { MatchResult result
+            (λ _. held_pairs self.new ≡ feed (held_pairs self.old) (tree_of part))
+            (λ _. held_pairs self.new ≡ held_pairs self.old) }
+    {
+        match self.key.take() {
+            None => {
+                self.key = Some(part);
+                Ok(())
+            }
+            Some(key) => match self.pairs.insert(key, part) {
+                Ok(_) => Ok(()),
+                Err(refused) => {
+                    let (key, _part) = refused.value;
+                    self.key = Some(key);
+                    Err(AllocError)
+                }
+            },
+        }
+    }
+
+    /// Takes the pending key back.
+    #[inline(always)]
+    pub fn undo(&mut self)
+        ensures { held_pairs self.new ≡ ((held_pairs self.old).0, None) }
+    {
+        self.key = None;
+    }
+
+    /// The map of the pairs, none where a key is pending.
+    #[inline(never)]
+    pub fn into_value(self, alloc: Global) -> Result<Value, Error>
+        ensures { (ts : Trees) → held_pairs self ≡ fed_onto ts no_pairs →
+            IsImageOf (as_map (in_pairs ts)) result }
+    {
+        match self.key {
+            Some(_) => Err(Error::InvalidValue),
+            None => map_value(alloc, self.pairs),
+        }
+    }
+}
+
+// The map of these pairs, in their order.
+fn map_value(alloc: Global, pairs: IndexMap<Value, Value>) -> Result<Value, Error>
+    ensures { MatchResult result
+        (λ v. tree_of v ≡ map (pairs_trees pairs.entries))
+        (λ e. e ≡ Error.OutOfMemory) }
+{
+    let pairs: Vec<(Value, Value)> = pairs.into_iter().collect(alloc)?;
+    Ok(Value::Map(OrderedMap::from_distinct(pairs)))
+}

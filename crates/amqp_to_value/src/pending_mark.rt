@@ -1,0 +1,44 @@
+//! The markers that stand before a tree.
+
+ghost use Rattle.std.specs.Prelude.{◌≡◌, Option, Some};
+ghost use Rattle.amqp_ser.specs.Composites.{as_described};
+ghost use Rattle.amqp_ser.specs.Tree.{Descriptor, Tree};
+ghost use Rattle.amqp_ser.specs.Marked.{marked};
+ghost use Rattle.amqp_to_value.specs.PendingMark.{meant};
+
+use amqp_ser::Mark;
+
+/// What the next tree stands under.
+#[derive(Clone, Copy)]
+pub enum PendingMark {
+    /// One marker, or none, which is `Mark::Other`.
+    Mark(Mark),
+    /// Markers that no tree satisfies together.
+    Nothing,
+}
+
+impl PendingMark {
+    /// The same with one marker more, inside.
+    #[inline(always)]
+    pub fn with(self, mark: Mark) -> PendingMark
+        ensures { (t : Option Tree) → meant result t ≡ meant self (marked mark t) }
+    {
+        match (self, mark) {
+            (pending, Mark::Other) => pending,
+            (PendingMark::Mark(Mark::Other), mark) => PendingMark::Mark(mark),
+            _ => PendingMark::Nothing,
+        }
+    }
+
+    /// The same with a descriptor, inside: no marker is satisfied by a described value.
+    #[inline(always)]
+    pub fn with_descriptor(self) -> PendingMark
+        ensures { (d : Descriptor) (t : Option Tree) →
+            as_described (Some d) (meant result t) ≡ meant self (as_described (Some d) t) }
+    {
+        match self {
+            PendingMark::Mark(Mark::Other) => self,
+            PendingMark::Mark(_) | PendingMark::Nothing => PendingMark::Nothing,
+        }
+    }
+}

@@ -1,0 +1,138 @@
+-- Where the value after a descriptor stands: what is answered there is an answer on the described value.
+use Rattle.std.proofs.Common.{◌≡◌, ℕ, ◌+◌, ◌<◌, inl, inr, Option, Some, None, true, false, ◌&&◌, Result, Ok, Err, length, is_some, refl, ap, sym, ◌∙◌, subst, arith}
+use Rattle.amqp_size.specs.declared.refusal.Refusal.{Refusal}
+use Rattle.amqp_size.specs.declared.refusal.Refusal.TheVariants as error
+use Rattle.amqp_ser.specs.Tree.{Tree, Descriptor, described}
+use Rattle.amqp_ser.specs.Composites.{as_described, descriptor_of}
+use Rattle.amqp_ser.specs.Encoding.{encoding, descriptor_form}
+use Rattle.amqp_ser.specs.Limits.{is_length}
+use Rattle.amqp_ser.specs.Writable.{uniform_arrays, within_limits, descriptor_fits}
+use Rattle.amqp_ser.proofs.Bools.{left_false, right_false, one_false, le_false, not_le}
+use Rattle.amqp_size.specs.SizeSerializer.{at_position, refused}
+use Rattle.amqp_size.specs.Position.{position_of, meant, without_prefix, suits, next, within_limits_at, plainly}
+use Rattle.amqp_size.specs.Refused.{refuses_none}
+use Rattle.amqp_size.specs.WholePosition.{Position}
+use Rattle.amqp_size.specs.WholePosition as position
+use Rattle.amqp_size.specs.WholePending.{Pending}
+use Rattle.amqp_size.specs.WholePending as pending
+use Rattle.amqp_size.proofs.Described.{of_tree, length-described, no_scalar_described, no_array_described, no_transparent_described}
+use Rattle.amqp_size.proofs.Positions.{long_at, refused-none}
+use Rattle.amqp_wire.specs.HeaderBytes.{in_array}
+use Rattle.amqp_wire.specs.Dense.{dense_at}
+use Rattle.amqp_wire.specs.Positions.{after_descriptor_at, after_descriptor}
+use Rattle.amqp_wire.specs.Writer.{accepts}
+use Rattle.amqp_wire.proofs.CountWithinBytes.{no_false}
+
+pub no_some : {X : Type 0} (x : X) → None ≡ Some x → ⊥
+no_some x h = cc
+
+some_position : (p q : Position) → Some p ≡ Some q → p ≡ q
+some_position p q h = cc
+
+some_pending : (u v : Pending) → Some u ≡ Some v → u ≡ v
+some_pending u v h = cc
+
+-- a value too long behind so many bytes, behind a descriptor too
+longer : (h : ℕ) (x : Descriptor) (t : Tree) → is_length (h + length (encoding t)) ≡ false → is_length (h + length (encoding (described x t))) ≡ false
+longer h x t a =
+    let len = length-described x t (length (descriptor_form x)) refl in
+    let past : 18446744073709551615 < h + length (encoding t) = not_le _ _ a in
+    le_false (h + length (encoding (described x t))) 18446744073709551615 (omega arith)
+
+longer_alone : (x : Descriptor) (t : Tree) → is_length (0 + length (encoding t)) ≡ false → is_length (length (encoding (described x t))) ≡ false
+longer_alone x t a =
+    let len = length-described x t (length (descriptor_form x)) refl in
+    let past : 18446744073709551615 < 0 + length (encoding t) = not_le _ _ a in
+    le_false (length (encoding (described x t))) 18446744073709551615 (omega arith)
+
+long_here : (x : Descriptor) (t : Tree) → (is_length (0 + length (encoding t)) && within_limits t) ≡ false → within_limits (described x t) ≡ false
+long_here x t h = elim (one_false (is_length (0 + length (encoding t))) (within_limits t) h) [
+  | inl a ↦ left_false (is_length (length (encoding (described x t)))) (descriptor_fits x && within_limits t) (longer_alone x t a)
+  | inr b ↦ right_false (is_length (length (encoding (described x t)))) (descriptor_fits x && within_limits t) (right_false (descriptor_fits x) (within_limits t) b)
+]
+
+long_after : (n : ℕ) (x : Descriptor) (t : Tree) → (is_length (n + length (encoding t)) && within_limits t) ≡ false → (is_length (n + length (encoding (described x t))) && within_limits (described x t)) ≡ false
+long_after n x t h = elim (one_false (is_length (n + length (encoding t))) (within_limits t) h) [
+  | inl a ↦ left_false (is_length (n + length (encoding (described x t)))) (within_limits (described x t)) (longer n x t a)
+  | inr b ↦ right_false (is_length (n + length (encoding (described x t)))) (within_limits (described x t))
+      (right_false (is_length (length (encoding (described x t)))) (descriptor_fits x && within_limits t) (right_false (descriptor_fits x) (within_limits t) b))
+]
+
+-- what that position asks of the value
+pub record Behind (p q : Position) : Type 0 where
+  pub rest_is : rest q ≡ rest p
+  pub own : in_array q ≡ false
+  pub suits_is : (x : Descriptor) (t : Tree) → suits q t ≡ suits p (described x t)
+  pub next_is : (x : Descriptor) (t : Tree) → next q t ≡ next p (described x t)
+  pub long : (x : Descriptor) (t : Tree) → within_limits_at q t ≡ false → within_limits_at p (described x t) ≡ false
+  pub fits : (x : Descriptor) (t : Tree) → dense_at p (described x t) ≡ true → (dense_at q t ≡ true) × (in_array p ≡ false)
+
+pub behind : (p q : Position) → after_descriptor_at p ≡ Some q → Behind p q
+behind position.Root q e = subst (Behind position.Root) (some_position _ q e) (record { rest_is = refl; own = refl; suits_is = λ x t. refl; next_is = λ x t. refl; long = λ x t h. long_here x t h; fits = λ x t h. (h, refl) })
+behind position.Inside q e = subst (Behind position.Inside) (some_position _ q e) (record { rest_is = refl; own = refl; suits_is = λ x t. refl; next_is = λ x t. refl; long = λ x t h. long_here x t h; fits = λ x t h. (h, refl) })
+behind position.First q e = subst (Behind position.First) (some_position _ q e) (record { rest_is = refl; own = refl; suits_is = λ x t. refl; next_is = λ x t. refl; long = λ x t h. long_here x t h; fits = λ x t h. absurd (no_false h) })
+behind (position.Element c) q e = subst (Behind (position.Element c)) (some_position _ q e) (record { rest_is = refl; own = refl; suits_is = λ x t. refl; next_is = λ x t. refl; long = λ x t h. long_here x t h; fits = λ x t h. absurd (no_false h) })
+behind position.Descriptor q e = absurd (no_some q e)
+behind (position.Value n b) q e = subst (Behind (position.Value n b)) (some_position _ q e) (record { rest_is = refl; own = refl; suits_is = λ x t. refl; next_is = λ x t. refl; long = λ x t h. long_after n x t h; fits = λ x t h. (h, refl) })
+
+pub plain_behind : (p : Position) (w : Pending) → after_descriptor (pending.Plain p) ≡ Some w → (q : Position) × ((after_descriptor_at p ≡ Some q) × (pending.Plain q ≡ w))
+plain_behind p w e = go (after_descriptor_at p) refl e
+  where
+    go : (o : Option Position) → after_descriptor_at p ≡ o → plainly o ≡ Some w → (q : Position) × ((after_descriptor_at p ≡ Some q) × (pending.Plain q ≡ w))
+    go None a h = absurd (no_some w h)
+    go (Some q) a h = (q, (a, some_pending (pending.Plain q) w h))
+
+-- the writer comes back to the position of the described value
+pub behind_rest : (u w : Pending) → after_descriptor u ≡ Some w → without_prefix (position_of w) ≡ without_prefix (position_of u)
+behind_rest (pending.Plain p) w e = let q = plain_behind p w e in ap (λ v. without_prefix (position_of v)) (sym q.1.1) ∙ (behind p q.0 q.1.0).rest_is
+behind_rest (pending.Array p) w e = ap (λ v. without_prefix (position_of v)) (sym (some_pending _ w e))
+behind_rest (pending.Transparent p) w e = ap (λ v. without_prefix (position_of v)) (sym (some_pending _ w e))
+behind_rest (pending.Scalar m p) w e = ap (λ v. without_prefix (position_of v)) (sym (some_pending _ w e))
+behind_rest (pending.Nothing p) w e = ap (λ v. without_prefix (position_of v)) (sym (some_pending _ w e))
+
+value_refused : (p q : Position) (x : Descriptor) (t : Tree) (e : Refusal) → Behind p q → refused q t e → refused p (described x t) e
+value_refused p q x t error.TooLong b h = b.long x t h
+value_refused p q x t error.InvalidValue b h = ap (λ s. uniform_arrays t && s) (sym (b.suits_is x t)) ∙ h
+value_refused p q x t e b h = absurd h
+
+value_accepts : (p q : Position) (x : Descriptor) (t : Option Tree) (r : Result (Unit {0}) Refusal) (after : Pending) → Behind p q → accepts q t r after → accepts p (as_described (Some x) t) r after
+value_accepts p q x None (Ok u) after b h = h
+value_accepts p q x (Some t) (Ok u) after b h = record { uniform_arrays_it = h.uniform_arrays_it; suited = sym (b.suits_is x t) ∙ h.suited; position = h.position ∙ ap pending.Plain (b.next_is x t) }
+value_accepts p q x None (Err e) after b h = (h.0, h.1 ∙ ap pending.Plain b.rest_is)
+value_accepts p q x (Some t) (Err e) after b h = (value_refused p q x t e b h.0, h.1 ∙ ap pending.Plain b.rest_is)
+
+-- what is answered on a value is an answer on the described one, whatever is written
+pub described_accepts : (u w : Pending) (x : Descriptor) → after_descriptor u ≡ Some w → (t : Option Tree) (r : Result (Unit {0}) Refusal) (after : Pending) → accepts (position_of w) (meant w t) r after → accepts (position_of u) (meant u (as_described (Some x) t)) r after
+described_accepts (pending.Plain p) w x e t r after h =
+    let q = plain_behind p w e in
+    value_accepts p q.0 x t r after (behind p q.0 q.1.0) (subst (λ v. accepts (position_of v) (meant v t) r after) (sym q.1.1) h)
+described_accepts (pending.Array p) w x e t r after h =
+    subst (λ o. accepts p o r after) (sym (no_array_described x t)) (subst (λ v. accepts (position_of v) (meant v t) r after) (sym (some_pending (pending.Nothing p) w e)) h)
+described_accepts (pending.Transparent p) w x e t r after h =
+    subst (λ o. accepts p o r after) (sym (no_transparent_described x t)) (subst (λ v. accepts (position_of v) (meant v t) r after) (sym (some_pending (pending.Nothing p) w e)) h)
+described_accepts (pending.Scalar m p) w x e t r after h =
+    subst (λ o. accepts p o r after) (sym (no_scalar_described m x t)) (subst (λ v. accepts (position_of v) (meant v t) r after) (sym (some_pending (pending.Nothing p) w e)) h)
+described_accepts (pending.Nothing p) w x e t r after h = subst (λ v. accepts (position_of v) (meant v t) r after) (sym (some_pending (pending.Nothing p) w e)) h
+
+-- a described value with a refused descriptor
+refused_behind : (p : Position) (y : Descriptor) (d v : Tree) (e : Refusal) → descriptor_of (Some d) ≡ Some y → refused position.Descriptor d e → refused p (described y v) e
+refused_behind p y d v error.TooLong q h =
+    long_at p (described y v) (right_false (is_length (length (encoding (described y v)))) (descriptor_fits y && within_limits v) (left_false (descriptor_fits y) (within_limits v) (sym (of_tree d y q).0 ∙ h)))
+refused_behind p y d v error.InvalidValue q h =
+    let is : (uniform_arrays d && suits position.Descriptor d) ≡ true = ap (λ b. b && suits position.Descriptor d) (of_tree d y q).1.1 ∙ ap is_some q in
+    absurd (no_false (sym h ∙ is))
+refused_behind p y d v e q h = absurd h
+
+plain_refused : (p : Position) (y : Descriptor) (d : Tree) (e : Refusal) → descriptor_of (Some d) ≡ Some y → refused position.Descriptor d e → (t : Option Tree) → at_position p (as_described (Some y) t) (Err e) (pending.Plain (without_prefix p))
+plain_refused p y d e q h None = (refused-none position.Descriptor d e h, refl)
+plain_refused p y d e q h (Some v) = (refused_behind p y d v e q h, refl)
+
+none_refused : (p : Position) (o : Option Tree) (e : Refusal) → o ≡ None → refuses_none e → at_position p o (Err e) (pending.Plain (without_prefix p))
+none_refused p o e q r = subst (λ x. at_position p x (Err e) (pending.Plain (without_prefix p))) (sym q) (r, refl)
+
+pub descriptor_refused : (u : Pending) (y : Descriptor) (d : Tree) (e : Refusal) → descriptor_of (Some d) ≡ Some y → refused position.Descriptor d e → (t : Option Tree) → at_position (position_of u) (meant u (as_described (Some y) t)) (Err e) (pending.Plain (without_prefix (position_of u)))
+descriptor_refused (pending.Plain p) y d e q h t = plain_refused p y d e q h t
+descriptor_refused (pending.Array p) y d e q h t = none_refused p _ e (no_array_described y t) (refused-none position.Descriptor d e h)
+descriptor_refused (pending.Transparent p) y d e q h t = none_refused p _ e (no_transparent_described y t) (refused-none position.Descriptor d e h)
+descriptor_refused (pending.Scalar m p) y d e q h t = none_refused p _ e (no_scalar_described m y t) (refused-none position.Descriptor d e h)
+descriptor_refused (pending.Nothing p) y d e q h t = (refused-none position.Descriptor d e h, refl)

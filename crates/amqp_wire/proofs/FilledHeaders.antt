@@ -1,0 +1,212 @@
+-- The headers that are made of what was counted.
+use Rattle.std.proofs.Common.{◌≡◌, ℕ, ◌+◌, ◌≤◌, List, [], ◌∷◌, ◌++◌, Option, Some, None, Bool, true, false, ◌&&◌, ◌*◌, is_some, length, refl, ap, sym, ◌∙◌, subst, arith, length-append, append_assoc}
+use Rattle.std.proofs.lemmas.List.{set_at}
+use Rattle.amqp_ser.specs.Tree.{Tree, Trees, Pairs, uint, scalar, list, array, map, described, variant, lazy, transparent, no_trees, more, count, pair_count}
+use Rattle.amqp_ser.specs.Scalars.{scalar_form}
+use Rattle.amqp_ser.specs.Encoding.{constructor, encoding, encoding_each, encoding_pairs}
+use Rattle.amqp_ser.specs.Limits.{is_length}
+use Rattle.amqp_ser.specs.Writable.{within_limits, uniform_arrays, uniform_arrays_each, inside, inside_each, placed, same_constructor, each_constructor, one_constructor}
+use Rattle.amqp_ser.specs.Composites.{descriptor_of}
+use Rattle.amqp_ser.specs.Compounds.{as_kind, as_map, as_variant, in_pairs, only}
+use Rattle.amqp_ser.specs.declared.kind.Kind.{Kind}
+use Rattle.amqp_ser.specs.declared.kind.Kind.TheVariants as kinds
+use Rattle.amqp_ser.proofs.Bools.{left_true, right_true, both, is_le, le_true}
+use Rattle.amqp_size.specs.Position.{meant, suits, within_limits_at, takes_described, is_array, element_constructor, element}
+use Rattle.amqp_size.specs.SizeSerializer.{content, inner_of, first_position, counts, HoldsGathered}
+use Rattle.amqp_size.specs.Width.{uint_width, list_width}
+use Rattle.amqp_size.specs.WholePosition.{Position}
+use Rattle.amqp_size.specs.WholePosition as position
+use Rattle.amqp_size.specs.declared.position.Shape.{Shape}
+use Rattle.amqp_size.specs.declared.position.Shape.TheVariants as shape
+use Rattle.amqp_size.specs.WholePending.{Pending}
+use Rattle.amqp_size.specs.WholePending as pending
+use Rattle.amqp_size.specs.declared.serializer.SizeSerializer.{SizeSerializer}
+use Rattle.amqp_size.specs.declared.open_compound.OpenCompound.{OpenCompound}
+use Rattle.amqp_size.proofs.Lengths.{length-uint, length-list_form, length-variant}
+use Rattle.amqp_size.proofs.Whole.{refused_shape}
+use Rattle.amqp_wire.specs.TreeHeaders.{header, compound_headers, header_count, headers_from, headers_fit, first_constructor}
+use Rattle.amqp_wire.specs.HeaderBytes.{small_headers}
+use Rattle.amqp_wire.specs.Measurer.{fills}
+use Rattle.amqp_wire.specs.Dense.{count_fits, is_opaque, dense, dense_each, dense_pairs}
+use Rattle.amqp_wire.specs.Positions.{is_single}
+use Rattle.amqp_wire.specs.declared.table.Header.{Header}
+use Rattle.amqp_wire.proofs.CountWithinBytes.{few, no_false}
+use Rattle.amqp_wire.proofs.CompoundHeaders.{pairs_are}
+
+pub made_positions : (s : Shape) (h : Header) → length (headers_from s h) ≡ header_count s
+made_positions shape.List h = refl
+made_positions shape.Map h = refl
+made_positions (shape.Variant i) h = refl
+made_positions (shape.NewtypeVariant i) h = refl
+made_positions shape.Array h = refl
+made_positions shape.Transparent h = refl
+made_positions shape.Single h = refl
+made_positions shape.Refused h = refl
+
+con_element : (o : Option ℕ) → element_constructor (element o) ≡ o
+con_element None = refl
+con_element (Some c) = refl
+
+con_first : (ts : Trees) → element_constructor (first_position ts) ≡ first_constructor ts
+con_first no_trees = refl
+con_first (more t ts) = con_element (constructor t)
+
+-- what was counted makes the headers
+pub made_right : (s : Shape) (ts : Trees) (n m : ℕ) (c : Option ℕ) → n ≡ length (content (is_array s) ts) → m ≡ count ts → c ≡ element_constructor (inner_of (is_array s) ts) → headers_from s (header n m c) ≡ compound_headers s ts
+made_right shape.List ts n m c a b d = ap (λ x. header x m c ∷ []) a ∙ ap (λ x. header (length (encoding_each ts)) x c ∷ []) b ∙ ap (λ x. header (length (encoding_each ts)) (count ts) x ∷ []) d
+made_right shape.Map ts n m c a b d = ap (λ x. header x m c ∷ []) a ∙ ap (λ x. header (length (encoding_each ts)) x c ∷ []) b ∙ ap (λ x. header (length (encoding_each ts)) (count ts) x ∷ []) d
+made_right (shape.Variant i) ts n m c a b d =
+    let size : list_width n ≡ length (encoding (list ts)) = ap list_width a ∙ sym (length-list_form (count ts) (encoding_each ts)) in
+    let position_of = length (scalar_form (uint i) ++ encoding (list ts)) in
+    ap (λ x. header x 2 None ∷ header n m c ∷ []) (sym (length-variant i (list ts) (list_width n) size))
+    ∙ ap (λ x. header position_of 2 None ∷ header x m c ∷ []) a ∙ ap (λ x. header position_of 2 None ∷ header (length (encoding_each ts)) x c ∷ []) b ∙ ap (λ x. header position_of 2 None ∷ header (length (encoding_each ts)) (count ts) x ∷ []) d
+made_right (shape.NewtypeVariant i) ts n m c a b d =
+    let u = length-uint i in
+    let l : uint_width i + n ≡ length (scalar_form (uint i) ++ encoding_each ts) = simp length-append (omega arith) in
+    ap (λ x. header x 2 None ∷ []) l
+made_right shape.Array ts n m c a b d =
+    ap (λ x. header x m c ∷ []) a ∙ ap (λ x. header (length (content true ts)) x c ∷ []) b ∙ ap (λ x. header (length (content true ts)) (count ts) x ∷ []) (d ∙ con_first ts)
+made_right shape.Transparent ts n m c a b d = refl
+made_right shape.Single ts n m c a b d = refl
+made_right shape.Refused ts n m c a b d = refl
+
+-- they have room in four bytes
+pub made_small : (s : Shape) (ts : Trees) (n m : ℕ) (c : Option ℕ) → headers_from s (header n m c) ≡ compound_headers s ts → small_headers s (compound_headers s ts) → headers_fit s n
+made_small s ts n m c e h = go s (subst (small_headers s) (sym e) h)
+  where
+    go : (k : Shape) → small_headers k (headers_from k (header n m c)) → headers_fit k n
+    go shape.List h = omega arith
+    go shape.Map h = omega arith
+    go (shape.Variant i) h = let a = h.0 in omega arith
+    go (shape.NewtypeVariant i) h = omega arith
+    go shape.Array h = omega arith
+    go shape.Transparent h = tt
+    go shape.Single h = tt
+    go shape.Refused h = tt
+
+pub fills_are : (new hs pre post : List Header) (at : ℕ) → length new ≡ length hs → at ≡ length pre → fills new at (pre ++ (hs ++ post)) ≡ pre ++ (new ++ post)
+fills_are [] [] pre post at a b = refl
+fills_are [] (h ∷ hs) pre post at a b = absurd (omega arith)
+fills_are (n ∷ new) [] pre post at a b = absurd (omega arith)
+fills_are (n ∷ new) (h ∷ hs) pre post at a b =
+    ap (fills new (at + 1)) (set_at pre h (hs ++ post) n at (sym b) ∙ sym (append_assoc pre (n ∷ []) (hs ++ post)))
+    ∙ fills_are new hs (pre ++ (n ∷ [])) post (at + 1) (omega arith) (simp length-append (omega arith)) ∙ append_assoc pre (n ∷ []) (new ++ post)
+
+-- the position of a tree asks that it is placed and within its limits
+inside_placed : (t : Tree) → inside t ≡ true → placed t ≡ true
+inside_placed (scalar s) h = refl
+inside_placed (list ts) h = h
+inside_placed (array ts) h = h
+inside_placed (map ps) h = h
+inside_placed (described d t) h = h
+inside_placed (variant i t) h = h
+inside_placed (lazy bs) h = refl
+inside_placed (transparent ts) h = absurd (no_false h)
+
+descriptor_placed : (t : Tree) → is_some (descriptor_of (Some t)) ≡ true → placed t ≡ true
+descriptor_placed (scalar s) h = refl
+descriptor_placed (list ts) h = absurd (no_false h)
+descriptor_placed (array ts) h = absurd (no_false h)
+descriptor_placed (map ps) h = absurd (no_false h)
+descriptor_placed (described d t) h = absurd (no_false h)
+descriptor_placed (variant i t) h = absurd (no_false h)
+descriptor_placed (lazy bs) h = absurd (no_false h)
+descriptor_placed (transparent ts) h = absurd (no_false h)
+
+pub suits_placed : (p : Position) (t : Tree) → suits p t ≡ true → placed t ≡ true
+suits_placed position.Root t h = h
+suits_placed position.Inside t h = inside_placed t h
+suits_placed position.First t h = inside_placed t (right_true (is_some (constructor t)) (inside t) h)
+suits_placed (position.Element c) t h = inside_placed t (right_true (same_constructor (Some c) (constructor t)) (inside t) h)
+suits_placed position.Descriptor t h = descriptor_placed t h
+suits_placed (position.Value n b) t h = inside_placed t (right_true (takes_described b) (inside t) h)
+
+pub within_there : (p : Position) (t : Tree) → within_limits_at p t ≡ true → within_limits t ≡ true
+within_there position.Root t h = h
+within_there position.Inside t h = h
+within_there position.First t h = h
+within_there (position.Element c) t h = h
+within_there position.Descriptor t h = h
+within_there (position.Value n b) t h = right_true (is_length (n + length (encoding t))) (within_limits t) h
+
+pub inside_opaque : (t : Tree) → inside t ≡ true → is_opaque t ≡ true
+inside_opaque (scalar s) h = refl
+inside_opaque (list ts) h = refl
+inside_opaque (array ts) h = refl
+inside_opaque (map ps) h = refl
+inside_opaque (described d t) h = refl
+inside_opaque (variant i t) h = refl
+inside_opaque (lazy bs) h = refl
+inside_opaque (transparent ts) h = absurd (no_false h)
+
+dense_inside : (ts : Trees) → inside_each ts ≡ true → dense_each position.Root ts ≡ true → dense_each position.Inside ts ≡ true
+dense_inside no_trees i s = refl
+dense_inside (more t ts) i s =
+    both (is_opaque t && dense t) (dense_each position.Inside ts) (both (is_opaque t) (dense t) (inside_opaque t (left_true (inside t) (inside_each ts) i)) (left_true (dense t) (dense_each position.Root ts) s))
+    (dense_inside ts (right_true (inside t) (inside_each ts) i) (right_true (dense t) (dense_each position.Root ts) s))
+
+dense_list : (ts : Trees) → inside_each ts ≡ true → dense_each position.Root ts ≡ true → dense (list ts) ≡ true
+dense_list ts i s = both (count_fits (count ts) (encoding_each ts)) (dense_each position.Inside ts) (le_true (count ts) (length (encoding_each ts)) (few ts i s)) (dense_inside ts i s)
+
+dense_map : (ts : Trees) (t : Tree) (o : Option Pairs) → in_pairs ts ≡ o → as_map o ≡ Some t → dense_each position.Root ts ≡ true → placed t ≡ true → dense t ≡ true
+dense_map ts t None e h s = cc
+dense_map ts t (Some prs) e h s =
+    let r = pairs_are ts prs e in
+    let q : map prs ≡ t = cc in
+    subst (λ x. placed x ≡ true → dense x ≡ true) q (λ i.
+    let thick = le_true (count ts) (length (encoding_each ts)) (few ts (sym r.inside_too ∙ i) s) in
+    both (count_fits (pair_count prs * 2) (encoding_pairs prs)) (dense_pairs prs) (ap (count_fits (pair_count prs * 2)) r.bytes ∙ ap (λ n. count_fits n (encoding_each ts)) r.counted ∙ thick) (r.dense_too ∙ dense_inside ts (sym r.inside_too ∙ i) s))
+
+dense_only : (i : ℕ) (ts : Trees) (t : Tree) → as_variant i (only ts) ≡ Some t → dense_each position.Root ts ≡ true → placed t ≡ true → dense t ≡ true
+dense_only i no_trees t h s = cc
+dense_only i (more u no_trees) t h s =
+    let q : variant i u ≡ t = cc in
+    subst (λ x. placed x ≡ true → dense x ≡ true) q (λ p. both (is_opaque u) (dense u) (inside_opaque u p) (left_true (dense u) true s))
+dense_only i (more u (more v ts)) t h s = cc
+
+same_some : (c d : Option ℕ) → same_constructor c d ≡ true → is_some d ≡ true
+same_some None d h = absurd (no_false h)
+same_some (Some c) None h = absurd (no_false h)
+same_some (Some c) (Some d) h = refl
+
+elements : (c : Option ℕ) (ts : Trees) → each_constructor c ts ≡ true → dense_each position.Root ts ≡ true → dense_each position.First ts ≡ true
+elements c no_trees e s = refl
+elements c (more t ts) e s =
+    both (is_some (constructor t) && dense t) (dense_each position.First ts) (both (is_some (constructor t)) (dense t) (same_some c (constructor t) (left_true (same_constructor c (constructor t)) (each_constructor c ts) e)) (left_true (dense t) (dense_each position.Root ts) s))
+    (elements c ts (right_true (same_constructor c (constructor t)) (each_constructor c ts) e) (right_true (dense t) (dense_each position.Root ts) s))
+
+dense_array : (ts : Trees) → one_constructor ts ≡ true → dense_each position.Root ts ≡ true → dense_each position.First ts ≡ true
+dense_array no_trees e s = refl
+dense_array (more t ts) e s = elements (constructor t) (more t ts) e s
+
+is_not : (o : Option Tree) (t : Tree) → o ≡ None → o ≡ Some t → ⊥
+is_not o t a b = let no : None ≡ Some t = sym a ∙ b in cc
+
+-- a compound of solid parts is solid where it can stand
+pub dense_whole : (u : Pending) (k : Kind) (ts : Trees) (t : Tree) → is_single k ≡ false → meant u (as_kind k (Some ts)) ≡ Some t → dense_each position.Root ts ≡ true → placed t ≡ true → uniform_arrays t ≡ true → dense t ≡ true
+dense_whole u kinds.Single ts t b h s = cc
+dense_whole (pending.Plain p) kinds.List ts t b h s = let q : list ts ≡ t = cc in subst (λ x. placed x ≡ true → uniform_arrays x ≡ true → dense x ≡ true) q (λ i a. dense_list ts i s)
+dense_whole (pending.Plain p) kinds.Map ts t b h s = λ i a. dense_map ts t (in_pairs ts) refl h s i
+dense_whole (pending.Plain p) (kinds.Variant i) ts t b h s = let q : variant i (list ts) ≡ t = cc in subst (λ x. placed x ≡ true → uniform_arrays x ≡ true → dense x ≡ true) q (λ i a. dense_list ts i s)
+dense_whole (pending.Plain p) (kinds.NewtypeVariant i) ts t b h s = λ i a. dense_only _ ts t h s i
+dense_whole (pending.Array p) kinds.List ts t b h s = let q : array ts ≡ t = cc in subst (λ x. placed x ≡ true → uniform_arrays x ≡ true → dense x ≡ true) q (λ i a. dense_array ts (left_true (one_constructor ts) (uniform_arrays_each ts) a) s)
+dense_whole (pending.Transparent p) kinds.List ts t b h s = let q : transparent ts ≡ t = cc in subst (λ x. placed x ≡ true → uniform_arrays x ≡ true → dense x ≡ true) q (λ i a. s)
+dense_whole (pending.Array p) kinds.Map ts t b h s = absurd (is_not _ t (refused_shape (pending.Array p) kinds.Map (Some ts) refl) h)
+dense_whole (pending.Array p) (kinds.Variant i) ts t b h s = absurd (is_not _ t (refused_shape (pending.Array p) (kinds.Variant i) (Some ts) refl) h)
+dense_whole (pending.Array p) (kinds.NewtypeVariant i) ts t b h s = absurd (is_not _ t (refused_shape (pending.Array p) (kinds.NewtypeVariant i) (Some ts) refl) h)
+dense_whole (pending.Transparent p) kinds.Map ts t b h s = absurd (is_not _ t (refused_shape (pending.Transparent p) kinds.Map (Some ts) refl) h)
+dense_whole (pending.Transparent p) (kinds.Variant i) ts t b h s = absurd (is_not _ t (refused_shape (pending.Transparent p) (kinds.Variant i) (Some ts) refl) h)
+dense_whole (pending.Transparent p) (kinds.NewtypeVariant i) ts t b h s = absurd (is_not _ t (refused_shape (pending.Transparent p) (kinds.NewtypeVariant i) (Some ts) refl) h)
+dense_whole (pending.Scalar m p) kinds.List ts t b h s = absurd (is_not _ t (refused_shape (pending.Scalar m p) kinds.List (Some ts) refl) h)
+dense_whole (pending.Scalar m p) kinds.Map ts t b h s = absurd (is_not _ t (refused_shape (pending.Scalar m p) kinds.Map (Some ts) refl) h)
+dense_whole (pending.Scalar m p) (kinds.Variant i) ts t b h s = absurd (is_not _ t (refused_shape (pending.Scalar m p) (kinds.Variant i) (Some ts) refl) h)
+dense_whole (pending.Scalar m p) (kinds.NewtypeVariant i) ts t b h s = absurd (is_not _ t (refused_shape (pending.Scalar m p) (kinds.NewtypeVariant i) (Some ts) refl) h)
+dense_whole (pending.Nothing p) k ts t b h s = absurd (is_not _ t refl h)
+
+-- the parts of a compound have a count of four bytes
+pub few_parts : (start : SizeSerializer) (kind : Kind) (held : OpenCompound) (ps : List (Option Tree)) (h : HoldsGathered start kind held ps) → dense_each position.Root h.ts ≡ true → count h.ts ≤ 4294967295
+few_parts start kind held ps h s = go (is_array held.shape) h.fed.sum h.fed.counted
+  where
+    go : (a : Bool) → held.sum ≡ length (content a h.ts) → held.count ≡ counts a h.ts → count h.ts ≤ 4294967295
+    go false e c = let l = few h.ts h.fed.inside_parts s in let m = is_le held.sum 4294967291 h.fed.fits_sum in omega arith
+    go true e c = let m = is_le held.count 4294967295 h.fed.few in omega arith

@@ -1,0 +1,267 @@
+-- Where the parts of a compound stand, and what the whole of parts that may stand there is.
+use Rattle.std.proofs.Common.{◌≡◌, ℕ, Option, Some, None, Bool, true, false, ◌&&◌, Err, refl, ap, sym, ◌∙◌, subst}
+use Rattle.amqp_size.specs.declared.refusal.Refusal.{Refusal}
+use Rattle.amqp_ser.specs.Tree.{Tree, Trees, list, array, map, variant, transparent, no_trees, more}
+use Rattle.amqp_ser.specs.Encoding.{constructor}
+use Rattle.amqp_ser.specs.Writable.{uniform_arrays, uniform_arrays_each, inside, inside_each, placed, placed_each, one_constructor}
+use Rattle.amqp_ser.specs.Compounds.{as_kind, as_map, as_variant, in_pairs, only, prepend}
+use Rattle.amqp_ser.specs.declared.kind.Kind.{Kind}
+use Rattle.amqp_ser.specs.declared.kind.Kind.TheVariants as kinds
+use Rattle.amqp_ser.proofs.Bools.{both, left_true, right_true}
+use Rattle.amqp_ser.proofs.Joins.{join, joined, uniform_arrays-join, inside-join, kind_none}
+use Rattle.amqp_ser.proofs.Pairing.{pairing, even}
+use Rattle.amqp_size.specs.SizeSerializer.{at_position, inner_of, one_in, first_position}
+use Rattle.amqp_size.specs.Position.{position_of, meant, without_prefix, suits, element, next, shape_of, is_array, is_gathered, inner_pending}
+use Rattle.amqp_size.specs.WholePosition.{Position}
+use Rattle.amqp_size.specs.WholePosition as position
+use Rattle.amqp_size.specs.WholePending.{Pending}
+use Rattle.amqp_size.specs.WholePending as pending
+use Rattle.amqp_size.specs.declared.position.Shape.{Shape}
+use Rattle.amqp_size.specs.declared.position.Shape.TheVariants as shape
+use Rattle.amqp_size.proofs.Part.{next_inner, suited_inside, more_one}
+use Rattle.amqp_size.proofs.Refusing.{part_bad}
+use Rattle.amqp_size.proofs.Spoil.{bad_in, odd_none, spoiled_rest}
+use Rattle.amqp_size.proofs.Transparent.{transparent_shape, placed-join, spoiled_transparent, part_bad as element_bad}
+use Rattle.amqp_size.proofs.Whole.{refused_shape, stands, stands_none}
+use Rattle.amqp_size.proofs.Positions.{meant_none, refusal}
+use Rattle.amqp_wire.specs.HeaderBytes.{in_array}
+use Rattle.amqp_wire.specs.Dense.{fit}
+use Rattle.amqp_wire.specs.Positions.{part_position, part_at, suited_parts, is_single, inner_after}
+
+-- nothing else opens a single compound
+pub not_single : (u : Pending) (k : Kind) → is_single k ≡ false → shape_of u k ≡ shape.Single → ⊥
+not_single u kinds.Single c e = cc
+not_single (pending.Plain q) kinds.List c e = cc
+not_single (pending.Plain q) kinds.Map c e = cc
+not_single (pending.Plain q) (kinds.Variant i) c e = cc
+not_single (pending.Plain q) (kinds.NewtypeVariant i) c e = cc
+not_single (pending.Array q) kinds.List c e = cc
+not_single (pending.Array q) kinds.Map c e = cc
+not_single (pending.Array q) (kinds.Variant i) c e = cc
+not_single (pending.Array q) (kinds.NewtypeVariant i) c e = cc
+not_single (pending.Transparent q) kinds.List c e = cc
+not_single (pending.Transparent q) kinds.Map c e = cc
+not_single (pending.Transparent q) (kinds.Variant i) c e = cc
+not_single (pending.Transparent q) (kinds.NewtypeVariant i) c e = cc
+not_single (pending.Scalar m q) kinds.List c e = cc
+not_single (pending.Scalar m q) kinds.Map c e = cc
+not_single (pending.Scalar m q) (kinds.Variant i) c e = cc
+not_single (pending.Scalar m q) (kinds.NewtypeVariant i) c e = cc
+not_single (pending.Nothing q) kinds.List c e = cc
+not_single (pending.Nothing q) kinds.Map c e = cc
+not_single (pending.Nothing q) (kinds.Variant i) c e = cc
+not_single (pending.Nothing q) (kinds.NewtypeVariant i) c e = cc
+
+-- maps have no constructor of their elements
+pub map_inside : (u : Pending) (ts : Trees) → part_at (shape_of u kinds.Map) ts ≡ position.Inside
+map_inside (pending.Plain p) ts = refl
+map_inside (pending.Array p) ts = refl
+map_inside (pending.Transparent p) ts = refl
+map_inside (pending.Scalar m p) ts = refl
+map_inside (pending.Nothing p) ts = refl
+
+-- where the first part stands
+pub first_inner : (u : Pending) (k : Kind) → is_single k ≡ false → inner_pending (shape_of u k) u ≡ pending.Plain (part_at (shape_of u k) no_trees)
+first_inner u k b = go (shape_of u k) (not_single u k b)
+  where
+    go : (s : Shape) → (s ≡ shape.Single → ⊥) → inner_pending s u ≡ pending.Plain (part_at s no_trees)
+    go shape.List n = refl
+    go shape.Map n = refl
+    go (shape.Variant i) n = refl
+    go (shape.NewtypeVariant i) n = refl
+    go shape.Array n = refl
+    go shape.Transparent n = refl
+    go shape.Single n = absurd (n refl)
+    go shape.Refused n = refl
+
+element_same : (o : Option ℕ) (t : Tree) → (fit (element o) t ≡ fit position.First t) × (in_array (element o) ≡ true)
+element_same None t = (refl, refl)
+element_same (Some c) t = (refl, refl)
+
+first_same : (ts : Trees) (t : Tree) → (fit (first_position ts) t ≡ fit position.First t) × (in_array (first_position ts) ≡ true)
+first_same no_trees t = (refl, refl)
+first_same (more v ts) t = element_same (constructor v) t
+
+-- the bytes of all parts of a compound have one form
+pub same_form : (s : Shape) (ts : Trees) (t : Tree) → (fit (part_at s ts) t ≡ fit (part_position s) t) × (in_array (part_at s ts) ≡ in_array (part_position s))
+same_form shape.List ts t = (refl, refl)
+same_form shape.Map ts t = (refl, refl)
+same_form (shape.Variant i) ts t = (refl, refl)
+same_form (shape.NewtypeVariant i) ts t = (refl, refl)
+same_form shape.Array ts t = first_same ts t
+same_form shape.Transparent ts t = (refl, refl)
+same_form shape.Single ts t = (refl, refl)
+same_form shape.Refused ts t = (refl, refl)
+
+-- with no part yet
+pub no_parts : (s : Shape) → suited_parts s no_trees ≡ true
+no_parts shape.List = refl
+no_parts shape.Map = refl
+no_parts (shape.Variant i) = refl
+no_parts (shape.NewtypeVariant i) = refl
+no_parts shape.Array = refl
+no_parts shape.Transparent = refl
+no_parts shape.Single = refl
+no_parts shape.Refused = refl
+
+-- after one part more
+next_part : (s : Shape) (ts : Trees) (t : Tree) → suited_parts s ts ≡ true → next (part_at s ts) t ≡ part_at s (join ts (more t no_trees))
+next_part shape.List ts t h = refl
+next_part shape.Map ts t h = refl
+next_part (shape.Variant i) ts t h = refl
+next_part (shape.NewtypeVariant i) ts t h = refl
+next_part shape.Array ts t h = next_inner true ts t (left_true (one_constructor ts) (uniform_arrays_each ts && inside_each ts) h)
+next_part shape.Transparent ts t h = refl
+next_part shape.Single ts t h = refl
+next_part shape.Refused ts t h = refl
+
+pub next_stands : (s : Shape) (ts : Trees) (t : Tree) (inner after : Pending) → suited_parts s ts ≡ true → inner ≡ pending.Plain (part_at s ts) → after ≡ pending.Plain (next (part_at s ts) t) → inner_after s inner after ≡ pending.Plain (part_at s (join ts (more t no_trees)))
+next_stands shape.List ts t inner after h i a = i
+next_stands shape.Map ts t inner after h i a = i
+next_stands (shape.Variant n) ts t inner after h i a = i
+next_stands (shape.NewtypeVariant n) ts t inner after h i a = i
+next_stands shape.Array ts t inner after h i a = a ∙ ap pending.Plain (next_part shape.Array ts t h)
+next_stands shape.Transparent ts t inner after h i a = i
+next_stands shape.Single ts t inner after h i a = a
+next_stands shape.Refused ts t inner after h i a = i
+
+one_more : (ts : Trees) (t : Tree) → (uniform_arrays_each ts && inside_each ts) ≡ true → uniform_arrays t ≡ true → inside t ≡ true → (uniform_arrays_each (join ts (more t no_trees)) && inside_each (join ts (more t no_trees))) ≡ true
+one_more ts t h a i =
+    both (uniform_arrays_each (join ts (more t no_trees))) (inside_each (join ts (more t no_trees)))
+    (uniform_arrays-join ts (more t no_trees) ∙ both (uniform_arrays_each ts) (uniform_arrays t && true) (left_true (uniform_arrays_each ts) (inside_each ts) h) (both (uniform_arrays t) true a refl))
+    (inside-join ts (more t no_trees) ∙ both (inside_each ts) (inside t && true) (right_true (uniform_arrays_each ts) (inside_each ts) h) (both (inside t) true i refl))
+
+pub suited_more : (s : Shape) (ts : Trees) (t : Tree) → suited_parts s ts ≡ true → uniform_arrays t ≡ true → suits (part_at s ts) t ≡ true → suited_parts s (join ts (more t no_trees)) ≡ true
+suited_more shape.List ts t h a i = one_more ts t h a i
+suited_more shape.Map ts t h a i = one_more ts t h a i
+suited_more (shape.Variant n) ts t h a i = one_more ts t h a i
+suited_more (shape.NewtypeVariant n) ts t h a i = one_more ts t h a i
+suited_more shape.Array ts t h a i =
+    let one = left_true (one_constructor ts) (uniform_arrays_each ts && inside_each ts) h in
+    both (one_constructor (join ts (more t no_trees))) _ (more_one true ts t one i)
+    (one_more ts t (right_true (one_constructor ts) (uniform_arrays_each ts && inside_each ts) h) a (suited_inside true ts t one i))
+suited_more shape.Transparent ts t h a i =
+    both (uniform_arrays_each (join ts (more t no_trees))) (placed_each (join ts (more t no_trees)))
+    (uniform_arrays-join ts (more t no_trees) ∙ both (uniform_arrays_each ts) (uniform_arrays t && true) (left_true (uniform_arrays_each ts) (placed_each ts) h) (both (uniform_arrays t) true a refl))
+    (placed-join ts (more t no_trees) ∙ both (placed_each ts) (placed t && true) (right_true (uniform_arrays_each ts) (placed_each ts) h) (both (placed t) true i refl))
+suited_more shape.Single ts t h a i = one_more ts t h a i
+suited_more shape.Refused ts t h a i = one_more ts t h a i
+
+-- the refusal of one part is one of the whole: of what is gathered, and of a transparent vector
+gathered_spoils : (s : Shape) (u : Pending) (k : Kind) (ts : Trees) (p : Option Tree) (e : Refusal) (after : Pending) (o : Option Trees) → shape_of u k ≡ s → is_gathered s ≡ true → inner_of (is_array s) ts ≡ part_at s ts → one_in (is_array s) ts ≡ true →
+    at_position (part_at s ts) p (Err e) after → at_position (position_of u) (meant u (as_kind k (joined (Some ts) (prepend p o)))) (Err e) (pending.Plain (without_prefix (position_of u)))
+gathered_spoils s u k ts None e after o q g i one r =
+    spoiled_rest u k ts e (ap is_gathered q ∙ g) r.0 None o (λ t us n. let no : None ≡ Some t = n in cc)
+gathered_spoils s u k ts (Some t) e after o q g i one r =
+    let here = subst (λ p. at_position p (Some t) (Err e) after) (sym i) r in
+    spoiled_rest u k ts e (ap is_gathered q ∙ g) (refusal (part_at s ts) (Some t) e after r).0 (Some t) o (λ v us n.
+    let same : t ≡ v = let m : Some t ≡ Some v = n in cc in
+    subst (λ x. bad x v us) (sym q) (subst (λ x. bad s x us) same (part_bad (is_array s) ts t us e one here.0)))
+  where
+    bad : Shape → Tree → Trees → Type 0
+    bad x v us = bad_in (is_array x) (join ts (more v us)) e
+
+transparent_spoils : (u : Pending) (k : Kind) (ts : Trees) (p : Option Tree) (e : Refusal) (after : Pending) (o : Option Trees) → shape_of u k ≡ shape.Transparent → at_position position.Root p (Err e) after →
+    at_position (position_of u) (meant u (as_kind k (joined (Some ts) (prepend p o)))) (Err e) (pending.Plain (without_prefix (position_of u)))
+transparent_spoils u k ts None e after o q r =
+    stands_none u (position_of u) (as_kind k None) (Err e) (pending.Plain (without_prefix (position_of u))) refl (ap (meant u) (kind_none k) ∙ meant_none u) (r.0, refl)
+transparent_spoils u k ts (Some t) e after None q r =
+    stands_none u (position_of u) (as_kind k None) (Err e) (pending.Plain (without_prefix (position_of u))) refl (ap (meant u) (kind_none k) ∙ meant_none u) ((refusal position.Root (Some t) e after r).0, refl)
+transparent_spoils u k ts (Some t) e after (Some us) q r =
+    let inv = transparent_shape u k q in
+    let all = join ts (more t us) in
+    let is : meant u (as_kind k (Some all)) ≡ Some (transparent all) = ap (λ v. meant v (as_kind k (Some all))) inv.0 ∙ ap (λ j. meant (pending.Transparent (position_of u)) (as_kind j (Some all))) inv.1 in
+    stands u (position_of u) (as_kind k (Some all)) (transparent all) (Err e) (pending.Plain (without_prefix (position_of u))) refl is (spoiled_transparent (position_of u) all e (element_bad ts t us e r.0))
+
+pub part_spoils : (u : Pending) (k : Kind) (ts : Trees) (p : Option Tree) (e : Refusal) (after : Pending) (o : Option Trees) → is_single k ≡ false → suited_parts (shape_of u k) ts ≡ true →
+    at_position (part_at (shape_of u k) ts) p (Err e) after → at_position (position_of u) (meant u (as_kind k (joined (Some ts) (prepend p o)))) (Err e) (pending.Plain (without_prefix (position_of u)))
+part_spoils u k ts p e after o b = go (shape_of u k) refl
+  where
+    go : (s : Shape) → shape_of u k ≡ s → suited_parts s ts ≡ true → at_position (part_at s ts) p (Err e) after → at_position (position_of u) (meant u (as_kind k (joined (Some ts) (prepend p o)))) (Err e) (pending.Plain (without_prefix (position_of u)))
+    go shape.List q h r = gathered_spoils shape.List u k ts p e after o q refl refl refl r
+    go shape.Map q h r = gathered_spoils shape.Map u k ts p e after o q refl refl refl r
+    go (shape.Variant i) q h r = gathered_spoils (shape.Variant i) u k ts p e after o q refl refl refl r
+    go (shape.NewtypeVariant i) q h r = gathered_spoils (shape.NewtypeVariant i) u k ts p e after o q refl refl refl r
+    go shape.Array q h r = gathered_spoils shape.Array u k ts p e after o q refl refl (left_true (one_constructor ts) (uniform_arrays_each ts && inside_each ts) h) r
+    go shape.Transparent q h r = transparent_spoils u k ts p e after o q r
+    go shape.Single q h r = absurd (not_single u k b q)
+    go shape.Refused q h r = gathered_spoils shape.Refused u k ts p e after o q refl refl refl r
+
+-- what such a compound is: its constructor, and that it may stand inside others
+pub record Whole (code : ℕ) (t : Tree) : Type 0 where
+  pub con_is : constructor t ≡ Some code
+  pub uniform_arrays_it : uniform_arrays t ≡ true
+  pub inside_it : inside t ≡ true
+  pub placed_it : placed t ≡ true
+
+abbrev pub ended : Shape → Tree → Type 0
+ended shape.List t = Whole 0xd0 t
+ended shape.Map t = Whole 0xd1 t
+ended (shape.Variant i) t = Whole 0xd1 t
+ended (shape.NewtypeVariant i) t = Whole 0xd1 t
+ended shape.Array t = Whole 0xf0 t
+ended shape.Transparent t = (ts : Trees) × ((t ≡ transparent ts) × ((uniform_arrays_each ts ≡ true) × (placed_each ts ≡ true)))
+ended shape.Single t = ⊥
+ended shape.Refused t = ⊥
+
+ended_map : (ts : Trees) (t : Tree) → (b : Bool) → even ts ≡ b → as_map (in_pairs ts) ≡ Some t → (uniform_arrays_each ts && inside_each ts) ≡ true → Whole 0xd1 t
+ended_map ts t true q e h =
+    let r = pairing ts q in
+    let same : map r.pairs ≡ t = let w : Some (map r.pairs) ≡ Some t = sym (ap as_map r.are) ∙ e in cc in
+    subst (Whole 0xd1) same (record {
+      con_is = refl;
+      uniform_arrays_it = r.alike_too ∙ left_true (uniform_arrays_each ts) (inside_each ts) h;
+      inside_it = r.inside_too ∙ right_true (uniform_arrays_each ts) (inside_each ts) h;
+      placed_it = r.inside_too ∙ right_true (uniform_arrays_each ts) (inside_each ts) h;
+    })
+ended_map ts t false q e h = absurd (no_odd ts q e)
+  where
+    no_odd : (us : Trees) → even us ≡ false → as_map (in_pairs us) ≡ Some t → ⊥
+    no_odd us a w = let n : as_map (in_pairs us) ≡ None = ap as_map (odd_none us a) in let no : None ≡ Some t = sym n ∙ w in cc
+
+ended_only : (i : ℕ) (ts : Trees) (t : Tree) → as_variant i (only ts) ≡ Some t → (uniform_arrays_each ts && inside_each ts) ≡ true → Whole 0xd1 t
+ended_only i no_trees t e h = cc
+ended_only i (more u no_trees) t e h =
+    let same : variant i u ≡ t = cc in
+    let a = left_true (uniform_arrays u) true (left_true (uniform_arrays u && true) (inside u && true) h) in
+    let n = left_true (inside u) true (right_true (uniform_arrays u && true) (inside u && true) h) in
+    subst (Whole 0xd1) same (record { con_is = refl; uniform_arrays_it = a; inside_it = n; placed_it = n })
+ended_only i (more u (more v ts)) t e h = cc
+
+some_is : (t v : Tree) → Some t ≡ Some v → t ≡ v
+some_is t v h = cc
+
+is_not : {X : Type 0} (o : Option Tree) (t : Tree) → o ≡ None → o ≡ Some t → X
+is_not o t a b = let no : None ≡ Some t = sym a ∙ b in cc
+
+plain_list : (ts : Trees) → (uniform_arrays_each ts && inside_each ts) ≡ true → Whole 0xd0 (list ts)
+plain_list ts h = record { con_is = refl; uniform_arrays_it = left_true (uniform_arrays_each ts) (inside_each ts) h; inside_it = right_true (uniform_arrays_each ts) (inside_each ts) h; placed_it = right_true (uniform_arrays_each ts) (inside_each ts) h }
+
+plain_fields : (i : ℕ) (ts : Trees) → (uniform_arrays_each ts && inside_each ts) ≡ true → Whole 0xd1 (variant i (list ts))
+plain_fields i ts h = record { con_is = refl; uniform_arrays_it = left_true (uniform_arrays_each ts) (inside_each ts) h; inside_it = right_true (uniform_arrays_each ts) (inside_each ts) h; placed_it = right_true (uniform_arrays_each ts) (inside_each ts) h }
+
+plain_array : (ts : Trees) → (one_constructor ts && (uniform_arrays_each ts && inside_each ts)) ≡ true → Whole 0xf0 (array ts)
+plain_array ts h =
+    let r = right_true (one_constructor ts) (uniform_arrays_each ts && inside_each ts) h in
+    let n = right_true (uniform_arrays_each ts) (inside_each ts) r in
+    record { con_is = refl; uniform_arrays_it = both (one_constructor ts) (uniform_arrays_each ts) (left_true (one_constructor ts) (uniform_arrays_each ts && inside_each ts) h) (left_true (uniform_arrays_each ts) (inside_each ts) r); inside_it = n; placed_it = n }
+
+pub whole_ended : (u : Pending) (k : Kind) (ts : Trees) (t : Tree) → is_single k ≡ false → meant u (as_kind k (Some ts)) ≡ Some t → suited_parts (shape_of u k) ts ≡ true → ended (shape_of u k) t
+whole_ended u kinds.Single ts t b e = cc
+whole_ended (pending.Plain p) kinds.List ts t b e = λ h. subst (Whole 0xd0) (some_is (list ts) t e) (plain_list ts h)
+whole_ended (pending.Plain p) kinds.Map ts t b e = λ h. ended_map ts t (even ts) refl e h
+whole_ended (pending.Plain p) (kinds.Variant i) ts t b e = λ h. subst (Whole 0xd1) (some_is (variant i (list ts)) t e) (plain_fields i ts h)
+whole_ended (pending.Plain p) (kinds.NewtypeVariant i) ts t b e = λ h. ended_only i ts t e h
+whole_ended (pending.Array p) kinds.List ts t b e = λ h. subst (Whole 0xf0) (some_is (array ts) t e) (plain_array ts h)
+whole_ended (pending.Transparent p) kinds.List ts t b e = λ h. (ts, (sym (some_is (transparent ts) t e), (left_true (uniform_arrays_each ts) (placed_each ts) h, right_true (uniform_arrays_each ts) (placed_each ts) h)))
+whole_ended (pending.Array p) kinds.Map ts t b e = is_not _ t (refused_shape (pending.Array p) kinds.Map (Some ts) refl) e
+whole_ended (pending.Array p) (kinds.Variant i) ts t b e = is_not _ t (refused_shape (pending.Array p) (kinds.Variant i) (Some ts) refl) e
+whole_ended (pending.Array p) (kinds.NewtypeVariant i) ts t b e = is_not _ t (refused_shape (pending.Array p) (kinds.NewtypeVariant i) (Some ts) refl) e
+whole_ended (pending.Transparent p) kinds.Map ts t b e = is_not _ t (refused_shape (pending.Transparent p) kinds.Map (Some ts) refl) e
+whole_ended (pending.Transparent p) (kinds.Variant i) ts t b e = is_not _ t (refused_shape (pending.Transparent p) (kinds.Variant i) (Some ts) refl) e
+whole_ended (pending.Transparent p) (kinds.NewtypeVariant i) ts t b e = is_not _ t (refused_shape (pending.Transparent p) (kinds.NewtypeVariant i) (Some ts) refl) e
+whole_ended (pending.Scalar m p) kinds.List ts t b e = is_not _ t (refused_shape (pending.Scalar m p) kinds.List (Some ts) refl) e
+whole_ended (pending.Scalar m p) kinds.Map ts t b e = is_not _ t (refused_shape (pending.Scalar m p) kinds.Map (Some ts) refl) e
+whole_ended (pending.Scalar m p) (kinds.Variant i) ts t b e = is_not _ t (refused_shape (pending.Scalar m p) (kinds.Variant i) (Some ts) refl) e
+whole_ended (pending.Scalar m p) (kinds.NewtypeVariant i) ts t b e = is_not _ t (refused_shape (pending.Scalar m p) (kinds.NewtypeVariant i) (Some ts) refl) e
+whole_ended (pending.Nothing p) k ts t b e = is_not _ t refl e

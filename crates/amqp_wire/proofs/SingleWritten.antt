@@ -1,0 +1,142 @@
+-- The bytes of a single compound.
+use Rattle.std.proofs.Common.{◌≡◌, List, [], ◌∷◌, ◌++◌, Option, Some, None, true, Result, Ok, Err, length, refl, ap, sym, ◌∙◌, subst, arith, drop}
+use Rattle.amqp_size.specs.declared.refusal.Refusal.{Refusal}
+use Rattle.amqp_ser.specs.Tree.{Tree, Trees}
+use Rattle.amqp_ser.specs.Compounds.{all_trees, prepend, as_kind, whole, complete}
+use Rattle.amqp_ser.specs.declared.kind.Kind.TheVariants as kinds
+use Rattle.amqp_size.specs.SizeSerializer.{at_position}
+use Rattle.amqp_size.specs.Position.{position_of, meant, without_prefix}
+use Rattle.amqp_size.specs.WholePosition.{Position}
+use Rattle.amqp_size.specs.WholePending.{Pending}
+use Rattle.amqp_size.specs.WholePending as pending
+use Rattle.amqp_size.specs.declared.position.Shape.TheVariants as shape
+use Rattle.amqp_size.proofs.Single.{whole_one}
+use Rattle.amqp_size.proofs.Positions.{meant_none, refusal}
+use Rattle.amqp_size.proofs.Whole.{stands_none}
+use Rattle.amqp_wire.specs.HeaderBytes.{in_array, bytes_at}
+use Rattle.amqp_wire.specs.Positions.{inner_after}
+use Rattle.amqp_wire.specs.Writer.{Kept, FitsOutput, SameOutput, takes, wrote, writes_tree, accepts, writer_permits, WrittenSingle}
+use Rattle.amqp_wire.specs.declared.output.Output.{Output}
+use Rattle.amqp_wire.specs.declared.writer.Writer.{Writer}
+use Rattle.amqp_wire.specs.declared.writer.Writing.{Writing}
+use Rattle.amqp_wire.proofs.CountWithinBytes.{no_false}
+use Rattle.amqp_wire.proofs.SingleTable.{not_empty, only_last}
+use Rattle.amqp_wire.proofs.PartBytes.{kept-more}
+
+-- the same table and room, where nothing was written since
+meets_same : (a : Position) (start s : Output) (t : Tree) → Kept start s → SameOutput start s → FitsOutput a start t → FitsOutput a s t
+meets_same a start s t k e m =
+    record {
+      within_limits_it = m.within_limits_it;
+      dense_it = m.dense_it;
+      rest = m.rest;
+      listed = ap (λ n. drop n s.table.items) e.1 ∙ ap (λ v. drop start.taken v.items) k.table ∙ m.listed;
+      room = let c = k.capacity in let r = m.room in let l = ap length e.0 in omega arith;
+    }
+
+wrote_from : (a : Position) (start s after : Output) (o : Option Tree) → Kept start s → SameOutput start s → wrote a s o after → wrote a start o after
+wrote_from a start s after None k e h = h
+wrote_from a start s after (Some t) k e h = λ m.
+    let w = h (meets_same a start s t k e m) in
+    record { out = w.out ∙ ap (λ x. x ++ bytes_at (in_array a) t) e.0; taken = let n = w.taken in let q = e.1 in omega arith }
+
+pub writes_same : (a : Position) (start s after : Output) (o : Option Tree) (r : Result (Unit {0}) Refusal) → Kept start s → SameOutput start s → writes_tree a s o r after → writes_tree a start o r after
+writes_same a start s after o (Ok u) k e h = wrote_from a start s after o k e h
+writes_same a start s after o (Err x) k e h = h
+
+wrote_same : (a : Position) (start s cut : Output) (o : Option Tree) → SameOutput s cut → wrote a start o s → wrote a start o cut
+wrote_same a start s cut None e h = h
+wrote_same a start s cut (Some t) e h = λ m. let w = h m in record { out = e.0 ∙ w.out; taken = e.1 ∙ w.taken }
+
+pub alone_open : (start : Writer) (s : Output) (held : Writing) → Kept start.output s → SameOutput start.output s → without_prefix held.position ≡ without_prefix (position_of start.position) → held.inner ≡ start.position → held.shape ≡ shape.Single → WrittenSingle start s held []
+alone_open start s held k e position inner is =
+    record {
+      kept = k;
+      position = position;
+      shape = is;
+      none = λ q. (inner, e);
+      one = λ p q. let no : [] ≡ p ∷ [] = q in cc;
+    }
+
+-- one part more
+pub alone_more : (start before : Writer) (after : Output) (held new : Writing) (ps : List (Option Tree)) (p : Option Tree) → WrittenSingle start before.output held ps → before.position ≡ held.inner → Kept before.output after →
+    (left : Pending) → takes (position_of before.position) (meant before.position p) left → new.inner ≡ inner_after held.shape held.inner left → wrote (position_of before.position) before.output (meant before.position p) after → new.position ≡ held.position → new.shape ≡ held.shape → WrittenSingle start after new (ps ++ (p ∷ []))
+alone_more start before after held new ps p h at k left t inner w position is =
+    record {
+      kept = kept-more start.output before.output after h.kept k;
+      position = ap without_prefix position ∙ h.position;
+      shape = is ∙ h.shape;
+      none = λ q. absurd (not_empty ps p q);
+      one = λ r q.
+          let o = only_last ps p r q in
+          let n = h.none o.0 in
+          subst (λ x. takes (position_of start.position) (meant start.position x) new.inner × wrote (position_of start.position) start.output (meant start.position x) after) o.1 (
+            subst (λ u. takes (position_of u) (meant u p) new.inner) (at ∙ n.0) (subst (λ u. takes (position_of before.position) (meant before.position p) u) (sym (inner ∙ ap (λ x. inner_after x held.inner left) h.shape)) t),
+            wrote_from (position_of start.position) start.output before.output after (meant start.position p) h.kept n.1 (subst (λ u. wrote (position_of u) before.output (meant u p) after) (at ∙ n.0) w),
+          );
+    }
+
+-- the same compound over an output that went back to where it was
+pub alone_back : (start : Writer) (s cut : Output) (held new : Writing) (ps : List (Option Tree)) → WrittenSingle start s held ps → Kept s cut → SameOutput s cut → new.position ≡ held.position → new.shape ≡ held.shape → new.inner ≡ held.inner → WrittenSingle start cut new ps
+alone_back start s cut held new ps h k e position is inner =
+    record {
+      kept = kept-more start.output s cut h.kept k;
+      position = ap without_prefix position ∙ h.position;
+      shape = is ∙ h.shape;
+      none = λ q. let n = h.none q in (inner ∙ n.0, (e.0 ∙ n.1.0, e.1 ∙ n.1.1));
+      one = λ p q.
+          let w = h.one p q in
+          (subst (λ u. takes (position_of start.position) (meant start.position p) u) (sym inner) w.0, wrote_same (position_of start.position) start.output s cut (meant start.position p) e w.1);
+    }
+
+two : (p q : Option Tree) (o : Option Trees) → as_kind kinds.Single (prepend p (prepend q o)) ≡ None
+two None q o = refl
+two (Some t) None o = refl
+two (Some t) (Some u) None = refl
+two (Some t) (Some u) (Some us) = refl
+
+-- more than one part have no tree
+whole_two : (p q : Option Tree) (ps : List (Option Tree)) → whole kinds.Single (p ∷ (q ∷ ps)) ≡ None
+unfolding whole
+whole_two p q ps = two p q (all_trees ps)
+
+no_whole : (start : Writer) (held : Writing) (qs : List (Option Tree)) (u : Pending) (o : Option Tree) (e : Refusal) (after : Pending) → without_prefix held.position ≡ without_prefix (position_of start.position) → at_position (position_of u) o (Err e) after → whole kinds.Single qs ≡ None →
+    at_position (position_of start.position) (meant start.position (whole kinds.Single qs)) (Err e) (pending.Plain (without_prefix held.position))
+no_whole start held qs u o e after at w n =
+    stands_none start.position (position_of start.position) (whole kinds.Single qs) (Err e) (pending.Plain (without_prefix held.position)) refl (ap (meant start.position) n ∙ meant_none start.position)
+    ((refusal (position_of u) o e after w).0, ap pending.Plain at)
+
+refused_whole : (start before : Writer) (held : Writing) (ps : List (Option Tree)) (p : Option Tree) (e : Refusal) (after : Pending) → WrittenSingle start before.output held ps → before.position ≡ held.inner →
+    at_position (position_of before.position) (meant before.position p) (Err e) after → (others : List (Option Tree)) →
+    at_position (position_of start.position) (meant start.position (whole kinds.Single (ps ++ (p ∷ others)))) (Err e) (pending.Plain (without_prefix held.position))
+refused_whole start before held [] p e after h at w [] =
+    let here = subst (λ u. at_position (position_of u) (meant u p) (Err e) after) (at ∙ (h.none refl).0) w in
+    let left = refusal (position_of start.position) (meant start.position p) e after here in
+    subst (λ o. at_position (position_of start.position) (meant start.position o) (Err e) (pending.Plain (without_prefix held.position))) (sym (whole_one p))
+    (subst (λ a. at_position (position_of start.position) (meant start.position p) (Err e) a) (left.1 ∙ ap pending.Plain (sym h.position)) here)
+refused_whole start before held [] p e after h at w (q ∷ others) = no_whole start held (p ∷ (q ∷ others)) before.position (meant before.position p) e after h.position w (whole_two p q others)
+refused_whole start before held (v ∷ []) p e after h at w others = no_whole start held (v ∷ (p ∷ others)) before.position (meant before.position p) e after h.position w (whole_two v p others)
+refused_whole start before held (v ∷ (u ∷ ps)) p e after h at w others = no_whole start held (v ∷ (u ∷ (ps ++ (p ∷ others)))) before.position (meant before.position p) e after h.position w (whole_two v u (ps ++ (p ∷ others)))
+
+-- the refusal of a part is one of the whole
+pub alone_refused : (start before : Writer) (cut : Output) (held : Writing) (ps : List (Option Tree)) (p : Option Tree) (e : Refusal) (after : Pending) → WrittenSingle start before.output held ps → before.position ≡ held.inner → Kept start.output cut →
+    at_position (position_of before.position) (meant before.position p) (Err e) after → (others : List (Option Tree)) → writer_permits start (whole kinds.Single (ps ++ (p ∷ others))) (Err e) (record { position = pending.Plain (without_prefix held.position); output = cut })
+alone_refused start before cut held ps p e after h at k w others = (k, (refused_whole start before held ps p e after h at w others, tt))
+
+-- the whole is its one part
+pub alone_written : (start : Writer) (s : Output) (held : Writing) (ps : List (Option Tree)) → WrittenSingle start s held ps → complete kinds.Single ps ≡ true → writer_permits start (whole kinds.Single ps) (Ok tt) (record { position = held.inner; output = s })
+alone_written start s held [] h done = absurd (no_false done)
+alone_written start s held (p ∷ []) h done =
+    (h.kept, subst (λ o. takes (position_of start.position) (meant start.position o) held.inner × wrote (position_of start.position) start.output (meant start.position o) s) (sym (whole_one p)) (h.one p refl))
+alone_written start s held (p ∷ (q ∷ ps)) h done = absurd (no_false done)
+
+-- what is answered where the compound was opened is answered there
+pub same_permits : (start : Writer) (s : Output) (held : Writing) (o : Option Tree) (r : Result (Unit {0}) Refusal) (after : Writer) → WrittenSingle start s held [] → writer_permits (record { position = held.inner; output = s }) o r after → writer_permits start o r after
+same_permits start s held o r after h p =
+    let n = h.none refl in (
+      kept-more start.output s after.output h.kept p.0,
+      (
+        subst (λ u. accepts (position_of u) (meant u o) r after.position) n.0 p.1.0,
+        writes_same (position_of start.position) start.output s after.output (meant start.position o) r h.kept n.1 (subst (λ u. writes_tree (position_of u) s (meant u o) r after.output) n.0 p.1.1),
+      ),
+    )

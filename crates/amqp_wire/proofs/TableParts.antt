@@ -1,0 +1,218 @@
+-- The table after each part.
+use Rattle.std.proofs.Common.{◌≡◌, ℕ, ◌+◌, ◌-◌, ◌≤◌, inl, inr, List, [], ◌∷◌, ◌++◌, Option, Some, None, true, false, Result, Ok, Err, length, refl, ap, sym, ◌∙◌, subst, arith, append_assoc, append-nil, length-append, take}
+use Rattle.std.specs.Prelude.{IfErr}
+use Rattle.amqp_size.specs.declared.refusal.Refusal.{Refusal}
+use Rattle.amqp_size.specs.declared.refusal.Refusal.TheVariants.{OutOfMemory}
+use Rattle.amqp_ser.specs.Tree.{Tree, Trees, no_trees, more, count}
+use Rattle.amqp_ser.specs.Compounds.{all_trees, prepend, as_kind, whole, paired}
+use Rattle.amqp_ser.specs.declared.kind.Kind.{Kind}
+use Rattle.amqp_ser.specs.declared.kind.Kind.TheVariants as kinds
+use Rattle.amqp_ser.proofs.Bools.{left_true, both, is_le}
+use Rattle.amqp_ser.proofs.Joins.{join, joined, all_trees-append, count-join}
+use Rattle.amqp_size.specs.Position.{position_of, meant, without_prefix, shape_of, is_array, element_constructor}
+use Rattle.amqp_size.specs.SizeSerializer.{size_permits, size_has, at_position, HoldsGathered, HoldsTransparent, Holding, content, inner_of}
+use Rattle.amqp_size.specs.WholePosition.{Root}
+use Rattle.amqp_size.specs.declared.position.Shape.{Shape}
+use Rattle.amqp_size.specs.WholePending.{Plain}
+use Rattle.amqp_size.specs.declared.serializer.SizeSerializer.{SizeSerializer}
+use Rattle.amqp_size.specs.declared.open_compound.OpenCompound.{OpenCompound}
+use Rattle.amqp_size.proofs.Holding.{at_rest}
+use Rattle.amqp_wire.specs.TreeHeaders.{header, headers_of, headers_of_each, compound_headers, header_count, headers_from, headers_fit}
+use Rattle.amqp_wire.specs.Measurer.{counts_tree, listed, PartsTable, answered, fills}
+use Rattle.amqp_wire.specs.Dense.{dense, dense_each}
+use Rattle.amqp_wire.specs.Positions.{is_single}
+use Rattle.amqp_wire.specs.Writer.{Extends}
+use Rattle.amqp_wire.specs.declared.table.Header.{Header}
+use Rattle.amqp_wire.specs.declared.measurer.Measurer.{Measurer}
+use Rattle.amqp_wire.specs.declared.measurer.Measuring.{Measuring}
+use Rattle.amqp_wire.proofs.HeldKinds.{never_single, held_trees, held_shape}
+use Rattle.amqp_wire.proofs.ListPrefixes.{extends-more, take_prefix, same_prefix}
+use Rattle.amqp_wire.proofs.FilledHeaders.{made_positions, made_right, made_small, fills_are, dense_whole, suits_placed, within_there, few_parts}
+use Rattle.amqp_wire.proofs.PartBytes.{dense-join, whole_of, even_prefix}
+use Rattle.amqp_wire.proofs.CompoundBytes.{spelled}
+use Rattle.amqp_wire.proofs.CompoundHeaders.{split, headers_of-join}
+
+more_trees : (ps : List (Option Tree)) (t : Tree) (ts : Trees) → all_trees ps ≡ Some ts → all_trees (ps ++ (Some t ∷ [])) ≡ Some (join ts (more t no_trees))
+more_trees ps t ts e = all_trees-append ps (Some t ∷ []) ∙ ap (λ o. joined o (Some (more t no_trees))) e
+
+same_trees : (ps : List (Option Tree)) (ts us : Trees) → all_trees ps ≡ Some ts → all_trees ps ≡ Some us → ts ≡ us
+same_trees ps ts us a b = let e : Some ts ≡ Some us = sym a ∙ b in cc
+
+-- a compound has parts of a count of four bytes
+pub few_fed : (start : SizeSerializer) (kind : Kind) (held : OpenCompound) (ps : List (Option Tree)) → HoldsGathered start kind held ps → (ts : Trees) → all_trees ps ≡ Some ts → dense_each Root ts ≡ true → count ts ≤ 4294967295
+few_fed start kind held ps h ts e s =
+    let same = same_trees ps ts h.ts e h.trees in
+    let l = few_parts start kind held ps h (ap (dense_each Root) (sym same) ∙ s) in
+    let n = ap count same in omega arith
+
+-- a table with a tree's headers at its end
+pub listed_extends : (o : Option Tree) (b a : List Header) → listed o b a → Extends b a
+listed_extends None b a h = absurd h
+listed_extends (Some t) b a h = (headers_of t, h.0)
+
+-- one part more
+pub part_listed : (start : Measurer) (kind : Kind) (table after : List Header) (held new : Measuring) (ps : List (Option Tree)) (p : Option Tree) (ts : Trees) → all_trees ps ≡ Some ts →
+    PartsTable start kind table held ps → listed p table after → held.missed ≡ false → new.at ≡ held.at → new.before_last ≡ length table →
+    (held.parts + 1 ≤ 4294967295 → new.parts ≡ held.parts + 1) → PartsTable start kind after new (ps ++ (p ∷ []))
+part_listed start kind table after held new ps None ts e h l m at last parts = absurd l
+part_listed start kind table after held new ps (Some t) ts e h l m at last parts =
+    let all = join ts (more t no_trees) in
+    let are : all_trees (ps ++ (Some t ∷ [])) ≡ Some all = more_trees ps t ts e in
+    let each : headers_of_each all ≡ headers_of_each ts ++ headers_of t = headers_of-join ts (more t no_trees) ∙ ap (λ es. headers_of_each ts ++ es) (append-nil (headers_of t)) in
+    let q = h.listed m ts e in
+    let grown : after ≡ start.table.headers.items ++ (q.0 ++ headers_of_each all) =
+    l.0 ∙ ap (λ x. x ++ headers_of t) q.1.1 ∙ append_assoc start.table.headers.items (q.0 ++ headers_of_each ts) (headers_of t)
+    ∙ ap (λ x. start.table.headers.items ++ x) (append_assoc q.0 (headers_of_each ts) (headers_of t) ∙ ap (λ x. q.0 ++ x) (sym each)) in
+    let solids : dense_each Root all ≡ true = dense-join Root ts (more t no_trees) ∙ both (dense_each Root ts) (dense_each Root (more t no_trees)) (h.dense_parts ts e) (both (dense t) true l.1 refl) in
+    let n : count all ≡ count ts + 1 = let j = count-join ts (more t no_trees) in omega arith in
+    let counted : count all ≤ 4294967295 → new.parts ≡ count all = λ fit. let c = h.counted ts e (omega arith) in let p = parts (omega arith) in omega arith in
+    record {
+      at = at ∙ h.at;
+      extends = extends-more start.table.headers.items table after h.extends (headers_of t, l.0);
+      counted = λ us f. subst (λ x. count x ≤ 4294967295 → new.parts ≡ count x) (same_trees (ps ++ (Some t ∷ [])) all us are f) counted;
+      dense_parts = λ us f. subst (λ x. dense_each Root x ≡ true) (same_trees (ps ++ (Some t ∷ [])) all us are f) solids;
+      listed = λ _ us f. (q.0, (q.1.0, grown ∙ ap (λ w. start.table.headers.items ++ (q.0 ++ headers_of_each w)) (same_trees (ps ++ (Some t ∷ [])) all us are f)));
+      back = λ odd qs r f.
+          let same : ps ≡ qs = same_prefix ps qs (Some t) r f in
+          record {
+            old = table;
+            since = h.extends;
+            until = (headers_of t, l.0);
+            len = last;
+            listed = λ _ us g. h.listed m us (ap all_trees same ∙ g);
+          };
+    }
+
+-- the same compound over a table that was cut back
+pub table_back : (start : Measurer) (kind : Kind) (table cut : List Header) (held new : Measuring) (ps : List (Option Tree)) → PartsTable start kind table held ps → cut ≡ table →
+    new.at ≡ held.at → new.missed ≡ held.missed → new.before_last ≡ held.before_last → new.parts ≡ held.parts → PartsTable start kind cut new ps
+table_back start kind table cut held new ps h same at missed last parts =
+    record {
+      at = at ∙ h.at;
+      extends = subst (λ x. Extends start.table.headers.items x) (sym same) h.extends;
+      counted = λ ts e fit. parts ∙ h.counted ts e fit;
+      dense_parts = h.dense_parts;
+      listed = λ m ts e. let q = h.listed (sym missed ∙ m) ts e in (q.0, (q.1.0, same ∙ q.1.1));
+      back = λ odd qs r f.
+          let b = h.back odd qs r f in
+          record {
+            old = b.old;
+            since = b.since;
+            until = subst (λ x. Extends b.old x) (sym same) b.until;
+            len = last ∙ b.len;
+            listed = λ m. b.listed (sym missed ∙ m);
+          };
+    }
+
+-- the trees without the last part
+prefix_trees : (ps : List (Option Tree)) (p : Option Tree) (us ts : Trees) → all_trees ps ≡ Some us → all_trees (ps ++ (p ∷ [])) ≡ Some ts → (t : Tree) × (join us (more t no_trees) ≡ ts)
+prefix_trees ps None us ts a b =
+    let e : joined (Some us) None ≡ Some ts = ap (λ o. joined o None) (sym a) ∙ sym (all_trees-append ps (None ∷ [])) ∙ b in cc
+prefix_trees ps (Some t) us ts a b =
+    let e : Some (join us (more t no_trees)) ≡ Some ts = sym (more_trees ps t us a) ∙ b in (t, cc)
+
+-- the last part is given back
+pub table_undone : (start : Measurer) (table cut : List Header) (held new : Measuring) (ps : List (Option Tree)) (p : Option Tree) (us ts : Trees) → all_trees ps ≡ Some us → all_trees (ps ++ (p ∷ [])) ≡ Some ts →
+    PartsTable start kinds.Map table held (ps ++ (p ∷ [])) → count ts ≤ 4294967295 → paired ps ≡ true → cut ≡ take held.before_last table →
+    new.at ≡ held.at → new.missed ≡ held.missed → new.parts ≡ held.parts - 1 → PartsTable start kinds.Map cut new ps
+table_undone start table cut held new ps p us ts a d h few even c at missed parts =
+    let b = h.back (even_prefix ps p even) ps p refl in
+    let same : cut ≡ b.old = c ∙ ap (take held.before_last) b.until.1 ∙ take_prefix b.old b.until.0 held.before_last b.len in
+    let f = prefix_trees ps p us ts a d in
+    let n : count ts ≡ count us + 1 = let j = count-join us (more f.0 no_trees) in let k = ap count f.1 in omega arith in
+    let solids : dense_each Root us ≡ true = left_true (dense_each Root us) (dense_each Root (more f.0 no_trees)) (sym (dense-join Root us (more f.0 no_trees)) ∙ ap (dense_each Root) f.1 ∙ h.dense_parts ts d) in
+    let counted : new.parts ≡ count us = let k = h.counted ts d few in omega arith in
+    record {
+      at = at ∙ h.at;
+      extends = subst (λ x. Extends start.table.headers.items x) (sym same) b.since;
+      counted = λ ws e fit. counted ∙ ap count (same_trees ps us ws a e);
+      dense_parts = λ ws e. subst (λ x. dense_each Root x ≡ true) (same_trees ps us ws a e) solids;
+      listed = λ m ws e. let q = b.listed (sym missed ∙ m) ws e in (q.0, (q.1.0, same ∙ q.1.1));
+      back = λ odd qs r e. let no : true ≡ false = sym even ∙ odd in cc;
+    }
+
+-- an answer on the whole, with the table of the whole
+whole_listed : (start after : Measurer) (kind : Kind) (ts : Trees) (n m len : ℕ) (c : Option ℕ) (o : Option Tree) → is_single kind ≡ false → meant start.size.position (as_kind kind (Some ts)) ≡ o → dense_each Root ts ≡ true →
+    headers_from (shape_of start.size.position kind) (header n m c) ≡ compound_headers (shape_of start.size.position kind) ts → at_position (position_of start.size.position) o (Ok len) after.size.position →
+    (headers_fit (shape_of start.size.position kind) n → after.table.headers.items ≡ start.table.headers.items ++ (compound_headers (shape_of start.size.position kind) ts ++ headers_of_each ts)) →
+    listed o start.table.headers.items after.table.headers.items
+whole_listed start after kind ts n m len c None single w s right h f = absurd h
+whole_listed start after kind ts n m len c (Some x) single w s right h f =
+    let u = start.size.position in
+    let sh = shape_of u kind in
+    let solids = dense_whole u kind ts x single w s (suits_placed (position_of u) x h.suited) h.uniform_arrays_it in
+    let small = (spelled Root u kind ts x single w (within_there (position_of u) x h.within_limits_it) solids).small in
+    (f (made_small sh ts n m c right small) ∙ ap (λ es. start.table.headers.items ++ es) (sym (split u kind ts x single w)), solids)
+
+-- what was counted makes the headers of the compound
+counted_right : (start : Measurer) (kind : Kind) (held : Measuring) (ps : List (Option Tree)) (ts : Trees) (n m : ℕ) (c : Option ℕ) → is_single kind ≡ false → Holding start.size kind held.size ps → all_trees ps ≡ Some ts → dense_each Root ts ≡ true →
+    (held.size.sum ≤ 4294967291 → n ≡ held.size.sum) → (count ts ≤ 4294967295 → m ≡ count ts) → c ≡ element_constructor (position_of held.size.inner) → headers_from (shape_of start.size.position kind) (header n m c) ≡ compound_headers (shape_of start.size.position kind) ts
+counted_right start kind held ps ts n m c single h e s a b d = elim h [ inl w ↦ gathered w | inr w ↦ elim w [ inl v ↦ transparent v | inr v ↦ absurd (never_single kind v.kind_is single) ] ]
+  where
+    sh : Shape
+    sh = shape_of start.size.position kind
+
+    gathered : HoldsGathered start.size kind held.size ps → headers_from sh (header n m c) ≡ compound_headers sh ts
+    gathered w =
+        let same = same_trees ps ts w.ts e w.trees in
+        let sum : n ≡ length (content (is_array sh) ts) =
+        a (is_le held.size.sum 4294967291 w.fed.fits_sum) ∙ w.fed.sum ∙ ap (λ x. length (content (is_array held.size.shape) x)) (sym same) ∙ ap (λ x. length (content (is_array x) ts)) w.shape in
+        let few = few_fed start.size kind held.size ps w ts e s in
+        made_right sh ts n m c sum (b few) (d ∙ ap (λ u. element_constructor (position_of u)) w.fed.inner ∙ ap (λ x. element_constructor (inner_of (is_array held.size.shape) x)) (sym same) ∙ ap (λ x. element_constructor (inner_of (is_array x) ts)) w.shape)
+
+    transparent : HoldsTransparent start.size kind held.size ps → headers_from sh (header n m c) ≡ compound_headers sh ts
+    transparent w = subst (λ x. headers_from x (header n m c) ≡ compound_headers x ts) (sym w.shaped) refl
+
+-- the headers of the compound stand in their slots
+pub all_listed : (start : Measurer) (kind : Kind) (table : List Header) (after : Measurer) (held : Measuring) (ps : List (Option Tree)) (n m len : ℕ) (c : Option ℕ) → is_single kind ≡ false → Holding start.size kind held.size ps → PartsTable start kind table held ps → held.missed ≡ false →
+    (held.size.sum ≤ 4294967291 → n ≡ held.size.sum) → m ≡ held.parts → c ≡ element_constructor (position_of held.size.inner) →
+    (headers_fit held.size.shape n → held.at + header_count held.size.shape ≤ length table → after.table.headers.items ≡ fills (headers_from held.size.shape (header n m c)) held.at table) →
+    size_permits start.size (whole kind ps) (Ok len) after.size → listed (meant start.size.position (whole kind ps)) start.table.headers.items after.table.headers.items
+all_listed start kind table after held ps n m len c single h k miss a b d f p =
+    let sh = shape_of start.size.position kind in
+    let t = held_trees start.size kind held.size ps single h in
+    let ts = t.0 in
+    let q = k.listed miss ts t.1 in
+    let shaped : held.size.shape ≡ sh = held_shape start.size kind held.size ps single h in
+    let right = counted_right start kind held ps ts n m c single h t.1 (k.dense_parts ts t.1) a (λ fit. b ∙ k.counted ts t.1 fit) d in
+    let is : meant start.size.position (as_kind kind (Some ts)) ≡ meant start.size.position (whole kind ps) = ap (meant start.size.position) (sym (whole_of kind ps ts t.1)) in
+    let room : held.at + header_count held.size.shape ≤ length table =
+    let l : length table ≡ length start.table.headers.items + (length q.0 + length (headers_of_each ts)) = ap length q.1.1 ∙ simp length-append in
+    let at = k.at in let z : header_count held.size.shape ≡ length q.0 = ap header_count shaped ∙ sym q.1.0 in omega arith in
+    whole_listed start after kind ts n m len c (meant start.size.position (whole kind ps)) single is (k.dense_parts ts t.1) right p (λ fit.
+    f (subst (λ w. headers_fit w n) (sym shaped) fit) room ∙ ap (λ w. fills (headers_from w (header n m c)) held.at table) shaped ∙ ap (fills (headers_from sh (header n m c)) held.at) q.1.1
+    ∙ fills_are (headers_from sh (header n m c)) q.0 start.table.headers.items (headers_of_each ts) held.at (made_positions sh (header n m c) ∙ sym q.1.0) k.at
+    ∙ ap (λ w. start.table.headers.items ++ (w ++ headers_of_each ts)) right)
+
+pub record Took (before self : Measurer) (held : Measuring) (p : Option Tree) (answer : Result ℕ Refusal) : Type 0 where
+  pub present : held.missed ≡ false
+  pub permits : size_permits before.size p answer self.size
+  pub part : listed (meant before.size.position p) before.table.headers.items self.table.headers.items
+
+-- a part that was taken was answered
+pub took : (before self : Measurer) (held : Measuring) (p : Option Tree) (part answer : Result ℕ Refusal) (res : Result (Unit {0}) Refusal) (u : Unit {0}) (X : Refusal → Type 0) →
+    answered held part answer → counts_tree before p part self → res ≡ Ok u → IfErr answer (λ e. (res ≡ Err e) × X e) → Took before self held p answer
+took before self held p part (Ok n) res u X a l q k =
+    let l2 = subst (λ x. counts_tree before p x self) a.0 l in
+    record { present = a.1; permits = l2.0; part = l2.1 }
+took before self held p part (Err e) res u X a l q k = let no : Err e ≡ Ok u = sym k.0 ∙ q in cc
+
+-- the refusal of a part is one of the whole
+pub refusal_of_part : (start before self after : Measurer) (kind : Kind) (held new : Measuring) (ps : List (Option Tree)) (p : Option Tree) (part answer : Result ℕ Refusal) (res : Result (Unit {0}) Refusal) (e : Refusal) →
+    Holding start.size kind held.size ps → answered held part answer → counts_tree before p part self →
+    (size_permits before.size p answer self.size → size_has start.size kind after.size new.size ps × ((rest : List (Option Tree)) → size_permits start.size (whole kind (ps ++ (p ∷ rest))) (Err e) after.size)) →
+    IfErr answer (λ x. (res ≡ Err x) × ((new.size ≡ held.size) × (after.size.position ≡ Plain (without_prefix held.size.position)))) → res ≡ Err e →
+    size_has start.size kind after.size new.size ps × ((rest : List (Option Tree)) → counts_tree start (whole kind (ps ++ (p ∷ rest))) (Err e) after)
+refusal_of_part start before self after kind held new ps p part (Ok n) res e h a l f k q =
+    let s = f (subst (λ x. counts_tree before p x self) a.0 l).0 in
+    (s.0, λ rest. inr (s.1 rest))
+refusal_of_part start before self after kind held new ps p part (Err x) res e h a l f k q = elim a [
+  | inl m ↦ none m
+  | inr b ↦ elim (subst (λ y. counts_tree before p y self) b l) [ inl m ↦ none m.0 | inr s ↦ let t = f s in (t.0, λ rest. inr (t.1 rest)) ]
+]
+  where
+    none : x ≡ OutOfMemory → size_has start.size kind after.size new.size ps × ((rest : List (Option Tree)) → counts_tree start (whole kind (ps ++ (p ∷ rest))) (Err e) after)
+    none m =
+        let same : e ≡ x = cc in
+        let position : after.size.position ≡ Plain (without_prefix (position_of start.size.position)) = k.1.1 ∙ ap Plain (at_rest start.size kind held.size ps h) in
+        (subst (λ z. Holding start.size kind z ps × (after.size.position ≡ Plain (without_prefix z.position))) (sym k.1.0) (h, k.1.1), λ rest. inl (same ∙ m, position))

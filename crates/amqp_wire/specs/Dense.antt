@@ -1,0 +1,47 @@
+-- Trees of which no list or map has more parts than bytes, and whose parts can all stand where they do.
+use Rattle.std.specs.Prelude.{ℕ, ◌*◌, List, Bool, true, false, ◌&&◌, length, nat_le, is_some}
+use Rattle.amqp_ser.specs.Tree.{Tree, Trees, Pairs, scalar, list, array, map, described, variant, lazy, transparent, no_trees, more, no_pairs, pair, count, pair_count}
+use Rattle.amqp_ser.specs.Encoding.{encoding_each, encoding_pairs, constructor}
+use Rattle.amqp_size.specs.WholePosition.{Position}
+use Rattle.amqp_size.specs.WholePosition as position
+
+-- no more parts than bytes
+abbrev pub count_fits : ℕ → List ℕ → Bool
+count_fits n body = nat_le n (length body)
+
+abbrev pub is_opaque : Tree → Bool
+is_opaque (transparent ts) = false
+is_opaque t = true
+
+-- a transparent tree stands at the root alone, and an array's element has a constructor
+abbrev pub fit : Position → Tree → Bool
+fit position.Root t = true
+fit position.Inside t = is_opaque t
+fit position.First t = is_some (constructor t)
+fit (position.Element c) t = is_some (constructor t)
+fit position.Descriptor t = is_opaque t
+fit (position.Value n b) t = is_opaque t
+
+-- an encoded value has at least a byte
+abbrev mutual
+  pub dense : Tree → Bool
+  dense (scalar s) = true
+  dense (list ts) = count_fits (count ts) (encoding_each ts) && dense_each position.Inside ts
+  dense (array ts) = dense_each position.First ts
+  dense (map ps) = count_fits (pair_count ps * 2) (encoding_pairs ps) && dense_pairs ps
+  dense (described d t) = is_opaque t && dense t
+  dense (variant i t) = is_opaque t && dense t
+  dense (lazy bs) = nat_le 1 (length bs)
+  dense (transparent ts) = dense_each position.Root ts
+
+  pub dense_each : Position → Trees → Bool
+  dense_each p no_trees = true
+  dense_each p (more t ts) = (fit p t && dense t) && dense_each p ts
+
+  pub dense_pairs : Pairs → Bool
+  dense_pairs no_pairs = true
+  dense_pairs (pair k v ps) = (is_opaque k && dense k) && ((is_opaque v && dense v) && dense_pairs ps)
+
+-- as it stands there
+abbrev pub dense_at : Position → Tree → Bool
+dense_at p t = fit p t && dense t

@@ -1,0 +1,74 @@
+-- The bytes that stand before a compound's parts (AMQP 1.0 part 1, sections 1.2.3 and 1.2.4).
+use Rattle.std.specs.Prelude.{ℕ, List, [], ◌∷◌, ◌++◌, Bool, true, false, ◌&&◌, ◌+◌, ◌≤◌, nat_eq, nat_le, if◌then◌else◌}
+use Rattle.std.specs.Int.{w32, to_be_bytes}
+use Rattle.amqp_ser.specs.Tree.{Tree, Trees, uint}
+use Rattle.amqp_ser.specs.Limits.{is_short}
+use Rattle.amqp_ser.specs.Scalars.{scalar_form}
+use Rattle.amqp_ser.specs.Encoding.{encoding, payload, encoding_each, payload_each, code_list}
+use Rattle.amqp_size.specs.WholePosition.{Position}
+use Rattle.amqp_size.specs.WholePosition.{Root, Inside, First, Element, Descriptor, Value}
+use Rattle.amqp_size.specs.declared.position.Shape.{Shape}
+use Rattle.amqp_size.specs.declared.position.Shape.TheVariants as shape
+use Rattle.amqp_wire.specs.declared.table.Header.{Header}
+use Rattle.amqp_wire.specs.declared.header.HeaderKind.{HeaderKind}
+use Rattle.amqp_wire.specs.declared.header.HeaderKind.TheVariants as header_kind
+
+abbrev pub in_array : Position → Bool
+in_array Root = false
+in_array Inside = false
+in_array First = true
+in_array (Element c) = true
+in_array Descriptor = false
+in_array (Value h b) = false
+
+-- the bytes by themselves, or as an array's element after the constructor
+abbrev pub pick : Bool → List ℕ → List ℕ → List ℕ
+pick false whole payload = whole
+pick true whole payload = payload
+
+abbrev pub bytes_at : Bool → Tree → List ℕ
+bytes_at a t = pick a (encoding t) (payload t)
+
+-- the length of a text or a binary, with the code of a length of one byte and that of four
+abbrev pub text_header : Bool → ℕ → ℕ → ℕ → List ℕ
+text_header a c8 c32 n = pick a (if is_short n then c8 ∷ n ∷ [] else c32 ∷ to_be_bytes w32 n) (to_be_bytes w32 n)
+
+-- a size and a count, with the code of a size of one byte and that of four
+abbrev pub counted_header : ℕ → ℕ → ℕ → ℕ → List ℕ
+counted_header c8 c32 n m = if is_short n && nat_le m 255 then c8 ∷ (n + 1) ∷ m ∷ [] else c32 ∷ (to_be_bytes w32 (n + 4) ++ to_be_bytes w32 m)
+
+abbrev pub whole_header : HeaderKind → ℕ → ℕ → List ℕ
+whole_header header_kind.List n m = if nat_eq n 0 then 0x45 ∷ [] else counted_header 0xc0 0xd0 n m
+whole_header header_kind.Map n m = counted_header 0xc1 0xd1 n m
+whole_header header_kind.Array n m = counted_header 0xe0 0xf0 n m
+
+abbrev pub header_bytes : Bool → HeaderKind → Header → List ℕ
+header_bytes a y h = pick a (whole_header y h.len h.count) (to_be_bytes w32 (h.len + 4) ++ to_be_bytes w32 h.count)
+
+-- the bytes before the parts, from the headers
+abbrev pub opening : Bool → Shape → List Header → List ℕ
+opening a shape.List (h ∷ hs) = header_bytes a header_kind.List h
+opening a shape.Map (h ∷ hs) = header_bytes a header_kind.Map h
+opening a (shape.Variant i) (h ∷ (g ∷ hs)) = (header_bytes a header_kind.Map h ++ scalar_form (uint i)) ++ header_bytes false header_kind.List g
+opening a (shape.NewtypeVariant i) (h ∷ hs) = header_bytes a header_kind.Map h ++ scalar_form (uint i)
+opening a shape.Array (h ∷ hs) = header_bytes a header_kind.Array h ++ code_list h.constructor
+opening a s hs = []
+
+-- the bytes of the parts after them
+abbrev pub after_opening : Shape → Trees → List ℕ
+after_opening shape.Array ts = payload_each ts
+after_opening shape.Refused ts = []
+after_opening s ts = encoding_each ts
+
+-- a length that leaves room for the count in four bytes
+abbrev pub small : Header → Type 0
+small h = h.len ≤ 4294967291
+
+abbrev pub small_headers : Shape → List Header → Type 0
+small_headers shape.Refused hs = ⊥
+small_headers shape.Single hs = ⊥
+small_headers shape.Transparent hs = Unit {0}
+small_headers (shape.Variant i) (h ∷ (g ∷ hs)) = small h × small g
+small_headers (shape.Variant i) hs = ⊥
+small_headers s (h ∷ hs) = small h
+small_headers s [] = ⊥

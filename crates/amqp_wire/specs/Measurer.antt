@@ -1,0 +1,91 @@
+-- What the first walk may answer: a tree's length, with its headers at the end of the table.
+use Rattle.std.specs.Prelude.{◌≡◌, ℕ, ◌+◌, ◌≤◌, ◌⊎◌, List, [], ◌∷◌, ◌++◌, Option, Some, None, Bool, true, false, Result, Ok, Err, length, slice_set}
+use Rattle.amqp_size.specs.declared.refusal.Refusal.{Refusal}
+use Rattle.amqp_size.specs.declared.refusal.Refusal.TheVariants.{OutOfMemory}
+use Rattle.amqp_ser.specs.Tree.{Tree, Trees, count}
+use Rattle.amqp_ser.specs.Compounds.{all_trees, paired}
+use Rattle.amqp_ser.specs.declared.kind.Kind.{Kind}
+use Rattle.amqp_size.specs.Position.{position_of, meant, without_prefix, shape_of}
+use Rattle.amqp_size.specs.SizeSerializer.{size_permits, size_has, size_awaits, size_awaits_descriptor, no_count_on_none}
+use Rattle.amqp_size.specs.WholePosition.{Root}
+use Rattle.amqp_size.specs.WholePending.{Plain}
+use Rattle.amqp_wire.specs.TreeHeaders.{headers_of, headers_of_each, header_count}
+use Rattle.amqp_wire.specs.Dense.{dense, dense_each}
+use Rattle.amqp_wire.specs.Positions.{is_single}
+use Rattle.amqp_wire.specs.Writer.{Extends}
+use Rattle.amqp_wire.specs.declared.table.Header.{Header}
+use Rattle.amqp_wire.specs.declared.measurer.Measurer.{Measurer}
+use Rattle.amqp_wire.specs.declared.measurer.Measuring.{Measuring}
+
+-- slots at the end, or the word that a growth was refused
+abbrev pub appended : ℕ → List Header → Bool → List Header → Type 0
+appended n b true a = Extends b a
+appended n b false a = (hs : List Header) × ((length hs ≡ n) × (a ≡ b ++ hs))
+
+-- headers written one after another
+abbrev pub fills : List Header → ℕ → List Header → List Header
+fills [] at xs = xs
+fills (h ∷ hs) at xs = fills hs (at + 1) (slice_set xs at h)
+
+-- a tree's headers stand at the end
+abbrev pub listed : Option Tree → List Header → List Header → Type 0
+listed None b a = ⊥
+listed (Some t) b a = (a ≡ b ++ headers_of t) × (dense t ≡ true)
+
+-- out of memory is no answer on the tree
+abbrev pub counts_tree : Measurer → Option Tree → Result ℕ Refusal → Measurer → Type 0
+counts_tree s o (Ok n) after = size_permits s.size o (Ok n) after.size × listed (meant s.size.position o) s.table.headers.items after.table.headers.items
+counts_tree s o (Err e) after = ((e ≡ OutOfMemory) × (after.size.position ≡ Plain (without_prefix (position_of s.size.position)))) ⊎ size_permits s.size o (Err e) after.size
+
+abbrev pub measurer_permits : Measurer → Option Tree → Result ℕ Refusal → Measurer → Type 0
+measurer_permits s o r after = Extends s.table.headers.items after.table.headers.items × counts_tree s o r after
+
+-- the table has the slots of a compound, and the headers of its parts
+abbrev pub lists_parts : Measurer → Kind → Measuring → List Header → List (Option Tree) → Type 0
+lists_parts start kind held table ps = held.missed ≡ false → (ts : Trees) → all_trees ps ≡ Some ts →
+    (hs : List Header) × ((length hs ≡ header_count (shape_of start.size.position kind)) × (table ≡ start.table.headers.items ++ (hs ++ headers_of_each ts)))
+
+-- the table before the last part
+pub record TableBeforeLast (start : Measurer) (kind : Kind) (table : List Header) (held : Measuring) (qs : List (Option Tree)) : Type 0 where
+  pub old : List Header
+  pub since : Extends start.table.headers.items old
+  pub until : Extends old table
+  pub len : held.before_last ≡ length old
+  pub listed : lists_parts start kind held old qs
+
+pub record PartsTable (start : Measurer) (kind : Kind) (table : List Header) (held : Measuring) (ps : List (Option Tree)) : Type 0 where
+  pub at : held.at ≡ length start.table.headers.items
+  pub extends : Extends start.table.headers.items table
+  pub counted : (ts : Trees) → all_trees ps ≡ Some ts → count ts ≤ 4294967295 → held.parts ≡ count ts
+  pub dense_parts : (ts : Trees) → all_trees ps ≡ Some ts → dense_each Root ts ≡ true
+  pub listed : lists_parts start kind held table ps
+  pub back : paired ps ≡ false → (qs : List (Option Tree)) (q : Option Tree) → ps ≡ qs ++ (q ∷ []) → TableBeforeLast start kind table held qs
+
+-- the table of a single compound has the headers of its part alone
+pub record SingleTable (start : Measurer) (table : List Header) (ps : List (Option Tree)) : Type 0 where
+  pub extends : Extends start.table.headers.items table
+  pub none : ps ≡ [] → table ≡ start.table.headers.items
+  pub one : (p : Option Tree) → ps ≡ p ∷ [] → listed (meant start.size.position p) start.table.headers.items table
+
+abbrev pub tabled_as : Bool → Measurer → Kind → List Header → Measuring → List (Option Tree) → Type 0
+tabled_as true start kind table held ps = SingleTable start table ps
+tabled_as false start kind table held ps = PartsTable start kind table held ps
+
+abbrev pub measurer_has : Measurer → Kind → Measurer → Measuring → List (Option Tree) → Type 0
+measurer_has start kind s held ps = size_has start.size kind s.size held.size ps × tabled_as (is_single kind) start kind s.table.headers.items held ps
+
+abbrev pub measurer_awaits : Measurer → Kind → Measurer → Measuring → List (Option Tree) → Type 0
+measurer_awaits start kind s held ps = (size_awaits start.size kind s.size held.size ps × tabled_as (is_single kind) start kind s.table.headers.items held ps) × (held.before_current ≡ length s.table.headers.items)
+
+-- a descriptor takes no slot
+abbrev pub measurer_awaits_descriptor : Measurer → Measurer → Measuring → Type 0
+measurer_awaits_descriptor start s held = (size_awaits_descriptor start.size s.size held.size × (s.table.headers.items ≡ start.table.headers.items)) × (held.before_current ≡ length s.table.headers.items)
+
+-- a part's answer, or the refusal of the compound's slot
+abbrev pub answered : Measuring → Result ℕ Refusal → Result ℕ Refusal → Type 0
+answered held part (Ok n) = (part ≡ Ok n) × (held.missed ≡ false)
+answered held part (Err e) = (e ≡ OutOfMemory) ⊎ (part ≡ Err e)
+
+-- where there is no tree there is no length
+pub no_length_of_none : (s : Measurer) (n : ℕ) (after : Measurer) → measurer_permits s None (Ok n) after → ⊥
+no_length_of_none s n after h = no_count_on_none s.size n after.size h.1.0

@@ -1,0 +1,71 @@
+-- The table of a tree: the headers of its compounds, in the order of their opening (AMQP 1.0 part 1, section 1.2).
+use Rattle.std.specs.Prelude.{ℕ, List, [], ◌∷◌, ◌++◌, ◌+◌, ◌*◌, ◌≤◌, length, Option, None}
+use Rattle.amqp_ser.specs.Tree.{Tree, Trees, Pairs, uint, scalar, list, array, map, described, variant, lazy, transparent, no_trees, more, no_pairs, pair, count, pair_count}
+use Rattle.amqp_ser.specs.Scalars.{scalar_form}
+use Rattle.amqp_ser.specs.Encoding.{encoding, encoding_each, encoding_pairs, payload_each, array_constructor, constructor}
+use Rattle.amqp_size.specs.Width.{uint_width, list_width}
+use Rattle.amqp_size.specs.declared.position.Shape.{Shape}
+use Rattle.amqp_size.specs.declared.position.Shape.TheVariants as shape
+use Rattle.amqp_wire.specs.declared.table.Header.{Header}
+
+abbrev pub header : ℕ → ℕ → Option ℕ → Header
+header n m c = record { len = n; count = m; constructor = c }
+
+-- the constructor of an array's elements, that of the first
+abbrev pub first_constructor : Trees → Option ℕ
+first_constructor no_trees = None
+first_constructor (more t ts) = constructor t
+
+abbrev mutual
+  pub headers_of : Tree → List Header
+  headers_of (scalar s) = []
+  headers_of (list ts) = header (length (encoding_each ts)) (count ts) None ∷ headers_of_each ts
+  headers_of (array ts) = header (length (array_constructor ts ++ payload_each ts)) (count ts) (first_constructor ts) ∷ headers_of_each ts
+  headers_of (map ps) = header (length (encoding_pairs ps)) (pair_count ps * 2) None ∷ headers_of_pairs ps
+  headers_of (described d t) = headers_of t
+  headers_of (variant i t) = header (length (scalar_form (uint i) ++ encoding t)) 2 None ∷ headers_of t
+  headers_of (lazy bs) = []
+  headers_of (transparent ts) = headers_of_each ts
+
+  pub headers_of_each : Trees → List Header
+  headers_of_each no_trees = []
+  headers_of_each (more t ts) = headers_of t ++ headers_of_each ts
+
+  pub headers_of_pairs : Pairs → List Header
+  headers_of_pairs no_pairs = []
+  headers_of_pairs (pair k v ps) = headers_of k ++ (headers_of v ++ headers_of_pairs ps)
+
+-- the headers of a compound of these parts: two where its fields stand in a list inside the map of a variant
+abbrev pub compound_headers : Shape → Trees → List Header
+compound_headers shape.List ts = header (length (encoding_each ts)) (count ts) None ∷ []
+compound_headers shape.Map ts = header (length (encoding_each ts)) (count ts) None ∷ []
+compound_headers (shape.Variant i) ts = header (length (scalar_form (uint i) ++ encoding (list ts))) 2 None ∷ header (length (encoding_each ts)) (count ts) None ∷ []
+compound_headers (shape.NewtypeVariant i) ts = header (length (scalar_form (uint i) ++ encoding_each ts)) 2 None ∷ []
+compound_headers shape.Array ts = header (length (array_constructor ts ++ payload_each ts)) (count ts) (first_constructor ts) ∷ []
+compound_headers s ts = []
+
+-- how many slots it takes in the table: a transparent vector and a single compound take none
+abbrev pub header_count : Shape → ℕ
+header_count (shape.Variant i) = 2
+header_count shape.Transparent = 0
+header_count shape.Single = 0
+header_count shape.Refused = 0
+header_count s = 1
+
+-- its headers, from the one of its parts
+abbrev pub headers_from : Shape → Header → List Header
+headers_from (shape.Variant i) h = header (uint_width i + list_width h.len) 2 None ∷ h ∷ []
+headers_from (shape.NewtypeVariant i) h = header (uint_width i + h.len) 2 None ∷ []
+headers_from shape.Transparent h = []
+headers_from shape.Single h = []
+headers_from shape.Refused h = []
+headers_from s h = h ∷ []
+
+-- their lengths have four bytes
+abbrev pub headers_fit : Shape → ℕ → Type 0
+headers_fit (shape.Variant i) n = uint_width i + list_width n ≤ 4294967295
+headers_fit (shape.NewtypeVariant i) n = uint_width i + n ≤ 4294967295
+headers_fit shape.Transparent n = Unit {0}
+headers_fit shape.Single n = Unit {0}
+headers_fit shape.Refused n = Unit {0}
+headers_fit s n = n ≤ 4294967295

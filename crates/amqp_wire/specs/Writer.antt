@@ -1,0 +1,183 @@
+-- What the second walk may answer: where the table and the room are a tree's, its bytes.
+use Rattle.std.specs.Prelude.{◌≡◌, ℕ, ◌+◌, ◌<◌, ◌≤◌, List, [], ◌∷◌, ◌++◌, Option, Some, None, Bool, true, false, Result, Ok, Err, length, drop}
+use Rattle.std.specs.Vec.{vec_capacity}
+use Rattle.amqp_size.specs.declared.refusal.Refusal.{Refusal}
+use Rattle.amqp_ser.specs.Tree.{Tree, Trees}
+use Rattle.amqp_ser.specs.Writable.{uniform_arrays, within_limits, within_limits_each}
+use Rattle.amqp_ser.specs.Compounds.{all_trees, paired}
+use Rattle.amqp_ser.specs.declared.kind.Kind.{Kind}
+use Rattle.amqp_ser.proofs.Joins.{join}
+use Rattle.amqp_size.specs.SizeSerializer.{at_position}
+use Rattle.amqp_size.specs.Position.{position_of, meant, without_prefix, suits, next, shape_of}
+use Rattle.amqp_size.specs.WholePosition.{Position}
+use Rattle.amqp_size.specs.WholePosition as positions
+use Rattle.amqp_size.specs.WholePending.{Pending, Plain}
+use Rattle.amqp_size.specs.WholePending as pending
+use Rattle.amqp_size.specs.declared.position.Shape.{Shape}
+use Rattle.amqp_size.specs.declared.position.Shape.TheVariants.{Single}
+use Rattle.amqp_wire.specs.TreeHeaders.{headers_of, headers_of_each, compound_headers}
+use Rattle.amqp_wire.specs.HeaderBytes.{in_array, bytes_at, opening, after_opening, small_headers}
+use Rattle.amqp_wire.specs.Dense.{dense_at, dense_each}
+use Rattle.amqp_wire.specs.Positions.{part_position, part_at, suited_parts, is_single}
+use Rattle.amqp_wire.specs.declared.table.Header.{Header}
+use Rattle.amqp_wire.specs.declared.output.Output.{Output}
+use Rattle.amqp_wire.specs.declared.writer.Writer.{Writer}
+use Rattle.amqp_wire.specs.declared.writer.Writing.{Writing}
+
+-- it goes on from there
+abbrev pub Extends : {X : Type 0} → List X → List X → Type 0
+Extends {X} a b = (rest : List X) × (b ≡ a ++ rest)
+
+-- what stays through every call
+pub record Kept (s after : Output) : Type 0 where
+  pub table : after.table ≡ s.table
+  pub capacity : vec_capacity s.out ≤ vec_capacity after.out
+  pub grown : Extends s.out.items after.out.items
+
+-- these bytes are written, or there was no room
+abbrev pub puts : Output → List ℕ → Result (Unit {0}) Refusal → Output → Type 0
+puts s bytes (Ok u) after = after.out.items ≡ s.out.items ++ bytes
+puts s bytes (Err e) after = vec_capacity s.out < length s.out.items + length bytes
+
+-- the next header was taken
+abbrev pub nexts : Output → Option Header → Output → Type 0
+nexts s None after = length s.table.items ≤ s.taken
+nexts s (Some h) after = (drop s.taken s.table.items ≡ h ∷ drop after.taken after.table.items) × (after.taken ≡ s.taken + 1)
+
+-- so many headers were taken and these bytes written, or there was no room
+abbrev pub leads : Output → ℕ → List ℕ → Result (Unit {0}) Refusal → Output → Type 0
+leads s n bytes (Ok u) after = (after.out.items ≡ s.out.items ++ bytes) × (after.taken ≡ s.taken + n)
+leads s n bytes (Err e) after = vec_capacity s.out < length s.out.items + length bytes
+
+abbrev pub opens : Bool → Shape → Output → List Header → Result (Unit {0}) Refusal → Output → Type 0
+opens a shape s hs r after = leads s (length hs) (opening a shape hs) r after
+
+-- the table and the room are this tree's
+pub record FitsOutput (p : Position) (s : Output) (t : Tree) : Type 0 where
+  pub within_limits_it : within_limits t ≡ true
+  pub dense_it : dense_at p t ≡ true
+  pub rest : List Header
+  pub listed : drop s.taken s.table.items ≡ headers_of t ++ rest
+  pub room : length s.out.items + length (bytes_at (in_array p) t) ≤ vec_capacity s.out
+
+pub record Written (p : Position) (s : Output) (t : Tree) (after : Output) : Type 0 where
+  pub out : after.out.items ≡ s.out.items ++ bytes_at (in_array p) t
+  pub taken : after.taken ≡ s.taken + length (headers_of t)
+
+-- a tree that may stand there was taken
+pub record Taken (p : Position) (t : Tree) (after : Pending) : Type 0 where
+  pub uniform_arrays_it : uniform_arrays t ≡ true
+  pub suited : suits p t ≡ true
+  pub position : after ≡ Plain (next p t)
+
+abbrev pub takes : Position → Option Tree → Pending → Type 0
+takes p None after = ⊥
+takes p (Some t) after = Taken p t after
+
+-- whatever the table and the room are, the first walk's answer, but for limits that its lengths pass
+abbrev pub accepts : Position → Option Tree → Result (Unit {0}) Refusal → Pending → Type 0
+accepts p o (Ok u) after = takes p o after
+accepts p o (Err e) after = at_position p o (Err e) after
+
+abbrev pub wrote : Position → Output → Option Tree → Output → Type 0
+wrote p s None after = Unit {0}
+wrote p s (Some t) after = FitsOutput p s t → Written p s t after
+
+-- where the table and the room are the tree's, its bytes
+abbrev pub writes_tree : Position → Output → Option Tree → Result (Unit {0}) Refusal → Output → Type 0
+writes_tree p s o (Ok u) after = wrote p s o after
+writes_tree p s o (Err e) after = Unit {0}
+
+abbrev pub writer_permits : Writer → Option Tree → Result (Unit {0}) Refusal → Writer → Type 0
+writer_permits s o r after = Kept s.output after.output × (accepts (position_of s.position) (meant s.position o) r after.position × writes_tree (position_of s.position) s.output (meant s.position o) r after.output)
+
+-- the table and the room are those of a compound of these parts
+pub record PartsFitOutput (a : Bool) (shape : Shape) (s : Output) (ts : Trees) : Type 0 where
+  pub within_limits_parts : within_limits_each ts ≡ true
+  pub dense_parts : dense_each (part_position shape) ts ≡ true
+  pub small : small_headers shape (compound_headers shape ts)
+  pub rest : List Header
+  pub listed : drop s.taken s.table.items ≡ compound_headers shape ts ++ (headers_of_each ts ++ rest)
+  pub room : length s.out.items + (length (opening a shape (compound_headers shape ts)) + length (after_opening shape ts)) ≤ vec_capacity s.out
+
+-- the parts so far, of all the parts, are written
+pub record WrittenSoFar (a : Bool) (shape : Shape) (start s : Output) (ts us : Trees) : Type 0 where
+  pub out : s.out.items ≡ start.out.items ++ (opening a shape (compound_headers shape (join ts us)) ++ after_opening shape ts)
+  pub taken : s.taken ≡ start.taken + length (compound_headers shape (join ts us)) + length (headers_of_each ts)
+
+abbrev pub meets_parts : Writer → Kind → Output → Trees → Type 0
+meets_parts start kind s ts = (us : Trees) → PartsFitOutput (in_array (position_of start.position)) (shape_of start.position kind) start.output (join ts us) → WrittenSoFar (in_array (position_of start.position)) (shape_of start.position kind) start.output s ts us
+
+-- where the output stood before the last part
+pub record OutputBeforeLast (start : Writer) (kind : Kind) (s : Output) (held : Writing) (qs : List (Option Tree)) : Type 0 where
+  pub old : Output
+  pub since : Kept start.output old
+  pub until : Kept old s
+  pub taken : held.before_last.taken ≡ old.taken
+  pub len : held.before_last.len ≡ length old.out.items
+  pub ts : Trees
+  pub trees : all_trees qs ≡ Some ts
+  pub suited : suited_parts (shape_of start.position kind) ts ≡ true
+  pub met : meets_parts start kind old ts
+
+pub record WrittenParts (start : Writer) (kind : Kind) (s : Output) (held : Writing) (ps : List (Option Tree)) : Type 0 where
+  pub ts : Trees
+  pub trees : all_trees ps ≡ Some ts
+  pub kept : Kept start.output s
+  pub position : held.position ≡ position_of start.position
+  pub shape : held.shape ≡ shape_of start.position kind
+  pub inner : held.inner ≡ Plain (part_at (shape_of start.position kind) ts)
+  pub suited : suited_parts (shape_of start.position kind) ts ≡ true
+  pub met : meets_parts start kind s ts
+  pub back : paired ps ≡ false → (qs : List (Option Tree)) (q : Option Tree) → ps ≡ qs ++ (q ∷ []) → OutputBeforeLast start kind s held qs
+
+-- nothing was written since
+abbrev pub SameOutput : Output → Output → Type 0
+SameOutput s after = (after.out.items ≡ s.out.items) × (after.taken ≡ s.taken)
+
+-- a single compound writes its part alone, where it was opened
+pub record WrittenSingle (start : Writer) (s : Output) (held : Writing) (ps : List (Option Tree)) : Type 0 where
+  pub kept : Kept start.output s
+  pub position : without_prefix held.position ≡ without_prefix (position_of start.position)
+  pub shape : held.shape ≡ Single
+  pub none : ps ≡ [] → (held.inner ≡ start.position) × SameOutput start.output s
+  pub one : (p : Option Tree) → ps ≡ p ∷ [] → takes (position_of start.position) (meant start.position p) held.inner × wrote (position_of start.position) start.output (meant start.position p) s
+
+abbrev pub written_as : Bool → Writer → Kind → Output → Writing → List (Option Tree) → Type 0
+written_as true start kind s held ps = WrittenSingle start s held ps
+written_as false start kind s held ps = WrittenParts start kind s held ps
+
+abbrev pub writer_has : Writer → Kind → Writer → Writing → List (Option Tree) → Type 0
+writer_has start kind s held ps = written_as (is_single kind) start kind s.output held ps × (s.position ≡ Plain (without_prefix held.position))
+
+-- where the output stands, which is gone back to where the part is refused
+abbrev pub stands_at : Writing → Output → Type 0
+stands_at held s = (held.before_current.taken ≡ s.taken) × (held.before_current.len ≡ length s.out.items)
+
+abbrev pub writer_awaits : Writer → Kind → Writer → Writing → List (Option Tree) → Type 0
+writer_awaits start kind s held ps = (written_as (is_single kind) start kind s.output held ps × (s.position ≡ held.inner)) × stands_at held s.output
+
+-- the code of described values is written, where there is room for one
+abbrev pub headed : Writer → Output → Type 0
+headed start s = length start.output.out.items + 1 ≤ vec_capacity start.output.out →
+    (s.out.items ≡ start.output.out.items ++ (0x00 ∷ [])) × (s.taken ≡ start.output.taken)
+
+pub record AwaitsDescriptor (start s : Writer) (held : Writing) : Type 0 where
+  pub kept : Kept start.output s.output
+  pub position : without_prefix held.position ≡ without_prefix (position_of start.position)
+  pub shape : held.shape ≡ Single
+  pub inner : held.inner ≡ start.position
+  pub stands : stands_at held start.output
+  pub at : s.position ≡ Plain positions.Descriptor
+  pub code : headed start s.output
+
+takes_none : (u : Pending) (after : Pending) → takes (position_of u) (meant u None) after → ⊥
+takes_none (pending.Plain p) after h = h
+takes_none (pending.Array p) after h = h
+takes_none (pending.Transparent p) after h = h
+takes_none (pending.Scalar m p) after h = h
+takes_none (pending.Nothing p) after h = h
+
+-- where there is no tree nothing is taken
+pub nothing_of_none : (s : Writer) (u : Unit {0}) (after : Writer) → writer_permits s None (Ok u) after → ⊥
+nothing_of_none s u after h = takes_none s.position after.position h.1.0

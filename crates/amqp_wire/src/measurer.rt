@@ -1,0 +1,311 @@
+//! The first walk: the length of a value's bytes, and what stands before each compound.
+
+ghost use Rattle.std.specs.Prelude.{◌≡◌, ◌≤◌, ◌++◌, ◌∷◌, [], List, Option, Result, Ok, Err, MatchResult, IfErr, IsErr, true, false, ℕ};
+ghost use Rattle.amqp_ser.specs.Tree.{Tree};
+
+use crate::table::{Header, Table};
+use amqp_ser::{Fixed, Kind, Mark, Serializer};
+use amqp_size::width::LONGEST;
+use amqp_size::{OpenCompound, Refusal, SizeSerializer};
+use std::alloc::Global;
+
+/// Counts the bytes of values, and lists the headers of their compounds.
+///
+/// # Memory
+/// Takes some for each compound, and none for a scalar.
+#[derive(Drop)]
+pub struct Measurer {
+    size: SizeSerializer,
+    table: Table,
+}
+
+/// A compound whose parts are still counted.
+#[derive(Drop)]
+pub struct Measuring {
+    size: OpenCompound,
+    /// Where its headers stand in the table.
+    at: usize,
+    /// It has no slot there.
+    missed: bool,
+    /// How long the table was before the part that is next or under way.
+    before_current: usize,
+    /// How long it was before the last part that was taken.
+    before_last: usize,
+    /// How many parts were taken.
+    parts: u32,
+}
+
+/// The length of a body, where it is within the limit.
+#[inline(always)]
+fn limited(sum: usize) -> u32
+    ensures same { sum ≤ 4294967291 → result ≡ sum }
+    ensures limit { result ≤ 4294967291 }
+{
+    sum.min(LONGEST) as u32
+}
+
+impl Measurer {
+    ghost use Rattle.amqp_size.specs.WholePending.{Plain};
+    ghost use Rattle.amqp_size.specs.WholePosition.{Root};
+
+    /// A first walk that has met nothing.
+    #[inline(always)]
+    pub fn new(alloc: Global) -> Measurer
+        ensures table { result.table.headers.items ≡ [] }
+        ensures refused { result.table.refused ≡ false }
+        ensures position { result.size.position ≡ Plain Root }
+    {
+        Measurer {
+            size: SizeSerializer::new(),
+            table: Table::new(alloc),
+        }
+    }
+
+    /// Whether a growth was ever refused.
+    #[inline(always)]
+    pub fn is_refused(&self) -> bool
+        ensures { result ≡ self.now.table.refused }
+    {
+        self.table.is_refused()
+    }
+
+    /// The headers.
+    #[inline(always)]
+    pub fn into_headers(self) -> Vec<Header>
+        ensures { result ≡ self.table.headers }
+    {
+        let Measurer { size: _, table } = self;
+        table.into_headers()
+    }
+}
+
+impl Measuring {
+    ghost use Rattle.amqp_wire.specs.Measurer.{answered};
+
+    /// The answer on a part, or the refusal of the compound's slot.
+    #[inline(always)]
+    fn answer(&self, part: Result<usize, Refusal>) -> Result<usize, Refusal>
+        ensures { answered self.now part result }
+    {
+        if self.missed {
+            return Err(Refusal::OutOfMemory);
+        }
+        part
+    }
+}
+
+impl Serializer for Measurer {
+    ghost use Rattle.amqp_size.specs.declared.refusal.Refusal.TheVariants.{InvalidValue, TooLong};
+    ghost use Rattle.amqp_wire.specs.Measurer.{measurer_permits, measurer_has, measurer_awaits, measurer_awaits_descriptor, no_length_of_none};
+    ghost use Rattle.amqp_ser.specs.Compounds.{whole, complete};
+    ghost use Rattle.amqp_ser.specs.Fixed.{fixed_scalar};
+    ghost use Rattle.amqp_ser.specs.Tree.{scalar, null, string, binary};
+    ghost use Rattle.amqp_size.specs.Position.{meant};
+    ghost use Rattle.amqp_ser.specs.Composites.{as_described, descriptor_of};
+    ghost use Rattle.amqp_ser.specs.declared.kind.Kind.{Kind};
+
+    type Ok = usize;
+
+    type Error = Refusal;
+
+    type Open = Measuring;
+
+    ghost permits = { measurer_permits };
+
+    ghost has = { measurer_has };
+
+    ghost awaits = { measurer_awaits };
+
+    ghost awaits_descriptor = { measurer_awaits_descriptor };
+
+    ghost is_misuse = { λ e. e ≡ InvalidValue };
+
+    ghost refuses_none = { no_length_of_none };
+
+    #[inline(always)]
+    fn serialize_fixed(&mut self, fixed: Fixed) -> Result<usize, Refusal>
+        ensures answered { measurer_permits self.old (Some (scalar (fixed_scalar fixed))) result
+            self.new }
+        ensures no_tree { meant self.old.size.position (Some (scalar (fixed_scalar fixed))) ≡ None →
+            result ≡ Err InvalidValue }
+    {
+        self.size.serialize_fixed(fixed)
+    }
+
+    #[inline(always)]
+    fn serialize_null(&mut self) -> Result<usize, Refusal>
+        ensures answered { measurer_permits self.old (Some (scalar null)) result self.new }
+        ensures no_tree { meant self.old.size.position (Some (scalar null)) ≡ None →
+            result ≡ Err InvalidValue }
+    {
+        self.size.serialize_null()
+    }
+
+    #[inline(always)]
+    fn serialize_str(&mut self, v: &str) -> Result<usize, Refusal>
+        ensures answered { measurer_permits self.old (Some (scalar (string v.now))) result self.new }
+        ensures no_tree { meant self.old.size.position (Some (scalar (string v.now))) ≡ None →
+            result ≡ Err InvalidValue }
+    {
+        self.size.serialize_str(v)
+    }
+
+    #[inline(always)]
+    fn serialize_bytes(&mut self, v: &[u8]) -> Result<usize, Refusal>
+        ensures answered { measurer_permits self.old (Some (scalar (binary v.now))) result self.new }
+        ensures no_tree { meant self.old.size.position (Some (scalar (binary v.now))) ≡ None →
+            result ≡ Err InvalidValue }
+    {
+        self.size.serialize_bytes(v)
+    }
+
+    #[inline(always)]
+    fn mark(&mut self, mark: Mark) {
+        self.size.mark(mark);
+    }
+
+    #[inline(always)]
+    fn begin(&mut self, kind: Kind) -> Measuring {
+        let at = self.table.len();
+        let size = self.size.begin(kind);
+        let missed = self.table.open(size.shape());
+        Measuring {
+            size,
+            at,
+            missed,
+            before_current: at,
+            before_last: at,
+            parts: 0,
+        }
+    }
+
+    #[inline(always)]
+    fn vacant(&self) -> Measuring {
+        Measuring {
+            size: self.size.vacant(),
+            at: 0,
+            missed: true,
+            before_current: 0,
+            before_last: 0,
+            parts: 0,
+        }
+    }
+
+    #[inline(always)]
+    fn begin_part(&mut self, held: &mut Measuring) {
+        held.before_current = self.table.len();
+        self.size.begin_part(&mut held.size);
+    }
+
+    #[inline(always)]
+    fn end_part(
+        &mut self,
+        held: &mut Measuring,
+        part: Result<usize, Refusal>,
+    ) -> Result<(), Refusal>
+        ensures step { (start : Measurer) (kind : Kind) (before : Measurer) (ps : List (Option Tree))
+            (p : Option Tree) → measurer_awaits start kind before held.old ps →
+            measurer_permits before p part self.old →
+            MatchResult result
+            (λ _. measurer_has start kind self.new held.new (ps ++ (p ∷ [])))
+            (λ e. measurer_has start kind self.new held.new ps × ((rest : List (Option Tree)) →
+            measurer_permits start (whole kind (ps ++ (p ∷ rest))) (Err e) self.new)) }
+        ensures refused { IfErr part (λ _. IsErr result) }
+    {
+        let answer = held.answer(part);
+        match self.size.end_part(&mut held.size, answer) {
+            Ok(()) => {
+                held.before_last = held.before_current;
+                held.parts = held.parts.saturating_add(1);
+                Ok(())
+            }
+            Err(e) => {
+                self.table.cut(held.before_current);
+                Err(e)
+            }
+        }
+    }
+
+    #[inline(always)]
+    fn begin_descriptor(&mut self, held: &mut Measuring) {
+        held.before_current = self.table.len();
+        self.size.begin_descriptor(&mut held.size);
+    }
+
+    #[inline(always)]
+    fn end_descriptor(
+        &mut self,
+        held: &mut Measuring,
+        part: Result<usize, Refusal>,
+    ) -> Result<(), Refusal>
+        ensures step { (start before : Measurer) (d : Option Tree) →
+            measurer_awaits_descriptor start before held.old →
+            measurer_permits before d part self.old →
+            MatchResult result
+            (λ _. (mid : Measurer)
+            × (measurer_has mid Kind.Single self.new held.new []
+            × ((t : Option Tree) (r : Result ℕ Refusal) (after : Measurer) →
+            measurer_permits mid t r after →
+            measurer_permits start (as_described (descriptor_of d) t) r after)))
+            (λ e. measurer_has start Kind.Single self.new held.new [] × ((t : Option Tree) →
+            measurer_permits start (as_described (descriptor_of d) t) (Err e) self.new)) }
+        ensures refused { IfErr part (λ _. IsErr result) }
+        ensures other_kinds { (start before : Measurer) (d : Option Tree) →
+            measurer_awaits_descriptor start before held.old →
+            measurer_permits before d part self.old → descriptor_of d ≡ None → IsErr result }
+    {
+        match self.size.end_descriptor(&mut held.size, part) {
+            Ok(()) => Ok(()),
+            Err(e) => {
+                let len = held.before_current;
+                self.table.cut(len);
+                Err(e)
+            }
+        }
+    }
+
+    #[inline(always)]
+    fn undo_part(&mut self, held: &mut Measuring) {
+        self.size.undo_part(&mut held.size);
+        self.table.cut(held.before_last);
+        held.parts = held.parts.saturating_sub(1);
+    }
+
+    #[inline(always)]
+    fn misuse(&mut self, held: &mut Measuring) -> Refusal {
+        self.size.misuse(&mut held.size)
+    }
+
+    #[inline(always)]
+    fn end(&mut self, held: Measuring) -> Result<usize, Refusal>
+        ensures answered { (start : Measurer) (kind : Kind) (ps : List (Option Tree)) →
+            measurer_has start kind self.old held ps → complete kind ps ≡ true →
+            measurer_permits start (whole kind ps) result self.new }
+        ensures no_tree { (start : Measurer) (kind : Kind) (ps : List (Option Tree)) →
+            measurer_has start kind self.old held ps → complete kind ps ≡ true →
+            meant start.size.position (whole kind ps) ≡ None → result ≡ Err TooLong → ⊥ }
+    {
+        let Measuring {
+            size,
+            at,
+            missed,
+            before_current: _,
+            before_last: _,
+            parts,
+        } = held;
+        if missed {
+            return Err(Refusal::OutOfMemory);
+        }
+        let shape = size.shape();
+        // An array's first element left its constructor in the place of `self.size`, where `end_part`
+        // of the size serializer picked it up for `size`. Only then can the header be filled in.
+        let header = Header {
+            len: limited(size.sum()),
+            count: parts,
+            constructor: size.constructor(),
+        };
+        let len = self.size.end(size)?;
+        self.table.fill(at, shape, header);
+        Ok(len)
+    }
+}

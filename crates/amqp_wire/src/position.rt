@@ -1,0 +1,92 @@
+//! Where a value stands, for what is written there.
+
+ghost use Rattle.std.specs.Prelude.{◌≡◌, Some, MatchResult, true};
+ghost use Rattle.amqp_size.specs.State.{position_at, pending_at};
+ghost use Rattle.amqp_wire.specs.HeaderBytes.{in_array};
+ghost use Rattle.amqp_wire.specs.Positions.{after_descriptor, inner_after};
+ghost use Rattle.amqp_wire.specs.Writer.{Taken};
+ghost use Rattle.amqp_size.specs.SizeSerializer.{refused};
+ghost use Rattle.amqp_ser.specs.Tree.{Tree};
+ghost use Rattle.amqp_ser.specs.Encoding.{constructor};
+ghost use Rattle.amqp_ser.specs.Writable.{uniform_arrays, inside, placed};
+ghost use Rattle.amqp_size.specs.WholePending.{Plain};
+ghost use Rattle.amqp_size.specs.WholePosition.{Descriptor};
+
+use amqp_size::{BasePosition, Pending, Position, Refusal, Shape};
+
+/// Whether an array's element stands there.
+#[inline(always)]
+pub fn in_array(position: Position) -> bool
+    ensures { result ≡ in_array (position_at position 0) }
+{
+    matches!(position, Position::First | Position::Element(_))
+}
+
+/// Where what comes after a tree with this constructor stands, if the tree is taken there.
+#[inline(always)]
+pub fn accepted(position: Position, code: u8) -> Result<Pending, Refusal>
+    ensures { (t : Tree) → constructor t ≡ Some code → uniform_arrays t ≡ true → inside t ≡ true → placed t ≡ true →
+        MatchResult result
+        (λ after. Taken (position_at position 0) t (pending_at after 0))
+        (λ e. refused (position_at position 0) t e) }
+{
+    match position {
+        Position::Root | Position::Inside => Ok(Pending::Plain(position)),
+        Position::First => Ok(Pending::Plain(Position::Element(code))),
+        Position::Element(c) => {
+            if c == code {
+                Ok(Pending::Plain(Position::Element(code)))
+            } else {
+                Err(Refusal::InvalidValue)
+            }
+        }
+        Position::Descriptor => {
+            if code == 0x80 || code == 0xb3 {
+                Ok(Pending::Plain(position))
+            } else {
+                Err(Refusal::InvalidValue)
+            }
+        }
+        Position::Value(base) => {
+            if base.takes_described() {
+                Ok(Pending::Plain(base.position()))
+            } else {
+                Err(Refusal::InvalidValue)
+            }
+        }
+    }
+}
+
+/// Where the value after a descriptor stands. No marker takes a described value, and it is no descriptor.
+#[inline(always)]
+pub fn described(pending: Pending) -> Result<Pending, Refusal>
+    ensures { MatchResult result
+        (λ inner. after_descriptor (pending_at pending 0) ≡ Some (pending_at inner 0))
+        (λ e. (pending_at pending 0 ≡ Plain Descriptor) × (e ≡ Refusal.InvalidValue)) }
+{
+    match pending {
+        Pending::Plain(position) => match position {
+            Position::Root => Ok(Pending::Plain(Position::Value(BasePosition::Root))),
+            Position::Inside => Ok(Pending::Plain(Position::Value(BasePosition::Inside))),
+            Position::First => Ok(Pending::Plain(Position::Value(BasePosition::First))),
+            Position::Element(code) => Ok(Pending::Plain(Position::Value(BasePosition::Element(
+                code,
+            )))),
+            Position::Value(_) => Ok(pending),
+            Position::Descriptor => Err(Refusal::InvalidValue),
+        },
+        pending => Ok(Pending::Nothing(pending.position())),
+    }
+}
+
+/// Where the next part stands, from where this one stood and what came after it: an array takes its constructor from
+/// the first, and what a single compound leaves stands behind it.
+#[inline(always)]
+pub fn inner_after(shape: Shape, inner: Pending, after: Pending) -> Pending
+    ensures { pending_at result 0 ≡ inner_after shape (pending_at inner 0) (pending_at after 0) }
+{
+    match shape {
+        Shape::Array | Shape::Single => after,
+        _ => inner,
+    }
+}

@@ -1,0 +1,29 @@
+-- The tree that is meant where another is fed under a marker, or in the place of a descriptor.
+use Rattle.std.specs.Prelude.{Option, Some, None, Bool, true, false}
+use Rattle.amqp_ser.specs.Tree.{Descriptor, Tree}
+use Rattle.amqp_ser.specs.Composites.{descriptor_of}
+use Rattle.amqp_ser.specs.Marked.{marked_tree}
+use Rattle.amqp_ser.specs.declared.kind.Kind.{Kind}
+use Rattle.amqp_ser.specs.declared.kind.Kind.TheVariants as kinds
+use Rattle.amqp_ser.specs.declared.mark.Mark.TheVariants as mark
+use Rattle.example_nodes.specs.declared.pending_mark.PendingMark.{PendingMark}
+use Rattle.example_nodes.specs.declared.pending_mark.PendingMark.TheVariants as pending
+
+-- a tree, where it is a descriptor
+abbrev pub only_as : Option Descriptor → Tree → Option Tree
+only_as None t = None
+only_as (Some d) t = Some t
+
+abbrev pub meant : PendingMark → Option Tree → Option Tree
+meant u None = None
+meant (pending.Mark m) (Some t) = marked_tree m t
+meant pending.Descriptor (Some t) = only_as (descriptor_of (Some t)) t
+meant pending.Nothing (Some t) = None
+
+-- a compound of this kind may stand here: a list also under the markers of lists
+abbrev pub fits : PendingMark → Kind → Bool
+fits u kinds.Single = true
+fits (pending.Mark mark.Other) k = true
+fits (pending.Mark mark.Array) kinds.List = true
+fits (pending.Mark mark.Transparent) kinds.List = true
+fits u k = false
