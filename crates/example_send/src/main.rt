@@ -2,6 +2,7 @@
 #![tactic(auto)]
 
 mod message;
+mod room;
 
 use amqp_data::{ByteBuf, Error, OrderedMap, TransparentVec};
 use amqp_decode::decode_value;
@@ -9,8 +10,8 @@ use amqp_frame::{LazyValue, SliceReader};
 use amqp_size::serialized_size;
 use amqp_to_value::to_value;
 use amqp_value::Value;
-use amqp_wire::to_vec;
 use message::{Header, Properties, Section};
+use room::bytes_for_frame;
 use std::alloc::Global;
 use std::process::ExitCode;
 
@@ -30,7 +31,7 @@ fn run(rt: &(impl Print + AllocGlobal)) -> Result<(), Error> {
 
     // A sender knows the length before it writes, and takes no memory for it.
     let _ = println!(rt; "{} bytes", serialized_size(&message)?);
-    let bytes = to_vec(alloc, &message)?;
+    let bytes = bytes_for_frame(alloc, &message, 512)?;
 
     // A log prints the untyped value.
     let value = to_value(alloc, &message)?;
