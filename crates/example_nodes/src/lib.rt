@@ -4,12 +4,14 @@
 //! Both stand on the public contracts of `amqp_ser` alone.
 #![tactic(auto)]
 
+mod blank;
 mod counter;
 mod pending_mark;
 mod reading;
 #[cfg(test)]
 mod tests;
 
+pub use blank::Blank;
 pub use counter::{Counting, NodeCounter, count_nodes};
 pub use pending_mark::PendingMark;
 pub use reading::Reading;

@@ -1,0 +1,96 @@
+//! The first step of a serializer: every method is there, and each call refuses.
+
+ghost use Rattle.std.specs.Prelude.{◌≡◌, ◌++◌, ◌∷◌, [], ℕ, List, Option, None, Result, Err, MatchResult, IfErr, IsErr};
+ghost use Rattle.amqp_ser.specs.Tree.{Tree};
+
+use amqp_data::Error;
+use amqp_ser::{Fixed, Kind, Mark, Serializer};
+
+/// Refuses everything: a serializer to start from, method by method.
+#[derive(Drop)]
+pub struct Blank;
+
+impl Serializer for Blank {
+    ghost use Rattle.amqp_ser.specs.declared.kind.Kind.{Kind};
+    ghost use Rattle.example_nodes.specs.Blank.{BlankPermits, Refuses, no_answer};
+    ghost use Rattle.amqp_ser.specs.Compounds.{whole};
+    ghost use Rattle.amqp_ser.specs.Composites.{as_described, descriptor_of};
+
+    type Ok = ();
+
+    type Error = Error;
+
+    type Open = ();
+
+    ghost permits = { BlankPermits };
+
+    ghost has = { λ start kind now held parts. Unit {0} };
+
+    ghost awaits = { λ start kind now held parts. Unit {0} };
+
+    ghost awaits_descriptor = { λ start now held. Unit {0} };
+
+    ghost is_misuse = { λ e. Unit {0} };
+
+    ghost refuses_none = { no_answer };
+
+    fn serialize_fixed(&mut self, _fixed: Fixed) -> Result<(), Error> {
+        Err(Error::InvalidValue)
+    }
+
+    fn serialize_null(&mut self) -> Result<(), Error> {
+        Err(Error::InvalidValue)
+    }
+
+    fn serialize_str(&mut self, _v: &str) -> Result<(), Error> {
+        Err(Error::InvalidValue)
+    }
+
+    fn serialize_bytes(&mut self, _v: &[u8]) -> Result<(), Error> {
+        Err(Error::InvalidValue)
+    }
+
+    fn mark(&mut self, _mark: Mark) {}
+
+    fn begin(&mut self, _kind: Kind) {}
+
+    fn vacant(&self) {}
+
+    fn begin_part(&mut self, _held: &mut ()) {}
+
+    fn end_part(&mut self, _held: &mut (), part: Result<(), Error>) -> Result<(), Error>
+        ensures step { (start : Blank) (kind : Kind) (before : Blank)
+            (ps : List (Option Tree)) (p : Option Tree) →
+            Unit {0} → Refuses part →
+            MatchResult result (λ _. Unit {0})
+            (λ e. Unit {0} × ((rest : List (Option Tree)) → Refuses (Err e))) }
+        ensures refused { IfErr part (λ _. IsErr result) }
+    {
+        part
+    }
+
+    fn undo_part(&mut self, _held: &mut ()) {}
+
+    fn misuse(&mut self, _held: &mut ()) -> Error {
+        Error::InvalidValue
+    }
+
+    fn begin_descriptor(&mut self, _held: &mut ()) {}
+
+    fn end_descriptor(&mut self, _held: &mut (), part: Result<(), Error>) -> Result<(), Error>
+        ensures step { (start before : Blank) (d : Option Tree) → Unit {0} → Refuses part →
+            MatchResult result
+            (λ _. (mid : Blank) × (Unit {0} ×
+            ((t : Option Tree) (r : Result (Unit {0}) Error) (after : Blank) → Refuses r → Refuses r)))
+            (λ e. Unit {0} × ((t : Option Tree) → Refuses (Err e))) }
+        ensures refused { IfErr part (λ _. IsErr result) }
+        ensures other_kinds { (start before : Blank) (d : Option Tree) → Unit {0} → Refuses part →
+            descriptor_of d ≡ None → IsErr result }
+    {
+        Err(Error::InvalidValue)
+    }
+
+    fn end(&mut self, _held: ()) -> Result<(), Error> {
+        Err(Error::InvalidValue)
+    }
+}

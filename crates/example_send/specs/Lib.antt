@@ -1,0 +1,2 @@
+-- The tree of a public type rests on this.
+pub mod Sections

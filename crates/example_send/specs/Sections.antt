@@ -1,0 +1,23 @@
+-- What the sections of a message mean (AMQP 1.0 part 3, section 3.2).
+use Rattle.std.specs.Prelude.{[], ◌∷◌, Option}
+use Rattle.amqp_ser.specs.Tree.{Tree, code}
+use Rattle.amqp_ser.specs.Words.{must, may, basic_composite, short_composite, of_binary, of_bool, of_i32, of_map, of_string, of_u8, of_u32, of_u64}
+use Rattle.example_send.specs.declared.message.Header.{Header}
+use Rattle.example_send.specs.declared.message.Properties.{Properties}
+use Rattle.example_send.specs.declared.message.Section.{Section}
+use Rattle.example_send.specs.declared.message.Section.TheVariants as section
+
+-- durable, priority, ttl (section 3.2.1)
+abbrev pub of_header : Header → Option Tree
+of_header h = short_composite (code 0x70) (may of_bool h.durable ∷ may of_u8 h.priority ∷ may of_u32 h.ttl ∷ [])
+
+-- message-id, user-id, to, subject (section 3.2.4)
+abbrev pub of_properties : Properties → Option Tree
+of_properties p = short_composite (code 0x73) (may of_u64 p.message_id ∷ may of_binary p.user_id ∷ may of_string p.to ∷ may of_string p.subject ∷ [])
+
+-- application-properties (section 3.2.5) and amqp-value (section 3.2.8) are one value each
+abbrev pub of_section : Section → Option Tree
+of_section (section.Header h) = of_header h
+of_section (section.Properties p) = of_properties p
+of_section (section.ApplicationProperties m) = basic_composite (code 0x74) (of_map of_string of_i32 m)
+of_section (section.Body s) = basic_composite (code 0x77) (of_string s)
