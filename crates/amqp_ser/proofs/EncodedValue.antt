@@ -1,5 +1,5 @@
 -- The bytes of a tree that is not transparent are one encoded value.
-use Rattle.std.proofs.Common.{◌≡◌, ℕ, ◌+◌, ◌*◌, ◌<◌, ◌≤◌, Bool, true, false, ◌&&◌, IsTrue, List, [], ◌∷◌, ◌++◌, length, refl, sym, ◌∙◌, subst, arith, length-append, if◌then◌else◌, nat_le, nat_eq, nat_lt}
+use Rattle.std.proofs.Common.{◌≡◌, ℕ, ◌+◌, ◌*◌, ◌<◌, Bool, true, false, ◌&&◌, IsTrue, List, [], ◌∷◌, ◌++◌, length, refl, sym, subst, arith, length-append, if◌then◌else◌, nat_le, nat_eq, nat_lt}
 use Rattle.std.proofs.lemmas.Nat.{from_be_bytes-to_be_bytes_4}
 use Rattle.std.specs.Int.{w8, w16, w32, w64, to_be_bytes, from_be_bytes}
 use Rattle.amqp_frame.specs.Code.{is_primitive_code, category, size_width, body_len, payload_len}
@@ -9,7 +9,7 @@ use Rattle.amqp_ser.specs.Tree.{Scalar, null, bool, ubyte, ushort, uint, ulong, 
 use Rattle.amqp_ser.specs.Limits.{fits, is_short}
 use Rattle.amqp_ser.specs.Ranged.{IsRanged, IsRangedScalar, IsRangedDescriptor}
 use Rattle.amqp_ser.specs.Scalars.{scalar_form, signed_bytes, is_small, sized}
-use Rattle.amqp_ser.specs.Encoding.{encoding, encoding_each, encoding_pairs, payload_each, array_constructor, wide, counted, list_form, map_form, array_form, descriptor_form}
+use Rattle.amqp_ser.specs.Encoding.{encoding, encoding_each, encoding_pairs, payload_each, array_constructor, wide, list_form, map_form, array_form, descriptor_form}
 use Rattle.amqp_ser.specs.Writable.{scalar_fits, descriptor_fits, within_limits, uniform_arrays, inside, placed, writable}
 use Rattle.amqp_ser.proofs.Bools.{is_le, left_true, right_true}
 

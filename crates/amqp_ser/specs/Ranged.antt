@@ -1,4 +1,5 @@
--- Trees whose contents lie in the ranges of their types: every tree of a value in hand is one.
+-- Trees whose contents lie in the ranges of their types, with one encoded value in each lazy tree: every tree of a value
+-- in hand is one.
 use Rattle.std.specs.Prelude.{◌≡◌, ℕ, List, length, All, ◌<◌, ◌^◌}
 use Rattle.std.specs.Prelude.{FitsSigned}
 use Rattle.std.specs.Int.{w8, w16, w32, w64}
@@ -42,7 +43,6 @@ abbrev pub IsRangedDescriptor : Descriptor → Type 0
 IsRangedDescriptor (name bs) = IsUtf8 bs
 IsRangedDescriptor (code n) = n < 2 ^ 64
 
--- a lazy tree is the bytes of one encoded value (section 1.2)
 abbrev mutual
   pub IsRanged : Tree → Type 0
   IsRanged (scalar s) = IsRangedScalar s

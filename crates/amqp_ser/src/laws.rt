@@ -37,15 +37,16 @@ pub fn one_encoded_value()
         is_transparent t ≡ false → IsFrame (encoding t) }
 {}
 
-/// Trees that are written one after another, none of them transparent, are cut back into their encoded values.
+/// Trees that are written one after another, none of them transparent, are cut back into their
+/// encoded values.
 pub fn written_values_are_cut_back()
     ensures { (ts : List Tree) → AllByRecursion (λ t.
-            IsRanged t × (writable t ≡ true) × (is_transparent t ≡ false)) ts →
+        IsRanged t × (writable t ≡ true) × (is_transparent t ≡ false)) ts →
         IsCut (concat (map encoding ts)) (map encoding ts) [] }
 {}
 
-/// What is written of a transparent tree is cut back into the encoded values of its elements, where none of these is
-/// transparent.
+/// What is written of a transparent tree is cut back into the encoded values of its elements, where
+/// none of these is transparent.
 pub fn transparent_elements_are_cut_back()
     ensures { (ts : List Tree) → IsRanged (transparent (trees_of ts)) →
         writable (transparent (trees_of ts)) ≡ true →
