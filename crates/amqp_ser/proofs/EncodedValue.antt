@@ -4,8 +4,9 @@ use Rattle.std.proofs.lemmas.Nat.{from_be_bytes-to_be_bytes_4}
 use Rattle.std.specs.Int.{w8, w16, w32, w64, to_be_bytes, from_be_bytes}
 use Rattle.amqp_frame.specs.Code.{is_primitive_code, category, size_width, body_len, payload_len}
 use Rattle.amqp_frame.specs.Frame.{IsFrame}
+use Rattle.amqp_frame.proofs.Cuts.{some-byte}
 use Rattle.amqp_frame.specs.declared.code.Category.TheVariants.{Fixed, OneByteSize, FourByteSize}
-use Rattle.amqp_ser.specs.Tree.{Scalar, null, bool, ubyte, ushort, uint, ulong, byte, short, int, long, float, double, decimal32, decimal64, decimal128, char, timestamp, uuid, binary, string, symbol, Descriptor, name, code, Tree, scalar, list, array, map, described, variant, lazy, transparent, count, pair_count, is_transparent}
+use Rattle.amqp_ser.specs.Tree.{Scalar, null, bool, ubyte, ushort, uint, ulong, byte, short, int, long, float, double, decimal32, decimal64, decimal128, char, timestamp, uuid, binary, string, symbol, Descriptor, name, code, Tree, scalar, list, array, map, described, variant, lazy, transparent, no_trees, count, pair_count, is_transparent}
 use Rattle.amqp_ser.specs.Limits.{fits, is_short}
 use Rattle.amqp_ser.specs.Ranged.{IsRanged, IsRangedScalar, IsRangedDescriptor}
 use Rattle.amqp_ser.specs.Scalars.{scalar_form, signed_bytes, is_small, sized}
@@ -130,3 +131,9 @@ pub encoding_frame : (t : Tree) → IsRanged t → writable t ≡ true → is_tr
 encoding_frame t r h n =
     let rest = right_true (within_limits t) (uniform_arrays t && placed t) h in
     inside_frame t r (left_true _ _ h) (inside_placed t (right_true _ _ rest) n)
+
+-- of a transparent tree it is false: one of no trees is written as no bytes
+no_bytes : ¬ IsFrame (encoding (transparent no_trees))
+no_bytes f =
+    let some = some-byte [] f in
+    omega arith
