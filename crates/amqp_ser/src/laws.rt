@@ -53,3 +53,9 @@ pub fn transparent_elements_are_cut_back()
         AllByRecursion (λ t. is_transparent t ≡ false) ts →
         IsCut (encoding (transparent (trees_of ts))) (map encoding ts) [] }
 {}
+
+/// What is written of any tree is encoded values one after another, and nothing more.
+pub fn encoded_values_alone()
+    ensures { (t : Tree) → IsRanged t → writable t ≡ true →
+        (values : List (List ℕ)) × IsCut (encoding t) values [] }
+{}
