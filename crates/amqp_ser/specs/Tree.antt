@@ -1,5 +1,5 @@
 -- Data trees: what a value means, apart from how it is written (AMQP 1.0 part 1, section 1.6).
-use Rattle.std.specs.Prelude.{ℕ, ℤ, Bool, List, [], ◌∷◌, ◌+◌}
+use Rattle.std.specs.Prelude.{ℕ, ℤ, Bool, true, false, List, [], ◌∷◌, ◌+◌}
 
 -- null and the twenty scalars, with their contents: numbers, bits, bytes and UTF-8 texts (sections 1.6.1 to 1.6.21)
 pub data Scalar : Type 0 where
@@ -64,3 +64,8 @@ pair_count (pair k v ps) = pair_count ps + 1
 abbrev pub trees_of : List Tree → Trees
 trees_of [] = no_trees
 trees_of (t ∷ ts) = more t (trees_of ts)
+
+-- the tree is itself transparent, whatever is in it
+abbrev pub is_transparent : Tree → Bool
+is_transparent (transparent ts) = true
+is_transparent t = false

@@ -4,12 +4,15 @@
 
 pub mod trees_of_carried_types;
 
-ghost use Rattle.std.specs.Prelude.{◌≡◌, ◌∷◌, ◌<◌, ◌^◌, ℕ, Some, true, length};
+ghost use Rattle.std.specs.Prelude.{◌≡◌, ◌∷◌, [], ◌<◌, ◌^◌, ℕ, Some, true, false, List, length, map};
+ghost use Rattle.std.specs.List.{AllByRecursion, concat};
+ghost use Rattle.amqp_frame.specs.Cut.{IsCut};
+ghost use Rattle.amqp_frame.specs.Frame.{IsFrame};
 ghost use Rattle.amqp_ser.specs.Encoding.{constructor, encoding, payload};
 ghost use Rattle.amqp_ser.specs.Forms.{IsForm, has_one_form};
 ghost use Rattle.amqp_ser.specs.Ranged.{IsRanged};
 ghost use Rattle.amqp_ser.specs.Scalars.{scalar_code, scalar_payload};
-ghost use Rattle.amqp_ser.specs.Tree.{Scalar, Tree, scalar};
+ghost use Rattle.amqp_ser.specs.Tree.{Scalar, Tree, scalar, transparent, trees_of, is_transparent};
 ghost use Rattle.amqp_ser.specs.Writable.{writable};
 
 /// The length of a tree that can be written is a number of 64 bits.
@@ -26,4 +29,33 @@ pub fn forms_are_those_of_arrays_or_shorter()
 pub fn one_form_is_that_of_arrays()
     ensures { (s : Scalar) → has_one_form s ≡ true →
         encoding (scalar s) ≡ scalar_code s ∷ scalar_payload s }
+{}
+
+/// A tree that can be written and is not transparent is written as one encoded value.
+pub fn one_encoded_value()
+    ensures { (t : Tree) → IsRanged t → writable t ≡ true →
+        is_transparent t ≡ false → IsFrame (encoding t) }
+{}
+
+/// Trees that are written one after another, none of them transparent, are cut back into their
+/// encoded values.
+pub fn written_values_are_cut_back()
+    ensures { (ts : List Tree) → AllByRecursion (λ t.
+        IsRanged t × (writable t ≡ true) × (is_transparent t ≡ false)) ts →
+        IsCut (concat (map encoding ts)) (map encoding ts) [] }
+{}
+
+/// What is written of a transparent tree is cut back into the encoded values of its elements, where
+/// none of these is transparent.
+pub fn transparent_elements_are_cut_back()
+    ensures { (ts : List Tree) → IsRanged (transparent (trees_of ts)) →
+        writable (transparent (trees_of ts)) ≡ true →
+        AllByRecursion (λ t. is_transparent t ≡ false) ts →
+        IsCut (encoding (transparent (trees_of ts))) (map encoding ts) [] }
+{}
+
+/// What is written of any tree is encoded values one after another, and nothing more.
+pub fn encoded_values_alone()
+    ensures { (t : Tree) → IsRanged t → writable t ≡ true →
+        (values : List (List ℕ)) × IsCut (encoding t) values [] }
 {}
