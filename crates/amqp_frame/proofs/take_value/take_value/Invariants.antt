@@ -1,7 +1,7 @@
 use Rattle.std.proofs.Common.{◌+◌, ◌-◌, ◌^◌, ◌≤◌, vec_len}
 use Rattle.std.specs.Io.KnownBytes.{Consumes}
 use Rattle.amqp_frame.proofs.Open.{Open}
-use Rattle.amqp_frame.proofs.lazy.take_value.Given as goal
+use Rattle.amqp_frame.proofs.take_value.take_value.Given as goal
 
 abbrev pub invariant-loop-open : goal.invariant-loop-open
 invariant-loop-open g l = record {

@@ -4,7 +4,7 @@ use Rattle.std.proofs.KnownBytes.{Consumes-trans}
 use Rattle.amqp_frame.proofs.Open.{open-more, open-frame}
 use Rattle.amqp_frame.proofs.Taking.{refuses-later}
 use Rattle.amqp_frame.proofs.Ends.{ends-at-code, ends-in-payload, loses-code, keeps-primitive, grown}
-use Rattle.amqp_frame.proofs.lazy.take_value.Goals as goal
+use Rattle.amqp_frame.proofs.take_value.take_value.Goals as goal
 
 pub returns-in_err-code-clause-refused : goal.returns-in_err-code-clause-refused
 returns-in_err-code-clause-refused g c =
@@ -72,11 +72,6 @@ loop-open-preserved g c =
       bound = omega (arith, len, c.take_payload.new.taken.ok.0, c.loop-open.taken.ok.0);
       count = omega (arith, o.count, was.count, c.take_payload.ensures.count);
     }
-
-pub invariant_of-result : goal.invariant_of-result
-invariant_of-result g c =
-    let zero : c.loop-open.open ≡ 0 = omega arith in
-    rw c.in_ok-bytes.ensures.ok (open-frame _ (rw zero at c.loop-open.invariant.completes))
 
 pub returns-clause-frame : goal.returns-clause-frame
 returns-clause-frame g c =
