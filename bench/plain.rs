@@ -226,6 +226,50 @@ impl<const TABLE: bool> SerializeSeq for Sizing<'_, TABLE> {
     }
 }
 
+/// The scalars of a serializer that writes: each through its `put` or its `text`.
+macro_rules! scalars {
+    () => {
+        fn serialize_bool(self, v: bool) -> Result<(), Error> {
+            self.put(&[if v { 0x41 } else { 0x42 }], 0x56, [v as u8])
+        }
+        fn serialize_u8(self, v: u8) -> Result<(), Error> {
+            self.put(&[0x50, v], 0x50, [v])
+        }
+        fn serialize_u32(self, v: u32) -> Result<(), Error> {
+            match v {
+                0 => self.put(&[0x43], 0x70, v.to_be_bytes()),
+                1..=255 => self.put(&[0x52, v as u8], 0x70, v.to_be_bytes()),
+                _ => self.put(&[], 0x70, v.to_be_bytes()),
+            }
+        }
+        fn serialize_u64(self, v: u64) -> Result<(), Error> {
+            match v {
+                0 => self.put(&[0x44], 0x80, v.to_be_bytes()),
+                1..=255 => self.put(&[0x53, v as u8], 0x80, v.to_be_bytes()),
+                _ => self.put(&[], 0x80, v.to_be_bytes()),
+            }
+        }
+        fn serialize_i32(self, v: i32) -> Result<(), Error> {
+            match v {
+                -128..=127 => self.put(&[0x54, v as u8], 0x71, v.to_be_bytes()),
+                _ => self.put(&[], 0x71, v.to_be_bytes()),
+            }
+        }
+        fn serialize_none(self) -> Result<(), Error> {
+            self.put(&[0x40], 0x40, [])
+        }
+        fn serialize_some<T: Serialize>(self, v: &T) -> Result<(), Error> {
+            v.serialize(self)
+        }
+        fn serialize_str(self, v: &str) -> Result<(), Error> {
+            self.text(0xa1, v.as_bytes())
+        }
+        fn serialize_bytes(self, v: &[u8]) -> Result<(), Error> {
+            self.text(0xa0, v)
+        }
+    };
+}
+
 // ---------------------------------------------------------------- the second walk
 
 pub struct Writer {
@@ -287,44 +331,8 @@ impl<'a> Serializer for &'a mut Writer {
     type Ok = ();
     type Seq = Writing<'a>;
 
-    fn serialize_bool(self, v: bool) -> Result<(), Error> {
-        self.put(&[if v { 0x41 } else { 0x42 }], 0x56, [v as u8])
-    }
-    fn serialize_u8(self, v: u8) -> Result<(), Error> {
-        self.put(&[0x50, v], 0x50, [v])
-    }
-    fn serialize_u32(self, v: u32) -> Result<(), Error> {
-        match v {
-            0 => self.put(&[0x43], 0x70, v.to_be_bytes()),
-            1..=255 => self.put(&[0x52, v as u8], 0x70, v.to_be_bytes()),
-            _ => self.put(&[], 0x70, v.to_be_bytes()),
-        }
-    }
-    fn serialize_u64(self, v: u64) -> Result<(), Error> {
-        match v {
-            0 => self.put(&[0x44], 0x80, v.to_be_bytes()),
-            1..=255 => self.put(&[0x53, v as u8], 0x80, v.to_be_bytes()),
-            _ => self.put(&[], 0x80, v.to_be_bytes()),
-        }
-    }
-    fn serialize_i32(self, v: i32) -> Result<(), Error> {
-        match v {
-            -128..=127 => self.put(&[0x54, v as u8], 0x71, v.to_be_bytes()),
-            _ => self.put(&[], 0x71, v.to_be_bytes()),
-        }
-    }
-    fn serialize_none(self) -> Result<(), Error> {
-        self.put(&[0x40], 0x40, [])
-    }
-    fn serialize_some<T: Serialize>(self, v: &T) -> Result<(), Error> {
-        v.serialize(self)
-    }
-    fn serialize_str(self, v: &str) -> Result<(), Error> {
-        self.text(0xa1, v.as_bytes())
-    }
-    fn serialize_bytes(self, v: &[u8]) -> Result<(), Error> {
-        self.text(0xa0, v)
-    }
+    scalars!();
+
     fn serialize_seq(self, _len: Option<usize>) -> Result<Writing<'a>, Error> {
         let outer = self.place;
         let header = self.table[self.next];
@@ -436,44 +444,8 @@ impl<'a> Serializer for &'a mut Buffers {
     type Ok = ();
     type Seq = Buffer<'a>;
 
-    fn serialize_bool(self, v: bool) -> Result<(), Error> {
-        self.put(&[if v { 0x41 } else { 0x42 }], 0x56, [v as u8])
-    }
-    fn serialize_u8(self, v: u8) -> Result<(), Error> {
-        self.put(&[0x50, v], 0x50, [v])
-    }
-    fn serialize_u32(self, v: u32) -> Result<(), Error> {
-        match v {
-            0 => self.put(&[0x43], 0x70, v.to_be_bytes()),
-            1..=255 => self.put(&[0x52, v as u8], 0x70, v.to_be_bytes()),
-            _ => self.put(&[], 0x70, v.to_be_bytes()),
-        }
-    }
-    fn serialize_u64(self, v: u64) -> Result<(), Error> {
-        match v {
-            0 => self.put(&[0x44], 0x80, v.to_be_bytes()),
-            1..=255 => self.put(&[0x53, v as u8], 0x80, v.to_be_bytes()),
-            _ => self.put(&[], 0x80, v.to_be_bytes()),
-        }
-    }
-    fn serialize_i32(self, v: i32) -> Result<(), Error> {
-        match v {
-            -128..=127 => self.put(&[0x54, v as u8], 0x71, v.to_be_bytes()),
-            _ => self.put(&[], 0x71, v.to_be_bytes()),
-        }
-    }
-    fn serialize_none(self) -> Result<(), Error> {
-        self.put(&[0x40], 0x40, [])
-    }
-    fn serialize_some<T: Serialize>(self, v: &T) -> Result<(), Error> {
-        v.serialize(self)
-    }
-    fn serialize_str(self, v: &str) -> Result<(), Error> {
-        self.text(0xa1, v.as_bytes())
-    }
-    fn serialize_bytes(self, v: &[u8]) -> Result<(), Error> {
-        self.text(0xa0, v)
-    }
+    scalars!();
+
     fn serialize_seq(self, _len: Option<usize>) -> Result<Buffer<'a>, Error> {
         let outer = self.place;
         let inner = if let Place::Marked = outer { Place::First } else { Place::Ordinary };

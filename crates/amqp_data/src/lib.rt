@@ -17,8 +17,6 @@ pub mod laws;
 pub mod markers;
 mod ordered_map;
 mod symbol;
-#[cfg(test)]
-mod tests;
 mod timestamp;
 mod transparent_vec;
 mod uuid;

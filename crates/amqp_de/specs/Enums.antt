@@ -4,8 +4,8 @@ use Rattle.amqp_ser.specs.Tree.{Scalar, uint, Tree, scalar, list, map}
 use Rattle.amqp_value.specs.Image.{variant_map}
 use Rattle.amqp_de.specs.Parts.{elements_in, entries_in}
 use Rattle.amqp_de.specs.Fields.{There}
-use Rattle.amqp_de.specs.declared.enums.OneOf.{OneOf}
-use Rattle.amqp_de.specs.declared.enums.OneOf.TheVariants.{This, Other}
+use Rattle.amqp_de.specs.declared.enums.variants.OneOf.{OneOf}
+use Rattle.amqp_de.specs.declared.enums.variants.OneOf.TheVariants.{This, Other}
 
 -- the first, if there is one
 abbrev pub first : List Tree → Option Tree

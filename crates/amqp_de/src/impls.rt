@@ -2,8 +2,10 @@
 
 mod arrays;
 mod described;
+mod fixed_widths;
 mod holders;
 mod lists;
 mod maps;
-mod scalars;
+mod primitives;
+mod texts;
 mod tuples;

@@ -4,6 +4,8 @@
 mod access;
 mod content;
 pub mod de;
+mod deserialize;
+mod deserializer;
 mod enums;
 mod fields;
 mod impls;

@@ -7,7 +7,7 @@ use Rattle.std.proofs.lemmas.Bool.Decides.{nat_tests}
 use Rattle.amqp_data.specs.declared.format_code.EncodingCodes.{EncodingCodes}
 use Rattle.amqp_frame.specs.declared.code.Category.{Category}
 use Rattle.amqp_ser.specs.Tree as tree
-use Rattle.amqp_ser.specs.Tree.{Scalar, Descriptor, Tree, Pairs, trees_of, no_pairs}
+use Rattle.amqp_ser.specs.Tree.{Descriptor, Tree, Pairs, no_pairs}
 use Rattle.amqp_decode.specs.Spells.{IsNumber, IsPayload, IsCounted, IsDescriptor, descriptor_scalar, Spells, SpellsContent, SpellsElements, SpellsItems, SpellsEntries}
 use Rattle.amqp_decode.specs.Parsed.{cut, number_at, sized_at, content_at, counted_in, tree_descriptor, descriptor_at, gather, insert, payload_in, content_of, parse, parse_content}
 use Rattle.amqp_decode.specs.declared.payload_shape.Count.{Count}

@@ -1,7 +1,6 @@
 pub mod CodeLemmas
 pub mod TextLemmas
 pub mod DescriptorLemmas
-pub mod MapLemmas
 pub mod Steps
 pub mod Finds
 pub mod Means

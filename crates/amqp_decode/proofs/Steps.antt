@@ -2,7 +2,7 @@
 use Rattle.std.proofs.Common.{◌≡◌, ℕ, zero, suc, ◌+◌, ◌-◌, ◌/◌, ◌%◌, ◌<◌, Bool, true, false, List, [], ◌∷◌, ◌++◌, map, Some, None, if◌then◌else◌, ◌==◌, refl, sym, ap, ◌∙◌, arith}
 use Rattle.amqp_data.specs.declared.format_code.EncodingCodes.{EncodingCodes}
 use Rattle.amqp_ser.specs.Tree as tree
-use Rattle.amqp_ser.specs.Tree.{Tree, Pairs, trees_of, no_pairs}
+use Rattle.amqp_ser.specs.Tree.{Tree, Pairs, no_pairs}
 use Rattle.amqp_value.specs.Image.{insert_tree}
 use Rattle.amqp_value.specs.TreeOf.{tree_of}
 use Rattle.amqp_value.specs.declared.value.Value.{Value}

@@ -11,7 +11,5 @@ mod map_value;
 mod payload_shape;
 mod read;
 mod scalar;
-#[cfg(test)]
-mod tests;
 
 pub use read::decode_value;

@@ -116,7 +116,8 @@ fn read_content(
     depth: u16,
 ) -> Result<Value, Error>
     ensures ok { IfOk result (λ v. parse_content depth code content.now ≡ Some (tree_of v)) }
-    ensures err { IfErr result (λ e. ¬ (e ≡ OutOfMemory) → parse_content depth code content.now ≡ None) }
+    ensures err { IfErr result (λ e. ¬ (e ≡ OutOfMemory) →
+        parse_content depth code content.now ≡ None) }
 {
     if depth == 0 {
         return Err(Error::InvalidValue);
@@ -204,7 +205,8 @@ fn read_map(alloc: Global, count: u32, body: &[u8], depth: u16) -> Result<Value,
 // The array of the values of so many payloads, which fill the body after their constructor.
 #[cycle(read)]
 fn read_array(alloc: Global, count: u32, body: &[u8], depth: u16) -> Result<Value, Error>
-    ensures ok { IfOk result (λ v. parse_array (parse_content depth) (count, body.now) ≡ Some (tree_of v)) }
+    ensures ok { IfOk result (λ v.
+        parse_array (parse_content depth) (count, body.now) ≡ Some (tree_of v)) }
     ensures err { IfErr result (λ e. ¬ (e ≡ OutOfMemory) →
         parse_array (parse_content depth) (count, body.now) ≡ None) }
 {

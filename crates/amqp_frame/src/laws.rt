@@ -13,7 +13,8 @@ pub fn one_frame()
 
 /// Of the prefixes of a string at most one is malformed.
 pub fn one_malformed()
-    ensures { (a b x y : List ℕ) → IsMalformed a → IsMalformed b → a ++ x ≡ b ++ y → (a ≡ b) × (x ≡ y) }
+    ensures { (a b x y : List ℕ) → IsMalformed a → IsMalformed b →
+        a ++ x ≡ b ++ y → (a ≡ b) × (x ≡ y) }
 {}
 
 /// Every string has exactly one of three: an encoded value as a prefix, a malformed prefix, being

@@ -6,9 +6,8 @@ ghost use Rattle.amqp_frame.specs.Frame.{IsFrame};
 ghost use Rattle.amqp_frame.specs.Reader.{Takes};
 ghost use Rattle.amqp_frame.specs.Taking.{TakesIncomplete, TakesMalformed, FrameRefuses, DecidedBy};
 
-use crate::code::{category_of, is_primitive};
 use crate::read::Read;
-use crate::take_value::{take_byte, take_payload};
+use crate::take_value::take_value;
 use amqp_data::Error;
 use bytes::Bytes;
 use std::alloc::Global;
@@ -75,7 +74,10 @@ impl LazyValue {
         ensures kept { OnErr result (Takes (R.left reader.old) (R.left reader.new)) }
         ensures count { R.failures reader.old ≤ R.failures reader.new }
     {
-        take_value(alloc, reader)
+        match take_value(alloc, reader) {
+            Ok(bytes) => Ok(LazyValue { bytes }),
+            Err(error) => Err(error),
+        }
     }
 
     /// The bytes.
@@ -138,32 +140,4 @@ impl From<LazyValue> for Bytes {
     fn from(value: LazyValue) -> Bytes {
         value.into_bytes()
     }
-}
-
-// The next encoded value, code by code, with a count of those that are still open.
-fn take_value<R: Read>(alloc: Global, reader: &mut R) -> Result<LazyValue, Error>
-    ensures frame { IfOk result (λ value.
-        IsFrame value × Consumes (R.left reader.old) (R.left reader.new) value) }
-    ensures refused { IfErr result (FrameRefuses (R.left reader.old) (R.left reader.new)
-        (R.failures reader.old) (R.failures reader.new)
-        (TakesIncomplete (R.left reader.old) (R.left reader.new))
-        (TakesMalformed (R.left reader.old) (R.left reader.new))) }
-    ensures count { R.failures reader.old ≤ R.failures reader.new }
-{
-    let mut taken = Vec::new(alloc);
-    let mut open: u64 = 1;
-    while open > 0 {
-        let code = take_byte(reader, &mut taken)?;
-        if code == 0 {
-            open += 1;
-        } else {
-            if !is_primitive(code) {
-                return Err(Error::InvalidFormatCode);
-            }
-            take_payload(reader, &mut taken, category_of(code))?;
-            open -= 1;
-        }
-    }
-    let bytes = Bytes::from_vec(taken)?;
-    Ok(LazyValue { bytes })
 }

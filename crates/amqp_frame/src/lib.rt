@@ -13,8 +13,6 @@ mod lazy;
 mod read;
 mod readers;
 mod take_value;
-#[cfg(test)]
-mod tests;
 
 pub use frame::frame_len;
 pub use lazy::LazyValue;

@@ -1,21 +1,52 @@
-//! What is taken from a reader, and kept.
+//! The bytes of the next encoded value, taken from a reader and kept.
 
 ghost use Rattle.std.specs.Prelude.{◌≡◌, ◌≤◌, ◌<◌, [], ◌∷◌, ◌++◌, IfOk, OnOk, IfErr, IfSome, Some, length};
 ghost use Rattle.std.specs.Io.KnownBytes.{Consumes};
 ghost use Rattle.amqp_frame.specs.Code.{payload_len};
+ghost use Rattle.amqp_frame.specs.Frame.{IsFrame};
 ghost use Rattle.amqp_frame.specs.Reader.{RunsOut};
-ghost use Rattle.amqp_frame.specs.Taking.{FrameRefuses, Moves};
+ghost use Rattle.amqp_frame.specs.Taking.{FrameRefuses, Moves, TakesIncomplete, TakesMalformed};
 
-use crate::code::{Category, body_len_of, size_width_of};
+use crate::code::{Category, body_len_of, category_of, is_primitive, size_width_of};
 use crate::read::Read;
 use amqp_data::Error;
+use bytes::Bytes;
+use std::alloc::Global;
 
-// How many bytes are asked for at once, at most, so that a false size takes no more memory than there
-// are bytes.
+// How many bytes are asked for at once, at most, so that a false size takes no more memory than
+// there are bytes.
 const PIECE: usize = 4096;
 
-/// Takes one byte.
-pub fn take_byte<R: Read>(reader: &mut R, taken: &mut Vec<u8>) -> Result<u8, Error>
+/// Takes the next encoded value, code by code, with a count of those that are still open.
+pub fn take_value<R: Read>(alloc: Global, reader: &mut R) -> Result<Bytes, Error>
+    ensures frame { IfOk result (λ bytes.
+        IsFrame bytes × Consumes (R.left reader.old) (R.left reader.new) bytes) }
+    ensures refused { IfErr result (FrameRefuses (R.left reader.old) (R.left reader.new)
+        (R.failures reader.old) (R.failures reader.new)
+        (TakesIncomplete (R.left reader.old) (R.left reader.new))
+        (TakesMalformed (R.left reader.old) (R.left reader.new))) }
+    ensures count { R.failures reader.old ≤ R.failures reader.new }
+{
+    let mut taken = Vec::new(alloc);
+    let mut open: u64 = 1;
+    while open > 0 {
+        let code = take_byte(reader, &mut taken)?;
+        if code == 0 {
+            open += 1;
+        } else {
+            if !is_primitive(code) {
+                return Err(Error::InvalidFormatCode);
+            }
+            take_payload(reader, &mut taken, category_of(code))?;
+            open -= 1;
+        }
+    }
+    let bytes = Bytes::from_vec(taken)?;
+    Ok(bytes)
+}
+
+// Takes one byte.
+fn take_byte<R: Read>(reader: &mut R, taken: &mut Vec<u8>) -> Result<u8, Error>
     ensures bytes { IfOk result (λ byte. taken.new.items ≡ taken.old.items ++ byte ∷ []) }
     ensures ok { IfOk result (λ byte.
         Consumes (R.left reader.old) (R.left reader.new) (byte ∷ [])) }
@@ -31,8 +62,8 @@ pub fn take_byte<R: Read>(reader: &mut R, taken: &mut Vec<u8>) -> Result<u8, Err
     Ok(byte)
 }
 
-/// Takes a payload of this category.
-pub fn take_payload<R: Read>(
+// Takes a payload of this category.
+fn take_payload<R: Read>(
     reader: &mut R,
     taken: &mut Vec<u8>,
     category: Category,

@@ -6,8 +6,6 @@
 
 mod access;
 mod deserializer;
-#[cfg(test)]
-mod tests;
 
 pub use access::{MapAccess, SeqAccess, VariantAccess};
 pub use deserializer::{Deserializer, Elements, Entries, from_value};

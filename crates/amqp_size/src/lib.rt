@@ -12,8 +12,6 @@ mod pending;
 mod position;
 mod refusal;
 mod serializer;
-#[cfg(test)]
-mod tests;
 pub mod width;
 
 pub use compounds::{

@@ -14,8 +14,6 @@ mod pending_descriptors;
 mod pending_mark;
 mod scalars;
 mod serializer;
-#[cfg(test)]
-mod tests;
 
 pub use image::{TryFromSerializable, to_value};
 pub use serializer::{

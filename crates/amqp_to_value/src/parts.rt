@@ -67,7 +67,9 @@ impl Parts {
     pub fn add_part(&mut self, part: Value) -> Result<(), AllocError>
         ensures makes { (o : Option Trees) → compound_tree self.new o ≡ compound_tree self.old o }
         ensures step { (ts : Trees) (t : Tree) → HoldsImages self.old ts → tree_of part ≡ image t →
-            MatchResult result (λ _. HoldsImages self.new (then ts t)) (λ _. HoldsImages self.new ts) }
+            MatchResult result
+            (λ _. HoldsImages self.new (then ts t))
+            (λ _. HoldsImages self.new ts) }
     {
         match self {
             Parts::List(items) => gather(items, part),
@@ -98,7 +100,8 @@ impl Parts {
     /// The value of the compound.
     #[inline(always)]
     pub fn into_value(self, alloc: Global) -> Result<Value, Error>
-        ensures { (ts : Trees) → HoldsImages self ts → IsImageOf (compound_tree self (Some ts)) result }
+        ensures { (ts : Trees) → HoldsImages self ts →
+            IsImageOf (compound_tree self (Some ts)) result }
     {
         match self {
             Parts::List(items) => Ok(Value::List(items)),

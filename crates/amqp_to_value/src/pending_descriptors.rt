@@ -25,7 +25,12 @@ pub struct PendingDescriptors {
 impl Model for PendingDescriptors {
     ghost Value = { DescriptorsState };
 
-    ghost view = { λ a. record { kept = descriptors_of (take a.kept a.stack.items); later = descriptors_of (drop a.kept a.stack.items); next = a.next; room = vec_capacity a.stack } };
+    ghost view = { λ a. record {
+      kept = descriptors_of (take a.kept a.stack.items);
+      later = descriptors_of (drop a.kept a.stack.items);
+      next = a.next;
+      room = vec_capacity a.stack;
+    } };
 }
 
 /// What a compound stands in: where the first is, and where the last ends.
@@ -213,7 +218,8 @@ fn unwrap_from(
     ensures { (ds : List Content) (t : Tree) → count ≡ length ds →
         vec_len stack.old + count ≤ vec_capacity stack.old → tree_of value ≡ described_in ds t →
         MatchResult result
-        (λ v. (tree_of v ≡ t) × (descriptors_of stack.new.items ≡ descriptors_of stack.old.items ++ ds))
+        (λ v. (tree_of v ≡ t)
+        × (descriptors_of stack.new.items ≡ descriptors_of stack.old.items ++ ds))
         (λ _. ⊥) }
 {
     let mut value = value;

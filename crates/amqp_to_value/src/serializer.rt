@@ -86,7 +86,8 @@ impl Serializer {
         ensures { (start : Serializer) (t : Option Tree) →
             self.old.descriptors.kept ≡ start.descriptors.kept →
             standing self.old.descriptors ≡ standing start.descriptors →
-            self.old.pending ≡ PendingMark.Mark Mark.Other → IsImageOf (meant start.pending t) answer →
+            self.old.pending ≡ PendingMark.Mark Mark.Other →
+            IsImageOf (meant start.pending t) answer →
             value_permits start t result self.new }
     {
         match answer {
@@ -156,7 +157,8 @@ impl amqp_ser::Serializer for Serializer {
     fn begin(&mut self, kind: Kind) -> OpenValue
         ensures opened { value_has self.old kind self.new result [] }
         // What refused values left is let go.
-        ensures held { all_held self.new ≡ self.old.descriptors.kept ++ standing self.old.descriptors }
+        ensures held { all_held self.new
+            ≡ self.old.descriptors.kept ++ standing self.old.descriptors }
     {
         let pending = self.take_pending();
         let saved = self.descriptors.save();

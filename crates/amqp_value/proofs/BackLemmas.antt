@@ -1,5 +1,5 @@
 -- The trees of scalars, and how each comes back out of its value.
-use Rattle.std.proofs.Common.{◌≡◌, ℕ, ℤ, Bool, Option, Some, Result, Ok, ok_or, String, Global, string_bytes, refl, ap, ◌∙◌, rules}
+use Rattle.std.proofs.Common.{◌≡◌, ℕ, ℤ, Bool, Option, Some, ok_or, String, Global, string_bytes, ap, ◌∙◌, rules}
 use Rattle.amqp_data.specs.Fixed.{f32_bits, f64_bits, dec32_bytes, dec64_bytes, dec128_bytes, milliseconds_of, uuid_bytes}
 use Rattle.amqp_data.specs.Items.{byte_buf_bytes}
 use Rattle.amqp_data.specs.Text.{symbol_text}

@@ -1,8 +1,8 @@
 -- The one code of an array's elements.
-use Rattle.std.proofs.Common.{◌≡◌, ℕ, Bool, true, false, true≢false, ◌&&◌, nat_eq, Option, Some, None, is_some, [], ◌∷◌, refl, sym, ap, arith}
+use Rattle.std.proofs.Common.{◌≡◌, ℕ, Bool, true, false, true≢false, ◌&&◌, nat_eq, Option, Some, None, is_some, refl, sym, ap, arith}
 use Rattle.std.proofs.lemmas.Grind.{common_steps}
 use Rattle.amqp_ser.specs.Tree.{Tree, Trees, scalar, list, array, map, described, variant, lazy, transparent, no_trees, more}
-use Rattle.amqp_ser.specs.Encoding.{constructor, array_constructor, code_list}
+use Rattle.amqp_ser.specs.Encoding.{constructor, code_list}
 use Rattle.amqp_ser.specs.Writable.{same_constructor, each_constructor, one_constructor, within_limits, uniform_arrays, uniform_arrays_each, placed, writable}
 use Rattle.amqp_value.specs.Image.{image}
 use Rattle.amqp_value.specs.FormatCode.{code_or_zero, AllHaveCode, HasOneCode}

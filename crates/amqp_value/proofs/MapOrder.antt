@@ -4,7 +4,7 @@ use Rattle.std.specs.Cmp.Lexicographic.{pointwise}
 use Rattle.amqp_data.specs.Pairs.{entries_of}
 use Rattle.amqp_data.specs.declared.ordered_map.OrderedMap.{OrderedMap}
 use Rattle.amqp_ser.specs.Same.{same_tree, same_pairs}
-use Rattle.amqp_value.specs.TreeOf.{tree_of, pairs_trees}
+use Rattle.amqp_value.specs.TreeOf.{pairs_trees}
 use Rattle.amqp_value.specs.declared.value.Value.{Value}
 use Rattle.amqp_value.specs.declared.value.Value.TheVariants as kind
 use Rattle.amqp_value.proofs.Sameness.{equal, equal-is_same}

@@ -1,5 +1,5 @@
 -- `cmp` of values is the order of their trees.
-use Rattle.std.proofs.Common.{◌≡◌, List, [], ◌∷◌, map, string_bytes, refl, sym, ap, ◌∙◌, subst}
+use Rattle.std.proofs.Common.{◌≡◌, List, [], ◌∷◌, map, string_bytes, refl}
 use Rattle.std.specs.Ordering.{nat_cmp, int_cmp, bool_cmp, ordering_then}
 use Rattle.std.specs.declared.cmp.Ordering.{Ordering}
 use Rattle.std.specs.declared.cmp.Ordering.TheVariants.{Less, Equal, Greater}
@@ -8,15 +8,15 @@ use Rattle.amqp_data.specs.contracts.descriptor.DescriptorOrd.TheImpl as descrip
 use Rattle.amqp_data.specs.declared.descriptor.Descriptor.{Descriptor}
 use Rattle.amqp_data.specs.declared.descriptor.Descriptor.TheVariants.{Name, Code}
 use Rattle.amqp_ser.specs.Carried.{descriptor_content}
-use Rattle.amqp_ser.specs.Tree.{Tree}
 use Rattle.amqp_value.specs.Order.{cmp_tree, cmp_trees, cmp_pairs, cmp_bytes, cmp_descriptor}
-use Rattle.amqp_value.specs.TreeOf.{tree_of, tree_step, all_of, pairs_trees}
-use Rattle.amqp_value.specs.declared.value.Value.{Value, out-Value, roll-Value, out-roll-Value, roll-out-Value, ind-Value, map-Value, fold-roll-Value}
+use Rattle.amqp_value.specs.TreeOf.{tree_of, all_of, pairs_trees}
+use Rattle.amqp_value.specs.declared.value.Value.{Value, out-Value, map-Value}
 use Rattle.amqp_value.specs.declared.value.Value.TheOpen.{Value-F}
 use Rattle.amqp_value.specs.declared.value.Value.TheBlock.{split-Value}
 use Rattle.amqp_value.specs.contracts.value.Value as row
 use Rattle.amqp_value.specs.contracts.value.ValueOrd.TheImpl as ord
 use Rattle.amqp_value.specs.contracts.value.ValueOrd.TheImpl.Laws as laws
+use Rattle.amqp_value.proofs.LevelLemmas.{layer, Such, plain, both, agree}
 use denote.Enum.Compared.{by}
 
 -- `cmp` of values
@@ -102,35 +102,23 @@ level x z = by Less Greater (row.enum).parts (
 opened : (a b : Value) → compare a b ≡ level (out-Value a) (out-Value b)
 opened a b = laws.is a b
 
-rolled : (x z : Value-F Value) → compare (roll-Value x) (roll-Value z) ≡ level x z
-rolled x z =
-    opened (roll-Value x) (roll-Value z) ∙ ap (λ u. level u (out-Value (roll-Value z))) (out-roll-Value x)
-    ∙ ap (λ u. level x u) (out-roll-Value z)
+abbrev Elements : Type 0
+Elements = Such compare cmp_tree
 
-abbrev Compared : Value → Type 0
-Compared a = (b : Value) → compare a b ≡ cmp_tree (tree_of a) (tree_of b)
+abbrev value : Elements → Value
+value e = plain compare cmp_tree e
 
-abbrev Such : Type 0
-Such = (a : Value) × Compared a
-
-abbrev plain : Such → Value
-plain e = e.0
-
--- one level of the tree
-abbrev layer : Value-F Value → Tree
-layer x = tree_step (map-Value Value Tree tree_of x)
-
-lists : (es : List Such) (ws : List Value) → slice_cmp compare (map plain es) ws ≡ cmp_trees (all_of (map plain es)) (all_of ws)
+lists : (es : List Elements) (ws : List Value) → slice_cmp compare (map value es) ws ≡ cmp_trees (all_of (map value es)) (all_of ws)
 lists [] [] = refl
 lists [] (w ∷ ws) = refl
 lists (e ∷ es) [] = refl
 lists (e ∷ es) (w ∷ ws) = λ i. ordering_then (e.1 w i) (lists es ws i)
 
-abbrev both : Such × Such → Value × Value
-both e = (plain e.0, plain e.1)
+abbrev pair : Elements × Elements → Value × Value
+pair e = both compare cmp_tree e
 
-entries : (es : List (Such × Such)) (ws : List (Value × Value))
-    → slice_cmp {A = Value × Value} (λ p q. ordering_then (compare p.0 q.0) (compare p.1 q.1)) (map both es) ws ≡ cmp_pairs (pairs_trees (map both es)) (pairs_trees ws)
+entries : (es : List (Elements × Elements)) (ws : List (Value × Value))
+    → slice_cmp {A = Value × Value} (λ p q. ordering_then (compare p.0 q.0) (compare p.1 q.1)) (map pair es) ws ≡ cmp_pairs (pairs_trees (map pair es)) (pairs_trees ws)
 entries [] [] = refl
 entries [] (w ∷ ws) = refl
 entries (e ∷ es) [] = refl
@@ -142,7 +130,7 @@ descriptors (Name s) (Code n) = refl
 descriptors (Code m) (Name t) = refl
 descriptors (Code m) (Code n) = refl
 
-core : (y : Value-F Such) (z : Value-F Value) → level (map-Value Such Value plain y) z ≡ cmp_tree (layer (map-Value Such Value plain y)) (layer z)
+core : (y : Value-F Elements) (z : Value-F Value) → level (map-Value Elements Value value y) z ≡ cmp_tree (layer (map-Value Elements Value value y)) (layer z)
 core (Value-F.Described d) (Value-F.Described e) = λ i. ordering_then (descriptors d.value.descriptor e.value.descriptor i) (d.value.value.1 e.value.value i)
 core Value-F.Null Value-F.Null = refl
 core (Value-F.Bool a) (Value-F.Bool b) = refl
@@ -170,20 +158,6 @@ core (Value-F.Map m) (Value-F.Map n) = entries m.entries.items n.entries.items
 core (Value-F.Array v) (Value-F.Array w) = lists v.0.items w.0.items
 core _ _ = refl
 
-module _ (y : Value-F Such) where
-  -- a value whose parts have the property
-  abbrev built : Value
-  built = roll-Value (map-Value Such Value plain y)
-
-  rolls : (z : Value-F Value) → compare built (roll-Value z) ≡ cmp_tree (tree_of built) (tree_of (roll-Value z))
-  rolls z =
-      rolled (map-Value Such Value plain y) z ∙ core y z
-      ∙ ap (λ t. cmp_tree t (layer z)) (sym (fold-roll-Value Tree tree_step (map-Value Such Value plain y)))
-      ∙ ap (λ t. cmp_tree (tree_of built) t) (sym (fold-roll-Value Tree tree_step z))
-
-  compared_built : Compared built
-  compared_built b = subst (λ c. compare built c ≡ cmp_tree (tree_of built) (tree_of c)) (roll-out-Value b) (rolls (out-Value b))
-
 -- two values compare as their trees do
 pub compare-is_order : (a b : Value) → compare a b ≡ cmp_tree (tree_of a) (tree_of b)
-compare-is_order = ind-Value Compared (λ x y is. subst (λ z. Compared (roll-Value z)) is (compared_built y))
+compare-is_order = agree compare cmp_tree level opened core

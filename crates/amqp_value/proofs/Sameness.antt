@@ -1,21 +1,21 @@
 -- `==` of values is sameness of their trees.
-use Rattle.std.proofs.Common.{◌≡◌, Bool, true, false, ◌&&◌, ◌==◌, List, [], ◌∷◌, map, string_bytes, refl, sym, ap, ◌∙◌, subst}
+use Rattle.std.proofs.Common.{◌≡◌, Bool, true, false, ◌&&◌, ◌==◌, List, [], ◌∷◌, map, string_bytes, refl}
 use Rattle.std.specs.Ordering.{int_eq}
 use Rattle.std.specs.Cmp.Lexicographic.{pointwise}
 use Rattle.amqp_data.specs.contracts.descriptor.DescriptorPartialEq.TheImpl as descriptor_eq
 use Rattle.amqp_data.specs.declared.descriptor.Descriptor.{Descriptor}
 use Rattle.amqp_data.specs.declared.descriptor.Descriptor.TheVariants.{Name, Code}
 use Rattle.amqp_ser.specs.Carried.{descriptor_content}
-use Rattle.amqp_ser.specs.Tree.{Tree}
 use Rattle.amqp_ser.specs.Same.{same_tree, same_trees, same_pairs, same_bytes, same_bool, same_descriptor}
-use Rattle.amqp_value.specs.TreeOf.{tree_of, tree_step, all_of, pairs_trees}
-use Rattle.amqp_value.specs.declared.value.Value.{Value, out-Value, roll-Value, out-roll-Value, roll-out-Value, ind-Value, map-Value, fold-roll-Value}
+use Rattle.amqp_value.specs.TreeOf.{tree_of, all_of, pairs_trees}
+use Rattle.amqp_value.specs.declared.value.Value.{Value, out-Value, map-Value}
 use Rattle.amqp_value.specs.declared.value.Value.TheOpen.{Value-F}
 use Rattle.amqp_value.specs.declared.value.Value.TheBlock.{split-Value}
 use Rattle.amqp_value.specs.contracts.value.Value as row
 use Rattle.amqp_value.specs.contracts.value.ValuePartialEq.TheImpl as eq
 use Rattle.amqp_value.specs.contracts.value.ValuePartialEq.TheImpl.Laws as laws
 use Rattle.std.specs.contracts.prelude.BoolPartialEq.TheImpl as bool_eq
+use Rattle.amqp_value.proofs.LevelLemmas.{layer, Such, plain, both, agree}
 use denote.Enum.Compared.{by}
 
 -- `==` of values
@@ -101,35 +101,23 @@ level x z = by false false (row.enum).parts (
 opened : (a b : Value) → equal a b ≡ level (out-Value a) (out-Value b)
 opened a b = laws.is a b
 
-rolled : (x z : Value-F Value) → equal (roll-Value x) (roll-Value z) ≡ level x z
-rolled x z =
-    opened (roll-Value x) (roll-Value z) ∙ ap (λ u. level u (out-Value (roll-Value z))) (out-roll-Value x)
-    ∙ ap (λ u. level x u) (out-roll-Value z)
+abbrev Elements : Type 0
+Elements = Such equal same_tree
 
-abbrev Same : Value → Type 0
-Same a = (b : Value) → equal a b ≡ same_tree (tree_of a) (tree_of b)
+abbrev value : Elements → Value
+value e = plain equal same_tree e
 
-abbrev Such : Type 0
-Such = (a : Value) × Same a
-
-abbrev plain : Such → Value
-plain e = e.0
-
--- one level of the tree
-abbrev layer : Value-F Value → Tree
-layer x = tree_step (map-Value Value Tree tree_of x)
-
-lists : (es : List Such) (ws : List Value) → pointwise equal (map plain es) ws ≡ same_trees (all_of (map plain es)) (all_of ws)
+lists : (es : List Elements) (ws : List Value) → pointwise equal (map value es) ws ≡ same_trees (all_of (map value es)) (all_of ws)
 lists [] [] = refl
 lists [] (w ∷ ws) = refl
 lists (e ∷ es) [] = refl
 lists (e ∷ es) (w ∷ ws) = λ i. e.1 w i && lists es ws i
 
-abbrev both : Such × Such → Value × Value
-both e = (plain e.0, plain e.1)
+abbrev pair : Elements × Elements → Value × Value
+pair e = both equal same_tree e
 
-entries : (es : List (Such × Such)) (ws : List (Value × Value))
-    → pointwise {A = Value × Value} (λ p q. equal p.0 q.0 && equal p.1 q.1) (map both es) ws ≡ same_pairs (pairs_trees (map both es)) (pairs_trees ws)
+entries : (es : List (Elements × Elements)) (ws : List (Value × Value))
+    → pointwise {A = Value × Value} (λ p q. equal p.0 q.0 && equal p.1 q.1) (map pair es) ws ≡ same_pairs (pairs_trees (map pair es)) (pairs_trees ws)
 entries [] [] = refl
 entries [] (w ∷ ws) = refl
 entries (e ∷ es) [] = refl
@@ -147,7 +135,7 @@ descriptors (Name s) (Code n) = refl
 descriptors (Code m) (Name t) = refl
 descriptors (Code m) (Code n) = refl
 
-core : (y : Value-F Such) (z : Value-F Value) → level (map-Value Such Value plain y) z ≡ same_tree (layer (map-Value Such Value plain y)) (layer z)
+core : (y : Value-F Elements) (z : Value-F Value) → level (map-Value Elements Value value y) z ≡ same_tree (layer (map-Value Elements Value value y)) (layer z)
 core (Value-F.Described d) (Value-F.Described e) = λ i. descriptors d.value.descriptor e.value.descriptor i && d.value.value.1 e.value.value i
 core Value-F.Null Value-F.Null = refl
 core (Value-F.Bool a) (Value-F.Bool b) = bools a b
@@ -175,20 +163,6 @@ core (Value-F.Map m) (Value-F.Map n) = entries m.entries.items n.entries.items
 core (Value-F.Array v) (Value-F.Array w) = lists v.0.items w.0.items
 core _ _ = refl
 
-module _ (y : Value-F Such) where
-  -- a value whose parts have the property
-  abbrev built : Value
-  built = roll-Value (map-Value Such Value plain y)
-
-  rolls : (z : Value-F Value) → equal built (roll-Value z) ≡ same_tree (tree_of built) (tree_of (roll-Value z))
-  rolls z =
-      rolled (map-Value Such Value plain y) z ∙ core y z
-      ∙ ap (λ t. same_tree t (layer z)) (sym (fold-roll-Value Tree tree_step (map-Value Such Value plain y)))
-      ∙ ap (λ t. same_tree (tree_of built) t) (sym (fold-roll-Value Tree tree_step z))
-
-  same_built : Same built
-  same_built b = subst (λ c. equal built c ≡ same_tree (tree_of built) (tree_of c)) (roll-out-Value b) (rolls (out-Value b))
-
 -- two values are equal exactly where their trees are the same
 pub equal-is_same : (a b : Value) → equal a b ≡ same_tree (tree_of a) (tree_of b)
-equal-is_same = ind-Value Same (λ x y is. subst (λ z. Same (roll-Value z)) is (same_built y))
+equal-is_same = agree equal same_tree level opened core

@@ -7,7 +7,7 @@ use Rattle.amqp_data.specs.declared.described.Described.{Described}
 use Rattle.amqp_data.specs.declared.ordered_map.OrderedMap as ordered_map
 use Rattle.amqp_ser.specs.Carried.{descriptor_content}
 use Rattle.amqp_ser.specs.Tree as tree
-use Rattle.amqp_ser.specs.Tree.{Tree, Trees, Pairs, trees_of, more, pair}
+use Rattle.amqp_ser.specs.Tree.{Tree, trees_of, more, pair}
 use Rattle.amqp_ser.specs.Compounds.{all_trees, prepend, prepend_pair, in_pairs, as_map, as_kind, whole, parts_of}
 use Rattle.amqp_ser.specs.Marked.{marked}
 use Rattle.amqp_ser.specs.declared.kind.Kind.TheVariants as kind

@@ -1,5 +1,5 @@
 -- Lists whose items are related place by place, and what an iterator of a vector has given.
-use Rattle.std.proofs.Common.{◌≡◌, List, [], ◌∷◌, ◌++◌, ◌∙◌, ap, sym, subst, refl, fold, Option, Some, Bool, true, false, Result, Ok, Err, is_ok, OnOk, true≢false}
+use Rattle.std.proofs.Common.{◌≡◌, List, [], ◌∷◌, ◌++◌, ◌∙◌, ap, sym, subst, refl, fold, Some, true, Result, Ok, Err, is_ok, OnOk, true≢false}
 use Rattle.std.specs.Iterator.{Yields}
 use Rattle.std.specs.List.{AllZip}
 use Rattle.std.specs.Vec.Iter.{into_iter_items, into_iter_steps}

@@ -13,8 +13,6 @@ mod restricted;
 mod sections;
 mod sessions;
 mod termini;
-#[cfg(test)]
-mod tests;
 mod values;
 
 pub use delivery::{Disposition, Flow, Transfer};

@@ -2,9 +2,9 @@
 use Rattle.std.specs.Prelude.{ℕ, [], ◌∷◌, Option}
 use Rattle.std.specs.declared.string.String.{String}
 use Rattle.std.specs.declared.alloc.Global.{Global}
-use Rattle.amqp_de.specs.declared.enums.Never.{Never}
-use Rattle.amqp_de.specs.declared.enums.OneOf.{OneOf}
-use Rattle.amqp_de.specs.declared.enums.OneOf.TheVariants.{This, Other}
+use Rattle.amqp_de.specs.declared.enums.variants.Never.{Never}
+use Rattle.amqp_de.specs.declared.enums.variants.OneOf.{OneOf}
+use Rattle.amqp_de.specs.declared.enums.variants.OneOf.TheVariants.{This, Other}
 use Rattle.amqp_ser.specs.Carried.{optional}
 use Rattle.amqp_ser.specs.Compounds.{whole}
 use Rattle.amqp_ser.specs.Tree.{Tree}

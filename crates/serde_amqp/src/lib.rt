@@ -23,6 +23,7 @@ pub mod primitives;
 pub mod read;
 pub mod ser;
 pub mod size_ser;
+mod split_lines;
 pub mod value;
 mod write;
 mod writers;

@@ -10,7 +10,8 @@ ghost use Rattle.serde_amqp.specs.Lines.{texts, strings_tree, three_lines, repor
 ghost use Rattle.serde_amqp.specs.LinesRun.{IsReportable, IsTooLong, LinesRefuses, LinesDecidedBy};
 
 use crate::hexadecimal::push_hexadecimal;
-use crate::input::{read_to_end, split_lines};
+use crate::input::read_to_end;
+use crate::split_lines::split_lines;
 use crate::write::Write;
 use amqp_data::Error;
 use amqp_frame::Read;

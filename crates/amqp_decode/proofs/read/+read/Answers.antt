@@ -2,7 +2,7 @@ use Rattle.std.proofs.Common.{rules, ◌≡◌, [], ◌∷◌, ◌++◌, Some, N
 use Rattle.amqp_value.specs.TreeOf.{tree_of, pairs_trees}
 use Rattle.amqp_decode.specs.Codes.{primitive_of}
 use Rattle.amqp_decode.specs.Parsed.{parse, parse_content, payload_in, parse_list, parse_map, parse_array, insert}
-use Rattle.amqp_decode.proofs.MapLemmas.{pairs_trees-insert_entry}
+use Rattle.amqp_value.proofs.MapLemmas.{pairs_trees-insert_entry}
 use Rattle.amqp_decode.proofs.Steps.{parse_content-zero, parse_content-at, parse-zero, parse-at, values-next, insert-next, insert-no_key, insert-no_value, list-none, map-none, array-none}
 use Rattle.amqp_decode.proofs.read.+read.Goals as goal
 

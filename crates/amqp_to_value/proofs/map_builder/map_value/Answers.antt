@@ -2,7 +2,7 @@ use Rattle.std.proofs.Common.{sym, ◌∙◌, subst}
 use Rattle.std.specs.Map.{keys_of}
 use Rattle.amqp_data.specs.Pairs.{AreDistinct}
 use Rattle.amqp_value.proofs.Sameness.{equal}
-use Rattle.amqp_to_value.proofs.MapLemmas.{distinct}
+use Rattle.amqp_value.proofs.MapLemmas.{distinct}
 use Rattle.amqp_to_value.proofs.map_builder.map_value.Goals as goal
 
 pub from_distinct-requires : goal.from_distinct-requires

@@ -1,9 +1,12 @@
+use Rattle.std.proofs.Common.{Ok, Err}
 use Rattle.amqp_frame.proofs.Ends.{decided, kept}
 use Rattle.amqp_frame.proofs.lazy.LazyValue.from_reader.Goals as goal
 
-pub returns-clause-exact : goal.returns-clause-exact
-returns-clause-exact g c = decided c.take_value.result (λ v. v) _ _ _ _ c.take_value.ensures.frame
-    c.take_value.ensures.refused
+pub returns-in-Ok-clause-exact : goal.returns-in-Ok-clause-exact
+returns-in-Ok-clause-exact g c = decided (Ok c.in-Ok.bytes) (λ v. v) _ _ 0 0 c.in-Ok.ensures.frame tt
 
-pub returns-clause-kept : goal.returns-clause-kept
-returns-clause-kept g c = kept c.take_value.result _ _ _ _ c.take_value.ensures.refused
+pub returns-in-Err-clause-exact : goal.returns-in-Err-clause-exact
+returns-in-Err-clause-exact g c = decided (Err c.in-Err.error) (λ v. v) _ _ _ _ tt c.in-Err.ensures.refused
+
+pub returns-in-Err-clause-kept : goal.returns-in-Err-clause-kept
+returns-in-Err-clause-kept g c = kept (Err c.in-Err.error) _ _ _ _ c.in-Err.ensures.refused

@@ -1,4 +1,3 @@
-use Rattle.std.proofs.Common.{◌≡◌}
 use Rattle.std.specs.List.{AllZip}
 use Rattle.amqp_value.proofs.from.containers.convert_items.Given as goal
 

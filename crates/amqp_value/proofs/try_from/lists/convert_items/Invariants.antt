@@ -1,4 +1,3 @@
-use Rattle.std.proofs.Common.{◌≡◌}
 use Rattle.std.specs.List.{AllZip}
 use Rattle.amqp_value.specs.Converts.{Fits}
 use Rattle.amqp_value.proofs.try_from.lists.convert_items.Given as goal

@@ -1,10 +1,6 @@
-use Rattle.std.proofs.Common.{◌≡◌, List, [], ◌∷◌, ◌++◌, rules, sym, ap, ◌∙◌}
-use Rattle.amqp_data.specs.Pairs.{entries_of, insert_pair}
+use Rattle.std.proofs.Common.{◌≡◌, [], ◌∷◌, ◌++◌, rules, sym, ap, ◌∙◌}
 use Rattle.indexmap.specs.IndexMap as index
-use Rattle.std.specs.BTreeMap as tree
-use Rattle.std.specs.HashMap as hashed
-use Rattle.std.specs.Map.{update}
-use Rattle.amqp_value.specs.Converts.{PairFits, PairFails, inserted, inserted_sorted}
+use Rattle.amqp_value.specs.Converts.{PairFits, PairFails}
 use Rattle.amqp_value.proofs.Zips.{zip_push, fold_push, pair_stops, wants_memory}
 use Rattle.amqp_value.proofs.try_from.maps.convert_indexed.Goals as goal
 

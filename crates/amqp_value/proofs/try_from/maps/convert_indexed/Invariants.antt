@@ -1,9 +1,7 @@
 use Rattle.std.proofs.Common.{◌≡◌, List, []}
 use Rattle.std.specs.List.{AllZip}
-use Rattle.std.specs.HashMap.{IsFromIterResult}
-use Rattle.amqp_data.specs.Pairs.{entries_of}
 use Rattle.indexmap.specs.IndexMap.{insert_all}
-use Rattle.amqp_value.specs.Converts.{PairFits, inserted, inserted_sorted}
+use Rattle.amqp_value.specs.Converts.{PairFits}
 use Rattle.amqp_value.proofs.try_from.maps.convert_indexed.Given as goal
 
 abbrev pub invariant-loop-key : goal.invariant-loop-key

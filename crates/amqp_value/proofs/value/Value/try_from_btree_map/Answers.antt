@@ -1,4 +1,4 @@
-use Rattle.std.proofs.Common.{◌≡◌, List, [], ◌∷◌, ◌++◌, rules, sym, ap, ◌∙◌}
+use Rattle.std.proofs.Common.{◌≡◌, [], ◌∷◌, ◌++◌, rules, sym, ap, ◌∙◌}
 use Rattle.amqp_data.specs.Pairs.{entries_of, insert_pair}
 use Rattle.amqp_value.specs.Converts.{PairConverts}
 use Rattle.amqp_value.specs.declared.value.Value.{Value}

@@ -1,4 +1,3 @@
-use Rattle.std.proofs.Common.{◌≡◌, List, []}
 use Rattle.amqp_value.specs.Converts.{IsMapOf}
 use Rattle.amqp_value.specs.contracts.value.ValuePartialEq.TheImpl as eq
 use Rattle.amqp_value.proofs.value.Value.try_from_btree_map.Given as goal

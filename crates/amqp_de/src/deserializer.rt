@@ -1,0 +1,611 @@
+//! What a type is read out of.
+
+ghost use Rattle.std.specs.Prelude.{◌≡◌, ◌↔◌, IsTrue, List, false};
+ghost use Rattle.amqp_ser.specs.Marked.{is_descriptor_name, is_value_name, mark_of};
+ghost use Rattle.amqp_ser.specs.Tree.{Tree, scalar, null, bool, ubyte, ushort, uint, ulong, byte, short, int, long, float, double, char, string, binary};
+ghost use Rattle.amqp_value.specs.TreeOf.{tree_of};
+ghost use Rattle.amqp_de.specs.Answers.{Answers, TakesNext, TakesPair, TakesNamed};
+ghost use Rattle.amqp_de.specs.ContentTree.{content_tree};
+ghost use Rattle.amqp_de.specs.Events.{plain_event, any_event, is_index, is_described_name, Returns, ByPlain, ByOption, ByUnit, ByList, ByMap, ByIdentifier, ByDescribed, ByStruct, ByDescriptor, ByVariant, ByEnum, ByArray, ByMark};
+
+use crate::access::{ElementsOf, EntriesOf, VariantOf};
+use crate::content::Content;
+use crate::names::{is_described_name, is_descriptor_name, is_value_name};
+use crate::refusal::Refusal;
+use crate::untyped;
+use crate::visitor::Visitor;
+use amqp_ser::{Mark, mark_named};
+use amqp_value::Value;
+
+/// What a type is read out of: it holds a tree, and gives it away level by level.
+///
+/// The calls `deserialize_..` show a visitor what it holds.
+///
+/// # Errors
+/// A call `deserialize_..` is invalid where a value of another kind is held than it takes. An enum's empty list or map
+/// has the message `Expecting a Value`. Otherwise the answer is the visitor's.
+///
+/// # Implementer notes
+/// The seven calls above the first `deserialize_..` are to be written.
+pub trait Deserializer: Sized + Drop {
+    /// The refusals of what is read.
+    type Error: Refusal;
+
+    /// The elements of a list or an array that were not taken yet.
+    type Elements: Drop;
+
+    /// The pairs of a map that were not taken yet.
+    type Entries: Drop;
+
+    /// The tree that it holds.
+    ghost value: { Self → Tree };
+
+    /// The trees of the elements, in order.
+    ghost items: { Self.Elements → List Tree };
+
+    /// The trees of the keys and values, in order.
+    ghost pairs: { Self.Entries → List (Tree × Tree) };
+
+    /// Whether it holds null.
+    fn is_null(&self) -> bool
+        ensures { IsTrue result ↔ value self.now ≡ scalar null };
+
+    /// Whether it holds what a variant's index may be: a uint or a symbol.
+    fn is_index(&self) -> bool
+        ensures { result ≡ is_index (value self.now) };
+
+    /// Opens the first level.
+    fn open(self) -> Content<Self, Self::Elements, Self::Entries>
+        ensures { content_tree value items pairs result ≡ value self };
+
+    /// The whole, as an untyped value.
+    fn into_value(self) -> Value
+        ensures { tree_of result ≡ value self };
+
+    /// Takes the next element.
+    fn next_element(elements: &mut Self::Elements) -> Option<Self>
+        ensures { TakesNext value (items elements.old) (items elements.new) result };
+
+    /// Takes the next pair.
+    fn next_pair(entries: &mut Self::Entries) -> Option<(Self, Self)>
+        ensures { TakesPair value (pairs entries.old) (pairs entries.new) result };
+
+    /// Takes the value of the first key that is the string of this name.
+    fn take_named(entries: &mut Self::Entries, name: &str) -> Option<Self>
+        ensures { TakesNamed value name.now (pairs entries.old) (pairs entries.new) result };
+
+    /// Whether texts for people are held: never.
+    final fn is_human_readable(&self) -> bool
+        ensures { result ≡ false }
+    {
+        false
+    }
+
+    /// Deserializes a `bool`.
+    final fn deserialize_bool<V: Visitor>(self, visitor: V) -> Result<V::Value, Self::Error>
+        ensures read { Answers Self.Error.is_memory
+            (ByPlain (V.gives visitor) bool (value self)) result }
+        ensures law { Returns (ByPlain (V.stands visitor) bool (value self))
+            V.same Self.Error.is_memory result }
+    {
+        match self.open() {
+            Content::Bool(value) => visitor.visit_bool(value),
+            _ => Err(Self::Error::invalid()),
+        }
+    }
+
+    /// Deserializes a `u8`.
+    final fn deserialize_u8<V: Visitor>(self, visitor: V) -> Result<V::Value, Self::Error>
+        ensures read { Answers Self.Error.is_memory
+            (ByPlain (V.gives visitor) ubyte (value self)) result }
+        ensures law { Returns (ByPlain (V.stands visitor) ubyte (value self))
+            V.same Self.Error.is_memory result }
+    {
+        match self.open() {
+            Content::Ubyte(value) => visitor.visit_u8(value),
+            _ => Err(Self::Error::invalid()),
+        }
+    }
+
+    /// Deserializes a `u16`.
+    final fn deserialize_u16<V: Visitor>(self, visitor: V) -> Result<V::Value, Self::Error>
+        ensures read { Answers Self.Error.is_memory
+            (ByPlain (V.gives visitor) ushort (value self)) result }
+        ensures law { Returns (ByPlain (V.stands visitor) ushort (value self))
+            V.same Self.Error.is_memory result }
+    {
+        match self.open() {
+            Content::Ushort(value) => visitor.visit_u16(value),
+            _ => Err(Self::Error::invalid()),
+        }
+    }
+
+    /// Deserializes a `u32`.
+    final fn deserialize_u32<V: Visitor>(self, visitor: V) -> Result<V::Value, Self::Error>
+        ensures read { Answers Self.Error.is_memory
+            (ByPlain (V.gives visitor) uint (value self)) result }
+        ensures law { Returns (ByPlain (V.stands visitor) uint (value self))
+            V.same Self.Error.is_memory result }
+    {
+        match self.open() {
+            Content::Uint(value) => visitor.visit_u32(value),
+            _ => Err(Self::Error::invalid()),
+        }
+    }
+
+    /// Deserializes a `u64`.
+    final fn deserialize_u64<V: Visitor>(self, visitor: V) -> Result<V::Value, Self::Error>
+        ensures read { Answers Self.Error.is_memory
+            (ByPlain (V.gives visitor) ulong (value self)) result }
+        ensures law { Returns (ByPlain (V.stands visitor) ulong (value self))
+            V.same Self.Error.is_memory result }
+    {
+        match self.open() {
+            Content::Ulong(value) => visitor.visit_u64(value),
+            _ => Err(Self::Error::invalid()),
+        }
+    }
+
+    /// Deserializes an `i8`.
+    final fn deserialize_i8<V: Visitor>(self, visitor: V) -> Result<V::Value, Self::Error>
+        ensures read { Answers Self.Error.is_memory
+            (ByPlain (V.gives visitor) byte (value self)) result }
+        ensures law { Returns (ByPlain (V.stands visitor) byte (value self))
+            V.same Self.Error.is_memory result }
+    {
+        match self.open() {
+            Content::Byte(value) => visitor.visit_i8(value),
+            _ => Err(Self::Error::invalid()),
+        }
+    }
+
+    /// Deserializes an `i16`.
+    final fn deserialize_i16<V: Visitor>(self, visitor: V) -> Result<V::Value, Self::Error>
+        ensures read { Answers Self.Error.is_memory
+            (ByPlain (V.gives visitor) short (value self)) result }
+        ensures law { Returns (ByPlain (V.stands visitor) short (value self))
+            V.same Self.Error.is_memory result }
+    {
+        match self.open() {
+            Content::Short(value) => visitor.visit_i16(value),
+            _ => Err(Self::Error::invalid()),
+        }
+    }
+
+    /// Deserializes an `i32`.
+    final fn deserialize_i32<V: Visitor>(self, visitor: V) -> Result<V::Value, Self::Error>
+        ensures read { Answers Self.Error.is_memory
+            (ByPlain (V.gives visitor) int (value self)) result }
+        ensures law { Returns (ByPlain (V.stands visitor) int (value self))
+            V.same Self.Error.is_memory result }
+    {
+        match self.open() {
+            Content::Int(value) => visitor.visit_i32(value),
+            _ => Err(Self::Error::invalid()),
+        }
+    }
+
+    /// Deserializes an `i64`.
+    final fn deserialize_i64<V: Visitor>(self, visitor: V) -> Result<V::Value, Self::Error>
+        ensures read { Answers Self.Error.is_memory
+            (ByPlain (V.gives visitor) long (value self)) result }
+        ensures law { Returns (ByPlain (V.stands visitor) long (value self))
+            V.same Self.Error.is_memory result }
+    {
+        match self.open() {
+            Content::Long(value) => visitor.visit_i64(value),
+            _ => Err(Self::Error::invalid()),
+        }
+    }
+
+    /// Deserializes an `f32`, by its bits.
+    final fn deserialize_f32<V: Visitor>(self, visitor: V) -> Result<V::Value, Self::Error>
+        ensures read { Answers Self.Error.is_memory
+            (ByPlain (V.gives visitor) float (value self)) result }
+        ensures law { Returns (ByPlain (V.stands visitor) float (value self))
+            V.same Self.Error.is_memory result }
+    {
+        match self.open() {
+            Content::Float(value) => visitor.visit_f32(value),
+            _ => Err(Self::Error::invalid()),
+        }
+    }
+
+    /// Deserializes an `f64`, by its bits.
+    final fn deserialize_f64<V: Visitor>(self, visitor: V) -> Result<V::Value, Self::Error>
+        ensures read { Answers Self.Error.is_memory
+            (ByPlain (V.gives visitor) double (value self)) result }
+        ensures law { Returns (ByPlain (V.stands visitor) double (value self))
+            V.same Self.Error.is_memory result }
+    {
+        match self.open() {
+            Content::Double(value) => visitor.visit_f64(value),
+            _ => Err(Self::Error::invalid()),
+        }
+    }
+
+    /// Deserializes a `char`.
+    final fn deserialize_char<V: Visitor>(self, visitor: V) -> Result<V::Value, Self::Error>
+        ensures read { Answers Self.Error.is_memory
+            (ByPlain (V.gives visitor) char (value self)) result }
+        ensures law { Returns (ByPlain (V.stands visitor) char (value self))
+            V.same Self.Error.is_memory result }
+    {
+        match self.open() {
+            Content::Char(value) => visitor.visit_char(value),
+            _ => Err(Self::Error::invalid()),
+        }
+    }
+
+    /// Deserializes a `String`.
+    final fn deserialize_string<V: Visitor>(self, visitor: V) -> Result<V::Value, Self::Error>
+        ensures read { Answers Self.Error.is_memory
+            (ByPlain (V.gives visitor) string (value self)) result }
+        ensures law { Returns (ByPlain (V.stands visitor) string (value self))
+            V.same Self.Error.is_memory result }
+    {
+        match self.open() {
+            Content::String(value) => visitor.visit_string(value),
+            _ => Err(Self::Error::invalid()),
+        }
+    }
+
+    /// Deserializes a string. As `deserialize_string`.
+    final fn deserialize_str<V: Visitor>(self, visitor: V) -> Result<V::Value, Self::Error>
+        ensures read { Answers Self.Error.is_memory
+            (ByPlain (V.gives visitor) string (value self)) result }
+        ensures law { Returns (ByPlain (V.stands visitor) string (value self))
+            V.same Self.Error.is_memory result }
+    {
+        self.deserialize_string(visitor)
+    }
+
+    /// Deserializes a binary.
+    final fn deserialize_byte_buf<V: Visitor>(self, visitor: V) -> Result<V::Value, Self::Error>
+        ensures read { Answers Self.Error.is_memory
+            (ByPlain (V.gives visitor) binary (value self)) result }
+        ensures law { Returns (ByPlain (V.stands visitor) binary (value self))
+            V.same Self.Error.is_memory result }
+    {
+        match self.open() {
+            Content::Binary(value) => visitor.visit_byte_buf(value),
+            _ => Err(Self::Error::invalid()),
+        }
+    }
+
+    /// Deserializes a binary. As `deserialize_byte_buf`.
+    final fn deserialize_bytes<V: Visitor>(self, visitor: V) -> Result<V::Value, Self::Error>
+        ensures read { Answers Self.Error.is_memory
+            (ByPlain (V.gives visitor) binary (value self)) result }
+        ensures law { Returns (ByPlain (V.stands visitor) binary (value self))
+            V.same Self.Error.is_memory result }
+    {
+        self.deserialize_byte_buf(visitor)
+    }
+
+    /// Deserializes an `Option`: null as nothing, and anything else as something.
+    final fn deserialize_option<V: Visitor>(self, visitor: V) -> Result<V::Value, Self::Error>
+        ensures read { Answers Self.Error.is_memory
+            (ByOption (V.gives visitor) (value self)) result }
+        ensures law { Returns (ByOption (V.stands visitor) (value self))
+            V.same Self.Error.is_memory result }
+    {
+        if self.is_null() {
+            visitor.visit_none()
+        } else {
+            visitor.visit_some(self)
+        }
+    }
+
+    /// Deserializes `()`, from null.
+    final fn deserialize_unit<V: Visitor>(self, visitor: V) -> Result<V::Value, Self::Error>
+        ensures read { Answers Self.Error.is_memory (ByUnit (V.gives visitor) (value self)) result }
+        ensures law { Returns (ByUnit (V.stands visitor) (value self))
+            V.same Self.Error.is_memory result }
+    {
+        if self.is_null() {
+            visitor.visit_unit()
+        } else {
+            Err(Self::Error::invalid())
+        }
+    }
+
+    /// Deserializes a unit struct. As `deserialize_unit`.
+    final fn deserialize_unit_struct<V: Visitor>(
+        self,
+        _name: &str,
+        visitor: V,
+    ) -> Result<V::Value, Self::Error>
+        ensures read { Answers Self.Error.is_memory (ByUnit (V.gives visitor) (value self)) result }
+        ensures law { Returns (ByUnit (V.stands visitor) (value self))
+            V.same Self.Error.is_memory result }
+    {
+        self.deserialize_unit(visitor)
+    }
+
+    /// Deserializes the elements of a list.
+    #[tactic(auto, using(crate::proofs::Lists::list_of_trees))]
+    final fn deserialize_seq<V: Visitor>(self, visitor: V) -> Result<V::Value, Self::Error>
+        ensures read { Answers Self.Error.is_memory (ByList (V.gives visitor) (value self)) result }
+        ensures law { Returns (ByList (V.stands visitor) (value self))
+            V.same Self.Error.is_memory result }
+    {
+        match self.open() {
+            Content::List(elements) => visitor.visit_seq(ElementsOf::<Self>::new(elements)),
+            _ => Err(Self::Error::invalid()),
+        }
+    }
+
+    /// Deserializes a tuple. As `deserialize_seq`.
+    final fn deserialize_tuple<V: Visitor>(self, visitor: V) -> Result<V::Value, Self::Error>
+        ensures read { Answers Self.Error.is_memory (ByList (V.gives visitor) (value self)) result }
+        ensures law { Returns (ByList (V.stands visitor) (value self))
+            V.same Self.Error.is_memory result }
+    {
+        self.deserialize_seq(visitor)
+    }
+
+    /// Deserializes the keys and values of a map.
+    #[tactic(auto, using(crate::proofs::Lists::entries_in_pairs))]
+    final fn deserialize_map<V: Visitor>(self, visitor: V) -> Result<V::Value, Self::Error>
+        ensures read { Answers Self.Error.is_memory (ByMap (V.gives visitor) (value self)) result }
+        ensures law { Returns (ByMap (V.stands visitor) (value self))
+            V.same Self.Error.is_memory result }
+    {
+        match self.open() {
+            Content::Map(entries) => visitor.visit_map(EntriesOf::<Self>::new(entries)),
+            _ => Err(Self::Error::invalid()),
+        }
+    }
+
+    /// Deserializes an identifier: a uint, or the text of a symbol.
+    final fn deserialize_identifier<V: Visitor>(self, visitor: V) -> Result<V::Value, Self::Error>
+        ensures read { Answers Self.Error.is_memory
+            (ByIdentifier (V.gives visitor) (value self)) result }
+        ensures law { Returns (ByIdentifier (V.stands visitor) (value self))
+            V.same Self.Error.is_memory result }
+    {
+        match self.open() {
+            Content::Uint(value) => visitor.visit_u32(value),
+            Content::Symbol(name) => visitor.visit_string(name.into_inner()),
+            _ => Err(Self::Error::invalid()),
+        }
+    }
+
+    /// Deserializes anything, as null.
+    final fn deserialize_ignored_any<V: Visitor>(self, visitor: V) -> Result<V::Value, Self::Error>
+        ensures read { Answers Self.Error.is_memory (V.gives visitor (plain_event null)) result }
+        ensures law { Returns (V.stands visitor (plain_event null))
+            V.same Self.Error.is_memory result }
+    {
+        visitor.visit_unit()
+    }
+
+    /// Deserializes a described value: a descriptor and the value after it.
+    final fn deserialize_described<V: Visitor>(self, visitor: V) -> Result<V::Value, Self::Error>
+        ensures read { Answers Self.Error.is_memory
+            (ByDescribed (V.gives visitor) (value self)) result }
+        ensures law { Returns (ByDescribed (V.stands visitor) (value self))
+            V.same Self.Error.is_memory result }
+    {
+        match self.open() {
+            Content::Described(descriptor, value) => visitor.visit_described(descriptor, value),
+            _ => Err(Self::Error::invalid()),
+        }
+    }
+
+    /// Deserializes a struct: the elements of a list; under a name that asks for a descriptor, that and
+    /// the value after it.
+    final fn deserialize_struct<V: Visitor>(
+        self,
+        name: &str,
+        visitor: V,
+    ) -> Result<V::Value, Self::Error>
+        ensures read { Answers Self.Error.is_memory
+            (ByStruct (V.gives visitor) (is_described_name name.now) (value self)) result }
+        ensures law { Returns
+            (ByStruct (V.stands visitor) (is_described_name name.now) (value self))
+            V.same Self.Error.is_memory result }
+    {
+        if is_described_name(name) {
+            self.deserialize_described(visitor)
+        } else {
+            self.deserialize_seq(visitor)
+        }
+    }
+
+    /// Deserializes a tuple struct. As `deserialize_struct`.
+    final fn deserialize_tuple_struct<V: Visitor>(
+        self,
+        name: &str,
+        visitor: V,
+    ) -> Result<V::Value, Self::Error>
+        ensures read { Answers Self.Error.is_memory
+            (ByStruct (V.gives visitor) (is_described_name name.now) (value self)) result }
+        ensures law { Returns
+            (ByStruct (V.stands visitor) (is_described_name name.now) (value self))
+            V.same Self.Error.is_memory result }
+    {
+        self.deserialize_struct(name, visitor)
+    }
+
+    /// Deserializes a descriptor: a ulong, or the text of a symbol.
+    final fn deserialize_descriptor<V: Visitor>(self, visitor: V) -> Result<V::Value, Self::Error>
+        ensures read { Answers Self.Error.is_memory
+            (ByDescriptor (V.gives visitor) (value self)) result }
+        ensures law { Returns (ByDescriptor (V.stands visitor) (value self))
+            V.same Self.Error.is_memory result }
+    {
+        match self.open() {
+            Content::Ulong(value) => visitor.visit_u64(value),
+            Content::Symbol(name) => visitor.visit_string(name.into_inner()),
+            _ => Err(Self::Error::invalid()),
+        }
+    }
+
+    /// Deserializes a variant: its index alone, a list of the index and what comes with it, or a map from
+    /// the one to the other.
+    #[tactic(auto, using(crate::proofs::Lists::list_of_trees, crate::proofs::Lists::entries_in_pairs))]
+    final fn deserialize_variant<V: Visitor>(self, visitor: V) -> Result<V::Value, Self::Error>
+        ensures read { Answers Self.Error.is_memory
+            (ByVariant (V.gives visitor) (value self)) result }
+        ensures law { Returns (ByVariant (V.stands visitor) (value self))
+            V.same Self.Error.is_memory result }
+    {
+        if self.is_index() {
+            return visitor.visit_enum(VariantOf::<Self>::new(self, None));
+        }
+        match self.open() {
+            Content::List(mut elements) => match Self::next_element(&mut elements) {
+                Some(index) => {
+                    let item = Self::next_element(&mut elements);
+                    visitor.visit_enum(VariantOf::<Self>::new(index, item))
+                }
+                None => Err(Self::Error::message("Expecting a Value")),
+            },
+            Content::Map(mut entries) => match Self::next_pair(&mut entries) {
+                Some((index, item)) => match Self::next_pair(&mut entries) {
+                    Some(_) => Err(Self::Error::invalid()),
+                    None => visitor.visit_enum(VariantOf::<Self>::new(index, Some(item))),
+                },
+                None => Err(Self::Error::message("Expecting a Value")),
+            },
+            _ => Err(Self::Error::invalid()),
+        }
+    }
+
+    /// Deserializes an enum by its name: an untyped value, a descriptor, or a variant.
+    final fn deserialize_enum<V: Visitor>(
+        self,
+        name: &str,
+        visitor: V,
+    ) -> Result<V::Value, Self::Error>
+        ensures read { Answers Self.Error.is_memory
+            (ByEnum (V.gives visitor) (is_value_name name.now)
+            (is_descriptor_name name.now) (value self))
+            result }
+        ensures law { Returns
+            (ByEnum (V.stands visitor) (is_value_name name.now)
+            (is_descriptor_name name.now) (value self))
+            V.same Self.Error.is_memory result }
+    {
+        if is_value_name(name) {
+            visitor.visit_value(self.into_value())
+        } else if is_descriptor_name(name) {
+            self.deserialize_descriptor(visitor)
+        } else {
+            self.deserialize_variant(visitor)
+        }
+    }
+
+    /// Deserializes the elements of an array.
+    #[tactic(auto, using(crate::proofs::Lists::list_of_trees))]
+    final fn deserialize_array<V: Visitor>(self, visitor: V) -> Result<V::Value, Self::Error>
+        ensures read { Answers Self.Error.is_memory
+            (ByArray (V.gives visitor) (value self)) result }
+        ensures law { Returns (ByArray (V.stands visitor) (value self))
+            V.same Self.Error.is_memory result }
+    {
+        match self.open() {
+            Content::Array(elements) => visitor.visit_seq(ElementsOf::<Self>::new(elements)),
+            _ => Err(Self::Error::invalid()),
+        }
+    }
+
+    /// Deserializes what a newtype's name asks for.
+    final fn deserialize_marked<V: Visitor>(
+        self,
+        mark: Mark,
+        visitor: V,
+    ) -> Result<V::Value, Self::Error>
+        ensures read { Answers Self.Error.is_memory
+            (ByMark (V.gives visitor) mark (value self)) result }
+        ensures law { Returns (ByMark (V.stands visitor) mark (value self))
+            V.same Self.Error.is_memory result }
+    {
+        match mark {
+            Mark::Transparent | Mark::Other => visitor.visit_newtype_struct(self),
+            Mark::Array => self.deserialize_array(visitor),
+            Mark::Lazy => Err(Self::Error::invalid()),
+            Mark::Symbol => match self.open() {
+                Content::Symbol(name) => visitor.visit_string(name.into_inner()),
+                _ => Err(Self::Error::invalid()),
+            },
+            Mark::Timestamp => match self.open() {
+                Content::Timestamp(moment) => visitor.visit_i64(moment.milliseconds()),
+                _ => Err(Self::Error::invalid()),
+            },
+            Mark::Decimal32 => match self.open() {
+                Content::Decimal32(value) => visitor.visit_value(untyped::decimal32_value(value)),
+                _ => Err(Self::Error::invalid()),
+            },
+            Mark::Decimal64 => match self.open() {
+                Content::Decimal64(value) => visitor.visit_value(untyped::decimal64_value(value)),
+                _ => Err(Self::Error::invalid()),
+            },
+            Mark::Decimal128 => match self.open() {
+                Content::Decimal128(value) => {
+                    visitor.visit_value(untyped::decimal128_value(value))
+                }
+                _ => Err(Self::Error::invalid()),
+            },
+            Mark::Uuid => match self.open() {
+                Content::Uuid(value) => visitor.visit_value(untyped::uuid_value(value)),
+                _ => Err(Self::Error::invalid()),
+            },
+        }
+    }
+
+    /// Deserializes a newtype struct: anything; under a marker's name, what that asks for.
+    final fn deserialize_newtype_struct<V: Visitor>(
+        self,
+        name: &str,
+        visitor: V,
+    ) -> Result<V::Value, Self::Error>
+        ensures read { Answers Self.Error.is_memory
+            (ByMark (V.gives visitor) (mark_of name.now) (value self)) result }
+        ensures law { Returns (ByMark (V.stands visitor) (mark_of name.now) (value self))
+            V.same Self.Error.is_memory result }
+    {
+        self.deserialize_marked(mark_named(name), visitor)
+    }
+
+    /// Deserializes a value by its kind. A symbol, a timestamp, a uuid and a decimal are shown as
+    /// untyped values.
+    #[tactic(auto, using(crate::proofs::Lists::list_of_trees, crate::proofs::Lists::entries_in_pairs))]
+    final fn deserialize_any<V: Visitor>(self, visitor: V) -> Result<V::Value, Self::Error>
+        ensures read { Answers Self.Error.is_memory
+            (V.gives visitor (any_event (value self))) result }
+        ensures law { Returns (V.stands visitor (any_event (value self)))
+            V.same Self.Error.is_memory result }
+    {
+        match self.open() {
+            Content::Null => visitor.visit_unit(),
+            Content::Bool(value) => visitor.visit_bool(value),
+            Content::Ubyte(value) => visitor.visit_u8(value),
+            Content::Ushort(value) => visitor.visit_u16(value),
+            Content::Uint(value) => visitor.visit_u32(value),
+            Content::Ulong(value) => visitor.visit_u64(value),
+            Content::Byte(value) => visitor.visit_i8(value),
+            Content::Short(value) => visitor.visit_i16(value),
+            Content::Int(value) => visitor.visit_i32(value),
+            Content::Long(value) => visitor.visit_i64(value),
+            Content::Float(value) => visitor.visit_f32(value),
+            Content::Double(value) => visitor.visit_f64(value),
+            Content::Decimal32(value) => visitor.visit_value(untyped::decimal32_value(value)),
+            Content::Decimal64(value) => visitor.visit_value(untyped::decimal64_value(value)),
+            Content::Decimal128(value) => visitor.visit_value(untyped::decimal128_value(value)),
+            Content::Char(value) => visitor.visit_char(value),
+            Content::Timestamp(value) => visitor.visit_value(untyped::timestamp_value(value)),
+            Content::Uuid(value) => visitor.visit_value(untyped::uuid_value(value)),
+            Content::Binary(value) => visitor.visit_byte_buf(value),
+            Content::String(value) => visitor.visit_string(value),
+            Content::Symbol(value) => visitor.visit_value(untyped::symbol_value(value)),
+            Content::List(elements) | Content::Array(elements) => {
+                visitor.visit_seq(ElementsOf::<Self>::new(elements))
+            }
+            Content::Map(entries) => visitor.visit_map(EntriesOf::<Self>::new(entries)),
+            Content::Described(descriptor, value) => visitor.visit_described(descriptor, value),
+        }
+    }
+}

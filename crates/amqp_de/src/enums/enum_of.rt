@@ -1,0 +1,115 @@
+//! One of the variants, read from each form of an enum's tree.
+
+ghost use Rattle.std.specs.Prelude.{◌≡◌, List, [], ◌∷◌, Option, Some, None, MatchResult};
+ghost use Rattle.amqp_ser.specs.Tree.{Tree, scalar, uint};
+ghost use Rattle.amqp_de.specs.Answers.{Answers};
+ghost use Rattle.amqp_de.specs.Enums.{OnEnum, OnListed, OnKeyed, enum_image, value_of, AtIndex, index_of_tree};
+
+use super::variants::Variants;
+use crate::de::{Content, Deserializer, Refusal};
+use crate::seed::Seed;
+use std::alloc::Global;
+
+/// Reads a variant by its index's tree.
+fn read_at<D: Deserializer, V: Variants>(
+    alloc: Global,
+    variants: V,
+    index: D,
+    value: Option<D>,
+) -> Result<V::Value, D::Error>
+    ensures read { Answers D.Error.is_memory (λ x. AtIndex (V.reads variants)
+        (index_of_tree (D.value index)) (value_of D.value value) x) result }
+    ensures law { (x : V.Value) → V.restorable x →
+        D.value index ≡ scalar (uint (V.position x)) → value_of D.value value ≡ V.content x →
+        MatchResult result (λ y. V.same y x) D.Error.is_memory }
+{
+    match index.open() {
+        Content::Uint(index) => match variants.read(alloc, index, value) {
+            Ok(value) => Ok(value),
+            Err(error) => Err(error),
+        },
+        _ => Err(D::Error::invalid()),
+    }
+}
+
+/// Reads a variant from a list: its index, and then its value. What is left over is ignored.
+fn read_listed<D: Deserializer, V: Variants>(
+    alloc: Global,
+    variants: V,
+    elements: &mut D::Elements,
+) -> Result<V::Value, D::Error>
+    ensures { Answers D.Error.is_memory
+        (OnListed (V.reads variants) (D.items elements.old)) result }
+{
+    match D::next_element(&mut *elements) {
+        Some(index) => {
+            let value = D::next_element(elements);
+            match read_at::<D, V>(alloc, variants, index, value) {
+                Ok(value) => Ok(value),
+                Err(error) => Err(error),
+            }
+        }
+        None => Err(D::Error::message("Expecting a Value")),
+    }
+}
+
+/// Reads a variant from the one pair of a map: its index, and its value.
+fn read_keyed<D: Deserializer, V: Variants>(
+    alloc: Global,
+    variants: V,
+    entries: &mut D::Entries,
+) -> Result<V::Value, D::Error>
+    ensures read { Answers D.Error.is_memory
+        (OnKeyed (V.reads variants) (D.pairs entries.old)) result }
+    ensures law { (x : V.Value) (t : Tree) → V.restorable x → V.content x ≡ Some t →
+        D.pairs entries.old ≡ (scalar (uint (V.position x)), t) ∷ [] →
+        MatchResult result (λ y. V.same y x) D.Error.is_memory }
+{
+    match D::next_pair(&mut *entries) {
+        Some((index, value)) => match D::next_pair(entries) {
+            Some(_) => Err(D::Error::invalid()),
+            None => match read_at::<D, V>(alloc, variants, index, Some(value)) {
+                Ok(value) => Ok(value),
+                Err(error) => Err(error),
+            },
+        },
+        None => Err(D::Error::message("Expecting a Value")),
+    }
+}
+
+/// One of the variants: its index alone, a list of the index and the value, or a map from the one to the other.
+#[derive(Drop)]
+pub struct EnumOf<V>(pub V);
+
+#[tactic(auto, using(crate::proofs::Lists::list_of_trees, crate::proofs::Lists::entries_in_pairs, crate::proofs::Lists::same_pairs), unfolding(crate::specs::Enums::OnEnum))]
+impl<V: Variants> Seed for EnumOf<V> {
+    type Value = V::Value;
+
+    ghost reads = { λ s. OnEnum (V.reads s.0) };
+
+    ghost image = { λ x. enum_image (V.position x) (V.content x) };
+
+    ghost restorable = { V.restorable };
+
+    ghost same = { V.same };
+
+    fn read<D: Deserializer>(self, alloc: Global, deserializer: D) -> Result<V::Value, D::Error> {
+        match deserializer.open() {
+            Content::Uint(index) => match self.0.read(alloc, index, None::<D>) {
+                Ok(value) => Ok(value),
+                Err(error) => Err(error),
+            },
+            Content::List(mut elements) => {
+                match read_listed::<D, V>(alloc, self.0, &mut elements) {
+                    Ok(value) => Ok(value),
+                    Err(error) => Err(error),
+                }
+            }
+            Content::Map(mut entries) => match read_keyed::<D, V>(alloc, self.0, &mut entries) {
+                Ok(value) => Ok(value),
+                Err(error) => Err(error),
+            },
+            _ => Err(D::Error::invalid()),
+        }
+    }
+}

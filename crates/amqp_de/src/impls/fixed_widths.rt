@@ -1,0 +1,132 @@
+//! The types of AMQP data of a fixed width: each is read from its own kind alone.
+
+ghost use Rattle.std.specs.Prelude.{◌≡◌};
+ghost use Rattle.amqp_data.specs.Fixed.{dec32_bytes, dec64_bytes, dec128_bytes, f32_bits, f64_bits, milliseconds_of, uuid_bytes};
+ghost use Rattle.amqp_ser.specs.Tree.{scalar, float, double, decimal32, decimal64, decimal128, timestamp, uuid};
+ghost use Rattle.amqp_de.specs.Reads.{Always};
+
+use crate::de::{Content, Deserialize, Deserializer, Refusal};
+use amqp_data::{Dec32, Dec64, Dec128, F32Bits, F64Bits, Timestamp, Uuid};
+use std::alloc::Global;
+
+impl Deserialize for F32Bits {
+    ghost reads = { λ t x. t ≡ scalar (float (f32_bits x)) };
+
+    ghost image = { λ x. scalar (float (f32_bits x)) };
+
+    ghost restorable = { Always };
+
+    ghost same = { λ x y. f32_bits x ≡ f32_bits y };
+
+    fn deserialize<D: Deserializer>(_alloc: Global, deserializer: D) -> Result<F32Bits, D::Error> {
+        match deserializer.open() {
+            Content::Float(value) => Ok(value),
+            _ => Err(D::Error::invalid()),
+        }
+    }
+}
+
+impl Deserialize for F64Bits {
+    ghost reads = { λ t x. t ≡ scalar (double (f64_bits x)) };
+
+    ghost image = { λ x. scalar (double (f64_bits x)) };
+
+    ghost restorable = { Always };
+
+    ghost same = { λ x y. f64_bits x ≡ f64_bits y };
+
+    fn deserialize<D: Deserializer>(_alloc: Global, deserializer: D) -> Result<F64Bits, D::Error> {
+        match deserializer.open() {
+            Content::Double(value) => Ok(value),
+            _ => Err(D::Error::invalid()),
+        }
+    }
+}
+
+impl Deserialize for Dec32 {
+    ghost reads = { λ t x. t ≡ scalar (decimal32 (dec32_bytes x)) };
+
+    ghost image = { λ x. scalar (decimal32 (dec32_bytes x)) };
+
+    ghost restorable = { Always };
+
+    ghost same = { λ x y. dec32_bytes x ≡ dec32_bytes y };
+
+    fn deserialize<D: Deserializer>(_alloc: Global, deserializer: D) -> Result<Dec32, D::Error> {
+        match deserializer.open() {
+            Content::Decimal32(value) => Ok(value),
+            _ => Err(D::Error::invalid()),
+        }
+    }
+}
+
+impl Deserialize for Dec64 {
+    ghost reads = { λ t x. t ≡ scalar (decimal64 (dec64_bytes x)) };
+
+    ghost image = { λ x. scalar (decimal64 (dec64_bytes x)) };
+
+    ghost restorable = { Always };
+
+    ghost same = { λ x y. dec64_bytes x ≡ dec64_bytes y };
+
+    fn deserialize<D: Deserializer>(_alloc: Global, deserializer: D) -> Result<Dec64, D::Error> {
+        match deserializer.open() {
+            Content::Decimal64(value) => Ok(value),
+            _ => Err(D::Error::invalid()),
+        }
+    }
+}
+
+impl Deserialize for Dec128 {
+    ghost reads = { λ t x. t ≡ scalar (decimal128 (dec128_bytes x)) };
+
+    ghost image = { λ x. scalar (decimal128 (dec128_bytes x)) };
+
+    ghost restorable = { Always };
+
+    ghost same = { λ x y. dec128_bytes x ≡ dec128_bytes y };
+
+    fn deserialize<D: Deserializer>(_alloc: Global, deserializer: D) -> Result<Dec128, D::Error> {
+        match deserializer.open() {
+            Content::Decimal128(value) => Ok(value),
+            _ => Err(D::Error::invalid()),
+        }
+    }
+}
+
+impl Deserialize for Timestamp {
+    ghost reads = { λ t x. t ≡ scalar (timestamp (milliseconds_of x)) };
+
+    ghost image = { λ x. scalar (timestamp (milliseconds_of x)) };
+
+    ghost restorable = { Always };
+
+    ghost same = { λ x y. milliseconds_of x ≡ milliseconds_of y };
+
+    fn deserialize<D: Deserializer>(
+        _alloc: Global,
+        deserializer: D,
+    ) -> Result<Timestamp, D::Error> {
+        match deserializer.open() {
+            Content::Timestamp(value) => Ok(value),
+            _ => Err(D::Error::invalid()),
+        }
+    }
+}
+
+impl Deserialize for Uuid {
+    ghost reads = { λ t x. t ≡ scalar (uuid (uuid_bytes x)) };
+
+    ghost image = { λ x. scalar (uuid (uuid_bytes x)) };
+
+    ghost restorable = { Always };
+
+    ghost same = { λ x y. uuid_bytes x ≡ uuid_bytes y };
+
+    fn deserialize<D: Deserializer>(_alloc: Global, deserializer: D) -> Result<Uuid, D::Error> {
+        match deserializer.open() {
+            Content::Uuid(value) => Ok(value),
+            _ => Err(D::Error::invalid()),
+        }
+    }
+}

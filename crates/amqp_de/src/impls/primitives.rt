@@ -1,0 +1,196 @@
+//! Null, truth values, whole numbers and characters: each type is read from its own kind alone.
+
+ghost use Rattle.std.specs.Prelude.{◌≡◌};
+ghost use Rattle.amqp_ser.specs.Tree.{scalar, null, bool, ubyte, ushort, uint, ulong, byte, short, int, long, char};
+ghost use Rattle.amqp_de.specs.Reads.{Always};
+
+use crate::de::{Content, Deserialize, Deserializer, Refusal};
+use std::alloc::Global;
+
+impl Deserialize for () {
+    ghost reads = { λ t _. t ≡ scalar null };
+
+    ghost image = { λ _. scalar null };
+
+    ghost restorable = { Always };
+
+    ghost same = { λ x y. x ≡ y };
+
+    fn deserialize<D: Deserializer>(_alloc: Global, deserializer: D) -> Result<(), D::Error> {
+        if deserializer.is_null() {
+            Ok(())
+        } else {
+            Err(D::Error::invalid())
+        }
+    }
+}
+
+impl Deserialize for bool {
+    ghost reads = { λ t x. t ≡ scalar (bool x) };
+
+    ghost image = { λ x. scalar (bool x) };
+
+    ghost restorable = { Always };
+
+    ghost same = { λ x y. x ≡ y };
+
+    fn deserialize<D: Deserializer>(_alloc: Global, deserializer: D) -> Result<bool, D::Error> {
+        match deserializer.open() {
+            Content::Bool(value) => Ok(value),
+            _ => Err(D::Error::invalid()),
+        }
+    }
+}
+
+impl Deserialize for u8 {
+    ghost reads = { λ t x. t ≡ scalar (ubyte x) };
+
+    ghost image = { λ x. scalar (ubyte x) };
+
+    ghost restorable = { Always };
+
+    ghost same = { λ x y. x ≡ y };
+
+    fn deserialize<D: Deserializer>(_alloc: Global, deserializer: D) -> Result<u8, D::Error> {
+        match deserializer.open() {
+            Content::Ubyte(value) => Ok(value),
+            _ => Err(D::Error::invalid()),
+        }
+    }
+}
+
+impl Deserialize for u16 {
+    ghost reads = { λ t x. t ≡ scalar (ushort x) };
+
+    ghost image = { λ x. scalar (ushort x) };
+
+    ghost restorable = { Always };
+
+    ghost same = { λ x y. x ≡ y };
+
+    fn deserialize<D: Deserializer>(_alloc: Global, deserializer: D) -> Result<u16, D::Error> {
+        match deserializer.open() {
+            Content::Ushort(value) => Ok(value),
+            _ => Err(D::Error::invalid()),
+        }
+    }
+}
+
+impl Deserialize for u32 {
+    ghost reads = { λ t x. t ≡ scalar (uint x) };
+
+    ghost image = { λ x. scalar (uint x) };
+
+    ghost restorable = { Always };
+
+    ghost same = { λ x y. x ≡ y };
+
+    fn deserialize<D: Deserializer>(_alloc: Global, deserializer: D) -> Result<u32, D::Error> {
+        match deserializer.open() {
+            Content::Uint(value) => Ok(value),
+            _ => Err(D::Error::invalid()),
+        }
+    }
+}
+
+impl Deserialize for u64 {
+    ghost reads = { λ t x. t ≡ scalar (ulong x) };
+
+    ghost image = { λ x. scalar (ulong x) };
+
+    ghost restorable = { Always };
+
+    ghost same = { λ x y. x ≡ y };
+
+    fn deserialize<D: Deserializer>(_alloc: Global, deserializer: D) -> Result<u64, D::Error> {
+        match deserializer.open() {
+            Content::Ulong(value) => Ok(value),
+            _ => Err(D::Error::invalid()),
+        }
+    }
+}
+
+impl Deserialize for i8 {
+    ghost reads = { λ t x. t ≡ scalar (byte x) };
+
+    ghost image = { λ x. scalar (byte x) };
+
+    ghost restorable = { Always };
+
+    ghost same = { λ x y. x ≡ y };
+
+    fn deserialize<D: Deserializer>(_alloc: Global, deserializer: D) -> Result<i8, D::Error> {
+        match deserializer.open() {
+            Content::Byte(value) => Ok(value),
+            _ => Err(D::Error::invalid()),
+        }
+    }
+}
+
+impl Deserialize for i16 {
+    ghost reads = { λ t x. t ≡ scalar (short x) };
+
+    ghost image = { λ x. scalar (short x) };
+
+    ghost restorable = { Always };
+
+    ghost same = { λ x y. x ≡ y };
+
+    fn deserialize<D: Deserializer>(_alloc: Global, deserializer: D) -> Result<i16, D::Error> {
+        match deserializer.open() {
+            Content::Short(value) => Ok(value),
+            _ => Err(D::Error::invalid()),
+        }
+    }
+}
+
+impl Deserialize for i32 {
+    ghost reads = { λ t x. t ≡ scalar (int x) };
+
+    ghost image = { λ x. scalar (int x) };
+
+    ghost restorable = { Always };
+
+    ghost same = { λ x y. x ≡ y };
+
+    fn deserialize<D: Deserializer>(_alloc: Global, deserializer: D) -> Result<i32, D::Error> {
+        match deserializer.open() {
+            Content::Int(value) => Ok(value),
+            _ => Err(D::Error::invalid()),
+        }
+    }
+}
+
+impl Deserialize for i64 {
+    ghost reads = { λ t x. t ≡ scalar (long x) };
+
+    ghost image = { λ x. scalar (long x) };
+
+    ghost restorable = { Always };
+
+    ghost same = { λ x y. x ≡ y };
+
+    fn deserialize<D: Deserializer>(_alloc: Global, deserializer: D) -> Result<i64, D::Error> {
+        match deserializer.open() {
+            Content::Long(value) => Ok(value),
+            _ => Err(D::Error::invalid()),
+        }
+    }
+}
+
+impl Deserialize for char {
+    ghost reads = { λ t x. t ≡ scalar (char x) };
+
+    ghost image = { λ x. scalar (char x) };
+
+    ghost restorable = { Always };
+
+    ghost same = { λ x y. x ≡ y };
+
+    fn deserialize<D: Deserializer>(_alloc: Global, deserializer: D) -> Result<char, D::Error> {
+        match deserializer.open() {
+            Content::Char(value) => Ok(value),
+            _ => Err(D::Error::invalid()),
+        }
+    }
+}

@@ -1,0 +1,62 @@
+//! Binaries, strings and symbols: each type is read from its own kind alone.
+
+ghost use Rattle.std.specs.Prelude.{◌≡◌, string_bytes};
+ghost use Rattle.amqp_data.specs.Items.{byte_buf_bytes};
+ghost use Rattle.amqp_data.specs.Text.{symbol_text};
+ghost use Rattle.amqp_ser.specs.Tree.{scalar, binary, string, symbol};
+ghost use Rattle.amqp_de.specs.Reads.{Always};
+
+use crate::de::{Content, Deserialize, Deserializer, Refusal};
+use amqp_data::{ByteBuf, Symbol};
+use std::alloc::Global;
+
+impl Deserialize for ByteBuf {
+    ghost reads = { λ t x. t ≡ scalar (binary (byte_buf_bytes x)) };
+
+    ghost image = { λ x. scalar (binary (byte_buf_bytes x)) };
+
+    ghost restorable = { Always };
+
+    ghost same = { λ x y. byte_buf_bytes x ≡ byte_buf_bytes y };
+
+    fn deserialize<D: Deserializer>(_alloc: Global, deserializer: D) -> Result<ByteBuf, D::Error> {
+        match deserializer.open() {
+            Content::Binary(value) => Ok(value),
+            _ => Err(D::Error::invalid()),
+        }
+    }
+}
+
+impl Deserialize for String {
+    ghost reads = { λ t x. t ≡ scalar (string (string_bytes x)) };
+
+    ghost image = { λ x. scalar (string (string_bytes x)) };
+
+    ghost restorable = { Always };
+
+    ghost same = { λ x y. string_bytes x ≡ string_bytes y };
+
+    fn deserialize<D: Deserializer>(_alloc: Global, deserializer: D) -> Result<String, D::Error> {
+        match deserializer.open() {
+            Content::String(value) => Ok(value),
+            _ => Err(D::Error::invalid()),
+        }
+    }
+}
+
+impl Deserialize for Symbol {
+    ghost reads = { λ t x. t ≡ scalar (symbol (symbol_text x)) };
+
+    ghost image = { λ x. scalar (symbol (symbol_text x)) };
+
+    ghost restorable = { Always };
+
+    ghost same = { λ x y. symbol_text x ≡ symbol_text y };
+
+    fn deserialize<D: Deserializer>(_alloc: Global, deserializer: D) -> Result<Symbol, D::Error> {
+        match deserializer.open() {
+            Content::Symbol(value) => Ok(value),
+            _ => Err(D::Error::invalid()),
+        }
+    }
+}

@@ -1,0 +1,30 @@
+// A value that is given to `to_value` again comes back: proved with no induction of the caller's own.
+
+ghost use Rattle.std.specs.Prelude.{◌≡◌, IfOk, true};
+ghost use Rattle.amqp_value.specs.TreeOf.{tree_of};
+
+use amqp_data::Error;
+use amqp_ser::Serialize;
+use amqp_to_value::{laws, to_value};
+use amqp_value::Value;
+use std::alloc::Global;
+use std::test::Fail;
+
+// What the value stands for, and what that stands for.
+fn twice<T: Serialize>(alloc: Global, value: &T) -> Result<(Value, Value), Error>
+    ensures same { IfOk result (λ values. tree_of values.1 ≡ tree_of values.0) }
+    ensures equal { IfOk result (λ values. ⟦<Value as PartialEq>⟧.eq values.1 values.0 ≡ true) }
+{
+    let first = to_value(alloc, value)?;
+    let second = to_value(alloc, &first)?;
+    laws::sound_values_come_back_equal();
+    Ok((first, second))
+}
+
+#[test]
+fn values_come_back_equal(rt: HostRuntime) -> Result<(), Fail> {
+    let pairs = vec![in rt.alloc(); ("a", 1u8), ("a", 2)]?;
+    let (first, second) = twice(rt.alloc(), &pairs)?;
+    assert_eq!(rt; second, first);
+    Ok(())
+}
