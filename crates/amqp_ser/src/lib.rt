@@ -5,6 +5,7 @@
 //! has the traits, the compounds and the trees of Rust's own types; it writes no byte.
 #![tactic(auto)]
 
+mod composite;
 mod compound;
 mod fields;
 mod fixed;
@@ -12,15 +13,17 @@ mod impls;
 mod kind;
 pub mod laws;
 mod mark;
+mod names;
 mod serialize;
 mod serializer;
 mod struct_form;
 
+pub use composite::{ListOf, MapOf, SymbolMapOf, VariantOf};
 pub use compound::{
     SerializeMap, SerializeSeq, SerializeStruct, SerializeStructVariant, SerializeTuple,
     SerializeTupleStruct, SerializeTupleVariant,
 };
-pub use fields::{Field, Fields, Keys, ListOf, MapOf, OptionalField, SymbolMapOf, VariantOf};
+pub use fields::{Field, Fields, Keys, OptionalField};
 pub use fixed::Fixed;
 pub use kind::Kind;
 pub use mark::{Mark, mark_named};

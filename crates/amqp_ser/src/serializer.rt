@@ -9,6 +9,7 @@ ghost use Rattle.amqp_ser.specs.Marked.{is_descriptor_name, is_value_name, marke
 ghost use Rattle.amqp_ser.specs.Structs.{Stands, struct_form, is_basic_name, is_tagged, named_variant};
 ghost use Rattle.amqp_data.specs.Fixed.{f32_bits, f64_bits};
 
+use crate::compound::described::serialize_described;
 use crate::compound::feed::feed_part;
 use crate::compound::{
     SerializeMap, SerializeSeq, SerializeStruct, SerializeStructVariant, SerializeTuple,
@@ -16,11 +17,10 @@ use crate::compound::{
 };
 use crate::fixed::Fixed;
 use crate::kind::Kind;
-use crate::mark::{
-    Mark, is_basic_name, is_descriptor_name, is_tagged, is_value_name, mark_named, struct_form,
-};
+use crate::mark::{Mark, mark_named};
+use crate::names::{is_basic_name, is_descriptor_name, is_tagged, is_value_name};
 use crate::serialize::Serialize;
-use crate::struct_form::serialize_described;
+use crate::struct_form::struct_form;
 use amqp_data::{F32Bits, F64Bits};
 
 /// Turns data trees into answers of one kind, as their length, their bytes or an untyped value.

@@ -9,11 +9,14 @@ ghost use Rattle.amqp_ser.specs.Composites.{as_described, descriptor_of};
 ghost use Rattle.amqp_ser.specs.Marked.{is_descriptor_name};
 ghost use Rattle.amqp_ser.specs.Structs.{Stands, form_kind, open_kind, optionally_described, is_misplaced};
 
+use super::any_field::feed_any;
+use super::body::end_fields;
+use super::list_field::feed_list_field;
 use crate::kind::Kind;
-use crate::mark::is_descriptor_name;
+use crate::names::is_descriptor_name;
 use crate::serialize::Serialize;
 use crate::serializer::Serializer;
-use crate::struct_form::{StructForm, end_fields, feed_any, feed_list_field};
+use crate::struct_form::StructForm;
 
 /// A struct whose fields are still fed: a list of them, a map from their names, or the one field itself, as the
 /// struct's name says. A first field of the descriptor's key makes it described.

@@ -8,11 +8,13 @@ ghost use Rattle.amqp_ser.specs.Compounds.{whole};
 ghost use Rattle.amqp_ser.specs.Composites.{as_described, descriptor_of};
 ghost use Rattle.amqp_ser.specs.Structs.{Stands, single_or_list, form_kind, open_kind, optionally_described, is_misplaced};
 
-use crate::compound::feed::feed_part;
+use super::body::{end_fields, open_body};
+use super::described::{feed_descriptor, feed_single};
+use super::feed::feed_part;
 use crate::kind::Kind;
 use crate::serialize::Serialize;
 use crate::serializer::Serializer;
-use crate::struct_form::{StructForm, end_fields, feed_descriptor, feed_single, open_body};
+use crate::struct_form::StructForm;
 
 /// A tuple struct whose fields are still fed: a list of them, or the one field itself. Where its name asks for a
 /// descriptor, the first field is that.
