@@ -52,14 +52,12 @@ impl SizeSerializer {
     /// Comes to rest where it stands: markers and descriptors are behind it.
     #[inline(always)]
     pub(crate) fn reset(&mut self)
-        ensures { self.new.position ≡ Plain (without_prefix (position_of self.old.position)) }
+        ensures { self.new.pending ≡ Plain (without_prefix (position_of self.old.pending)) }
     {
-        match self.position {
-            Pending::Plain(Position::Value(base)) => self.position = Pending::Plain(
-                base.position(),
-            ),
+        match self.pending {
+            Pending::Plain(Position::Value(base)) => self.pending = Pending::Plain(base.position()),
             Pending::Plain(_) => {}
-            pending => self.position = Pending::Plain(pending.without_prefix()),
+            pending => self.pending = Pending::Plain(pending.without_prefix()),
         }
     }
 
@@ -73,18 +71,18 @@ impl SizeSerializer {
         ordinary: usize,
         wide: usize,
     ) -> Result<usize, Refusal>
-        ensures { self.old.position ≡ Plain (without_prefix (position_at position prefix_len)) → (t : Tree) →
+        ensures { self.old.pending ≡ Plain (without_prefix (position_at position prefix_len)) → (t : Tree) →
             constructor t ≡ Some code → within_limits t ≡ true → uniform_arrays t ≡ true → inside t ≡ true →
             placed t ≡ true →
             length (encoding t) ≡ ordinary → length (payload t) ≡ wide →
-            at_position (position_at position prefix_len) (Some t) result self.new.position }
+            at_position (position_at position prefix_len) (Some t) result self.new.pending }
     {
         match position {
             Position::Root => Ok(ordinary),
             Position::Inside => Ok(ordinary),
             Position::First => {
                 // The first element leaves its constructor for the array: `end_part` picks it up.
-                self.position = Pending::Plain(Position::Element(code));
+                self.pending = Pending::Plain(Position::Element(code));
                 Ok(wide)
             }
             Position::Element(c) => {
@@ -108,11 +106,11 @@ impl SizeSerializer {
         code: u8,
         n: usize,
     ) -> Result<usize, Refusal>
-        ensures { self.old.position ≡ Plain (without_prefix (position_at position prefix_len)) → (t : Tree) →
+        ensures { self.old.pending ≡ Plain (without_prefix (position_at position prefix_len)) → (t : Tree) →
             constructor t ≡ Some code → uniform_arrays t ≡ true → inside t ≡ true → placed t ≡ true →
             within_limits t ≡ fits n →
             length (encoding t) ≡ text_width n → length (payload t) ≡ n + 4 →
-            at_position (position_at position prefix_len) (Some t) result self.new.position }
+            at_position (position_at position prefix_len) (Some t) result self.new.pending }
     {
         // A short text passes no limit: it is looked at once.
         if n <= 254 {
@@ -133,13 +131,13 @@ impl SizeSerializer {
         index: u32,
         size: usize,
     ) -> Result<usize, Refusal>
-        ensures { self.old.position ≡ Plain (without_prefix (position_at position prefix_len)) → (t v : Tree) →
+        ensures { self.old.pending ≡ Plain (without_prefix (position_at position prefix_len)) → (t v : Tree) →
             constructor t ≡ Some 0xd1 → uniform_arrays t ≡ true → inside t ≡ true → placed t ≡ true →
             within_limits v ≡ true →
             within_limits t ≡ (fits (uint_width index + size) && within_limits v) →
             length (encoding t) ≡ map_width (uint_width index + size) →
             length (payload t) ≡ uint_width index + size + 8 →
-            at_position (position_at position prefix_len) (Some t) result self.new.position }
+            at_position (position_at position prefix_len) (Some t) result self.new.pending }
     {
         let first = uint_width(index);
         if size > LONGEST - first {
@@ -157,10 +155,10 @@ impl SizeSerializer {
         prefix_len: usize,
         sum: usize,
     ) -> Result<usize, Refusal>
-        ensures { self.old.position ≡ Plain (without_prefix (position_at position prefix_len)) → (ts : Trees) →
+        ensures { self.old.pending ≡ Plain (without_prefix (position_at position prefix_len)) → (ts : Trees) →
             within_limits_each ts ≡ true → uniform_arrays_each ts ≡ true → placed_each ts ≡ true →
             sum ≡ length (encoding_each ts) →
-            at_position (position_at position prefix_len) (Some (transparent ts)) result self.new.position }
+            at_position (position_at position prefix_len) (Some (transparent ts)) result self.new.pending }
     {
         match position {
             Position::Root => Ok(sum),

@@ -30,7 +30,7 @@ use std::marker::Model;
 pub struct SizeSerializer {
     /// Where the next value stands. An array's first element leaves its constructor here (`accept`),
     /// and the array picks it up (`end_part`): no answer carries it.
-    pub(crate) position: Pending,
+    pub(crate) pending: Pending,
     /// How many bytes stand before the value, where it is after descriptors.
     pub(crate) prefix_len: usize,
 }
@@ -40,17 +40,17 @@ impl Model for SizeSerializer {
 
     ghost Value = { SizeState };
 
-    ghost view = { λ s. record { position = pending_at s.position s.prefix_len } };
+    ghost view = { λ s. record { pending = pending_at s.pending s.prefix_len } };
 }
 
 impl SizeSerializer {
     /// A serializer at the root.
     #[inline(always)]
     pub fn new() -> SizeSerializer
-        ensures { result.position ≡ Plain whole_position.Root }
+        ensures { result.pending ≡ Plain whole_position.Root }
     {
         SizeSerializer {
-            position: Pending::Plain(Position::Root),
+            pending: Pending::Plain(Position::Root),
             prefix_len: 0,
         }
     }
@@ -60,7 +60,7 @@ impl Default for SizeSerializer {
     ghost use Rattle.amqp_size.specs.WholePending.{Plain};
     ghost use Rattle.amqp_size.specs.WholePosition.{Root};
 
-    ghost is_default = { λ s. s.position ≡ Plain Root };
+    ghost is_default = { λ s. s.pending ≡ Plain Root };
 
     fn default() -> SizeSerializer {
         SizeSerializer::new()
@@ -99,10 +99,10 @@ impl Serializer for SizeSerializer {
     fn serialize_fixed(&mut self, fixed: Fixed) -> Result<usize, Refusal>
         ensures answered { size_permits self.old (Some (scalar (fixed_scalar fixed))) result
             self.new }
-        ensures no_tree { meant self.old.position (Some (scalar (fixed_scalar fixed))) ≡ None →
+        ensures no_tree { meant self.old.pending (Some (scalar (fixed_scalar fixed))) ≡ None →
             result ≡ Err InvalidValue }
     {
-        let pending = self.position;
+        let pending = self.pending;
         let prefix_len = self.prefix_len;
         self.reset();
         match pending {
@@ -128,10 +128,10 @@ impl Serializer for SizeSerializer {
     #[inline(always)]
     fn serialize_null(&mut self) -> Result<usize, Refusal>
         ensures answered { size_permits self.old (Some (scalar null)) result self.new }
-        ensures no_tree { meant self.old.position (Some (scalar null)) ≡ None →
+        ensures no_tree { meant self.old.pending (Some (scalar null)) ≡ None →
             result ≡ Err InvalidValue }
     {
-        let pending = self.position;
+        let pending = self.pending;
         let prefix_len = self.prefix_len;
         self.reset();
         match pending {
@@ -143,10 +143,10 @@ impl Serializer for SizeSerializer {
     #[inline(always)]
     fn serialize_str(&mut self, v: &str) -> Result<usize, Refusal>
         ensures answered { size_permits self.old (Some (scalar (string v.now))) result self.new }
-        ensures no_tree { meant self.old.position (Some (scalar (string v.now))) ≡ None →
+        ensures no_tree { meant self.old.pending (Some (scalar (string v.now))) ≡ None →
             result ≡ Err InvalidValue }
     {
-        let pending = self.position;
+        let pending = self.pending;
         let prefix_len = self.prefix_len;
         self.reset();
         match pending {
@@ -164,10 +164,10 @@ impl Serializer for SizeSerializer {
     #[inline(always)]
     fn serialize_bytes(&mut self, v: &[u8]) -> Result<usize, Refusal>
         ensures answered { size_permits self.old (Some (scalar (binary v.now))) result self.new }
-        ensures no_tree { meant self.old.position (Some (scalar (binary v.now))) ≡ None →
+        ensures no_tree { meant self.old.pending (Some (scalar (binary v.now))) ≡ None →
             result ≡ Err InvalidValue }
     {
-        let pending = self.position;
+        let pending = self.pending;
         let prefix_len = self.prefix_len;
         self.reset();
         match pending {
@@ -193,15 +193,15 @@ impl Serializer for SizeSerializer {
         ensures step { (t : Option Tree) (r : Result ℕ Refusal) (after : SizeSerializer) →
             size_permits self.new t r after → size_permits self.old (marked mark t) r after }
         ensures meant { (t : Option Tree) →
-            meant self.new.position t ≡ meant self.old.position (marked mark t) }
-        ensures position { position_of self.new.position ≡ position_of self.old.position }
+            meant self.new.pending t ≡ meant self.old.pending (marked mark t) }
+        ensures position { position_of self.new.pending ≡ position_of self.old.pending }
     {
-        self.position = self.position.marked(mark);
+        self.pending = self.pending.marked(mark);
     }
 
     #[inline(always)]
     fn begin(&mut self, kind: Kind) -> OpenCompound {
-        let pending = self.position;
+        let pending = self.pending;
         let prefix_len = self.prefix_len;
         self.reset();
         OpenCompound::new(pending, prefix_len, pending.shape(kind))
@@ -219,10 +219,10 @@ impl Serializer for SizeSerializer {
         ensures single { (start : SizeSerializer) → size_has start Kind.Single self.old held.old [] →
             (t : Option Tree) (r : Result ℕ Refusal) (after : SizeSerializer) →
             size_permits self.new t r after → size_permits start t r after }
-        ensures position { self.new.position ≡ held.old.inner }
+        ensures pending { self.new.pending ≡ held.old.inner }
         ensures kept { held.new ≡ held.old }
     {
-        self.position = held.inner();
+        self.pending = held.inner();
         self.prefix_len = held.prefix_len();
     }
 
@@ -242,11 +242,11 @@ impl Serializer for SizeSerializer {
         ensures refused { IfErr part (λ _. IsErr result) }
         ensures same { IfErr part
             (λ e. (result ≡ Err e)
-            × ((held.new ≡ held.old) × (self.new.position ≡ Plain (without_prefix held.old.position)))) }
+            × ((held.new ≡ held.old) × (self.new.pending ≡ Plain (without_prefix held.old.position)))) }
     {
         // Picks up what the part left: an array's first element its constructor, in `accept`.
-        let after = self.position;
-        self.position = Pending::Plain(held.position().without_prefix());
+        let after = self.pending;
+        self.pending = Pending::Plain(held.position().without_prefix());
         let size = part?;
         held.add_part(size, after)
     }
@@ -255,10 +255,10 @@ impl Serializer for SizeSerializer {
     fn begin_descriptor(&mut self, held: &mut OpenCompound)
         ensures ready { (start : SizeSerializer) → size_has start Kind.Single self.old held.old [] →
             size_awaits_descriptor start self.new held.new }
-        ensures position { self.new.position ≡ Plain whole_position.Descriptor }
+        ensures pending { self.new.pending ≡ Plain whole_position.Descriptor }
         ensures kept { held.new ≡ held.old }
     {
-        self.position = Pending::Plain(Position::Descriptor);
+        self.pending = Pending::Plain(Position::Descriptor);
     }
 
     #[inline(always)]
@@ -285,9 +285,9 @@ impl Serializer for SizeSerializer {
             (λ n. IfOk result (λ _. described_pending held.old.inner n ≡ Some held.new.inner)) }
         ensures same { IfErr part
             (λ e. (result ≡ Err e)
-            × ((held.new ≡ held.old) × (self.new.position ≡ Plain (without_prefix held.old.position)))) }
+            × ((held.new ≡ held.old) × (self.new.pending ≡ Plain (without_prefix held.old.position)))) }
     {
-        self.position = Pending::Plain(held.position().without_prefix());
+        self.pending = Pending::Plain(held.position().without_prefix());
         let descriptor = part?;
         held.describe(descriptor)
     }
@@ -310,7 +310,7 @@ impl Serializer for SizeSerializer {
             size_permits start (whole kind ps) result self.new }
         ensures no_tree { (start : SizeSerializer) (kind : Kind) (ps : List (Option Tree)) →
             size_has start kind self.old held ps → complete kind ps ≡ true →
-            meant start.position (whole kind ps) ≡ None → result ≡ Err InvalidValue }
+            meant start.pending (whole kind ps) ≡ None → result ≡ Err InvalidValue }
     {
         let position = held.position();
         let prefix_len = held.prefix_len();
@@ -330,7 +330,7 @@ impl Serializer for SizeSerializer {
             Shape::Transparent => self.transparent(position, prefix_len, sum),
             Shape::Single => {
                 // What the one value left goes on to the compound around this one.
-                self.position = held.inner();
+                self.pending = held.inner();
                 self.prefix_len = prefix_len;
                 Ok(sum)
             }

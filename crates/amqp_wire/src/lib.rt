@@ -5,6 +5,7 @@
 //! exactly the tree's bytes exactly where the tree can be written, out of memory aside.
 #![tactic(auto)]
 
+mod accept;
 mod header;
 mod measurer;
 mod output;
@@ -13,6 +14,8 @@ mod table;
 #[cfg(test)]
 mod tests;
 mod two_walks;
+mod write;
 mod writer;
+mod writing;
 
 pub use two_walks::to_vec;

@@ -53,7 +53,7 @@ impl Measurer {
     pub fn new(alloc: Global) -> Measurer
         ensures table { result.table.headers.items ≡ [] }
         ensures refused { result.table.refused ≡ false }
-        ensures position { result.size.position ≡ Plain Root }
+        ensures pending { result.size.pending ≡ Plain Root }
     {
         Measurer {
             size: SizeSerializer::new(),
@@ -126,7 +126,7 @@ impl Serializer for Measurer {
     fn serialize_fixed(&mut self, fixed: Fixed) -> Result<usize, Refusal>
         ensures answered { measurer_permits self.old (Some (scalar (fixed_scalar fixed))) result
             self.new }
-        ensures no_tree { meant self.old.size.position (Some (scalar (fixed_scalar fixed))) ≡ None →
+        ensures no_tree { meant self.old.size.pending (Some (scalar (fixed_scalar fixed))) ≡ None →
             result ≡ Err InvalidValue }
     {
         self.size.serialize_fixed(fixed)
@@ -135,7 +135,7 @@ impl Serializer for Measurer {
     #[inline(always)]
     fn serialize_null(&mut self) -> Result<usize, Refusal>
         ensures answered { measurer_permits self.old (Some (scalar null)) result self.new }
-        ensures no_tree { meant self.old.size.position (Some (scalar null)) ≡ None →
+        ensures no_tree { meant self.old.size.pending (Some (scalar null)) ≡ None →
             result ≡ Err InvalidValue }
     {
         self.size.serialize_null()
@@ -144,7 +144,7 @@ impl Serializer for Measurer {
     #[inline(always)]
     fn serialize_str(&mut self, v: &str) -> Result<usize, Refusal>
         ensures answered { measurer_permits self.old (Some (scalar (string v.now))) result self.new }
-        ensures no_tree { meant self.old.size.position (Some (scalar (string v.now))) ≡ None →
+        ensures no_tree { meant self.old.size.pending (Some (scalar (string v.now))) ≡ None →
             result ≡ Err InvalidValue }
     {
         self.size.serialize_str(v)
@@ -153,7 +153,7 @@ impl Serializer for Measurer {
     #[inline(always)]
     fn serialize_bytes(&mut self, v: &[u8]) -> Result<usize, Refusal>
         ensures answered { measurer_permits self.old (Some (scalar (binary v.now))) result self.new }
-        ensures no_tree { meant self.old.size.position (Some (scalar (binary v.now))) ≡ None →
+        ensures no_tree { meant self.old.size.pending (Some (scalar (binary v.now))) ≡ None →
             result ≡ Err InvalidValue }
     {
         self.size.serialize_bytes(v)
@@ -283,7 +283,7 @@ impl Serializer for Measurer {
             measurer_permits start (whole kind ps) result self.new }
         ensures no_tree { (start : Measurer) (kind : Kind) (ps : List (Option Tree)) →
             measurer_has start kind self.old held ps → complete kind ps ≡ true →
-            meant start.size.position (whole kind ps) ≡ None → result ≡ Err TooLong → ⊥ }
+            meant start.size.pending (whole kind ps) ≡ None → result ≡ Err TooLong → ⊥ }
     {
         let Measuring {
             size,
