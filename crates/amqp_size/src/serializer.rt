@@ -12,14 +12,15 @@ use crate::open_compound::OpenCompound;
 use crate::position::{Pending, Position, ScalarMark, Shape};
 use crate::refusal::Refusal;
 use crate::width::{array_width, list_width, map_width};
-use amqp_data::Error;
+use amqp_data::{EncodingCodes, Error};
 use amqp_ser::{Fixed, Kind, Mark, Serialize, Serializer};
 use std::marker::Model;
 
 /// Counts the bytes of values; it is fresh after each call, refused ones too.
 ///
 /// # Errors
-/// Its calls refuse by [`Refusal`], of one byte, which `?` turns into `Error`; never as out of memory.
+/// Its calls refuse by [`Refusal`], of one byte, which `?` turns into `Error`; never as out of
+/// memory.
 ///
 /// # Example
 /// One serializer counts the array of the ubytes 1 and 2 as 6, and then their list as 7.
@@ -28,8 +29,8 @@ use std::marker::Model;
 /// Takes none.
 #[derive(Debug, Drop)]
 pub struct SizeSerializer {
-    /// Where the next value stands. An array's first element leaves its constructor here (`accept`),
-    /// and the array picks it up (`end_part`): no answer carries it.
+    /// Where the next value stands. An array's first element leaves its constructor here
+    /// (`accept`), and the array picks it up (`end_part`): no answer carries it.
     pub(crate) pending: Pending,
     /// How many bytes stand before the value, where it is after descriptors.
     pub(crate) prefix_len: usize,
@@ -118,7 +119,13 @@ impl Serializer for SizeSerializer {
                 )
             }
             Pending::Scalar(position, ScalarMark::Timestamp) => match fixed {
-                Fixed::Long(_) => self.accept(position, prefix_len, 0x83, 9, 8),
+                Fixed::Long(_) => self.accept(
+                    position,
+                    prefix_len,
+                    EncodingCodes::Timestamp as u8,
+                    9,
+                    8,
+                ),
                 _ => Err(Refusal::InvalidValue),
             },
             _ => Err(Refusal::InvalidValue),
@@ -135,7 +142,13 @@ impl Serializer for SizeSerializer {
         let prefix_len = self.prefix_len;
         self.reset();
         match pending {
-            Pending::Plain(position) => self.accept(position, prefix_len, 0x40, 1, 0),
+            Pending::Plain(position) => self.accept(
+                position,
+                prefix_len,
+                EncodingCodes::Null as u8,
+                1,
+                0,
+            ),
             _ => Err(Refusal::InvalidValue),
         }
     }
@@ -150,11 +163,16 @@ impl Serializer for SizeSerializer {
         let prefix_len = self.prefix_len;
         self.reset();
         match pending {
-            Pending::Plain(position) => self.text(position, prefix_len, 0xb1, v.len()),
+            Pending::Plain(position) => self.text(
+                position,
+                prefix_len,
+                EncodingCodes::Str32 as u8,
+                v.len(),
+            ),
             Pending::Scalar(position, ScalarMark::Symbol) => self.text(
                 position,
                 prefix_len,
-                0xb3,
+                EncodingCodes::Sym32 as u8,
                 v.len(),
             ),
             _ => Err(Refusal::InvalidValue),
@@ -171,18 +189,39 @@ impl Serializer for SizeSerializer {
         let prefix_len = self.prefix_len;
         self.reset();
         match pending {
-            Pending::Plain(position) => self.text(position, prefix_len, 0xb0, v.len()),
+            Pending::Plain(position) => self.text(
+                position,
+                prefix_len,
+                EncodingCodes::Vbin32 as u8,
+                v.len(),
+            ),
             Pending::Scalar(position, ScalarMark::Decimal32) if v.len() == 4 => self.accept(
-                position, prefix_len, 0x74, 5, 4,
+                position,
+                prefix_len,
+                EncodingCodes::Decimal32 as u8,
+                5,
+                4,
             ),
             Pending::Scalar(position, ScalarMark::Decimal64) if v.len() == 8 => self.accept(
-                position, prefix_len, 0x84, 9, 8,
+                position,
+                prefix_len,
+                EncodingCodes::Decimal64 as u8,
+                9,
+                8,
             ),
             Pending::Scalar(position, ScalarMark::Decimal128) if v.len() == 16 => self.accept(
-                position, prefix_len, 0x94, 17, 16,
+                position,
+                prefix_len,
+                EncodingCodes::Decimal128 as u8,
+                17,
+                16,
             ),
             Pending::Scalar(position, ScalarMark::Uuid) if v.len() == 16 => self.accept(
-                position, prefix_len, 0x98, 17, 16,
+                position,
+                prefix_len,
+                EncodingCodes::Uuid as u8,
+                17,
+                16,
             ),
             _ => Err(Refusal::InvalidValue),
         }
@@ -216,7 +255,8 @@ impl Serializer for SizeSerializer {
     fn begin_part(&mut self, held: &mut OpenCompound)
         ensures ready { (start : SizeSerializer) (kind : Kind) (ps : List (Option Tree)) →
             size_has start kind self.old held.old ps → size_awaits start kind self.new held.new ps }
-        ensures single { (start : SizeSerializer) → size_has start Kind.Single self.old held.old [] →
+        ensures single { (start : SizeSerializer) →
+            size_has start Kind.Single self.old held.old [] →
             (t : Option Tree) (r : Result ℕ Refusal) (after : SizeSerializer) →
             size_permits self.new t r after → size_permits start t r after }
         ensures pending { self.new.pending ≡ held.old.inner }
@@ -242,7 +282,8 @@ impl Serializer for SizeSerializer {
         ensures refused { IfErr part (λ _. IsErr result) }
         ensures same { IfErr part
             (λ e. (result ≡ Err e)
-            × ((held.new ≡ held.old) × (self.new.pending ≡ Plain (without_prefix held.old.position)))) }
+            × ((held.new ≡ held.old)
+            × (self.new.pending ≡ Plain (without_prefix held.old.position)))) }
     {
         // Picks up what the part left: an array's first element its constructor, in `accept`.
         let after = self.pending;
@@ -285,7 +326,8 @@ impl Serializer for SizeSerializer {
             (λ n. IfOk result (λ _. described_pending held.old.inner n ≡ Some held.new.inner)) }
         ensures same { IfErr part
             (λ e. (result ≡ Err e)
-            × ((held.new ≡ held.old) × (self.new.pending ≡ Plain (without_prefix held.old.position)))) }
+            × ((held.new ≡ held.old)
+            × (self.new.pending ≡ Plain (without_prefix held.old.position)))) }
     {
         self.pending = Pending::Plain(held.position().without_prefix());
         let descriptor = part?;
@@ -316,14 +358,26 @@ impl Serializer for SizeSerializer {
         let prefix_len = held.prefix_len();
         let sum = held.sum();
         match held.shape() {
-            Shape::List => self.accept(position, prefix_len, 0xd0, list_width(sum), sum + 8),
-            Shape::Map => self.accept(position, prefix_len, 0xd1, map_width(sum), sum + 8),
+            Shape::List => self.accept(
+                position,
+                prefix_len,
+                EncodingCodes::List32 as u8,
+                list_width(sum),
+                sum + 8,
+            ),
+            Shape::Map => self.accept(
+                position,
+                prefix_len,
+                EncodingCodes::Map32 as u8,
+                map_width(sum),
+                sum + 8,
+            ),
             Shape::Variant(index) => self.variant(position, prefix_len, index, list_width(sum)),
             Shape::NewtypeVariant(index) => self.variant(position, prefix_len, index, sum),
             Shape::Array => self.accept(
                 position,
                 prefix_len,
-                0xf0,
+                EncodingCodes::Array32 as u8,
                 array_width(sum, held.count()),
                 sum + 8,
             ),
@@ -342,8 +396,8 @@ impl Serializer for SizeSerializer {
 /// The length of the value's bytes, exactly where its tree can be written.
 ///
 /// # Errors
-/// `TooLong` only where a limit is passed, `InvalidValue` only where the tree cannot be written for another cause;
-/// one of them where the value has no tree.
+/// `TooLong` only where a limit is passed, `InvalidValue` only where the tree cannot be written for
+/// another cause; one of them where the value has no tree.
 ///
 /// # Memory
 /// Takes none.

@@ -40,7 +40,9 @@ impl Writer {
     #[inline(always)]
     pub(crate) fn accept(&mut self, position: Position, code: u8) -> Result<(), Refusal>
         ensures output { self.new.output ≡ self.old.output }
-        ensures accepted { self.old.pending ≡ Plain (without_prefix (position_at position 0)) → (t : Tree) → constructor t ≡ Some code → uniform_arrays t ≡ true → inside t ≡ true → placed t ≡ true →
+        ensures accepted { self.old.pending ≡ Plain (without_prefix (position_at position 0)) →
+            (t : Tree) → constructor t ≡ Some code → uniform_arrays t ≡ true → inside t ≡ true →
+            placed t ≡ true →
             accepts (position_at position 0) (Some t) result self.new.pending }
     {
         match position {
@@ -60,7 +62,9 @@ impl Writer {
     #[inline(never)]
     fn accept_elsewhere(&mut self, position: Position, code: u8) -> Result<(), Refusal>
         ensures output { self.new.output ≡ self.old.output }
-        ensures accepted { self.old.pending ≡ Plain (without_prefix (position_at position 0)) → (t : Tree) → constructor t ≡ Some code → uniform_arrays t ≡ true → inside t ≡ true → placed t ≡ true →
+        ensures accepted { self.old.pending ≡ Plain (without_prefix (position_at position 0)) →
+            (t : Tree) → constructor t ≡ Some code → uniform_arrays t ≡ true → inside t ≡ true →
+            placed t ≡ true →
             accepts (position_at position 0) (Some t) result self.new.pending }
     {
         match accepted(position, code) {
@@ -76,7 +80,8 @@ impl Writer {
     #[inline(always)]
     pub(crate) fn accept_transparent(&mut self, position: Position) -> Result<(), Refusal>
         ensures output { self.new.output ≡ self.old.output }
-        ensures accepted { self.old.pending ≡ Plain (without_prefix (position_at position 0)) → (ts : Trees) → uniform_arrays_each ts ≡ true → placed_each ts ≡ true →
+        ensures accepted { self.old.pending ≡ Plain (without_prefix (position_at position 0)) →
+            (ts : Trees) → uniform_arrays_each ts ≡ true → placed_each ts ≡ true →
             accepts (position_at position 0) (Some (transparent ts)) result self.new.pending }
     {
         match position {

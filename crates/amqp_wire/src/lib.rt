@@ -1,8 +1,9 @@
 //! The bytes of a value, in two walks and one reservation.
 //!
-//! `to_vec` walks over a value twice. The first walk counts its bytes and lists what stands before each compound; then
-//! the bytes are reserved at once, and the second walk writes into the reservation and takes no memory. It writes
-//! exactly the tree's bytes exactly where the tree can be written, out of memory aside.
+//! `to_vec` walks over a value twice. The first walk counts its bytes and lists what stands before
+//! each compound; then the bytes are reserved at once, and the second walk writes into the
+//! reservation and takes no memory. It writes exactly the tree's bytes exactly where the tree can
+//! be written, out of memory aside.
 #![tactic(auto)]
 
 mod accept;

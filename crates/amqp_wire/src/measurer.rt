@@ -143,7 +143,8 @@ impl Serializer for Measurer {
 
     #[inline(always)]
     fn serialize_str(&mut self, v: &str) -> Result<usize, Refusal>
-        ensures answered { measurer_permits self.old (Some (scalar (string v.now))) result self.new }
+        ensures answered { measurer_permits self.old (Some (scalar (string v.now))) result
+            self.new }
         ensures no_tree { meant self.old.size.pending (Some (scalar (string v.now))) ≡ None →
             result ≡ Err InvalidValue }
     {
@@ -152,7 +153,8 @@ impl Serializer for Measurer {
 
     #[inline(always)]
     fn serialize_bytes(&mut self, v: &[u8]) -> Result<usize, Refusal>
-        ensures answered { measurer_permits self.old (Some (scalar (binary v.now))) result self.new }
+        ensures answered { measurer_permits self.old (Some (scalar (binary v.now))) result
+            self.new }
         ensures no_tree { meant self.old.size.pending (Some (scalar (binary v.now))) ≡ None →
             result ≡ Err InvalidValue }
     {
@@ -203,7 +205,8 @@ impl Serializer for Measurer {
         held: &mut Measuring,
         part: Result<usize, Refusal>,
     ) -> Result<(), Refusal>
-        ensures step { (start : Measurer) (kind : Kind) (before : Measurer) (ps : List (Option Tree))
+        ensures step { (start : Measurer) (kind : Kind) (before : Measurer)
+            (ps : List (Option Tree))
             (p : Option Tree) → measurer_awaits start kind before held.old ps →
             measurer_permits before p part self.old →
             MatchResult result
@@ -297,8 +300,9 @@ impl Serializer for Measurer {
             return Err(Refusal::OutOfMemory);
         }
         let shape = size.shape();
-        // An array's first element left its constructor in the place of `self.size`, where `end_part`
-        // of the size serializer picked it up for `size`. Only then can the header be filled in.
+        // An array's first element left its constructor in the place of `self.size`, where
+        // `end_part` of the size serializer picked it up for `size`. Only then can the header be
+        // filled in.
         let header = Header {
             len: limited(size.sum()),
             count: parts,

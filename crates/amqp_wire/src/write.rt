@@ -17,6 +17,7 @@ ghost use Rattle.amqp_wire.specs.Writer.{Kept, accepts, writes_tree, opens, Part
 
 use crate::position::{accepted, in_array};
 use crate::writer::Writer;
+use amqp_data::EncodingCodes;
 use amqp_ser::Fixed;
 use amqp_size::width::LONGEST;
 use amqp_size::{Form, Position, Refusal, Shape};
@@ -38,8 +39,11 @@ impl Writer {
     #[inline(always)]
     pub(crate) fn fixed(&mut self, position: Position, fixed: Fixed) -> Result<(), Refusal>
         ensures kept { Kept self.old.output self.new.output }
-        ensures accepted { self.old.pending ≡ Plain (without_prefix (position_at position 0)) → accepts (position_at position 0) (Some (scalar (fixed_scalar fixed))) result self.new.pending }
-        ensures written { writes_tree (position_at position 0) self.old.output (Some (scalar (fixed_scalar fixed))) result self.new.output }
+        ensures accepted { self.old.pending ≡ Plain (without_prefix (position_at position 0)) →
+            accepts (position_at position 0) (Some (scalar (fixed_scalar fixed))) result
+            self.new.pending }
+        ensures written { writes_tree (position_at position 0) self.old.output
+            (Some (scalar (fixed_scalar fixed))) result self.new.output }
     {
         match accepted(position, Form::in_array(fixed).code) {
             Ok(after) => {
@@ -56,10 +60,12 @@ impl Writer {
     #[inline(always)]
     pub(crate) fn null(&mut self, position: Position) -> Result<(), Refusal>
         ensures kept { Kept self.old.output self.new.output }
-        ensures accepted { self.old.pending ≡ Plain (without_prefix (position_at position 0)) → accepts (position_at position 0) (Some (scalar null)) result self.new.pending }
-        ensures written { writes_tree (position_at position 0) self.old.output (Some (scalar null)) result self.new.output }
+        ensures accepted { self.old.pending ≡ Plain (without_prefix (position_at position 0)) →
+            accepts (position_at position 0) (Some (scalar null)) result self.new.pending }
+        ensures written { writes_tree (position_at position 0) self.old.output (Some (scalar null))
+            result self.new.output }
     {
-        match accepted(position, 0x40) {
+        match accepted(position, EncodingCodes::Null as u8) {
             Ok(after) => {
                 let put = self.output.put_null(in_array(position));
                 self.written(put);
@@ -80,8 +86,14 @@ impl Writer {
         bytes: &[u8],
     ) -> Result<(), Refusal>
         ensures kept { Kept self.old.output self.new.output }
-        ensures accepted { self.old.pending ≡ Plain (without_prefix (position_at position 0)) → (s : Scalar) → scalar_code s ≡ long → within_limits (scalar s) ≡ fits (length bytes.now) → accepts (position_at position 0) (Some (scalar s)) result self.new.pending }
-        ensures written { (s : Scalar) → ((a : Bool) → bytes_at a (scalar s) ≡ text_at a short long bytes.now) → writes_tree (position_at position 0) self.old.output (Some (scalar s)) result self.new.output }
+        ensures accepted { self.old.pending ≡ Plain (without_prefix (position_at position 0)) →
+            (s : Scalar) → scalar_code s ≡ long →
+            within_limits (scalar s) ≡ fits (length bytes.now) →
+            accepts (position_at position 0) (Some (scalar s)) result self.new.pending }
+        ensures written { (s : Scalar) →
+            ((a : Bool) → bytes_at a (scalar s) ≡ text_at a short long bytes.now) →
+            writes_tree (position_at position 0) self.old.output (Some (scalar s)) result
+            self.new.output }
     {
         if bytes.len() > LONGEST {
             return Err(Refusal::TooLong);
@@ -106,8 +118,13 @@ impl Writer {
         bytes: &[u8],
     ) -> Result<(), Refusal>
         ensures kept { Kept self.old.output self.new.output }
-        ensures accepted { self.old.pending ≡ Plain (without_prefix (position_at position 0)) → (s : Scalar) → scalar_code s ≡ code → accepts (position_at position 0) (Some (scalar s)) result self.new.pending }
-        ensures written { (s : Scalar) → ((a : Bool) → bytes_at a (scalar s) ≡ pick a (code ∷ bytes.now) bytes.now) → writes_tree (position_at position 0) self.old.output (Some (scalar s)) result self.new.output }
+        ensures accepted { self.old.pending ≡ Plain (without_prefix (position_at position 0)) →
+            (s : Scalar) → scalar_code s ≡ code →
+            accepts (position_at position 0) (Some (scalar s)) result self.new.pending }
+        ensures written { (s : Scalar) →
+            ((a : Bool) → bytes_at a (scalar s) ≡ pick a (code ∷ bytes.now) bytes.now) →
+            writes_tree (position_at position 0) self.old.output (Some (scalar s)) result
+            self.new.output }
     {
         match accepted(position, code) {
             Ok(after) => {
@@ -125,7 +142,10 @@ impl Writer {
     pub(crate) fn open(&mut self, position: Position, shape: Shape)
         ensures kept { Kept self.old.output self.new.output }
         ensures pending { self.new.pending ≡ self.old.pending }
-        ensures opened { (ts : Trees) → PartsFitOutput (in_array (position_at position 0)) shape self.old.output ts → opens (in_array (position_at position 0)) shape self.old.output (compound_headers shape ts) (Ok tt) self.new.output }
+        ensures opened { (ts : Trees) →
+            PartsFitOutput (in_array (position_at position 0)) shape self.old.output ts →
+            opens (in_array (position_at position 0)) shape self.old.output
+            (compound_headers shape ts) (Ok tt) self.new.output }
     {
         let put = self.output.open(in_array(position), shape);
         self.written(put);
@@ -137,9 +157,10 @@ impl Writer {
         ensures kept { Kept self.old.output self.new.output }
         ensures pending { self.new.pending ≡ self.old.pending }
         ensures written { length self.old.output.out.items + 1 ≤ vec_capacity self.old.output.out →
-            (self.new.output.out.items ≡ self.old.output.out.items ++ (0x00 ∷ [])) × (self.new.output.taken ≡ self.old.output.taken) }
+            (self.new.output.out.items ≡ self.old.output.out.items ++ (0x00 ∷ []))
+            × (self.new.output.taken ≡ self.old.output.taken) }
     {
-        let put = self.output.put_few(&[0x00]);
+        let put = self.output.put_few(&[EncodingCodes::DescribedType as u8]);
         self.written(put);
     }
 }

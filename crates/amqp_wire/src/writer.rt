@@ -1,7 +1,8 @@
 //! The second walk: the bytes, into room that stands ready.
 //!
-//! It takes and refuses what the first walk does, call by call, whatever the table and the room are: those are a tree's
-//! only where nothing is refused. Where they fall short, what is written is not kept.
+//! It takes and refuses what the first walk does, call by call, whatever the table and the room
+//! are: those are a tree's only where nothing is refused. Where they fall short, what is written is
+//! not kept.
 
 ghost use Rattle.std.specs.Prelude.{◌≡◌, ◌++◌, ◌∷◌, [], List, Option, Some, None, Result, Ok, Err, MatchResult, IfErr, IsErr, nat_le, length};
 ghost use Rattle.amqp_ser.specs.Tree.{Tree};
@@ -10,6 +11,7 @@ use crate::output::{Checkpoint, Output};
 use crate::position::{described, inner_after};
 use crate::table::Header;
 use crate::writing::Writing;
+use amqp_data::EncodingCodes;
 use amqp_ser::{Fixed, Kind, Mark, Serializer};
 use amqp_size::{Pending, Position, Refusal, ScalarMark, Shape};
 use std::marker::Model;
@@ -101,7 +103,11 @@ impl Serializer for Writer {
         match pending {
             Pending::Plain(position) => self.fixed(position, fixed),
             Pending::Scalar(position, ScalarMark::Timestamp) => match fixed {
-                Fixed::Long(v) => self.exact(position, 0x83, &v.to_be_bytes()),
+                Fixed::Long(v) => self.exact(
+                    position,
+                    EncodingCodes::Timestamp as u8,
+                    &v.to_be_bytes(),
+                ),
                 _ => Err(Refusal::InvalidValue),
             },
             _ => Err(Refusal::InvalidValue),
@@ -123,11 +129,16 @@ impl Serializer for Writer {
         let pending = self.pending;
         self.reset();
         match pending {
-            Pending::Plain(position) => self.text(position, 0xa1, 0xb1, v.as_bytes()),
+            Pending::Plain(position) => self.text(
+                position,
+                EncodingCodes::Str8 as u8,
+                EncodingCodes::Str32 as u8,
+                v.as_bytes(),
+            ),
             Pending::Scalar(position, ScalarMark::Symbol) => self.text(
                 position,
-                0xa3,
-                0xb3,
+                EncodingCodes::Sym8 as u8,
+                EncodingCodes::Sym32 as u8,
                 v.as_bytes(),
             ),
             _ => Err(Refusal::InvalidValue),
@@ -139,18 +150,31 @@ impl Serializer for Writer {
         let pending = self.pending;
         self.reset();
         match pending {
-            Pending::Plain(position) => self.text(position, 0xa0, 0xb0, v),
+            Pending::Plain(position) => self.text(
+                position,
+                EncodingCodes::Vbin8 as u8,
+                EncodingCodes::Vbin32 as u8,
+                v,
+            ),
             Pending::Scalar(position, ScalarMark::Decimal32) if v.len() == 4 => self.exact(
-                position, 0x74, v,
+                position,
+                EncodingCodes::Decimal32 as u8,
+                v,
             ),
             Pending::Scalar(position, ScalarMark::Decimal64) if v.len() == 8 => self.exact(
-                position, 0x84, v,
+                position,
+                EncodingCodes::Decimal64 as u8,
+                v,
             ),
             Pending::Scalar(position, ScalarMark::Decimal128) if v.len() == 16 => self.exact(
-                position, 0x94, v,
+                position,
+                EncodingCodes::Decimal128 as u8,
+                v,
             ),
             Pending::Scalar(position, ScalarMark::Uuid) if v.len() == 16 => self.exact(
-                position, 0x98, v,
+                position,
+                EncodingCodes::Uuid as u8,
+                v,
             ),
             _ => Err(Refusal::InvalidValue),
         }
@@ -208,7 +232,9 @@ impl Serializer for Writer {
 
     #[inline(always)]
     fn end_part(&mut self, held: &mut Writing, part: Result<(), Refusal>) -> Result<(), Refusal>
-        ensures step { (start : Writer) (kind : Kind) (before : Writer) (ps : List (Option Tree)) (p : Option Tree) → writer_awaits start kind before held.old ps → writer_permits before p part self.old →
+        ensures step { (start : Writer) (kind : Kind) (before : Writer) (ps : List (Option Tree))
+            (p : Option Tree) → writer_awaits start kind before held.old ps →
+            writer_permits before p part self.old →
             MatchResult result
             (λ _. writer_has start kind self.new held.new (ps ++ (p ∷ [])))
             (λ e. writer_has start kind self.new held.new ps × ((rest : List (Option Tree)) →
@@ -243,14 +269,20 @@ impl Serializer for Writer {
         held: &mut Writing,
         part: Result<(), Refusal>,
     ) -> Result<(), Refusal>
-        ensures step { (start before : Writer) (d : Option Tree) → AwaitsDescriptor start before held.old → writer_permits before d part self.old →
+        ensures step { (start before : Writer) (d : Option Tree) →
+            AwaitsDescriptor start before held.old → writer_permits before d part self.old →
             MatchResult result
-            (λ _. (mid : Writer) × (writer_has mid Kind.Single self.new held.new [] × ((t : Option Tree) (r : Result (Unit {0}) Refusal) (after : Writer) →
-            writer_permits mid t r after → writer_permits start (as_described (descriptor_of d) t) r after)))
+            (λ _. (mid : Writer)
+            × (writer_has mid Kind.Single self.new held.new []
+            × ((t : Option Tree) (r : Result (Unit {0}) Refusal) (after : Writer) →
+            writer_permits mid t r after →
+            writer_permits start (as_described (descriptor_of d) t) r after)))
             (λ e. writer_has start Kind.Single self.new held.new [] × ((t : Option Tree) →
             writer_permits start (as_described (descriptor_of d) t) (Err e) self.new)) }
         ensures refused { IfErr part (λ _. IsErr result) }
-        ensures other_kinds { (start before : Writer) (d : Option Tree) → AwaitsDescriptor start before held.old → writer_permits before d part self.old → descriptor_of d ≡ None → IsErr result }
+        ensures other_kinds { (start before : Writer) (d : Option Tree) →
+            AwaitsDescriptor start before held.old → writer_permits before d part self.old →
+            descriptor_of d ≡ None → IsErr result }
     {
         self.pending = Pending::Plain(held.position.without_prefix());
         match part {
@@ -284,11 +316,11 @@ impl Serializer for Writer {
     #[inline(always)]
     fn end(&mut self, held: Writing) -> Result<(), Refusal> {
         match held.shape {
-            Shape::List => self.accept(held.position, 0xd0),
-            Shape::Map => self.accept(held.position, 0xd1),
-            Shape::Variant(_) => self.accept(held.position, 0xd1),
-            Shape::NewtypeVariant(_) => self.accept(held.position, 0xd1),
-            Shape::Array => self.accept(held.position, 0xf0),
+            Shape::List => self.accept(held.position, EncodingCodes::List32 as u8),
+            Shape::Map => self.accept(held.position, EncodingCodes::Map32 as u8),
+            Shape::Variant(_) => self.accept(held.position, EncodingCodes::Map32 as u8),
+            Shape::NewtypeVariant(_) => self.accept(held.position, EncodingCodes::Map32 as u8),
+            Shape::Array => self.accept(held.position, EncodingCodes::Array32 as u8),
             Shape::Transparent => self.accept_transparent(held.position),
             Shape::Single => {
                 self.pending = held.inner;
