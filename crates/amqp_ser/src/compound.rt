@@ -1,7 +1,7 @@
 //! Compounds whose parts are still fed, over any serializer.
 //!
-//! Each holds the serializer and what it holds open. A part that is refused leaves the compound as it was, and it may
-//! be fed on.
+//! Each holds the serializer and what it holds open. A part that is refused leaves the compound as
+//! it was, and it may be fed on.
 
 mod any_field;
 mod body;

@@ -29,7 +29,8 @@ fn is_misplaced(form: StructForm, described: bool, opened: bool, descriptor: boo
     }
 }
 
-/// Feeds any field, or the descriptor. What is held comes and goes by value, so that it is in no memory of the caller's.
+/// Feeds any field, or the descriptor. What is held comes and goes by value, so that it is in no
+/// memory of the caller's.
 #[tactic(auto, unfolding(crate::specs::Structs::Stands))]
 #[inline(never)]
 pub fn feed_owned<S: Serializer, T: Serialize>(

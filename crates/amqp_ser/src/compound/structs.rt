@@ -19,11 +19,12 @@ use crate::serialize::Serialize;
 use crate::serializer::Serializer;
 use crate::struct_form::StructForm;
 
-/// A struct whose fields are still fed: a list of them, a map from their names, or the one field itself, as the
-/// struct's name says. A first field of the descriptor's key makes it described.
+/// A struct whose fields are still fed: a list of them, a map from their names, or the one field
+/// itself, as the struct's name says. A first field of the descriptor's key makes it described.
 ///
 /// # Encoding
-/// `00`, the descriptor and the body (AMQP 1.0 part 1, section 1.2), or the body alone (sections 1.6.22 and 1.6.23).
+/// `00`, the descriptor and the body (AMQP 1.0 part 1, section 1.2), or the body alone (sections
+/// 1.6.22 and 1.6.23).
 pub struct SerializeStruct<'a, S: Serializer> {
     serializer: &'a mut S,
     held: S::Open,
@@ -74,7 +75,8 @@ impl<'a, S: Serializer> SerializeStruct<'a, S> {
         }
     }
 
-    /// The serializer behind the struct, which goes on with what is left there; nothing else of it changes.
+    /// The serializer behind the struct, which goes on with what is left there; nothing else of it
+    /// changes.
     pub fn as_mut(&mut self) -> &mut S
         ensures* writes_back { sem 𝓛
             (Lends
@@ -89,8 +91,9 @@ impl<'a, S: Serializer> SerializeStruct<'a, S> {
     /// Serializes one field more, or the descriptor.
     ///
     /// # Errors
-    /// The serializer's refusal of the field, of a descriptor that is no ulong and no symbol, of a second or late
-    /// descriptor, or of a second field where there is one alone; the struct is then as it was and may be fed on.
+    /// The serializer's refusal of the field, of a descriptor that is no ulong and no symbol, of a
+    /// second or late descriptor, or of a second field where there is one alone; the struct is then
+    /// as it was and may be fed on.
     #[tactic(auto, unfolding(crate::specs::Structs::Stands))]
     #[inline(always)]
     pub fn serialize_field<T: Serialize>(
@@ -184,20 +187,24 @@ impl<'a, S: Serializer> SerializeStruct<'a, S> {
             (start : S) (prefix : Option (Option Tree)) (ps : List (Option Tree)) →
             Stands S.permits S.has start prefix Kind.List self.entry.serializer.now
             self.entry.held ps →
-            S.permits start (optionally_described prefix (whole Kind.List ps)) result self.exit.0.now }
+            S.permits start (optionally_described prefix (whole Kind.List ps)) result
+            self.exit.0.now }
         ensures map { self.entry.opened ≡ true → self.entry.form ≡ StructForm.Map →
             (start : S) (prefix : Option (Option Tree)) (ps : List (Option Tree)) →
             Stands S.permits S.has start prefix Kind.Map self.entry.serializer.now
             self.entry.held ps → paired ps ≡ true →
-            S.permits start (optionally_described prefix (whole Kind.Map ps)) result self.exit.0.now }
+            S.permits start (optionally_described prefix (whole Kind.Map ps)) result
+            self.exit.0.now }
         ensures alone { self.entry.opened ≡ true → self.entry.form ≡ StructForm.Single →
             (start : S) (prefix : Option (Option Tree)) (p : Option Tree) →
-            Stands S.permits S.has start prefix Kind.Single self.entry.serializer.now self.entry.held
+            Stands S.permits S.has start prefix Kind.Single self.entry.serializer.now
+            self.entry.held
             (p ∷ []) → S.permits start (optionally_described prefix p) result self.exit.0.now }
         ensures empty { self.entry.opened ≡ false → (start : S) (prefix : Option (Option Tree)) →
             Stands S.permits S.has start prefix Kind.Single self.entry.serializer.now
             self.entry.held [] →
-            S.permits start (optionally_described prefix (whole (form_kind self.entry.form) [])) result
+            S.permits start (optionally_described prefix (whole (form_kind self.entry.form) []))
+            result
             self.exit.0.now }
         ensures invalid { self.entry.opened ≡ false → self.entry.form ≡ StructForm.Single →
             IsErr result × IfErr result S.is_misuse }

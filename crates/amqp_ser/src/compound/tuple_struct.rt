@@ -17,11 +17,12 @@ use crate::serialize::Serialize;
 use crate::serializer::Serializer;
 use crate::struct_form::StructForm;
 
-/// A tuple struct whose fields are still fed: a list of them, or the one field itself. Where its name asks for a
-/// descriptor, the first field is that.
+/// A tuple struct whose fields are still fed: a list of them, or the one field itself. Where its
+/// name asks for a descriptor, the first field is that.
 ///
 /// # Encoding
-/// `00`, the descriptor and the body (AMQP 1.0 part 1, section 1.2), or a list alone (section 1.6.22).
+/// `00`, the descriptor and the body (AMQP 1.0 part 1, section 1.2), or a list alone (section
+/// 1.6.22).
 pub struct SerializeTupleStruct<'a, S: Serializer> {
     serializer: &'a mut S,
     held: S::Open,
@@ -74,7 +75,8 @@ impl<'a, S: Serializer> SerializeTupleStruct<'a, S> {
         }
     }
 
-    /// The serializer behind the struct, which goes on with what is left there; nothing else of it changes.
+    /// The serializer behind the struct, which goes on with what is left there; nothing else of it
+    /// changes.
     pub fn as_mut(&mut self) -> &mut S
         ensures* writes_back { sem 𝓛
             (Lends
@@ -89,8 +91,8 @@ impl<'a, S: Serializer> SerializeTupleStruct<'a, S> {
     /// Serializes one field more, or the descriptor, where it is still to come.
     ///
     /// # Errors
-    /// The serializer's refusal of the field, of a descriptor that is no ulong and no symbol, or of a second field
-    /// where there is one alone; the struct is then as it was and may be fed on.
+    /// The serializer's refusal of the field, of a descriptor that is no ulong and no symbol, or of
+    /// a second field where there is one alone; the struct is then as it was and may be fed on.
     #[tactic(auto, unfolding(crate::specs::Structs::Stands))]
     #[inline(always)]
     pub fn serialize_field<T: Serialize>(&mut self, value: &T) -> Result<(), S::Error>
@@ -158,15 +160,18 @@ impl<'a, S: Serializer> SerializeTupleStruct<'a, S> {
             (start : S) (prefix : Option (Option Tree)) (ps : List (Option Tree)) →
             Stands S.permits S.has start prefix Kind.List self.entry.serializer.now
             self.entry.held ps →
-            S.permits start (optionally_described prefix (whole Kind.List ps)) result self.exit.0.now }
+            S.permits start (optionally_described prefix (whole Kind.List ps)) result
+            self.exit.0.now }
         ensures alone { self.entry.opened ≡ true → self.entry.single ≡ true →
             (start : S) (prefix : Option (Option Tree)) (p : Option Tree) →
-            Stands S.permits S.has start prefix Kind.Single self.entry.serializer.now self.entry.held
+            Stands S.permits S.has start prefix Kind.Single self.entry.serializer.now
+            self.entry.held
             (p ∷ []) → S.permits start (optionally_described prefix p) result self.exit.0.now }
         ensures empty { self.entry.opened ≡ false → (start : S) (prefix : Option (Option Tree)) →
             Stands S.permits S.has start prefix Kind.Single self.entry.serializer.now
             self.entry.held [] →
-            S.permits start (optionally_described prefix (whole (form_kind (single_or_list self.entry.single)) []))
+            S.permits start
+            (optionally_described prefix (whole (form_kind (single_or_list self.entry.single)) []))
             result self.exit.0.now }
         ensures invalid { self.entry.opened ≡ false → self.entry.single ≡ true →
             IsErr result × IfErr result S.is_misuse }
