@@ -42,7 +42,8 @@ fn serialize_entries<S: Serializer, F: Fields>(
     serializer.end(held)
 }
 
-/// The list of the fields up to the last that is there: an absent one before it is null. Their names are not written.
+/// The list of the fields up to the last that is there: an absent one before it is null. Their
+/// names are not written.
 ///
 /// # Encoding
 /// `45`, `c0` or `d0`: AMQP 1.0 part 1, section 1.6.22.

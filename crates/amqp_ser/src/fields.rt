@@ -24,8 +24,8 @@ pub enum Keys {
 /// The fields of a struct, in order, with their names. Written by the macro [`fields!`].
 ///
 /// # Implementer notes
-/// `named` is what the fields mean. A compound that was fed the fields has the parts that `named` tells, after those
-/// that it had; a refusal is permitted on every continuation.
+/// `named` is what the fields mean. A compound that was fed the fields has the parts that `named`
+/// tells, after those that it had; a refusal is permitted on every continuation.
 pub trait Fields {
     /// The fields in order: the name, whether the field is there, and the tree.
     ghost named: { Self → List (List ℕ × (Bool × Option Tree)) };

@@ -37,7 +37,8 @@ pub fn is_value_name(name: &str) -> bool
     name == markers::VALUE
 }
 
-/// Whether a field of this key is its struct's descriptor, or an enum of this name has no variant with a value.
+/// Whether a field of this key is its struct's descriptor, or an enum of this name has no variant
+/// with a value.
 ///
 /// # Memory
 /// Takes none.

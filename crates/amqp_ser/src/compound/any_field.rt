@@ -1,11 +1,11 @@
 //! Feeding a struct of any form a field, or its descriptor.
 
-ghost use Rattle.std.specs.Prelude.{◌≡◌, ◌++◌, ◌∷◌, [], List, Option, Some, None, Err, MatchResult, IfErr, IsErr, true, false};
-ghost use Rattle.amqp_ser.specs.Tree.{Tree, scalar, string};
-ghost use Rattle.amqp_ser.specs.Compounds.{whole, paired};
-ghost use Rattle.amqp_ser.specs.Composites.{as_described, descriptor_of};
+ghost use Rattle.std.specs.Prelude.{◌≡◌, ◌∷◌, [], Some, None, IfErr, IsErr, true, false};
+ghost use Rattle.amqp_ser.specs.Tree.{scalar, string};
+ghost use Rattle.amqp_ser.specs.Composites.{descriptor_of};
 ghost use Rattle.amqp_ser.specs.Marked.{is_descriptor_name};
-ghost use Rattle.amqp_ser.specs.Structs.{Stands, open_kind, optionally_described, is_misplaced};
+ghost use Rattle.amqp_ser.specs.StructFeeding.{FeedsDescriptor, FeedsFirst, FeedsElement, FeedsEntry, FeedsSingle, RefusesField};
+ghost use Rattle.amqp_ser.specs.Structs.{Stands, open_kind, is_misplaced};
 ghost use Rattle.amqp_ser.specs.declared.kind.Kind.{Kind};
 
 use super::body::open_body;
@@ -29,7 +29,8 @@ fn is_misplaced(form: StructForm, described: bool, opened: bool, descriptor: boo
     }
 }
 
-/// Feeds any field, or the descriptor. What is held comes and goes by value, so that it is in no memory of the caller's.
+/// Feeds any field, or the descriptor. What is held comes and goes by value, so that it is in no
+/// memory of the caller's.
 #[tactic(auto, unfolding(crate::specs::Structs::Stands))]
 #[inline(never)]
 pub fn feed_owned<S: Serializer, T: Serialize>(
@@ -42,77 +43,36 @@ pub fn feed_owned<S: Serializer, T: Serialize>(
     value: &T,
 ) -> (S::Open, Result<(), S::Error>)
     ensures descriptor { is_descriptor_name key.now ≡ true → described ≡ false → opened ≡ false →
-        (start : S) → Stands S.permits S.has start None Kind.Single serializer.old held [] →
-        MatchResult result.1
-        (λ _. Stands S.permits S.has start (Some (T.tree value.now)) Kind.Single serializer.new
-        result.0 [])
-        (λ e. Stands S.permits S.has start None Kind.Single serializer.new result.0 []
-        × ((t : Option Tree) →
-        S.permits start (as_described (descriptor_of (T.tree value.now)) t)
-        (Err e) serializer.new)) }
-    ensures first_of_list { is_descriptor_name key.now ≡ false → opened ≡ false → form ≡ StructForm.List →
-        (start : S) (prefix : Option (Option Tree)) →
-        Stands S.permits S.has start prefix Kind.Single serializer.old held [] →
-        MatchResult result.1
-        (λ _. Stands S.permits S.has start prefix Kind.List serializer.new result.0
-        (T.tree value.now ∷ []))
-        (λ e. Stands S.permits S.has start prefix Kind.Single serializer.new result.0 []
-        × ((rest : List (Option Tree)) →
-        S.permits start (optionally_described prefix (whole Kind.List (T.tree value.now ∷ rest)))
-        (Err e) serializer.new)) }
-    ensures next_of_list { is_descriptor_name key.now ≡ false → opened ≡ true → form ≡ StructForm.List →
-        (start : S) (prefix : Option (Option Tree)) (ps : List (Option Tree)) →
-        Stands S.permits S.has start prefix Kind.List serializer.old held ps →
-        MatchResult result.1
-        (λ _. Stands S.permits S.has start prefix Kind.List serializer.new result.0
-        (ps ++ (T.tree value.now ∷ [])))
-        (λ e. Stands S.permits S.has start prefix Kind.List serializer.new result.0 ps
-        × ((rest : List (Option Tree)) →
-        S.permits start (optionally_described prefix (whole Kind.List (ps ++ (T.tree value.now ∷ rest))))
-        (Err e) serializer.new)) }
-    ensures first_of_map { is_descriptor_name key.now ≡ false → opened ≡ false → form ≡ StructForm.Map →
-        (start : S) (prefix : Option (Option Tree)) →
-        Stands S.permits S.has start prefix Kind.Single serializer.old held [] →
-        MatchResult result.1
-        (λ _. Stands S.permits S.has start prefix Kind.Map serializer.new result.0
-        (Some (scalar (string key.now)) ∷ (T.tree value.now ∷ [])))
-        (λ e. Stands S.permits S.has start prefix Kind.Single serializer.new result.0 []
-        × ((rest : List (Option Tree)) →
-        S.permits start
-        (optionally_described prefix
-        (whole Kind.Map (Some (scalar (string key.now)) ∷ (T.tree value.now ∷ rest))))
-        (Err e) serializer.new)) }
-    ensures next_of_map { is_descriptor_name key.now ≡ false → opened ≡ true → form ≡ StructForm.Map →
-        (start : S) (prefix : Option (Option Tree)) (ps : List (Option Tree)) →
-        Stands S.permits S.has start prefix Kind.Map serializer.old held ps → paired ps ≡ true →
-        MatchResult result.1
-        (λ _. Stands S.permits S.has start prefix Kind.Map serializer.new result.0
-        (ps ++ (Some (scalar (string key.now)) ∷ (T.tree value.now ∷ []))))
-        (λ e. Stands S.permits S.has start prefix Kind.Map serializer.new result.0 ps
-        × ((rest : List (Option Tree)) →
-        S.permits start
-        (optionally_described prefix
-        (whole Kind.Map (ps ++ (Some (scalar (string key.now)) ∷ (T.tree value.now ∷ rest)))))
-        (Err e) serializer.new)) }
-    ensures alone { is_descriptor_name key.now ≡ false → opened ≡ false → form ≡ StructForm.Single →
-        (start : S) (prefix : Option (Option Tree)) →
-        Stands S.permits S.has start prefix Kind.Single serializer.old held [] →
-        MatchResult result.1
-        (λ _. Stands S.permits S.has start prefix Kind.Single serializer.new result.0
-        (T.tree value.now ∷ []))
-        (λ e. Stands S.permits S.has start prefix Kind.Single serializer.new result.0 []
-        × S.permits start (optionally_described prefix (T.tree value.now)) (Err e) serializer.new) }
+        FeedsDescriptor S.permits S.has (T.tree value.now) serializer.old held result.1
+        serializer.new result.0 }
+    ensures first_of_list { is_descriptor_name key.now ≡ false → opened ≡ false →
+        form ≡ StructForm.List →
+        FeedsFirst S.permits S.has Kind.List (T.tree value.now ∷ []) serializer.old held
+        result.1 serializer.new result.0 }
+    ensures next_of_list { is_descriptor_name key.now ≡ false → opened ≡ true →
+        form ≡ StructForm.List →
+        FeedsElement S.permits S.has (T.tree value.now) serializer.old held result.1
+        serializer.new result.0 }
+    ensures first_of_map { is_descriptor_name key.now ≡ false → opened ≡ false →
+        form ≡ StructForm.Map →
+        FeedsFirst S.permits S.has Kind.Map
+        (Some (scalar (string key.now)) ∷ (T.tree value.now ∷ [])) serializer.old held
+        result.1 serializer.new result.0 }
+    ensures next_of_map { is_descriptor_name key.now ≡ false → opened ≡ true →
+        form ≡ StructForm.Map →
+        FeedsEntry S.permits S.has (Some (scalar (string key.now))) (T.tree value.now)
+        serializer.old held result.1 serializer.new result.0 }
+    ensures alone { is_descriptor_name key.now ≡ false → opened ≡ false →
+        form ≡ StructForm.Single →
+        FeedsSingle S.permits S.has (T.tree value.now) serializer.old held result.1
+        serializer.new result.0 }
     ensures misuse { is_misplaced form described opened (is_descriptor_name key.now) ≡ true →
-        IsErr result.1 × ((start : S) (prefix : Option (Option Tree)) (ps : List (Option Tree)) →
-        Stands S.permits S.has start prefix (open_kind opened form) serializer.old held ps →
-        IfErr result.1
-        (λ e. Stands S.permits S.has start prefix (open_kind opened form) serializer.new result.0 ps
-        × S.permits start None (Err e) serializer.new)) }
+        IsErr result.1 × RefusesField S.permits S.has (open_kind opened form) serializer.old held
+        result.1 serializer.new result.0 }
     ensures invalid { is_misplaced form described opened (is_descriptor_name key.now) ≡ true →
         IfErr result.1 S.is_misuse }
     ensures other_kinds { is_descriptor_name key.now ≡ true → described ≡ false → opened ≡ false →
-        (start : S) →
-        Stands S.permits S.has start None Kind.Single serializer.old held [] →
+        (start : S) → Stands S.permits S.has start None Kind.Single serializer.old held [] →
         descriptor_of (T.tree value.now) ≡ None → IsErr result.1 }
 {
     let mut held = held;
@@ -165,77 +125,36 @@ pub fn feed_any<S: Serializer, T: Serialize>(
     value: &T,
 ) -> Result<(), S::Error>
     ensures descriptor { is_descriptor_name key.now ≡ true → described ≡ false → opened ≡ false →
-        (start : S) → Stands S.permits S.has start None Kind.Single serializer.old held.old [] →
-        MatchResult result
-        (λ _. Stands S.permits S.has start (Some (T.tree value.now)) Kind.Single serializer.new
-        held.new [])
-        (λ e. Stands S.permits S.has start None Kind.Single serializer.new held.new []
-        × ((t : Option Tree) →
-        S.permits start (as_described (descriptor_of (T.tree value.now)) t)
-        (Err e) serializer.new)) }
-    ensures first_of_list { is_descriptor_name key.now ≡ false → opened ≡ false → form ≡ StructForm.List →
-        (start : S) (prefix : Option (Option Tree)) →
-        Stands S.permits S.has start prefix Kind.Single serializer.old held.old [] →
-        MatchResult result
-        (λ _. Stands S.permits S.has start prefix Kind.List serializer.new held.new
-        (T.tree value.now ∷ []))
-        (λ e. Stands S.permits S.has start prefix Kind.Single serializer.new held.new []
-        × ((rest : List (Option Tree)) →
-        S.permits start (optionally_described prefix (whole Kind.List (T.tree value.now ∷ rest)))
-        (Err e) serializer.new)) }
-    ensures next_of_list { is_descriptor_name key.now ≡ false → opened ≡ true → form ≡ StructForm.List →
-        (start : S) (prefix : Option (Option Tree)) (ps : List (Option Tree)) →
-        Stands S.permits S.has start prefix Kind.List serializer.old held.old ps →
-        MatchResult result
-        (λ _. Stands S.permits S.has start prefix Kind.List serializer.new held.new
-        (ps ++ (T.tree value.now ∷ [])))
-        (λ e. Stands S.permits S.has start prefix Kind.List serializer.new held.new ps
-        × ((rest : List (Option Tree)) →
-        S.permits start (optionally_described prefix (whole Kind.List (ps ++ (T.tree value.now ∷ rest))))
-        (Err e) serializer.new)) }
-    ensures first_of_map { is_descriptor_name key.now ≡ false → opened ≡ false → form ≡ StructForm.Map →
-        (start : S) (prefix : Option (Option Tree)) →
-        Stands S.permits S.has start prefix Kind.Single serializer.old held.old [] →
-        MatchResult result
-        (λ _. Stands S.permits S.has start prefix Kind.Map serializer.new held.new
-        (Some (scalar (string key.now)) ∷ (T.tree value.now ∷ [])))
-        (λ e. Stands S.permits S.has start prefix Kind.Single serializer.new held.new []
-        × ((rest : List (Option Tree)) →
-        S.permits start
-        (optionally_described prefix
-        (whole Kind.Map (Some (scalar (string key.now)) ∷ (T.tree value.now ∷ rest))))
-        (Err e) serializer.new)) }
-    ensures next_of_map { is_descriptor_name key.now ≡ false → opened ≡ true → form ≡ StructForm.Map →
-        (start : S) (prefix : Option (Option Tree)) (ps : List (Option Tree)) →
-        Stands S.permits S.has start prefix Kind.Map serializer.old held.old ps → paired ps ≡ true →
-        MatchResult result
-        (λ _. Stands S.permits S.has start prefix Kind.Map serializer.new held.new
-        (ps ++ (Some (scalar (string key.now)) ∷ (T.tree value.now ∷ []))))
-        (λ e. Stands S.permits S.has start prefix Kind.Map serializer.new held.new ps
-        × ((rest : List (Option Tree)) →
-        S.permits start
-        (optionally_described prefix
-        (whole Kind.Map (ps ++ (Some (scalar (string key.now)) ∷ (T.tree value.now ∷ rest)))))
-        (Err e) serializer.new)) }
-    ensures alone { is_descriptor_name key.now ≡ false → opened ≡ false → form ≡ StructForm.Single →
-        (start : S) (prefix : Option (Option Tree)) →
-        Stands S.permits S.has start prefix Kind.Single serializer.old held.old [] →
-        MatchResult result
-        (λ _. Stands S.permits S.has start prefix Kind.Single serializer.new held.new
-        (T.tree value.now ∷ []))
-        (λ e. Stands S.permits S.has start prefix Kind.Single serializer.new held.new []
-        × S.permits start (optionally_described prefix (T.tree value.now)) (Err e) serializer.new) }
+        FeedsDescriptor S.permits S.has (T.tree value.now) serializer.old held.old result
+        serializer.new held.new }
+    ensures first_of_list { is_descriptor_name key.now ≡ false → opened ≡ false →
+        form ≡ StructForm.List →
+        FeedsFirst S.permits S.has Kind.List (T.tree value.now ∷ []) serializer.old held.old
+        result serializer.new held.new }
+    ensures next_of_list { is_descriptor_name key.now ≡ false → opened ≡ true →
+        form ≡ StructForm.List →
+        FeedsElement S.permits S.has (T.tree value.now) serializer.old held.old result
+        serializer.new held.new }
+    ensures first_of_map { is_descriptor_name key.now ≡ false → opened ≡ false →
+        form ≡ StructForm.Map →
+        FeedsFirst S.permits S.has Kind.Map
+        (Some (scalar (string key.now)) ∷ (T.tree value.now ∷ [])) serializer.old held.old
+        result serializer.new held.new }
+    ensures next_of_map { is_descriptor_name key.now ≡ false → opened ≡ true →
+        form ≡ StructForm.Map →
+        FeedsEntry S.permits S.has (Some (scalar (string key.now))) (T.tree value.now)
+        serializer.old held.old result serializer.new held.new }
+    ensures alone { is_descriptor_name key.now ≡ false → opened ≡ false →
+        form ≡ StructForm.Single →
+        FeedsSingle S.permits S.has (T.tree value.now) serializer.old held.old result
+        serializer.new held.new }
     ensures misuse { is_misplaced form described opened (is_descriptor_name key.now) ≡ true →
-        IsErr result × ((start : S) (prefix : Option (Option Tree)) (ps : List (Option Tree)) →
-        Stands S.permits S.has start prefix (open_kind opened form) serializer.old held.old ps →
-        IfErr result
-        (λ e. Stands S.permits S.has start prefix (open_kind opened form) serializer.new held.new ps
-        × S.permits start None (Err e) serializer.new)) }
+        IsErr result × RefusesField S.permits S.has (open_kind opened form) serializer.old held.old
+        result serializer.new held.new }
     ensures invalid { is_misplaced form described opened (is_descriptor_name key.now) ≡ true →
         IfErr result S.is_misuse }
     ensures other_kinds { is_descriptor_name key.now ≡ true → described ≡ false → opened ≡ false →
-        (start : S) →
-        Stands S.permits S.has start None Kind.Single serializer.old held.old [] →
+        (start : S) → Stands S.permits S.has start None Kind.Single serializer.old held.old [] →
         descriptor_of (T.tree value.now) ≡ None → IsErr result }
 {
     let vacant = serializer.vacant();

@@ -46,7 +46,8 @@ fn feed_field<S: Serializer, T: Serialize>(
     }
 }
 
-/// Opens a map or a list in place of a single compound and feeds it its first field, or leaves the single compound as it was.
+/// Opens a map or a list in place of a single compound and feeds it its first field, or leaves the
+/// single compound as it was.
 #[tactic(auto, unfolding(crate::specs::Structs::Stands))]
 #[inline(always)]
 pub fn open_body<S: Serializer, T: Serialize>(
@@ -119,7 +120,8 @@ pub fn end_fields<S: Serializer>(
         S.permits start p result serializer.new }
     ensures empty { opened ≡ false → (start : S) → S.has start Kind.Single serializer.old held [] →
         S.permits start (whole (form_kind form) []) result serializer.new }
-    ensures invalid { opened ≡ false → form ≡ StructForm.Single → IsErr result × IfErr result S.is_misuse }
+    ensures invalid { opened ≡ false → form ≡ StructForm.Single → IsErr result
+        × IfErr result S.is_misuse }
 {
     if !opened {
         return end_empty(serializer, held, form);

@@ -22,7 +22,8 @@ fn open_list<S: Serializer>(serializer: &mut S, held: &mut S::Open, opened: bool
         (single : S.Open)
         × ((result ≡ Some single)
         × ((mid : S)
-        × (S.awaits start Kind.Single mid single [] × (S.has mid Kind.List serializer.new held.new [] ×
+        × (S.awaits start Kind.Single mid single []
+        × (S.has mid Kind.List serializer.new held.new [] ×
         ((t : Option Tree) (r : Result S.Ok S.Error) (after : S) → S.permits mid t r after →
         S.permits start t r after))))) }
 {
@@ -57,7 +58,8 @@ fn close_first<S: Serializer>(
     }
 }
 
-/// Feeds a list one field more, the first after it was opened in place of a single compound; or leaves what was as it was.
+/// Feeds a list one field more, the first after it was opened in place of a single compound; or
+/// leaves what was as it was.
 #[tactic(auto, unfolding(crate::specs::Structs::Stands))]
 #[inline(always)]
 pub fn feed_list_field<S: Serializer, T: Serialize>(

@@ -1,4 +1,4 @@
-//! Tuple variants: an index and the list of the fields.
+//! Variants of fields: an index and the list of the fields.
 
 ghost use Rattle.std.specs.Prelude.{ℕ, ◌≡◌, ◌++◌, ◌∷◌, [], List, Option, Err, MatchResult};
 ghost use mir.Syntax.{named};
@@ -12,51 +12,69 @@ use crate::kind::Kind;
 use crate::serialize::Serialize;
 use crate::serializer::Serializer;
 
-/// A tuple variant whose fields are still fed.
+/// A variant whose fields are still fed; where they have names, those are not written.
 ///
 /// # Encoding
-/// The map of one pair, from the index as a uint to the list of the fields (AMQP 1.0 part 1, section 1.6.23).
-pub struct SerializeTupleVariant<'a, S: Serializer> {
+/// The map of one pair, from the index as a uint to the list of the fields (AMQP 1.0 part 1,
+/// section 1.6.23).
+pub struct SerializeVariant<'a, S: Serializer, const NAMED: bool> {
     serializer: &'a mut S,
     held: S::Open,
 }
 
-impl<S: Serializer> Drop for SerializeTupleVariant<'_, S> {
+impl<S: Serializer, const NAMED: bool> Drop for SerializeVariant<'_, S, NAMED> {
     #[inline(always)]
     fn drop(self)
         ensures { self.exit.0.now ≡ self.entry.serializer.now }
     {
-        let SerializeTupleVariant {
+        let SerializeVariant {
             serializer: _,
             held: _,
         } = self;
     }
 }
 
-impl<'a, S: Serializer> SerializeTupleVariant<'a, S> {
-    ghost use Rattle.amqp_ser.specs.contracts.compound.variant.SerializeTupleVariant as tuple_variant;
+impl<'a, S: Serializer, const NAMED: bool> SerializeVariant<'a, S, NAMED> {
+    ghost use Rattle.amqp_ser.specs.contracts.compound.variant.SerializeVariant as variant;
 
     #[inline(always)]
-    pub(crate) fn new(serializer: &'a mut S, held: S::Open) -> SerializeTupleVariant<'a, S>
+    pub(crate) fn new(serializer: &'a mut S, held: S::Open) -> SerializeVariant<'a, S, NAMED>
         ensures same_reference { result.serializer.ghost_name ≡ serializer.entry.ghost_name }
         ensures now { result.serializer.now ≡ serializer.old }
         ensures held { result.held ≡ held }
     {
-        SerializeTupleVariant { serializer, held }
+        SerializeVariant { serializer, held }
     }
 
-    /// The serializer behind the variant, which goes on with what is left there; nothing else of it changes.
+    /// The serializer behind the variant, which goes on with what is left there; nothing else of it
+    /// changes.
     pub fn as_mut(&mut self) -> &mut S
         ensures* writes_back { sem 𝓛
             (Lends
-            (tuple_variant.the_row (record { mir = named 1; lft = [] }) S.row S.Ok.row S.Error.row
-            S.Open.row) S.row self.entry result
+            (variant.the_row (record { mir = named 1; lft = [] }) S.row NAMED.row S.Ok.row
+            S.Error.row S.Open.row) S.row self.entry result
             (λ w. record self.old { serializer = record self.old.serializer { now = w } })) }
         ensures now { result.now ≡ self.old.serializer.now }
     {
         &mut *self.serializer
     }
 
+    /// Ends the variant, with the serializer's answer on its tree.
+    ///
+    /// # Errors
+    /// The serializer's refusal of that tree.
+    #[inline(always)]
+    pub fn end(self) -> Result<S::Ok, S::Error>
+        ensures { (start : S) (i : ℕ) (ps : List (Option Tree)) →
+            S.has start (Kind.Variant i) self.entry.serializer.now self.entry.held ps →
+            S.permits start (whole (Kind.Variant i) ps) result self.exit.0.now }
+    {
+        let SerializeVariant { serializer, held } = self;
+        serializer.end(held)
+    }
+}
+
+impl<'a, S: Serializer> SerializeVariant<'a, S, false> {
     /// Serializes one field more.
     ///
     /// # Errors
@@ -70,18 +88,30 @@ impl<'a, S: Serializer> SerializeTupleVariant<'a, S> {
     {
         feed_part(&mut *self.serializer, &mut self.held, value)
     }
+}
 
-    /// Ends the variant, with the serializer's answer on its tree.
+impl<'a, S: Serializer> SerializeVariant<'a, S, true> {
+    /// Serializes one field more.
     ///
     /// # Errors
-    /// The serializer's refusal of that tree.
+    /// The serializer's refusal of the field; the variant is then as it was and may be fed on.
     #[inline(always)]
-    pub fn end(self) -> Result<S::Ok, S::Error>
-        ensures { (start : S) (i : ℕ) (ps : List (Option Tree)) →
-            S.has start (Kind.Variant i) self.entry.serializer.now self.entry.held ps →
-            S.permits start (whole (Kind.Variant i) ps) result self.exit.0.now }
+    pub fn serialize_field<T: Serialize>(
+        &mut self,
+        _key: &'static str,
+        value: &T,
+    ) -> Result<(), S::Error>
+        ensures same { self.new.serializer.ghost_name ≡ self.old.serializer.ghost_name }
+        ensures step { (i : ℕ) →
+            Feeds S.permits S.has (Kind.Variant i) (T.tree value.now) self.old.serializer.now
+            self.old.held result self.new.serializer.now self.new.held }
     {
-        let SerializeTupleVariant { serializer, held } = self;
-        serializer.end(held)
+        feed_part(&mut *self.serializer, &mut self.held, value)
     }
 }
+
+/// A tuple variant whose fields are still fed.
+pub type SerializeTupleVariant<'a, S> = SerializeVariant<'a, S, false>;
+
+/// A struct variant whose fields are still fed; their names are not written.
+pub type SerializeStructVariant<'a, S> = SerializeVariant<'a, S, true>;

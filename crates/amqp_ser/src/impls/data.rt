@@ -1,4 +1,5 @@
-//! The types of AMQP data. Where Rust's data model has no kind for one, a mark makes it of the kind that is nearest.
+//! The types of AMQP data. Where Rust's data model has no kind for one, a mark makes it of the kind
+//! that is nearest.
 
 ghost use Rattle.std.specs.Prelude.{Some};
 ghost use Rattle.amqp_ser.specs.Carried.{array_of, descriptor_content, transparent_of};
