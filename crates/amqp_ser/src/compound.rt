@@ -10,12 +10,14 @@ pub(crate) mod feed;
 mod list_field;
 mod map;
 mod sequence;
+mod struct_variant;
 mod structs;
 mod tuple_struct;
 mod variant;
 
 pub use map::SerializeMap;
 pub use sequence::{SerializeSeq, SerializeTuple};
+pub use struct_variant::SerializeStructVariant;
 pub use structs::SerializeStruct;
 pub use tuple_struct::SerializeTupleStruct;
-pub use variant::{SerializeStructVariant, SerializeTupleVariant, SerializeVariant};
+pub use variant::SerializeTupleVariant;

@@ -22,7 +22,7 @@ mod struct_form;
 pub use composite::{ListOf, MapOf, SymbolMapOf, VariantOf};
 pub use compound::{
     SerializeMap, SerializeSeq, SerializeStruct, SerializeStructVariant, SerializeTuple,
-    SerializeTupleStruct, SerializeTupleVariant, SerializeVariant,
+    SerializeTupleStruct, SerializeTupleVariant,
 };
 pub use fields::{Field, Fields, Keys, OptionalField};
 pub use fixed::Fixed;

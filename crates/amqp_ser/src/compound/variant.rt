@@ -1,4 +1,4 @@
-//! Variants of fields: an index and the list of the fields.
+//! Tuple variants: an index and the list of the fields.
 
 ghost use Rattle.std.specs.Prelude.{ℕ, ◌≡◌, ◌++◌, ◌∷◌, [], List, Option, Err, MatchResult};
 ghost use mir.Syntax.{named};
@@ -12,38 +12,38 @@ use crate::kind::Kind;
 use crate::serialize::Serialize;
 use crate::serializer::Serializer;
 
-/// A variant whose fields are still fed; where they have names, those are not written.
+/// A tuple variant whose fields are still fed.
 ///
 /// # Encoding
 /// The map of one pair, from the index as a uint to the list of the fields (AMQP 1.0 part 1,
 /// section 1.6.23).
-pub struct SerializeVariant<'a, S: Serializer, const NAMED: bool> {
+pub struct SerializeTupleVariant<'a, S: Serializer> {
     serializer: &'a mut S,
     held: S::Open,
 }
 
-impl<S: Serializer, const NAMED: bool> Drop for SerializeVariant<'_, S, NAMED> {
+impl<S: Serializer> Drop for SerializeTupleVariant<'_, S> {
     #[inline(always)]
     fn drop(self)
         ensures { self.exit.0.now ≡ self.entry.serializer.now }
     {
-        let SerializeVariant {
+        let SerializeTupleVariant {
             serializer: _,
             held: _,
         } = self;
     }
 }
 
-impl<'a, S: Serializer, const NAMED: bool> SerializeVariant<'a, S, NAMED> {
-    ghost use Rattle.amqp_ser.specs.contracts.compound.variant.SerializeVariant as variant;
+impl<'a, S: Serializer> SerializeTupleVariant<'a, S> {
+    ghost use Rattle.amqp_ser.specs.contracts.compound.variant.SerializeTupleVariant as tuple_variant;
 
     #[inline(always)]
-    pub(crate) fn new(serializer: &'a mut S, held: S::Open) -> SerializeVariant<'a, S, NAMED>
+    pub(crate) fn new(serializer: &'a mut S, held: S::Open) -> SerializeTupleVariant<'a, S>
         ensures same_reference { result.serializer.ghost_name ≡ serializer.entry.ghost_name }
         ensures now { result.serializer.now ≡ serializer.old }
         ensures held { result.held ≡ held }
     {
-        SerializeVariant { serializer, held }
+        SerializeTupleVariant { serializer, held }
     }
 
     /// The serializer behind the variant, which goes on with what is left there; nothing else of it
@@ -51,30 +51,14 @@ impl<'a, S: Serializer, const NAMED: bool> SerializeVariant<'a, S, NAMED> {
     pub fn as_mut(&mut self) -> &mut S
         ensures* writes_back { sem 𝓛
             (Lends
-            (variant.the_row (record { mir = named 1; lft = [] }) S.row NAMED.row S.Ok.row
-            S.Error.row S.Open.row) S.row self.entry result
+            (tuple_variant.the_row (record { mir = named 1; lft = [] }) S.row S.Ok.row S.Error.row
+            S.Open.row) S.row self.entry result
             (λ w. record self.old { serializer = record self.old.serializer { now = w } })) }
         ensures now { result.now ≡ self.old.serializer.now }
     {
         &mut *self.serializer
     }
 
-    /// Ends the variant, with the serializer's answer on its tree.
-    ///
-    /// # Errors
-    /// The serializer's refusal of that tree.
-    #[inline(always)]
-    pub fn end(self) -> Result<S::Ok, S::Error>
-        ensures { (start : S) (i : ℕ) (ps : List (Option Tree)) →
-            S.has start (Kind.Variant i) self.entry.serializer.now self.entry.held ps →
-            S.permits start (whole (Kind.Variant i) ps) result self.exit.0.now }
-    {
-        let SerializeVariant { serializer, held } = self;
-        serializer.end(held)
-    }
-}
-
-impl<'a, S: Serializer> SerializeVariant<'a, S, false> {
     /// Serializes one field more.
     ///
     /// # Errors
@@ -88,30 +72,18 @@ impl<'a, S: Serializer> SerializeVariant<'a, S, false> {
     {
         feed_part(&mut *self.serializer, &mut self.held, value)
     }
-}
 
-impl<'a, S: Serializer> SerializeVariant<'a, S, true> {
-    /// Serializes one field more.
+    /// Ends the variant, with the serializer's answer on its tree.
     ///
     /// # Errors
-    /// The serializer's refusal of the field; the variant is then as it was and may be fed on.
+    /// The serializer's refusal of that tree.
     #[inline(always)]
-    pub fn serialize_field<T: Serialize>(
-        &mut self,
-        _key: &'static str,
-        value: &T,
-    ) -> Result<(), S::Error>
-        ensures same { self.new.serializer.ghost_name ≡ self.old.serializer.ghost_name }
-        ensures step { (i : ℕ) →
-            Feeds S.permits S.has (Kind.Variant i) (T.tree value.now) self.old.serializer.now
-            self.old.held result self.new.serializer.now self.new.held }
+    pub fn end(self) -> Result<S::Ok, S::Error>
+        ensures { (start : S) (i : ℕ) (ps : List (Option Tree)) →
+            S.has start (Kind.Variant i) self.entry.serializer.now self.entry.held ps →
+            S.permits start (whole (Kind.Variant i) ps) result self.exit.0.now }
     {
-        feed_part(&mut *self.serializer, &mut self.held, value)
+        let SerializeTupleVariant { serializer, held } = self;
+        serializer.end(held)
     }
 }
-
-/// A tuple variant whose fields are still fed.
-pub type SerializeTupleVariant<'a, S> = SerializeVariant<'a, S, false>;
-
-/// A struct variant whose fields are still fed; their names are not written.
-pub type SerializeStructVariant<'a, S> = SerializeVariant<'a, S, true>;

@@ -1,0 +1,93 @@
+//! Struct variants: an index and the list of the fields.
+
+ghost use Rattle.std.specs.Prelude.{ℕ, ◌≡◌, ◌++◌, ◌∷◌, [], List, Option, Err, MatchResult};
+ghost use mir.Syntax.{named};
+ghost use Rattle.std.specs.Borrow.{Lends, sem};
+ghost use Rattle.amqp_ser.specs.Tree.{Tree};
+ghost use Rattle.amqp_ser.specs.Compounds.{whole};
+ghost use Rattle.amqp_ser.specs.Feeding.{Feeds};
+
+use super::feed::feed_part;
+use crate::kind::Kind;
+use crate::serialize::Serialize;
+use crate::serializer::Serializer;
+
+/// A struct variant whose fields are still fed; the names of the fields are not written.
+///
+/// # Encoding
+/// The map of one pair, from the index as a uint to the list of the fields (AMQP 1.0 part 1,
+/// section 1.6.23).
+pub struct SerializeStructVariant<'a, S: Serializer> {
+    serializer: &'a mut S,
+    held: S::Open,
+}
+
+impl<S: Serializer> Drop for SerializeStructVariant<'_, S> {
+    #[inline(always)]
+    fn drop(self)
+        ensures { self.exit.0.now ≡ self.entry.serializer.now }
+    {
+        let SerializeStructVariant {
+            serializer: _,
+            held: _,
+        } = self;
+    }
+}
+
+impl<'a, S: Serializer> SerializeStructVariant<'a, S> {
+    ghost use Rattle.amqp_ser.specs.contracts.compound.struct_variant.SerializeStructVariant.{the_row};
+
+    #[inline(always)]
+    pub(crate) fn new(serializer: &'a mut S, held: S::Open) -> SerializeStructVariant<'a, S>
+        ensures same_reference { result.serializer.ghost_name ≡ serializer.entry.ghost_name }
+        ensures now { result.serializer.now ≡ serializer.old }
+        ensures held { result.held ≡ held }
+    {
+        SerializeStructVariant { serializer, held }
+    }
+
+    /// The serializer behind the variant, which goes on with what is left there; nothing else of it
+    /// changes.
+    pub fn as_mut(&mut self) -> &mut S
+        ensures* writes_back { sem 𝓛
+            (Lends
+            (the_row (record { mir = named 1; lft = [] }) S.row S.Ok.row S.Error.row
+            S.Open.row) S.row self.entry result
+            (λ w. record self.old { serializer = record self.old.serializer { now = w } })) }
+        ensures now { result.now ≡ self.old.serializer.now }
+    {
+        &mut *self.serializer
+    }
+
+    /// Serializes one field more.
+    ///
+    /// # Errors
+    /// The serializer's refusal of the field; the variant is then as it was and may be fed on.
+    #[inline(always)]
+    pub fn serialize_field<T: Serialize>(
+        &mut self,
+        _key: &'static str,
+        value: &T,
+    ) -> Result<(), S::Error>
+        ensures same { self.new.serializer.ghost_name ≡ self.old.serializer.ghost_name }
+        ensures step { (i : ℕ) →
+            Feeds S.permits S.has (Kind.Variant i) (T.tree value.now) self.old.serializer.now
+            self.old.held result self.new.serializer.now self.new.held }
+    {
+        feed_part(&mut *self.serializer, &mut self.held, value)
+    }
+
+    /// Ends the variant, with the serializer's answer on its tree.
+    ///
+    /// # Errors
+    /// The serializer's refusal of that tree.
+    #[inline(always)]
+    pub fn end(self) -> Result<S::Ok, S::Error>
+        ensures { (start : S) (i : ℕ) (ps : List (Option Tree)) →
+            S.has start (Kind.Variant i) self.entry.serializer.now self.entry.held ps →
+            S.permits start (whole (Kind.Variant i) ps) result self.exit.0.now }
+    {
+        let SerializeStructVariant { serializer, held } = self;
+        serializer.end(held)
+    }
+}
