@@ -16,5 +16,6 @@ pub mod Fixed
 pub mod Carried
 pub mod Forms
 pub mod Feeding
+pub mod StructFeeding
 pub mod Named
 pub mod Words

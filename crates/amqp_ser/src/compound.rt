@@ -1,9 +1,13 @@
 //! Compounds whose parts are still fed, over any serializer.
 //!
-//! Each holds the serializer and what it holds open. A part that is refused leaves the compound as it was, and it may
-//! be fed on.
+//! Each holds the serializer and what it holds open. A part that is refused leaves the compound as
+//! it was, and it may be fed on.
 
+mod any_field;
+mod body;
+pub(crate) mod described;
 pub(crate) mod feed;
+mod list_field;
 mod map;
 mod sequence;
 mod struct_variant;

@@ -2,7 +2,8 @@
 
 ghost use Rattle.std.specs.Prelude.{◌≡◌};
 
-/// A value of fixed width, as a serializer is given it: null and the scalars but for texts, binaries and what markers make.
+/// A value of fixed width, as a serializer is given it: null and the scalars but for texts,
+/// binaries and what markers make.
 ///
 /// # Encoding
 /// AMQP 1.0 part 1, sections 1.6.1 to 1.6.16, of fixed width (section 1.2.1).

@@ -1,6 +1,7 @@
 //! Laws of the definitions.
 //!
-//! A law is a function that does nothing: its clause is the law. A caller's proof learns it by a call.
+//! A law is a function that does nothing: its clause is the law. A caller's proof learns it by a
+//! call.
 
 pub mod trees_of_carried_types;
 
@@ -20,7 +21,8 @@ pub fn written_lengths_fit()
     ensures { (t : Tree) → IsRanged t → writable t ≡ true → length (encoding t) < 2 ^ 64 }
 {}
 
-/// A tree that can be an array's element is written as there, after its constructor, unless it has a shorter form.
+/// A tree that can be an array's element is written as there, after its constructor, unless it has
+/// a shorter form.
 pub fn forms_are_those_of_arrays_or_shorter()
     ensures { (t : Tree) (c : ℕ) → constructor t ≡ Some c → IsForm c (payload t) (encoding t) }
 {}

@@ -1,10 +1,12 @@
 //! What can be serialized, and into what.
 //!
-//! `Serialize` gives a value's data tree to any `Serializer`; a serializer answers on a tree with its length, its
-//! bytes or an untyped value. The one law: a type's answer is the serializer's answer on the type's tree. This crate
-//! has the traits, the compounds and the trees of Rust's own types; it writes no byte.
+//! `Serialize` gives a value's data tree to any `Serializer`; a serializer answers on a tree with
+//! its length, its bytes or an untyped value. The one law: a type's answer is the serializer's
+//! answer on the type's tree. This crate has the traits, the compounds and the trees of Rust's own
+//! types; it writes no byte.
 #![tactic(auto)]
 
+mod composite;
 mod compound;
 mod fields;
 mod fixed;
@@ -12,15 +14,17 @@ mod impls;
 mod kind;
 pub mod laws;
 mod mark;
+mod names;
 mod serialize;
 mod serializer;
 mod struct_form;
 
+pub use composite::{ListOf, MapOf, SymbolMapOf, VariantOf};
 pub use compound::{
     SerializeMap, SerializeSeq, SerializeStruct, SerializeStructVariant, SerializeTuple,
     SerializeTupleStruct, SerializeTupleVariant,
 };
-pub use fields::{Field, Fields, Keys, ListOf, MapOf, OptionalField, SymbolMapOf, VariantOf};
+pub use fields::{Field, Fields, Keys, OptionalField};
 pub use fixed::Fixed;
 pub use kind::Kind;
 pub use mark::{Mark, mark_named};
@@ -30,10 +34,11 @@ pub use struct_form::StructForm;
 
 /// The fields of a struct, in order: `fields! { "name": value, "other"?: option, .. }`.
 ///
-/// A name is a literal, or an expression in parentheses whose value is a `&str`. A value is what its name means, or a
-/// reference to it. The value after `?:` is a reference to an `Option`, and the field is left out where it is `None`:
-/// in a map always, and in a list where no later field is there. Wrapped in [`ListOf`], [`MapOf`], [`SymbolMapOf`] or
-/// [`VariantOf`] the fields serialize as the list of them, as the map from their names, or as a variant.
+/// A name is a literal, or an expression in parentheses whose value is a `&str`. A value is what
+/// its name means, or a reference to it. The value after `?:` is a reference to an `Option`, and
+/// the field is left out where it is `None`: in a map always, and in a list where no later field is
+/// there. Wrapped in [`ListOf`], [`MapOf`], [`SymbolMapOf`] or [`VariantOf`] the fields serialize
+/// as the list of them, as the map from their names, or as a variant.
 #[macro_export]
 macro_rules! fields {
     () => { () };

@@ -8,9 +8,9 @@ use crate::serializer::Serializer;
 /// A value that means a data tree, or none.
 ///
 /// # Implementer notes
-/// `tree` is the meaning, and `serialize` owes each serializer's answer on it. Where there is no tree every
-/// serializer refuses. Hand the value's parts to the compound that the serializer opens, each once and in order, and
-/// pass each refusal on; or delegate to the impl of a part.
+/// `tree` is the meaning, and `serialize` owes each serializer's answer on it. Where there is no
+/// tree every serializer refuses. Hand the value's parts to the compound that the serializer opens,
+/// each once and in order, and pass each refusal on; or delegate to the impl of a part.
 pub trait Serialize {
     /// The value's tree, if it has one.
     ghost tree: { Self → Option Tree };

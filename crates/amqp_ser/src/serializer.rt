@@ -9,6 +9,7 @@ ghost use Rattle.amqp_ser.specs.Marked.{is_descriptor_name, is_value_name, marke
 ghost use Rattle.amqp_ser.specs.Structs.{Stands, struct_form, is_basic_name, is_tagged, named_variant};
 ghost use Rattle.amqp_data.specs.Fixed.{f32_bits, f64_bits};
 
+use crate::compound::described::serialize_described;
 use crate::compound::feed::feed_part;
 use crate::compound::{
     SerializeMap, SerializeSeq, SerializeStruct, SerializeStructVariant, SerializeTuple,
@@ -16,24 +17,24 @@ use crate::compound::{
 };
 use crate::fixed::Fixed;
 use crate::kind::Kind;
-use crate::mark::{
-    Mark, is_basic_name, is_descriptor_name, is_tagged, is_value_name, mark_named, struct_form,
-};
+use crate::mark::{Mark, mark_named};
+use crate::names::{is_basic_name, is_descriptor_name, is_tagged, is_value_name};
 use crate::serialize::Serialize;
-use crate::struct_form::serialize_described;
+use crate::struct_form::struct_form;
 use amqp_data::{F32Bits, F64Bits};
 
 /// Turns data trees into answers of one kind, as their length, their bytes or an untyped value.
 ///
-/// An author writes the fourteen required methods; the methods that values call, named as serde names them,
-/// stand on these and are the same for every serializer.
+/// An author writes the fourteen required methods; the methods that values call, named as serde
+/// names them, stand on these and are the same for every serializer.
 ///
 /// # Implementer notes
-/// `permits before tree answer after` says which answers are permitted on a tree, or on none, and what they leave of
-/// the serializer: fresh after each call, refused ones too. `has start kind now open parts` says that a compound which
-/// `start` opened may have been fed these parts; `awaits` says the same of a serializer that is ready for the next
-/// part. Three laws tie them to the parts: none at opening and one more after each that was taken; a refused part
-/// leaves the compound as it was, and its refusal is permitted on every continuation; at the end what is answered is
+/// `permits before tree answer after` says which answers are permitted on a tree, or on none, and
+/// what they leave of the serializer: fresh after each call, refused ones too. `has start kind now
+/// open parts` says that a compound which `start` opened may have been fed these parts; `awaits`
+/// says the same of a serializer that is ready for the next part. Three laws tie them to the parts:
+/// none at opening and one more after each that was taken; a refused part leaves the compound as it
+/// was, and its refusal is permitted on every continuation; at the end what is answered is
 /// permitted on the tree that the kind makes of the parts.
 pub trait Serializer {
     ghost use Rattle.amqp_ser.specs.declared.kind.Kind.{Kind};
@@ -54,7 +55,8 @@ pub trait Serializer {
     /// The same, and the serializer is ready for the next part.
     ghost awaits: { Self → Kind → Self → Self.Open → List (Option Tree) → Type 0 };
 
-    /// A single compound, opened by the first serializer, is ready for the descriptor of its one value.
+    /// A single compound, opened by the first serializer, is ready for the descriptor of its one
+    /// value.
     ghost awaits_descriptor: { Self → Self → Self.Open → Type 0 };
 
     /// The refusal of a misuse, as of a value without a key.
@@ -92,8 +94,8 @@ pub trait Serializer {
     /// A compound that was never opened, which stands where one was moved out.
     fn vacant(&self) -> Self::Open;
 
-    /// Makes ready for the next part. The first of a single compound stands where the compound was opened: any call may
-    /// come there.
+    /// Makes ready for the next part. The first of a single compound stands where the compound was
+    /// opened: any call may come there.
     fn begin_part(&mut self, held: &mut Self::Open)
         ensures ready { (start : Self) (kind : Kind) (ps : List (Option Tree)) →
             has start kind self.old held.old ps → awaits start kind self.new held.new ps }
@@ -101,7 +103,8 @@ pub trait Serializer {
             (t : Option Tree) (r : Result Self.Ok Self.Error) (after : Self) →
             permits self.new t r after → permits start t r after };
 
-    /// Takes the answer on a part: the compound has it, or is as it was. A refused part is never taken.
+    /// Takes the answer on a part: the compound has it, or is as it was. A refused part is never
+    /// taken.
     fn end_part(
         &mut self,
         held: &mut Self::Open,
@@ -138,8 +141,8 @@ pub trait Serializer {
         ensures { (start : Self) → has start Kind.Single self.old held.old [] →
             awaits_descriptor start self.new held.new };
 
-    /// Takes the answer on a descriptor: the value to come is described by it, or the compound is as it was. A refused
-    /// one is never taken, nor one that is no ulong and no symbol.
+    /// Takes the answer on a descriptor: the value to come is described by it, or the compound is
+    /// as it was. A refused one is never taken, nor one that is no ulong and no symbol.
     fn end_descriptor(
         &mut self,
         held: &mut Self::Open,
@@ -332,7 +335,8 @@ pub trait Serializer {
         v.serialize(self)
     }
 
-    /// Begins to serialize a sequence, a list. The length is a hint: it is not checked and reserves nothing.
+    /// Begins to serialize a sequence, a list. The length is a hint: it is not checked and reserves
+    /// nothing.
     #[inline(always)]
     final fn serialize_seq(
         &mut self,
@@ -368,8 +372,8 @@ pub trait Serializer {
         Ok(SerializeSeq::new(self, held))
     }
 
-    /// Begins to serialize a tuple struct: a list of its fields, of which the first is the descriptor where the name
-    /// asks for one.
+    /// Begins to serialize a tuple struct: a list of its fields, of which the first is the
+    /// descriptor where the name asks for one.
     #[tactic(auto, unfolding(crate::specs::Structs::Stands))]
     #[inline(always)]
     final fn serialize_tuple_struct(
@@ -403,8 +407,8 @@ pub trait Serializer {
         Ok(SerializeTupleStruct::new(self, held, single, false))
     }
 
-    /// Begins to serialize a struct: a list of its fields, a map from their names or the one field itself, as its name
-    /// says.
+    /// Begins to serialize a struct: a list of its fields, a map from their names or the one field
+    /// itself, as its name says.
     #[tactic(auto, unfolding(crate::specs::Structs::Stands))]
     #[inline(always)]
     final fn serialize_struct(
@@ -463,8 +467,8 @@ pub trait Serializer {
         Ok(SerializeMap::new(self, held))
     }
 
-    /// Serializes a variant of one value; in the enum named `VALUE` it is the value itself, and in that named
-    /// `DESCRIPTOR` a misuse. Other names of an enum and its variants are not written.
+    /// Serializes a variant of one value; in the enum named `VALUE` it is the value itself, and in
+    /// that named `DESCRIPTOR` a misuse. Other names of an enum and its variants are not written.
     #[inline(always)]
     final fn serialize_newtype_variant<T: Serialize>(
         &mut self,

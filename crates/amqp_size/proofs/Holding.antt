@@ -22,7 +22,7 @@ use Rattle.amqp_size.proofs.Transparent.{taken_transparent, refused_transparent,
 use Rattle.amqp_size.proofs.Single.{refused_single, second_single, first_single}
 
 -- between steps the serializer stands where it was opened
-pub at_rest : (start : SizeSerializer) (kind : Kind) (held : OpenCompound) (ps : List (Option Tree)) → Holding start kind held ps → without_prefix held.position ≡ without_prefix (position_of start.position)
+pub at_rest : (start : SizeSerializer) (kind : Kind) (held : OpenCompound) (ps : List (Option Tree)) → Holding start kind held ps → without_prefix held.position ≡ without_prefix (position_of start.pending)
 at_rest start kind held ps (inl h) = ap without_prefix h.position
 at_rest start kind held ps (inr (inl h)) = ap without_prefix h.position
 at_rest start kind held ps (inr (inr h)) = h.position
@@ -68,7 +68,7 @@ map_of start held ps (inr (inr h)) = absurd (no_maps.1 h.kind_is)
 -- a refused part
 pub refused_any : (start : SizeSerializer) (kind : Kind) (held : OpenCompound) (ps : List (Option Tree)) → Holding start kind held ps → (p : Option Tree) (e : Refusal) (after : Pending) →
     at_position (position_of held.inner) (meant held.inner p) (Err e) after → (others : List (Option Tree)) →
-    at_position (position_of start.position) (meant start.position (whole kind (ps ++ (p ∷ others)))) (Err e) (pending.Plain (without_prefix held.position))
+    at_position (position_of start.pending) (meant start.pending (whole kind (ps ++ (p ∷ others)))) (Err e) (pending.Plain (without_prefix held.position))
 refused_any start kind held ps (inl h) p e after r others =
     refused_part start kind held ps h p e after (subst (λ u. at_position (position_of u) (meant u p) (Err e) after) h.fed.inner r) others
 refused_any start kind held ps (inr (inl h)) p e after r others =
@@ -96,33 +96,33 @@ pub record Taking (held new : OpenCompound) (size : ℕ) (after : Pending) (res 
 taken_joined : (start : SizeSerializer) (kind : Kind) (held new : OpenCompound) (ps : List (Option Tree)) → HoldsTransparent start kind held ps → (p : Option Tree) (size : ℕ) (after : Pending) → at_position Root p (Ok size) after →
     (res : Result (Unit {0}) Refusal) → Taking held new size after res →
     MatchResult res (λ _. Holding start kind new (ps ++ (p ∷ [])))
-    (λ e. (others : List (Option Tree)) → at_position (position_of start.position) (meant start.position (whole kind (ps ++ (p ∷ others)))) (Err e) (pending.Plain (without_prefix held.position)))
+    (λ e. (others : List (Option Tree)) → at_position (position_of start.pending) (meant start.pending (whole kind (ps ++ (p ∷ others)))) (Err e) (pending.Plain (without_prefix held.position)))
 taken_joined start kind held new ps h None size after r res k = absurd r
 taken_joined start kind held new ps h (Some t) size after r (Ok u) k =
     let m = k.transparent h.shape in
     inr (inl (taken_transparent start kind held new ps h t size after r k.position k.shape m.0 m.1))
 taken_joined start kind held new ps h (Some t) size after r (Err e) k = λ others.
     let m = k.transparent h.shape in
-    subst (λ (x : Refusal). at_position (position_of start.position) (meant start.position (whole kind (ps ++ (Some t ∷ others)))) (Err x) (pending.Plain (without_prefix held.position))) (sym m.0)
+    subst (λ (x : Refusal). at_position (position_of start.pending) (meant start.pending (whole kind (ps ++ (Some t ∷ others)))) (Err x) (pending.Plain (without_prefix held.position))) (sym m.0)
     (over_transparent start kind held ps h t size r.len m.1 others)
 
 taken_one : (start : SizeSerializer) (kind : Kind) (held new : OpenCompound) (ps : List (Option Tree)) → HoldsSingle start kind held ps → (p : Option Tree) (size : ℕ) (after : Pending) → at_position (position_of held.inner) (meant held.inner p) (Ok size) after →
     (res : Result (Unit {0}) Refusal) → Taking held new size after res →
     MatchResult res (λ _. Holding start kind new (ps ++ (p ∷ [])))
-    (λ e. (others : List (Option Tree)) → at_position (position_of start.position) (meant start.position (whole kind (ps ++ (p ∷ others)))) (Err e) (pending.Plain (without_prefix held.position)))
+    (λ e. (others : List (Option Tree)) → at_position (position_of start.pending) (meant start.pending (whole kind (ps ++ (p ∷ others)))) (Err e) (pending.Plain (without_prefix held.position)))
 taken_one start kind held new ps h p size after r (Ok u) k =
     let m = k.single h.shape in
     inr (inr (first_single start kind held new ps h p size after r m.0 m.1.0 m.1.1.0 m.1.1.1 k.position k.shape))
 taken_one start kind held new ps h p size after r (Err e) k = λ others.
     let m = k.single h.shape in
-    subst (λ (x : Refusal). at_position (position_of start.position) (meant start.position (whole kind (ps ++ (p ∷ others)))) (Err x) (pending.Plain (without_prefix held.position))) (sym m.0)
+    subst (λ (x : Refusal). at_position (position_of start.pending) (meant start.pending (whole kind (ps ++ (p ∷ others)))) (Err x) (pending.Plain (without_prefix held.position))) (sym m.0)
     (second_single start kind held ps h m.1 p others)
 
 gathers : (start : SizeSerializer) (kind : Kind) (held new : OpenCompound) (ps : List (Option Tree)) (p : Option Tree) (res : Result (Unit {0}) Refusal) →
     MatchResult res (λ _. HoldsGathered start kind new (ps ++ (p ∷ [])))
-    (λ e. (others : List (Option Tree)) → at_position (position_of start.position) (meant start.position (whole kind (ps ++ (p ∷ others)))) (Err e) (pending.Plain (without_prefix held.position))) →
+    (λ e. (others : List (Option Tree)) → at_position (position_of start.pending) (meant start.pending (whole kind (ps ++ (p ∷ others)))) (Err e) (pending.Plain (without_prefix held.position))) →
     MatchResult res (λ _. Holding start kind new (ps ++ (p ∷ [])))
-    (λ e. (others : List (Option Tree)) → at_position (position_of start.position) (meant start.position (whole kind (ps ++ (p ∷ others)))) (Err e) (pending.Plain (without_prefix held.position)))
+    (λ e. (others : List (Option Tree)) → at_position (position_of start.pending) (meant start.pending (whole kind (ps ++ (p ∷ others)))) (Err e) (pending.Plain (without_prefix held.position)))
 gathers start kind held new ps p (Ok u) m = inl m
 gathers start kind held new ps p (Err e) m = m
 
@@ -130,7 +130,7 @@ gathers start kind held new ps p (Err e) m = m
 pub taken_any : (start : SizeSerializer) (kind : Kind) (held new : OpenCompound) (ps : List (Option Tree)) → Holding start kind held ps → (p : Option Tree) (size : ℕ) (after : Pending) →
     at_position (position_of held.inner) (meant held.inner p) (Ok size) after → (res : Result (Unit {0}) Refusal) → Taking held new size after res →
     MatchResult res (λ _. Holding start kind new (ps ++ (p ∷ [])))
-    (λ e. (others : List (Option Tree)) → at_position (position_of start.position) (meant start.position (whole kind (ps ++ (p ∷ others)))) (Err e) (pending.Plain (without_prefix held.position)))
+    (λ e. (others : List (Option Tree)) → at_position (position_of start.pending) (meant start.pending (whole kind (ps ++ (p ∷ others)))) (Err e) (pending.Plain (without_prefix held.position)))
 taken_any start kind held new ps (inl h) p size after r res k =
     gathers start kind held new ps p res
     (end_taken start kind held new ps h p size after (subst (λ u. at_position (position_of u) (meant u p) (Ok size) after) h.fed.inner r) k.position k.shape k.few k.small res (k.before_last h.gathered) k.kept (k.gathered h.gathered))

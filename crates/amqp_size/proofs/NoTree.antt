@@ -52,30 +52,30 @@ refused_when_opened (pending.Nothing p) (kinds.NewtypeVariant i) ps ts e done b 
 
 not_single : (start : SizeSerializer) (kind : Kind) (held : OpenCompound) (ps : List (Option Tree)) → HoldsGathered start kind held ps → kind ≡ kinds.Single → ⊥
 not_single start kind held ps h k =
-    let q : held.shape ≡ shapes.Single = h.shape ∙ ap (shape_of start.position) k in
+    let q : held.shape ≡ shapes.Single = h.shape ∙ ap (shape_of start.pending) k in
     let e : false ≡ true = sym (ap is_gathered q) ∙ h.gathered in cc
 
 -- of each shape
-gathered_none : (start : SizeSerializer) (kind : Kind) (held : OpenCompound) (ps : List (Option Tree)) → HoldsGathered start kind held ps → complete kind ps ≡ true → meant start.position (whole kind ps) ≡ None → held.shape ≡ shapes.Refused
-gathered_none start kind held ps h done n = h.shape ∙ refused_when_opened start.position kind ps h.ts h.trees done (not_single start kind held ps h) n
+gathered_none : (start : SizeSerializer) (kind : Kind) (held : OpenCompound) (ps : List (Option Tree)) → HoldsGathered start kind held ps → complete kind ps ≡ true → meant start.pending (whole kind ps) ≡ None → held.shape ≡ shapes.Refused
+gathered_none start kind held ps h done n = h.shape ∙ refused_when_opened start.pending kind ps h.ts h.trees done (not_single start kind held ps h) n
 
-transparent_none : (start : SizeSerializer) (kind : Kind) (held : OpenCompound) (ps : List (Option Tree)) → HoldsTransparent start kind held ps → meant start.position (whole kind ps) ≡ None → ⊥
+transparent_none : (start : SizeSerializer) (kind : Kind) (held : OpenCompound) (ps : List (Option Tree)) → HoldsTransparent start kind held ps → meant start.pending (whole kind ps) ≡ None → ⊥
 unfolding whole
 transparent_none start kind held ps h n =
-    let at = transparent_shape start.position kind h.shaped in
+    let at = transparent_shape start.pending kind h.shaped in
     let q : None ≡ Some (transparent h.ts) = sym n ∙ ap (λ u. meant u (whole kind ps)) at.0 ∙ ap (λ k. marked mark.Transparent (whole k ps)) at.1 ∙ ap (λ o. marked mark.Transparent (as_kind kinds.List o)) h.trees in cc
 
-one_part : (start : SizeSerializer) (held : OpenCompound) (ps : List (Option Tree)) → single_parts start held ps → complete kinds.Single ps ≡ true → meant start.position (whole kinds.Single ps) ≡ None → ⊥
+one_part : (start : SizeSerializer) (held : OpenCompound) (ps : List (Option Tree)) → single_parts start held ps → complete kinds.Single ps ≡ true → meant start.pending (whole kinds.Single ps) ≡ None → ⊥
 one_part start held [] q done n = cc
-one_part start held (p ∷ []) q done n = subst (λ o. at_position (position_of start.position) o (Ok held.sum) held.inner) (sym (ap (meant start.position) (whole_one p)) ∙ n) q.1
+one_part start held (p ∷ []) q done n = subst (λ o. at_position (position_of start.pending) o (Ok held.sum) held.inner) (sym (ap (meant start.pending) (whole_one p)) ∙ n) q.1
 one_part start held (p ∷ (q ∷ ps)) r done n = cc
 
-single_none : (start : SizeSerializer) (kind : Kind) (held : OpenCompound) (ps : List (Option Tree)) → HoldsSingle start kind held ps → complete kind ps ≡ true → meant start.position (whole kind ps) ≡ None → ⊥
+single_none : (start : SizeSerializer) (kind : Kind) (held : OpenCompound) (ps : List (Option Tree)) → HoldsSingle start kind held ps → complete kind ps ≡ true → meant start.pending (whole kind ps) ≡ None → ⊥
 single_none start kind held ps h done n =
-    one_part start held ps h.parts (subst (λ k. complete k ps ≡ true) h.kind_is done) (ap (λ k. meant start.position (whole k ps)) (sym h.kind_is) ∙ n)
+    one_part start held ps h.parts (subst (λ k. complete k ps ≡ true) h.kind_is done) (ap (λ k. meant start.pending (whole k ps)) (sym h.kind_is) ∙ n)
 
 -- of every shape
-pub open_none : (start : SizeSerializer) (kind : Kind) (held : OpenCompound) (ps : List (Option Tree)) → Holding start kind held ps → complete kind ps ≡ true → meant start.position (whole kind ps) ≡ None → held.shape ≡ shapes.Refused
+pub open_none : (start : SizeSerializer) (kind : Kind) (held : OpenCompound) (ps : List (Option Tree)) → Holding start kind held ps → complete kind ps ≡ true → meant start.pending (whole kind ps) ≡ None → held.shape ≡ shapes.Refused
 open_none start kind held ps (inl h) done n = gathered_none start kind held ps h done n
 open_none start kind held ps (inr (inl h)) done n = absurd (transparent_none start kind held ps h n)
 open_none start kind held ps (inr (inr h)) done n = absurd (single_none start kind held ps h done n)

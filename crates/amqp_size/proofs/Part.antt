@@ -131,12 +131,12 @@ pub end_taken : (start : SizeSerializer) (kind : Kind) (held new : OpenCompound)
     MatchResult res (λ _. (new.sum ≡ size + opens_in (is_array held.shape) held.inner after + held.sum) × ((new.count ≡ if is_array held.shape then held.count + 1 else held.count) × (new.inner ≡ if is_array held.shape then after else held.inner)))
     (λ e. (e ≡ error.TooLong) × passes_limit (is_array held.shape) held.count (size + opens_in (is_array held.shape) held.inner after + held.sum)) →
     MatchResult res (λ _. HoldsGathered start kind new (ps ++ (p ∷ [])))
-    (λ e. (others : List (Option Tree)) → at_position (position_of start.position) (meant start.position (whole kind (ps ++ (p ∷ others)))) (Err e) (pending.Plain (without_prefix held.position)))
+    (λ e. (others : List (Option Tree)) → at_position (position_of start.pending) (meant start.pending (whole kind (ps ++ (p ∷ others)))) (Err e) (pending.Plain (without_prefix held.position)))
 end_taken start kind held new ps h None size after r a b few small res was same m = absurd r
 end_taken start kind held new ps h (Some t) size after r a b few small (Ok u) was same m =
     taken_part start kind held new ps h t size after r a b m.0 m.1.0 (few (is_le held.count 4294967295 h.fed.few)) m.1.1 was small
 end_taken start kind held new ps h (Some t) size after r a b few small (Err e) was same m = λ others.
-    subst (λ (x : Refusal). at_position (position_of start.position) (meant start.position (whole kind (ps ++ (Some t ∷ others)))) (Err x) (pending.Plain (without_prefix held.position))) (sym m.0)
+    subst (λ (x : Refusal). at_position (position_of start.pending) (meant start.pending (whole kind (ps ++ (Some t ∷ others)))) (Err x) (pending.Plain (without_prefix held.position))) (sym m.0)
     (over_part start kind held ps h t (subst (λ n. passes_limit (is_array held.shape) held.count n) (added start kind held ps h t size after r) m.1) others)
 
 no_array : (u : Pending) → is_array (shape_of u kinds.Map) ≡ false
@@ -164,7 +164,7 @@ pub undone : (start : SizeSerializer) (held new : OpenCompound) (ps : List (Opti
 undone start held new ps p h even a b d e f small =
     let odd : paired (ps ++ (p ∷ [])) ≡ false = paired-last ps p ∙ ap not even in
     let was = h.back odd ps p refl in
-    let plain : is_array held.shape ≡ false = ap is_array h.shape ∙ no_array start.position in
+    let plain : is_array held.shape ≡ false = ap is_array h.shape ∙ no_array start.pending in
     let c : is_array new.shape ≡ is_array held.shape = ap is_array b in
     let now : is_array new.shape ≡ false = c ∙ plain in
     let trees : joined (Some was.us) (prepend p (Some no_trees)) ≡ Some h.ts = sym (ap (λ o. joined o (prepend p (Some no_trees))) was.trees) ∙ sym (all_trees-append ps (p ∷ [])) ∙ h.trees in

@@ -76,7 +76,7 @@ over_bad arr ts t us n o m h = elim h [
 -- a refused part
 pub refused_part : (start : SizeSerializer) (kind : Kind) (held : OpenCompound) (ps : List (Option Tree)) (h : HoldsGathered start kind held ps) (p : Option Tree) (e : Refusal) (after : Pending) →
     at_position (inner_of (is_array held.shape) h.ts) p (Err e) after → (others : List (Option Tree)) →
-    at_position (position_of start.position) (meant start.position (whole kind (ps ++ (p ∷ others)))) (Err e) (pending.Plain (without_prefix held.position))
+    at_position (position_of start.pending) (meant start.pending (whole kind (ps ++ (p ∷ others)))) (Err e) (pending.Plain (without_prefix held.position))
 refused_part start kind held ps h None e after r others = with_rest start kind held ps h None e r.0 (λ t us q. absurd (none-some t q)) others
   where
     none-some : (t : Tree) → None ≡ Some t → ⊥
@@ -92,7 +92,7 @@ refused_part start kind held ps h (Some t) e after r others =
 pub over_part : (start : SizeSerializer) (kind : Kind) (held : OpenCompound) (ps : List (Option Tree)) (h : HoldsGathered start kind held ps) (t : Tree) →
     passes_limit (is_array held.shape) held.count (length (form (inner_of (is_array held.shape) h.ts) t) + opens (inner_of (is_array held.shape) h.ts) (next (inner_of (is_array held.shape) h.ts) t) + length (content (is_array held.shape) h.ts)) →
     (others : List (Option Tree)) →
-    at_position (position_of start.position) (meant start.position (whole kind (ps ++ (Some t ∷ others)))) (Err error.TooLong) (pending.Plain (without_prefix held.position))
+    at_position (position_of start.pending) (meant start.pending (whole kind (ps ++ (Some t ∷ others)))) (Err error.TooLong) (pending.Plain (without_prefix held.position))
 over_part start kind held ps h t past others =
     let arr = is_array held.shape in
     with_rest start kind held ps h (Some t) error.TooLong tt

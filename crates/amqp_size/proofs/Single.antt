@@ -57,29 +57,29 @@ unfolding whole
 whole_two p q ps = two p q (all_trees ps)
 
 -- the refusal of no tree
-no_whole : (start : SizeSerializer) (held : OpenCompound) (kind : Kind) (qs : List (Option Tree)) (e : Refusal) → without_prefix held.position ≡ without_prefix (position_of start.position) → kind ≡ kinds.Single → whole kinds.Single qs ≡ None → refuses_none e →
-    at_position (position_of start.position) (meant start.position (whole kind qs)) (Err e) (pending.Plain (without_prefix held.position))
+no_whole : (start : SizeSerializer) (held : OpenCompound) (kind : Kind) (qs : List (Option Tree)) (e : Refusal) → without_prefix held.position ≡ without_prefix (position_of start.pending) → kind ≡ kinds.Single → whole kinds.Single qs ≡ None → refuses_none e →
+    at_position (position_of start.pending) (meant start.pending (whole kind qs)) (Err e) (pending.Plain (without_prefix held.position))
 no_whole start held kind qs e a k q r =
-    stands_none start.position (position_of start.position) (whole kind qs) (Err e) (pending.Plain (without_prefix held.position)) refl
-    (ap (λ k. meant start.position (whole k qs)) k ∙ ap (meant start.position) q ∙ meant_none start.position) (r, ap pending.Plain a)
+    stands_none start.pending (position_of start.pending) (whole kind qs) (Err e) (pending.Plain (without_prefix held.position)) refl
+    (ap (λ k. meant start.pending (whole k qs)) k ∙ ap (meant start.pending) q ∙ meant_none start.pending) (r, ap pending.Plain a)
 
 -- a refused value
 pub refused_single : (start : SizeSerializer) (kind : Kind) (held : OpenCompound) (ps : List (Option Tree)) → HoldsSingle start kind held ps → (p : Option Tree) (e : Refusal) (after : Pending) →
     at_position (position_of held.inner) (meant held.inner p) (Err e) after → (others : List (Option Tree)) →
-    at_position (position_of start.position) (meant start.position (whole kind (ps ++ (p ∷ others)))) (Err e) (pending.Plain (without_prefix held.position))
+    at_position (position_of start.pending) (meant start.pending (whole kind (ps ++ (p ∷ others)))) (Err e) (pending.Plain (without_prefix held.position))
 refused_single start kind held [] h p e after r [] =
-    let here : at_position (position_of start.position) (meant start.position p) (Err e) after = subst (λ u. at_position (position_of u) (meant u p) (Err e) after) h.parts.1 r in
-    let left = refusal (position_of start.position) (meant start.position p) e after here in
-    subst (λ (k : Kind). at_position (position_of start.position) (meant start.position (whole k (p ∷ []))) (Err e) (pending.Plain (without_prefix held.position))) (sym h.kind_is)
-    (subst (λ o. at_position (position_of start.position) (meant start.position o) (Err e) (pending.Plain (without_prefix held.position))) (sym (whole_one p))
-    (subst (λ a. at_position (position_of start.position) (meant start.position p) (Err e) a) (left.1 ∙ ap pending.Plain (sym h.position)) here))
+    let here : at_position (position_of start.pending) (meant start.pending p) (Err e) after = subst (λ u. at_position (position_of u) (meant u p) (Err e) after) h.parts.1 r in
+    let left = refusal (position_of start.pending) (meant start.pending p) e after here in
+    subst (λ (k : Kind). at_position (position_of start.pending) (meant start.pending (whole k (p ∷ []))) (Err e) (pending.Plain (without_prefix held.position))) (sym h.kind_is)
+    (subst (λ o. at_position (position_of start.pending) (meant start.pending o) (Err e) (pending.Plain (without_prefix held.position))) (sym (whole_one p))
+    (subst (λ a. at_position (position_of start.pending) (meant start.pending p) (Err e) a) (left.1 ∙ ap pending.Plain (sym h.position)) here))
 refused_single start kind held [] h p e after r (q ∷ qs) = no_whole start held kind (p ∷ (q ∷ qs)) e h.position h.kind_is (whole_two p q qs) (refusal (position_of held.inner) (meant held.inner p) e after r).0
 refused_single start kind held (v ∷ []) h p e after r others = no_whole start held kind (v ∷ (p ∷ others)) e h.position h.kind_is (whole_two v p others) (refusal (position_of held.inner) (meant held.inner p) e after r).0
 refused_single start kind held (v ∷ (w ∷ ps)) h p e after r others = absurd h.parts
 
 -- a second value
 pub second_single : (start : SizeSerializer) (kind : Kind) (held : OpenCompound) (ps : List (Option Tree)) → HoldsSingle start kind held ps → 1 ≤ held.count → (p : Option Tree) (others : List (Option Tree)) →
-    at_position (position_of start.position) (meant start.position (whole kind (ps ++ (p ∷ others)))) (Err error.InvalidValue) (pending.Plain (without_prefix held.position))
+    at_position (position_of start.pending) (meant start.pending (whole kind (ps ++ (p ∷ others)))) (Err error.InvalidValue) (pending.Plain (without_prefix held.position))
 second_single start kind held [] h some p others = absurd (none h.parts.0 some)
   where
     none : held.count ≡ 0 → 1 ≤ held.count → ⊥
@@ -92,12 +92,12 @@ pub first_single : (start : SizeSerializer) (kind : Kind) (held new : OpenCompou
     at_position (position_of held.inner) (meant held.inner p) (Ok size) after → held.count ≡ 0 → new.count ≡ 1 → new.sum ≡ size → new.inner ≡ after → new.position ≡ held.position → new.shape ≡ held.shape →
     HoldsSingle start kind new (ps ++ (p ∷ []))
 first_single start kind held new [] h p size after r none one sum inner a b =
-    let here : at_position (position_of start.position) (meant start.position p) (Ok size) after = subst (λ u. at_position (position_of u) (meant u p) (Ok size) after) h.parts.1 r in
+    let here : at_position (position_of start.pending) (meant start.pending p) (Ok size) after = subst (λ u. at_position (position_of u) (meant u p) (Ok size) after) h.parts.1 r in
     record {
       kind_is = h.kind_is;
       position = ap without_prefix a ∙ h.position;
       shape = b ∙ h.shape;
-      parts = (one, subst (λ n. at_position (position_of start.position) (meant start.position p) (Ok n) new.inner) (sym sum) (subst (λ i. at_position (position_of start.position) (meant start.position p) (Ok size) i) (sym inner) here));
+      parts = (one, subst (λ n. at_position (position_of start.pending) (meant start.pending p) (Ok n) new.inner) (sym sum) (subst (λ i. at_position (position_of start.pending) (meant start.pending p) (Ok size) i) (sym inner) here));
     }
 first_single start kind held new (v ∷ []) h p size after r none one sum inner a b = absurd (some h.parts.0 none)
   where

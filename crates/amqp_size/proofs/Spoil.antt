@@ -166,10 +166,10 @@ spoiled_rest u k ts e g r (Some t) (Some us) bad = spoiled_whole u k (join ts (m
 -- where the next part spoils every whole
 pub with_rest : (start : SizeSerializer) (kind : Kind) (held : OpenCompound) (ps : List (Option Tree)) (h : HoldsGathered start kind held ps) (p : Option Tree) (e : Refusal) → refuses_none e →
     ((t : Tree) (us : Trees) → p ≡ Some t → bad_in (is_array held.shape) (join h.ts (more t us)) e) → (others : List (Option Tree)) →
-    at_position (position_of start.position) (meant start.position (whole kind (ps ++ (p ∷ others)))) (Err e) (pending.Plain (without_prefix held.position))
+    at_position (position_of start.pending) (meant start.pending (whole kind (ps ++ (p ∷ others)))) (Err e) (pending.Plain (without_prefix held.position))
 unfolding whole
 with_rest start kind held ps h p e r bad others =
-    let u = start.position in
+    let u = start.pending in
     let arr : is_array held.shape ≡ is_array (shape_of u kind) = ap is_array h.shape in
     let trees : all_trees (ps ++ (p ∷ others)) ≡ joined (Some h.ts) (prepend p (all_trees others)) = all_trees-append ps (p ∷ others) ∙ ap (λ o. joined o (prepend p (all_trees others))) h.trees in
     let here = spoiled_rest u kind h.ts e (sym (ap is_gathered h.shape) ∙ h.gathered) r p (all_trees others) (λ t us q. subst (λ a. bad_in a (join h.ts (more t us)) e) arr (bad t us q)) in

@@ -53,11 +53,11 @@ transparent_shape (pending.Nothing p) (kinds.NewtypeVariant i) h = cc
 
 -- the tree of one that was fed
 pub transparent_whole : (start : SizeSerializer) (kind : Kind) (held : OpenCompound) (ps : List (Option Tree)) (h : HoldsTransparent start kind held ps) (qs : List (Option Tree)) (ws : Trees) → all_trees qs ≡ Some ws →
-    meant start.position (whole kind qs) ≡ Some (transparent ws)
+    meant start.pending (whole kind qs) ≡ Some (transparent ws)
 unfolding whole
 transparent_whole start kind held ps h qs ws e =
-    let inv = transparent_shape start.position kind h.shaped in
-    ap (λ u. meant u (whole kind qs)) inv.0 ∙ ap (λ k. meant (pending.Transparent (position_of start.position)) (as_kind k (all_trees qs))) inv.1 ∙ ap (λ o. meant (pending.Transparent (position_of start.position)) (as_kind kinds.List o)) e
+    let inv = transparent_shape start.pending kind h.shaped in
+    ap (λ u. meant u (whole kind qs)) inv.0 ∙ ap (λ k. meant (pending.Transparent (position_of start.pending)) (as_kind k (all_trees qs))) inv.1 ∙ ap (λ o. meant (pending.Transparent (position_of start.pending)) (as_kind kinds.List o)) e
 
 -- an element that was taken
 pub taken_transparent : (start : SizeSerializer) (kind : Kind) (held new : OpenCompound) (ps : List (Option Tree)) → HoldsTransparent start kind held ps → (t : Tree) (size : ℕ) (after : Pending) → Counted Root t size after →
@@ -105,14 +105,14 @@ spoiled_transparent p ws error.InvalidValue h = elim (root_alone p ws) [
 spoiled_transparent p ws e h = absurd h
 
 go : (start : SizeSerializer) (kind : Kind) (held : OpenCompound) (ps : List (Option Tree)) → HoldsTransparent start kind held ps → (qs : List (Option Tree)) (o : Option Trees) → all_trees qs ≡ o → (e : Refusal) → refuses_none e → ((ws : Trees) → o ≡ Some ws → bad_each ws e) →
-    at_position (position_of start.position) (meant start.position (whole kind qs)) (Err e) (pending.Plain (without_prefix (position_of start.position)))
+    at_position (position_of start.pending) (meant start.pending (whole kind qs)) (Err e) (pending.Plain (without_prefix (position_of start.pending)))
 unfolding whole
 go start kind held ps h qs None q e r bad =
-    stands_none start.position (position_of start.position) (whole kind qs) (Err e) (pending.Plain (without_prefix (position_of start.position))) refl
-    (ap (λ k. meant start.position (as_kind k (all_trees qs))) h.kind_is ∙ ap (λ o. meant start.position (as_kind kinds.List o)) q ∙ meant_none start.position) (r, refl)
+    stands_none start.pending (position_of start.pending) (whole kind qs) (Err e) (pending.Plain (without_prefix (position_of start.pending))) refl
+    (ap (λ k. meant start.pending (as_kind k (all_trees qs))) h.kind_is ∙ ap (λ o. meant start.pending (as_kind kinds.List o)) q ∙ meant_none start.pending) (r, refl)
 go start kind held ps h qs (Some ws) q e r bad =
-    stands start.position (position_of start.position) (whole kind qs) (transparent ws) (Err e) (pending.Plain (without_prefix (position_of start.position))) refl
-    (transparent_whole start kind held ps h qs ws q) (spoiled_transparent (position_of start.position) ws e (bad ws refl))
+    stands start.pending (position_of start.pending) (whole kind qs) (transparent ws) (Err e) (pending.Plain (without_prefix (position_of start.pending))) refl
+    (transparent_whole start kind held ps h qs ws q) (spoiled_transparent (position_of start.pending) ws e (bad ws refl))
 
 after : (ts : Trees) (p : Option Tree) (o : Option Trees) (ws : Trees) → joined (Some ts) (prepend p o) ≡ Some ws → (t : Tree) × ((us : Trees) × ((p ≡ Some t) × (ws ≡ join ts (more t us))))
 after ts None o ws q = cc
@@ -121,10 +121,10 @@ after ts (Some t) (Some us) ws q = (t, (us, (refl, cc)))
 
 -- where the next element spoils every whole
 spoils : (start : SizeSerializer) (kind : Kind) (held : OpenCompound) (ps : List (Option Tree)) (h : HoldsTransparent start kind held ps) (p : Option Tree) (e : Refusal) → refuses_none e → ((t : Tree) (us : Trees) → p ≡ Some t → bad_each (join h.ts (more t us)) e) →
-    (others : List (Option Tree)) → at_position (position_of start.position) (meant start.position (whole kind (ps ++ (p ∷ others)))) (Err e) (pending.Plain (without_prefix held.position))
+    (others : List (Option Tree)) → at_position (position_of start.pending) (meant start.pending (whole kind (ps ++ (p ∷ others)))) (Err e) (pending.Plain (without_prefix held.position))
 spoils start kind held ps h p e r bad others =
     let trees : all_trees (ps ++ (p ∷ others)) ≡ joined (Some h.ts) (prepend p (all_trees others)) = all_trees-append ps (p ∷ others) ∙ ap (λ o. joined o (prepend p (all_trees others))) h.trees in
-    subst (λ q. at_position (position_of start.position) (meant start.position (whole kind (ps ++ (p ∷ others)))) (Err e) (pending.Plain (without_prefix q))) (sym h.position)
+    subst (λ q. at_position (position_of start.pending) (meant start.pending (whole kind (ps ++ (p ∷ others)))) (Err e) (pending.Plain (without_prefix q))) (sym h.position)
     (go start kind held ps h (ps ++ (p ∷ others)) (joined (Some h.ts) (prepend p (all_trees others))) trees e r
     (λ ws q. let a = after h.ts p (all_trees others) ws q in subst (λ x. bad_each x e) (sym a.1.1.1) (bad a.0 a.1.0 a.1.1.0)))
 
@@ -141,14 +141,14 @@ some_same : (t v : Tree) → Some t ≡ Some v → t ≡ v
 some_same t v q = cc
 
 pub refused_transparent : (start : SizeSerializer) (kind : Kind) (held : OpenCompound) (ps : List (Option Tree)) → HoldsTransparent start kind held ps → (p : Option Tree) (e : Refusal) (after : Pending) → at_position Root p (Err e) after →
-    (others : List (Option Tree)) → at_position (position_of start.position) (meant start.position (whole kind (ps ++ (p ∷ others)))) (Err e) (pending.Plain (without_prefix held.position))
+    (others : List (Option Tree)) → at_position (position_of start.pending) (meant start.pending (whole kind (ps ++ (p ∷ others)))) (Err e) (pending.Plain (without_prefix held.position))
 refused_transparent start kind held ps h None e after r others = spoils start kind held ps h None e r.0 (λ t us q. cc) others
 refused_transparent start kind held ps h (Some t) e after r others =
     let none = refusal Root (Some t) e after r in
     spoils start kind held ps h (Some t) e none.0 (λ v us q. subst (λ x. bad_each (join h.ts (more x us)) e) (some_same t v q) (part_bad h.ts t us e r.0)) others
 
 pub over_transparent : (start : SizeSerializer) (kind : Kind) (held : OpenCompound) (ps : List (Option Tree)) → HoldsTransparent start kind held ps → (t : Tree) (size : ℕ) → size ≡ length (encoding t) → 18446744073709551615 < size + held.sum →
-    (others : List (Option Tree)) → at_position (position_of start.position) (meant start.position (whole kind (ps ++ (Some t ∷ others)))) (Err error.TooLong) (pending.Plain (without_prefix held.position))
+    (others : List (Option Tree)) → at_position (position_of start.pending) (meant start.pending (whole kind (ps ++ (Some t ∷ others)))) (Err error.TooLong) (pending.Plain (without_prefix held.position))
 over_transparent start kind held ps h t size len past others =
     spoils start kind held ps h (Some t) error.TooLong tt (λ v us q. subst (λ x. bad_each (join h.ts (more x us)) error.TooLong) (some_same t v q) (too_long us)) others
   where

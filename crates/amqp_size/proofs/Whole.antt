@@ -175,7 +175,7 @@ refused_shape (pending.Nothing p) k o h = refl
 -- a map that has ended: its tree and its lengths
 pub record MapEnd (start : SizeSerializer) (kind : Kind) (held : OpenCompound) (ps : List (Option Tree)) : Type 0 where
   pub pairs : Pairs
-  pub is : meant start.position (whole kind ps) ≡ Some (map pairs)
+  pub is : meant start.pending (whole kind ps) ≡ Some (map pairs)
   pub within_limits_it : within_limits (map pairs) ≡ true
   pub uniform_arrays_it : uniform_arrays (map pairs) ≡ true
   pub inside_it : inside (map pairs) ≡ true
@@ -185,11 +185,11 @@ pub record MapEnd (start : SizeSerializer) (kind : Kind) (held : OpenCompound) (
 pub map_end : (start : SizeSerializer) (kind : Kind) (held : OpenCompound) (ps : List (Option Tree)) → HoldsGathered start kind held ps → complete kind ps ≡ true → held.shape ≡ shape.Map → MapEnd start kind held ps
 unfolding whole
 map_end start kind held ps h done s =
-    let inv = map_shape start.position kind (sym h.shape ∙ s) in
+    let inv = map_shape start.pending kind (sym h.shape ∙ s) in
     let even = sym (paired-even ps h.ts h.trees) ∙ subst (λ k. complete k ps ≡ true) inv.1 done in
     let p : Pairing h.ts = pairing h.ts even in
     let tree : whole kind ps ≡ Some (map p.pairs) = ap (λ k. whole k ps) inv.1 ∙ ap (as_kind kinds.Map) h.trees ∙ ap as_map p.are in
-    let plain : meant start.position (whole kind ps) ≡ whole kind ps = ap (λ u. meant u (whole kind ps)) inv.0 in
+    let plain : meant start.pending (whole kind ps) ≡ whole kind ps = ap (λ u. meant u (whole kind ps)) inv.0 in
     let none_array : is_array held.shape ≡ false = ap is_array s in
     let sum : held.sum ≡ length (encoding_pairs p.pairs) = h.fed.sum ∙ ap (λ b. length (content b h.ts)) none_array ∙ ap length (sym p.bytes) in
     record {
@@ -205,7 +205,7 @@ map_end start kind held ps h done s =
 -- a variant of fields that has ended
 pub record FieldsEnd (i : ℕ) (start : SizeSerializer) (kind : Kind) (ps : List (Option Tree)) (size : ℕ) : Type 0 where
   pub ts : Trees
-  pub is : meant start.position (whole kind ps) ≡ Some (variant i (list ts))
+  pub is : meant start.pending (whole kind ps) ≡ Some (variant i (list ts))
   pub within_limits_it : within_limits (list ts) ≡ true
   pub uniform_arrays_it : uniform_arrays (list ts) ≡ true
   pub inside_it : inside (list ts) ≡ true
@@ -214,9 +214,9 @@ pub record FieldsEnd (i : ℕ) (start : SizeSerializer) (kind : Kind) (ps : List
 pub fields_end : (i : ℕ) (start : SizeSerializer) (kind : Kind) (held : OpenCompound) (ps : List (Option Tree)) (size : ℕ) → HoldsGathered start kind held ps → held.shape ≡ shape.Variant i → size ≡ list_width held.sum → FieldsEnd i start kind ps size
 unfolding whole
 fields_end i start kind held ps size h s e =
-    let inv = fields_shape i start.position kind (sym h.shape ∙ s) in
+    let inv = fields_shape i start.pending kind (sym h.shape ∙ s) in
     let tree : whole kind ps ≡ Some (variant i (list h.ts)) = ap (λ k. whole k ps) inv.1 ∙ ap (as_kind (kinds.Variant i)) h.trees in
-    let plain : meant start.position (whole kind ps) ≡ whole kind ps = ap (λ u. meant u (whole kind ps)) inv.0 in
+    let plain : meant start.pending (whole kind ps) ≡ whole kind ps = ap (λ u. meant u (whole kind ps)) inv.0 in
     let none_array : is_array held.shape ≡ false = ap is_array s in
     let sum : held.sum ≡ length (encoding_each h.ts) = h.fed.sum ∙ ap (λ b. length (content b h.ts)) none_array in
     let len : size ≡ length (encoding (list h.ts)) = e ∙ ap list_width sum ∙ sym (length-list_form (count h.ts) (encoding_each h.ts)) in

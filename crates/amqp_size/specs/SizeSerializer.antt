@@ -41,7 +41,7 @@ at_position p (Some t) (Ok n) after = Counted p t n after
 at_position p (Some t) (Err e) after = refused p t e × (after ≡ Plain (without_prefix p))
 
 abbrev pub size_permits : SizeSerializer → Option Tree → Result ℕ Refusal → SizeSerializer → Type 0
-size_permits s t r after = at_position (position_of s.position) (meant s.position t) r after.position
+size_permits s t r after = at_position (position_of s.pending) (meant s.pending t) r after.pending
 
 -- the bytes of the parts, in an array or not
 abbrev pub content : Bool → Trees → List ℕ
@@ -89,8 +89,8 @@ pub record HoldsGathered (start : SizeSerializer) (kind : Kind) (held : OpenComp
   pub ts : Trees
   pub trees : all_trees ps ≡ Some ts
   pub fed : FedTrees held ts
-  pub position : held.position ≡ position_of start.position
-  pub shape : held.shape ≡ shape_of start.position kind
+  pub position : held.position ≡ position_of start.pending
+  pub shape : held.shape ≡ shape_of start.pending kind
   pub gathered : is_gathered held.shape ≡ true
   pub back : paired ps ≡ false → (qs : List (Option Tree)) (q : Option Tree) → ps ≡ qs ++ (q ∷ []) → BeforeLast held qs
 
@@ -99,9 +99,9 @@ pub record HoldsTransparent (start : SizeSerializer) (kind : Kind) (held : OpenC
   pub ts : Trees
   pub trees : all_trees ps ≡ Some ts
   pub kind_is : kind ≡ kinds.List
-  pub position : held.position ≡ position_of start.position
+  pub position : held.position ≡ position_of start.pending
   pub shape : held.shape ≡ shapes.Transparent
-  pub shaped : shape_of start.position kind ≡ shapes.Transparent
+  pub shaped : shape_of start.pending kind ≡ shapes.Transparent
   pub sum : held.sum ≡ length (encoding_each ts)
   pub inner : held.inner ≡ Plain Root
   pub uniform_arrays_parts : uniform_arrays_each ts ≡ true
@@ -110,14 +110,14 @@ pub record HoldsTransparent (start : SizeSerializer) (kind : Kind) (held : OpenC
 
 -- the one part of a single compound stands where the compound was opened
 abbrev pub single_parts : SizeSerializer → OpenCompound → List (Option Tree) → Type 0
-single_parts start held [] = (held.count ≡ 0) × (held.inner ≡ start.position)
-single_parts start held (p ∷ []) = (held.count ≡ 1) × at_position (position_of start.position) (meant start.position p) (Ok held.sum) held.inner
+single_parts start held [] = (held.count ≡ 0) × (held.inner ≡ start.pending)
+single_parts start held (p ∷ []) = (held.count ≡ 1) × at_position (position_of start.pending) (meant start.pending p) (Ok held.sum) held.inner
 single_parts start held (p ∷ (q ∷ ps)) = ⊥
 
 -- an open single compound, of the part that it was fed
 pub record HoldsSingle (start : SizeSerializer) (kind : Kind) (held : OpenCompound) (ps : List (Option Tree)) : Type 0 where
   pub kind_is : kind ≡ kinds.Single
-  pub position : without_prefix held.position ≡ without_prefix (position_of start.position)
+  pub position : without_prefix held.position ≡ without_prefix (position_of start.pending)
   pub shape : held.shape ≡ shapes.Single
   pub parts : single_parts start held ps
 
@@ -126,13 +126,13 @@ abbrev pub Holding : SizeSerializer → Kind → OpenCompound → List (Option T
 Holding start kind held ps = HoldsGathered start kind held ps ⊎ (HoldsTransparent start kind held ps ⊎ HoldsSingle start kind held ps)
 
 abbrev pub size_has : SizeSerializer → Kind → SizeSerializer → OpenCompound → List (Option Tree) → Type 0
-size_has start kind s held ps = Holding start kind held ps × (s.position ≡ Plain (without_prefix held.position))
+size_has start kind s held ps = Holding start kind held ps × (s.pending ≡ Plain (without_prefix held.position))
 
 abbrev pub size_awaits : SizeSerializer → Kind → SizeSerializer → OpenCompound → List (Option Tree) → Type 0
-size_awaits start kind s held ps = Holding start kind held ps × (s.position ≡ held.inner)
+size_awaits start kind s held ps = Holding start kind held ps × (s.pending ≡ held.inner)
 
 abbrev pub size_awaits_descriptor : SizeSerializer → SizeSerializer → OpenCompound → Type 0
-size_awaits_descriptor start s held = HoldsSingle start kinds.Single held [] × (s.position ≡ Plain Descriptor)
+size_awaits_descriptor start s held = HoldsSingle start kinds.Single held [] × (s.pending ≡ Plain Descriptor)
 
 none_at : (u : Pending) (n : ℕ) (after : Pending) → at_position (position_of u) (meant u None) (Ok n) after → ⊥
 none_at (pending.Plain p) n after h = h
@@ -143,4 +143,4 @@ none_at (pending.Nothing p) n after h = h
 
 -- where there is no tree there is no length
 pub no_count_on_none : (s : SizeSerializer) (n : ℕ) (after : SizeSerializer) → size_permits s None (Ok n) after → ⊥
-no_count_on_none s n after h = none_at s.position n after.position h
+no_count_on_none s n after h = none_at s.pending n after.pending h

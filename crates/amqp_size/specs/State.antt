@@ -26,7 +26,7 @@ pending_at (kept_pending.Nothing p) h = Nothing (position_at p h)
 
 -- a serializer: where the next value stands
 pub record SizeState : Type 0 where
-  pub position : Pending
+  pub pending : Pending
 
 -- an open compound: where it stands, what it is, where its next part stands, the bytes before the value where one of the
 -- two is after descriptors, and what its parts came to

@@ -13,6 +13,7 @@ use crate::position::{BasePosition, Pending, Position};
 use crate::refusal::Refusal;
 use crate::serializer::SizeSerializer;
 use crate::width::{LONGEST, map_width, text_width, uint_width};
+use amqp_data::EncodingCodes;
 
 /// The answer on a descriptor with this constructor and length: only a ulong or a symbol is one.
 fn descriptor(code: u8, ordinary: usize) -> Result<usize, Refusal>
@@ -20,7 +21,7 @@ fn descriptor(code: u8, ordinary: usize) -> Result<usize, Refusal>
         (λ n. (is_some (descriptor_of (Some t)) ≡ true) × (n ≡ ordinary))
         (λ e. (is_some (descriptor_of (Some t)) ≡ false) × (e ≡ Refusal.InvalidValue)) }
 {
-    if code == 0x80 || code == 0xb3 {
+    if code == EncodingCodes::Ulong as u8 || code == EncodingCodes::Sym32 as u8 {
         Ok(ordinary)
     } else {
         Err(Refusal::InvalidValue)
@@ -52,18 +53,17 @@ impl SizeSerializer {
     /// Comes to rest where it stands: markers and descriptors are behind it.
     #[inline(always)]
     pub(crate) fn reset(&mut self)
-        ensures { self.new.position ≡ Plain (without_prefix (position_of self.old.position)) }
+        ensures { self.new.pending ≡ Plain (without_prefix (position_of self.old.pending)) }
     {
-        match self.position {
-            Pending::Plain(Position::Value(base)) => self.position = Pending::Plain(
-                base.position(),
-            ),
+        match self.pending {
+            Pending::Plain(Position::Value(base)) => self.pending = Pending::Plain(base.position()),
             Pending::Plain(_) => {}
-            pending => self.position = Pending::Plain(pending.without_prefix()),
+            pending => self.pending = Pending::Plain(pending.without_prefix()),
         }
     }
 
-    /// The answer on a writable tree with this constructor and these lengths, by a serializer at rest at its position.
+    /// The answer on a writable tree with this constructor and these lengths, by a serializer at
+    /// rest at its position.
     #[inline(always)]
     pub(crate) fn accept(
         &mut self,
@@ -73,18 +73,20 @@ impl SizeSerializer {
         ordinary: usize,
         wide: usize,
     ) -> Result<usize, Refusal>
-        ensures { self.old.position ≡ Plain (without_prefix (position_at position prefix_len)) → (t : Tree) →
-            constructor t ≡ Some code → within_limits t ≡ true → uniform_arrays t ≡ true → inside t ≡ true →
+        ensures { self.old.pending ≡ Plain (without_prefix (position_at position prefix_len)) →
+            (t : Tree) →
+            constructor t ≡ Some code → within_limits t ≡ true → uniform_arrays t ≡ true →
+            inside t ≡ true →
             placed t ≡ true →
             length (encoding t) ≡ ordinary → length (payload t) ≡ wide →
-            at_position (position_at position prefix_len) (Some t) result self.new.position }
+            at_position (position_at position prefix_len) (Some t) result self.new.pending }
     {
         match position {
             Position::Root => Ok(ordinary),
             Position::Inside => Ok(ordinary),
             Position::First => {
                 // The first element leaves its constructor for the array: `end_part` picks it up.
-                self.position = Pending::Plain(Position::Element(code));
+                self.pending = Pending::Plain(Position::Element(code));
                 Ok(wide)
             }
             Position::Element(c) => {
@@ -108,11 +110,13 @@ impl SizeSerializer {
         code: u8,
         n: usize,
     ) -> Result<usize, Refusal>
-        ensures { self.old.position ≡ Plain (without_prefix (position_at position prefix_len)) → (t : Tree) →
-            constructor t ≡ Some code → uniform_arrays t ≡ true → inside t ≡ true → placed t ≡ true →
+        ensures { self.old.pending ≡ Plain (without_prefix (position_at position prefix_len)) →
+            (t : Tree) →
+            constructor t ≡ Some code → uniform_arrays t ≡ true → inside t ≡ true →
+            placed t ≡ true →
             within_limits t ≡ fits n →
             length (encoding t) ≡ text_width n → length (payload t) ≡ n + 4 →
-            at_position (position_at position prefix_len) (Some t) result self.new.position }
+            at_position (position_at position prefix_len) (Some t) result self.new.pending }
     {
         // A short text passes no limit: it is looked at once.
         if n <= 254 {
@@ -133,23 +137,32 @@ impl SizeSerializer {
         index: u32,
         size: usize,
     ) -> Result<usize, Refusal>
-        ensures { self.old.position ≡ Plain (without_prefix (position_at position prefix_len)) → (t v : Tree) →
-            constructor t ≡ Some 0xd1 → uniform_arrays t ≡ true → inside t ≡ true → placed t ≡ true →
+        ensures { self.old.pending ≡ Plain (without_prefix (position_at position prefix_len)) →
+            (t v : Tree) →
+            constructor t ≡ Some 0xd1 → uniform_arrays t ≡ true → inside t ≡ true →
+            placed t ≡ true →
             within_limits v ≡ true →
             within_limits t ≡ (fits (uint_width index + size) && within_limits v) →
             length (encoding t) ≡ map_width (uint_width index + size) →
             length (payload t) ≡ uint_width index + size + 8 →
-            at_position (position_at position prefix_len) (Some t) result self.new.position }
+            at_position (position_at position prefix_len) (Some t) result self.new.pending }
     {
         let first = uint_width(index);
         if size > LONGEST - first {
             return Err(Refusal::TooLong);
         }
         let body = first + size;
-        self.accept(position, prefix_len, 0xd1, map_width(body), body + 8)
+        self.accept(
+            position,
+            prefix_len,
+            EncodingCodes::Map32 as u8,
+            map_width(body),
+            body + 8,
+        )
     }
 
-    /// The answer on a transparent vector whose elements have this length: it stands at the root alone.
+    /// The answer on a transparent vector whose elements have this length: it stands at the root
+    /// alone.
     #[inline(always)]
     pub(crate) fn transparent(
         &mut self,
@@ -157,10 +170,12 @@ impl SizeSerializer {
         prefix_len: usize,
         sum: usize,
     ) -> Result<usize, Refusal>
-        ensures { self.old.position ≡ Plain (without_prefix (position_at position prefix_len)) → (ts : Trees) →
+        ensures { self.old.pending ≡ Plain (without_prefix (position_at position prefix_len)) →
+            (ts : Trees) →
             within_limits_each ts ≡ true → uniform_arrays_each ts ≡ true → placed_each ts ≡ true →
             sum ≡ length (encoding_each ts) →
-            at_position (position_at position prefix_len) (Some (transparent ts)) result self.new.position }
+            at_position (position_at position prefix_len) (Some (transparent ts)) result
+            self.new.pending }
     {
         match position {
             Position::Root => Ok(sum),

@@ -4,6 +4,7 @@ ghost use Rattle.std.specs.Prelude.{◌≡◌, ◌≤◌, length};
 ghost use Rattle.amqp_ser.specs.Fixed.{fixed_scalar};
 ghost use Rattle.amqp_ser.specs.Scalars.{scalar_code, scalar_form, scalar_payload};
 
+use amqp_data::EncodingCodes;
 use amqp_ser::Fixed;
 
 /// A code and the lowest bytes of a number after it, the highest first.
@@ -39,19 +40,19 @@ impl Form {
         ensures few { result.width ≤ 8 }
     {
         match fixed {
-            Fixed::Bool(true) => Form::new(0x41, 0, 0),
-            Fixed::Bool(false) => Form::new(0x42, 0, 0),
-            Fixed::Uint(0) => Form::new(0x43, 0, 0),
-            Fixed::Uint(n) if n < 256 => Form::new(0x52, 1, n as u64),
-            Fixed::Ulong(0) => Form::new(0x44, 0, 0),
-            Fixed::Ulong(n) if n < 256 => Form::new(0x53, 1, n),
+            Fixed::Bool(true) => Form::new(EncodingCodes::BooleanTrue as u8, 0, 0),
+            Fixed::Bool(false) => Form::new(EncodingCodes::BooleanFalse as u8, 0, 0),
+            Fixed::Uint(0) => Form::new(EncodingCodes::Uint0 as u8, 0, 0),
+            Fixed::Uint(n) if n < 256 => Form::new(EncodingCodes::SmallUint as u8, 1, n as u64),
+            Fixed::Ulong(0) => Form::new(EncodingCodes::Ulong0 as u8, 0, 0),
+            Fixed::Ulong(n) if n < 256 => Form::new(EncodingCodes::SmallUlong as u8, 1, n),
             Fixed::Int(n) if -128 <= n && n <= 127 => Form::new(
-                0x54,
+                EncodingCodes::SmallInt as u8,
                 1,
                 (n as i8).cast_unsigned() as u64,
             ),
             Fixed::Long(n) if -128 <= n && n <= 127 => Form::new(
-                0x55,
+                EncodingCodes::SmallLong as u8,
                 1,
                 (n as i8).cast_unsigned() as u64,
             ),
@@ -67,19 +68,19 @@ impl Form {
         ensures few { result.width ≤ 8 }
     {
         match fixed {
-            Fixed::Null => Form::new(0x40, 0, 0),
-            Fixed::Bool(v) => Form::new(0x56, 1, if v { 1 } else { 0 }),
-            Fixed::Ubyte(v) => Form::new(0x50, 1, v as u64),
-            Fixed::Ushort(v) => Form::new(0x60, 2, v as u64),
-            Fixed::Uint(v) => Form::new(0x70, 4, v as u64),
-            Fixed::Ulong(v) => Form::new(0x80, 8, v),
-            Fixed::Byte(v) => Form::new(0x51, 1, v.cast_unsigned() as u64),
-            Fixed::Short(v) => Form::new(0x61, 2, v.cast_unsigned() as u64),
-            Fixed::Int(v) => Form::new(0x71, 4, v.cast_unsigned() as u64),
-            Fixed::Long(v) => Form::new(0x81, 8, v.cast_unsigned()),
-            Fixed::Float(v) => Form::new(0x72, 4, v as u64),
-            Fixed::Double(v) => Form::new(0x82, 8, v),
-            Fixed::Char(v) => Form::new(0x73, 4, v as u64),
+            Fixed::Null => Form::new(EncodingCodes::Null as u8, 0, 0),
+            Fixed::Bool(v) => Form::new(EncodingCodes::Boolean as u8, 1, if v { 1 } else { 0 }),
+            Fixed::Ubyte(v) => Form::new(EncodingCodes::Ubyte as u8, 1, v as u64),
+            Fixed::Ushort(v) => Form::new(EncodingCodes::Ushort as u8, 2, v as u64),
+            Fixed::Uint(v) => Form::new(EncodingCodes::Uint as u8, 4, v as u64),
+            Fixed::Ulong(v) => Form::new(EncodingCodes::Ulong as u8, 8, v),
+            Fixed::Byte(v) => Form::new(EncodingCodes::Byte as u8, 1, v.cast_unsigned() as u64),
+            Fixed::Short(v) => Form::new(EncodingCodes::Short as u8, 2, v.cast_unsigned() as u64),
+            Fixed::Int(v) => Form::new(EncodingCodes::Int as u8, 4, v.cast_unsigned() as u64),
+            Fixed::Long(v) => Form::new(EncodingCodes::Long as u8, 8, v.cast_unsigned()),
+            Fixed::Float(v) => Form::new(EncodingCodes::Float as u8, 4, v as u64),
+            Fixed::Double(v) => Form::new(EncodingCodes::Double as u8, 8, v),
+            Fixed::Char(v) => Form::new(EncodingCodes::Char as u8, 4, v as u64),
         }
     }
 }

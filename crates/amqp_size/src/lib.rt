@@ -1,7 +1,8 @@
 //! The length of a value's bytes, counted without memory.
 //!
-//! `serialized_size` succeeds exactly where the value's tree can be written, and gives the length of what writing
-//! gives. `SizeSerializer` is the serializer behind it. The widths of all headers stand in this crate alone.
+//! `serialized_size` succeeds exactly where the value's tree can be written, and gives the length
+//! of what writing gives. `SizeSerializer` is the serializer behind it. The widths of all headers
+//! stand in this crate alone.
 #![tactic(auto)]
 
 mod accept;

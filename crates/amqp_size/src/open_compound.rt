@@ -8,7 +8,8 @@ use crate::refusal::Refusal;
 use crate::width::{LONGEST, MOST};
 use std::marker::Model;
 
-/// A compound whose parts are still counted: how many bytes they have, and where the next one stands.
+/// A compound whose parts are still counted: how many bytes they have, and where the next one
+/// stands.
 #[derive(Debug, Drop)]
 pub struct OpenCompound {
     position: Position,
@@ -28,7 +29,16 @@ impl Model for OpenCompound {
 
     ghost Value = { OpenState };
 
-    ghost view = { λ a. record { position = position_at a.position a.prefix_len; shape = a.shape; inner = pending_at a.inner a.prefix_len; prefix_len = a.prefix_len; sum = a.sum; before_last = a.before_last; count = a.count } };
+    ghost view = { λ a. record {
+      position = position_at a.position a.prefix_len;
+      shape = a.shape;
+      inner = pending_at
+          a.inner a.prefix_len;
+      prefix_len = a.prefix_len;
+      sum = a.sum;
+      before_last = a.before_last;
+      count = a.count;
+    } };
 
     ghost invariant = { λ a. (a.sum ≤ limit_of a.shape) × (a.before_last ≤ limit_of a.shape) };
 }
@@ -142,7 +152,8 @@ impl OpenCompound {
             else self.old.inner)))
             (λ e. (e ≡ Refusal.TooLong)
             × passes_limit (is_array self.old.shape) self.old.count
-            (size + opens_in (is_array self.old.shape) self.old.inner (pending_at after self.old.prefix_len)
+            (size + opens_in (is_array self.old.shape) self.old.inner
+            (pending_at after self.old.prefix_len)
             + self.old.sum)) }
         ensures transparent { self.old.shape ≡ Shape.Transparent → MatchResult result
             (λ _. (self.new.sum ≡ size + self.old.sum) × (self.new.inner ≡ self.old.inner))
@@ -196,14 +207,16 @@ impl OpenCompound {
         requires { self.old.shape ≡ Shape.Array }
         ensures kept { MatchResult result
             (λ _.
-            (self.new.sum ≡ size + opens_in true self.old.inner (pending_at after self.old.prefix_len)
+            (self.new.sum ≡ size +
+            opens_in true self.old.inner (pending_at after self.old.prefix_len)
             + self.old.sum)
             × ((self.new.count ≡ self.old.count + 1)
             × (self.new.inner ≡ pending_at after self.old.prefix_len)))
             (λ e. (self.new ≡ self.old)
             × ((e ≡ Refusal.TooLong)
             × passes_limit true self.old.count
-            (size + opens_in true self.old.inner (pending_at after self.old.prefix_len) + self.old.sum))) }
+            (size + opens_in true self.old.inner (pending_at after self.old.prefix_len) +
+            self.old.sum))) }
         ensures before_last { IfOk result (λ _. self.new.before_last ≡ self.old.sum) }
         ensures few { self.old.count ≤ 4294967295 → self.new.count ≤ 4294967295 }
         ensures position { self.new.position ≡ self.old.position }

@@ -27,7 +27,8 @@ impl Pending {
     /// Where a serializer stands after a refusal there.
     #[inline(always)]
     pub fn without_prefix(self) -> Position
-        ensures { (h k : ℕ) → position_at result k ≡ without_prefix (position_of (pending_at self h)) }
+        ensures { (h k : ℕ) →
+            position_at result k ≡ without_prefix (position_of (pending_at self h)) }
     {
         self.position().without_prefix()
     }
@@ -71,7 +72,8 @@ impl Pending {
     pub fn marked(self, mark: Mark) -> Pending
         ensures meant { (h : ℕ) (t : Option Tree) →
             meant (pending_at result h) t ≡ meant (pending_at self h) (marked mark t) }
-        ensures position { (h : ℕ) → position_of (pending_at result h) ≡ position_of (pending_at self h) }
+        ensures position { (h : ℕ) →
+            position_of (pending_at result h) ≡ position_of (pending_at self h) }
     {
         match mark {
             Mark::Other => self,
@@ -91,7 +93,8 @@ impl Pending {
     fn mark_array(self) -> Pending
         ensures meant { (h : ℕ) (t : Option Tree) →
             meant (pending_at result h) t ≡ meant (pending_at self h) (marked Mark.Array t) }
-        ensures position { (h : ℕ) → position_of (pending_at result h) ≡ position_of (pending_at self h) }
+        ensures position { (h : ℕ) →
+            position_of (pending_at result h) ≡ position_of (pending_at self h) }
     {
         match self {
             Pending::Plain(position) => Pending::Array(position),
@@ -103,7 +106,8 @@ impl Pending {
     fn mark_transparent(self) -> Pending
         ensures meant { (h : ℕ) (t : Option Tree) →
             meant (pending_at result h) t ≡ meant (pending_at self h) (marked Mark.Transparent t) }
-        ensures position { (h : ℕ) → position_of (pending_at result h) ≡ position_of (pending_at self h) }
+        ensures position { (h : ℕ) →
+            position_of (pending_at result h) ≡ position_of (pending_at self h) }
     {
         match self {
             Pending::Plain(position) => Pending::Transparent(position),
@@ -115,7 +119,8 @@ impl Pending {
     fn mark_scalar(self, mark: ScalarMark) -> Pending
         ensures meant { (h : ℕ) (t : Option Tree) →
             meant (pending_at result h) t ≡ meant (pending_at self h) (marked (the_mark mark) t) }
-        ensures position { (h : ℕ) → position_of (pending_at result h) ≡ position_of (pending_at self h) }
+        ensures position { (h : ℕ) →
+            position_of (pending_at result h) ≡ position_of (pending_at self h) }
     {
         match self {
             Pending::Plain(position) => Pending::Scalar(position, mark),

@@ -32,7 +32,8 @@ pub enum Position {
     Element(u8),
     /// Before a described value.
     Descriptor,
-    /// After the code of described values and the descriptors: how many bytes those are stands beside the position.
+    /// After the code of described values and the descriptors: how many bytes those are stands
+    /// beside the position.
     Value(BasePosition),
 }
 

@@ -5,14 +5,16 @@ ghost use Rattle.amqp_size.specs.Refused.{error_of};
 
 use amqp_data::Error;
 
-/// Why a walk over a value refuses it: one byte, so that an answer is not as large as an error with a text.
+/// Why a walk over a value refuses it: one byte, so that an answer is not as large as an error with
+/// a text.
 #[derive(Clone, Copy, Debug, PartialEq, Eq)]
 pub enum Refusal {
     /// A growth of memory was refused.
     OutOfMemory,
     /// A length or a count is past its limit.
     TooLong,
-    /// A value of the wrong kind, a tree that cannot be written for another cause than a limit, or a misuse of a compound.
+    /// A value of the wrong kind, a tree that cannot be written for another cause than a limit, or
+    /// a misuse of a compound.
     InvalidValue,
 }
 

@@ -12,14 +12,15 @@ use crate::open_compound::OpenCompound;
 use crate::position::{Pending, Position, ScalarMark, Shape};
 use crate::refusal::Refusal;
 use crate::width::{array_width, list_width, map_width};
-use amqp_data::Error;
+use amqp_data::{EncodingCodes, Error};
 use amqp_ser::{Fixed, Kind, Mark, Serialize, Serializer};
 use std::marker::Model;
 
 /// Counts the bytes of values; it is fresh after each call, refused ones too.
 ///
 /// # Errors
-/// Its calls refuse by [`Refusal`], of one byte, which `?` turns into `Error`; never as out of memory.
+/// Its calls refuse by [`Refusal`], of one byte, which `?` turns into `Error`; never as out of
+/// memory.
 ///
 /// # Example
 /// One serializer counts the array of the ubytes 1 and 2 as 6, and then their list as 7.
@@ -28,9 +29,9 @@ use std::marker::Model;
 /// Takes none.
 #[derive(Debug, Drop)]
 pub struct SizeSerializer {
-    /// Where the next value stands. An array's first element leaves its constructor here (`accept`),
-    /// and the array picks it up (`end_part`): no answer carries it.
-    pub(crate) position: Pending,
+    /// Where the next value stands. An array's first element leaves its constructor here
+    /// (`accept`), and the array picks it up (`end_part`): no answer carries it.
+    pub(crate) pending: Pending,
     /// How many bytes stand before the value, where it is after descriptors.
     pub(crate) prefix_len: usize,
 }
@@ -40,17 +41,17 @@ impl Model for SizeSerializer {
 
     ghost Value = { SizeState };
 
-    ghost view = { λ s. record { position = pending_at s.position s.prefix_len } };
+    ghost view = { λ s. record { pending = pending_at s.pending s.prefix_len } };
 }
 
 impl SizeSerializer {
     /// A serializer at the root.
     #[inline(always)]
     pub fn new() -> SizeSerializer
-        ensures { result.position ≡ Plain whole_position.Root }
+        ensures { result.pending ≡ Plain whole_position.Root }
     {
         SizeSerializer {
-            position: Pending::Plain(Position::Root),
+            pending: Pending::Plain(Position::Root),
             prefix_len: 0,
         }
     }
@@ -60,7 +61,7 @@ impl Default for SizeSerializer {
     ghost use Rattle.amqp_size.specs.WholePending.{Plain};
     ghost use Rattle.amqp_size.specs.WholePosition.{Root};
 
-    ghost is_default = { λ s. s.position ≡ Plain Root };
+    ghost is_default = { λ s. s.pending ≡ Plain Root };
 
     fn default() -> SizeSerializer {
         SizeSerializer::new()
@@ -99,10 +100,10 @@ impl Serializer for SizeSerializer {
     fn serialize_fixed(&mut self, fixed: Fixed) -> Result<usize, Refusal>
         ensures answered { size_permits self.old (Some (scalar (fixed_scalar fixed))) result
             self.new }
-        ensures no_tree { meant self.old.position (Some (scalar (fixed_scalar fixed))) ≡ None →
+        ensures no_tree { meant self.old.pending (Some (scalar (fixed_scalar fixed))) ≡ None →
             result ≡ Err InvalidValue }
     {
-        let pending = self.position;
+        let pending = self.pending;
         let prefix_len = self.prefix_len;
         self.reset();
         match pending {
@@ -118,7 +119,13 @@ impl Serializer for SizeSerializer {
                 )
             }
             Pending::Scalar(position, ScalarMark::Timestamp) => match fixed {
-                Fixed::Long(_) => self.accept(position, prefix_len, 0x83, 9, 8),
+                Fixed::Long(_) => self.accept(
+                    position,
+                    prefix_len,
+                    EncodingCodes::Timestamp as u8,
+                    9,
+                    8,
+                ),
                 _ => Err(Refusal::InvalidValue),
             },
             _ => Err(Refusal::InvalidValue),
@@ -128,14 +135,20 @@ impl Serializer for SizeSerializer {
     #[inline(always)]
     fn serialize_null(&mut self) -> Result<usize, Refusal>
         ensures answered { size_permits self.old (Some (scalar null)) result self.new }
-        ensures no_tree { meant self.old.position (Some (scalar null)) ≡ None →
+        ensures no_tree { meant self.old.pending (Some (scalar null)) ≡ None →
             result ≡ Err InvalidValue }
     {
-        let pending = self.position;
+        let pending = self.pending;
         let prefix_len = self.prefix_len;
         self.reset();
         match pending {
-            Pending::Plain(position) => self.accept(position, prefix_len, 0x40, 1, 0),
+            Pending::Plain(position) => self.accept(
+                position,
+                prefix_len,
+                EncodingCodes::Null as u8,
+                1,
+                0,
+            ),
             _ => Err(Refusal::InvalidValue),
         }
     }
@@ -143,18 +156,23 @@ impl Serializer for SizeSerializer {
     #[inline(always)]
     fn serialize_str(&mut self, v: &str) -> Result<usize, Refusal>
         ensures answered { size_permits self.old (Some (scalar (string v.now))) result self.new }
-        ensures no_tree { meant self.old.position (Some (scalar (string v.now))) ≡ None →
+        ensures no_tree { meant self.old.pending (Some (scalar (string v.now))) ≡ None →
             result ≡ Err InvalidValue }
     {
-        let pending = self.position;
+        let pending = self.pending;
         let prefix_len = self.prefix_len;
         self.reset();
         match pending {
-            Pending::Plain(position) => self.text(position, prefix_len, 0xb1, v.len()),
+            Pending::Plain(position) => self.text(
+                position,
+                prefix_len,
+                EncodingCodes::Str32 as u8,
+                v.len(),
+            ),
             Pending::Scalar(position, ScalarMark::Symbol) => self.text(
                 position,
                 prefix_len,
-                0xb3,
+                EncodingCodes::Sym32 as u8,
                 v.len(),
             ),
             _ => Err(Refusal::InvalidValue),
@@ -164,25 +182,46 @@ impl Serializer for SizeSerializer {
     #[inline(always)]
     fn serialize_bytes(&mut self, v: &[u8]) -> Result<usize, Refusal>
         ensures answered { size_permits self.old (Some (scalar (binary v.now))) result self.new }
-        ensures no_tree { meant self.old.position (Some (scalar (binary v.now))) ≡ None →
+        ensures no_tree { meant self.old.pending (Some (scalar (binary v.now))) ≡ None →
             result ≡ Err InvalidValue }
     {
-        let pending = self.position;
+        let pending = self.pending;
         let prefix_len = self.prefix_len;
         self.reset();
         match pending {
-            Pending::Plain(position) => self.text(position, prefix_len, 0xb0, v.len()),
+            Pending::Plain(position) => self.text(
+                position,
+                prefix_len,
+                EncodingCodes::Vbin32 as u8,
+                v.len(),
+            ),
             Pending::Scalar(position, ScalarMark::Decimal32) if v.len() == 4 => self.accept(
-                position, prefix_len, 0x74, 5, 4,
+                position,
+                prefix_len,
+                EncodingCodes::Decimal32 as u8,
+                5,
+                4,
             ),
             Pending::Scalar(position, ScalarMark::Decimal64) if v.len() == 8 => self.accept(
-                position, prefix_len, 0x84, 9, 8,
+                position,
+                prefix_len,
+                EncodingCodes::Decimal64 as u8,
+                9,
+                8,
             ),
             Pending::Scalar(position, ScalarMark::Decimal128) if v.len() == 16 => self.accept(
-                position, prefix_len, 0x94, 17, 16,
+                position,
+                prefix_len,
+                EncodingCodes::Decimal128 as u8,
+                17,
+                16,
             ),
             Pending::Scalar(position, ScalarMark::Uuid) if v.len() == 16 => self.accept(
-                position, prefix_len, 0x98, 17, 16,
+                position,
+                prefix_len,
+                EncodingCodes::Uuid as u8,
+                17,
+                16,
             ),
             _ => Err(Refusal::InvalidValue),
         }
@@ -193,15 +232,15 @@ impl Serializer for SizeSerializer {
         ensures step { (t : Option Tree) (r : Result ℕ Refusal) (after : SizeSerializer) →
             size_permits self.new t r after → size_permits self.old (marked mark t) r after }
         ensures meant { (t : Option Tree) →
-            meant self.new.position t ≡ meant self.old.position (marked mark t) }
-        ensures position { position_of self.new.position ≡ position_of self.old.position }
+            meant self.new.pending t ≡ meant self.old.pending (marked mark t) }
+        ensures position { position_of self.new.pending ≡ position_of self.old.pending }
     {
-        self.position = self.position.marked(mark);
+        self.pending = self.pending.marked(mark);
     }
 
     #[inline(always)]
     fn begin(&mut self, kind: Kind) -> OpenCompound {
-        let pending = self.position;
+        let pending = self.pending;
         let prefix_len = self.prefix_len;
         self.reset();
         OpenCompound::new(pending, prefix_len, pending.shape(kind))
@@ -216,13 +255,14 @@ impl Serializer for SizeSerializer {
     fn begin_part(&mut self, held: &mut OpenCompound)
         ensures ready { (start : SizeSerializer) (kind : Kind) (ps : List (Option Tree)) →
             size_has start kind self.old held.old ps → size_awaits start kind self.new held.new ps }
-        ensures single { (start : SizeSerializer) → size_has start Kind.Single self.old held.old [] →
+        ensures single { (start : SizeSerializer) →
+            size_has start Kind.Single self.old held.old [] →
             (t : Option Tree) (r : Result ℕ Refusal) (after : SizeSerializer) →
             size_permits self.new t r after → size_permits start t r after }
-        ensures position { self.new.position ≡ held.old.inner }
+        ensures pending { self.new.pending ≡ held.old.inner }
         ensures kept { held.new ≡ held.old }
     {
-        self.position = held.inner();
+        self.pending = held.inner();
         self.prefix_len = held.prefix_len();
     }
 
@@ -242,11 +282,12 @@ impl Serializer for SizeSerializer {
         ensures refused { IfErr part (λ _. IsErr result) }
         ensures same { IfErr part
             (λ e. (result ≡ Err e)
-            × ((held.new ≡ held.old) × (self.new.position ≡ Plain (without_prefix held.old.position)))) }
+            × ((held.new ≡ held.old)
+            × (self.new.pending ≡ Plain (without_prefix held.old.position)))) }
     {
         // Picks up what the part left: an array's first element its constructor, in `accept`.
-        let after = self.position;
-        self.position = Pending::Plain(held.position().without_prefix());
+        let after = self.pending;
+        self.pending = Pending::Plain(held.position().without_prefix());
         let size = part?;
         held.add_part(size, after)
     }
@@ -255,10 +296,10 @@ impl Serializer for SizeSerializer {
     fn begin_descriptor(&mut self, held: &mut OpenCompound)
         ensures ready { (start : SizeSerializer) → size_has start Kind.Single self.old held.old [] →
             size_awaits_descriptor start self.new held.new }
-        ensures position { self.new.position ≡ Plain whole_position.Descriptor }
+        ensures pending { self.new.pending ≡ Plain whole_position.Descriptor }
         ensures kept { held.new ≡ held.old }
     {
-        self.position = Pending::Plain(Position::Descriptor);
+        self.pending = Pending::Plain(Position::Descriptor);
     }
 
     #[inline(always)]
@@ -285,9 +326,10 @@ impl Serializer for SizeSerializer {
             (λ n. IfOk result (λ _. described_pending held.old.inner n ≡ Some held.new.inner)) }
         ensures same { IfErr part
             (λ e. (result ≡ Err e)
-            × ((held.new ≡ held.old) × (self.new.position ≡ Plain (without_prefix held.old.position)))) }
+            × ((held.new ≡ held.old)
+            × (self.new.pending ≡ Plain (without_prefix held.old.position)))) }
     {
-        self.position = Pending::Plain(held.position().without_prefix());
+        self.pending = Pending::Plain(held.position().without_prefix());
         let descriptor = part?;
         held.describe(descriptor)
     }
@@ -310,27 +352,39 @@ impl Serializer for SizeSerializer {
             size_permits start (whole kind ps) result self.new }
         ensures no_tree { (start : SizeSerializer) (kind : Kind) (ps : List (Option Tree)) →
             size_has start kind self.old held ps → complete kind ps ≡ true →
-            meant start.position (whole kind ps) ≡ None → result ≡ Err InvalidValue }
+            meant start.pending (whole kind ps) ≡ None → result ≡ Err InvalidValue }
     {
         let position = held.position();
         let prefix_len = held.prefix_len();
         let sum = held.sum();
         match held.shape() {
-            Shape::List => self.accept(position, prefix_len, 0xd0, list_width(sum), sum + 8),
-            Shape::Map => self.accept(position, prefix_len, 0xd1, map_width(sum), sum + 8),
+            Shape::List => self.accept(
+                position,
+                prefix_len,
+                EncodingCodes::List32 as u8,
+                list_width(sum),
+                sum + 8,
+            ),
+            Shape::Map => self.accept(
+                position,
+                prefix_len,
+                EncodingCodes::Map32 as u8,
+                map_width(sum),
+                sum + 8,
+            ),
             Shape::Variant(index) => self.variant(position, prefix_len, index, list_width(sum)),
             Shape::NewtypeVariant(index) => self.variant(position, prefix_len, index, sum),
             Shape::Array => self.accept(
                 position,
                 prefix_len,
-                0xf0,
+                EncodingCodes::Array32 as u8,
                 array_width(sum, held.count()),
                 sum + 8,
             ),
             Shape::Transparent => self.transparent(position, prefix_len, sum),
             Shape::Single => {
                 // What the one value left goes on to the compound around this one.
-                self.position = held.inner();
+                self.pending = held.inner();
                 self.prefix_len = prefix_len;
                 Ok(sum)
             }
@@ -342,8 +396,8 @@ impl Serializer for SizeSerializer {
 /// The length of the value's bytes, exactly where its tree can be written.
 ///
 /// # Errors
-/// `TooLong` only where a limit is passed, `InvalidValue` only where the tree cannot be written for another cause;
-/// one of them where the value has no tree.
+/// `TooLong` only where a limit is passed, `InvalidValue` only where the tree cannot be written for
+/// another cause; one of them where the value has no tree.
 ///
 /// # Memory
 /// Takes none.

@@ -63,7 +63,19 @@ pub(crate) fn array_width(n: usize, count: usize) -> usize
     }
 }
 
-/// The length of a text, a symbol or a binary of this many bytes: the whole form, or the payload in an array.
+/// A length that is within the limit of texts and bodies.
+fn within_limit(n: usize) -> Result<usize, Error>
+    ensures { MatchResult result (λ same. (fits n ≡ true) × (same ≡ n))
+        (λ e. (fits n ≡ false) × (e ≡ Error.TooLong)) }
+{
+    if n > LONGEST {
+        return Err(Error::TooLong);
+    }
+    Ok(n)
+}
+
+/// The length of a text, a symbol or a binary of this many bytes: the whole form, or the payload in
+/// an array.
 ///
 /// # Errors
 /// `TooLong` exactly where that is past 4,294,967,291.
@@ -79,16 +91,12 @@ pub fn text_len(text: usize, in_array: bool) -> Result<usize, Error>
     ensures length { IfOk result (λ len. (c8 c32 : ℕ) (bs : List ℕ) → length bs ≡ text →
         length (text_at in_array c8 c32 bs) ≡ len) }
 {
-    if text > LONGEST {
-        return Err(Error::TooLong);
-    }
-    if in_array {
-        return Ok(text + 4);
-    }
-    Ok(text_width(text))
+    let n = within_limit(text)?;
+    Ok(if in_array { n + 4 } else { text_width(n) })
 }
 
-/// The length of a list whose elements have this many bytes together: the whole form, or the payload in an array.
+/// The length of a list whose elements have this many bytes together: the whole form, or the
+/// payload in an array.
 ///
 /// # Errors
 /// `TooLong` exactly where that is past 4,294,967,291.
@@ -104,16 +112,12 @@ pub fn list_len(elements: usize, in_array: bool) -> Result<usize, Error>
     ensures length { IfOk result (λ len. (m : ℕ) (body : List ℕ) → length body ≡ elements →
         length (list_at in_array m body) ≡ len) }
 {
-    if elements > LONGEST {
-        return Err(Error::TooLong);
-    }
-    if in_array {
-        return Ok(elements + 8);
-    }
-    Ok(list_width(elements))
+    let n = within_limit(elements)?;
+    Ok(if in_array { n + 8 } else { list_width(n) })
 }
 
-/// The length of a map whose keys and values have this many bytes together: the whole form, or the payload in an array.
+/// The length of a map whose keys and values have this many bytes together: the whole form, or the
+/// payload in an array.
 ///
 /// # Errors
 /// `TooLong` exactly where that is past 4,294,967,291.
@@ -129,17 +133,12 @@ pub fn map_len(entries: usize, in_array: bool) -> Result<usize, Error>
     ensures length { IfOk result (λ len. (m : ℕ) (body : List ℕ) → length body ≡ entries →
         length (map_at in_array m body) ≡ len) }
 {
-    if entries > LONGEST {
-        return Err(Error::TooLong);
-    }
-    if in_array {
-        return Ok(entries + 8);
-    }
-    Ok(map_width(entries))
+    let n = within_limit(entries)?;
+    Ok(if in_array { n + 8 } else { map_width(n) })
 }
 
-/// The length of an array whose content, the constructor among it, has this many bytes: the whole form, or the payload in an
-/// array.
+/// The length of an array whose content, the constructor among it, has this many bytes: the whole
+/// form, or the payload in an array.
 ///
 /// # Errors
 /// `TooLong` exactly where that is past 4,294,967,291 or the count past 4,294,967,295.
@@ -148,22 +147,21 @@ pub fn map_len(entries: usize, in_array: bool) -> Result<usize, Error>
 /// Takes none.
 ///
 /// # Example
-/// One byte and 255 elements have the length 4, one byte and 256 elements 10; in an array no element has 8.
+/// One byte and 255 elements have the length 4, one byte and 256 elements 10; in an array no
+/// element has 8.
 pub fn array_len(content: usize, count: usize, in_array: bool) -> Result<usize, Error>
     ensures limit { MatchResult result (λ _. (fits content && is_count count) ≡ true)
         (λ e. ((fits content && is_count count) ≡ false) × (e ≡ Error.TooLong)) }
     ensures length { IfOk result (λ len. (body : List ℕ) → length body ≡ content →
         length (array_at in_array count body) ≡ len) }
 {
-    if content > LONGEST {
-        return Err(Error::TooLong);
-    }
+    let n = within_limit(content)?;
     if count > MOST {
         return Err(Error::TooLong);
     }
     Ok(if in_array {
-        content + 8
+        n + 8
     } else {
-        array_width(content, count)
+        array_width(n, count)
     })
 }

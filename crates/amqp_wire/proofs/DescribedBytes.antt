@@ -25,7 +25,7 @@ use Rattle.amqp_wire.specs.Positions.{after_descriptor}
 use Rattle.amqp_wire.specs.Writer.{Kept, FitsOutput, Written, takes, wrote, writes_tree, accepts, writer_permits, writer_has, WrittenSingle, stands_at, AwaitsDescriptor}
 use Rattle.amqp_wire.specs.declared.output.Output.{Output}
 use Rattle.amqp_wire.specs.declared.writer.Writer.{Writer}
-use Rattle.amqp_wire.specs.declared.writer.Writing.{Writing}
+use Rattle.amqp_wire.specs.declared.writing.Writing.{Writing}
 use Rattle.amqp_wire.proofs.SingleWritten.{alone_open}
 use Rattle.amqp_wire.proofs.DescribedTable.{descriptor_entries}
 use Rattle.amqp_wire.proofs.CountWithinBytes.{no_false}
@@ -119,12 +119,12 @@ described_writes (pending.Transparent p) w start mid after x o e k f h = nothing
 described_writes (pending.Scalar m p) w start mid after x o e k f h = nothing_wrote p start after _ (no_scalar_described m x o)
 described_writes (pending.Nothing p) w start mid after x o e k f h = tt
 
-described_permits : (start mid : Writer) (x : Descriptor) → after_descriptor start.position ≡ Some mid.position → Kept start.output mid.output → stands_headed (position_of start.position) start.output mid.output x →
+described_permits : (start mid : Writer) (x : Descriptor) → after_descriptor start.pending ≡ Some mid.pending → Kept start.output mid.output → stands_headed (position_of start.pending) start.output mid.output x →
     (o : Option Tree) (r : Result (Unit {0}) Refusal) (after : Writer) → writer_permits mid o r after → writer_permits start (as_described (Some x) o) r after
 described_permits start mid x e k f o (Ok u) after p =
-    (kept-more start.output mid.output after.output k p.0, (described_accepts start.position mid.position x e o (Ok u) after.position p.1.0, described_writes start.position mid.position start.output mid.output after.output x o e k f p.1.1))
+    (kept-more start.output mid.output after.output k p.0, (described_accepts start.pending mid.pending x e o (Ok u) after.pending p.1.0, described_writes start.pending mid.pending start.output mid.output after.output x o e k f p.1.1))
 described_permits start mid x e k f o (Err v) after p =
-    (kept-more start.output mid.output after.output k p.0, (described_accepts start.position mid.position x e o (Err v) after.position p.1.0, tt))
+    (kept-more start.output mid.output after.output k p.0, (described_accepts start.pending mid.pending x e o (Err v) after.pending p.1.0, tt))
 
 -- what stands before the value, once the descriptor is written
 head_written : (p : Position) (start before mid : Output) (x : Descriptor) (t : Tree) → ((v : Tree) → dense_at p (described x v) ≡ true → in_array p ≡ false) → Kept start before →
@@ -160,13 +160,13 @@ one_taken (Some t) after (Some x) q h = (x, (refl, (t, refl)))
 -- the value to come is described
 pub value_described : (start before now : Writer) (held new : Writing) (d : Option Tree) (part : Result (Unit {0}) Refusal) → AwaitsDescriptor start before held → writer_permits before d part now → part ≡ Ok tt →
     after_descriptor held.inner ≡ Some new.inner → new.position ≡ held.position → new.shape ≡ held.shape →
-    (mid : Writer) × (writer_has mid kinds.Single (record { position = pending.Plain (without_prefix held.position); output = now.output }) new [] × ((t : Option Tree) (r : Result (Unit {0}) Refusal) (after : Writer) → writer_permits mid t r after → writer_permits start (as_described (descriptor_of d) t) r after))
+    (mid : Writer) × (writer_has mid kinds.Single (record { pending = pending.Plain (without_prefix held.position); output = now.output }) new [] × ((t : Option Tree) (r : Result (Unit {0}) Refusal) (after : Writer) → writer_permits mid t r after → writer_permits start (as_described (descriptor_of d) t) r after))
 value_described start before now held new d part w p e to same is =
-    let mid : Writer = record { position = new.inner; output = now.output } in
-    let there : after_descriptor start.position ≡ Some new.inner = ap after_descriptor (sym w.inner) ∙ to in
-    let here = subst (λ r. accepts (position_of before.position) (meant before.position d) r now.position × writes_tree (position_of before.position) before.output (meant before.position d) r now.output) e p.1 in
-    let at = subst (λ u. takes (position_of u) (meant u d) now.position × wrote (position_of u) before.output (meant u d) now.output) w.at here in
-    let one = one_taken d now.position (descriptor_of d) refl at.0 in
+    let mid : Writer = record { pending = new.inner; output = now.output } in
+    let there : after_descriptor start.pending ≡ Some new.inner = ap after_descriptor (sym w.inner) ∙ to in
+    let here = subst (λ r. accepts (position_of before.pending) (meant before.pending d) r now.pending × writes_tree (position_of before.pending) before.output (meant before.pending d) r now.output) e p.1 in
+    let at = subst (λ u. takes (position_of u) (meant u d) now.pending × wrote (position_of u) before.output (meant u d) now.output) w.at here in
+    let one = one_taken d now.pending (descriptor_of d) refl at.0 in
     let x = one.0 in
     let t = one.1.1.0 in
     let is_one : descriptor_of (Some t) ≡ Some x = ap descriptor_of (sym one.1.1.1) ∙ one.1.0 in
@@ -174,37 +174,37 @@ value_described start before now held new d part w p e to same is =
     let k = kept-more start.output before.output now.output w.kept p.0 in (
       mid,
       (
-        (alone_open mid now.output new (kept-refl now.output) (refl, refl) (ap without_prefix same ∙ w.position ∙ sym (behind_without_prefix start.position new.inner there)) refl (is ∙ w.shape), ap (λ q. pending.Plain (without_prefix q)) (sym same)),
+        (alone_open mid now.output new (kept-refl now.output) (refl, refl) (ap without_prefix same ∙ w.position ∙ sym (behind_without_prefix start.pending new.inner there)) refl (is ∙ w.shape), ap (λ q. pending.Plain (without_prefix q)) (sym same)),
         λ v r after q. subst (λ y. writer_permits start (as_described y v) r after) (sym one.1.0)
             (described_permits start mid x there k
-            (head_written (position_of start.position) start.output before.output now.output x t (λ c s. own_there start.position new.inner x c there s) w.kept w.code is_one f) v r after q),
+            (head_written (position_of start.pending) start.output before.output now.output x t (λ c s. own_there start.pending new.inner x c there s) w.kept w.code is_one f) v r after q),
       ),
     )
 
 -- a refused descriptor: the refusal is one of the described value
 refused_pending : (start before : Writer) (held : Writing) (d : Option Tree) (e : Refusal) (after : Pending) → AwaitsDescriptor start before held → at_position position.Descriptor d (Err e) after → (o : Option Descriptor) → descriptor_of d ≡ o → (t : Option Tree) →
-    at_position (position_of start.position) (meant start.position (as_described o t)) (Err e) (pending.Plain (without_prefix (position_of start.position)))
+    at_position (position_of start.pending) (meant start.pending (as_described o t)) (Err e) (pending.Plain (without_prefix (position_of start.pending)))
 refused_pending start before held d e after w h None q t =
-    subst (λ x. at_position (position_of start.position) x (Err e) (pending.Plain (without_prefix (position_of start.position)))) (sym (meant_none start.position)) ((refusal position.Descriptor d e after h).0, refl)
+    subst (λ x. at_position (position_of start.pending) x (Err e) (pending.Plain (without_prefix (position_of start.pending)))) (sym (meant_none start.pending)) ((refusal position.Descriptor d e after h).0, refl)
 refused_pending start before held None e after w h (Some y) q t = absurd (no_some y q)
-refused_pending start before held (Some x) e after w h (Some y) q t = descriptor_refused start.position y x e q h.0 t
+refused_pending start before held (Some x) e after w h (Some y) q t = descriptor_refused start.pending y x e q h.0 t
 
-pub described_refused : (start before : Writer) (cut : Output) (held : Writing) (d : Option Tree) (part : Result (Unit {0}) Refusal) (e : Refusal) (after : Pending) → AwaitsDescriptor start before held → part ≡ Err e → accepts (position_of before.position) (meant before.position d) part after → Kept start.output cut →
-    (t : Option Tree) → writer_permits start (as_described (descriptor_of d) t) (Err e) (record { position = pending.Plain (without_prefix held.position); output = cut })
+pub described_refused : (start before : Writer) (cut : Output) (held : Writing) (d : Option Tree) (part : Result (Unit {0}) Refusal) (e : Refusal) (after : Pending) → AwaitsDescriptor start before held → part ≡ Err e → accepts (position_of before.pending) (meant before.pending d) part after → Kept start.output cut →
+    (t : Option Tree) → writer_permits start (as_described (descriptor_of d) t) (Err e) (record { pending = pending.Plain (without_prefix held.position); output = cut })
 described_refused start before cut held d part e after w is h k t =
-    let here = subst (λ u. at_position (position_of u) (meant u d) (Err e) after) w.at (subst (λ r. accepts (position_of before.position) (meant before.position d) r after) is h) in
-    (k, (subst (λ q. at_position (position_of start.position) (meant start.position (as_described (descriptor_of d) t)) (Err e) (pending.Plain q)) (sym w.position) (refused_pending start before held d e after w here (descriptor_of d) refl t), tt))
+    let here = subst (λ u. at_position (position_of u) (meant u d) (Err e) after) w.at (subst (λ r. accepts (position_of before.pending) (meant before.pending d) r after) is h) in
+    (k, (subst (λ q. at_position (position_of start.pending) (meant start.pending (as_described (descriptor_of d) t)) (Err e) (pending.Plain q)) (sym w.position) (refused_pending start before held d e after w here (descriptor_of d) refl t), tt))
 
 -- a described value is no descriptor
-pub nested_refused : (start before : Writer) (cut : Output) (held : Writing) (d : Option Tree) (part : Result (Unit {0}) Refusal) (after : Pending) (e : Refusal) → AwaitsDescriptor start before held → part ≡ Ok tt → accepts (position_of before.position) (meant before.position d) part after → held.inner ≡ pending.Plain position.Descriptor → e ≡ error.InvalidValue → Kept start.output cut →
-    (t : Option Tree) → writer_permits start (as_described (descriptor_of d) t) (Err e) (record { position = pending.Plain (without_prefix held.position); output = cut })
+pub nested_refused : (start before : Writer) (cut : Output) (held : Writing) (d : Option Tree) (part : Result (Unit {0}) Refusal) (after : Pending) (e : Refusal) → AwaitsDescriptor start before held → part ≡ Ok tt → accepts (position_of before.pending) (meant before.pending d) part after → held.inner ≡ pending.Plain position.Descriptor → e ≡ error.InvalidValue → Kept start.output cut →
+    (t : Option Tree) → writer_permits start (as_described (descriptor_of d) t) (Err e) (record { pending = pending.Plain (without_prefix held.position); output = cut })
 nested_refused start before cut held d part after e w is h at q k t =
-    let here = subst (λ u. takes (position_of u) (meant u d) after) w.at (subst (λ r. accepts (position_of before.position) (meant before.position d) r after) is h) in
+    let here = subst (λ u. takes (position_of u) (meant u d) after) w.at (subst (λ r. accepts (position_of before.pending) (meant before.pending d) r after) is h) in
     let one = one_taken d after (descriptor_of d) refl here in
-    let root : start.position ≡ pending.Plain position.Descriptor = sym w.inner ∙ at in (
+    let root : start.pending ≡ pending.Plain position.Descriptor = sym w.inner ∙ at in (
       k,
       (
-        subst (λ p. at_position (position_of start.position) (meant start.position (as_described (descriptor_of d) t)) (Err e) (pending.Plain p)) (sym w.position)
+        subst (λ p. at_position (position_of start.pending) (meant start.pending (as_described (descriptor_of d) t)) (Err e) (pending.Plain p)) (sym w.position)
             (subst (λ u. at_position (position_of u) (meant u (as_described (descriptor_of d) t)) (Err e) (pending.Plain (without_prefix (position_of u)))) (sym root)
             (subst (λ y. at_position position.Descriptor (as_described y t) (Err e) (pending.Plain position.Descriptor)) (sym one.1.0) (no_nested one.0 t e q))),
         tt,
@@ -212,7 +212,7 @@ nested_refused start before cut held d part after e w is h at q k t =
     )
 
 -- a compound with no part yet is ready for a descriptor
-pub ready : (start s : Writer) (held new : Writing) → WrittenSingle start s.output held [] → new.position ≡ held.position → new.inner ≡ held.inner → new.shape ≡ held.shape → stands_at new s.output → (after : Writer) → Kept s.output after.output → after.position ≡ pending.Plain position.Descriptor →
+pub ready : (start s : Writer) (held new : Writing) → WrittenSingle start s.output held [] → new.position ≡ held.position → new.inner ≡ held.inner → new.shape ≡ held.shape → stands_at new s.output → (after : Writer) → Kept s.output after.output → after.pending ≡ pending.Plain position.Descriptor →
     (length s.output.out.items + 1 ≤ vec_capacity s.output.out → (after.output.out.items ≡ s.output.out.items ++ (0x00 ∷ [])) × (after.output.taken ≡ s.output.taken)) → AwaitsDescriptor start after new
 ready start s held new h same inner is at after k d f =
     let n = h.none refl in

@@ -76,42 +76,42 @@ described_listed (pending.Nothing p) v n x t l after b a e k h = absurd (none_li
 
 -- the value to come is described
 pub described_value : (start before self after : Measurer) (held new : Measuring) (d : Option Tree) (part : Result ℕ Refusal) (res : Result (Unit {0}) Refusal) (u : Unit {0}) (X : Refusal → Type 0) →
-    HoldsSingle start.size kinds.Single held.size [] → before.size.position ≡ pending.Plain position.Descriptor → before.table.headers.items ≡ start.table.headers.items → counts_tree before d part self → after.table ≡ self.table →
+    HoldsSingle start.size kinds.Single held.size [] → before.size.pending ≡ pending.Plain position.Descriptor → before.table.headers.items ≡ start.table.headers.items → counts_tree before d part self → after.table ≡ self.table →
     IfErr part (λ e. (res ≡ Err e) × X e) → res ≡ Ok u → IfOk part (λ n. described_pending held.size.inner n ≡ Some new.size.inner) →
     (size_permits before.size d part self.size → (mid : SizeSerializer) × (size_has mid kinds.Single after.size new.size [] × ((t : Option Tree) (r : Result ℕ Refusal) (a : SizeSerializer) → size_permits mid t r a → size_permits start.size (as_described (descriptor_of d) t) r a))) →
     (mid : Measurer) × (measurer_has mid kinds.Single after new [] × ((t : Option Tree) (r : Result ℕ Refusal) (a : Measurer) → measurer_permits mid t r a → measurer_permits start (as_described (descriptor_of d) t) r a))
 described_value start before self after held new d (Err e) res u X h at same l table k q m f = let no : Err e ≡ Ok u = sym k.0 ∙ q in cc
 described_value start before self after held new d (Ok n) res u X h at same l table k q m f =
-    let c = counted_alone d n self.size.position before.table.headers.items self.table.headers.items
-    (subst (λ v. at_position (position_of v) (meant v d) (Ok n) self.size.position) at l.0) (subst (λ v. listed (meant v d) before.table.headers.items self.table.headers.items) at l.1) in
+    let c = counted_alone d n self.size.pending before.table.headers.items self.table.headers.items
+    (subst (λ v. at_position (position_of v) (meant v d) (Ok n) self.size.pending) at l.0) (subst (λ v. listed (meant v d) before.table.headers.items self.table.headers.items) at l.1) in
     let s = f l.0 in
     let mid : Measurer = record { size = s.0; table = self.table } in
     let w = held_single s.0 kinds.Single new.size [] refl s.1.0.0 in
-    let e : described_pending start.size.position n ≡ Some s.0.position = ap (λ v. described_pending v n) (sym h.parts.1) ∙ m ∙ ap Some w.parts.1 in
+    let e : described_pending start.size.pending n ≡ Some s.0.pending = ap (λ v. described_pending v n) (sym h.parts.1) ∙ m ∙ ap Some w.parts.1 in
     let table_is : self.table.headers.items ≡ start.table.headers.items = c.1 ∙ same in
     (mid, ((s.1.0, lone_open mid after.table.headers.items (ap (λ v. v.headers.items) table)), λ t r a p. lift c.0.0 c.0.1 s.0 e table_is t (s.1.1 t) r a p))
   where
-    lift : (x : Descriptor) → descriptor_of d ≡ Some x → (mid : SizeSerializer) → described_pending start.size.position n ≡ Some mid.position → self.table.headers.items ≡ start.table.headers.items →
+    lift : (x : Descriptor) → descriptor_of d ≡ Some x → (mid : SizeSerializer) → described_pending start.size.pending n ≡ Some mid.pending → self.table.headers.items ≡ start.table.headers.items →
         (t : Option Tree) → ((r : Result ℕ Refusal) (a : SizeSerializer) → size_permits mid t r a → size_permits start.size (as_described (descriptor_of d) t) r a) →
         (r : Result ℕ Refusal) (a : Measurer) → measurer_permits (record { size = mid; table = self.table }) t r a → measurer_permits start (as_described (descriptor_of d) t) r a
     lift x o mid e b t g (Ok v) a p =
-        let there = subst (λ y. listed (meant mid.position t) y a.table.headers.items) b p.1.1 in (
+        let there = subst (λ y. listed (meant mid.pending t) y a.table.headers.items) b p.1.1 in (
           subst (λ y. Extends y a.table.headers.items) b p.0,
           (
             g (Ok v) a.size p.1.0,
-            subst (λ y. listed (meant start.size.position (as_described y t)) start.table.headers.items a.table.headers.items) (sym o) (described_listed start.size.position mid.position n x t v a.size.position start.table.headers.items a.table.headers.items e (subst (λ y. at_position (position_of start.size.position) (meant start.size.position (as_described y t)) (Ok v) a.size.position) o (g (Ok v) a.size p.1.0)) there),
+            subst (λ y. listed (meant start.size.pending (as_described y t)) start.table.headers.items a.table.headers.items) (sym o) (described_listed start.size.pending mid.pending n x t v a.size.pending start.table.headers.items a.table.headers.items e (subst (λ y. at_position (position_of start.size.pending) (meant start.size.pending (as_described y t)) (Ok v) a.size.pending) o (g (Ok v) a.size p.1.0)) there),
           ),
         )
     lift x o mid e b t g (Err v) a p = (
       subst (λ y. Extends y a.table.headers.items) b p.0,
-      elim p.1 [ inl y ↦ inl (y.0, y.1 ∙ ap pending.Plain (sym (described_rest start.size.position mid.position n e))) | inr z ↦ inr (g (Err v) a.size z) ],
+      elim p.1 [ inl y ↦ inl (y.0, y.1 ∙ ap pending.Plain (sym (described_rest start.size.pending mid.pending n e))) | inr z ↦ inr (g (Err v) a.size z) ],
     )
 
 -- the refusal of a descriptor is one of the described value
 pub refusal_of_descriptor : (start before self after : Measurer) (held new : OpenCompound) (d : Option Tree) (part : Result ℕ Refusal) (res : Result (Unit {0}) Refusal) (e : Refusal) →
     HoldsSingle start.size kinds.Single held [] → counts_tree before d part self →
     (size_permits before.size d part self.size → size_has start.size kinds.Single after.size new [] × ((t : Option Tree) → size_permits start.size (as_described (descriptor_of d) t) (Err e) after.size)) →
-    IfErr part (λ x. (res ≡ Err x) × ((new ≡ held) × (after.size.position ≡ pending.Plain (without_prefix held.position)))) → res ≡ Err e →
+    IfErr part (λ x. (res ≡ Err x) × ((new ≡ held) × (after.size.pending ≡ pending.Plain (without_prefix held.position)))) → res ≡ Err e →
     size_has start.size kinds.Single after.size new [] × ((t : Option Tree) → counts_tree start (as_described (descriptor_of d) t) (Err e) after)
 refusal_of_descriptor start before self after held new d (Ok n) res e h l f k q =
     let s = f l.0 in
@@ -124,5 +124,5 @@ refusal_of_descriptor start before self after held new d (Err x) res e h l f k q
     none : x ≡ OutOfMemory → size_has start.size kinds.Single after.size new [] × ((t : Option Tree) → counts_tree start (as_described (descriptor_of d) t) (Err e) after)
     none m =
         let same : e ≡ x = cc in
-        let here : after.size.position ≡ pending.Plain (without_prefix (position_of start.size.position)) = k.1.1 ∙ ap pending.Plain h.position in
+        let here : after.size.pending ≡ pending.Plain (without_prefix (position_of start.size.pending)) = k.1.1 ∙ ap pending.Plain h.position in
         (subst (λ z. size_has start.size kinds.Single after.size z []) (sym k.1.0) (inr (inr h), k.1.1), λ t. inl (same ∙ m, here))

@@ -20,7 +20,7 @@ use Rattle.amqp_wire.specs.Positions.{is_single}
 use Rattle.amqp_wire.specs.Writer.{Kept, FitsOutput, Written, takes, wrote, accepts, writer_permits, WrittenParts, PartsFitOutput}
 use Rattle.amqp_wire.specs.declared.output.Output.{Output}
 use Rattle.amqp_wire.specs.declared.writer.Writer.{Writer}
-use Rattle.amqp_wire.specs.declared.writer.Writing.{Writing}
+use Rattle.amqp_wire.specs.declared.writing.Writing.{Writing}
 use Rattle.amqp_wire.proofs.CompoundBytes.{Spelled, spelled}
 use Rattle.amqp_wire.proofs.CompoundHeaders.{split}
 use Rattle.amqp_wire.proofs.Positions.{ended, whole_ended}
@@ -58,23 +58,23 @@ meant_tree (pending.Nothing p) (kinds.NewtypeVariant i) ps ts b h e n = absurd (
 -- a whole that was not refused when it was opened: its tree, and its bytes
 pub record Ended (start : Writer) (kind : Kind) (s : Output) (ps : List (Option Tree)) : Type 0 where
   pub t : Tree
-  pub is : meant start.position (whole kind ps) ≡ Some t
-  pub shaped : ended (shape_of start.position kind) t
-  pub written : FitsOutput (position_of start.position) start.output t → Written (position_of start.position) start.output t s
+  pub is : meant start.pending (whole kind ps) ≡ Some t
+  pub shaped : ended (shape_of start.pending kind) t
+  pub written : FitsOutput (position_of start.pending) start.output t → Written (position_of start.pending) start.output t s
 
 pub all_written : (start : Writer) (kind : Kind) (s : Output) (held : Writing) (ps : List (Option Tree)) → is_single kind ≡ false → WrittenParts start kind s held ps → complete kind ps ≡ true → (held.shape ≡ shape.Refused → ⊥) → Ended start kind s ps
 all_written start kind s held ps single h done opened =
-    let p = position_of start.position in
+    let p = position_of start.pending in
     let a = in_array p in
-    let sh = shape_of start.position kind in
-    let t = meant_tree start.position kind ps h.ts single h.trees done (λ e. opened (h.shape ∙ e)) in
+    let sh = shape_of start.pending kind in
+    let t = meant_tree start.pending kind ps h.ts single h.trees done (λ e. opened (h.shape ∙ e)) in
     record {
       t = t.0;
-      is = ap (meant start.position) (whole_of kind ps h.ts h.trees) ∙ t.1;
-      shaped = whole_ended start.position kind h.ts t.0 single t.1 h.suited;
+      is = ap (meant start.pending) (whole_of kind ps h.ts h.trees) ∙ t.1;
+      shaped = whole_ended start.pending kind h.ts t.0 single t.1 h.suited;
       written = λ m.
-          let entered : headers_of t.0 ≡ compound_headers sh h.ts ++ headers_of_each h.ts = split start.position kind h.ts t.0 single t.1 in
-          let sp : Spelled a sh h.ts t.0 = spelled p start.position kind h.ts t.0 single t.1 m.within_limits_it m.dense_it in
+          let entered : headers_of t.0 ≡ compound_headers sh h.ts ++ headers_of_each h.ts = split start.pending kind h.ts t.0 single t.1 in
+          let sp : Spelled a sh h.ts t.0 = spelled p start.pending kind h.ts t.0 single t.1 m.within_limits_it m.dense_it in
           let b = h.met no_trees (subst (λ w. PartsFitOutput a sh start.output w) (sym (join-none h.ts)) (room_of p sh start.output h.ts t.0 entered sp m)) in
           let same = ap (λ w. length (compound_headers sh w)) (join-none h.ts) in
           let e : length (headers_of t.0) ≡ length (compound_headers sh h.ts) + length (headers_of_each h.ts) = ap length entered ∙ length-append (compound_headers sh h.ts) (headers_of_each h.ts) in
@@ -85,25 +85,25 @@ all_written start kind s held ps single h done opened =
     }
 
 -- an answer on that tree is one on the whole
-pub concluded : (start : Writer) (kind : Kind) (s : Output) (ps : List (Option Tree)) (p : Position) (t : Tree) (r : Result (Unit {0}) Refusal) (after : Writer) → Kept start.output s → after.output ≡ s → p ≡ position_of start.position → meant start.position (whole kind ps) ≡ Some t →
-    accepts p (Some t) r after.position → (FitsOutput (position_of start.position) start.output t → Written (position_of start.position) start.output t s) → writer_permits start (whole kind ps) r after
+pub concluded : (start : Writer) (kind : Kind) (s : Output) (ps : List (Option Tree)) (p : Position) (t : Tree) (r : Result (Unit {0}) Refusal) (after : Writer) → Kept start.output s → after.output ≡ s → p ≡ position_of start.pending → meant start.pending (whole kind ps) ≡ Some t →
+    accepts p (Some t) r after.pending → (FitsOutput (position_of start.pending) start.output t → Written (position_of start.pending) start.output t s) → writer_permits start (whole kind ps) r after
 concluded start kind s ps p t (Ok u) after k same q is h w = (
   subst (Kept start.output) (sym same) k,
   (
-    subst (λ o. takes (position_of start.position) o after.position) (sym is) (subst (λ x. takes x (Some t) after.position) q h),
-    subst (λ o. wrote (position_of start.position) start.output o after.output) (sym is) (subst (λ o. FitsOutput (position_of start.position) start.output t → Written (position_of start.position) start.output t o) (sym same) w),
+    subst (λ o. takes (position_of start.pending) o after.pending) (sym is) (subst (λ x. takes x (Some t) after.pending) q h),
+    subst (λ o. wrote (position_of start.pending) start.output o after.output) (sym is) (subst (λ o. FitsOutput (position_of start.pending) start.output t → Written (position_of start.pending) start.output t o) (sym same) w),
   ),
 )
 concluded start kind s ps p t (Err e) after k same q is h w =
-    (subst (Kept start.output) (sym same) k, (subst (λ o. at_position (position_of start.position) o (Err e) after.position) (sym is) (subst (λ x. at_position x (Some t) (Err e) after.position) q h), tt))
+    (subst (Kept start.output) (sym same) k, (subst (λ o. at_position (position_of start.pending) o (Err e) after.pending) (sym is) (subst (λ x. at_position x (Some t) (Err e) after.pending) q h), tt))
 
 -- a compound that its marker does not take
-pub not_opened : (start : Writer) (kind : Kind) (s : Output) (held : Writing) (ps : List (Option Tree)) → WrittenParts start kind s held ps → held.shape ≡ shape.Refused → writer_permits start (whole kind ps) (Err refusal.InvalidValue) (record { position = pending.Plain (without_prefix held.position); output = s })
+pub not_opened : (start : Writer) (kind : Kind) (s : Output) (held : Writing) (ps : List (Option Tree)) → WrittenParts start kind s held ps → held.shape ≡ shape.Refused → writer_permits start (whole kind ps) (Err refusal.InvalidValue) (record { pending = pending.Plain (without_prefix held.position); output = s })
 not_opened start kind s held ps h r = (
   h.kept,
   (
-    stands_none start.position (position_of start.position) (whole kind ps) (Err refusal.InvalidValue) (pending.Plain (without_prefix held.position)) refl
-        (ap (meant start.position) (whole_of kind ps h.ts h.trees) ∙ refused_shape start.position kind (Some h.ts) (sym h.shape ∙ r)) (tt, ap (λ p. pending.Plain (without_prefix p)) h.position),
+    stands_none start.pending (position_of start.pending) (whole kind ps) (Err refusal.InvalidValue) (pending.Plain (without_prefix held.position)) refl
+        (ap (meant start.pending) (whole_of kind ps h.ts h.trees) ∙ refused_shape start.pending kind (Some h.ts) (sym h.shape ∙ r)) (tt, ap (λ p. pending.Plain (without_prefix p)) h.position),
     tt,
   ),
 )

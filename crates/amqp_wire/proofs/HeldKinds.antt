@@ -35,7 +35,7 @@ other_kind kinds.Single n = absurd (n refl)
 pub held_trees : (start : SizeSerializer) (kind : Kind) (held : OpenCompound) (ps : List (Option Tree)) → is_single kind ≡ false → Holding start kind held ps → (ts : Trees) × (all_trees ps ≡ Some ts)
 held_trees start kind held ps b h = elim h [ inl w ↦ (w.ts, w.trees) | inr w ↦ elim w [ inl v ↦ (v.ts, v.trees) | inr v ↦ absurd (never_single kind v.kind_is b) ] ]
 
-pub held_shape : (start : SizeSerializer) (kind : Kind) (held : OpenCompound) (ps : List (Option Tree)) → is_single kind ≡ false → Holding start kind held ps → held.shape ≡ shape_of start.position kind
+pub held_shape : (start : SizeSerializer) (kind : Kind) (held : OpenCompound) (ps : List (Option Tree)) → is_single kind ≡ false → Holding start kind held ps → held.shape ≡ shape_of start.pending kind
 held_shape start kind held ps b h = elim h [ inl w ↦ w.shape | inr w ↦ elim w [ inl v ↦ v.shape ∙ sym v.shaped | inr v ↦ absurd (never_single kind v.kind_is b) ] ]
 
 pub held_plain : (start : SizeSerializer) (kind : Kind) (held : OpenCompound) (ps : List (Option Tree)) → is_single kind ≡ false → Holding start kind held ps → (p : Position) × (held.inner ≡ Plain p)

@@ -23,7 +23,7 @@ use Rattle.amqp_wire.specs.Positions.{part_position, part_at, is_single, inner_a
 use Rattle.amqp_wire.specs.Writer.{Kept, FitsOutput, Written, Taken, writer_permits, WrittenSoFar, WrittenParts, PartsFitOutput, opens}
 use Rattle.amqp_wire.specs.declared.output.Output.{Output}
 use Rattle.amqp_wire.specs.declared.writer.Writer.{Writer}
-use Rattle.amqp_wire.specs.declared.writer.Writing.{Writing}
+use Rattle.amqp_wire.specs.declared.writing.Writing.{Writing}
 use Rattle.amqp_wire.proofs.ListPrefixes.{extends-more, take_prefix, drop_past, same_prefix}
 use Rattle.amqp_wire.proofs.CompoundBytes.{Spelled, spelled}
 use Rattle.amqp_wire.proofs.CompoundHeaders.{split, headers_of-join}
@@ -154,14 +154,14 @@ whole_of kind ps ts h = ap (as_kind kind) h
 
 -- the refusal of a part is one of the whole
 pub part_refused : (start : Writer) (kind : Kind) (s cut : Output) (held : Writing) (ps : List (Option Tree)) (p : Option Tree) (e : Refusal) (after : Pending) → is_single kind ≡ false → (h : WrittenParts start kind s held ps) → Kept start.output cut →
-    at_position (part_at (shape_of start.position kind) h.ts) p (Err e) after →
-    (others : List (Option Tree)) → writer_permits start (whole kind (ps ++ (p ∷ others))) (Err e) (record { position = pending.Plain (without_prefix held.position); output = cut })
+    at_position (part_at (shape_of start.pending kind) h.ts) p (Err e) after →
+    (others : List (Option Tree)) → writer_permits start (whole kind (ps ++ (p ∷ others))) (Err e) (record { pending = pending.Plain (without_prefix held.position); output = cut })
 part_refused start kind s cut held ps p e after single h k r others = (
   k,
   (
-    subst (λ q. at_position (position_of start.position) (meant start.position (whole kind (ps ++ (p ∷ others)))) (Err e) (pending.Plain (without_prefix q))) (sym h.position)
-        (subst (λ o. at_position (position_of start.position) (meant start.position o) (Err e) (pending.Plain (without_prefix (position_of start.position)))) (sym (whole_parts kind ps h.ts p others h.trees))
-        (part_spoils start.position kind h.ts p e after (all_trees others) single h.suited r)),
+    subst (λ q. at_position (position_of start.pending) (meant start.pending (whole kind (ps ++ (p ∷ others)))) (Err e) (pending.Plain (without_prefix q))) (sym h.position)
+        (subst (λ o. at_position (position_of start.pending) (meant start.pending o) (Err e) (pending.Plain (without_prefix (position_of start.pending)))) (sym (whole_parts kind ps h.ts p others h.trees))
+        (part_spoils start.pending kind h.ts p e after (all_trees others) single h.suited r)),
     tt,
   ),
 )
@@ -182,11 +182,11 @@ wrote_at : (kind : Shape) (s after : Output) (ts : Trees) (t : Tree) → Written
 wrote_at kind s after ts t w = record { out = w.out ∙ ap (λ a. s.out.items ++ bytes_at a t) (same_form kind ts t).1; taken = w.taken }
 
 -- one part more
-pub part_written : (start : Writer) (kind : Kind) (s after : Output) (held new : Writing) (ps : List (Option Tree)) (t : Tree) (h : WrittenParts start kind s held ps) → Kept s after → (left : Pending) → Taken (part_at (shape_of start.position kind) h.ts) t left → new.inner ≡ inner_after held.shape held.inner left →
-    (FitsOutput (part_at (shape_of start.position kind) h.ts) s t → Written (part_at (shape_of start.position kind) h.ts) s t after) →
+pub part_written : (start : Writer) (kind : Kind) (s after : Output) (held new : Writing) (ps : List (Option Tree)) (t : Tree) (h : WrittenParts start kind s held ps) → Kept s after → (left : Pending) → Taken (part_at (shape_of start.pending kind) h.ts) t left → new.inner ≡ inner_after held.shape held.inner left →
+    (FitsOutput (part_at (shape_of start.pending kind) h.ts) s t → Written (part_at (shape_of start.pending kind) h.ts) s t after) →
     new.position ≡ held.position → new.shape ≡ held.shape → new.before_last.taken ≡ s.taken → new.before_last.len ≡ length s.out.items → WrittenParts start kind after new (ps ++ (Some t ∷ []))
 part_written start kind s after held new ps t h k left w inner f position shape taken len =
-    let sh = shape_of start.position kind in
+    let sh = shape_of start.pending kind in
     record {
       ts = join h.ts (more t no_trees);
       trees = all_trees-append ps (Some t ∷ []) ∙ ap (λ o. joined o (Some (more t no_trees))) h.trees;
@@ -195,7 +195,7 @@ part_written start kind s after held new ps t h k left w inner f position shape 
       shape = shape ∙ h.shape;
       inner = inner ∙ ap (λ x. inner_after x held.inner left) h.shape ∙ next_stands sh h.ts t held.inner left h.suited h.inner w.position;
       suited = suited_more sh h.ts t h.suited w.uniform_arrays_it w.suited;
-      met = met_more (in_array (position_of start.position)) sh start.output s after h.ts t h.kept (λ m. wrote_at sh s after h.ts t (f (meets_at sh s h.ts t m))) h.met;
+      met = met_more (in_array (position_of start.pending)) sh start.output s after h.ts t h.kept (λ m. wrote_at sh s after h.ts t (f (meets_at sh s h.ts t m))) h.met;
       back = λ odd qs q e.
           let same : ps ≡ qs = same_prefix ps qs (Some t) q e in
           record {
@@ -271,7 +271,7 @@ part_undone start s cut held ps p h even table cap taken out =
       kept = kept-more start.output b.old cut b.since k.1;
       position = h.position;
       shape = h.shape;
-      inner = h.inner ∙ ap pending.Plain (map_inside start.position h.ts ∙ sym (map_inside start.position b.ts));
+      inner = h.inner ∙ ap pending.Plain (map_inside start.pending h.ts ∙ sym (map_inside start.pending b.ts));
       suited = b.suited;
       met = λ us m. let d = b.met us m in record { out = k.0 ∙ d.out; taken = taken ∙ b.taken ∙ d.taken };
       back = λ odd qs q e. let no : true ≡ false = sym even ∙ odd in cc;
@@ -279,22 +279,22 @@ part_undone start s cut held ps p h even table cap taken out =
 
 -- a compound that was opened
 pub now_open : (start : Writer) (kind : Kind) (s : Output) (held : Writing) → is_single kind ≡ false → Kept start.output s →
-    ((ts : Trees) → PartsFitOutput (in_array (position_of start.position)) (shape_of start.position kind) start.output ts → opens (in_array (position_of start.position)) (shape_of start.position kind) start.output (compound_headers (shape_of start.position kind) ts) (Ok tt) s) →
-    held.position ≡ position_of start.position → held.shape ≡ shape_of start.position kind → held.inner ≡ inner_pending (shape_of start.position kind) start.position → WrittenParts start kind s held []
+    ((ts : Trees) → PartsFitOutput (in_array (position_of start.pending)) (shape_of start.pending kind) start.output ts → opens (in_array (position_of start.pending)) (shape_of start.pending kind) start.output (compound_headers (shape_of start.pending kind) ts) (Ok tt) s) →
+    held.position ≡ position_of start.pending → held.shape ≡ shape_of start.pending kind → held.inner ≡ inner_pending (shape_of start.pending kind) start.pending → WrittenParts start kind s held []
 now_open start kind s held single k h position shape inner =
-    let sh = shape_of start.position kind in
+    let sh = shape_of start.pending kind in
     record {
       ts = no_trees;
       trees = refl;
       kept = k;
       position = position;
       shape = shape;
-      inner = inner ∙ first_inner start.position kind single;
+      inner = inner ∙ first_inner start.pending kind single;
       suited = no_parts sh;
       met = λ us m.
           let w = h us m in
           let n = ap length (none_after sh) in
-          let op = opening (in_array (position_of start.position)) sh (compound_headers sh us) in
+          let op = opening (in_array (position_of start.pending)) sh (compound_headers sh us) in
           record { out = w.0 ∙ ap (λ x. start.output.out.items ++ x) (sym (append-nil op) ∙ ap (λ x. op ++ x) (sym (none_after sh))); taken = let a = w.1 in omega arith };
       back = λ odd qs q w. let no : true ≡ false = odd in cc;
     }

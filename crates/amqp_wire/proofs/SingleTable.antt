@@ -22,19 +22,19 @@ only_last [] x y e = (refl, cc)
 only_last (z ∷ []) x y e = cc
 only_last (z ∷ (w ∷ xs)) x y e = cc
 
-pub lone_more : (start : Measurer) (table after : List Header) (ps : List (Option Tree)) (p : Option Tree) → SingleTable start table ps → Extends table after → (ps ≡ [] → listed (meant start.size.position p) start.table.headers.items after) → SingleTable start after (ps ++ (p ∷ []))
+pub lone_more : (start : Measurer) (table after : List Header) (ps : List (Option Tree)) (p : Option Tree) → SingleTable start table ps → Extends table after → (ps ≡ [] → listed (meant start.size.pending p) start.table.headers.items after) → SingleTable start after (ps ++ (p ∷ []))
 lone_more start table after ps p h e f =
     record {
       extends = extends-more start.table.headers.items table after h.extends e;
       none = λ q. absurd (not_empty ps p q);
-      one = λ r q. let o = only_last ps p r q in subst (λ x. listed (meant start.size.position x) start.table.headers.items after) o.1 (f o.0);
+      one = λ r q. let o = only_last ps p r q in subst (λ x. listed (meant start.size.pending x) start.table.headers.items after) o.1 (f o.0);
     }
 
 pub lone_back : (start : Measurer) (table cut : List Header) (ps : List (Option Tree)) → SingleTable start table ps → cut ≡ table → SingleTable start cut ps
 lone_back start table cut ps h e = subst (λ x. SingleTable start x ps) (sym e) h
 
 -- the whole has the headers of its one part
-pub lone_whole : (start : Measurer) (table : List Header) (ps : List (Option Tree)) → SingleTable start table ps → complete kinds.Single ps ≡ true → listed (meant start.size.position (whole kinds.Single ps)) start.table.headers.items table
+pub lone_whole : (start : Measurer) (table : List Header) (ps : List (Option Tree)) → SingleTable start table ps → complete kinds.Single ps ≡ true → listed (meant start.size.pending (whole kinds.Single ps)) start.table.headers.items table
 lone_whole start table [] h e = absurd (no_false e)
-lone_whole start table (p ∷ []) h e = subst (λ o. listed (meant start.size.position o) start.table.headers.items table) (sym (whole_one p)) (h.one p refl)
+lone_whole start table (p ∷ []) h e = subst (λ o. listed (meant start.size.pending o) start.table.headers.items table) (sym (whole_one p)) (h.one p refl)
 lone_whole start table (p ∷ (q ∷ ps)) h e = absurd (no_false e)

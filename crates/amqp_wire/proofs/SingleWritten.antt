@@ -18,7 +18,7 @@ use Rattle.amqp_wire.specs.Positions.{inner_after}
 use Rattle.amqp_wire.specs.Writer.{Kept, FitsOutput, SameOutput, takes, wrote, writes_tree, accepts, writer_permits, WrittenSingle}
 use Rattle.amqp_wire.specs.declared.output.Output.{Output}
 use Rattle.amqp_wire.specs.declared.writer.Writer.{Writer}
-use Rattle.amqp_wire.specs.declared.writer.Writing.{Writing}
+use Rattle.amqp_wire.specs.declared.writing.Writing.{Writing}
 use Rattle.amqp_wire.proofs.CountWithinBytes.{no_false}
 use Rattle.amqp_wire.proofs.SingleTable.{not_empty, only_last}
 use Rattle.amqp_wire.proofs.PartBytes.{kept-more}
@@ -48,7 +48,7 @@ wrote_same : (a : Position) (start s cut : Output) (o : Option Tree) → SameOut
 wrote_same a start s cut None e h = h
 wrote_same a start s cut (Some t) e h = λ m. let w = h m in record { out = e.0 ∙ w.out; taken = e.1 ∙ w.taken }
 
-pub alone_open : (start : Writer) (s : Output) (held : Writing) → Kept start.output s → SameOutput start.output s → without_prefix held.position ≡ without_prefix (position_of start.position) → held.inner ≡ start.position → held.shape ≡ shape.Single → WrittenSingle start s held []
+pub alone_open : (start : Writer) (s : Output) (held : Writing) → Kept start.output s → SameOutput start.output s → without_prefix held.position ≡ without_prefix (position_of start.pending) → held.inner ≡ start.pending → held.shape ≡ shape.Single → WrittenSingle start s held []
 alone_open start s held k e position inner is =
     record {
       kept = k;
@@ -59,8 +59,8 @@ alone_open start s held k e position inner is =
     }
 
 -- one part more
-pub alone_more : (start before : Writer) (after : Output) (held new : Writing) (ps : List (Option Tree)) (p : Option Tree) → WrittenSingle start before.output held ps → before.position ≡ held.inner → Kept before.output after →
-    (left : Pending) → takes (position_of before.position) (meant before.position p) left → new.inner ≡ inner_after held.shape held.inner left → wrote (position_of before.position) before.output (meant before.position p) after → new.position ≡ held.position → new.shape ≡ held.shape → WrittenSingle start after new (ps ++ (p ∷ []))
+pub alone_more : (start before : Writer) (after : Output) (held new : Writing) (ps : List (Option Tree)) (p : Option Tree) → WrittenSingle start before.output held ps → before.pending ≡ held.inner → Kept before.output after →
+    (left : Pending) → takes (position_of before.pending) (meant before.pending p) left → new.inner ≡ inner_after held.shape held.inner left → wrote (position_of before.pending) before.output (meant before.pending p) after → new.position ≡ held.position → new.shape ≡ held.shape → WrittenSingle start after new (ps ++ (p ∷ []))
 alone_more start before after held new ps p h at k left t inner w position is =
     record {
       kept = kept-more start.output before.output after h.kept k;
@@ -70,9 +70,9 @@ alone_more start before after held new ps p h at k left t inner w position is =
       one = λ r q.
           let o = only_last ps p r q in
           let n = h.none o.0 in
-          subst (λ x. takes (position_of start.position) (meant start.position x) new.inner × wrote (position_of start.position) start.output (meant start.position x) after) o.1 (
-            subst (λ u. takes (position_of u) (meant u p) new.inner) (at ∙ n.0) (subst (λ u. takes (position_of before.position) (meant before.position p) u) (sym (inner ∙ ap (λ x. inner_after x held.inner left) h.shape)) t),
-            wrote_from (position_of start.position) start.output before.output after (meant start.position p) h.kept n.1 (subst (λ u. wrote (position_of u) before.output (meant u p) after) (at ∙ n.0) w),
+          subst (λ x. takes (position_of start.pending) (meant start.pending x) new.inner × wrote (position_of start.pending) start.output (meant start.pending x) after) o.1 (
+            subst (λ u. takes (position_of u) (meant u p) new.inner) (at ∙ n.0) (subst (λ u. takes (position_of before.pending) (meant before.pending p) u) (sym (inner ∙ ap (λ x. inner_after x held.inner left) h.shape)) t),
+            wrote_from (position_of start.pending) start.output before.output after (meant start.pending p) h.kept n.1 (subst (λ u. wrote (position_of u) before.output (meant u p) after) (at ∙ n.0) w),
           );
     }
 
@@ -86,7 +86,7 @@ alone_back start s cut held new ps h k e position is inner =
       none = λ q. let n = h.none q in (inner ∙ n.0, (e.0 ∙ n.1.0, e.1 ∙ n.1.1));
       one = λ p q.
           let w = h.one p q in
-          (subst (λ u. takes (position_of start.position) (meant start.position p) u) (sym inner) w.0, wrote_same (position_of start.position) start.output s cut (meant start.position p) e w.1);
+          (subst (λ u. takes (position_of start.pending) (meant start.pending p) u) (sym inner) w.0, wrote_same (position_of start.pending) start.output s cut (meant start.pending p) e w.1);
     }
 
 two : (p q : Option Tree) (o : Option Trees) → as_kind kinds.Single (prepend p (prepend q o)) ≡ None
@@ -100,43 +100,43 @@ whole_two : (p q : Option Tree) (ps : List (Option Tree)) → whole kinds.Single
 unfolding whole
 whole_two p q ps = two p q (all_trees ps)
 
-no_whole : (start : Writer) (held : Writing) (qs : List (Option Tree)) (u : Pending) (o : Option Tree) (e : Refusal) (after : Pending) → without_prefix held.position ≡ without_prefix (position_of start.position) → at_position (position_of u) o (Err e) after → whole kinds.Single qs ≡ None →
-    at_position (position_of start.position) (meant start.position (whole kinds.Single qs)) (Err e) (pending.Plain (without_prefix held.position))
+no_whole : (start : Writer) (held : Writing) (qs : List (Option Tree)) (u : Pending) (o : Option Tree) (e : Refusal) (after : Pending) → without_prefix held.position ≡ without_prefix (position_of start.pending) → at_position (position_of u) o (Err e) after → whole kinds.Single qs ≡ None →
+    at_position (position_of start.pending) (meant start.pending (whole kinds.Single qs)) (Err e) (pending.Plain (without_prefix held.position))
 no_whole start held qs u o e after at w n =
-    stands_none start.position (position_of start.position) (whole kinds.Single qs) (Err e) (pending.Plain (without_prefix held.position)) refl (ap (meant start.position) n ∙ meant_none start.position)
+    stands_none start.pending (position_of start.pending) (whole kinds.Single qs) (Err e) (pending.Plain (without_prefix held.position)) refl (ap (meant start.pending) n ∙ meant_none start.pending)
     ((refusal (position_of u) o e after w).0, ap pending.Plain at)
 
-refused_whole : (start before : Writer) (held : Writing) (ps : List (Option Tree)) (p : Option Tree) (e : Refusal) (after : Pending) → WrittenSingle start before.output held ps → before.position ≡ held.inner →
-    at_position (position_of before.position) (meant before.position p) (Err e) after → (others : List (Option Tree)) →
-    at_position (position_of start.position) (meant start.position (whole kinds.Single (ps ++ (p ∷ others)))) (Err e) (pending.Plain (without_prefix held.position))
+refused_whole : (start before : Writer) (held : Writing) (ps : List (Option Tree)) (p : Option Tree) (e : Refusal) (after : Pending) → WrittenSingle start before.output held ps → before.pending ≡ held.inner →
+    at_position (position_of before.pending) (meant before.pending p) (Err e) after → (others : List (Option Tree)) →
+    at_position (position_of start.pending) (meant start.pending (whole kinds.Single (ps ++ (p ∷ others)))) (Err e) (pending.Plain (without_prefix held.position))
 refused_whole start before held [] p e after h at w [] =
     let here = subst (λ u. at_position (position_of u) (meant u p) (Err e) after) (at ∙ (h.none refl).0) w in
-    let left = refusal (position_of start.position) (meant start.position p) e after here in
-    subst (λ o. at_position (position_of start.position) (meant start.position o) (Err e) (pending.Plain (without_prefix held.position))) (sym (whole_one p))
-    (subst (λ a. at_position (position_of start.position) (meant start.position p) (Err e) a) (left.1 ∙ ap pending.Plain (sym h.position)) here)
-refused_whole start before held [] p e after h at w (q ∷ others) = no_whole start held (p ∷ (q ∷ others)) before.position (meant before.position p) e after h.position w (whole_two p q others)
-refused_whole start before held (v ∷ []) p e after h at w others = no_whole start held (v ∷ (p ∷ others)) before.position (meant before.position p) e after h.position w (whole_two v p others)
-refused_whole start before held (v ∷ (u ∷ ps)) p e after h at w others = no_whole start held (v ∷ (u ∷ (ps ++ (p ∷ others)))) before.position (meant before.position p) e after h.position w (whole_two v u (ps ++ (p ∷ others)))
+    let left = refusal (position_of start.pending) (meant start.pending p) e after here in
+    subst (λ o. at_position (position_of start.pending) (meant start.pending o) (Err e) (pending.Plain (without_prefix held.position))) (sym (whole_one p))
+    (subst (λ a. at_position (position_of start.pending) (meant start.pending p) (Err e) a) (left.1 ∙ ap pending.Plain (sym h.position)) here)
+refused_whole start before held [] p e after h at w (q ∷ others) = no_whole start held (p ∷ (q ∷ others)) before.pending (meant before.pending p) e after h.position w (whole_two p q others)
+refused_whole start before held (v ∷ []) p e after h at w others = no_whole start held (v ∷ (p ∷ others)) before.pending (meant before.pending p) e after h.position w (whole_two v p others)
+refused_whole start before held (v ∷ (u ∷ ps)) p e after h at w others = no_whole start held (v ∷ (u ∷ (ps ++ (p ∷ others)))) before.pending (meant before.pending p) e after h.position w (whole_two v u (ps ++ (p ∷ others)))
 
 -- the refusal of a part is one of the whole
-pub alone_refused : (start before : Writer) (cut : Output) (held : Writing) (ps : List (Option Tree)) (p : Option Tree) (e : Refusal) (after : Pending) → WrittenSingle start before.output held ps → before.position ≡ held.inner → Kept start.output cut →
-    at_position (position_of before.position) (meant before.position p) (Err e) after → (others : List (Option Tree)) → writer_permits start (whole kinds.Single (ps ++ (p ∷ others))) (Err e) (record { position = pending.Plain (without_prefix held.position); output = cut })
+pub alone_refused : (start before : Writer) (cut : Output) (held : Writing) (ps : List (Option Tree)) (p : Option Tree) (e : Refusal) (after : Pending) → WrittenSingle start before.output held ps → before.pending ≡ held.inner → Kept start.output cut →
+    at_position (position_of before.pending) (meant before.pending p) (Err e) after → (others : List (Option Tree)) → writer_permits start (whole kinds.Single (ps ++ (p ∷ others))) (Err e) (record { pending = pending.Plain (without_prefix held.position); output = cut })
 alone_refused start before cut held ps p e after h at k w others = (k, (refused_whole start before held ps p e after h at w others, tt))
 
 -- the whole is its one part
-pub alone_written : (start : Writer) (s : Output) (held : Writing) (ps : List (Option Tree)) → WrittenSingle start s held ps → complete kinds.Single ps ≡ true → writer_permits start (whole kinds.Single ps) (Ok tt) (record { position = held.inner; output = s })
+pub alone_written : (start : Writer) (s : Output) (held : Writing) (ps : List (Option Tree)) → WrittenSingle start s held ps → complete kinds.Single ps ≡ true → writer_permits start (whole kinds.Single ps) (Ok tt) (record { pending = held.inner; output = s })
 alone_written start s held [] h done = absurd (no_false done)
 alone_written start s held (p ∷ []) h done =
-    (h.kept, subst (λ o. takes (position_of start.position) (meant start.position o) held.inner × wrote (position_of start.position) start.output (meant start.position o) s) (sym (whole_one p)) (h.one p refl))
+    (h.kept, subst (λ o. takes (position_of start.pending) (meant start.pending o) held.inner × wrote (position_of start.pending) start.output (meant start.pending o) s) (sym (whole_one p)) (h.one p refl))
 alone_written start s held (p ∷ (q ∷ ps)) h done = absurd (no_false done)
 
 -- what is answered where the compound was opened is answered there
-pub same_permits : (start : Writer) (s : Output) (held : Writing) (o : Option Tree) (r : Result (Unit {0}) Refusal) (after : Writer) → WrittenSingle start s held [] → writer_permits (record { position = held.inner; output = s }) o r after → writer_permits start o r after
+pub same_permits : (start : Writer) (s : Output) (held : Writing) (o : Option Tree) (r : Result (Unit {0}) Refusal) (after : Writer) → WrittenSingle start s held [] → writer_permits (record { pending = held.inner; output = s }) o r after → writer_permits start o r after
 same_permits start s held o r after h p =
     let n = h.none refl in (
       kept-more start.output s after.output h.kept p.0,
       (
-        subst (λ u. accepts (position_of u) (meant u o) r after.position) n.0 p.1.0,
-        writes_same (position_of start.position) start.output s after.output (meant start.position o) r h.kept n.1 (subst (λ u. writes_tree (position_of u) s (meant u o) r after.output) n.0 p.1.1),
+        subst (λ u. accepts (position_of u) (meant u o) r after.pending) n.0 p.1.0,
+        writes_same (position_of start.pending) start.output s after.output (meant start.pending o) r h.kept n.1 (subst (λ u. writes_tree (position_of u) s (meant u o) r after.output) n.0 p.1.1),
       ),
     )

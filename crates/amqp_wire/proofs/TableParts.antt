@@ -132,13 +132,13 @@ table_undone start table cut held new ps p us ts a d h few even c at missed part
     }
 
 -- an answer on the whole, with the table of the whole
-whole_listed : (start after : Measurer) (kind : Kind) (ts : Trees) (n m len : ℕ) (c : Option ℕ) (o : Option Tree) → is_single kind ≡ false → meant start.size.position (as_kind kind (Some ts)) ≡ o → dense_each Root ts ≡ true →
-    headers_from (shape_of start.size.position kind) (header n m c) ≡ compound_headers (shape_of start.size.position kind) ts → at_position (position_of start.size.position) o (Ok len) after.size.position →
-    (headers_fit (shape_of start.size.position kind) n → after.table.headers.items ≡ start.table.headers.items ++ (compound_headers (shape_of start.size.position kind) ts ++ headers_of_each ts)) →
+whole_listed : (start after : Measurer) (kind : Kind) (ts : Trees) (n m len : ℕ) (c : Option ℕ) (o : Option Tree) → is_single kind ≡ false → meant start.size.pending (as_kind kind (Some ts)) ≡ o → dense_each Root ts ≡ true →
+    headers_from (shape_of start.size.pending kind) (header n m c) ≡ compound_headers (shape_of start.size.pending kind) ts → at_position (position_of start.size.pending) o (Ok len) after.size.pending →
+    (headers_fit (shape_of start.size.pending kind) n → after.table.headers.items ≡ start.table.headers.items ++ (compound_headers (shape_of start.size.pending kind) ts ++ headers_of_each ts)) →
     listed o start.table.headers.items after.table.headers.items
 whole_listed start after kind ts n m len c None single w s right h f = absurd h
 whole_listed start after kind ts n m len c (Some x) single w s right h f =
-    let u = start.size.position in
+    let u = start.size.pending in
     let sh = shape_of u kind in
     let solids = dense_whole u kind ts x single w s (suits_placed (position_of u) x h.suited) h.uniform_arrays_it in
     let small = (spelled Root u kind ts x single w (within_there (position_of u) x h.within_limits_it) solids).small in
@@ -146,11 +146,11 @@ whole_listed start after kind ts n m len c (Some x) single w s right h f =
 
 -- what was counted makes the headers of the compound
 counted_right : (start : Measurer) (kind : Kind) (held : Measuring) (ps : List (Option Tree)) (ts : Trees) (n m : ℕ) (c : Option ℕ) → is_single kind ≡ false → Holding start.size kind held.size ps → all_trees ps ≡ Some ts → dense_each Root ts ≡ true →
-    (held.size.sum ≤ 4294967291 → n ≡ held.size.sum) → (count ts ≤ 4294967295 → m ≡ count ts) → c ≡ element_constructor (position_of held.size.inner) → headers_from (shape_of start.size.position kind) (header n m c) ≡ compound_headers (shape_of start.size.position kind) ts
+    (held.size.sum ≤ 4294967291 → n ≡ held.size.sum) → (count ts ≤ 4294967295 → m ≡ count ts) → c ≡ element_constructor (position_of held.size.inner) → headers_from (shape_of start.size.pending kind) (header n m c) ≡ compound_headers (shape_of start.size.pending kind) ts
 counted_right start kind held ps ts n m c single h e s a b d = elim h [ inl w ↦ gathered w | inr w ↦ elim w [ inl v ↦ transparent v | inr v ↦ absurd (never_single kind v.kind_is single) ] ]
   where
     sh : Shape
-    sh = shape_of start.size.position kind
+    sh = shape_of start.size.pending kind
 
     gathered : HoldsGathered start.size kind held.size ps → headers_from sh (header n m c) ≡ compound_headers sh ts
     gathered w =
@@ -167,19 +167,19 @@ counted_right start kind held ps ts n m c single h e s a b d = elim h [ inl w �
 pub all_listed : (start : Measurer) (kind : Kind) (table : List Header) (after : Measurer) (held : Measuring) (ps : List (Option Tree)) (n m len : ℕ) (c : Option ℕ) → is_single kind ≡ false → Holding start.size kind held.size ps → PartsTable start kind table held ps → held.missed ≡ false →
     (held.size.sum ≤ 4294967291 → n ≡ held.size.sum) → m ≡ held.parts → c ≡ element_constructor (position_of held.size.inner) →
     (headers_fit held.size.shape n → held.at + header_count held.size.shape ≤ length table → after.table.headers.items ≡ fills (headers_from held.size.shape (header n m c)) held.at table) →
-    size_permits start.size (whole kind ps) (Ok len) after.size → listed (meant start.size.position (whole kind ps)) start.table.headers.items after.table.headers.items
+    size_permits start.size (whole kind ps) (Ok len) after.size → listed (meant start.size.pending (whole kind ps)) start.table.headers.items after.table.headers.items
 all_listed start kind table after held ps n m len c single h k miss a b d f p =
-    let sh = shape_of start.size.position kind in
+    let sh = shape_of start.size.pending kind in
     let t = held_trees start.size kind held.size ps single h in
     let ts = t.0 in
     let q = k.listed miss ts t.1 in
     let shaped : held.size.shape ≡ sh = held_shape start.size kind held.size ps single h in
     let right = counted_right start kind held ps ts n m c single h t.1 (k.dense_parts ts t.1) a (λ fit. b ∙ k.counted ts t.1 fit) d in
-    let is : meant start.size.position (as_kind kind (Some ts)) ≡ meant start.size.position (whole kind ps) = ap (meant start.size.position) (sym (whole_of kind ps ts t.1)) in
+    let is : meant start.size.pending (as_kind kind (Some ts)) ≡ meant start.size.pending (whole kind ps) = ap (meant start.size.pending) (sym (whole_of kind ps ts t.1)) in
     let room : held.at + header_count held.size.shape ≤ length table =
     let l : length table ≡ length start.table.headers.items + (length q.0 + length (headers_of_each ts)) = ap length q.1.1 ∙ simp length-append in
     let at = k.at in let z : header_count held.size.shape ≡ length q.0 = ap header_count shaped ∙ sym q.1.0 in omega arith in
-    whole_listed start after kind ts n m len c (meant start.size.position (whole kind ps)) single is (k.dense_parts ts t.1) right p (λ fit.
+    whole_listed start after kind ts n m len c (meant start.size.pending (whole kind ps)) single is (k.dense_parts ts t.1) right p (λ fit.
     f (subst (λ w. headers_fit w n) (sym shaped) fit) room ∙ ap (λ w. fills (headers_from w (header n m c)) held.at table) shaped ∙ ap (fills (headers_from sh (header n m c)) held.at) q.1.1
     ∙ fills_are (headers_from sh (header n m c)) q.0 start.table.headers.items (headers_of_each ts) held.at (made_positions sh (header n m c) ∙ sym q.1.0) k.at
     ∙ ap (λ w. start.table.headers.items ++ (w ++ headers_of_each ts)) right)
@@ -187,7 +187,7 @@ all_listed start kind table after held ps n m len c single h k miss a b d f p =
 pub record Took (before self : Measurer) (held : Measuring) (p : Option Tree) (answer : Result ℕ Refusal) : Type 0 where
   pub present : held.missed ≡ false
   pub permits : size_permits before.size p answer self.size
-  pub part : listed (meant before.size.position p) before.table.headers.items self.table.headers.items
+  pub part : listed (meant before.size.pending p) before.table.headers.items self.table.headers.items
 
 -- a part that was taken was answered
 pub took : (before self : Measurer) (held : Measuring) (p : Option Tree) (part answer : Result ℕ Refusal) (res : Result (Unit {0}) Refusal) (u : Unit {0}) (X : Refusal → Type 0) →
@@ -201,7 +201,7 @@ took before self held p part (Err e) res u X a l q k = let no : Err e ≡ Ok u =
 pub refusal_of_part : (start before self after : Measurer) (kind : Kind) (held new : Measuring) (ps : List (Option Tree)) (p : Option Tree) (part answer : Result ℕ Refusal) (res : Result (Unit {0}) Refusal) (e : Refusal) →
     Holding start.size kind held.size ps → answered held part answer → counts_tree before p part self →
     (size_permits before.size p answer self.size → size_has start.size kind after.size new.size ps × ((rest : List (Option Tree)) → size_permits start.size (whole kind (ps ++ (p ∷ rest))) (Err e) after.size)) →
-    IfErr answer (λ x. (res ≡ Err x) × ((new.size ≡ held.size) × (after.size.position ≡ Plain (without_prefix held.size.position)))) → res ≡ Err e →
+    IfErr answer (λ x. (res ≡ Err x) × ((new.size ≡ held.size) × (after.size.pending ≡ Plain (without_prefix held.size.position)))) → res ≡ Err e →
     size_has start.size kind after.size new.size ps × ((rest : List (Option Tree)) → counts_tree start (whole kind (ps ++ (p ∷ rest))) (Err e) after)
 refusal_of_part start before self after kind held new ps p part (Ok n) res e h a l f k q =
     let s = f (subst (λ x. counts_tree before p x self) a.0 l).0 in
@@ -214,5 +214,5 @@ refusal_of_part start before self after kind held new ps p part (Err x) res e h 
     none : x ≡ OutOfMemory → size_has start.size kind after.size new.size ps × ((rest : List (Option Tree)) → counts_tree start (whole kind (ps ++ (p ∷ rest))) (Err e) after)
     none m =
         let same : e ≡ x = cc in
-        let position : after.size.position ≡ Plain (without_prefix (position_of start.size.position)) = k.1.1 ∙ ap Plain (at_rest start.size kind held.size ps h) in
-        (subst (λ z. Holding start.size kind z ps × (after.size.position ≡ Plain (without_prefix z.position))) (sym k.1.0) (h, k.1.1), λ rest. inl (same ∙ m, position))
+        let position : after.size.pending ≡ Plain (without_prefix (position_of start.size.pending)) = k.1.1 ∙ ap Plain (at_rest start.size kind held.size ps h) in
+        (subst (λ z. Holding start.size kind z ps × (after.size.pending ≡ Plain (without_prefix z.position))) (sym k.1.0) (h, k.1.1), λ rest. inl (same ∙ m, position))

@@ -41,16 +41,16 @@ lone_open start table e =
       one = λ p q. let no : [] ≡ p ∷ [] = q in cc;
     }
 
-table_open : (start : Measurer) (kind : Kind) (table : List Header) (held : Measuring) → appended (header_count (shape_of start.size.position kind)) start.table.headers.items held.missed table → held.at ≡ length start.table.headers.items → held.parts ≡ 0 → PartsTable start kind table held []
+table_open : (start : Measurer) (kind : Kind) (table : List Header) (held : Measuring) → appended (header_count (shape_of start.size.pending kind)) start.table.headers.items held.missed table → held.at ≡ length start.table.headers.items → held.parts ≡ 0 → PartsTable start kind table held []
 table_open start kind table held a at parts =
     let b = start.table.headers.items in
     record {
       at = at;
-      extends = appended_extends (header_count (shape_of start.size.position kind)) b held.missed table a;
+      extends = appended_extends (header_count (shape_of start.size.pending kind)) b held.missed table a;
       counted = λ ts e fit. let q : no_trees ≡ ts = cc in subst (λ x. held.parts ≡ count x) q parts;
       dense_parts = λ ts e. let q : no_trees ≡ ts = cc in subst (λ x. dense_each Root x ≡ true) q refl;
       listed = λ m ts e.
-          let w = appended_listed (header_count (shape_of start.size.position kind)) b held.missed table a m in
+          let w = appended_listed (header_count (shape_of start.size.pending kind)) b held.missed table a m in
           let q : no_trees ≡ ts = cc in
           (w.0, (w.1.0, subst (λ x. table ≡ b ++ (w.0 ++ headers_of_each x)) q (w.1.1 ∙ ap (λ x. b ++ x) (sym (append-nil w.0)))));
       back = λ odd qs q e. let no : true ≡ false = odd in cc;
@@ -91,26 +91,26 @@ pub whole_tabled : (b : Bool) (start : Measurer) (kind : Kind) (table : List Hea
     complete kind ps ≡ true → (held.size.sum ≤ 4294967291 → n ≡ held.size.sum) → m ≡ held.parts → c ≡ element_constructor (position_of held.size.inner) →
     (headers_fit held.size.shape n → held.at + header_count held.size.shape ≤ length table → after.table.headers.items ≡ fills (headers_from held.size.shape (header n m c)) held.at table) →
     (header_count held.size.shape ≡ 0 → after.table.headers.items ≡ table) →
-    size_permits start.size (whole kind ps) (Ok len) after.size → listed (meant start.size.position (whole kind ps)) start.table.headers.items after.table.headers.items
+    size_permits start.size (whole kind ps) (Ok len) after.size → listed (meant start.size.pending (whole kind ps)) start.table.headers.items after.table.headers.items
 whole_tabled true start kind table after held ps n m len c k h t miss done a b d f none p =
     let w = held_single start.size kind held.size ps k h in
     let is = single_kind kind k in
     let l = lone_whole start table ps t (subst (λ x. complete x ps ≡ true) is done) in
-    subst (λ x. listed (meant start.size.position (whole x ps)) start.table.headers.items after.table.headers.items) (sym is)
-    (subst (λ x. listed (meant start.size.position (whole kinds.Single ps)) start.table.headers.items x) (sym (none (ap header_count w.shape))) l)
+    subst (λ x. listed (meant start.size.pending (whole x ps)) start.table.headers.items after.table.headers.items) (sym is)
+    (subst (λ x. listed (meant start.size.pending (whole kinds.Single ps)) start.table.headers.items x) (sym (none (ap header_count w.shape))) l)
 whole_tabled false start kind table after held ps n m len c k h t miss done a b d f none p =
     all_listed start kind table after held ps n m len c k h t miss a b d f p
 
 -- the same answers where the serializer stands at the same position over the same table
-pub permits_same : (start s : Measurer) (o : Option Tree) (r : Result ℕ Refusal) (after : Measurer) → s.size.position ≡ start.size.position → s.table.headers.items ≡ start.table.headers.items → measurer_permits s o r after → measurer_permits start o r after
+pub permits_same : (start s : Measurer) (o : Option Tree) (r : Result ℕ Refusal) (after : Measurer) → s.size.pending ≡ start.size.pending → s.table.headers.items ≡ start.table.headers.items → measurer_permits s o r after → measurer_permits start o r after
 permits_same start s o (Ok n) after e f h = (
   subst (λ x. Extends x after.table.headers.items) f h.0,
   (
-    subst (λ u. at_position (position_of u) (meant u o) (Ok n) after.size.position) e h.1.0,
-    subst (λ u. listed (meant u o) start.table.headers.items after.table.headers.items) e (subst (λ x. listed (meant s.size.position o) x after.table.headers.items) f h.1.1),
+    subst (λ u. at_position (position_of u) (meant u o) (Ok n) after.size.pending) e h.1.0,
+    subst (λ u. listed (meant u o) start.table.headers.items after.table.headers.items) e (subst (λ x. listed (meant s.size.pending o) x after.table.headers.items) f h.1.1),
   ),
 )
 permits_same start s o (Err x) after e f h = (
   subst (λ x. Extends x after.table.headers.items) f h.0,
-  elim h.1 [ inl m ↦ inl (m.0, m.1 ∙ ap (λ u. Plain (without_prefix (position_of u))) e) | inr w ↦ inr (subst (λ u. at_position (position_of u) (meant u o) (Err x) after.size.position) e w) ],
+  elim h.1 [ inl m ↦ inl (m.0, m.1 ∙ ap (λ u. Plain (without_prefix (position_of u))) e) | inr w ↦ inr (subst (λ u. at_position (position_of u) (meant u o) (Err x) after.size.pending) e w) ],
 )

@@ -38,16 +38,16 @@ meets t n u hs s h l r = record {
   room = let a : length s.out.items ≡ 0 = ap length r.out in let b : n ≡ length (encoding t) = h.len in let c = r.room in omega arith;
 }
 
-at_root : (s : SizeSerializer) (o : Option Tree) (r : Result ℕ Refusal) (after : SizeSerializer) → s.position ≡ Plain Root → size_permits s o r after → at_position Root o r after.position
-at_root s o r after q h = subst (λ u. at_position (position_of u) (meant u o) r after.position) q h
+at_root : (s : SizeSerializer) (o : Option Tree) (r : Result ℕ Refusal) (after : SizeSerializer) → s.pending ≡ Plain Root → size_permits s o r after → at_position Root o r after.pending
+at_root s o r after q h = subst (λ u. at_position (position_of u) (meant u o) r after.pending) q h
 
-listed_root : (measurer : Measurer) (o : Option Tree) (hs : List Header) → measurer.size.position ≡ Plain Root → measurer.table.headers.items ≡ [] → listed (meant measurer.size.position o) measurer.table.headers.items hs → listed o [] hs
-listed_root measurer o hs p e l = subst (λ u. listed (meant u o) [] hs) p (subst (λ b. listed (meant measurer.size.position o) b hs) e l)
+listed_root : (measurer : Measurer) (o : Option Tree) (hs : List Header) → measurer.size.pending ≡ Plain Root → measurer.table.headers.items ≡ [] → listed (meant measurer.size.pending o) measurer.table.headers.items hs → listed o [] hs
+listed_root measurer o hs p e l = subst (λ u. listed (meant u o) [] hs) p (subst (λ b. listed (meant measurer.size.pending o) b hs) e l)
 
-accepts_root : (w : Writer) (o : Option Tree) (r : Result (Unit {0}) Refusal) (after : Pending) → w.position ≡ Plain Root → accepts (position_of w.position) (meant w.position o) r after → accepts Root o r after
+accepts_root : (w : Writer) (o : Option Tree) (r : Result (Unit {0}) Refusal) (after : Pending) → w.pending ≡ Plain Root → accepts (position_of w.pending) (meant w.pending o) r after → accepts Root o r after
 accepts_root w o r after p h = subst (λ u. accepts (position_of u) (meant u o) r after) p h
 
-writes_root : (w : Writer) (o : Option Tree) (r : Result (Unit {0}) Refusal) (after : Output) → w.position ≡ Plain Root → writes_tree (position_of w.position) w.output (meant w.position o) r after → writes_tree Root w.output o r after
+writes_root : (w : Writer) (o : Option Tree) (r : Result (Unit {0}) Refusal) (after : Output) → w.pending ≡ Plain Root → writes_tree (position_of w.pending) w.output (meant w.pending o) r after → writes_tree Root w.output o r after
 writes_root w o r after p h = subst (λ u. writes_tree (position_of u) w.output (meant u o) r after) p h
 
 go_well : (o : Option Tree) (n : ℕ) (u : Pending) (hs : List Header) (s after : Output) → at_position Root o (Ok n) u → listed o [] hs → Ready s n hs → wrote Root s o after → AreBytesOf o (Ok after.out.items)
@@ -76,24 +76,24 @@ go_whole (Some t) n u hs s after h l r k w =
     le_true after.taken (length after.table.items) (omega arith)
 
 -- the bytes are the tree's
-pub walked : (measurer counted : Measurer) (o : Option Tree) (n : ℕ) (start done : Writer) (x : Unit {0}) → measurer.size.position ≡ Plain Root → measurer.table.headers.items ≡ [] → measurer_permits measurer o (Ok n) counted →
-    start.position ≡ Plain Root → start.output.table.items ≡ counted.table.headers.items → start.output.taken ≡ 0 → start.output.out.items ≡ [] → n ≤ vec_capacity start.output.out →
+pub walked : (measurer counted : Measurer) (o : Option Tree) (n : ℕ) (start done : Writer) (x : Unit {0}) → measurer.size.pending ≡ Plain Root → measurer.table.headers.items ≡ [] → measurer_permits measurer o (Ok n) counted →
+    start.pending ≡ Plain Root → start.output.table.items ≡ counted.table.headers.items → start.output.taken ≡ 0 → start.output.out.items ≡ [] → n ≤ vec_capacity start.output.out →
     writer_permits start o (Ok x) done → AreBytesOf o (Ok done.output.out.items)
 walked measurer counted o n start done x p e h q t k b room w =
-    go_well o n counted.size.position counted.table.headers.items start.output done.output (at_root measurer.size o (Ok n) counted.size p h.1.0)
+    go_well o n counted.size.pending counted.table.headers.items start.output done.output (at_root measurer.size o (Ok n) counted.size p h.1.0)
     (listed_root measurer o counted.table.headers.items p e h.1.1) (record { table = t; taken = k; out = b; room = room }) (writes_root start o (Ok x) done.output q w.1.1)
 
 -- the second walk refuses nothing
-pub never_refused : (measurer counted : Measurer) (o : Option Tree) (n : ℕ) (start done : Writer) (x : Refusal) → measurer.size.position ≡ Plain Root → measurer_permits measurer o (Ok n) counted → start.position ≡ Plain Root → writer_permits start o (Err x) done → ⊥
+pub never_refused : (measurer counted : Measurer) (o : Option Tree) (n : ℕ) (start done : Writer) (x : Refusal) → measurer.size.pending ≡ Plain Root → measurer_permits measurer o (Ok n) counted → start.pending ≡ Plain Root → writer_permits start o (Err x) done → ⊥
 never_refused measurer counted o n start done x p h q w =
-    go_wrong o n counted.size.position done.position x (at_root measurer.size o (Ok n) counted.size p h.1.0) (accepts_root start o (Err x) done.position q w.1.0)
+    go_wrong o n counted.size.pending done.pending x (at_root measurer.size o (Ok n) counted.size p h.1.0) (accepts_root start o (Err x) done.pending q w.1.0)
 
 -- and the table and the room suffice
-pub never_short : (measurer counted : Measurer) (o : Option Tree) (n : ℕ) (start done : Writer) (x : Unit {0}) → measurer.size.position ≡ Plain Root → measurer.table.headers.items ≡ [] → measurer_permits measurer o (Ok n) counted →
-    start.position ≡ Plain Root → start.output.table.items ≡ counted.table.headers.items → start.output.taken ≡ 0 → start.output.out.items ≡ [] → n ≤ vec_capacity start.output.out →
+pub never_short : (measurer counted : Measurer) (o : Option Tree) (n : ℕ) (start done : Writer) (x : Unit {0}) → measurer.size.pending ≡ Plain Root → measurer.table.headers.items ≡ [] → measurer_permits measurer o (Ok n) counted →
+    start.pending ≡ Plain Root → start.output.table.items ≡ counted.table.headers.items → start.output.taken ≡ 0 → start.output.out.items ≡ [] → n ≤ vec_capacity start.output.out →
     writer_permits start o (Ok x) done → nat_le done.output.taken (length done.output.table.items) ≡ true
 never_short measurer counted o n start done x p e h q t k b room w =
-    go_whole o n counted.size.position counted.table.headers.items start.output done.output (at_root measurer.size o (Ok n) counted.size p h.1.0)
+    go_whole o n counted.size.pending counted.table.headers.items start.output done.output (at_root measurer.size o (Ok n) counted.size p h.1.0)
     (listed_root measurer o counted.table.headers.items p e h.1.1) (record { table = t; taken = k; out = b; room = room }) w.0 (writes_root start o (Ok x) done.output q w.1.1)
 
 -- what the first walk answered, where no growth was refused

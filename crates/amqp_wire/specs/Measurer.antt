@@ -34,8 +34,8 @@ listed (Some t) b a = (a ≡ b ++ headers_of t) × (dense t ≡ true)
 
 -- out of memory is no answer on the tree
 abbrev pub counts_tree : Measurer → Option Tree → Result ℕ Refusal → Measurer → Type 0
-counts_tree s o (Ok n) after = size_permits s.size o (Ok n) after.size × listed (meant s.size.position o) s.table.headers.items after.table.headers.items
-counts_tree s o (Err e) after = ((e ≡ OutOfMemory) × (after.size.position ≡ Plain (without_prefix (position_of s.size.position)))) ⊎ size_permits s.size o (Err e) after.size
+counts_tree s o (Ok n) after = size_permits s.size o (Ok n) after.size × listed (meant s.size.pending o) s.table.headers.items after.table.headers.items
+counts_tree s o (Err e) after = ((e ≡ OutOfMemory) × (after.size.pending ≡ Plain (without_prefix (position_of s.size.pending)))) ⊎ size_permits s.size o (Err e) after.size
 
 abbrev pub measurer_permits : Measurer → Option Tree → Result ℕ Refusal → Measurer → Type 0
 measurer_permits s o r after = Extends s.table.headers.items after.table.headers.items × counts_tree s o r after
@@ -43,7 +43,7 @@ measurer_permits s o r after = Extends s.table.headers.items after.table.headers
 -- the table has the slots of a compound, and the headers of its parts
 abbrev pub lists_parts : Measurer → Kind → Measuring → List Header → List (Option Tree) → Type 0
 lists_parts start kind held table ps = held.missed ≡ false → (ts : Trees) → all_trees ps ≡ Some ts →
-    (hs : List Header) × ((length hs ≡ header_count (shape_of start.size.position kind)) × (table ≡ start.table.headers.items ++ (hs ++ headers_of_each ts)))
+    (hs : List Header) × ((length hs ≡ header_count (shape_of start.size.pending kind)) × (table ≡ start.table.headers.items ++ (hs ++ headers_of_each ts)))
 
 -- the table before the last part
 pub record TableBeforeLast (start : Measurer) (kind : Kind) (table : List Header) (held : Measuring) (qs : List (Option Tree)) : Type 0 where
@@ -65,7 +65,7 @@ pub record PartsTable (start : Measurer) (kind : Kind) (table : List Header) (he
 pub record SingleTable (start : Measurer) (table : List Header) (ps : List (Option Tree)) : Type 0 where
   pub extends : Extends start.table.headers.items table
   pub none : ps ≡ [] → table ≡ start.table.headers.items
-  pub one : (p : Option Tree) → ps ≡ p ∷ [] → listed (meant start.size.position p) start.table.headers.items table
+  pub one : (p : Option Tree) → ps ≡ p ∷ [] → listed (meant start.size.pending p) start.table.headers.items table
 
 abbrev pub tabled_as : Bool → Measurer → Kind → List Header → Measuring → List (Option Tree) → Type 0
 tabled_as true start kind table held ps = SingleTable start table ps

@@ -6,7 +6,7 @@ use Rattle.amqp_wire.specs.declared.output.Output.{Output}
 use Rattle.amqp_wire.specs.declared.output.Checkpoint.{Checkpoint}
 
 pub record WriterState : Type 0 where
-  pub position : Pending
+  pub pending : Pending
   pub output : Output
 
 -- an open compound

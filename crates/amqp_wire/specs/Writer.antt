@@ -22,7 +22,7 @@ use Rattle.amqp_wire.specs.Positions.{part_position, part_at, suited_parts, is_s
 use Rattle.amqp_wire.specs.declared.table.Header.{Header}
 use Rattle.amqp_wire.specs.declared.output.Output.{Output}
 use Rattle.amqp_wire.specs.declared.writer.Writer.{Writer}
-use Rattle.amqp_wire.specs.declared.writer.Writing.{Writing}
+use Rattle.amqp_wire.specs.declared.writing.Writing.{Writing}
 
 -- it goes on from there
 abbrev pub Extends : {X : Type 0} → List X → List X → Type 0
@@ -89,7 +89,7 @@ writes_tree p s o (Ok u) after = wrote p s o after
 writes_tree p s o (Err e) after = Unit {0}
 
 abbrev pub writer_permits : Writer → Option Tree → Result (Unit {0}) Refusal → Writer → Type 0
-writer_permits s o r after = Kept s.output after.output × (accepts (position_of s.position) (meant s.position o) r after.position × writes_tree (position_of s.position) s.output (meant s.position o) r after.output)
+writer_permits s o r after = Kept s.output after.output × (accepts (position_of s.pending) (meant s.pending o) r after.pending × writes_tree (position_of s.pending) s.output (meant s.pending o) r after.output)
 
 -- the table and the room are those of a compound of these parts
 pub record PartsFitOutput (a : Bool) (shape : Shape) (s : Output) (ts : Trees) : Type 0 where
@@ -106,7 +106,7 @@ pub record WrittenSoFar (a : Bool) (shape : Shape) (start s : Output) (ts us : T
   pub taken : s.taken ≡ start.taken + length (compound_headers shape (join ts us)) + length (headers_of_each ts)
 
 abbrev pub meets_parts : Writer → Kind → Output → Trees → Type 0
-meets_parts start kind s ts = (us : Trees) → PartsFitOutput (in_array (position_of start.position)) (shape_of start.position kind) start.output (join ts us) → WrittenSoFar (in_array (position_of start.position)) (shape_of start.position kind) start.output s ts us
+meets_parts start kind s ts = (us : Trees) → PartsFitOutput (in_array (position_of start.pending)) (shape_of start.pending kind) start.output (join ts us) → WrittenSoFar (in_array (position_of start.pending)) (shape_of start.pending kind) start.output s ts us
 
 -- where the output stood before the last part
 pub record OutputBeforeLast (start : Writer) (kind : Kind) (s : Output) (held : Writing) (qs : List (Option Tree)) : Type 0 where
@@ -117,17 +117,17 @@ pub record OutputBeforeLast (start : Writer) (kind : Kind) (s : Output) (held : 
   pub len : held.before_last.len ≡ length old.out.items
   pub ts : Trees
   pub trees : all_trees qs ≡ Some ts
-  pub suited : suited_parts (shape_of start.position kind) ts ≡ true
+  pub suited : suited_parts (shape_of start.pending kind) ts ≡ true
   pub met : meets_parts start kind old ts
 
 pub record WrittenParts (start : Writer) (kind : Kind) (s : Output) (held : Writing) (ps : List (Option Tree)) : Type 0 where
   pub ts : Trees
   pub trees : all_trees ps ≡ Some ts
   pub kept : Kept start.output s
-  pub position : held.position ≡ position_of start.position
-  pub shape : held.shape ≡ shape_of start.position kind
-  pub inner : held.inner ≡ Plain (part_at (shape_of start.position kind) ts)
-  pub suited : suited_parts (shape_of start.position kind) ts ≡ true
+  pub position : held.position ≡ position_of start.pending
+  pub shape : held.shape ≡ shape_of start.pending kind
+  pub inner : held.inner ≡ Plain (part_at (shape_of start.pending kind) ts)
+  pub suited : suited_parts (shape_of start.pending kind) ts ≡ true
   pub met : meets_parts start kind s ts
   pub back : paired ps ≡ false → (qs : List (Option Tree)) (q : Option Tree) → ps ≡ qs ++ (q ∷ []) → OutputBeforeLast start kind s held qs
 
@@ -138,24 +138,24 @@ SameOutput s after = (after.out.items ≡ s.out.items) × (after.taken ≡ s.tak
 -- a single compound writes its part alone, where it was opened
 pub record WrittenSingle (start : Writer) (s : Output) (held : Writing) (ps : List (Option Tree)) : Type 0 where
   pub kept : Kept start.output s
-  pub position : without_prefix held.position ≡ without_prefix (position_of start.position)
+  pub position : without_prefix held.position ≡ without_prefix (position_of start.pending)
   pub shape : held.shape ≡ Single
-  pub none : ps ≡ [] → (held.inner ≡ start.position) × SameOutput start.output s
-  pub one : (p : Option Tree) → ps ≡ p ∷ [] → takes (position_of start.position) (meant start.position p) held.inner × wrote (position_of start.position) start.output (meant start.position p) s
+  pub none : ps ≡ [] → (held.inner ≡ start.pending) × SameOutput start.output s
+  pub one : (p : Option Tree) → ps ≡ p ∷ [] → takes (position_of start.pending) (meant start.pending p) held.inner × wrote (position_of start.pending) start.output (meant start.pending p) s
 
 abbrev pub written_as : Bool → Writer → Kind → Output → Writing → List (Option Tree) → Type 0
 written_as true start kind s held ps = WrittenSingle start s held ps
 written_as false start kind s held ps = WrittenParts start kind s held ps
 
 abbrev pub writer_has : Writer → Kind → Writer → Writing → List (Option Tree) → Type 0
-writer_has start kind s held ps = written_as (is_single kind) start kind s.output held ps × (s.position ≡ Plain (without_prefix held.position))
+writer_has start kind s held ps = written_as (is_single kind) start kind s.output held ps × (s.pending ≡ Plain (without_prefix held.position))
 
 -- where the output stands, which is gone back to where the part is refused
 abbrev pub stands_at : Writing → Output → Type 0
 stands_at held s = (held.before_current.taken ≡ s.taken) × (held.before_current.len ≡ length s.out.items)
 
 abbrev pub writer_awaits : Writer → Kind → Writer → Writing → List (Option Tree) → Type 0
-writer_awaits start kind s held ps = (written_as (is_single kind) start kind s.output held ps × (s.position ≡ held.inner)) × stands_at held s.output
+writer_awaits start kind s held ps = (written_as (is_single kind) start kind s.output held ps × (s.pending ≡ held.inner)) × stands_at held s.output
 
 -- the code of described values is written, where there is room for one
 abbrev pub headed : Writer → Output → Type 0
@@ -164,11 +164,11 @@ headed start s = length start.output.out.items + 1 ≤ vec_capacity start.output
 
 pub record AwaitsDescriptor (start s : Writer) (held : Writing) : Type 0 where
   pub kept : Kept start.output s.output
-  pub position : without_prefix held.position ≡ without_prefix (position_of start.position)
+  pub position : without_prefix held.position ≡ without_prefix (position_of start.pending)
   pub shape : held.shape ≡ Single
-  pub inner : held.inner ≡ start.position
+  pub inner : held.inner ≡ start.pending
   pub stands : stands_at held start.output
-  pub at : s.position ≡ Plain positions.Descriptor
+  pub at : s.pending ≡ Plain positions.Descriptor
   pub code : headed start s.output
 
 takes_none : (u : Pending) (after : Pending) → takes (position_of u) (meant u None) after → ⊥
@@ -180,4 +180,4 @@ takes_none (pending.Nothing p) after h = h
 
 -- where there is no tree nothing is taken
 pub nothing_of_none : (s : Writer) (u : Unit {0}) (after : Writer) → writer_permits s None (Ok u) after → ⊥
-nothing_of_none s u after h = takes_none s.position after.position h.1.0
+nothing_of_none s u after h = takes_none s.pending after.pending h.1.0

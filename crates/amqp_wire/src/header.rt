@@ -6,6 +6,7 @@ ghost use Rattle.amqp_ser.specs.Tree.{Trees, uint};
 
 use crate::output::Output;
 use crate::table::Header;
+use amqp_data::EncodingCodes;
 use amqp_ser::Fixed;
 use amqp_size::{Refusal, Shape};
 
@@ -60,12 +61,27 @@ impl Output {
         match header_kind {
             HeaderKind::List => {
                 if len == 0 {
-                    return self.put(&[0x45]);
+                    return self.put(&[EncodingCodes::List0 as u8]);
                 }
-                self.put_counted(0xc0, 0xd0, len, count)
+                self.put_counted(
+                    EncodingCodes::List8 as u8,
+                    EncodingCodes::List32 as u8,
+                    len,
+                    count,
+                )
             }
-            HeaderKind::Map => self.put_counted(0xc1, 0xd1, len, count),
-            HeaderKind::Array => self.put_counted(0xe0, 0xf0, len, count),
+            HeaderKind::Map => self.put_counted(
+                EncodingCodes::Map8 as u8,
+                EncodingCodes::Map32 as u8,
+                len,
+                count,
+            ),
+            HeaderKind::Array => self.put_counted(
+                EncodingCodes::Array8 as u8,
+                EncodingCodes::Array32 as u8,
+                len,
+                count,
+            ),
         }
     }
 
@@ -139,7 +155,8 @@ impl Output {
         ensures kept { Kept self.old self.new }
         ensures opened { (h : Header) (rest : List Header) →
             drop self.old.taken self.old.table.items ≡ h ∷ rest → small h →
-            leads self.old 1 (header_bytes in_array HeaderKind.Map h ++ scalar_form (uint index)) result self.new
+            leads self.old 1 (header_bytes in_array HeaderKind.Map h ++ scalar_form (uint index))
+            result self.new
             × IfOk result (λ _. drop self.new.taken self.new.table.items ≡ rest) }
     {
         match self.put_next_header(in_array, HeaderKind::Map) {
@@ -154,7 +171,8 @@ impl Output {
         ensures opened { (h g : Header) (rest : List Header) →
             drop self.old.taken self.old.table.items ≡ h ∷ (g ∷ rest) → small h → small g →
             leads self.old 2
-            ((header_bytes in_array HeaderKind.Map h ++ scalar_form (uint index)) ++ header_bytes false HeaderKind.List g)
+            ((header_bytes in_array HeaderKind.Map h ++ scalar_form (uint index)) ++
+            header_bytes false HeaderKind.List g)
             result self.new }
     {
         match self.open_newtype_variant(in_array, index) {
@@ -169,7 +187,8 @@ impl Output {
         ensures kept { Kept self.old self.new }
         ensures opened { (h : Header) (rest : List Header) →
             drop self.old.taken self.old.table.items ≡ h ∷ rest → small h →
-            leads self.old 1 (header_bytes in_array HeaderKind.Array h ++ code_list h.constructor) result
+            leads self.old 1 (header_bytes in_array HeaderKind.Array h ++ code_list h.constructor)
+            result
             self.new }
     {
         match self.put_next_header(in_array, HeaderKind::Array) {

@@ -53,7 +53,7 @@ impl Measurer {
     pub fn new(alloc: Global) -> Measurer
         ensures table { result.table.headers.items ≡ [] }
         ensures refused { result.table.refused ≡ false }
-        ensures position { result.size.position ≡ Plain Root }
+        ensures pending { result.size.pending ≡ Plain Root }
     {
         Measurer {
             size: SizeSerializer::new(),
@@ -126,7 +126,7 @@ impl Serializer for Measurer {
     fn serialize_fixed(&mut self, fixed: Fixed) -> Result<usize, Refusal>
         ensures answered { measurer_permits self.old (Some (scalar (fixed_scalar fixed))) result
             self.new }
-        ensures no_tree { meant self.old.size.position (Some (scalar (fixed_scalar fixed))) ≡ None →
+        ensures no_tree { meant self.old.size.pending (Some (scalar (fixed_scalar fixed))) ≡ None →
             result ≡ Err InvalidValue }
     {
         self.size.serialize_fixed(fixed)
@@ -135,7 +135,7 @@ impl Serializer for Measurer {
     #[inline(always)]
     fn serialize_null(&mut self) -> Result<usize, Refusal>
         ensures answered { measurer_permits self.old (Some (scalar null)) result self.new }
-        ensures no_tree { meant self.old.size.position (Some (scalar null)) ≡ None →
+        ensures no_tree { meant self.old.size.pending (Some (scalar null)) ≡ None →
             result ≡ Err InvalidValue }
     {
         self.size.serialize_null()
@@ -143,8 +143,9 @@ impl Serializer for Measurer {
 
     #[inline(always)]
     fn serialize_str(&mut self, v: &str) -> Result<usize, Refusal>
-        ensures answered { measurer_permits self.old (Some (scalar (string v.now))) result self.new }
-        ensures no_tree { meant self.old.size.position (Some (scalar (string v.now))) ≡ None →
+        ensures answered { measurer_permits self.old (Some (scalar (string v.now))) result
+            self.new }
+        ensures no_tree { meant self.old.size.pending (Some (scalar (string v.now))) ≡ None →
             result ≡ Err InvalidValue }
     {
         self.size.serialize_str(v)
@@ -152,8 +153,9 @@ impl Serializer for Measurer {
 
     #[inline(always)]
     fn serialize_bytes(&mut self, v: &[u8]) -> Result<usize, Refusal>
-        ensures answered { measurer_permits self.old (Some (scalar (binary v.now))) result self.new }
-        ensures no_tree { meant self.old.size.position (Some (scalar (binary v.now))) ≡ None →
+        ensures answered { measurer_permits self.old (Some (scalar (binary v.now))) result
+            self.new }
+        ensures no_tree { meant self.old.size.pending (Some (scalar (binary v.now))) ≡ None →
             result ≡ Err InvalidValue }
     {
         self.size.serialize_bytes(v)
@@ -203,7 +205,8 @@ impl Serializer for Measurer {
         held: &mut Measuring,
         part: Result<usize, Refusal>,
     ) -> Result<(), Refusal>
-        ensures step { (start : Measurer) (kind : Kind) (before : Measurer) (ps : List (Option Tree))
+        ensures step { (start : Measurer) (kind : Kind) (before : Measurer)
+            (ps : List (Option Tree))
             (p : Option Tree) → measurer_awaits start kind before held.old ps →
             measurer_permits before p part self.old →
             MatchResult result
@@ -283,7 +286,7 @@ impl Serializer for Measurer {
             measurer_permits start (whole kind ps) result self.new }
         ensures no_tree { (start : Measurer) (kind : Kind) (ps : List (Option Tree)) →
             measurer_has start kind self.old held ps → complete kind ps ≡ true →
-            meant start.size.position (whole kind ps) ≡ None → result ≡ Err TooLong → ⊥ }
+            meant start.size.pending (whole kind ps) ≡ None → result ≡ Err TooLong → ⊥ }
     {
         let Measuring {
             size,
@@ -297,8 +300,9 @@ impl Serializer for Measurer {
             return Err(Refusal::OutOfMemory);
         }
         let shape = size.shape();
-        // An array's first element left its constructor in the place of `self.size`, where `end_part`
-        // of the size serializer picked it up for `size`. Only then can the header be filled in.
+        // An array's first element left its constructor in the place of `self.size`, where
+        // `end_part` of the size serializer picked it up for `size`. Only then can the header be
+        // filled in.
         let header = Header {
             len: limited(size.sum()),
             count: parts,

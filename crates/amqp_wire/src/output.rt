@@ -4,6 +4,7 @@ ghost use Rattle.std.specs.Prelude.{◌≡◌, ◌≤◌, ◌++◌, ◌∷◌, [
 ghost use Rattle.std.specs.Vec.{vec_capacity};
 
 use crate::table::Header;
+use amqp_data::EncodingCodes;
 use amqp_ser::Fixed;
 use amqp_size::{Form, Refusal};
 
@@ -210,7 +211,9 @@ impl Output {
     pub fn put_fixed(&mut self, in_array: bool, fixed: Fixed) -> Result<(), Refusal>
         ensures kept { Kept self.old self.new }
         ensures taken { self.new.taken ≡ self.old.taken }
-        ensures written { puts self.old (pick in_array (scalar_form (fixed_scalar fixed)) (scalar_payload (fixed_scalar fixed))) result self.new }
+        ensures written { puts self.old
+            (pick in_array (scalar_form (fixed_scalar fixed)) (scalar_payload (fixed_scalar fixed)))
+            result self.new }
         ensures full { IfErr result (λ e. e ≡ Refusal.TooLong) }
     {
         if in_array {
@@ -220,7 +223,8 @@ impl Output {
         }
     }
 
-    /// Writes the length of a text or a binary, with the code of a length of one byte or that of four.
+    /// Writes the length of a text or a binary, with the code of a length of one byte or that of
+    /// four.
     #[inline(always)]
     fn put_length(&mut self, in_array: bool, short: u8, long: u8, n: usize) -> Result<(), Refusal>
         requires { n ≤ 4294967291 }
@@ -251,7 +255,7 @@ impl Output {
         if in_array {
             return Ok(());
         }
-        self.put_few(&[0x40])
+        self.put_few(&[EncodingCodes::Null as u8])
     }
 
     /// Writes a text or a binary, with the code of a length of one byte or that of four.
@@ -278,7 +282,8 @@ impl Output {
     pub fn put_exact(&mut self, in_array: bool, code: u8, bytes: &[u8]) -> Result<(), Refusal>
         ensures kept { Kept self.old self.new }
         ensures taken { self.new.taken ≡ self.old.taken }
-        ensures written { puts self.old (pick in_array (code ∷ bytes.now) bytes.now) result self.new }
+        ensures written { puts self.old (pick in_array (code ∷ bytes.now) bytes.now) result
+            self.new }
         ensures full { IfErr result (λ e. e ≡ Refusal.TooLong) }
     {
         if !in_array {

@@ -12,6 +12,7 @@ ghost use Rattle.amqp_ser.specs.Writable.{uniform_arrays, inside, placed};
 ghost use Rattle.amqp_size.specs.WholePending.{Plain};
 ghost use Rattle.amqp_size.specs.WholePosition.{Descriptor};
 
+use amqp_data::EncodingCodes;
 use amqp_size::{BasePosition, Pending, Position, Refusal, Shape};
 
 /// Whether an array's element stands there.
@@ -25,7 +26,8 @@ pub fn in_array(position: Position) -> bool
 /// Where what comes after a tree with this constructor stands, if the tree is taken there.
 #[inline(always)]
 pub fn accepted(position: Position, code: u8) -> Result<Pending, Refusal>
-    ensures { (t : Tree) → constructor t ≡ Some code → uniform_arrays t ≡ true → inside t ≡ true → placed t ≡ true →
+    ensures { (t : Tree) → constructor t ≡ Some code → uniform_arrays t ≡ true → inside t ≡ true →
+        placed t ≡ true →
         MatchResult result
         (λ after. Taken (position_at position 0) t (pending_at after 0))
         (λ e. refused (position_at position 0) t e) }
@@ -41,7 +43,7 @@ pub fn accepted(position: Position, code: u8) -> Result<Pending, Refusal>
             }
         }
         Position::Descriptor => {
-            if code == 0x80 || code == 0xb3 {
+            if code == EncodingCodes::Ulong as u8 || code == EncodingCodes::Sym32 as u8 {
                 Ok(Pending::Plain(position))
             } else {
                 Err(Refusal::InvalidValue)
@@ -57,7 +59,8 @@ pub fn accepted(position: Position, code: u8) -> Result<Pending, Refusal>
     }
 }
 
-/// Where the value after a descriptor stands. No marker takes a described value, and it is no descriptor.
+/// Where the value after a descriptor stands. No marker takes a described value, and it is no
+/// descriptor.
 #[inline(always)]
 pub fn described(pending: Pending) -> Result<Pending, Refusal>
     ensures { MatchResult result
@@ -79,8 +82,8 @@ pub fn described(pending: Pending) -> Result<Pending, Refusal>
     }
 }
 
-/// Where the next part stands, from where this one stood and what came after it: an array takes its constructor from
-/// the first, and what a single compound leaves stands behind it.
+/// Where the next part stands, from where this one stood and what came after it: an array takes its
+/// constructor from the first, and what a single compound leaves stands behind it.
 #[inline(always)]
 pub fn inner_after(shape: Shape, inner: Pending, after: Pending) -> Pending
     ensures { pending_at result 0 ≡ inner_after shape (pending_at inner 0) (pending_at after 0) }

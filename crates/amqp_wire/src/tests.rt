@@ -1,4 +1,5 @@
-//! What no contract states: bytes from the encoding tables, worked by hand, and what is left of a refusal.
+//! What no contract states: bytes from the encoding tables, worked by hand, and what is left of a
+//! refusal.
 
 mod described;
 mod feeding;

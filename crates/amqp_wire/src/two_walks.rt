@@ -14,15 +14,17 @@ use std::alloc::Global;
 /// The value's bytes, exactly where its tree can be written.
 ///
 /// # Encoding
-/// The shortest form of each value that this profile writes; in an array the form of its constructor (AMQP 1.0 part 1,
-/// sections 1.2 to 1.6).
+/// The shortest form of each value that this profile writes; in an array the form of its
+/// constructor (AMQP 1.0 part 1, sections 1.2 to 1.6).
 ///
 /// # Errors
-/// `OutOfMemory` where a growth was refused. `TooLong` only where a limit is passed, `InvalidValue` only where the tree
-/// cannot be written for another cause; one of them where the value has no tree.
+/// `OutOfMemory` where a growth was refused. `TooLong` only where a limit is passed, `InvalidValue`
+/// only where the tree cannot be written for another cause; one of them where the value has no
+/// tree.
 ///
 /// # Memory
-/// Takes `alloc`: once for the bytes, and for a table of 12 bytes a compound; for a scalar there is no table.
+/// Takes `alloc`: once for the bytes, and for a table of 12 bytes a compound; for a scalar there is
+/// no table.
 ///
 /// # Example
 /// The list of the strings `a` and `bc`: `c00802a10161a1026263`.
@@ -41,7 +43,8 @@ pub fn to_vec<T: Serialize>(alloc: Global, value: &T) -> Result<Vec<u8>, Error>
     Ok(writer.into_bytes())
 }
 
-// The first walk's answer, but out of memory where a growth of the table was refused, whatever came of that later.
+// The first walk's answer, but out of memory where a growth of the table was refused, whatever came
+// of that later.
 #[inline(always)]
 fn unless_refused(measurer: &Measurer, answer: Result<usize, Refusal>) -> Result<usize, Refusal>
     ensures marked { measurer.now.table.refused ≡ true → result ≡ Err Refusal.OutOfMemory }

@@ -52,7 +52,8 @@ impl<'a, S: Serializer> SerializeMap<'a, S> {
         }
     }
 
-    /// The serializer behind the map, which goes on with what is left there; nothing else of it changes.
+    /// The serializer behind the map, which goes on with what is left there; nothing else of it
+    /// changes.
     #[inline(always)]
     pub fn as_mut(&mut self) -> &mut S
         ensures* writes_back { sem 𝓛
@@ -68,7 +69,8 @@ impl<'a, S: Serializer> SerializeMap<'a, S> {
     /// Serializes a key, whose value comes next.
     ///
     /// # Errors
-    /// The serializer's refusal of the key, or of a second key while one is pending; the map is then as it was.
+    /// The serializer's refusal of the key, or of a second key while one is pending; the map is
+    /// then as it was.
     #[inline(always)]
     pub fn serialize_key<T: Serialize>(&mut self, key: &T) -> Result<(), S::Error>
         ensures same { self.new.serializer.ghost_name ≡ self.old.serializer.ghost_name }
@@ -95,8 +97,8 @@ impl<'a, S: Serializer> SerializeMap<'a, S> {
     /// Serializes the value of the pending key.
     ///
     /// # Errors
-    /// The serializer's refusal of the value, after which the key is still pending, or of a value without a key; the
-    /// map is then as it was.
+    /// The serializer's refusal of the value, after which the key is still pending, or of a value
+    /// without a key; the map is then as it was.
     #[inline(always)]
     pub fn serialize_value<T: Serialize>(&mut self, value: &T) -> Result<(), S::Error>
         ensures same { self.new.serializer.ghost_name ≡ self.old.serializer.ghost_name }
@@ -123,8 +125,8 @@ impl<'a, S: Serializer> SerializeMap<'a, S> {
     /// Serializes a key and its value.
     ///
     /// # Errors
-    /// The serializer's refusal of the key or of the value, or of an entry while a key is pending; the map is then as
-    /// it was.
+    /// The serializer's refusal of the key or of the value, or of an entry while a key is pending;
+    /// the map is then as it was.
     #[inline(always)]
     pub fn serialize_entry<K: Serialize, V: Serialize>(
         &mut self,

@@ -45,7 +45,8 @@ impl<'a, S: Serializer> SerializeSeq<'a, S> {
         SerializeSeq { serializer, held }
     }
 
-    /// The serializer behind the list, which goes on with what is left there; nothing else of it changes.
+    /// The serializer behind the list, which goes on with what is left there; nothing else of it
+    /// changes.
     #[inline(always)]
     pub fn as_mut(&mut self) -> &mut S
         ensures* writes_back { sem 𝓛

@@ -15,7 +15,8 @@ use crate::serializer::Serializer;
 /// A struct variant whose fields are still fed; the names of the fields are not written.
 ///
 /// # Encoding
-/// The map of one pair, from the index as a uint to the list of the fields (AMQP 1.0 part 1, section 1.6.23).
+/// The map of one pair, from the index as a uint to the list of the fields (AMQP 1.0 part 1,
+/// section 1.6.23).
 pub struct SerializeStructVariant<'a, S: Serializer> {
     serializer: &'a mut S,
     held: S::Open,
@@ -45,7 +46,8 @@ impl<'a, S: Serializer> SerializeStructVariant<'a, S> {
         SerializeStructVariant { serializer, held }
     }
 
-    /// The serializer behind the variant, which goes on with what is left there; nothing else of it changes.
+    /// The serializer behind the variant, which goes on with what is left there; nothing else of it
+    /// changes.
     pub fn as_mut(&mut self) -> &mut S
         ensures* writes_back { sem 𝓛
             (Lends

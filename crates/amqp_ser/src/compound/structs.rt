@@ -1,25 +1,30 @@
 //! Structs: a descriptor, if there is one, and a body of fields.
 
-ghost use Rattle.std.specs.Prelude.{◌≡◌, ◌++◌, ◌∷◌, ◌||◌, [], List, Option, Some, None, Err, Result, MatchResult, IfOk, IfErr, IsErr, not, true, false};
+ghost use Rattle.std.specs.Prelude.{◌≡◌, ◌∷◌, ◌||◌, [], List, Option, Some, None, IfOk, IfErr, IsErr, not, true, false};
 ghost use mir.Syntax.{named};
 ghost use Rattle.std.specs.Borrow.{Lends, sem};
 ghost use Rattle.amqp_ser.specs.Tree.{Tree, scalar, string};
 ghost use Rattle.amqp_ser.specs.Compounds.{whole, paired};
-ghost use Rattle.amqp_ser.specs.Composites.{as_described, descriptor_of};
+ghost use Rattle.amqp_ser.specs.Composites.{descriptor_of};
 ghost use Rattle.amqp_ser.specs.Marked.{is_descriptor_name};
+ghost use Rattle.amqp_ser.specs.StructFeeding.{FeedsDescriptor, FeedsFirst, FeedsElement, FeedsEntry, FeedsSingle, RefusesField};
 ghost use Rattle.amqp_ser.specs.Structs.{Stands, form_kind, open_kind, optionally_described, is_misplaced};
 
+use super::any_field::feed_any;
+use super::body::end_fields;
+use super::list_field::feed_list_field;
 use crate::kind::Kind;
-use crate::mark::is_descriptor_name;
+use crate::names::is_descriptor_name;
 use crate::serialize::Serialize;
 use crate::serializer::Serializer;
-use crate::struct_form::{StructForm, end_fields, feed_any, feed_list_field};
+use crate::struct_form::StructForm;
 
-/// A struct whose fields are still fed: a list of them, a map from their names, or the one field itself, as the
-/// struct's name says. A first field of the descriptor's key makes it described.
+/// A struct whose fields are still fed: a list of them, a map from their names, or the one field
+/// itself, as the struct's name says. A first field of the descriptor's key makes it described.
 ///
 /// # Encoding
-/// `00`, the descriptor and the body (AMQP 1.0 part 1, section 1.2), or the body alone (sections 1.6.22 and 1.6.23).
+/// `00`, the descriptor and the body (AMQP 1.0 part 1, section 1.2), or the body alone (sections
+/// 1.6.22 and 1.6.23).
 pub struct SerializeStruct<'a, S: Serializer> {
     serializer: &'a mut S,
     held: S::Open,
@@ -70,7 +75,8 @@ impl<'a, S: Serializer> SerializeStruct<'a, S> {
         }
     }
 
-    /// The serializer behind the struct, which goes on with what is left there; nothing else of it changes.
+    /// The serializer behind the struct, which goes on with what is left there; nothing else of it
+    /// changes.
     pub fn as_mut(&mut self) -> &mut S
         ensures* writes_back { sem 𝓛
             (Lends
@@ -85,8 +91,9 @@ impl<'a, S: Serializer> SerializeStruct<'a, S> {
     /// Serializes one field more, or the descriptor.
     ///
     /// # Errors
-    /// The serializer's refusal of the field, of a descriptor that is no ulong and no symbol, of a second or late
-    /// descriptor, or of a second field where there is one alone; the struct is then as it was and may be fed on.
+    /// The serializer's refusal of the field, of a descriptor that is no ulong and no symbol, of a
+    /// second or late descriptor, or of a second field where there is one alone; the struct is then
+    /// as it was and may be fed on.
     #[tactic(auto, unfolding(crate::specs::Structs::Stands))]
     #[inline(always)]
     pub fn serialize_field<T: Serialize>(
@@ -103,80 +110,34 @@ impl<'a, S: Serializer> SerializeStruct<'a, S> {
         ensures opened { IfOk result
             (λ _. self.new.opened ≡ (not (is_descriptor_name key.now) || self.old.opened)) }
         ensures descriptor { is_descriptor_name key.now ≡ true → self.old.described ≡ false →
-            self.old.opened ≡ false → (start : S) →
-            Stands S.permits S.has start None Kind.Single self.old.serializer.now self.old.held [] →
-            MatchResult result
-            (λ _. Stands S.permits S.has start (Some (T.tree value.now)) Kind.Single
-            self.new.serializer.now self.new.held [])
-            (λ e. Stands S.permits S.has start None Kind.Single self.new.serializer.now
-            self.new.held [] × ((t : Option Tree) →
-            S.permits start (as_described (descriptor_of (T.tree value.now)) t)
-            (Err e) self.new.serializer.now)) }
+            self.old.opened ≡ false →
+            FeedsDescriptor S.permits S.has (T.tree value.now) self.old.serializer.now self.old.held
+            result self.new.serializer.now self.new.held }
         ensures first_of_list { is_descriptor_name key.now ≡ false → self.old.opened ≡ false →
-            self.old.form ≡ StructForm.List → (start : S) (prefix : Option (Option Tree)) →
-            Stands S.permits S.has start prefix Kind.Single self.old.serializer.now self.old.held [] →
-            MatchResult result
-            (λ _. Stands S.permits S.has start prefix Kind.List self.new.serializer.now self.new.held
-            (T.tree value.now ∷ []))
-            (λ e. Stands S.permits S.has start prefix Kind.Single self.new.serializer.now
-            self.new.held [] × ((rest : List (Option Tree)) →
-            S.permits start (optionally_described prefix (whole Kind.List (T.tree value.now ∷ rest)))
-            (Err e) self.new.serializer.now)) }
+            self.old.form ≡ StructForm.List →
+            FeedsFirst S.permits S.has Kind.List (T.tree value.now ∷ []) self.old.serializer.now
+            self.old.held result self.new.serializer.now self.new.held }
         ensures next_of_list { is_descriptor_name key.now ≡ false → self.old.opened ≡ true →
             self.old.form ≡ StructForm.List →
-            (start : S) (prefix : Option (Option Tree)) (ps : List (Option Tree)) →
-            Stands S.permits S.has start prefix Kind.List self.old.serializer.now self.old.held ps →
-            MatchResult result
-            (λ _. Stands S.permits S.has start prefix Kind.List self.new.serializer.now self.new.held
-            (ps ++ (T.tree value.now ∷ [])))
-            (λ e. Stands S.permits S.has start prefix Kind.List self.new.serializer.now
-            self.new.held ps × ((rest : List (Option Tree)) →
-            S.permits start (optionally_described prefix (whole Kind.List (ps ++ (T.tree value.now ∷ rest))))
-            (Err e) self.new.serializer.now)) }
+            FeedsElement S.permits S.has (T.tree value.now) self.old.serializer.now self.old.held
+            result self.new.serializer.now self.new.held }
         ensures first_of_map { is_descriptor_name key.now ≡ false → self.old.opened ≡ false →
-            self.old.form ≡ StructForm.Map → (start : S) (prefix : Option (Option Tree)) →
-            Stands S.permits S.has start prefix Kind.Single self.old.serializer.now self.old.held [] →
-            MatchResult result
-            (λ _. Stands S.permits S.has start prefix Kind.Map self.new.serializer.now self.new.held
-            (Some (scalar (string key.now)) ∷ (T.tree value.now ∷ [])))
-            (λ e. Stands S.permits S.has start prefix Kind.Single self.new.serializer.now
-            self.new.held [] × ((rest : List (Option Tree)) →
-            S.permits start
-            (optionally_described prefix
-            (whole Kind.Map (Some (scalar (string key.now)) ∷ (T.tree value.now ∷ rest))))
-            (Err e) self.new.serializer.now)) }
+            self.old.form ≡ StructForm.Map →
+            FeedsFirst S.permits S.has Kind.Map
+            (Some (scalar (string key.now)) ∷ (T.tree value.now ∷ [])) self.old.serializer.now
+            self.old.held result self.new.serializer.now self.new.held }
         ensures next_of_map { is_descriptor_name key.now ≡ false → self.old.opened ≡ true →
             self.old.form ≡ StructForm.Map →
-            (start : S) (prefix : Option (Option Tree)) (ps : List (Option Tree)) →
-            Stands S.permits S.has start prefix Kind.Map self.old.serializer.now self.old.held ps →
-            paired ps ≡ true →
-            MatchResult result
-            (λ _. Stands S.permits S.has start prefix Kind.Map self.new.serializer.now self.new.held
-            (ps ++ (Some (scalar (string key.now)) ∷ (T.tree value.now ∷ []))))
-            (λ e. Stands S.permits S.has start prefix Kind.Map self.new.serializer.now
-            self.new.held ps × ((rest : List (Option Tree)) →
-            S.permits start
-            (optionally_described prefix
-            (whole Kind.Map (ps ++ (Some (scalar (string key.now)) ∷ (T.tree value.now ∷ rest)))))
-            (Err e) self.new.serializer.now)) }
+            FeedsEntry S.permits S.has (Some (scalar (string key.now))) (T.tree value.now)
+            self.old.serializer.now self.old.held result self.new.serializer.now self.new.held }
         ensures alone { is_descriptor_name key.now ≡ false → self.old.opened ≡ false →
-            self.old.form ≡ StructForm.Single → (start : S) (prefix : Option (Option Tree)) →
-            Stands S.permits S.has start prefix Kind.Single self.old.serializer.now self.old.held [] →
-            MatchResult result
-            (λ _. Stands S.permits S.has start prefix Kind.Single self.new.serializer.now self.new.held
-            (T.tree value.now ∷ []))
-            (λ e. Stands S.permits S.has start prefix Kind.Single self.new.serializer.now
-            self.new.held []
-            × S.permits start (optionally_described prefix (T.tree value.now)) (Err e) self.new.serializer.now) }
+            self.old.form ≡ StructForm.Single →
+            FeedsSingle S.permits S.has (T.tree value.now) self.old.serializer.now self.old.held
+            result self.new.serializer.now self.new.held }
         ensures misuse { is_misplaced self.old.form self.old.described self.old.opened
             (is_descriptor_name key.now) ≡ true →
-            IsErr result × ((start : S) (prefix : Option (Option Tree)) (ps : List (Option Tree)) →
-            Stands S.permits S.has start prefix (open_kind self.old.opened self.old.form)
-            self.old.serializer.now self.old.held ps →
-            IfErr result
-            (λ e. Stands S.permits S.has start prefix (open_kind self.old.opened self.old.form)
-            self.new.serializer.now self.new.held ps
-            × S.permits start None (Err e) self.new.serializer.now)) }
+            IsErr result × RefusesField S.permits S.has (open_kind self.old.opened self.old.form)
+            self.old.serializer.now self.old.held result self.new.serializer.now self.new.held }
         ensures invalid { is_misplaced self.old.form self.old.described self.old.opened
             (is_descriptor_name key.now) ≡ true → IfErr result S.is_misuse }
         ensures other_kinds { is_descriptor_name key.now ≡ true → self.old.described ≡ false →
@@ -226,20 +187,24 @@ impl<'a, S: Serializer> SerializeStruct<'a, S> {
             (start : S) (prefix : Option (Option Tree)) (ps : List (Option Tree)) →
             Stands S.permits S.has start prefix Kind.List self.entry.serializer.now
             self.entry.held ps →
-            S.permits start (optionally_described prefix (whole Kind.List ps)) result self.exit.0.now }
+            S.permits start (optionally_described prefix (whole Kind.List ps)) result
+            self.exit.0.now }
         ensures map { self.entry.opened ≡ true → self.entry.form ≡ StructForm.Map →
             (start : S) (prefix : Option (Option Tree)) (ps : List (Option Tree)) →
             Stands S.permits S.has start prefix Kind.Map self.entry.serializer.now
             self.entry.held ps → paired ps ≡ true →
-            S.permits start (optionally_described prefix (whole Kind.Map ps)) result self.exit.0.now }
+            S.permits start (optionally_described prefix (whole Kind.Map ps)) result
+            self.exit.0.now }
         ensures alone { self.entry.opened ≡ true → self.entry.form ≡ StructForm.Single →
             (start : S) (prefix : Option (Option Tree)) (p : Option Tree) →
-            Stands S.permits S.has start prefix Kind.Single self.entry.serializer.now self.entry.held
+            Stands S.permits S.has start prefix Kind.Single self.entry.serializer.now
+            self.entry.held
             (p ∷ []) → S.permits start (optionally_described prefix p) result self.exit.0.now }
         ensures empty { self.entry.opened ≡ false → (start : S) (prefix : Option (Option Tree)) →
             Stands S.permits S.has start prefix Kind.Single self.entry.serializer.now
             self.entry.held [] →
-            S.permits start (optionally_described prefix (whole (form_kind self.entry.form) [])) result
+            S.permits start (optionally_described prefix (whole (form_kind self.entry.form) []))
+            result
             self.exit.0.now }
         ensures invalid { self.entry.opened ≡ false → self.entry.form ≡ StructForm.Single →
             IsErr result × IfErr result S.is_misuse }

@@ -1,24 +1,28 @@
 //! Tuple structs: lists of their fields, of which the first may be a descriptor.
 
-ghost use Rattle.std.specs.Prelude.{◌≡◌, ◌++◌, ◌∷◌, [], List, Option, Some, None, Err, Result, MatchResult, IfOk, IfErr, IsErr, ◌&&◌, ◌||◌, not, true, false};
+ghost use Rattle.std.specs.Prelude.{◌≡◌, ◌∷◌, [], List, Option, None, IfOk, IfErr, IsErr, ◌&&◌, ◌||◌, not, true, false};
 ghost use mir.Syntax.{named};
 ghost use Rattle.std.specs.Borrow.{Lends, sem};
 ghost use Rattle.amqp_ser.specs.Tree.{Tree};
 ghost use Rattle.amqp_ser.specs.Compounds.{whole};
-ghost use Rattle.amqp_ser.specs.Composites.{as_described, descriptor_of};
+ghost use Rattle.amqp_ser.specs.Composites.{descriptor_of};
+ghost use Rattle.amqp_ser.specs.StructFeeding.{FeedsDescriptor, FeedsFirst, FeedsElement, FeedsSingle, RefusesField};
 ghost use Rattle.amqp_ser.specs.Structs.{Stands, single_or_list, form_kind, open_kind, optionally_described, is_misplaced};
 
-use crate::compound::feed::feed_part;
+use super::body::{end_fields, open_body};
+use super::described::{feed_descriptor, feed_single};
+use super::feed::feed_part;
 use crate::kind::Kind;
 use crate::serialize::Serialize;
 use crate::serializer::Serializer;
-use crate::struct_form::{StructForm, end_fields, feed_descriptor, feed_single, open_body};
+use crate::struct_form::StructForm;
 
-/// A tuple struct whose fields are still fed: a list of them, or the one field itself. Where its name asks for a
-/// descriptor, the first field is that.
+/// A tuple struct whose fields are still fed: a list of them, or the one field itself. Where its
+/// name asks for a descriptor, the first field is that.
 ///
 /// # Encoding
-/// `00`, the descriptor and the body (AMQP 1.0 part 1, section 1.2), or a list alone (section 1.6.22).
+/// `00`, the descriptor and the body (AMQP 1.0 part 1, section 1.2), or a list alone (section
+/// 1.6.22).
 pub struct SerializeTupleStruct<'a, S: Serializer> {
     serializer: &'a mut S,
     held: S::Open,
@@ -71,7 +75,8 @@ impl<'a, S: Serializer> SerializeTupleStruct<'a, S> {
         }
     }
 
-    /// The serializer behind the struct, which goes on with what is left there; nothing else of it changes.
+    /// The serializer behind the struct, which goes on with what is left there; nothing else of it
+    /// changes.
     pub fn as_mut(&mut self) -> &mut S
         ensures* writes_back { sem 𝓛
             (Lends
@@ -86,8 +91,8 @@ impl<'a, S: Serializer> SerializeTupleStruct<'a, S> {
     /// Serializes one field more, or the descriptor, where it is still to come.
     ///
     /// # Errors
-    /// The serializer's refusal of the field, of a descriptor that is no ulong and no symbol, or of a second field
-    /// where there is one alone; the struct is then as it was and may be fed on.
+    /// The serializer's refusal of the field, of a descriptor that is no ulong and no symbol, or of
+    /// a second field where there is one alone; the struct is then as it was and may be fed on.
     #[tactic(auto, unfolding(crate::specs::Structs::Stands))]
     #[inline(always)]
     pub fn serialize_field<T: Serialize>(&mut self, value: &T) -> Result<(), S::Error>
@@ -98,54 +103,26 @@ impl<'a, S: Serializer> SerializeTupleStruct<'a, S> {
         ensures flags { IfOk result
             (λ _. (self.new.awaits ≡ false)
             × (self.new.opened ≡ (not self.old.awaits || self.old.opened))) }
-        ensures descriptor { self.old.awaits ≡ true → (start : S) →
-            Stands S.permits S.has start None Kind.Single self.old.serializer.now self.old.held [] →
-            MatchResult result
-            (λ _. Stands S.permits S.has start (Some (T.tree value.now)) Kind.Single
-            self.new.serializer.now self.new.held [])
-            (λ e. Stands S.permits S.has start None Kind.Single self.new.serializer.now
-            self.new.held [] × ((t : Option Tree) →
-            S.permits start (as_described (descriptor_of (T.tree value.now)) t)
-            (Err e) self.new.serializer.now)) }
-        ensures first { self.old.awaits ≡ false → self.old.opened ≡ false → self.old.single ≡ false →
-            (start : S) (prefix : Option (Option Tree)) →
-            Stands S.permits S.has start prefix Kind.Single self.old.serializer.now self.old.held [] →
-            MatchResult result
-            (λ _. Stands S.permits S.has start prefix Kind.List self.new.serializer.now self.new.held
-            (T.tree value.now ∷ []))
-            (λ e. Stands S.permits S.has start prefix Kind.Single self.new.serializer.now
-            self.new.held [] × ((rest : List (Option Tree)) →
-            S.permits start (optionally_described prefix (whole Kind.List (T.tree value.now ∷ rest)))
-            (Err e) self.new.serializer.now)) }
-        ensures next { self.old.awaits ≡ false → self.old.opened ≡ true → self.old.single ≡ false →
-            (start : S) (prefix : Option (Option Tree)) (ps : List (Option Tree)) →
-            Stands S.permits S.has start prefix Kind.List self.old.serializer.now self.old.held ps →
-            MatchResult result
-            (λ _. Stands S.permits S.has start prefix Kind.List self.new.serializer.now self.new.held
-            (ps ++ (T.tree value.now ∷ [])))
-            (λ e. Stands S.permits S.has start prefix Kind.List self.new.serializer.now
-            self.new.held ps × ((rest : List (Option Tree)) →
-            S.permits start (optionally_described prefix (whole Kind.List (ps ++ (T.tree value.now ∷ rest))))
-            (Err e) self.new.serializer.now)) }
-        ensures alone { self.old.awaits ≡ false → self.old.opened ≡ false → self.old.single ≡ true →
-            (start : S) (prefix : Option (Option Tree)) →
-            Stands S.permits S.has start prefix Kind.Single self.old.serializer.now self.old.held [] →
-            MatchResult result
-            (λ _. Stands S.permits S.has start prefix Kind.Single self.new.serializer.now self.new.held
-            (T.tree value.now ∷ []))
-            (λ e. Stands S.permits S.has start prefix Kind.Single self.new.serializer.now
-            self.new.held []
-            × S.permits start (optionally_described prefix (T.tree value.now)) (Err e) self.new.serializer.now) }
+        ensures descriptor { self.old.awaits ≡ true →
+            FeedsDescriptor S.permits S.has (T.tree value.now) self.old.serializer.now self.old.held
+            result self.new.serializer.now self.new.held }
+        ensures first { self.old.awaits ≡ false → self.old.opened ≡ false →
+            self.old.single ≡ false →
+            FeedsFirst S.permits S.has Kind.List (T.tree value.now ∷ []) self.old.serializer.now
+            self.old.held result self.new.serializer.now self.new.held }
+        ensures next { self.old.awaits ≡ false → self.old.opened ≡ true →
+            self.old.single ≡ false →
+            FeedsElement S.permits S.has (T.tree value.now) self.old.serializer.now self.old.held
+            result self.new.serializer.now self.new.held }
+        ensures alone { self.old.awaits ≡ false → self.old.opened ≡ false →
+            self.old.single ≡ true →
+            FeedsSingle S.permits S.has (T.tree value.now) self.old.serializer.now self.old.held
+            result self.new.serializer.now self.new.held }
         ensures misuse { (not self.old.awaits && is_misplaced (single_or_list self.old.single) true
             self.old.opened false) ≡ true →
-            IsErr result × ((start : S) (prefix : Option (Option Tree)) (ps : List (Option Tree)) →
-            Stands S.permits S.has start prefix
+            IsErr result × RefusesField S.permits S.has
             (open_kind self.old.opened (single_or_list self.old.single)) self.old.serializer.now
-            self.old.held ps →
-            IfErr result
-            (λ e. Stands S.permits S.has start prefix
-            (open_kind self.old.opened (single_or_list self.old.single)) self.new.serializer.now
-            self.new.held ps × S.permits start None (Err e) self.new.serializer.now)) }
+            self.old.held result self.new.serializer.now self.new.held }
         ensures invalid { (not self.old.awaits && is_misplaced (single_or_list self.old.single) true
             self.old.opened false) ≡ true → IfErr result S.is_misuse }
         ensures other_kinds { self.old.awaits ≡ true → (start : S) →
@@ -183,15 +160,18 @@ impl<'a, S: Serializer> SerializeTupleStruct<'a, S> {
             (start : S) (prefix : Option (Option Tree)) (ps : List (Option Tree)) →
             Stands S.permits S.has start prefix Kind.List self.entry.serializer.now
             self.entry.held ps →
-            S.permits start (optionally_described prefix (whole Kind.List ps)) result self.exit.0.now }
+            S.permits start (optionally_described prefix (whole Kind.List ps)) result
+            self.exit.0.now }
         ensures alone { self.entry.opened ≡ true → self.entry.single ≡ true →
             (start : S) (prefix : Option (Option Tree)) (p : Option Tree) →
-            Stands S.permits S.has start prefix Kind.Single self.entry.serializer.now self.entry.held
+            Stands S.permits S.has start prefix Kind.Single self.entry.serializer.now
+            self.entry.held
             (p ∷ []) → S.permits start (optionally_described prefix p) result self.exit.0.now }
         ensures empty { self.entry.opened ≡ false → (start : S) (prefix : Option (Option Tree)) →
             Stands S.permits S.has start prefix Kind.Single self.entry.serializer.now
             self.entry.held [] →
-            S.permits start (optionally_described prefix (whole (form_kind (single_or_list self.entry.single)) []))
+            S.permits start
+            (optionally_described prefix (whole (form_kind (single_or_list self.entry.single)) []))
             result self.exit.0.now }
         ensures invalid { self.entry.opened ≡ false → self.entry.single ≡ true →
             IsErr result × IfErr result S.is_misuse }

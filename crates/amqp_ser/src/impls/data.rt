@@ -1,4 +1,5 @@
-//! The types of AMQP data. Where Rust's data model has no kind for one, a mark makes it of the kind that is nearest.
+//! The types of AMQP data. Where Rust's data model has no kind for one, a mark makes it of the kind
+//! that is nearest.
 
 ghost use Rattle.std.specs.Prelude.{Some};
 ghost use Rattle.amqp_ser.specs.Carried.{array_of, descriptor_content, transparent_of};
@@ -9,10 +10,10 @@ ghost use Rattle.amqp_data.specs.Items.{array_items, byte_buf_bytes, transparent
 ghost use Rattle.amqp_data.specs.Text.{symbol_ref_text, symbol_text};
 
 use super::holders::serialize_items;
+use crate::compound::described::serialize_described;
 use crate::mark::Mark;
 use crate::serialize::Serialize;
 use crate::serializer::Serializer;
-use crate::struct_form::serialize_described;
 use amqp_data::{
     Array, ByteBuf, Dec32, Dec64, Dec128, Described, Descriptor, F32Bits, F64Bits, Symbol,
     SymbolRef, Timestamp, TransparentVec, Uuid,

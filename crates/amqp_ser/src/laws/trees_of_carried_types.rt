@@ -1,7 +1,7 @@
 //! The tree of each type that is carried, row by row.
 //!
-//! A type's tree is declared where the type is made serializable; these laws say what it is, apart from there. A
-//! compound has a tree where all its parts have one.
+//! A type's tree is declared where the type is made serializable; these laws say what it is, apart
+//! from there. A compound has a tree where all its parts have one.
 
 ghost use Rattle.std.specs.Prelude.{◌≡◌, ◌∷◌, [], ℕ, ℤ, Bool, true, false, Some, None, Box, String, Vec, map, option_map, string_bytes};
 ghost use Rattle.std.specs.Global.{Global};
@@ -81,8 +81,8 @@ pub fn trees_of_holders<T: Serialize>(value: &T)
     ensures none { ⟦<Option<T> as Serialize>⟧.tree None ≡ Some (scalar tree.null) }
 {}
 
-/// Vectors and arrays of fixed length are lists, `Array` is an array, and `TransparentVec` is transparent, each of its
-/// elements in order.
+/// Vectors and arrays of fixed length are lists, `Array` is an array, and `TransparentVec` is
+/// transparent, each of its elements in order.
 pub fn trees_of_sequences<T: Serialize, const N: usize>(array: &[T; N])
     ensures vec { (v : Vec T Global) →
         ⟦<Vec<T> as Serialize>⟧.tree v ≡ option_map tree.list (all_trees (map T.tree v.items)) }
@@ -131,8 +131,8 @@ pub fn trees_of_described_values<T: Serialize>(value: &Described<T>)
         (T.tree value.now.value) }
 {}
 
-/// What fields that are handed over together mean, in order: a field is there; one that may be absent is there where
-/// it is `Some`, and else null.
+/// What fields that are handed over together mean, in order: a field is there; one that may be
+/// absent is there where it is `Some`, and else null.
 pub fn meanings_of_fields<V: Serialize, R: Fields>()
     ensures none { ⟦<() as Fields>⟧.named tt ≡ [] }
     ensures field { (f : Field V R) →
@@ -146,8 +146,8 @@ pub fn meanings_of_fields<V: Serialize, R: Fields>()
         ≡ (f.name.now, (false, Some (scalar tree.null))) ∷ R.named f.rest }
 {}
 
-/// Fields that are handed over together are a list up to the last that is there, the variant of that list, or a map
-/// from the names of those that are there, as strings or as symbols.
+/// Fields that are handed over together are a list up to the last that is there, the variant of
+/// that list, or a map from the names of those that are there, as strings or as symbols.
 pub fn trees_of_fields<F: Fields>()
     ensures list { (l : ListOf F) → ⟦<ListOf<F> as Serialize>⟧.tree l
         ≡ option_map tree.list (all_trees (up_to_last (values_of (F.named l.0)))) }

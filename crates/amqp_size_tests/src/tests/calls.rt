@@ -1,4 +1,5 @@
-//! Which calls of a serializer each type makes, seen at one that notes them and counts: each generic impl at one type.
+//! Which calls of a serializer each type makes, seen at one that notes them and counts: each
+//! generic impl at one type.
 
 mod composites;
 mod looks;

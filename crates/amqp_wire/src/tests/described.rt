@@ -96,7 +96,8 @@ fn transparent_vectors(rt: HostRuntime) -> Result<(), Fail> {
     Ok(())
 }
 
-/// A list of two truth values, between which a transparent vector and a described array element are refused.
+/// A list of two truth values, between which a transparent vector and a described array element are
+/// refused.
 fn passes_over<S: Serializer, T: Serialize, U: Serialize>(
     serializer: &mut S,
     vector: &T,

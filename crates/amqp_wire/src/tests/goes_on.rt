@@ -1,4 +1,5 @@
-//! What goes on after refusals: both walks refuse at the same calls, and the bytes are those of what was taken.
+//! What goes on after refusals: both walks refuse at the same calls, and the bytes are those of
+//! what was taken.
 
 use crate::measurer::Measurer;
 use crate::writer::Writer;
@@ -286,7 +287,8 @@ fn walked(
     Ok(writer.into_bytes())
 }
 
-/// Whether both walks refuse this value as the length does, or write it as if the refused parts had not been fed.
+/// Whether both walks refuse this value as the length does, or write it as if the refused parts had
+/// not been fed.
 fn agrees(alloc: Global, seed: u64, depth: u32) -> bool {
     let mut refused = Refused::new();
     match value(&mut SizeSerializer::new(), &mut refused, seed, depth) {

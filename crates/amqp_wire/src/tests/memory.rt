@@ -1,5 +1,5 @@
-//! Growths of memory that are refused in turn, by `rt try --test --fail-alloc N`: nothing is made ready with memory
-//! here, and each answer is the right one or out of memory.
+//! Growths of memory that are refused in turn, by `rt try --test --fail-alloc N`: nothing is made
+//! ready with memory here, and each answer is the right one or out of memory.
 
 ghost use Rattle.std.specs.Prelude.{[], ◌∷◌};
 ghost use Rattle.amqp_ser.specs.Compounds.{whole};

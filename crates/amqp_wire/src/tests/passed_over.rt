@@ -1,4 +1,5 @@
-//! Refusals that are passed over, by hand: what the second walk would take, or refuse at another call.
+//! Refusals that are passed over, by hand: what the second walk would take, or refuse at another
+//! call.
 
 use super::feeding::{Feed, is};
 use amqp_data::{Array, TransparentVec, markers};

@@ -11,7 +11,8 @@ use amqp_ser::{Mark, SerializeSeq, Serializer};
 use std::mem;
 use std::test::Fail;
 
-/// Feeds a key, looks at the serializer, and feeds the value: the answer is that on the map of the two.
+/// Feeds a key, looks at the serializer, and feeds the value: the answer is that on the map of the
+/// two.
 pub fn looks_between<S: Serializer>(serializer: &mut S) -> Result<S::Ok, S::Error>
     ensures { S.permits serializer.old
         (whole kind.Map (Some (scalar (string (codes "a"))) ∷ Some (scalar (ubyte 1)) ∷ [])) result

@@ -32,8 +32,8 @@ first_inner shapes.Single u g = cc
 never : true ≡ false → ⊥
 never q = cc
 
-gathers : (start : SizeSerializer) (kind : Kind) (new : OpenCompound) → new.position ≡ position_of start.position → new.shape ≡ shape_of start.position kind → is_gathered (shape_of start.position kind) ≡ true →
-    new.inner ≡ inner_pending (shape_of start.position kind) start.position → new.sum ≡ 0 → new.count ≡ 0 → HoldsGathered start kind new []
+gathers : (start : SizeSerializer) (kind : Kind) (new : OpenCompound) → new.position ≡ position_of start.pending → new.shape ≡ shape_of start.pending kind → is_gathered (shape_of start.pending kind) ≡ true →
+    new.inner ≡ inner_pending (shape_of start.pending kind) start.pending → new.sum ≡ 0 → new.count ≡ 0 → HoldsGathered start kind new []
 gathers start kind new a b g f d e =
     let n = nothing (is_array new.shape) in
     record {
@@ -48,7 +48,7 @@ gathers start kind new a b g f d e =
         fits_sum = ap fits d;
         counted = e ∙ n.1.0;
         few = ap is_count e;
-        inner = f ∙ first_inner (shape_of start.position kind) start.position g ∙ sym (ap (λ s. Plain (inner_of (is_array s) no_trees)) b);
+        inner = f ∙ first_inner (shape_of start.pending kind) start.pending g ∙ sym (ap (λ s. Plain (inner_of (is_array s) no_trees)) b);
         uniform_arrays_parts = refl;
         within_limits_parts = refl;
         inside_parts = refl;
@@ -56,8 +56,8 @@ gathers start kind new a b g f d e =
       };
     }
 
-opened : (start : SizeSerializer) (kind : Kind) (new : OpenCompound) → new.position ≡ position_of start.position → new.shape ≡ shape_of start.position kind → new.inner ≡ inner_pending (shape_of start.position kind) start.position → new.sum ≡ 0 → new.count ≡ 0 →
-    (s : Shape) → shape_of start.position kind ≡ s → Holding start kind new []
+opened : (start : SizeSerializer) (kind : Kind) (new : OpenCompound) → new.position ≡ position_of start.pending → new.shape ≡ shape_of start.pending kind → new.inner ≡ inner_pending (shape_of start.pending kind) start.pending → new.sum ≡ 0 → new.count ≡ 0 →
+    (s : Shape) → shape_of start.pending kind ≡ s → Holding start kind new []
 opened start kind new a b f d e shapes.List q = inl (gathers start kind new a b (ap is_gathered q) f d e)
 opened start kind new a b f d e shapes.Map q = inl (gathers start kind new a b (ap is_gathered q) f d e)
 opened start kind new a b f d e (shapes.Variant i) q = inl (gathers start kind new a b (ap is_gathered q) f d e)
@@ -67,21 +67,21 @@ opened start kind new a b f d e shapes.Refused q = inl (gathers start kind new a
 opened start kind new a b f d e shapes.Transparent q = inr (inl (record {
   ts = no_trees;
   trees = refl;
-  kind_is = (transparent_shape start.position kind q).1;
+  kind_is = (transparent_shape start.pending kind q).1;
   position = a;
   shape = b ∙ q;
   shaped = q;
   sum = d;
-  inner = f ∙ ap (λ s. inner_pending s start.position) q;
+  inner = f ∙ ap (λ s. inner_pending s start.pending) q;
   uniform_arrays_parts = refl;
   within_limits_parts = refl;
   placed_parts = refl;
 }))
 opened start kind new a b f d e shapes.Single q = inr (inr (record {
-  kind_is = single_kind start.position kind q;
+  kind_is = single_kind start.pending kind q;
   position = ap without_prefix a;
   shape = b ∙ q;
-  parts = (e, f ∙ ap (λ s. inner_pending s start.position) q);
+  parts = (e, f ∙ ap (λ s. inner_pending s start.pending) q);
 }))
 
 -- an open compound that was fed nothing
@@ -90,9 +90,9 @@ returns c =
     let e = c.new.ensures in
     let start = c.args.self.now in
     let prefix_len = c.self.inside.prefix_len in
-    let here : pending_at c.self.inside.position prefix_len ≡ start.position = ap (λ (s : SizeSerializer). s.position) c.self.view_is in
+    let here : pending_at c.self.inside.pending prefix_len ≡ start.pending = ap (λ (s : SizeSerializer). s.pending) c.self.view_is in
     let position = e.position ∙ ap position_of here in
     let shape = c.shape.ensures prefix_len ∙ ap (λ u. shape_of u c.args.kind) here in (
-      opened start c.args.kind c.new.result position (e.shape ∙ shape) (e.inner ∙ ap (λ s. inner_pending s (pending_at c.self.inside.position prefix_len)) shape ∙ ap (inner_pending (shape_of start.position c.args.kind)) here) e.sum e.count (shape_of start.position c.args.kind) refl,
+      opened start c.args.kind c.new.result position (e.shape ∙ shape) (e.inner ∙ ap (λ s. inner_pending s (pending_at c.self.inside.pending prefix_len)) shape ∙ ap (inner_pending (shape_of start.pending c.args.kind)) here) e.sum e.count (shape_of start.pending c.args.kind) refl,
       c.reset.ensures ∙ ap (λ q. Plain (without_prefix q)) (sym position),
     )

@@ -21,7 +21,7 @@ returns-in-Map-clause-answered c = λ start kind ps h done.
     let g = gathered_of start kind c.args.held ps h.0 (ap is_gathered (sym c.shape.ensures ∙ c.in-Map.is)) in
     let m : MapEnd start kind c.args.held ps = map_end start kind c.args.held ps g done (sym c.shape.ensures ∙ c.in-Map.is) in
     let sum = c.sum-sum.ensures.sum in
-    stands start.position (position_at c.position-position.result c.prefix_len-prefix_len.result) (whole kind ps) (map m.pairs) _ _ (sym g.position ∙ sym there) m.is
+    stands start.pending (position_at c.position-position.result c.prefix_len-prefix_len.result) (whole kind ps) (map m.pairs) _ _ (sym g.position ∙ sym there) m.is
     (c.accept-in-Map.ensures (h.1 ∙ ap (λ q. Plain (without_prefix q)) (sym there)) (map m.pairs) refl m.within_limits_it m.uniform_arrays_it m.inside_it m.inside_it (m.ordinary ∙ ap map_width (sym sum) ∙ sym c.map_width.ensures) (let w = m.wide in omega arith))
 
 pub returns-in-Variant-clause-answered : goal.returns-in-Variant-clause-answered
@@ -32,7 +32,7 @@ returns-in-Variant-clause-answered c = λ start kind ps h done.
     let m : FieldsEnd i start kind ps c.list_width-in-Variant.result =
     fields_end i start kind c.args.held ps c.list_width-in-Variant.result g (sym c.shape.ensures ∙ c.in-Variant.is) (c.list_width-in-Variant.ensures ∙ ap list_width c.sum-sum.ensures.sum) in
     let bytes = m.bytes in
-    stands start.position (position_at c.position-position.result c.prefix_len-prefix_len.result) (whole kind ps) (variant i (list m.ts)) _ _ (sym g.position ∙ sym there) m.is
+    stands start.pending (position_at c.position-position.result c.prefix_len-prefix_len.result) (whole kind ps) (variant i (list m.ts)) _ _ (sym g.position ∙ sym there) m.is
     (c.variant.ensures (h.1 ∙ ap (λ q. Plain (without_prefix q)) (sym there)) (variant i (list m.ts)) (list m.ts) refl m.uniform_arrays_it m.inside_it m.inside_it m.within_limits_it (ap (λ n. fits n && within_limits (list m.ts)) bytes)
     (length-counted 0xc1 0xd1 2 (scalar_form (uint i) ++ encoding (list m.ts)) ∙ ap map_width bytes) (omega (arith, bytes)))
 
@@ -41,8 +41,8 @@ unfolding whole
 returns-in-Refused-clause-answered c = λ start kind ps h done.
     let there : position_at c.position-position.result c.prefix_len-prefix_len.result ≡ c.args.held.position = ap (position_at c.position-position.result) c.prefix_len-prefix_len.ensures ∙ c.position-position.ensures in
     let g = gathered_of start kind c.args.held ps h.0 (ap is_gathered (sym c.shape.ensures ∙ c.in-Refused.is)) in
-    stands_none start.position (position_at c.position-position.result c.prefix_len-prefix_len.result) (whole kind ps) _ _ (sym g.position ∙ sym there)
-    (refused_shape start.position kind (all_trees ps) (sym g.shape ∙ sym c.shape.ensures ∙ c.in-Refused.is)) (tt, h.1 ∙ ap (λ q. Plain (without_prefix q)) (sym there))
+    stands_none start.pending (position_at c.position-position.result c.prefix_len-prefix_len.result) (whole kind ps) _ _ (sym g.position ∙ sym there)
+    (refused_shape start.pending kind (all_trees ps) (sym g.shape ∙ sym c.shape.ensures ∙ c.in-Refused.is)) (tt, h.1 ∙ ap (λ q. Plain (without_prefix q)) (sym there))
 
 pub returns-in-List-clause-no_tree : goal.returns-in-List-clause-no_tree
 returns-in-List-clause-no_tree c = λ start kind ps h done none. let other = sym c.in-List.is ∙ c.shape.ensures ∙ open_none start kind c.args.held ps h.0 done none in cc

@@ -18,20 +18,20 @@ use Rattle.amqp_size.proofs.serializer.SizeSerializerSerializer.end_part.Goals a
 known : (start : SizeSerializer) (kind : Kind) (held new : OpenCompound) (ps : List (Option Tree)) (p : Option Tree) (res : Result (Unit {0}) Refusal) (position : Pending) → Holding start kind held ps →
     position ≡ Plain (without_prefix held.position) → new.position ≡ held.position → IfErr res (λ _. new ≡ held) →
     MatchResult res (λ _. Holding start kind new (ps ++ (p ∷ [])))
-    (λ e. (others : List (Option Tree)) → at_position (position_of start.position) (meant start.position (whole kind (ps ++ (p ∷ others)))) (Err e) (Plain (without_prefix held.position))) →
+    (λ e. (others : List (Option Tree)) → at_position (position_of start.pending) (meant start.pending (whole kind (ps ++ (p ∷ others)))) (Err e) (Plain (without_prefix held.position))) →
     MatchResult res (λ _. Holding start kind new (ps ++ (p ∷ [])) × (position ≡ Plain (without_prefix new.position)))
     (λ e. (Holding start kind new ps × (position ≡ Plain (without_prefix new.position))) ×
-    ((others : List (Option Tree)) → at_position (position_of start.position) (meant start.position (whole kind (ps ++ (p ∷ others)))) (Err e) position))
+    ((others : List (Option Tree)) → at_position (position_of start.pending) (meant start.pending (whole kind (ps ++ (p ∷ others)))) (Err e) position))
 known start kind held new ps p (Ok u) position h here a same m = (m, here ∙ sym (ap (λ q. Plain (without_prefix q)) a))
 known start kind held new ps p (Err e) position h here a same m = (
   (subst (λ x. Holding start kind x ps) (sym same) h, here ∙ sym (ap (λ q. Plain (without_prefix q)) a)),
-  λ others. subst (λ q. at_position (position_of start.position) (meant start.position (whole kind (ps ++ (p ∷ others)))) (Err e) q) (sym here) (m others),
+  λ others. subst (λ q. at_position (position_of start.pending) (meant start.pending (whole kind (ps ++ (p ∷ others)))) (Err e) q) (sym here) (m others),
 )
 
 pub returns-in_err-size-clause-step : goal.returns-in_err-size-clause-step
 returns-in_err-size-clause-step c = λ start kind before ps p w r.
     let held = c.args.held.now in
-    let after = c.args.self.now.position in
+    let after = c.args.self.now.pending in
     let e = c.in_err-size.field-0.0 in
     let here = subst (λ u. at_position (position_of u) (meant u p) c.args.part after) w.1 r in
     let refused = subst (λ x. at_position (position_of held.inner) (meant held.inner p) x after) c.in_err-size.was here in
@@ -41,12 +41,12 @@ returns-in_err-size-clause-step c = λ start kind before ps p w r.
 pub returns-clause-step : goal.returns-clause-step
 returns-clause-step c = λ start kind before ps p w r.
     let held = c.args.held.now in
-    let u = c.self.inside.position in
+    let u = c.self.inside.pending in
     let size = c.in_ok-size.size in
-    let there = subst (λ u. at_position (position_of u) (meant u p) c.args.part c.args.self.now.position) w.1 r in
+    let there = subst (λ u. at_position (position_of u) (meant u p) c.args.part c.args.self.now.pending) w.1 r in
     let stood : at_position (position_of held.inner) (meant held.inner p) (Ok size) (pending_at u c.self.inside.prefix_len) =
-    subst (λ q. at_position (position_of held.inner) (meant held.inner p) (Ok size) q) (sym (ap (λ (s : SizeSerializer). s.position) c.self.view_is))
-    (subst (λ x. at_position (position_of held.inner) (meant held.inner p) x c.args.self.now.position) c.in_ok-size.was there) in
+    subst (λ q. at_position (position_of held.inner) (meant held.inner p) (Ok size) q) (sym (ap (λ (s : SizeSerializer). s.pending) c.self.view_is))
+    (subst (λ x. at_position (position_of held.inner) (meant held.inner p) x c.args.self.now.pending) c.in_ok-size.was there) in
     let after = pending_at u held.prefix_len in
     let counted = subst (λ q. at_position (position_of held.inner) (meant held.inner p) (Ok size) q) (sym (settled (position_of held.inner) (meant held.inner p) size u c.self.inside.prefix_len held.prefix_len stood)) stood in
     let t = c.add_part.ensures in

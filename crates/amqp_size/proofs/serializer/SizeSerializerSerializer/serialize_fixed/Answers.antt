@@ -13,7 +13,7 @@ use Rattle.amqp_size.proofs.serializer.SizeSerializerSerializer.serialize_fixed.
 pub returns-in-Plain-clause-answered : goal.returns-in-Plain-clause-answered
 returns-in-Plain-clause-answered c =
     let v = c.args.fixed in
-    let stood : c.args.self.now.position ≡ Plain (position_at c.in-Plain.position c.self.inside.prefix_len) = sym (ap (λ (s : SizeSerializer). s.position) c.self.view_is) ∙ ap (λ u. pending_at u c.self.inside.prefix_len) c.in-Plain.is in
+    let stood : c.args.self.now.pending ≡ Plain (position_at c.in-Plain.position c.self.inside.prefix_len) = sym (ap (λ (s : SizeSerializer). s.pending) c.self.view_is) ∙ ap (λ u. pending_at u c.self.inside.prefix_len) c.in-Plain.is in
     let counted = c.accept.ensures (c.reset.ensures ∙ ap (λ u. Plain (without_prefix (position_of u))) stood) (scalar (fixed_scalar v)) (ap Some (sym c.in_array-wide.ensures.code)) (fixed_fits v) refl refl refl
     (length-ordinary c.ordinary-ordinary.result v c.ordinary-ordinary.ensures.bytes) (length-payload c.in_array-wide.result v c.in_array-wide.ensures.payload) in
-    subst (λ (u : Pending). at_position (position_of u) (meant u (Some (scalar (fixed_scalar v)))) c.accept.result c.accept.new.self.position) (sym stood) counted
+    subst (λ (u : Pending). at_position (position_of u) (meant u (Some (scalar (fixed_scalar v)))) c.accept.result c.accept.new.self.pending) (sym stood) counted

@@ -18,4 +18,4 @@ pub returns-clause-single : goal.returns-clause-single
 returns-clause-single c = λ start h t r after p.
     let s : Measurer = record { size = c.begin_part.new.self; table = c.args.self.now.table } in
     let w = held_single start.size kinds.Single c.args.held.now.size _ refl h.0.0 in
-    permits_same start s t r after (c.begin_part.ensures.position ∙ w.parts.1) (h.1.none refl) p
+    permits_same start s t r after (c.begin_part.ensures.pending ∙ w.parts.1) (h.1.none refl) p

@@ -23,4 +23,4 @@ returns-clause-answered c = λ start kind ps h done.
     let none = subst (λ (s : Shape). header_count s ≡ 0 → after.table.headers.items ≡ table) c.shape-shape.ensures c.fill.ensures.none in
     let same = subst (λ x. x ≤ 4294967291 → n ≡ x) c.sum.ensures.sum c.limited.ensures.same in
     let l = whole_tabled (is_single kind) start kind table after held ps n held.parts c.in_ok-len.len c.constructor.result refl h.0.0 h.1 c.if-missed.false done same refl c.constructor.ensures filled none p in
-    (listed_extends (meant start.size.position (whole kind ps)) start.table.headers.items after.table.headers.items l, (p, l))
+    (listed_extends (meant start.size.pending (whole kind ps)) start.table.headers.items after.table.headers.items l, (p, l))

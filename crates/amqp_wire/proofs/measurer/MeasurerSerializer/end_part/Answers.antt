@@ -14,7 +14,7 @@ returns-in-Ok-clause-step c = λ start kind before ps p w r.
     let t : Took before c.args.self.now old p c.answer-answer.result =
     took before c.args.self.now old p c.args.part c.answer-answer.result c.end_part.result c.in-Ok.field-0 _ c.answer-answer.ensures r.1 c.in-Ok.is c.end_part.ensures.same in (
       c.in-Ok.ensures.step start.size kind before.size ps p w.0.0 t.permits,
-      part_tabled (is_single kind) start kind before.size.position before.table.headers.items c.args.self.now.table.headers.items old new ps p refl w.0.0.0 w.0.0.1 w.0.1 t.part t.present refl w.1
+      part_tabled (is_single kind) start kind before.size.pending before.table.headers.items c.args.self.now.table.headers.items old new ps p refl w.0.0.0 w.0.0.1 w.0.1 t.part t.present refl w.1
           (λ fit. omega (arith, c.saturating_add-held.ensures)),
     )
 

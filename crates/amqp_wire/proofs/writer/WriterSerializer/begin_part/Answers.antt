@@ -1,7 +1,7 @@
 use Rattle.std.proofs.Common.{refl}
 use Rattle.amqp_wire.specs.Positions.{is_single}
-use Rattle.amqp_wire.specs.declared.writer.Writing.{Writing}
-use Rattle.amqp_wire.specs.contracts.writer.Writing.{the_view as part_of}
+use Rattle.amqp_wire.specs.declared.writing.Writing.{Writing}
+use Rattle.amqp_wire.specs.contracts.writing.Writing.{the_view as part_of}
 use Rattle.amqp_wire.proofs.SingleWritten.{same_permits}
 use Rattle.amqp_wire.proofs.PartBytes.{kept-refl}
 use Rattle.amqp_wire.proofs.WrittenSteps.{back}

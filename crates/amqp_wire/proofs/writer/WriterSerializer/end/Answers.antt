@@ -5,8 +5,8 @@ use Rattle.amqp_size.specs.SizeSerializer.{at_position}
 use Rattle.amqp_size.specs.Position.{position_of, meant}
 use Rattle.amqp_wire.specs.Positions.{is_single}
 use Rattle.amqp_wire.specs.Writer.{accepts, writer_permits}
-use Rattle.amqp_wire.specs.declared.writer.Writing.{Writing}
-use Rattle.amqp_wire.specs.contracts.writer.Writing.{the_view as part_of}
+use Rattle.amqp_wire.specs.declared.writing.Writing.{Writing}
+use Rattle.amqp_wire.specs.contracts.writing.Writing.{the_view as part_of}
 use Rattle.amqp_wire.proofs.SingleWritten.{alone_written}
 use Rattle.amqp_wire.proofs.EndedBytes.{all_written, concluded, not_opened}
 use Rattle.amqp_wire.proofs.Positions.{Whole, ended}
@@ -61,13 +61,13 @@ returns-in-Transparent c = rw (← c.held.view_is) (λ start kind ps h done.
     let f = subst (λ s. ended s w.t) (sym g.1.shape ∙ c.in-Transparent.is) w.shaped in
     let r = c.accept_transparent.ensures in
     concluded start kind c.args.self.now.output ps held.position w.t c.accept_transparent.result c.accept_transparent.new.self g.1.kept r.output g.1.position w.is
-    (subst (λ t. accepts held.position (Some t) c.accept_transparent.result c.accept_transparent.new.self.position) (sym f.1.0) (r.accepted h.1 f.0 f.1.1.0 f.1.1.1)) w.written)
+    (subst (λ t. accepts held.position (Some t) c.accept_transparent.result c.accept_transparent.new.self.pending) (sym f.1.0) (r.accepted h.1 f.0 f.1.1.0 f.1.1.1)) w.written)
 
 pub returns-in-Single : goal.returns-in-Single
 returns-in-Single c = rw (← c.self.view_is, ← c.held.view_is) (λ start kind ps h done.
     let held : Writing = (part_of c.held.inside) in
     let b = single_one (is_single kind) start kind c.self.inside.output held ps refl h.0 c.in-Single.is in
-    subst (λ k. writer_permits start (whole k ps) (Ok tt) (record { position = held.inner; output = c.self.inside.output })) (sym b.0)
+    subst (λ k. writer_permits start (whole k ps) (Ok tt) (record { pending = held.inner; output = c.self.inside.output })) (sym b.0)
     (alone_written start c.self.inside.output held ps b.1 (subst (λ k. complete k ps ≡ true) b.0 done)))
 
 pub returns-in-Refused : goal.returns-in-Refused
@@ -75,4 +75,4 @@ returns-in-Refused c = rw (← c.held.view_is) (λ start kind ps h done.
     let held : Writing = (part_of c.held.inside) in
     let g = gathered_one (is_single kind) start kind c.args.self.now.output held ps refl h.0 (λ q. let no = sym c.in-Refused.is ∙ q in cc) in
     let n = not_opened start kind c.args.self.now.output held ps g.1 c.in-Refused.is in
-    (n.0, (subst (λ u. at_position (position_of start.position) (meant start.position (whole kind ps)) (Err InvalidValue) u) (sym h.1) n.1.0, tt)))
+    (n.0, (subst (λ u. at_position (position_of start.pending) (meant start.pending (whole kind ps)) (Err InvalidValue) u) (sym h.1) n.1.0, tt)))

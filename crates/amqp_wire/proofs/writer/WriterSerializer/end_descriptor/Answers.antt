@@ -3,9 +3,9 @@ use Rattle.amqp_ser.specs.Composites.{as_described, descriptor_of}
 use Rattle.amqp_size.specs.WholePending.{Plain}
 use Rattle.amqp_wire.specs.Writer.{writer_permits}
 use Rattle.amqp_wire.specs.declared.output.Output.{Output}
-use Rattle.amqp_wire.specs.declared.writer.Writing.{Writing}
+use Rattle.amqp_wire.specs.declared.writing.Writing.{Writing}
 use Rattle.amqp_wire.specs.contracts.writer.Writer.{the_view as stance}
-use Rattle.amqp_wire.specs.contracts.writer.Writing.{the_view as part_of}
+use Rattle.amqp_wire.specs.contracts.writing.Writing.{the_view as part_of}
 use Rattle.amqp_size.specs.State.{pending_at}
 use Rattle.amqp_wire.proofs.SingleWritten.{alone_open}
 use Rattle.amqp_wire.proofs.DescribedBytes.{value_described, described_refused, nested_refused}
@@ -28,8 +28,8 @@ returns-in-Err-described-clause-step c = rw (← c.self.view_is, ← c.held.view
     let why = c.in-Err-described.ensures in
     let b = kept_back start.output c.self.inside.output out held.before_current.len (kept-more start.output before.output c.self.inside.output w.kept r.0) n.table n.capacity w.stands.1 n.out in (
       (alone_open start out held b.1 (b.0, n.taken ∙ w.stands.0) w.position w.inner w.shape, ap Plain at),
-      λ t. subst (λ q. writer_permits start (as_described (descriptor_of d) t) (Err c.in-Err-described.e) (record { position = Plain q; output = out })) (sym at)
-          (nested_refused start before out held d c.args.part (stance c.self.inside).position c.in-Err-described.e w c.in-Ok.is r.1.0 why.0 why.1 b.1 t),
+      λ t. subst (λ q. writer_permits start (as_described (descriptor_of d) t) (Err c.in-Err-described.e) (record { pending = Plain q; output = out })) (sym at)
+          (nested_refused start before out held d c.args.part (stance c.self.inside).pending c.in-Err-described.e w c.in-Ok.is r.1.0 why.0 why.1 b.1 t),
     ))
 
 pub returns-in-Err-clause-step : goal.returns-in-Err-clause-step
@@ -40,6 +40,6 @@ returns-in-Err-clause-step c = rw (← c.self.view_is, ← c.held.view_is) (λ s
     let at = c.without_prefix.ensures 0 0 in
     let b = kept_back start.output c.self.inside.output out held.before_current.len (kept-more start.output before.output c.self.inside.output w.kept r.0) n.table n.capacity w.stands.1 n.out in (
       (alone_open start out held b.1 (b.0, n.taken ∙ w.stands.0) w.position w.inner w.shape, ap Plain at),
-      λ t. subst (λ q. writer_permits start (as_described (descriptor_of d) t) (Err c.in-Err.e) (record { position = Plain q; output = out })) (sym at)
-          (described_refused start before out held d c.args.part c.in-Err.e (stance c.self.inside).position w c.in-Err.is r.1.0 b.1 t),
+      λ t. subst (λ q. writer_permits start (as_described (descriptor_of d) t) (Err c.in-Err.e) (record { pending = Plain q; output = out })) (sym at)
+          (described_refused start before out held d c.args.part c.in-Err.e (stance c.self.inside).pending w c.in-Err.is r.1.0 b.1 t),
     ))

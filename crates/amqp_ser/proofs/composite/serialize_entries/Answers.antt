@@ -2,7 +2,7 @@ use Rattle.std.proofs.Common.{rules, [], ap, append-nil}
 use Rattle.amqp_ser.specs.Compounds.{whole}
 use Rattle.amqp_ser.specs.declared.kind.Kind.TheVariants.{Map}
 use Rattle.amqp_ser.proofs.Feeding.{moved}
-use Rattle.amqp_ser.proofs.fields.serialize_entries.Goals as goal
+use Rattle.amqp_ser.proofs.composite.serialize_entries.Goals as goal
 
 -- a refusal of the fields is one of their map
 pub returns-in_err-feed_named : goal.returns-in_err-feed_named

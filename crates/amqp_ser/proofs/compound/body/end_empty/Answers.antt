@@ -3,7 +3,7 @@ use Rattle.amqp_ser.specs.Compounds.{whole}
 use Rattle.amqp_ser.specs.Structs.{form_kind}
 use Rattle.amqp_ser.specs.declared.kind.Kind.TheVariants.{Single}
 use Rattle.amqp_ser.proofs.Single.{no_value}
-use Rattle.amqp_ser.proofs.struct_form.end_empty.Goals as goal
+use Rattle.amqp_ser.proofs.compound.body.end_empty.Goals as goal
 
 -- no field where there is one alone
 pub returns-in-Single-clause-empty : goal.returns-in-Single-clause-empty

@@ -3,7 +3,7 @@ use Rattle.amqp_ser.specs.Compounds.{whole}
 use Rattle.amqp_ser.specs.Structs.{fields_kind, field_parts}
 use Rattle.amqp_ser.specs.declared.kind.Kind.TheVariants.{Single}
 use Rattle.amqp_ser.proofs.Single.{whole_single}
-use Rattle.amqp_ser.proofs.struct_form.open_body.Goals as goal
+use Rattle.amqp_ser.proofs.compound.body.open_body.Goals as goal
 
 -- the single compound takes the refusal of its body
 pub returns-in-Err-end_part : goal.returns-in-Err-end_part

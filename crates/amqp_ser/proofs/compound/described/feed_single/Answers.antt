@@ -1,7 +1,7 @@
 use Rattle.std.proofs.Common.{[]}
 use Rattle.amqp_ser.specs.declared.kind.Kind.TheVariants.{Single}
 use Rattle.amqp_ser.proofs.Single.{one_value}
-use Rattle.amqp_ser.proofs.struct_form.feed_single.Goals as goal
+use Rattle.amqp_ser.proofs.compound.described.feed_single.Goals as goal
 
 pub returns : goal.returns
 returns g c = λ start h.

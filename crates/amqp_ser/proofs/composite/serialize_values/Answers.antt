@@ -1,7 +1,7 @@
 use Rattle.std.proofs.Common.{rules, [], ap, append-nil}
 use Rattle.amqp_ser.specs.Compounds.{whole}
 use Rattle.amqp_ser.proofs.Feeding.{moved}
-use Rattle.amqp_ser.proofs.fields.serialize_values.Goals as goal
+use Rattle.amqp_ser.proofs.composite.serialize_values.Goals as goal
 
 -- a refusal of the fields is one of their list
 pub returns-in_err-feed : goal.returns-in_err-feed

@@ -1,7 +1,7 @@
 use Rattle.std.proofs.Common.{[], Err, subst}
 use Rattle.amqp_ser.specs.declared.kind.Kind.TheVariants.{Single}
 use Rattle.amqp_ser.proofs.Single.{whole_single}
-use Rattle.amqp_ser.proofs.struct_form.close_first.Goals as goal
+use Rattle.amqp_ser.proofs.compound.list_field.close_first.Goals as goal
 
 pub returns-in-Err : goal.returns-in-Err
 returns-in-Err g c = λ start before w p r.

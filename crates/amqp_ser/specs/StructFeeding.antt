@@ -1,0 +1,66 @@
+-- Fields fed to a struct, and its descriptor: one that was refused leaves the struct as it was, and its refusal is one
+-- that the whole may give, whatever would still have come.
+use Rattle.std.specs.Prelude.{◌≡◌, List, [], ◌∷◌, ◌++◌, Option, Some, None, true, Result, Err, MatchResult, IfErr}
+use Rattle.amqp_ser.specs.Tree.{Tree}
+use Rattle.amqp_ser.specs.Compounds.{whole, paired}
+use Rattle.amqp_ser.specs.Composites.{as_described, descriptor_of}
+use Rattle.amqp_ser.specs.Structs.{Stands, optionally_described}
+use Rattle.amqp_ser.specs.declared.kind.Kind.{Kind}
+use Rattle.amqp_ser.specs.declared.kind.Kind.TheVariants as kind
+
+-- the descriptor, before any field
+abbrev pub FeedsDescriptor : {S H O E : Type 0} → (S → Option Tree → Result O E → S → Type 0) → (S → Kind → S → H → List (Option Tree) → Type 0) →
+    Option Tree → S → H → Result (Unit {0}) E → S → H → Type 0
+FeedsDescriptor {S} {H} {O} {E} permits has descriptor before held result after held_after =
+    (start : S) → Stands permits has start None kind.Single before held [] →
+    MatchResult result
+    (λ _. Stands permits has start (Some descriptor) kind.Single after held_after [])
+    (λ e. Stands permits has start None kind.Single after held_after [] × ((t : Option Tree) →
+    permits start (as_described (descriptor_of descriptor) t) (Err e) after))
+
+-- the first field, as these parts of a body of this kind
+abbrev pub FeedsFirst : {S H O E : Type 0} → (S → Option Tree → Result O E → S → Type 0) → (S → Kind → S → H → List (Option Tree) → Type 0) →
+    Kind → List (Option Tree) → S → H → Result (Unit {0}) E → S → H → Type 0
+FeedsFirst {S} {H} {O} {E} permits has body parts before held result after held_after =
+    (start : S) (prefix : Option (Option Tree)) → Stands permits has start prefix kind.Single before held [] →
+    MatchResult result
+    (λ _. Stands permits has start prefix body after held_after parts)
+    (λ e. Stands permits has start prefix kind.Single after held_after [] × ((rest : List (Option Tree)) →
+    permits start (optionally_described prefix (whole body (parts ++ rest))) (Err e) after))
+
+-- a further element of a list
+abbrev pub FeedsElement : {S H O E : Type 0} → (S → Option Tree → Result O E → S → Type 0) → (S → Kind → S → H → List (Option Tree) → Type 0) →
+    Option Tree → S → H → Result (Unit {0}) E → S → H → Type 0
+FeedsElement {S} {H} {O} {E} permits has element before held result after held_after =
+    (start : S) (prefix : Option (Option Tree)) (ps : List (Option Tree)) → Stands permits has start prefix kind.List before held ps →
+    MatchResult result
+    (λ _. Stands permits has start prefix kind.List after held_after (ps ++ (element ∷ [])))
+    (λ e. Stands permits has start prefix kind.List after held_after ps × ((rest : List (Option Tree)) →
+    permits start (optionally_described prefix (whole kind.List (ps ++ (element ∷ rest)))) (Err e) after))
+
+-- a further entry of a map
+abbrev pub FeedsEntry : {S H O E : Type 0} → (S → Option Tree → Result O E → S → Type 0) → (S → Kind → S → H → List (Option Tree) → Type 0) →
+    Option Tree → Option Tree → S → H → Result (Unit {0}) E → S → H → Type 0
+FeedsEntry {S} {H} {O} {E} permits has key value before held result after held_after =
+    (start : S) (prefix : Option (Option Tree)) (ps : List (Option Tree)) → Stands permits has start prefix kind.Map before held ps → paired ps ≡ true →
+    MatchResult result
+    (λ _. Stands permits has start prefix kind.Map after held_after (ps ++ (key ∷ (value ∷ []))))
+    (λ e. Stands permits has start prefix kind.Map after held_after ps × ((rest : List (Option Tree)) →
+    permits start (optionally_described prefix (whole kind.Map (ps ++ (key ∷ (value ∷ rest))))) (Err e) after))
+
+-- the one field of a struct that has one alone
+abbrev pub FeedsSingle : {S H O E : Type 0} → (S → Option Tree → Result O E → S → Type 0) → (S → Kind → S → H → List (Option Tree) → Type 0) →
+    Option Tree → S → H → Result (Unit {0}) E → S → H → Type 0
+FeedsSingle {S} {H} {O} {E} permits has value before held result after held_after =
+    (start : S) (prefix : Option (Option Tree)) → Stands permits has start prefix kind.Single before held [] →
+    MatchResult result
+    (λ _. Stands permits has start prefix kind.Single after held_after (value ∷ []))
+    (λ e. Stands permits has start prefix kind.Single after held_after []
+    × permits start (optionally_described prefix value) (Err e) after)
+
+-- a misplaced one: the struct of these parts is as it was, and there is no tree
+abbrev pub RefusesField : {S H O E : Type 0} → (S → Option Tree → Result O E → S → Type 0) → (S → Kind → S → H → List (Option Tree) → Type 0) →
+    Kind → S → H → Result (Unit {0}) E → S → H → Type 0
+RefusesField {S} {H} {O} {E} permits has body before held result after held_after =
+    (start : S) (prefix : Option (Option Tree)) (ps : List (Option Tree)) → Stands permits has start prefix body before held ps →
+    IfErr result (λ e. Stands permits has start prefix body after held_after ps × permits start None (Err e) after)

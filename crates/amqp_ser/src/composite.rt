@@ -1,0 +1,120 @@
+//! What fields are that are handed over together: a list, a variant or a map of them.
+
+ghost use Rattle.std.specs.Prelude.{◌≡◌, List, Option, true};
+ghost use Rattle.amqp_ser.specs.Tree.{Tree};
+ghost use Rattle.amqp_ser.specs.Compounds.{complete, whole};
+ghost use Rattle.amqp_ser.specs.Named.{entries_of, key_of, string_key, symbol_key, up_to_last, values_of};
+ghost use Rattle.amqp_ser.specs.declared.kind.Kind.TheVariants as kind;
+
+use crate::fields::{Fields, Keys};
+use crate::kind::Kind;
+use crate::serialize::Serialize;
+use crate::serializer::Serializer;
+
+/// Serializes the list, or the variant, of the fields up to the last that is there.
+fn serialize_values<S: Serializer, F: Fields>(
+    serializer: &mut S,
+    kind: Kind,
+    fields: &F,
+) -> Result<S::Ok, S::Error>
+    requires { (ps : List (Option Tree)) → complete kind ps ≡ true }
+    ensures { S.permits serializer.old (whole kind (up_to_last (values_of (F.named fields.now))))
+        result serializer.new }
+{
+    let mut held = serializer.begin(kind);
+    fields.feed(&mut *serializer, &mut held)?;
+    serializer.end(held)
+}
+
+/// Serializes the map from the fields' names to the fields that are there.
+#[tactic(auto, using(crate::proofs::Paired::paired_entries))]
+#[inline(always)]
+fn serialize_entries<S: Serializer, F: Fields>(
+    serializer: &mut S,
+    keys: Keys,
+    fields: &F,
+) -> Result<S::Ok, S::Error>
+    ensures { S.permits serializer.old
+        (whole kind.Map (entries_of (key_of keys) (F.named fields.now))) result serializer.new }
+{
+    let mut held = serializer.begin(Kind::Map);
+    fields.feed_named(&mut *serializer, &mut held, keys)?;
+    serializer.end(held)
+}
+
+/// The list of the fields up to the last that is there: an absent one before it is null. Their
+/// names are not written.
+///
+/// # Encoding
+/// `45`, `c0` or `d0`: AMQP 1.0 part 1, section 1.6.22.
+///
+/// # Example
+/// `ListOf(fields! { "x": 1u32, "y": 2u32 })` is written `c0050252015202`.
+#[derive(Drop)]
+pub struct ListOf<F>(pub F);
+
+impl<F: Fields> Serialize for ListOf<F> {
+    ghost tree = { λ l. whole kind.List (up_to_last (values_of (F.named l.0))) };
+
+    #[inline(always)]
+    fn serialize<S: Serializer>(&self, serializer: &mut S) -> Result<S::Ok, S::Error> {
+        serialize_values(serializer, Kind::List, &self.0)
+    }
+}
+
+/// The variant of this index whose payload is the list of the fields up to the last that is there.
+///
+/// # Encoding
+/// The map of one pair, from the index as a uint to the list: AMQP 1.0 part 1, section 1.6.23.
+///
+/// # Example
+/// `VariantOf(1, fields! { "x": 2u32 })` is written `c108025201c003015202`.
+#[derive(Drop)]
+pub struct VariantOf<F>(pub u32, pub F);
+
+impl<F: Fields> Serialize for VariantOf<F> {
+    ghost tree = { λ v. whole (kind.Variant v.0) (up_to_last (values_of (F.named v.1))) };
+
+    #[inline(always)]
+    fn serialize<S: Serializer>(&self, serializer: &mut S) -> Result<S::Ok, S::Error> {
+        serialize_values(serializer, Kind::Variant(self.0), &self.1)
+    }
+}
+
+/// The map from the fields' names, as strings, to the fields that are there.
+///
+/// # Encoding
+/// `c1` or `d1`: AMQP 1.0 part 1, section 1.6.23.
+///
+/// # Example
+/// `MapOf(fields! { "crc": 7u32 })` is written `c10802a1036372635207`.
+#[derive(Drop)]
+pub struct MapOf<F>(pub F);
+
+impl<F: Fields> Serialize for MapOf<F> {
+    ghost tree = { λ m. whole kind.Map (entries_of string_key (F.named m.0)) };
+
+    #[inline(always)]
+    fn serialize<S: Serializer>(&self, serializer: &mut S) -> Result<S::Ok, S::Error> {
+        serialize_entries(serializer, Keys::Strings, &self.0)
+    }
+}
+
+/// The map from the fields' names, as symbols, to the fields that are there.
+///
+/// # Encoding
+/// `c1` or `d1`: AMQP 1.0 part 1, section 1.6.23.
+///
+/// # Example
+/// `SymbolMapOf(fields! { "crc": 7u32 })` is written `c10802a3036372635207`.
+#[derive(Drop)]
+pub struct SymbolMapOf<F>(pub F);
+
+impl<F: Fields> Serialize for SymbolMapOf<F> {
+    ghost tree = { λ m. whole kind.Map (entries_of symbol_key (F.named m.0)) };
+
+    #[inline(always)]
+    fn serialize<S: Serializer>(&self, serializer: &mut S) -> Result<S::Ok, S::Error> {
+        serialize_entries(serializer, Keys::Symbols, &self.0)
+    }
+}

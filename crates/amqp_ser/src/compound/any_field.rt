@@ -1,0 +1,165 @@
+//! Feeding a struct of any form a field, or its descriptor.
+
+ghost use Rattle.std.specs.Prelude.{◌≡◌, ◌∷◌, [], Some, None, IfErr, IsErr, true, false};
+ghost use Rattle.amqp_ser.specs.Tree.{scalar, string};
+ghost use Rattle.amqp_ser.specs.Composites.{descriptor_of};
+ghost use Rattle.amqp_ser.specs.Marked.{is_descriptor_name};
+ghost use Rattle.amqp_ser.specs.StructFeeding.{FeedsDescriptor, FeedsFirst, FeedsElement, FeedsEntry, FeedsSingle, RefusesField};
+ghost use Rattle.amqp_ser.specs.Structs.{Stands, open_kind, is_misplaced};
+ghost use Rattle.amqp_ser.specs.declared.kind.Kind.{Kind};
+
+use super::body::open_body;
+use super::described::{feed_descriptor, feed_single};
+use super::feed::{feed_entry, feed_part};
+use crate::names::is_descriptor_name;
+use crate::serialize::Serialize;
+use crate::serializer::Serializer;
+use crate::struct_form::StructForm;
+use std::mem;
+
+/// Whether a descriptor comes twice or late, or a second field where there is one alone.
+#[inline(always)]
+fn is_misplaced(form: StructForm, described: bool, opened: bool, descriptor: bool) -> bool
+    ensures { result ≡ is_misplaced form described opened descriptor }
+{
+    if descriptor {
+        described || opened
+    } else {
+        opened && matches!(form, StructForm::Single)
+    }
+}
+
+/// Feeds any field, or the descriptor. What is held comes and goes by value, so that it is in no
+/// memory of the caller's.
+#[tactic(auto, unfolding(crate::specs::Structs::Stands))]
+#[inline(never)]
+pub fn feed_owned<S: Serializer, T: Serialize>(
+    serializer: &mut S,
+    held: S::Open,
+    form: StructForm,
+    described: bool,
+    opened: bool,
+    key: &'static str,
+    value: &T,
+) -> (S::Open, Result<(), S::Error>)
+    ensures descriptor { is_descriptor_name key.now ≡ true → described ≡ false → opened ≡ false →
+        FeedsDescriptor S.permits S.has (T.tree value.now) serializer.old held result.1
+        serializer.new result.0 }
+    ensures first_of_list { is_descriptor_name key.now ≡ false → opened ≡ false →
+        form ≡ StructForm.List →
+        FeedsFirst S.permits S.has Kind.List (T.tree value.now ∷ []) serializer.old held
+        result.1 serializer.new result.0 }
+    ensures next_of_list { is_descriptor_name key.now ≡ false → opened ≡ true →
+        form ≡ StructForm.List →
+        FeedsElement S.permits S.has (T.tree value.now) serializer.old held result.1
+        serializer.new result.0 }
+    ensures first_of_map { is_descriptor_name key.now ≡ false → opened ≡ false →
+        form ≡ StructForm.Map →
+        FeedsFirst S.permits S.has Kind.Map
+        (Some (scalar (string key.now)) ∷ (T.tree value.now ∷ [])) serializer.old held
+        result.1 serializer.new result.0 }
+    ensures next_of_map { is_descriptor_name key.now ≡ false → opened ≡ true →
+        form ≡ StructForm.Map →
+        FeedsEntry S.permits S.has (Some (scalar (string key.now))) (T.tree value.now)
+        serializer.old held result.1 serializer.new result.0 }
+    ensures alone { is_descriptor_name key.now ≡ false → opened ≡ false →
+        form ≡ StructForm.Single →
+        FeedsSingle S.permits S.has (T.tree value.now) serializer.old held result.1
+        serializer.new result.0 }
+    ensures misuse { is_misplaced form described opened (is_descriptor_name key.now) ≡ true →
+        IsErr result.1 × RefusesField S.permits S.has (open_kind opened form) serializer.old held
+        result.1 serializer.new result.0 }
+    ensures invalid { is_misplaced form described opened (is_descriptor_name key.now) ≡ true →
+        IfErr result.1 S.is_misuse }
+    ensures other_kinds { is_descriptor_name key.now ≡ true → described ≡ false → opened ≡ false →
+        (start : S) → Stands S.permits S.has start None Kind.Single serializer.old held [] →
+        descriptor_of (T.tree value.now) ≡ None → IsErr result.1 }
+{
+    let mut held = held;
+    let descriptor = is_descriptor_name(key);
+    if is_misplaced(form, described, opened, descriptor) {
+        let e = serializer.misuse(&mut held);
+        return (held, Err(e));
+    }
+    if descriptor {
+        let fed = feed_descriptor(serializer, &mut held, value);
+        return (held, fed);
+    }
+    if opened {
+        return match form {
+            StructForm::Map => {
+                let fed = feed_entry(serializer, &mut held, &key, value);
+                (held, fed)
+            }
+            _ => {
+                let fed = feed_part(serializer, &mut held, value);
+                (held, fed)
+            }
+        };
+    }
+    match form {
+        StructForm::List => {
+            let fed = open_body(serializer, &mut held, false, key, value);
+            (held, fed)
+        }
+        StructForm::Map => {
+            let fed = open_body(serializer, &mut held, true, key, value);
+            (held, fed)
+        }
+        StructForm::Single => {
+            let fed = feed_single(serializer, &mut held, value);
+            (held, fed)
+        }
+    }
+}
+
+/// Feeds any field, or the descriptor: what is held is moved out for it, and back.
+#[inline(always)]
+pub fn feed_any<S: Serializer, T: Serialize>(
+    serializer: &mut S,
+    held: &mut S::Open,
+    form: StructForm,
+    described: bool,
+    opened: bool,
+    key: &'static str,
+    value: &T,
+) -> Result<(), S::Error>
+    ensures descriptor { is_descriptor_name key.now ≡ true → described ≡ false → opened ≡ false →
+        FeedsDescriptor S.permits S.has (T.tree value.now) serializer.old held.old result
+        serializer.new held.new }
+    ensures first_of_list { is_descriptor_name key.now ≡ false → opened ≡ false →
+        form ≡ StructForm.List →
+        FeedsFirst S.permits S.has Kind.List (T.tree value.now ∷ []) serializer.old held.old
+        result serializer.new held.new }
+    ensures next_of_list { is_descriptor_name key.now ≡ false → opened ≡ true →
+        form ≡ StructForm.List →
+        FeedsElement S.permits S.has (T.tree value.now) serializer.old held.old result
+        serializer.new held.new }
+    ensures first_of_map { is_descriptor_name key.now ≡ false → opened ≡ false →
+        form ≡ StructForm.Map →
+        FeedsFirst S.permits S.has Kind.Map
+        (Some (scalar (string key.now)) ∷ (T.tree value.now ∷ [])) serializer.old held.old
+        result serializer.new held.new }
+    ensures next_of_map { is_descriptor_name key.now ≡ false → opened ≡ true →
+        form ≡ StructForm.Map →
+        FeedsEntry S.permits S.has (Some (scalar (string key.now))) (T.tree value.now)
+        serializer.old held.old result serializer.new held.new }
+    ensures alone { is_descriptor_name key.now ≡ false → opened ≡ false →
+        form ≡ StructForm.Single →
+        FeedsSingle S.permits S.has (T.tree value.now) serializer.old held.old result
+        serializer.new held.new }
+    ensures misuse { is_misplaced form described opened (is_descriptor_name key.now) ≡ true →
+        IsErr result × RefusesField S.permits S.has (open_kind opened form) serializer.old held.old
+        result serializer.new held.new }
+    ensures invalid { is_misplaced form described opened (is_descriptor_name key.now) ≡ true →
+        IfErr result S.is_misuse }
+    ensures other_kinds { is_descriptor_name key.now ≡ true → described ≡ false → opened ≡ false →
+        (start : S) → Stands S.permits S.has start None Kind.Single serializer.old held.old [] →
+        descriptor_of (T.tree value.now) ≡ None → IsErr result }
+{
+    let vacant = serializer.vacant();
+    let moved = mem::replace(held, vacant);
+    let (back, fed) = feed_owned(serializer, moved, form, described, opened, key, value);
+    *held = back;
+    fed
+}

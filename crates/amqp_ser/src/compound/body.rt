@@ -1,0 +1,134 @@
+//! A struct's body: opened with its first field in place of a single compound, and ended.
+
+ghost use Rattle.std.specs.Prelude.{◌≡◌, ◌++◌, ◌∷◌, [], List, Option, None, Err, MatchResult, IfErr, IsErr, true, false};
+ghost use Rattle.amqp_ser.specs.Tree.{Tree};
+ghost use Rattle.amqp_ser.specs.Compounds.{whole, paired};
+ghost use Rattle.amqp_ser.specs.Structs.{Stands, form_kind, fields_kind, field_parts};
+
+use super::described::end_single;
+use super::feed::{feed_entry, feed_part};
+use crate::kind::Kind;
+use crate::serialize::Serialize;
+use crate::serializer::Serializer;
+use crate::struct_form::StructForm;
+
+/// Fields with names stand in a map, others in a list.
+#[inline(always)]
+fn fields_kind(named: bool) -> Kind
+    ensures { result ≡ fields_kind named }
+{
+    if named { Kind::Map } else { Kind::List }
+}
+
+/// Feeds an open list or map its first field, or leaves it as it was.
+#[inline(always)]
+fn feed_field<S: Serializer, T: Serialize>(
+    serializer: &mut S,
+    held: &mut S::Open,
+    named: bool,
+    key: &'static str,
+    value: &T,
+) -> Result<(), S::Error>
+    ensures { (start : S) → S.has start (fields_kind named) serializer.old held.old [] →
+        MatchResult result
+        (λ _. S.has start (fields_kind named) serializer.new held.new
+        (field_parts named key.now (T.tree value.now)))
+        (λ e. S.has start (fields_kind named) serializer.new held.new []
+        × ((rest : List (Option Tree)) →
+        S.permits start
+        (whole (fields_kind named) (field_parts named key.now (T.tree value.now) ++ rest))
+        (Err e) serializer.new)) }
+{
+    if named {
+        feed_entry(serializer, held, &key, value)
+    } else {
+        feed_part(serializer, held, value)
+    }
+}
+
+/// Opens a map or a list in place of a single compound and feeds it its first field, or leaves the
+/// single compound as it was.
+#[tactic(auto, unfolding(crate::specs::Structs::Stands))]
+#[inline(always)]
+pub fn open_body<S: Serializer, T: Serialize>(
+    serializer: &mut S,
+    held: &mut S::Open,
+    named: bool,
+    key: &'static str,
+    value: &T,
+) -> Result<(), S::Error>
+    ensures { (start : S) → S.has start Kind.Single serializer.old held.old [] →
+        MatchResult result
+        (λ _. Stands S.permits S.has start None (fields_kind named) serializer.new held.new
+        (field_parts named key.now (T.tree value.now)))
+        (λ e. S.has start Kind.Single serializer.new held.new [] × ((rest : List (Option Tree)) →
+        S.permits start
+        (whole (fields_kind named) (field_parts named key.now (T.tree value.now) ++ rest))
+        (Err e) serializer.new)) }
+{
+    serializer.begin_part(held);
+    let mut fields = serializer.begin(fields_kind(named));
+    match feed_field(&mut *serializer, &mut fields, named, key, value) {
+        Ok(()) => {
+            *held = fields;
+            Ok(())
+        }
+        Err(e) => match serializer.end_part(held, Err(e)) {
+            Err(e) => Err(e),
+            Ok(()) => Err(serializer.misuse(held)),
+        },
+    }
+}
+
+/// Ends a single compound without its value: as an empty list or map, or with a misuse.
+#[inline(always)]
+fn end_empty<S: Serializer>(
+    serializer: &mut S,
+    mut held: S::Open,
+    form: StructForm,
+) -> Result<S::Ok, S::Error>
+    ensures empty { (start : S) → S.has start Kind.Single serializer.old held [] →
+        S.permits start (whole (form_kind form) []) result serializer.new }
+    ensures invalid { form ≡ StructForm.Single → IsErr result × IfErr result S.is_misuse }
+{
+    let kind = match form {
+        StructForm::Single => return Err(serializer.misuse(&mut held)),
+        StructForm::List => Kind::List,
+        StructForm::Map => Kind::Map,
+    };
+    serializer.begin_part(&mut held);
+    let fields = serializer.begin(kind);
+    serializer.end(fields)
+}
+
+/// Ends a body, or the single compound in its place where no field was taken.
+#[inline(always)]
+pub fn end_fields<S: Serializer>(
+    serializer: &mut S,
+    held: S::Open,
+    form: StructForm,
+    opened: bool,
+) -> Result<S::Ok, S::Error>
+    ensures list { opened ≡ true → form ≡ StructForm.List → (start : S) (ps : List (Option Tree)) →
+        S.has start Kind.List serializer.old held ps →
+        S.permits start (whole Kind.List ps) result serializer.new }
+    ensures map { opened ≡ true → form ≡ StructForm.Map → (start : S) (ps : List (Option Tree)) →
+        S.has start Kind.Map serializer.old held ps → paired ps ≡ true →
+        S.permits start (whole Kind.Map ps) result serializer.new }
+    ensures alone { opened ≡ true → form ≡ StructForm.Single → (start : S) (p : Option Tree) →
+        S.has start Kind.Single serializer.old held (p ∷ []) →
+        S.permits start p result serializer.new }
+    ensures empty { opened ≡ false → (start : S) → S.has start Kind.Single serializer.old held [] →
+        S.permits start (whole (form_kind form) []) result serializer.new }
+    ensures invalid { opened ≡ false → form ≡ StructForm.Single → IsErr result
+        × IfErr result S.is_misuse }
+{
+    if !opened {
+        return end_empty(serializer, held, form);
+    }
+    match form {
+        StructForm::Single => end_single(serializer, held),
+        StructForm::List => serializer.end(held),
+        StructForm::Map => serializer.end(held),
+    }
+}

@@ -1,0 +1,77 @@
+//! Described values: a descriptor, and the one value of a single compound.
+
+ghost use Rattle.std.specs.Prelude.{◌≡◌, ◌∷◌, [], Option, Some, None, Err, MatchResult, IsErr};
+ghost use Rattle.amqp_ser.specs.Tree.{Tree};
+ghost use Rattle.amqp_ser.specs.Composites.{as_described, descriptor_of};
+ghost use Rattle.amqp_ser.specs.Structs.{Stands};
+
+use super::feed::feed_part;
+use crate::kind::Kind;
+use crate::serialize::Serialize;
+use crate::serializer::Serializer;
+
+/// Feeds a descriptor before the one value of a single compound, or leaves it as it was.
+#[tactic(auto, unfolding(crate::specs::Structs::Stands))]
+#[inline(always)]
+pub fn feed_descriptor<S: Serializer, T: Serialize>(
+    serializer: &mut S,
+    held: &mut S::Open,
+    value: &T,
+) -> Result<(), S::Error>
+    ensures fed { (start : S) → S.has start Kind.Single serializer.old held.old [] →
+        MatchResult result
+        (λ _. Stands S.permits S.has start (Some (T.tree value.now)) Kind.Single serializer.new
+        held.new [])
+        (λ e. S.has start Kind.Single serializer.new held.new [] × ((t : Option Tree) →
+        S.permits start (as_described (descriptor_of (T.tree value.now)) t)
+        (Err e) serializer.new)) }
+    ensures other_kinds { (start : S) → S.has start Kind.Single serializer.old held.old [] →
+        descriptor_of (T.tree value.now) ≡ None → IsErr result }
+{
+    serializer.begin_descriptor(held);
+    let part = value.serialize(serializer);
+    serializer.end_descriptor(held, part)
+}
+
+/// Feeds a single compound its one value, or leaves it as it was.
+#[inline(always)]
+pub fn feed_single<S: Serializer, T: Serialize>(
+    serializer: &mut S,
+    held: &mut S::Open,
+    value: &T,
+) -> Result<(), S::Error>
+    ensures { (start : S) → S.has start Kind.Single serializer.old held.old [] →
+        MatchResult result
+        (λ _. S.has start Kind.Single serializer.new held.new (T.tree value.now ∷ []))
+        (λ e. S.has start Kind.Single serializer.new held.new []
+        × S.permits start (T.tree value.now) (Err e) serializer.new) }
+{
+    feed_part(serializer, held, value)
+}
+
+/// Ends a single compound that has its one value.
+#[inline(always)]
+pub fn end_single<S: Serializer>(serializer: &mut S, held: S::Open) -> Result<S::Ok, S::Error>
+    ensures { (start : S) (p : Option Tree) → S.has start Kind.Single serializer.old held (p ∷ []) →
+        S.permits start p result serializer.new }
+{
+    serializer.end(held)
+}
+
+/// Serializes a described value, as a struct named `DESCRIBED_BASIC` of a descriptor and one field.
+#[tactic(auto, unfolding(crate::specs::Structs::Stands))]
+#[inline(always)]
+pub fn serialize_described<S: Serializer, D: Serialize, T: Serialize>(
+    serializer: &mut S,
+    descriptor: &D,
+    value: &T,
+) -> Result<S::Ok, S::Error>
+    ensures { S.permits serializer.old
+        (as_described (descriptor_of (D.tree descriptor.now)) (T.tree value.now)) result
+        serializer.new }
+{
+    let mut held = serializer.begin(Kind::Single);
+    feed_descriptor(&mut *serializer, &mut held, descriptor)?;
+    feed_single(&mut *serializer, &mut held, value)?;
+    end_single(serializer, held)
+}

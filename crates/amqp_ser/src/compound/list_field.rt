@@ -1,0 +1,94 @@
+//! Feeding a struct that is a list a field.
+
+ghost use Rattle.std.specs.Prelude.{◌≡◌, ◌∷◌, [], List, Option, Some, None, Result, Err, MatchResult, true, false};
+ghost use Rattle.amqp_ser.specs.Tree.{Tree};
+ghost use Rattle.amqp_ser.specs.Compounds.{whole};
+ghost use Rattle.amqp_ser.specs.Feeding.{Feeds};
+ghost use Rattle.amqp_ser.specs.Structs.{Stands};
+
+use super::feed::feed_part;
+use crate::kind::Kind;
+use crate::serialize::Serialize;
+use crate::serializer::Serializer;
+use std::mem;
+
+/// Opens a list in place of a single compound, which is given out, where none is open.
+#[inline(always)]
+fn open_list<S: Serializer>(serializer: &mut S, held: &mut S::Open, opened: bool) -> Option<S::Open>
+    ensures next { opened ≡ true →
+        (result ≡ None) × ((serializer.new ≡ serializer.old) × (held.new ≡ held.old)) }
+    ensures first { opened ≡ false → (start : S) →
+        S.has start Kind.Single serializer.old held.old [] →
+        (single : S.Open)
+        × ((result ≡ Some single)
+        × ((mid : S)
+        × (S.awaits start Kind.Single mid single []
+        × (S.has mid Kind.List serializer.new held.new [] ×
+        ((t : Option Tree) (r : Result S.Ok S.Error) (after : S) → S.permits mid t r after →
+        S.permits start t r after))))) }
+{
+    if opened {
+        return None;
+    }
+    serializer.begin_part(held);
+    let fields = serializer.begin(Kind::List);
+    Some(mem::replace(held, fields))
+}
+
+/// Takes back the first field, which was refused: the single compound is as it was.
+#[cold]
+#[inline(never)]
+fn close_first<S: Serializer>(
+    serializer: &mut S,
+    single: S::Open,
+    e: S::Error,
+) -> (S::Open, S::Error)
+    ensures { (start before : S) → S.awaits start Kind.Single before single [] →
+        ((p : Option Tree) → S.permits before p (Err e) serializer.old →
+        S.has start Kind.Single serializer.new result.0 []
+        × S.permits start p (Err result.1) serializer.new) }
+{
+    let mut single = single;
+    match serializer.end_part(&mut single, Err(e)) {
+        Err(e) => (single, e),
+        Ok(()) => {
+            let e = serializer.misuse(&mut single);
+            (single, e)
+        }
+    }
+}
+
+/// Feeds a list one field more, the first after it was opened in place of a single compound; or
+/// leaves what was as it was.
+#[tactic(auto, unfolding(crate::specs::Structs::Stands))]
+#[inline(always)]
+pub fn feed_list_field<S: Serializer, T: Serialize>(
+    serializer: &mut S,
+    held: &mut S::Open,
+    opened: bool,
+    value: &T,
+) -> Result<(), S::Error>
+    ensures first { opened ≡ false → (start : S) →
+        S.has start Kind.Single serializer.old held.old [] →
+        MatchResult result
+        (λ _. Stands S.permits S.has start None Kind.List serializer.new held.new
+        (T.tree value.now ∷ []))
+        (λ e. S.has start Kind.Single serializer.new held.new [] × ((rest : List (Option Tree)) →
+        S.permits start (whole Kind.List (T.tree value.now ∷ rest)) (Err e) serializer.new)) }
+    ensures next { opened ≡ true →
+        Feeds S.permits S.has Kind.List (T.tree value.now) serializer.old held.old result
+        serializer.new held.new }
+{
+    let single = open_list(serializer, held, opened);
+    match feed_part(serializer, held, value) {
+        Ok(()) => Ok(()),
+        Err(e) => match single {
+            None => Err(e),
+            Some(single) => {
+                let (single, e) = close_first(serializer, single, e);
+                *held = single;
+                Err(e)
+            }
+        },
+    }
+}

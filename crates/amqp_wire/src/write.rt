@@ -1,0 +1,166 @@
+//! The bytes of scalars, and those before the parts of a compound, where they are taken.
+
+ghost use Rattle.std.specs.Prelude.{◌≡◌, ◌≤◌, ◌+◌, ◌++◌, ◌∷◌, [], Bool, Some, Ok, false, is_err, length};
+ghost use Rattle.std.specs.Vec.{vec_capacity};
+ghost use Rattle.amqp_ser.specs.Fixed.{fixed_scalar};
+ghost use Rattle.amqp_ser.specs.Limits.{fits};
+ghost use Rattle.amqp_ser.specs.Scalars.{scalar_code};
+ghost use Rattle.amqp_ser.specs.Tree.{Trees, Scalar, scalar, null};
+ghost use Rattle.amqp_ser.specs.Writable.{within_limits};
+ghost use Rattle.amqp_size.specs.Position.{without_prefix};
+ghost use Rattle.amqp_size.specs.State.{position_at};
+ghost use Rattle.amqp_size.specs.Width.{text_at};
+ghost use Rattle.amqp_size.specs.WholePending.{Plain};
+ghost use Rattle.amqp_wire.specs.HeaderBytes.{in_array, pick, bytes_at};
+ghost use Rattle.amqp_wire.specs.TreeHeaders.{compound_headers};
+ghost use Rattle.amqp_wire.specs.Writer.{Kept, accepts, writes_tree, opens, PartsFitOutput};
+
+use crate::position::{accepted, in_array};
+use crate::writer::Writer;
+use amqp_data::EncodingCodes;
+use amqp_ser::Fixed;
+use amqp_size::width::LONGEST;
+use amqp_size::{Form, Position, Refusal, Shape};
+
+impl Writer {
+    /// Goes on where the table or the room fell short: what is written is not kept then.
+    #[inline(always)]
+    fn written(&mut self, put: Result<(), Refusal>)
+        ensures kept { Kept self.old.output self.new.output }
+        ensures pending { self.new.pending ≡ self.old.pending }
+        ensures whole { is_err put ≡ false → self.new.output ≡ self.old.output }
+    {
+        if put.is_err() {
+            self.output.spoil();
+        }
+    }
+
+    /// Writes a value of fixed width.
+    #[inline(always)]
+    pub(crate) fn fixed(&mut self, position: Position, fixed: Fixed) -> Result<(), Refusal>
+        ensures kept { Kept self.old.output self.new.output }
+        ensures accepted { self.old.pending ≡ Plain (without_prefix (position_at position 0)) →
+            accepts (position_at position 0) (Some (scalar (fixed_scalar fixed))) result
+            self.new.pending }
+        ensures written { writes_tree (position_at position 0) self.old.output
+            (Some (scalar (fixed_scalar fixed))) result self.new.output }
+    {
+        match accepted(position, Form::in_array(fixed).code) {
+            Ok(after) => {
+                let put = self.output.put_fixed(in_array(position), fixed);
+                self.written(put);
+                self.pending = after;
+                Ok(())
+            }
+            Err(e) => Err(e),
+        }
+    }
+
+    /// Writes null.
+    #[inline(always)]
+    pub(crate) fn null(&mut self, position: Position) -> Result<(), Refusal>
+        ensures kept { Kept self.old.output self.new.output }
+        ensures accepted { self.old.pending ≡ Plain (without_prefix (position_at position 0)) →
+            accepts (position_at position 0) (Some (scalar null)) result self.new.pending }
+        ensures written { writes_tree (position_at position 0) self.old.output (Some (scalar null))
+            result self.new.output }
+    {
+        match accepted(position, EncodingCodes::Null as u8) {
+            Ok(after) => {
+                let put = self.output.put_null(in_array(position));
+                self.written(put);
+                self.pending = after;
+                Ok(())
+            }
+            Err(e) => Err(e),
+        }
+    }
+
+    /// Writes a text or a binary.
+    #[inline(always)]
+    pub(crate) fn text(
+        &mut self,
+        position: Position,
+        short: u8,
+        long: u8,
+        bytes: &[u8],
+    ) -> Result<(), Refusal>
+        ensures kept { Kept self.old.output self.new.output }
+        ensures accepted { self.old.pending ≡ Plain (without_prefix (position_at position 0)) →
+            (s : Scalar) → scalar_code s ≡ long →
+            within_limits (scalar s) ≡ fits (length bytes.now) →
+            accepts (position_at position 0) (Some (scalar s)) result self.new.pending }
+        ensures written { (s : Scalar) →
+            ((a : Bool) → bytes_at a (scalar s) ≡ text_at a short long bytes.now) →
+            writes_tree (position_at position 0) self.old.output (Some (scalar s)) result
+            self.new.output }
+    {
+        if bytes.len() > LONGEST {
+            return Err(Refusal::TooLong);
+        }
+        match accepted(position, long) {
+            Ok(after) => {
+                let put = self.output.put_text(in_array(position), short, long, bytes);
+                self.written(put);
+                self.pending = after;
+                Ok(())
+            }
+            Err(e) => Err(e),
+        }
+    }
+
+    /// Writes bytes of one length after their code.
+    #[inline(never)]
+    pub(crate) fn exact(
+        &mut self,
+        position: Position,
+        code: u8,
+        bytes: &[u8],
+    ) -> Result<(), Refusal>
+        ensures kept { Kept self.old.output self.new.output }
+        ensures accepted { self.old.pending ≡ Plain (without_prefix (position_at position 0)) →
+            (s : Scalar) → scalar_code s ≡ code →
+            accepts (position_at position 0) (Some (scalar s)) result self.new.pending }
+        ensures written { (s : Scalar) →
+            ((a : Bool) → bytes_at a (scalar s) ≡ pick a (code ∷ bytes.now) bytes.now) →
+            writes_tree (position_at position 0) self.old.output (Some (scalar s)) result
+            self.new.output }
+    {
+        match accepted(position, code) {
+            Ok(after) => {
+                let put = self.output.put_exact(in_array(position), code, bytes);
+                self.written(put);
+                self.pending = after;
+                Ok(())
+            }
+            Err(e) => Err(e),
+        }
+    }
+
+    /// Writes what stands before a compound's parts.
+    #[inline(always)]
+    pub(crate) fn open(&mut self, position: Position, shape: Shape)
+        ensures kept { Kept self.old.output self.new.output }
+        ensures pending { self.new.pending ≡ self.old.pending }
+        ensures opened { (ts : Trees) →
+            PartsFitOutput (in_array (position_at position 0)) shape self.old.output ts →
+            opens (in_array (position_at position 0)) shape self.old.output
+            (compound_headers shape ts) (Ok tt) self.new.output }
+    {
+        let put = self.output.open(in_array(position), shape);
+        self.written(put);
+    }
+
+    /// Writes the code of described values.
+    #[inline(always)]
+    pub(crate) fn put_described(&mut self)
+        ensures kept { Kept self.old.output self.new.output }
+        ensures pending { self.new.pending ≡ self.old.pending }
+        ensures written { length self.old.output.out.items + 1 ≤ vec_capacity self.old.output.out →
+            (self.new.output.out.items ≡ self.old.output.out.items ++ (0x00 ∷ []))
+            × (self.new.output.taken ≡ self.old.output.taken) }
+    {
+        let put = self.output.put_few(&[EncodingCodes::DescribedType as u8]);
+        self.written(put);
+    }
+}
