@@ -1,9 +1,11 @@
--- Trees whose contents lie in the ranges of their types: every tree of a value in hand is one.
+-- Trees whose contents lie in the ranges of their types, with one encoded value in each lazy tree: every tree of a value
+-- in hand is one.
 use Rattle.std.specs.Prelude.{◌≡◌, ℕ, List, length, All, ◌<◌, ◌^◌}
 use Rattle.std.specs.Prelude.{FitsSigned}
 use Rattle.std.specs.Int.{w8, w16, w32, w64}
 use Rattle.std.specs.Char.{IsScalar}
 use Rattle.std.specs.Str.{IsUtf8}
+use Rattle.amqp_frame.specs.Frame.{IsFrame}
 use Rattle.amqp_ser.specs.Tree.{Scalar, null, bool, ubyte, ushort, uint, ulong, byte, short, int, long, float, double, decimal32, decimal64, decimal128, char, timestamp, uuid, binary, string, symbol, Descriptor, name, code, Tree, Trees, Pairs, scalar, list, array, map, described, variant, lazy, transparent, no_trees, more, no_pairs, pair}
 
 -- bytes
@@ -49,7 +51,7 @@ abbrev mutual
   IsRanged (map ps) = HasRangedPairs ps
   IsRanged (described d t) = IsRangedDescriptor d × IsRanged t
   IsRanged (variant i t) = (i < 2 ^ 32) × IsRanged t
-  IsRanged (lazy bs) = AreBytes bs
+  IsRanged (lazy bs) = AreBytes bs × IsFrame bs
   IsRanged (transparent ts) = AreRanged ts
 
   pub AreRanged : Trees → Type 0
