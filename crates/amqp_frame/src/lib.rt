@@ -16,7 +16,7 @@ mod take_value;
 #[cfg(test)]
 mod tests;
 
-pub use frame::frame_len;
+pub use frame::{frame_len, is_frame};
 pub use lazy::LazyValue;
 pub use read::Read;
 pub use readers::{IoReader, SliceReader};

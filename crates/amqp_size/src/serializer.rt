@@ -13,6 +13,7 @@ use crate::position::{Pending, Position, ScalarMark, Shape};
 use crate::refusal::Refusal;
 use crate::width::{array_width, list_width, map_width};
 use amqp_data::Error;
+use amqp_frame::is_frame;
 use amqp_ser::{Fixed, Kind, Mark, Serialize, Serializer};
 use std::marker::Model;
 
@@ -183,6 +184,11 @@ impl Serializer for SizeSerializer {
             ),
             Pending::Scalar(position, ScalarMark::Uuid) if v.len() == 16 => self.accept(
                 position, prefix_len, 0x98, 17, 16,
+            ),
+            Pending::Scalar(position, ScalarMark::Lazy) if is_frame(v) => self.lazy(
+                position,
+                prefix_len,
+                v.len(),
             ),
             _ => Err(Refusal::InvalidValue),
         }

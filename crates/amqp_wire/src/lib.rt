@@ -6,6 +6,7 @@
 #![tactic(auto)]
 
 mod header;
+mod lazy_value;
 mod measurer;
 mod output;
 mod position;
@@ -15,4 +16,5 @@ mod tests;
 mod two_walks;
 mod writer;
 
+pub use lazy_value::to_lazy_value;
 pub use two_walks::to_vec;

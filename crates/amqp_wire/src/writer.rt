@@ -11,6 +11,7 @@ ghost use Rattle.amqp_size.specs.State.{position_at};
 use crate::output::{Checkpoint, Output};
 use crate::position::{accepted, described, in_array, inner_after};
 use crate::table::Header;
+use amqp_frame::is_frame;
 use amqp_ser::{Fixed, Kind, Mark, Serializer};
 use amqp_size::width::LONGEST;
 use amqp_size::{Form, Pending, Position, Refusal, ScalarMark, Shape};
@@ -63,7 +64,7 @@ impl Writer {
     ghost use Rattle.std.specs.Prelude.{Bool, ◌≤◌, ◌+◌, is_err};
     ghost use Rattle.amqp_wire.specs.TreeHeaders.{compound_headers};
     ghost use Rattle.amqp_wire.specs.Writer.{Kept, accepts, writes_tree, opens, PartsFitOutput};
-    ghost use Rattle.amqp_ser.specs.Tree.{Trees, Scalar, scalar, null, transparent};
+    ghost use Rattle.amqp_ser.specs.Tree.{Trees, Scalar, scalar, null, lazy, transparent};
     ghost use Rattle.amqp_ser.specs.Encoding.{constructor};
     ghost use Rattle.amqp_ser.specs.Fixed.{fixed_scalar};
     ghost use Rattle.amqp_ser.specs.Scalars.{scalar_code, scalar_form, scalar_payload};
@@ -268,6 +269,23 @@ impl Writer {
         }
     }
 
+    /// Writes an encoded value as it is.
+    #[inline(never)]
+    fn lazy(&mut self, position: Position, bytes: &[u8]) -> Result<(), Refusal>
+        ensures kept { Kept self.old.output self.new.output }
+        ensures accepted { self.old.position ≡ Plain (without_prefix (position_at position 0)) → accepts (position_at position 0) (Some (lazy bytes.now)) result self.new.position }
+        ensures written { writes_tree (position_at position 0) self.old.output (Some (lazy bytes.now)) result self.new.output }
+    {
+        match position {
+            Position::Root | Position::Inside => {}
+            Position::Value(base) if base.takes_described() => {}
+            _ => return Err(Refusal::InvalidValue),
+        }
+        let put = self.output.put(bytes);
+        self.written(put);
+        Ok(())
+    }
+
     /// Writes what stands before a compound's parts.
     #[inline(always)]
     fn open(&mut self, position: Position, shape: Shape)
@@ -375,6 +393,8 @@ impl Serializer for Writer {
             Pending::Scalar(position, ScalarMark::Uuid) if v.len() == 16 => self.exact(
                 position, 0x98, v,
             ),
+            // The same test as in the first walk: `accepts` is asked of this one too, call by call.
+            Pending::Scalar(position, ScalarMark::Lazy) if is_frame(v) => self.lazy(position, v),
             _ => Err(Refusal::InvalidValue),
         }
     }
