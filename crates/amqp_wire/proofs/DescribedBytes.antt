@@ -29,7 +29,7 @@ use Rattle.amqp_wire.specs.declared.writer.Writing.{Writing}
 use Rattle.amqp_wire.proofs.SingleWritten.{alone_open}
 use Rattle.amqp_wire.proofs.DescribedTable.{descriptor_entries}
 use Rattle.amqp_wire.proofs.CountWithinBytes.{no_false}
-use Rattle.amqp_wire.proofs.DescribedPosition.{no_some, Behind, behind, plain_behind, behind_rest, described_accepts, descriptor_refused}
+use Rattle.amqp_wire.proofs.DescribedPosition.{no_some, Behind, behind, plain_behind, behind_without_prefix, described_accepts, descriptor_refused}
 use Rattle.amqp_wire.proofs.PartBytes.{kept-more, kept-refl}
 
 descriptor_dense : (t : Tree) → is_some (descriptor_of (Some t)) ≡ true → dense_at position.Descriptor t ≡ true
@@ -174,7 +174,7 @@ value_described start before now held new d part w p e to same is =
     let k = kept-more start.output before.output now.output w.kept p.0 in (
       mid,
       (
-        (alone_open mid now.output new (kept-refl now.output) (refl, refl) (ap without_prefix same ∙ w.position ∙ sym (behind_rest start.position new.inner there)) refl (is ∙ w.shape), ap (λ q. pending.Plain (without_prefix q)) (sym same)),
+        (alone_open mid now.output new (kept-refl now.output) (refl, refl) (ap without_prefix same ∙ w.position ∙ sym (behind_without_prefix start.position new.inner there)) refl (is ∙ w.shape), ap (λ q. pending.Plain (without_prefix q)) (sym same)),
         λ v r after q. subst (λ y. writer_permits start (as_described y v) r after) (sym one.1.0)
             (described_permits start mid x there k
             (head_written (position_of start.position) start.output before.output now.output x t (λ c s. own_there start.position new.inner x c there s) w.kept w.code is_one f) v r after q),

@@ -60,7 +60,7 @@ long_after n x t h = elim (one_false (is_length (n + length (encoding t))) (with
 
 -- what that position asks of the value
 pub record Behind (p q : Position) : Type 0 where
-  pub rest_is : rest q ≡ rest p
+  pub without_prefix_is : without_prefix q ≡ without_prefix p
   pub own : in_array q ≡ false
   pub suits_is : (x : Descriptor) (t : Tree) → suits q t ≡ suits p (described x t)
   pub next_is : (x : Descriptor) (t : Tree) → next q t ≡ next p (described x t)
@@ -68,12 +68,12 @@ pub record Behind (p q : Position) : Type 0 where
   pub fits : (x : Descriptor) (t : Tree) → dense_at p (described x t) ≡ true → (dense_at q t ≡ true) × (in_array p ≡ false)
 
 pub behind : (p q : Position) → after_descriptor_at p ≡ Some q → Behind p q
-behind position.Root q e = subst (Behind position.Root) (some_position _ q e) (record { rest_is = refl; own = refl; suits_is = λ x t. refl; next_is = λ x t. refl; long = λ x t h. long_here x t h; fits = λ x t h. (h, refl) })
-behind position.Inside q e = subst (Behind position.Inside) (some_position _ q e) (record { rest_is = refl; own = refl; suits_is = λ x t. refl; next_is = λ x t. refl; long = λ x t h. long_here x t h; fits = λ x t h. (h, refl) })
-behind position.First q e = subst (Behind position.First) (some_position _ q e) (record { rest_is = refl; own = refl; suits_is = λ x t. refl; next_is = λ x t. refl; long = λ x t h. long_here x t h; fits = λ x t h. absurd (no_false h) })
-behind (position.Element c) q e = subst (Behind (position.Element c)) (some_position _ q e) (record { rest_is = refl; own = refl; suits_is = λ x t. refl; next_is = λ x t. refl; long = λ x t h. long_here x t h; fits = λ x t h. absurd (no_false h) })
+behind position.Root q e = subst (Behind position.Root) (some_position _ q e) (record { without_prefix_is = refl; own = refl; suits_is = λ x t. refl; next_is = λ x t. refl; long = λ x t h. long_here x t h; fits = λ x t h. (h, refl) })
+behind position.Inside q e = subst (Behind position.Inside) (some_position _ q e) (record { without_prefix_is = refl; own = refl; suits_is = λ x t. refl; next_is = λ x t. refl; long = λ x t h. long_here x t h; fits = λ x t h. (h, refl) })
+behind position.First q e = subst (Behind position.First) (some_position _ q e) (record { without_prefix_is = refl; own = refl; suits_is = λ x t. refl; next_is = λ x t. refl; long = λ x t h. long_here x t h; fits = λ x t h. absurd (no_false h) })
+behind (position.Element c) q e = subst (Behind (position.Element c)) (some_position _ q e) (record { without_prefix_is = refl; own = refl; suits_is = λ x t. refl; next_is = λ x t. refl; long = λ x t h. long_here x t h; fits = λ x t h. absurd (no_false h) })
 behind position.Descriptor q e = absurd (no_some q e)
-behind (position.Value n b) q e = subst (Behind (position.Value n b)) (some_position _ q e) (record { rest_is = refl; own = refl; suits_is = λ x t. refl; next_is = λ x t. refl; long = λ x t h. long_after n x t h; fits = λ x t h. (h, refl) })
+behind (position.Value n b) q e = subst (Behind (position.Value n b)) (some_position _ q e) (record { without_prefix_is = refl; own = refl; suits_is = λ x t. refl; next_is = λ x t. refl; long = λ x t h. long_after n x t h; fits = λ x t h. (h, refl) })
 
 pub plain_behind : (p : Position) (w : Pending) → after_descriptor (pending.Plain p) ≡ Some w → (q : Position) × ((after_descriptor_at p ≡ Some q) × (pending.Plain q ≡ w))
 plain_behind p w e = go (after_descriptor_at p) refl e
@@ -83,12 +83,12 @@ plain_behind p w e = go (after_descriptor_at p) refl e
     go (Some q) a h = (q, (a, some_pending (pending.Plain q) w h))
 
 -- the writer comes back to the position of the described value
-pub behind_rest : (u w : Pending) → after_descriptor u ≡ Some w → without_prefix (position_of w) ≡ without_prefix (position_of u)
-behind_rest (pending.Plain p) w e = let q = plain_behind p w e in ap (λ v. without_prefix (position_of v)) (sym q.1.1) ∙ (behind p q.0 q.1.0).rest_is
-behind_rest (pending.Array p) w e = ap (λ v. without_prefix (position_of v)) (sym (some_pending _ w e))
-behind_rest (pending.Transparent p) w e = ap (λ v. without_prefix (position_of v)) (sym (some_pending _ w e))
-behind_rest (pending.Scalar m p) w e = ap (λ v. without_prefix (position_of v)) (sym (some_pending _ w e))
-behind_rest (pending.Nothing p) w e = ap (λ v. without_prefix (position_of v)) (sym (some_pending _ w e))
+pub behind_without_prefix : (u w : Pending) → after_descriptor u ≡ Some w → without_prefix (position_of w) ≡ without_prefix (position_of u)
+behind_without_prefix (pending.Plain p) w e = let q = plain_behind p w e in ap (λ v. without_prefix (position_of v)) (sym q.1.1) ∙ (behind p q.0 q.1.0).without_prefix_is
+behind_without_prefix (pending.Array p) w e = ap (λ v. without_prefix (position_of v)) (sym (some_pending _ w e))
+behind_without_prefix (pending.Transparent p) w e = ap (λ v. without_prefix (position_of v)) (sym (some_pending _ w e))
+behind_without_prefix (pending.Scalar m p) w e = ap (λ v. without_prefix (position_of v)) (sym (some_pending _ w e))
+behind_without_prefix (pending.Nothing p) w e = ap (λ v. without_prefix (position_of v)) (sym (some_pending _ w e))
 
 value_refused : (p q : Position) (x : Descriptor) (t : Tree) (e : Refusal) → Behind p q → refused q t e → refused p (described x t) e
 value_refused p q x t error.TooLong b h = b.long x t h
@@ -98,8 +98,8 @@ value_refused p q x t e b h = absurd h
 value_accepts : (p q : Position) (x : Descriptor) (t : Option Tree) (r : Result (Unit {0}) Refusal) (after : Pending) → Behind p q → accepts q t r after → accepts p (as_described (Some x) t) r after
 value_accepts p q x None (Ok u) after b h = h
 value_accepts p q x (Some t) (Ok u) after b h = record { uniform_arrays_it = h.uniform_arrays_it; suited = sym (b.suits_is x t) ∙ h.suited; position = h.position ∙ ap pending.Plain (b.next_is x t) }
-value_accepts p q x None (Err e) after b h = (h.0, h.1 ∙ ap pending.Plain b.rest_is)
-value_accepts p q x (Some t) (Err e) after b h = (value_refused p q x t e b h.0, h.1 ∙ ap pending.Plain b.rest_is)
+value_accepts p q x None (Err e) after b h = (h.0, h.1 ∙ ap pending.Plain b.without_prefix_is)
+value_accepts p q x (Some t) (Err e) after b h = (value_refused p q x t e b h.0, h.1 ∙ ap pending.Plain b.without_prefix_is)
 
 -- what is answered on a value is an answer on the described one, whatever is written
 pub described_accepts : (u w : Pending) (x : Descriptor) → after_descriptor u ≡ Some w → (t : Option Tree) (r : Result (Unit {0}) Refusal) (after : Pending) → accepts (position_of w) (meant w t) r after → accepts (position_of u) (meant u (as_described (Some x) t)) r after

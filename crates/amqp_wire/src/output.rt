@@ -1,6 +1,6 @@
 //! Bytes in room that stands ready.
 
-ghost use Rattle.std.specs.Prelude.{◌≡◌, ◌≤◌, ◌++◌, ◌∷◌, [], length, take, drop, nat_le, IfErr};
+ghost use Rattle.std.specs.Prelude.{◌≡◌, ◌≤◌, ◌++◌, ◌∷◌, [], length, take, drop, nat_le, IfErr, false};
 ghost use Rattle.std.specs.Vec.{vec_capacity};
 
 use crate::table::Header;
@@ -87,6 +87,7 @@ impl Output {
     #[inline(always)]
     pub fn spoil(&mut self)
         ensures kept { Kept self.old self.new }
+        ensures spoiled { nat_le self.new.taken (length self.new.table.items) ≡ false }
     {
         self.taken = usize::MAX;
     }
