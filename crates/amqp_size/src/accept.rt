@@ -126,7 +126,7 @@ impl SizeSerializer {
 
     /// The answer on a lazy tree of so many bytes: it has no constructor, so it is no array's element, and it is no
     /// descriptor.
-    #[inline(always)]
+    #[inline(never)]
     pub(crate) fn lazy(
         &mut self,
         position: Position,
