@@ -2,6 +2,7 @@ pub mod FirstFrame
 pub mod Prefixes
 pub mod Cuts
 pub mod Open
+pub mod Whole
 pub mod Primitive
 pub mod Filled
 pub mod Taking

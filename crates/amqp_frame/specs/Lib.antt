@@ -2,6 +2,7 @@
 -- cite.
 pub mod Code
 pub mod Frame
+pub mod Whole
 pub mod Cut
 pub mod Reader
 pub mod Taking

@@ -2,6 +2,7 @@
 
 ghost use Rattle.std.specs.Prelude.{◌≡◌, ◌≢◌, ◌≤◌, ◌<◌, ◌⊎◌, ◌++◌, ℕ, List, IfSome, IfNone, Some, length, take, slice_index};
 ghost use Rattle.amqp_frame.specs.Frame.{IsFrame, IsIncomplete, HasFrame, HasMalformed};
+ghost use Rattle.amqp_frame.specs.Whole.{is_frame};
 
 use crate::code::{body_len_of, category_of, is_primitive, size_width_of};
 
@@ -46,6 +47,25 @@ pub fn frame_len(bytes: &[u8]) -> Option<usize>
         }
     }
     Some(at)
+}
+
+/// Whether the bytes are exactly one encoded value, with nothing before or after it.
+///
+/// # Encoding
+///
+/// AMQP 1.0 part 1, sections 1.2 to 1.2.4, as [`frame_len`].
+///
+/// # Memory
+///
+/// Takes none.
+///
+/// # Example
+///
+/// `40` and `00a1016145` are; `4040`, `a10561` and no bytes are not.
+pub fn is_frame(bytes: &[u8]) -> bool
+    ensures { result ≡ is_frame bytes.now }
+{
+    frame_len(bytes) == Some(bytes.len())
 }
 
 // The length of the primitive code that the bytes begin with, and of its payload.

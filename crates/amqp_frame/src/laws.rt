@@ -1,9 +1,10 @@
 //! Laws of the definitions alone. A caller learns one by calling its function.
 
-ghost use Rattle.std.specs.Prelude.{◌≡◌, ◌<◌, ℕ, List, [], ◌++◌, length};
+ghost use Rattle.std.specs.Prelude.{◌≡◌, ◌<◌, ◌↔◌, ℕ, IsTrue, List, [], ◌++◌, length};
 ghost use Rattle.std.specs.List.{AllByRecursion, concat};
 ghost use Rattle.amqp_frame.specs.Cut.{IsCut};
 ghost use Rattle.amqp_frame.specs.Frame.{IsFrame, IsIncomplete, IsMalformed, HasFrame, HasMalformed, ExactlyOne};
+ghost use Rattle.amqp_frame.specs.Whole.{is_frame};
 
 /// Of the prefixes of a string at most one is an encoded value, so no encoded value is a proper prefix
 /// of another.
@@ -26,6 +27,11 @@ pub fn one_case()
 /// An encoded value has a byte at least.
 pub fn some_byte()
     ensures { (frame : List ℕ) → IsFrame frame → 0 < length frame }
+{}
+
+/// The test of one encoded value holds of just those.
+pub fn one_test()
+    ensures { (bytes : List ℕ) → IsTrue (is_frame bytes) ↔ IsFrame bytes }
 {}
 
 /// Every string has a cut.

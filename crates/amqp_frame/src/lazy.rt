@@ -1,11 +1,12 @@
 //! The bytes of one encoded value.
 
-ghost use Rattle.std.specs.Prelude.{◌≡◌, ◌≤◌, IfOk, IfErr, OnErr, IfSome, IsOkUnless};
+ghost use Rattle.std.specs.Prelude.{◌≡◌, ◌≤◌, IfOk, IfErr, OnErr, IfSome, IsOkUnless, MatchResult};
 ghost use Rattle.std.specs.Io.KnownBytes.{Consumes};
 ghost use Rattle.amqp_frame.specs.Frame.{IsFrame};
 ghost use Rattle.amqp_frame.specs.Reader.{Takes};
 ghost use Rattle.amqp_frame.specs.Taking.{TakesIncomplete, TakesMalformed, FrameRefuses, DecidedBy};
 
+use crate::frame::is_frame;
 use crate::read::Read;
 use crate::take_value::take_value;
 use amqp_data::Error;
@@ -139,5 +140,36 @@ impl From<LazyValue> for Bytes {
 
     fn from(value: LazyValue) -> Bytes {
         value.into_bytes()
+    }
+}
+
+/// Takes over a shared buffer of exactly one encoded value, with no copy of its bytes.
+///
+/// # Errors
+///
+/// [`Error::InvalidValue`] where the bytes are not exactly one encoded value; the buffer is let go.
+///
+/// # Memory
+///
+/// Takes none.
+///
+/// # Example
+///
+/// `00a1016145` is taken; `4040`, `a10561` and no bytes are refused.
+impl TryFrom<Bytes> for LazyValue {
+    ghost use Rattle.amqp_data.specs.declared.error.Error.TheVariants.{InvalidValue};
+
+    type Error = Error;
+
+    ghost try_from_gives = { λ bytes result. MatchResult result
+        (λ value. (value ≡ bytes) × IsFrame bytes)
+        (λ e. (e ≡ InvalidValue) × ¬ IsFrame bytes) };
+
+    #[tactic(auto, using(crate::proofs::Whole::frame_passes, crate::proofs::Whole::passes_frame))]
+    fn try_from(bytes: Bytes) -> Result<LazyValue, Error> {
+        if !is_frame(bytes.as_slice()) {
+            return Err(Error::InvalidValue);
+        }
+        Ok(LazyValue { bytes })
     }
 }

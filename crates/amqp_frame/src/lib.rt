@@ -14,7 +14,7 @@ mod read;
 mod readers;
 mod take_value;
 
-pub use frame::frame_len;
+pub use frame::{frame_len, is_frame};
 pub use lazy::LazyValue;
 pub use read::Read;
 pub use readers::{IoReader, SliceReader};

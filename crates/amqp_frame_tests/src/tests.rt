@@ -13,6 +13,32 @@ use std::cmp::Ordering;
 use std::io::{self, ErrorKind};
 use std::test::Fail;
 
+// Bytes, and whether they are exactly one encoded value.
+const WHOLE: [(&[u8], bool); 9] = [
+    (b"\xa1\x0dHello, World!", true),
+    (b"\x00\xa1\x01\x61\x45", true),
+    (b"\x40", true),
+    (b"\x40\x40", false),
+    (b"\x40\x10", false),
+    (b"\xa1\x05\x61", false),
+    (b"\x00\x53\x01", false),
+    (b"\x10", false),
+    (b"", false),
+];
+
+#[test]
+fn one_whole_value_alone_is_taken_over(rt: HostRuntime) -> Result<(), Fail> {
+    for (row, (bytes, whole)) in WHOLE.iter().enumerate() {
+        assert_eq!(rt; is_frame(bytes), *whole, "row {row}");
+        let shared = Bytes::copy_from_slice(rt.alloc(), bytes)?;
+        match LazyValue::try_from(shared) {
+            Ok(value) => assert!(rt; *whole && value.as_slice() == *bytes, "row {row}"),
+            Err(e) => assert!(rt; !*whole && e == Error::InvalidValue, "row {row}"),
+        }
+    }
+    Ok(())
+}
+
 // Gives one byte a call; the call of this number fails, counted from 1.
 #[derive(Drop)]
 struct Drip<'a> {

@@ -7,7 +7,7 @@ use amqp_data::{Array, Described, Descriptor, Error, OrderedMap, Symbol, Transpa
 use amqp_frame::{LazyValue, SliceReader};
 use amqp_to_value::{TryFromSerializable, to_value};
 use amqp_value::Value;
-use amqp_wire::to_vec;
+use amqp_wire::{to_lazy_value, to_vec};
 use std::alloc::Global;
 
 /// Makes each call once.
@@ -102,5 +102,8 @@ fn described(alloc: Global) -> Result<bool, Error> {
 fn frames(alloc: Global) -> Result<bool, Error> {
     let mut reader = SliceReader::new(&[0, 0xa1, 1, b'a', 0x45, 0x40]);
     let frame = LazyValue::from_reader(alloc, &mut reader)?;
-    Ok(frame.try_into_vec(alloc)?.as_slice() == [0, 0xa1, 1, b'a', 0x45].as_slice())
+    let held = to_lazy_value(alloc, &("a", &frame))?;
+    let expected: &[u8] = b"\xc0\x09\x02\xa1\x01a\x00\xa1\x01a\x45";
+    let taken = frame.try_into_vec(alloc)?;
+    Ok(held.as_slice() == expected && taken.as_slice() == [0, 0xa1, 1, b'a', 0x45].as_slice())
 }

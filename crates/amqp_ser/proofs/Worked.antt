@@ -1,7 +1,11 @@
 -- Worked rows: trees and their bytes, computed from the definitions.
-use Rattle.std.proofs.Common.{◌≡◌, ℕ, pos, negsuc, ◌+◌, ◌*◌, ◌-◌, List, [], ◌∷◌, true, false, nat_le, if◌then◌else◌, length, take, replicate, codes, refl}
-use Rattle.amqp_ser.specs.Tree.{Scalar, null, bool, ubyte, ushort, uint, ulong, byte, short, int, long, float, double, decimal32, char, timestamp, binary, string, symbol, name, code, Tree, scalar, list, array, map, described, variant, transparent, no_pairs, pair, trees_of}
+use Rattle.std.proofs.Common.{◌≡◌, ℕ, pos, negsuc, ◌+◌, ◌*◌, ◌-◌, List, [], ◌∷◌, Some, None, true, false, nat_le, if◌then◌else◌, length, take, replicate, codes, refl}
+use Rattle.amqp_frame.specs.Code.{is_primitive_code, category, size_width, body_len}
+use Rattle.amqp_frame.specs.Whole.{is_frame}
+use Rattle.amqp_ser.specs.Tree.{Scalar, null, bool, ubyte, ushort, uint, ulong, byte, short, int, long, float, double, decimal32, char, timestamp, binary, string, symbol, name, code, Tree, scalar, list, array, map, described, variant, lazy, transparent, no_pairs, pair, trees_of}
 use Rattle.amqp_ser.specs.Encoding.{encoding}
+use Rattle.amqp_ser.specs.Marked.{marked}
+use Rattle.amqp_ser.specs.declared.mark.Mark.TheVariants as mark
 use Rattle.amqp_ser.specs.Writable.{uniform_arrays, placed, within_limits, writable}
 
 abbrev digit : ℕ → ℕ
@@ -228,7 +232,40 @@ nested_transparent = refl
 nested_transparent_is_written : writable (transparent (trees_of (transparent (trees_of []) ∷ []))) ≡ true
 nested_transparent_is_written = refl
 
+-- lazy trees
+lazy_string : marked mark.Lazy (Some (scalar (binary (bytes (codes "a10161"))))) ≡ Some (lazy (bytes (codes "a10161")))
+unfolding is_frame is_primitive_code category size_width body_len
+lazy_string = refl
+
+lazy_described : marked mark.Lazy (Some (scalar (binary (bytes (codes "00a1016145"))))) ≡ Some (lazy (bytes (codes "00a1016145")))
+unfolding is_frame is_primitive_code category size_width body_len
+lazy_described = refl
+
+no_lazy_of_a_prefix : marked mark.Lazy (Some (scalar (binary (bytes (codes "a10561"))))) ≡ None
+unfolding is_frame is_primitive_code category size_width body_len
+no_lazy_of_a_prefix = refl
+
+no_lazy_of_two : marked mark.Lazy (Some (scalar (binary (bytes (codes "4040"))))) ≡ None
+unfolding is_frame is_primitive_code category size_width body_len
+no_lazy_of_two = refl
+
+no_lazy_of_none : marked mark.Lazy (Some (scalar (binary []))) ≡ None
+unfolding is_frame
+no_lazy_of_none = refl
+
+no_lazy_of_a_string : marked mark.Lazy (Some (scalar (string (bytes (codes "40"))))) ≡ None
+no_lazy_of_a_string = refl
+
+list_of_lazy : encoding (list_of (lazy (bytes (codes "40")) ∷ lazy (bytes (codes "a10161")) ∷ [])) ≡ bytes (codes "c0050240a10161")
+list_of_lazy = refl
+
+lazy_is_written : writable (map (pair (lazy (bytes (codes "40"))) (described (code 1) (lazy (bytes (codes "41")))) no_pairs)) ≡ true
+lazy_is_written = refl
+
 -- trees that are refused
+array_of_lazy : uniform_arrays (array_of (lazy (bytes (codes "40")) ∷ [])) ≡ false
+array_of_lazy = refl
+
 array_of_two_kinds : uniform_arrays (array_of (scalar (int (pos 1)) ∷ scalar (string (codes "a")) ∷ [])) ≡ false
 array_of_two_kinds = refl
 

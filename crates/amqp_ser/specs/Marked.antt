@@ -1,6 +1,7 @@
 -- The trees that a newtype's marker name makes of the tree inside it, and the names that stand for themselves.
 use Rattle.std.specs.Prelude.{ℕ, List, Option, Some, None, Bool, nat_eq, length, bytes_eq, codes, if◌then◌else◌}
-use Rattle.amqp_ser.specs.Tree.{Scalar, long, binary, string, symbol, timestamp, decimal32, decimal64, decimal128, uuid, Tree, scalar, list, array, transparent}
+use Rattle.amqp_frame.specs.Whole.{is_frame}
+use Rattle.amqp_ser.specs.Tree.{Scalar, long, binary, string, symbol, timestamp, decimal32, decimal64, decimal128, uuid, Tree, scalar, list, array, lazy, transparent}
 use Rattle.amqp_ser.specs.declared.mark.Mark.{Mark}
 use Rattle.amqp_ser.specs.declared.mark.Mark.TheVariants as mark
 
@@ -31,7 +32,12 @@ is_value_name n = bytes_eq n (codes "__VALUE")
 abbrev pub of_length : ℕ → List ℕ → Scalar → Option Tree
 of_length n bs s = if nat_eq (length bs) n then Some (scalar s) else None
 
--- a symbol is marked on a string, a timestamp on a long, a decimal or a uuid on a binary of its length
+-- the lazy tree of these bytes, if they are one encoded value
+abbrev pub of_frame : List ℕ → Option Tree
+of_frame bs = if is_frame bs then Some (lazy bs) else None
+
+-- a symbol is marked on a string, a timestamp on a long, a decimal or a uuid on a binary of its length, and a lazy value
+-- on a binary that is one encoded value
 abbrev pub marked_scalar : Mark → Scalar → Option Tree
 marked_scalar mark.Symbol (string bs) = Some (scalar (symbol bs))
 marked_scalar mark.Timestamp (long z) = Some (scalar (timestamp z))
@@ -39,10 +45,11 @@ marked_scalar mark.Decimal32 (binary bs) = of_length 4 bs (decimal32 bs)
 marked_scalar mark.Decimal64 (binary bs) = of_length 8 bs (decimal64 bs)
 marked_scalar mark.Decimal128 (binary bs) = of_length 16 bs (decimal128 bs)
 marked_scalar mark.Uuid (binary bs) = of_length 16 bs (uuid bs)
+marked_scalar mark.Lazy (binary bs) = of_frame bs
 marked_scalar mark.Other s = Some (scalar s)
 marked_scalar m s = None
 
--- an array and a transparent vector are marked on a list; lazy values have no tree yet
+-- an array and a transparent vector are marked on a list
 abbrev pub marked_tree : Mark → Tree → Option Tree
 marked_tree m (scalar s) = marked_scalar m s
 marked_tree mark.Array (list ts) = Some (array ts)

@@ -2,6 +2,7 @@
 
 mod data;
 mod holders;
+mod lazy_value;
 mod maps;
 mod scalars;
 mod text;

@@ -123,6 +123,7 @@ no_scalar_described scalar_mark.Decimal32 x (Some t) = refl
 no_scalar_described scalar_mark.Decimal64 x (Some t) = refl
 no_scalar_described scalar_mark.Decimal128 x (Some t) = refl
 no_scalar_described scalar_mark.Uuid x (Some t) = refl
+no_scalar_described scalar_mark.Lazy x (Some t) = refl
 
 pub no_array_described : (x : Descriptor) (t : Option Tree) → marked mark.Array (as_described (Some x) t) ≡ None
 no_array_described x None = refl

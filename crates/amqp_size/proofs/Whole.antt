@@ -94,6 +94,7 @@ no_scalar_list scalar_mark.Decimal32 ts = refl
 no_scalar_list scalar_mark.Decimal64 ts = refl
 no_scalar_list scalar_mark.Decimal128 ts = refl
 no_scalar_list scalar_mark.Uuid ts = refl
+no_scalar_list scalar_mark.Lazy ts = refl
 
 no_scalar_map : (m : ScalarMark) (ps : Pairs) → marked_tree (the_mark m) (map ps) ≡ None
 no_scalar_map scalar_mark.Symbol ps = refl
@@ -102,6 +103,7 @@ no_scalar_map scalar_mark.Decimal32 ps = refl
 no_scalar_map scalar_mark.Decimal64 ps = refl
 no_scalar_map scalar_mark.Decimal128 ps = refl
 no_scalar_map scalar_mark.Uuid ps = refl
+no_scalar_map scalar_mark.Lazy ps = refl
 
 no_scalar_variant : (m : ScalarMark) (i : ℕ) (t : Tree) → marked_tree (the_mark m) (variant i t) ≡ None
 no_scalar_variant scalar_mark.Symbol i t = refl
@@ -110,6 +112,7 @@ no_scalar_variant scalar_mark.Decimal32 i t = refl
 no_scalar_variant scalar_mark.Decimal64 i t = refl
 no_scalar_variant scalar_mark.Decimal128 i t = refl
 no_scalar_variant scalar_mark.Uuid i t = refl
+no_scalar_variant scalar_mark.Lazy i t = refl
 
 no_array_map : (o : Option Pairs) → marked mark.Array (as_map o) ≡ None
 no_array_map None = refl

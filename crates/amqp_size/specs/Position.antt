@@ -35,6 +35,7 @@ the_mark scalar_mark.Decimal32 = mark.Decimal32
 the_mark scalar_mark.Decimal64 = mark.Decimal64
 the_mark scalar_mark.Decimal128 = mark.Decimal128
 the_mark scalar_mark.Uuid = mark.Uuid
+the_mark scalar_mark.Lazy = mark.Lazy
 
 -- the tree that stands there, if this one is fed
 abbrev pub meant : Pending → Option Tree → Option Tree

@@ -1,7 +1,7 @@
 //! The answers on trees, by where they stand.
 
-ghost use Rattle.std.specs.Prelude.{◌≡◌, ◌+◌, ◌&&◌, ◌⊎◌, Some, Err, MatchResult, is_some, true, false, length};
-ghost use Rattle.amqp_ser.specs.Tree.{Tree, Trees, transparent};
+ghost use Rattle.std.specs.Prelude.{◌≡◌, ◌+◌, ◌&&◌, ◌⊎◌, ℕ, List, Some, Err, MatchResult, is_some, true, false, length};
+ghost use Rattle.amqp_ser.specs.Tree.{Tree, Trees, lazy, transparent};
 ghost use Rattle.amqp_ser.specs.Limits.{fits, is_length};
 ghost use Rattle.amqp_ser.specs.Composites.{descriptor_of};
 ghost use Rattle.amqp_ser.specs.Encoding.{encoding, encoding_each, payload, constructor};
@@ -126,6 +126,26 @@ impl SizeSerializer {
             return Err(Refusal::TooLong);
         }
         self.accept(position, prefix_len, code, text_width(n), n + 4)
+    }
+
+    /// The answer on a lazy tree of so many bytes: it has no constructor, so it is no array's element, and it is no
+    /// descriptor.
+    #[inline(never)]
+    pub(crate) fn lazy(
+        &mut self,
+        position: Position,
+        prefix_len: usize,
+        len: usize,
+    ) -> Result<usize, Refusal>
+        ensures { self.old.position ≡ Plain (without_prefix (position_at position prefix_len)) →
+            (bytes : List ℕ) → length bytes ≡ len →
+            at_position (position_at position prefix_len) (Some (lazy bytes)) result self.new.position }
+    {
+        match position {
+            Position::Root | Position::Inside => Ok(len),
+            Position::Value(base) => described(prefix_len, base, len),
+            _ => Err(Refusal::InvalidValue),
+        }
     }
 
     /// The answer on a variant whose payload has this length.

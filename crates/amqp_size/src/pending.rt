@@ -85,7 +85,7 @@ impl Pending {
             Mark::Decimal128 => self.mark_scalar(ScalarMark::Decimal128),
             Mark::Uuid => self.mark_scalar(ScalarMark::Uuid),
             Mark::Transparent => self.mark_transparent(),
-            Mark::Lazy => Pending::Nothing(self.position()),
+            Mark::Lazy => self.mark_scalar(ScalarMark::Lazy),
         }
     }
 

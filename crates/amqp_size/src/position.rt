@@ -52,6 +52,8 @@ pub enum ScalarMark {
     Decimal128,
     /// A uuid, over a binary of 16 bytes.
     Uuid,
+    /// A lazy value, over a binary that is one encoded value.
+    Lazy,
 }
 
 /// Where a value stands, and the marker that it stands under.

@@ -13,6 +13,7 @@ use crate::position::{Pending, Position, ScalarMark, Shape};
 use crate::refusal::Refusal;
 use crate::width::{array_width, list_width, map_width};
 use amqp_data::{EncodingCodes, Error};
+use amqp_frame::is_frame;
 use amqp_ser::{Fixed, Kind, Mark, Serialize, Serializer};
 use std::marker::Model;
 
@@ -222,6 +223,11 @@ impl Serializer for SizeSerializer {
                 EncodingCodes::Uuid as u8,
                 17,
                 16,
+            ),
+            Pending::Scalar(position, ScalarMark::Lazy) if is_frame(v) => self.lazy(
+                position,
+                prefix_len,
+                v.len(),
             ),
             _ => Err(Refusal::InvalidValue),
         }

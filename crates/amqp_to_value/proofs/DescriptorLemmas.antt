@@ -15,6 +15,7 @@ use Rattle.amqp_to_value.specs.PendingMark.{meant}
 use Rattle.amqp_to_value.specs.declared.pending_mark.PendingMark.{PendingMark}
 use Rattle.amqp_to_value.specs.declared.serializer.Serializer.{Serializer}
 use Rattle.amqp_to_value.proofs.AnswerLemmas.{none_refused}
+use Rattle.amqp_to_value.proofs.LazyLemmas.{lazy_descriptor}
 
 -- a tree is the descriptor that its image is
 descriptor-image : (t : Tree) → descriptor_of (Some (image t)) ≡ descriptor_of (Some t)
@@ -38,7 +39,7 @@ no_descriptor start d t none = subst (λ o. refuses error.InvalidValue (meant_by
 pub descriptor_refused : (start : Serializer) (d : Option Tree) (e : Error) → refuses e d → (t : Option Tree) → refuses e (meant_by start (as_described (descriptor_of d) t))
 descriptor_refused start d error.OutOfMemory r t = tt
 descriptor_refused start None error.InvalidValue r t = none_refused start
-descriptor_refused start (Some u) error.InvalidValue r t = absurd r
+descriptor_refused start (Some u) error.InvalidValue r t = no_descriptor start (Some u) t (lazy_descriptor u r)
 descriptor_refused start d e r t = absurd r
 
 described_by-last : (ds : List Descriptor) (d : Descriptor) (t : Option Tree) → described_by (ds ++ (d ∷ [])) t ≡ described_by ds (as_described (Some d) t)

@@ -1,3 +1,4 @@
+pub mod LazyLemmas
 pub mod PendingDescriptorLemmas
 pub mod HeldImagesLemmas
 pub mod MapLemmas

@@ -14,6 +14,7 @@ use Rattle.amqp_value.specs.declared.value.Value.TheOpen.{Value-F}
 use Rattle.amqp_value.specs.declared.value.Value.TheVariants.{Described as DescribedValue}
 use Rattle.amqp_to_value.specs.PendingDescriptors.{DescriptorsState, descriptors_of, described_in, described_by, standing}
 use Rattle.amqp_to_value.specs.ImageOf.{refuses, StandsFor}
+use Rattle.amqp_to_value.proofs.LazyLemmas.{lazy_described_in}
 
 -- what comes after the kept ones begins with what the next value stands in
 pub standing_left : (p : DescriptorsState) → (more : List Descriptor) × (p.later ≡ standing p ++ more)
@@ -60,7 +61,8 @@ stood ds (Some t) v s = (t, refl, subst (StandsFor v) (described_by-Some ds t) s
 pub refuses_in : (ds : List Descriptor) (o : Option Tree) (e : Error) → refuses e o → refuses e (described_by ds o)
 refuses_in ds o error.OutOfMemory r = tt
 refuses_in ds None error.InvalidValue r = subst (refuses error.InvalidValue) (sym (described_by-None ds)) tt
-refuses_in ds (Some t) error.InvalidValue r = absurd r
+refuses_in ds (Some t) error.InvalidValue r =
+    subst (refuses error.InvalidValue) (sym (described_by-Some ds t)) (lazy_described_in ds t ∙ r)
 refuses_in ds o e r = absurd r
 
 -- what is kept stands before

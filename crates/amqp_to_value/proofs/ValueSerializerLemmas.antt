@@ -26,6 +26,7 @@ use Rattle.amqp_to_value.specs.declared.parts.Parts.TheVariants as parts
 use Rattle.amqp_to_value.specs.declared.serializer.Serializer.{Serializer}
 use Rattle.amqp_to_value.proofs.PendingDescriptorLemmas.{standing_none}
 use Rattle.amqp_to_value.proofs.HeldImagesLemmas.{join_then, all_trees-then}
+use Rattle.amqp_to_value.proofs.LazyLemmas.{part_lacks}
 
 none-some : (t : Tree) → None ≡ Some t → ⊥
 none-some t q = cc
@@ -67,7 +68,7 @@ without u kind ps rest =
 pub refused : (u : PendingMark) (kind : Kind) (ps : List (Option Tree)) (p : Option Tree) (e : Error) → refuses e p → (rest : List (Option Tree)) → refuses e (meant u (whole kind (ps ++ (p ∷ rest))))
 refused u kind ps p error.OutOfMemory r rest = tt
 refused u kind ps None error.InvalidValue r rest = subst (refuses error.InvalidValue) (sym (without u kind ps rest)) tt
-refused u kind ps (Some t) error.InvalidValue r rest = absurd r
+refused u kind ps (Some t) error.InvalidValue r rest = part_lacks u kind ps t rest r
 refused u kind ps p e r rest = absurd r
 
 module _ (u : PendingMark) (kind : Kind) (old new : Parts) (ps : List (Option Tree)) (h : HoldsParts u kind old ps) (makes : (o : Option Trees) → compound_tree new o ≡ compound_tree old o) where

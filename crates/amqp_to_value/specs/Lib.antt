@@ -1,6 +1,7 @@
 -- Contracts of public items rest on all of these, but for `descriptors_of` and `described_in` in PendingDescriptors, and `feed` and
 -- `TakesPairs` in HeldImages, which private clauses alone cite.
 pub mod PendingDescriptors
+pub mod HasLazy
 pub mod ImageOf
 pub mod PendingMark
 pub mod HeldImages

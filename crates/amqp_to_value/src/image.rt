@@ -18,8 +18,8 @@ use std::alloc::Global;
 /// key keeps its place and takes the new value, so no map in the value has a key twice: the value is sound.
 ///
 /// # Errors
-/// `OutOfMemory` where a growth of memory is refused; `InvalidValue` only where the value has no tree, and then one of
-/// the two.
+/// `OutOfMemory` where a growth of memory is refused; `InvalidValue` only where the value has no tree, or something lazy
+/// stands in it, which is not read yet; and then one of the two.
 ///
 /// # Memory
 /// Takes `alloc`.

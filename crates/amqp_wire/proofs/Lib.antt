@@ -1,4 +1,5 @@
 pub mod CountWithinBytes
+pub mod BinaryHeaders
 pub mod CompoundHeaders
 pub mod OpeningBytes
 pub mod CompoundBytes

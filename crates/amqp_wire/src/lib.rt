@@ -8,6 +8,7 @@
 
 mod accept;
 mod header;
+mod lazy_value;
 mod measurer;
 mod output;
 mod position;
@@ -19,4 +20,5 @@ mod write;
 mod writer;
 mod writing;
 
+pub use lazy_value::to_lazy_value;
 pub use two_walks::to_vec;

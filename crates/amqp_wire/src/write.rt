@@ -5,7 +5,7 @@ ghost use Rattle.std.specs.Vec.{vec_capacity};
 ghost use Rattle.amqp_ser.specs.Fixed.{fixed_scalar};
 ghost use Rattle.amqp_ser.specs.Limits.{fits};
 ghost use Rattle.amqp_ser.specs.Scalars.{scalar_code};
-ghost use Rattle.amqp_ser.specs.Tree.{Trees, Scalar, scalar, null};
+ghost use Rattle.amqp_ser.specs.Tree.{Trees, Scalar, scalar, null, lazy};
 ghost use Rattle.amqp_ser.specs.Writable.{within_limits};
 ghost use Rattle.amqp_size.specs.Position.{without_prefix};
 ghost use Rattle.amqp_size.specs.State.{position_at};
@@ -135,6 +135,25 @@ impl Writer {
             }
             Err(e) => Err(e),
         }
+    }
+
+    /// Writes an encoded value as it is.
+    #[inline(never)]
+    pub(crate) fn lazy(&mut self, position: Position, bytes: &[u8]) -> Result<(), Refusal>
+        ensures kept { Kept self.old.output self.new.output }
+        ensures accepted { self.old.pending ≡ Plain (without_prefix (position_at position 0)) →
+            accepts (position_at position 0) (Some (lazy bytes.now)) result self.new.pending }
+        ensures written { writes_tree (position_at position 0) self.old.output
+            (Some (lazy bytes.now)) result self.new.output }
+    {
+        match position {
+            Position::Root | Position::Inside => {}
+            Position::Value(base) if base.takes_described() => {}
+            _ => return Err(Refusal::InvalidValue),
+        }
+        let put = self.output.put(bytes);
+        self.written(put);
+        Ok(())
     }
 
     /// Writes what stands before a compound's parts.

@@ -12,6 +12,7 @@ use crate::position::{described, inner_after};
 use crate::table::Header;
 use crate::writing::Writing;
 use amqp_data::EncodingCodes;
+use amqp_frame::is_frame;
 use amqp_ser::{Fixed, Kind, Mark, Serializer};
 use amqp_size::{Pending, Position, Refusal, ScalarMark, Shape};
 use std::marker::Model;
@@ -176,6 +177,8 @@ impl Serializer for Writer {
                 EncodingCodes::Uuid as u8,
                 v,
             ),
+            // The same test as in the first walk: `accepts` is asked of this one too, call by call.
+            Pending::Scalar(position, ScalarMark::Lazy) if is_frame(v) => self.lazy(position, v),
             _ => Err(Refusal::InvalidValue),
         }
     }

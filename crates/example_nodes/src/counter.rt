@@ -113,7 +113,7 @@ impl Serializer for NodeCounter {
     }
 
     fn serialize_bytes(&mut self, v: &[u8]) -> Result<u64, Error> {
-        self.count_one(self.pending.takes_bytes(v.len()))
+        self.count_one(self.pending.takes_bytes(v))
     }
 
     /// A marked tree has as many nodes as the tree that it was, but not every tree can be marked so.

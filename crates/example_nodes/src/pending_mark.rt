@@ -1,12 +1,13 @@
 //! Markers, and the place of a descriptor, before the next tree.
 
-ghost use Rattle.std.specs.Prelude.{◌≡◌, ℕ, List, Option, Some, is_some, length};
+ghost use Rattle.std.specs.Prelude.{◌≡◌, ℕ, List, Option, Some, is_some};
 ghost use Rattle.amqp_ser.specs.Composites.{as_described};
 ghost use Rattle.amqp_ser.specs.Fixed.{fixed_scalar};
 ghost use Rattle.amqp_ser.specs.Marked.{marked};
 ghost use Rattle.amqp_ser.specs.Tree.{Descriptor, Tree, scalar, string, binary};
 ghost use Rattle.example_nodes.specs.PendingMark.{fits, meant};
 
+use amqp_frame::is_frame;
 use amqp_ser::{Fixed, Kind, Mark};
 
 /// What the next tree stands under.
@@ -63,16 +64,16 @@ impl PendingMark {
         matches!(self, PendingMark::Mark(Mark::Other | Mark::Symbol))
     }
 
-    /// Whether a binary of this length may stand here.
-    pub fn takes_bytes(self, len: usize) -> bool
-        ensures { (bs : List ℕ) → length bs ≡ len →
-            result ≡ is_some (meant self (Some (scalar (binary bs)))) }
+    /// Whether this binary may stand here.
+    pub fn takes_bytes(self, bytes: &[u8]) -> bool
+        ensures { result ≡ is_some (meant self (Some (scalar (binary bytes.now)))) }
     {
         match self {
             PendingMark::Mark(Mark::Other) => true,
-            PendingMark::Mark(Mark::Decimal32) => len == 4,
-            PendingMark::Mark(Mark::Decimal64) => len == 8,
-            PendingMark::Mark(Mark::Decimal128 | Mark::Uuid) => len == 16,
+            PendingMark::Mark(Mark::Decimal32) => bytes.len() == 4,
+            PendingMark::Mark(Mark::Decimal64) => bytes.len() == 8,
+            PendingMark::Mark(Mark::Decimal128 | Mark::Uuid) => bytes.len() == 16,
+            PendingMark::Mark(Mark::Lazy) => is_frame(bytes),
             _ => false,
         }
     }

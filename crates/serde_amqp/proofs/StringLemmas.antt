@@ -1,5 +1,5 @@
 -- The list of some strings: its tree, and what the crates below answer on it.
-use Rattle.std.proofs.Common.{◌≡◌, ℕ, ◌⊎◌, inl, inr, ◌&&◌, List, [], ◌∷◌, Option, Some, Ok, Err, true, false, length, map, Bor, refl, ap, ◌∙◌, subst}
+use Rattle.std.proofs.Common.{◌≡◌, ℕ, ◌⊎◌, inl, inr, ◌&&◌, List, [], ◌∷◌, Option, Some, Ok, Err, true, false, length, map, Bor, refl, ap, sym, ◌∙◌, subst}
 use Rattle.amqp_data.specs.declared.error.Error.{Error}
 use Rattle.amqp_data.specs.declared.error.Error.TheVariants.{OutOfMemory, TooLong, InvalidValue, InvalidFormatCode, UnexpectedEof, Io, Message}
 use Rattle.amqp_ser.specs.Tree.{string, Tree, Trees, scalar, trees_of}
@@ -8,6 +8,7 @@ use Rattle.amqp_ser.specs.declared.kind.Kind.TheVariants as kind
 use Rattle.amqp_ser.specs.Encoding.{encoding}
 use Rattle.amqp_ser.specs.Writable.{uniform_arrays, uniform_arrays_each, inside_each, placed, writable}
 use Rattle.amqp_ser.specs.SizeAndBytes.{IsSizeOf, AreBytesOf}
+use Rattle.amqp_to_value.specs.HasLazy.{has_lazy, has_lazy_each}
 use Rattle.amqp_to_value.specs.ImageOf.{IsImageOf}
 use Rattle.amqp_value.specs.declared.value.Value.{Value}
 use Rattle.amqp_value.specs.Image.{image}
@@ -73,10 +74,18 @@ bytes-refused-at items (Message words) h = absurd h
 pub bytes-refused : (items : List (Bor (List ℕ))) (e : Error) → AreBytesOf (vector_tree items) (Err e) → RefusesReport items e
 bytes-refused items e h = bytes-refused-at items e (subst (λ t. AreBytesOf t (Err e)) (strings-whole items) h)
 
+each-not_lazy : (lines : List (List ℕ)) → has_lazy_each (string_trees lines) ≡ false
+each-not_lazy [] = refl
+each-not_lazy (line ∷ lines) = each-not_lazy lines
+
+strings-not_lazy : (lines : List (List ℕ)) → has_lazy (strings_tree lines) ≡ true → ⊥
+unfolding strings_tree
+strings-not_lazy lines h = let no : true ≡ false = sym h ∙ each-not_lazy lines in cc
+
 value-refused-at : (items : List (Bor (List ℕ))) (e : Error) → IsImageOf (Some (strings_tree (texts items))) (Err e) → RefusesReport items e
 value-refused-at items OutOfMemory h = (inr refl, λ k. absurd (cc))
 value-refused-at items TooLong h = absurd h
-value-refused-at items InvalidValue h = absurd h
+value-refused-at items InvalidValue h = absurd (strings-not_lazy (texts items) h)
 value-refused-at items InvalidFormatCode h = absurd h
 value-refused-at items UnexpectedEof h = absurd h
 value-refused-at items Io h = absurd h

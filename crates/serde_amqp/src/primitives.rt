@@ -4,3 +4,4 @@ pub use amqp_data::{
     Array, ByteBuf, Dec32, Dec64, Dec128, F32Bits, F64Bits, OrderedMap, Symbol, SymbolRef,
     Timestamp, Uuid, civil_from_days,
 };
+pub use amqp_frame::LazyValue;

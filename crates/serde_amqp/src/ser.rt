@@ -8,4 +8,4 @@ pub use amqp_ser::{
     SerializeSeq, SerializeStruct, SerializeStructVariant, SerializeTuple, SerializeTupleStruct,
     SerializeTupleVariant, Serializer, SymbolMapOf, VariantOf, mark_named,
 };
-pub use amqp_wire::to_vec;
+pub use amqp_wire::{to_lazy_value, to_vec};

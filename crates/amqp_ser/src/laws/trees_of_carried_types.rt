@@ -3,7 +3,7 @@
 //! A type's tree is declared where the type is made serializable; these laws say what it is, apart
 //! from there. A compound has a tree where all its parts have one.
 
-ghost use Rattle.std.specs.Prelude.{◌≡◌, ◌∷◌, [], ℕ, ℤ, Bool, true, false, Some, None, Box, String, Vec, map, option_map, string_bytes};
+ghost use Rattle.std.specs.Prelude.{◌≡◌, ◌∷◌, [], ℕ, ℤ, List, Bool, true, false, Some, None, Box, String, Vec, map, option_map, string_bytes};
 ghost use Rattle.std.specs.Global.{Global};
 ghost use Rattle.amqp_data.specs.Fixed.{dec32_bytes, dec64_bytes, dec128_bytes};
 ghost use Rattle.amqp_data.specs.Fixed.{f32_bits, f64_bits, milliseconds_of, uuid_bytes};
@@ -23,6 +23,7 @@ use amqp_data::{
     Array, ByteBuf, Dec32, Dec64, Dec128, Described, F32Bits, F64Bits, OrderedMap, Symbol,
     SymbolRef, Timestamp, TransparentVec, Uuid,
 };
+use amqp_frame::LazyValue;
 use std::collections::BTreeMap;
 
 /// The unit is null, and truth values, numbers and characters are their scalars.
@@ -129,6 +130,12 @@ pub fn trees_of_described_values<T: Serialize>(value: &Described<T>)
     ensures code { (n : ℕ) → value.now.descriptor ≡ Code n →
         ⟦<Described<T> as Serialize>⟧.tree value.now ≡ option_map (tree.described (tree.code n))
         (T.tree value.now.value) }
+{}
+
+/// A lazy value is the lazy tree of its bytes.
+pub fn trees_of_lazy_values()
+    ensures lazy { (bytes : List ℕ) →
+        ⟦<LazyValue as Serialize>⟧.tree bytes ≡ Some (tree.lazy bytes) }
 {}
 
 /// What fields that are handed over together mean, in order: a field is there; one that may be

@@ -22,9 +22,9 @@ use std::test::Fail;
 
 /// A newtype of this name.
 #[derive(Drop)]
-struct Newtype<'a, T> {
-    name: &'static str,
-    value: &'a T,
+pub struct Newtype<'a, T> {
+    pub name: &'static str,
+    pub value: &'a T,
 }
 
 impl<T: Serialize> Serialize for Newtype<'_, T> {
@@ -37,7 +37,7 @@ impl<T: Serialize> Serialize for Newtype<'_, T> {
 
 /// A number after this, its descriptor if it is of such a kind.
 #[derive(Drop)]
-struct After<'a, D>(&'a D);
+pub struct After<'a, D>(pub &'a D);
 
 impl<D: Serialize> Serialize for After<'_, D> {
     ghost tree = { λ v. as_described (descriptor_of (D.tree v.0.now)) (Some (scalar (ubyte 1))) };

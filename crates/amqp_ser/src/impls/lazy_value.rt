@@ -1,0 +1,20 @@
+//! An encoded value, which is written as it is.
+
+ghost use Rattle.std.specs.Prelude.{Some};
+ghost use Rattle.amqp_ser.specs.Tree.{lazy};
+
+use crate::mark::Mark;
+use crate::serialize::Serialize;
+use crate::serializer::Serializer;
+use amqp_frame::LazyValue;
+
+impl Serialize for LazyValue {
+    ghost tree = { λ v. Some (lazy v) };
+
+    #[tactic(auto, using(amqp_frame::proofs::Whole::frame_passes))]
+    #[inline(always)]
+    fn serialize<S: Serializer>(&self, serializer: &mut S) -> Result<S::Ok, S::Error> {
+        serializer.mark(Mark::Lazy);
+        serializer.serialize_bytes(self.as_slice())
+    }
+}
