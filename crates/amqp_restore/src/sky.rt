@@ -1,0 +1,116 @@
+//! An enum with the four kinds of variants.
+
+use amqp_de::de::{Deserialize, Deserializer};
+use amqp_de::{
+    DataOr, EnumOf, ListOf, May, Must, Never, Of, OneOf, Record, Seed, UnitOr, named, read,
+    variant, variants,
+};
+use amqp_ser::{Serialize, Serializer, VariantOf};
+use std::alloc::Global;
+
+/// What the sky is like.
+#[derive(Debug, PartialEq, Drop)]
+pub enum Sky {
+    /// Variant 0, its index alone.
+    Clear,
+    /// Variant 1, a number: eighths of the sky.
+    Cloudy(u8),
+    /// Variant 2, a list of two numbers: a speed, and the degrees that the wind comes from.
+    Windy(u16, u16),
+    /// Variant 3, a list of a name and, where it is known, the hour of its end.
+    Storm { name: String, until: Option<u32> },
+}
+
+/// The variants as they are read.
+type Variants = UnitOr<
+    DataOr<
+        Of<u8>,
+        DataOr<ListOf<Must<u16, Must<u16, ()>>>, DataOr<ListOf<Must<String, May<u32, ()>>>, ()>>,
+    >,
+>;
+
+impl Serialize for Sky {
+    ghost use Rattle.amqp_restore.specs.Skies.{of_sky};
+
+    ghost tree = { of_sky };
+
+    fn serialize<S: Serializer>(&self, serializer: &mut S) -> Result<S::Ok, S::Error> {
+        match self {
+            Sky::Clear => serializer.serialize_unit_variant("Sky", 0, "Clear"),
+            Sky::Cloudy(eighths) => {
+                serializer.serialize_newtype_variant("Sky", 1, "Cloudy", eighths)
+            }
+            Sky::Windy(speed, from) => VariantOf(
+                2,
+                amqp_ser::fields! { "0": speed, "1": from },
+            ).serialize(serializer),
+            Sky::Storm { name, until } => VariantOf(
+                3,
+                amqp_ser::fields! { "name": name, "until": until },
+            ).serialize(serializer),
+        }
+    }
+}
+
+impl Record for Sky {
+    ghost use Rattle.amqp_restore.specs.Skies.{sky_parts};
+
+    type Parts = OneOf<
+        (),
+        OneOf<u8, OneOf<(u16, (u16, ())), OneOf<(String, (Option<u32>, ())), Never>>>,
+    >;
+
+    ghost parts = { sky_parts };
+}
+
+impl Deserialize for Sky {
+    ghost use Rattle.std.specs.Prelude.{codes};
+    ghost use Rattle.amqp_de.specs.Enums.{OnEnum, unit_or, data_or, no_variant};
+    ghost use Rattle.amqp_de.specs.Fields.{OnFields, must, may, end};
+    ghost use Rattle.amqp_restore.specs.Skies.{sky_parts};
+
+    ghost reads = { λ t s. OnEnum (
+        unit_or (
+        data_or ⟦<u8 as Deserialize>⟧.reads (
+        data_or (λ u x. OnFields (
+        must (codes "0") ⟦<u16 as Deserialize>⟧.reads x.0 (
+        must (codes "1") ⟦<u16 as Deserialize>⟧.reads x.1.0 end)) u) (
+        data_or (λ u x. OnFields (
+        must (codes "name") ⟦<String as Deserialize>⟧.reads x.0 (
+        may (codes "until") ⟦<u32 as Deserialize>⟧.reads x.1.0 end)) u)
+        no_variant)))) t (sky_parts s) };
+
+    ghost image = { λ s. ⟦<EnumOf<Variants> as Seed>⟧.image (sky_parts s) };
+
+    ghost restorable = { λ s. ⟦<EnumOf<Variants> as Seed>⟧.restorable (sky_parts s) };
+
+    ghost same = { λ s r. ⟦<EnumOf<Variants> as Seed>⟧.same (sky_parts s) (sky_parts r) };
+
+    fn deserialize<D: Deserializer>(alloc: Global, deserializer: D) -> Result<Sky, D::Error> {
+        let sky = read::<Sky, D, _>(
+            alloc,
+            deserializer,
+            EnumOf(variants! { unit, newtype, named! { "0", "1" }, named! { "name", "until"? } }),
+        )?;
+        match sky {
+            variant!(0, ()) => Ok(Sky::Clear),
+            variant!(1, eighths) => Ok(Sky::Cloudy(eighths)),
+            variant!(2, parts) => {
+                let amqp_de::fields! { speed, from } = parts;
+                Ok(Sky::Windy(speed, from))
+            }
+            variant!(3, parts) => {
+                let amqp_de::fields! { name, until } = parts;
+                Ok(Sky::Storm { name, until })
+            }
+            variant!(none 4, never) => match never {},
+        }
+    }
+}
+
+impl crate::restore::Restore for Sky {
+    fn returns() {
+        crate::laws::variants_return();
+        <Option<u32> as crate::restore::Restore>::returns();
+    }
+}
