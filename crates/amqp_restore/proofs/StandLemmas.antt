@@ -3,7 +3,7 @@ use Rattle.std.proofs.Common.{◌≡◌, ℕ, List, [], ◌∷◌, Option, Some,
 use Rattle.std.specs.List.{AllByRecursion}
 use Rattle.amqp_ser.specs.Carried.{optional}
 use Rattle.amqp_ser.specs.Composites.{as_described}
-use Rattle.amqp_ser.specs.Compounds.{all_trees, as_kind, before, whole}
+use Rattle.amqp_ser.specs.Compounds.{all_trees, as_kind, prepend, whole}
 use Rattle.amqp_ser.specs.Marked.{marked}
 use Rattle.amqp_ser.specs.Tree.{Descriptor, Tree, Trees, list, array, described, no_trees, more, trees_of}
 use Rattle.amqp_ser.specs.declared.kind.Kind.TheVariants as kind
@@ -17,16 +17,16 @@ abbrev StandTrees : Option Trees → Trees → Type 0
 StandTrees None us = ⊥
 StandTrees (Some ts) us = us ≡ images ts
 
-before_stands : (p : Option Tree) (u : Tree) (q : Option Trees) (us : Trees) → StandsAs p u → StandTrees q us → StandTrees (before p q) (more u us)
-before_stands None u q us h k = absurd h
-before_stands (Some t) u None us h k = absurd k
-before_stands (Some t) u (Some ts) us h k = λ i. more (h i) (k i)
+prepend_stands : (p : Option Tree) (u : Tree) (q : Option Trees) (us : Trees) → StandsAs p u → StandTrees q us → StandTrees (prepend p q) (more u us)
+prepend_stands None u q us h k = absurd h
+prepend_stands (Some t) u None us h k = absurd k
+prepend_stands (Some t) u (Some ts) us h k = λ i. more (h i) (k i)
 
 all_stand : (ps : List (Option Tree)) (us : Trees) → StandAs ps us → StandTrees (all_trees ps) us
 all_stand [] no_trees h = refl
 all_stand [] (more u us) h = absurd h
 all_stand (p ∷ ps) no_trees h = absurd h
-all_stand (p ∷ ps) (more u us) h = before_stands p u (all_trees ps) us h.0 (all_stand ps us h.1)
+all_stand (p ∷ ps) (more u us) h = prepend_stands p u (all_trees ps) us h.0 (all_stand ps us h.1)
 
 as_list : (q : Option Trees) (us : Trees) → StandTrees q us → StandsAs (as_kind kind.List q) (list us)
 as_list None us h = absurd h
@@ -52,15 +52,15 @@ pub transparent_stands : (ps : List (Option Tree)) (us : Trees) → StandAs ps u
 unfolding whole
 transparent_stands ps us h = as_transparent (all_trees ps) us (all_stand ps us h)
 
-as_fields : (i : ℕ) (q : Option Trees) (us : Trees) → StandTrees q us → StandsAs (as_kind (kind.Fields i) q) (variant_map i (list us))
+as_fields : (i : ℕ) (q : Option Trees) (us : Trees) → StandTrees q us → StandsAs (as_kind (kind.Variant i) q) (variant_map i (list us))
 as_fields i None us h = absurd h
 as_fields i (Some ts) us h = ap (λ vs. variant_map i (list vs)) h
 
-pub fields_stand : (i : ℕ) (ps : List (Option Tree)) (us : Trees) → StandAs ps us → StandsAs (whole (kind.Fields i) ps) (variant_map i (list us))
+pub fields_stand : (i : ℕ) (ps : List (Option Tree)) (us : Trees) → StandAs ps us → StandsAs (whole (kind.Variant i) ps) (variant_map i (list us))
 unfolding whole
 fields_stand i ps us h = as_fields i (all_trees ps) us (all_stand ps us h)
 
-pub value_stands : (i : ℕ) (p : Option Tree) (u : Tree) → StandsAs p u → StandsAs (whole (kind.Only i) (p ∷ [])) (variant_map i u)
+pub value_stands : (i : ℕ) (p : Option Tree) (u : Tree) → StandsAs p u → StandsAs (whole (kind.NewtypeVariant i) (p ∷ [])) (variant_map i u)
 unfolding whole
 value_stands i None u h = absurd h
 value_stands i (Some t) u h = ap (λ v. variant_map i v) h

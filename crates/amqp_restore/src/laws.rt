@@ -49,6 +49,6 @@ pub fn described_return()
 /// # Memory
 /// Takes none.
 pub fn variants_return()
-    ensures value { (index : ℕ) (p : Option Tree) (u : Tree) → StandsAs p u → StandsAs (whole (kind.Only index) (p ∷ [])) (variant_map index u) }
-    ensures fields { (index : ℕ) (ps : List (Option Tree)) (us : Trees) → StandAs ps us → StandsAs (whole (kind.Fields index) ps) (variant_map index (list us)) }
+    ensures value { (index : ℕ) (p : Option Tree) (u : Tree) → StandsAs p u → StandsAs (whole (kind.NewtypeVariant index) (p ∷ [])) (variant_map index u) }
+    ensures fields { (index : ℕ) (ps : List (Option Tree)) (us : Trees) → StandAs ps us → StandsAs (whole (kind.Variant index) ps) (variant_map index (list us)) }
 {}

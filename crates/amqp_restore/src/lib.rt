@@ -5,8 +5,6 @@ mod holders;
 pub mod laws;
 mod restore;
 mod scalars;
-mod sky;
-mod trial;
 mod tuples;
 
 pub use restore::{Restore, restored};
