@@ -3,6 +3,7 @@
 
 mod composites;
 mod position;
+mod restored;
 mod sky;
 #[cfg(test)]
 mod tests;

@@ -1,0 +1,2 @@
+-- What the contracts of public items rest on.
+pub mod Stands

@@ -1,0 +1,16 @@
+-- Which tree is the image of what is written (AMQP 1.0 part 1, section 1.6).
+use Rattle.std.specs.Prelude.{◌≡◌, List, [], ◌∷◌, Option, Some, None}
+use Rattle.amqp_ser.specs.Tree.{Tree, Trees, no_trees, more}
+use Rattle.amqp_value.specs.Image.{image}
+
+-- there is a tree, and this is its image
+abbrev pub StandsAs : Option Tree → Tree → Type 0
+StandsAs None u = ⊥
+StandsAs (Some t) u = u ≡ image t
+
+-- there is a tree at each place, and these are their images
+abbrev pub StandAs : List (Option Tree) → Trees → Type 0
+StandAs [] no_trees = Unit {0}
+StandAs (p ∷ ps) (more u us) = StandsAs p u × StandAs ps us
+StandAs [] (more u us) = ⊥
+StandAs (p ∷ ps) no_trees = ⊥

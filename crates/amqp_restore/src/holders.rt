@@ -1,0 +1,49 @@
+//! Types that hold others come back.
+
+use crate::laws;
+use crate::restore::Restore;
+use amqp_data::{Array, Described, TransparentVec};
+
+#[tactic(auto, using(crate::proofs::StandLemmas::optional_stand))]
+impl<T: Restore> Restore for Option<T> {
+    fn returns() {
+        T::returns();
+    }
+}
+
+impl<T: Restore> Restore for Box<T> {
+    fn returns() {
+        T::returns();
+    }
+}
+
+#[tactic(auto, using(crate::proofs::StandLemmas::items_stand))]
+impl<T: Restore> Restore for Vec<T> {
+    fn returns() {
+        laws::lists_return();
+        T::returns();
+    }
+}
+
+#[tactic(auto, using(crate::proofs::StandLemmas::items_stand))]
+impl<T: Restore> Restore for Array<T> {
+    fn returns() {
+        laws::arrays_return();
+        T::returns();
+    }
+}
+
+#[tactic(auto, using(crate::proofs::StandLemmas::items_stand))]
+impl<T: Restore> Restore for TransparentVec<T> {
+    fn returns() {
+        laws::transparent_vectors_return();
+        T::returns();
+    }
+}
+
+impl<T: Restore> Restore for Described<T> {
+    fn returns() {
+        laws::described_return();
+        T::returns();
+    }
+}
