@@ -1,4 +1,4 @@
-use Rattle.std.proofs.Common.{Ok, Err}
+use Rattle.std.proofs.Common.{ℕ, List, Ok, Err}
 use Rattle.amqp_frame.proofs.Ends.{decided, kept}
 use Rattle.amqp_frame.proofs.lazy.LazyValue.from_reader.Goals as goal
 
@@ -9,4 +9,4 @@ pub returns-in-Err-clause-exact : goal.returns-in-Err-clause-exact
 returns-in-Err-clause-exact g c = decided (Err c.in-Err.error) (λ v. v) _ _ _ _ tt c.in-Err.ensures.refused
 
 pub returns-in-Err-clause-kept : goal.returns-in-Err-clause-kept
-returns-in-Err-clause-kept g c = kept (Err c.in-Err.error) _ _ _ _ c.in-Err.ensures.refused
+returns-in-Err-clause-kept g c = kept {T = List ℕ} (Err c.in-Err.error) _ _ _ _ c.in-Err.ensures.refused
