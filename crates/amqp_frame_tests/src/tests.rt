@@ -6,7 +6,7 @@ ghost use Rattle.std.specs.Ordering.{nat_cmp};
 ghost use Rattle.amqp_frame.specs.Reader.{last_count};
 
 use amqp_data::Error;
-use amqp_frame::{IoReader, LazyValue, Read, SliceReader, frame_len};
+use amqp_frame::{IoReader, LazyValue, Read, SliceReader, frame_len, is_frame};
 use bytes::Bytes;
 use std::alloc::Global;
 use std::cmp::Ordering;
