@@ -137,9 +137,9 @@ impl SizeSerializer {
         prefix_len: usize,
         len: usize,
     ) -> Result<usize, Refusal>
-        ensures { self.old.position ≡ Plain (without_prefix (position_at position prefix_len)) →
+        ensures { self.old.pending ≡ Plain (without_prefix (position_at position prefix_len)) →
             (bytes : List ℕ) → length bytes ≡ len →
-            at_position (position_at position prefix_len) (Some (lazy bytes)) result self.new.position }
+            at_position (position_at position prefix_len) (Some (lazy bytes)) result self.new.pending }
     {
         match position {
             Position::Root | Position::Inside => Ok(len),

@@ -52,8 +52,8 @@ counted_binary s after bs (Ok n) same h =
       ([], same ∙ sym (append-nil items)),
       (
         h,
-        subst (listed (meant s.size.position (Some (scalar (binary bs)))) items) (sym same)
-            (listed_binary s.size.position bs items (position_of s.size.position) n after.size.position h),
+        subst (listed (meant s.size.pending (Some (scalar (binary bs)))) items) (sym same)
+            (listed_binary s.size.pending bs items (position_of s.size.pending) n after.size.pending h),
       ),
     )
 counted_binary s after bs (Err e) same h = (([], same ∙ sym (append-nil s.table.headers.items)), inr h)
