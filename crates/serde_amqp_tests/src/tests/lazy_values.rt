@@ -1,4 +1,5 @@
-//! Lazy values: written as they are wherever a value may stand but in arrays, and without an untyped value yet.
+//! Lazy values: written as they are wherever a value may stand but in arrays, and without an untyped
+//! value yet.
 
 use super::marked::{After, Newtype};
 use super::rows::{decoded, refused};
@@ -53,7 +54,10 @@ fn held<R: Abort, T: Serialize>(
     hexadecimal: &str,
 ) -> Result<LazyValue, Fail> {
     let lazy = to_lazy_value(alloc, value)?;
-    assert!(rt; lazy.as_slice() == decoded(alloc, hexadecimal)?.as_slice(), "{hexadecimal}");
+    assert!(rt;
+        lazy.as_slice() == decoded(alloc, hexadecimal)?.as_slice(),
+        "{hexadecimal}"
+    );
     Ok(lazy)
 }
 
@@ -161,11 +165,17 @@ fn the_marker_takes_one_whole_encoded_value(rt: HostRuntime) -> Result<(), Fail>
 fn a_transparent_vector_of_just_one_is_held(rt: HostRuntime) -> Result<(), Fail> {
     let a = rt.alloc();
     let none: TransparentVec<bool> = TransparentVec::from(Vec::new(a));
-    assert!(rt; to_lazy_value(a, &none) == Err(Error::InvalidValue), "of none");
+    assert!(rt;
+        to_lazy_value(a, &none) == Err(Error::InvalidValue),
+        "of none"
+    );
     let one = TransparentVec::from(vec![in a; true]?);
     held(&rt, a, &one, "41")?;
     let two = TransparentVec::from(vec![in a; true, false]?);
-    assert!(rt; to_lazy_value(a, &two) == Err(Error::InvalidValue), "of two");
+    assert!(rt;
+        to_lazy_value(a, &two) == Err(Error::InvalidValue),
+        "of two"
+    );
     Ok(())
 }
 
