@@ -128,8 +128,8 @@ impl SizeSerializer {
         self.accept(position, prefix_len, code, text_width(n), n + 4)
     }
 
-    /// The answer on a lazy tree of so many bytes: it has no constructor, so it is no array's element, and it is no
-    /// descriptor.
+    /// The answer on a lazy tree of so many bytes: it has no constructor, so it is no array's
+    /// element, and it is no descriptor.
     #[inline(never)]
     pub(crate) fn lazy(
         &mut self,

@@ -17,9 +17,9 @@ use std::alloc::Global;
 /// The bytes of [`to_vec`], in the buffer that it made.
 ///
 /// # Errors
-/// `OutOfMemory` where a growth was refused. `TooLong` only where a limit is passed, `InvalidValue` only where the tree
-/// cannot be written for another cause or its bytes are not exactly one encoded value; one of them where the value has
-/// no tree.
+/// `OutOfMemory` where a growth was refused. `TooLong` only where a limit is passed, `InvalidValue`
+/// only where the tree cannot be written for another cause or its bytes are not exactly one encoded
+/// value; one of them where the value has no tree.
 ///
 /// # Memory
 /// Takes `alloc`: as `to_vec`, and once more so that the buffer can be shared.

@@ -1,4 +1,5 @@
-//! Lazy values: written as they are wherever a value may stand but in arrays, and without an untyped value yet.
+//! Lazy values: written as they are wherever a value may stand but in arrays, and without an untyped
+//! value yet.
 
 use super::marked::{After, Newtype};
 use super::rows::{decoded, refused};
