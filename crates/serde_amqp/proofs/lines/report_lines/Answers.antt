@@ -4,7 +4,7 @@ use Rattle.amqp_ser.specs.Writable.{writable}
 use Rattle.amqp_value.specs.Text.{text_of}
 use Rattle.amqp_value.specs.TreeOf.{tree_of}
 use Rattle.serde_amqp.specs.Lines.{texts, strings_tree, three_lines, report}
-use Rattle.serde_amqp.proofs.StringLemmas.{size-refused, reported}
+use Rattle.serde_amqp.proofs.StringLemmas.{size-refused, value-refused, reported}
 use Rattle.serde_amqp.proofs.lines.report_lines.Goals as goal
 
 pub returns-in_err-size-clause-too_long : goal.returns-in_err-size-clause-too_long
@@ -17,6 +17,12 @@ pub returns-in_err-size-clause-others : goal.returns-in_err-size-clause-others
 returns-in_err-size-clause-others c =
     let p = err_from_is_err_and c.from_residual.result c.from_residual.ensures.1 in
     let why = size-refused c.args.lines.now.items c.in_err-size.field-0.0 c.in_err-size.ensures in
+    rw (p.1, p.2) why.0
+
+pub returns-in_err-value-clause-others : goal.returns-in_err-value-clause-others
+returns-in_err-value-clause-others c =
+    let p = err_from_is_err_and c.from_residual-in_err-value.result c.from_residual-in_err-value.ensures.1 in
+    let why = value-refused c.args.lines.now.items c.in_err-value.field-0.0 c.in_err-value.ensures.image in
     rw (p.1, p.2) why.0
 
 pub returns-clause-ok : goal.returns-clause-ok
