@@ -102,8 +102,8 @@ fn described(alloc: Global) -> Result<bool, Error> {
 fn frames(alloc: Global) -> Result<bool, Error> {
     let mut reader = SliceReader::new(&[0, 0xa1, 1, b'a', 0x45, 0x40]);
     let frame = LazyValue::from_reader(alloc, &mut reader)?;
-    let held = to_lazy_value(alloc, &("a", &frame))?;
-    let expected: &[u8] = b"\xc0\x09\x02\xa1\x01a\x00\xa1\x01a\x45";
+    let held = to_lazy_value(alloc, &(1u8, &frame))?;
+    let expected: &[u8] = b"\xc0\x08\x02\x50\x01\x00\xa1\x01a\x45";
     let taken = frame.try_into_vec(alloc)?;
     Ok(held.as_slice() == expected && taken.as_slice() == [0, 0xa1, 1, b'a', 0x45].as_slice())
 }

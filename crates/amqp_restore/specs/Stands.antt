@@ -1,14 +1,15 @@
 -- Which tree is the image of what is written (AMQP 1.0 part 1, section 1.6).
-use Rattle.std.specs.Prelude.{◌≡◌, List, [], ◌∷◌, Option, Some, None}
+use Rattle.std.specs.Prelude.{◌≡◌, List, [], ◌∷◌, Option, Some, None, false}
 use Rattle.amqp_ser.specs.Tree.{Tree, Trees, no_trees, more}
+use Rattle.amqp_to_value.specs.HasLazy.{has_lazy}
 use Rattle.amqp_value.specs.Image.{image}
 
--- there is a tree, and this is its image
+-- there is a tree in which nothing lazy stands, and this is its image
 abbrev pub StandsAs : Option Tree → Tree → Type 0
 StandsAs None u = ⊥
-StandsAs (Some t) u = u ≡ image t
+StandsAs (Some t) u = (u ≡ image t) × (has_lazy t ≡ false)
 
--- there is a tree at each place, and these are their images
+-- each has such a tree, and these are their images
 abbrev pub StandAs : List (Option Tree) → Trees → Type 0
 StandAs [] no_trees = Unit {0}
 StandAs (p ∷ ps) (more u us) = StandsAs p u × StandAs ps us

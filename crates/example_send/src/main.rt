@@ -39,10 +39,8 @@ fn run(rt: &(impl Print + AllocGlobal)) -> Result<(), Error> {
 
     // A receiver cuts the sections off one by one, and decodes those that it wants.
     let mut reader = SliceReader::new(&bytes);
-    let mut left = bytes.len();
-    while left > 0 {
+    for _ in message.iter() {
         let section = LazyValue::from_reader(alloc, &mut reader)?;
-        left = left.saturating_sub(section.as_slice().len());
         print_section(rt, alloc, &section)?;
     }
     Ok(())
