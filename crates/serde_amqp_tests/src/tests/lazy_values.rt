@@ -112,7 +112,17 @@ fn lazy_values_stand_in_each_place(rt: HostRuntime) -> Result<(), Fail> {
     let variant = VariantOf(1, fields! { "it": null });
     written(&rt, a, "in a variant", &variant, "c107025201c0020140")?;
     let bare = TransparentVec::from(vec![in a; null, yes]?);
-    written(&rt, a, "one after another", &bare, "4041")?;
+    written(&rt, a, "one after another", &bare, "4041")
+}
+
+#[test]
+fn described_lazy_values_stand_in_lists(rt: HostRuntime) -> Result<(), Fail> {
+    let a = rt.alloc();
+    let null = &lazy(a, "40")?;
+    let described = Described {
+        descriptor: Descriptor::from(1u64),
+        value: null,
+    };
     let list = vec![in a; described]?;
     written(&rt, a, "described, in a list", &list, "c0050100530140")
 }
@@ -152,7 +162,8 @@ fn the_marker_takes_one_whole_encoded_value(rt: HostRuntime) -> Result<(), Fail>
         refused(&rt, a, hexadecimal, &newtype, Error::InvalidValue);
         has_no_value(&rt, a, hexadecimal, &newtype);
     }
-    let newtype = Newtype { name, value: &"@" };
+    let text = &String::from_str(a, "@")?;
+    let newtype = Newtype { name, value: text };
     refused(&rt, a, "a string", &newtype, Error::InvalidValue);
     has_no_value(&rt, a, "a string", &newtype);
     let value = &lazy(a, "40")?;
