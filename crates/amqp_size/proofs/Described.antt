@@ -21,8 +21,8 @@ use Rattle.amqp_size.specs.WholePosition.{Position}
 use Rattle.amqp_size.specs.WholePosition as position
 use Rattle.amqp_size.specs.WholePending.{Pending}
 use Rattle.amqp_size.specs.WholePending as pending
-use Rattle.amqp_size.specs.declared.position.ScalarMark.{ScalarMark}
-use Rattle.amqp_size.specs.declared.position.ScalarMark.TheVariants as scalar_mark
+use Rattle.amqp_size.specs.declared.scalar_mark.ScalarMark.{ScalarMark}
+use Rattle.amqp_size.specs.declared.scalar_mark.ScalarMark.TheVariants as scalar_mark
 
 -- the bytes and the limit of a descriptor are those of its scalar
 of_scalar : (s : Scalar) (x : Descriptor) → scalar_descriptor s ≡ Some x → (scalar_fits s ≡ descriptor_fits x) × (scalar_form s ≡ descriptor_form x)

@@ -12,8 +12,8 @@ use Rattle.amqp_size.specs.AddPart.{opens_in, passes_limit}
 use Rattle.amqp_size.specs.WholePosition.{Root}
 use Rattle.amqp_size.specs.WholePending.{Pending}
 use Rattle.amqp_size.specs.WholePending as pending
-use Rattle.amqp_size.specs.declared.position.Shape.{Shape}
-use Rattle.amqp_size.specs.declared.position.Shape.TheVariants as shapes
+use Rattle.amqp_size.specs.declared.shape.Shape.{Shape}
+use Rattle.amqp_size.specs.declared.shape.Shape.TheVariants as shapes
 use Rattle.amqp_size.specs.declared.serializer.SizeSerializer.{SizeSerializer}
 use Rattle.amqp_size.specs.declared.open_compound.OpenCompound.{OpenCompound}
 use Rattle.amqp_size.proofs.Refusing.{refused_part}

@@ -11,7 +11,7 @@ use Rattle.amqp_size.specs.Position.{position_of, meant, shape_of, is_gathered}
 use Rattle.amqp_size.specs.SizeSerializer.{at_position, single_parts, HoldsGathered, HoldsTransparent, HoldsSingle, Holding}
 use Rattle.amqp_size.specs.WholePending.{Pending}
 use Rattle.amqp_size.specs.WholePending as pending
-use Rattle.amqp_size.specs.declared.position.Shape.TheVariants as shapes
+use Rattle.amqp_size.specs.declared.shape.Shape.TheVariants as shapes
 use Rattle.amqp_size.specs.declared.serializer.SizeSerializer.{SizeSerializer}
 use Rattle.amqp_size.specs.declared.open_compound.OpenCompound.{OpenCompound}
 use Rattle.amqp_size.proofs.Single.{whole_one}

@@ -15,8 +15,8 @@ use Rattle.amqp_size.specs.declared.position.BasePosition.{BasePosition}
 use Rattle.amqp_size.specs.declared.position.BasePosition.TheVariants as base
 use Rattle.amqp_size.specs.declared.position.Position.{Position as Kept}
 use Rattle.amqp_size.specs.declared.position.Position.TheVariants as kept
-use Rattle.amqp_size.specs.declared.position.Pending.{Pending as KeptPending}
-use Rattle.amqp_size.specs.declared.position.Pending.TheVariants as kept_pending
+use Rattle.amqp_size.specs.declared.pending.Pending.{Pending as KeptPending}
+use Rattle.amqp_size.specs.declared.pending.Pending.TheVariants as kept_pending
 
 abbrev is_alone : Position → Bool
 is_alone (position.Value h b) = false

@@ -18,7 +18,7 @@ use Rattle.amqp_size.specs.WholePosition.{Position}
 use Rattle.amqp_size.specs.WholePosition.{Root, Inside, First, Element, Descriptor, Value}
 use Rattle.amqp_size.specs.WholePending.{Pending}
 use Rattle.amqp_size.specs.WholePending as pending
-use Rattle.amqp_size.specs.declared.position.Shape.TheVariants as shape
+use Rattle.amqp_size.specs.declared.shape.Shape.TheVariants as shape
 use Rattle.amqp_size.specs.declared.serializer.SizeSerializer.{SizeSerializer}
 use Rattle.amqp_size.specs.declared.open_compound.OpenCompound.{OpenCompound}
 use Rattle.amqp_size.proofs.Positions.{long_at, meant_none, refusal}

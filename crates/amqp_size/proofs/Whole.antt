@@ -19,9 +19,9 @@ use Rattle.amqp_size.specs.Width.{map_width, list_width, uint_width}
 use Rattle.amqp_size.specs.WholePosition.{Position}
 use Rattle.amqp_size.specs.WholePending.{Pending}
 use Rattle.amqp_size.specs.WholePending as pending
-use Rattle.amqp_size.specs.declared.position.ScalarMark.{ScalarMark}
-use Rattle.amqp_size.specs.declared.position.ScalarMark.TheVariants as scalar_mark
-use Rattle.amqp_size.specs.declared.position.Shape.TheVariants as shape
+use Rattle.amqp_size.specs.declared.scalar_mark.ScalarMark.{ScalarMark}
+use Rattle.amqp_size.specs.declared.scalar_mark.ScalarMark.TheVariants as scalar_mark
+use Rattle.amqp_size.specs.declared.shape.Shape.TheVariants as shape
 use Rattle.amqp_size.specs.declared.serializer.SizeSerializer.{SizeSerializer}
 use Rattle.amqp_size.specs.declared.open_compound.OpenCompound.{OpenCompound}
 use Rattle.amqp_size.proofs.Lengths.{length-counted, length-list_form, length-variant}

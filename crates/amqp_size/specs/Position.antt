@@ -16,10 +16,10 @@ use Rattle.amqp_size.specs.declared.position.BasePosition.{BasePosition}
 use Rattle.amqp_size.specs.declared.position.BasePosition.TheVariants as base
 use Rattle.amqp_size.specs.WholePending.{Pending}
 use Rattle.amqp_size.specs.WholePending as pending
-use Rattle.amqp_size.specs.declared.position.ScalarMark.{ScalarMark}
-use Rattle.amqp_size.specs.declared.position.ScalarMark.TheVariants as scalar_mark
-use Rattle.amqp_size.specs.declared.position.Shape.{Shape}
-use Rattle.amqp_size.specs.declared.position.Shape.TheVariants as shape
+use Rattle.amqp_size.specs.declared.scalar_mark.ScalarMark.{ScalarMark}
+use Rattle.amqp_size.specs.declared.scalar_mark.ScalarMark.TheVariants as scalar_mark
+use Rattle.amqp_size.specs.declared.shape.Shape.{Shape}
+use Rattle.amqp_size.specs.declared.shape.Shape.TheVariants as shape
 
 abbrev pub position_of : Pending → Position
 position_of (pending.Plain p) = p

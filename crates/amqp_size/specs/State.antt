@@ -2,9 +2,9 @@
 use Rattle.std.specs.Prelude.{ℕ}
 use Rattle.amqp_size.specs.declared.position.Position.{Position as Kept}
 use Rattle.amqp_size.specs.declared.position.Position.TheVariants as kept
-use Rattle.amqp_size.specs.declared.position.Pending.{Pending as KeptPending}
-use Rattle.amqp_size.specs.declared.position.Pending.TheVariants as kept_pending
-use Rattle.amqp_size.specs.declared.position.Shape.{Shape}
+use Rattle.amqp_size.specs.declared.pending.Pending.{Pending as KeptPending}
+use Rattle.amqp_size.specs.declared.pending.Pending.TheVariants as kept_pending
+use Rattle.amqp_size.specs.declared.shape.Shape.{Shape}
 use Rattle.amqp_size.specs.WholePosition.{Position, Root, Inside, First, Element, Descriptor, Value}
 use Rattle.amqp_size.specs.WholePending.{Pending, Plain, Array, Transparent, Scalar, Nothing}
 

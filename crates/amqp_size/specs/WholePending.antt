@@ -1,5 +1,5 @@
 -- The same, and the marker that it stands under.
-use Rattle.amqp_size.specs.declared.position.ScalarMark.{ScalarMark}
+use Rattle.amqp_size.specs.declared.scalar_mark.ScalarMark.{ScalarMark}
 use Rattle.amqp_size.specs.WholePosition.{Position}
 
 pub data Pending : Type 0 where

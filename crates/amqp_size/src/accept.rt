@@ -9,7 +9,8 @@ ghost use Rattle.amqp_ser.specs.Writable.{uniform_arrays, uniform_arrays_each, w
 ghost use Rattle.amqp_size.specs.Width.{uint_width, text_width, map_width};
 ghost use Rattle.amqp_size.specs.Position.{position_of, without_prefix, takes_described};
 
-use crate::position::{BasePosition, Pending, Position};
+use crate::pending::Pending;
+use crate::position::{BasePosition, Position};
 use crate::refusal::Refusal;
 use crate::serializer::SizeSerializer;
 use crate::width::{LONGEST, map_width, text_width, uint_width};

@@ -12,7 +12,9 @@ mod open_compound;
 mod pending;
 mod position;
 mod refusal;
+mod scalar_mark;
 mod serializer;
+mod shape;
 pub mod width;
 
 pub use compounds::{
@@ -21,6 +23,9 @@ pub use compounds::{
 };
 pub use form::Form;
 pub use open_compound::OpenCompound;
-pub use position::{BasePosition, Pending, Position, ScalarMark, Shape};
+pub use pending::Pending;
+pub use position::{BasePosition, Position};
 pub use refusal::Refusal;
+pub use scalar_mark::ScalarMark;
 pub use serializer::{SizeSerializer, serialized_size};
+pub use shape::Shape;

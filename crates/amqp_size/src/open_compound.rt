@@ -3,8 +3,10 @@
 ghost use Rattle.std.specs.Prelude.{◌≡◌, ◌<◌, ◌+◌, ◌≤◌, ℕ, Some, true, false, MatchResult, IfOk, IfErr, if◌then◌else◌};
 ghost use Rattle.amqp_size.specs.Position.{limit_of};
 
-use crate::position::{Pending, Position, Shape};
+use crate::pending::Pending;
+use crate::position::Position;
 use crate::refusal::Refusal;
+use crate::shape::Shape;
 use crate::width::{LONGEST, MOST};
 use std::marker::Model;
 

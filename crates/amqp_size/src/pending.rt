@@ -1,4 +1,4 @@
-//! What a marker leaves of a position.
+//! Where a value stands, and the marker that it stands under.
 
 ghost use Rattle.std.specs.Prelude.{◌≡◌, ℕ, Option};
 ghost use Rattle.amqp_ser.specs.Tree.{Tree};
@@ -6,8 +6,25 @@ ghost use Rattle.amqp_ser.specs.Marked.{marked};
 ghost use Rattle.amqp_size.specs.State.{position_at, pending_at};
 ghost use Rattle.amqp_size.specs.Position.{position_of, meant, without_prefix, shape_of, the_mark};
 
-use crate::position::{Pending, Position, ScalarMark, Shape};
+use crate::position::Position;
+use crate::scalar_mark::ScalarMark;
+use crate::shape::Shape;
 use amqp_ser::{Kind, Mark};
+
+/// Where a value stands, and the marker that it stands under.
+#[derive(Clone, Copy, Debug)]
+pub enum Pending {
+    /// Under no marker.
+    Plain(Position),
+    /// Under the marker of arrays.
+    Array(Position),
+    /// Under the marker of transparent vectors.
+    Transparent(Position),
+    /// Under a scalar's marker.
+    Scalar(Position, ScalarMark),
+    /// Under markers that no value satisfies.
+    Nothing(Position),
+}
 
 impl Pending {
     /// The position itself.

@@ -1,8 +1,8 @@
-//! Where a value stands, and under which marker.
+//! Where a value stands.
 
 ghost use Rattle.std.specs.Prelude.{◌≡◌, ◌+◌, ℕ, Some, MatchResult};
-ghost use Rattle.amqp_size.specs.State.{position_at, pending_at};
-ghost use Rattle.amqp_size.specs.Position.{without_prefix, base_position, takes_described, element_constructor, described_position, prefix_len_of, inner_pending};
+ghost use Rattle.amqp_size.specs.State.{position_at};
+ghost use Rattle.amqp_size.specs.Position.{without_prefix, base_position, takes_described, element_constructor, described_position, prefix_len_of};
 
 use crate::refusal::Refusal;
 
@@ -35,61 +35,6 @@ pub enum Position {
     /// After the code of described values and the descriptors: how many bytes those are stands
     /// beside the position.
     Value(BasePosition),
-}
-
-/// The marker of a scalar.
-#[derive(Clone, Copy, Debug)]
-pub enum ScalarMark {
-    /// A symbol, over a string.
-    Symbol,
-    /// A timestamp, over a long.
-    Timestamp,
-    /// A decimal32, over a binary of 4 bytes.
-    Decimal32,
-    /// A decimal64, over a binary of 8 bytes.
-    Decimal64,
-    /// A decimal128, over a binary of 16 bytes.
-    Decimal128,
-    /// A uuid, over a binary of 16 bytes.
-    Uuid,
-    /// A lazy value, over a binary that is one encoded value.
-    Lazy,
-}
-
-/// Where a value stands, and the marker that it stands under.
-#[derive(Clone, Copy, Debug)]
-pub enum Pending {
-    /// Under no marker.
-    Plain(Position),
-    /// Under the marker of arrays.
-    Array(Position),
-    /// Under the marker of transparent vectors.
-    Transparent(Position),
-    /// Under a scalar's marker.
-    Scalar(Position, ScalarMark),
-    /// Under markers that no value satisfies.
-    Nothing(Position),
-}
-
-/// What a compound becomes where it stands.
-#[derive(Clone, Copy, Debug)]
-pub enum Shape {
-    /// A list.
-    List,
-    /// A map.
-    Map,
-    /// The variant of this index and the list of its fields.
-    Variant(u32),
-    /// The variant of this index and its one value.
-    NewtypeVariant(u32),
-    /// An array.
-    Array,
-    /// The elements one after another.
-    Transparent,
-    /// One value that stands for itself.
-    Single,
-    /// A compound that its marker does not take.
-    Refused,
 }
 
 impl BasePosition {
@@ -165,21 +110,6 @@ impl Position {
         match self {
             Position::Element(code) => Some(code),
             _ => None,
-        }
-    }
-}
-
-impl Shape {
-    /// Where the first part stands.
-    #[inline(always)]
-    pub fn inner(self, pending: Pending) -> Pending
-        ensures { (h : ℕ) → pending_at result h ≡ inner_pending self (pending_at pending h) }
-    {
-        match self {
-            Shape::Array => Pending::Plain(Position::First),
-            Shape::Transparent => Pending::Plain(Position::Root),
-            Shape::Single => pending,
-            _ => Pending::Plain(Position::Inside),
         }
     }
 }

@@ -9,8 +9,11 @@ ghost use Rattle.amqp_size.specs.WholePosition as whole_position;
 
 use crate::form::Form;
 use crate::open_compound::OpenCompound;
-use crate::position::{Pending, Position, ScalarMark, Shape};
+use crate::pending::Pending;
+use crate::position::Position;
 use crate::refusal::Refusal;
+use crate::scalar_mark::ScalarMark;
+use crate::shape::Shape;
 use crate::width::{array_width, list_width, map_width};
 use amqp_data::{EncodingCodes, Error};
 use amqp_frame::is_frame;

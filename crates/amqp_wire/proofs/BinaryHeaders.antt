@@ -10,7 +10,7 @@ use Rattle.amqp_size.specs.Position.{position_of}
 use Rattle.amqp_size.specs.WholePosition.{Position}
 use Rattle.amqp_size.specs.WholePending.{Pending}
 use Rattle.amqp_size.specs.WholePending as pending
-use Rattle.amqp_size.specs.declared.position.ScalarMark.TheVariants as scalar_mark
+use Rattle.amqp_size.specs.declared.scalar_mark.ScalarMark.TheVariants as scalar_mark
 use Rattle.amqp_size.specs.declared.refusal.Refusal.{Refusal}
 use Rattle.amqp_wire.specs.Dense.{dense}
 use Rattle.amqp_wire.specs.Measurer.{listed, measurer_permits}

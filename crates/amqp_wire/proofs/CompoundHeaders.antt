@@ -12,7 +12,7 @@ use Rattle.amqp_size.specs.Position.{meant, shape_of}
 use Rattle.amqp_size.specs.WholePosition.{Inside}
 use Rattle.amqp_size.specs.WholePending.{Pending}
 use Rattle.amqp_size.specs.WholePending as pending
-use Rattle.amqp_size.specs.declared.position.Shape.TheVariants as shape
+use Rattle.amqp_size.specs.declared.shape.Shape.TheVariants as shape
 use Rattle.amqp_size.proofs.Whole.{refused_shape}
 use Rattle.amqp_wire.specs.TreeHeaders.{header, headers_of, headers_of_each, headers_of_pairs, compound_headers}
 use Rattle.amqp_wire.specs.Dense.{is_opaque, dense, dense_each, dense_pairs}

@@ -10,7 +10,7 @@ use Rattle.amqp_size.specs.declared.refusal.Refusal.TheVariants as refusal
 use Rattle.amqp_size.specs.SizeSerializer.{at_position}
 use Rattle.amqp_size.specs.Position.{position_of, meant, without_prefix, shape_of}
 use Rattle.amqp_size.specs.WholePosition.{Position}
-use Rattle.amqp_size.specs.declared.position.Shape.TheVariants as shape
+use Rattle.amqp_size.specs.declared.shape.Shape.TheVariants as shape
 use Rattle.amqp_size.specs.WholePending.{Pending}
 use Rattle.amqp_size.specs.WholePending as pending
 use Rattle.amqp_wire.specs.TreeHeaders.{headers_of, headers_of_each, compound_headers}

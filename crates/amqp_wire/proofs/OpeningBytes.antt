@@ -5,8 +5,8 @@ use Rattle.amqp_size.specs.declared.refusal.Refusal.{Refusal}
 use Rattle.amqp_ser.specs.Tree.{Trees, uint}
 use Rattle.amqp_ser.specs.Scalars.{scalar_form}
 use Rattle.amqp_ser.specs.Encoding.{code_list}
-use Rattle.amqp_size.specs.declared.position.Shape.{Shape}
-use Rattle.amqp_size.specs.declared.position.Shape.TheVariants as shape
+use Rattle.amqp_size.specs.declared.shape.Shape.{Shape}
+use Rattle.amqp_size.specs.declared.shape.Shape.TheVariants as shape
 use Rattle.amqp_wire.specs.TreeHeaders.{compound_headers}
 use Rattle.amqp_wire.specs.HeaderBytes.{header_bytes, small}
 use Rattle.amqp_wire.specs.Writer.{Kept, puts, leads, opens, PartsFitOutput}

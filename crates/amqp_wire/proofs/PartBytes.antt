@@ -12,8 +12,8 @@ use Rattle.amqp_ser.proofs.Joins.{join, joined, all_trees-append, within_limits-
 use Rattle.amqp_size.specs.SizeSerializer.{at_position}
 use Rattle.amqp_size.specs.Position.{position_of, meant, without_prefix, shape_of, inner_pending}
 use Rattle.amqp_size.specs.WholePosition.{Position}
-use Rattle.amqp_size.specs.declared.position.Shape.{Shape}
-use Rattle.amqp_size.specs.declared.position.Shape.TheVariants as shape
+use Rattle.amqp_size.specs.declared.shape.Shape.{Shape}
+use Rattle.amqp_size.specs.declared.shape.Shape.TheVariants as shape
 use Rattle.amqp_size.specs.WholePending.{Pending}
 use Rattle.amqp_size.specs.WholePending as pending
 use Rattle.amqp_wire.specs.TreeHeaders.{headers_of, headers_of_each, compound_headers}

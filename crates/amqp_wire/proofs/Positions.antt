@@ -16,8 +16,8 @@ use Rattle.amqp_size.specs.WholePosition.{Position}
 use Rattle.amqp_size.specs.WholePosition as position
 use Rattle.amqp_size.specs.WholePending.{Pending}
 use Rattle.amqp_size.specs.WholePending as pending
-use Rattle.amqp_size.specs.declared.position.Shape.{Shape}
-use Rattle.amqp_size.specs.declared.position.Shape.TheVariants as shape
+use Rattle.amqp_size.specs.declared.shape.Shape.{Shape}
+use Rattle.amqp_size.specs.declared.shape.Shape.TheVariants as shape
 use Rattle.amqp_size.proofs.Part.{next_inner, suited_inside, more_one}
 use Rattle.amqp_size.proofs.Refusing.{part_bad}
 use Rattle.amqp_size.proofs.Spoil.{bad_in, odd_none, spoiled_rest}

@@ -12,7 +12,7 @@ use Rattle.amqp_ser.proofs.Joins.{join, joined, all_trees-append, count-join}
 use Rattle.amqp_size.specs.Position.{position_of, meant, without_prefix, shape_of, is_array, element_constructor}
 use Rattle.amqp_size.specs.SizeSerializer.{size_permits, size_has, at_position, HoldsGathered, HoldsTransparent, Holding, content, inner_of}
 use Rattle.amqp_size.specs.WholePosition.{Root}
-use Rattle.amqp_size.specs.declared.position.Shape.{Shape}
+use Rattle.amqp_size.specs.declared.shape.Shape.{Shape}
 use Rattle.amqp_size.specs.WholePending.{Plain}
 use Rattle.amqp_size.specs.declared.serializer.SizeSerializer.{SizeSerializer}
 use Rattle.amqp_size.specs.declared.open_compound.OpenCompound.{OpenCompound}

@@ -8,7 +8,7 @@ use Rattle.amqp_ser.specs.declared.kind.Kind.TheVariants as kinds
 use Rattle.amqp_size.specs.Position.{position_of, meant, without_prefix, shape_of, element_constructor}
 use Rattle.amqp_size.specs.SizeSerializer.{at_position, size_permits, Holding, single_parts}
 use Rattle.amqp_size.specs.WholePosition.{Root}
-use Rattle.amqp_size.specs.declared.position.Shape.{Shape}
+use Rattle.amqp_size.specs.declared.shape.Shape.{Shape}
 use Rattle.amqp_size.specs.WholePending.{Pending}
 use Rattle.amqp_size.specs.WholePending.{Plain}
 use Rattle.amqp_wire.specs.TreeHeaders.{header, headers_of_each, header_count, headers_from, headers_fit}

@@ -9,7 +9,7 @@ use Rattle.amqp_size.specs.SizeSerializer.{at_position}
 use Rattle.amqp_size.specs.Position.{position_of, meant, without_prefix, shape_of}
 use Rattle.amqp_size.specs.WholePending.{Pending}
 use Rattle.amqp_size.specs.WholePending as pending
-use Rattle.amqp_size.specs.declared.position.Shape.TheVariants as shape
+use Rattle.amqp_size.specs.declared.shape.Shape.TheVariants as shape
 use Rattle.amqp_wire.specs.Positions.{part_at, is_single, inner_after}
 use Rattle.amqp_wire.specs.Writer.{Kept, SameOutput, takes, wrote, writes_tree, accepts, writer_permits, WrittenSingle, WrittenParts, written_as}
 use Rattle.amqp_wire.specs.declared.output.Output.{Output}

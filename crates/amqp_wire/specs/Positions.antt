@@ -11,8 +11,8 @@ use Rattle.amqp_size.specs.WholePosition as positions
 use Rattle.amqp_size.specs.WholePending.{Pending}
 use Rattle.amqp_size.specs.WholePending as pending
 use Rattle.amqp_size.specs.declared.position.BasePosition.TheVariants as base
-use Rattle.amqp_size.specs.declared.position.Shape.{Shape}
-use Rattle.amqp_size.specs.declared.position.Shape.TheVariants as shape
+use Rattle.amqp_size.specs.declared.shape.Shape.{Shape}
+use Rattle.amqp_size.specs.declared.shape.Shape.TheVariants as shape
 
 -- the position after a descriptor, whose length is not kept. A described value is no descriptor
 abbrev pub after_descriptor_at : Position → Option Position

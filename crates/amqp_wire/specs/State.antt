@@ -1,7 +1,7 @@
 -- The second walk, where it stands: it keeps no number beside a position, and none is needed.
 use Rattle.amqp_size.specs.WholePosition.{Position}
 use Rattle.amqp_size.specs.WholePending.{Pending}
-use Rattle.amqp_size.specs.declared.position.Shape.{Shape}
+use Rattle.amqp_size.specs.declared.shape.Shape.{Shape}
 use Rattle.amqp_wire.specs.declared.output.Output.{Output}
 use Rattle.amqp_wire.specs.declared.output.Checkpoint.{Checkpoint}
 

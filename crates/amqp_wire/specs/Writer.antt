@@ -13,8 +13,8 @@ use Rattle.amqp_size.specs.WholePosition.{Position}
 use Rattle.amqp_size.specs.WholePosition as positions
 use Rattle.amqp_size.specs.WholePending.{Pending, Plain}
 use Rattle.amqp_size.specs.WholePending as pending
-use Rattle.amqp_size.specs.declared.position.Shape.{Shape}
-use Rattle.amqp_size.specs.declared.position.Shape.TheVariants.{Single}
+use Rattle.amqp_size.specs.declared.shape.Shape.{Shape}
+use Rattle.amqp_size.specs.declared.shape.Shape.TheVariants.{Single}
 use Rattle.amqp_wire.specs.TreeHeaders.{headers_of, headers_of_each, compound_headers}
 use Rattle.amqp_wire.specs.HeaderBytes.{in_array, bytes_at, opening, after_opening, small_headers}
 use Rattle.amqp_wire.specs.Dense.{dense_at, dense_each}

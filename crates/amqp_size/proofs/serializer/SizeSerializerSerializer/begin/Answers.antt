@@ -6,8 +6,8 @@ use Rattle.amqp_size.specs.Position.{position_of, without_prefix, shape_of, is_a
 use Rattle.amqp_size.specs.State.{pending_at}
 use Rattle.amqp_size.specs.SizeSerializer.{content, counts, one_in, inner_of, Holding, HoldsGathered}
 use Rattle.amqp_size.specs.declared.open_compound.OpenCompound.{OpenCompound}
-use Rattle.amqp_size.specs.declared.position.Shape.{Shape}
-use Rattle.amqp_size.specs.declared.position.Shape.TheVariants as shapes
+use Rattle.amqp_size.specs.declared.shape.Shape.{Shape}
+use Rattle.amqp_size.specs.declared.shape.Shape.TheVariants as shapes
 use Rattle.amqp_size.specs.WholePending.{Pending}
 use Rattle.amqp_size.specs.WholePending.{Plain}
 use Rattle.amqp_size.specs.declared.serializer.SizeSerializer.{SizeSerializer}

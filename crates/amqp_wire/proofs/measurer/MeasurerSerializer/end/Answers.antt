@@ -2,7 +2,7 @@ use Rattle.std.proofs.Common.{◌≡◌, ◌+◌, ◌≤◌, length, refl, subst
 use Rattle.amqp_ser.specs.Compounds.{whole}
 use Rattle.amqp_size.specs.Position.{meant}
 use Rattle.amqp_size.specs.SizeSerializer.{size_permits}
-use Rattle.amqp_size.specs.declared.position.Shape.{Shape}
+use Rattle.amqp_size.specs.declared.shape.Shape.{Shape}
 use Rattle.amqp_wire.specs.TreeHeaders.{header, headers_from, headers_fit, header_count}
 use Rattle.amqp_wire.specs.Measurer.{fills}
 use Rattle.amqp_wire.specs.Positions.{is_single}

@@ -4,8 +4,8 @@ use Rattle.amqp_size.specs.Position.{position_of, without_prefix, shape_of, inne
 use Rattle.amqp_size.specs.State.{position_at, pending_at}
 use Rattle.amqp_size.specs.WholePosition.{Position}
 use Rattle.amqp_size.specs.WholePending.{Plain}
-use Rattle.amqp_size.specs.declared.position.Shape.{Shape}
-use Rattle.amqp_size.specs.declared.position.Shape.TheVariants as shape
+use Rattle.amqp_size.specs.declared.shape.Shape.{Shape}
+use Rattle.amqp_size.specs.declared.shape.Shape.TheVariants as shape
 use Rattle.amqp_wire.specs.TreeHeaders.{compound_headers}
 use Rattle.amqp_wire.specs.HeaderBytes.{in_array}
 use Rattle.amqp_wire.specs.Positions.{is_single}
