@@ -140,7 +140,8 @@ impl SizeSerializer {
     ) -> Result<usize, Refusal>
         ensures { self.old.pending ≡ Plain (without_prefix (position_at position prefix_len)) →
             (bytes : List ℕ) → length bytes ≡ len →
-            at_position (position_at position prefix_len) (Some (lazy bytes)) result self.new.pending }
+            at_position (position_at position prefix_len) (Some (lazy bytes)) result
+            self.new.pending }
     {
         match position {
             Position::Root | Position::Inside => Ok(len),

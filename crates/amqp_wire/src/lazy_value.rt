@@ -11,7 +11,8 @@ use std::alloc::Global;
 
 /// The value's bytes as a lazy value, exactly where its tree can be written as one encoded value.
 ///
-/// A transparent vector is none, unless it holds just one; any other tree that can be written is one.
+/// A transparent vector is none, unless it holds just one; any other tree that can be written is
+/// one.
 ///
 /// # Encoding
 /// The bytes of [`to_vec`], in the buffer that it made.
