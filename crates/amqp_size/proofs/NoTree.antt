@@ -14,7 +14,7 @@ use Rattle.amqp_size.specs.WholePending as pending
 use Rattle.amqp_size.specs.declared.shape.Shape.TheVariants as shapes
 use Rattle.amqp_size.specs.declared.serializer.SizeSerializer.{SizeSerializer}
 use Rattle.amqp_size.specs.declared.open_compound.OpenCompound.{OpenCompound}
-use Rattle.amqp_size.proofs.Single.{whole_one}
+use Rattle.amqp_ser.proofs.Single.{whole_single}
 use Rattle.amqp_size.proofs.Transparent.{transparent_shape}
 
 one_variant : (i : ℕ) (ps : List (Option Tree)) (ts : Trees) → all_trees ps ≡ Some ts → complete (kinds.NewtypeVariant i) ps ≡ true → whole (kinds.NewtypeVariant i) ps ≡ None → ⊥
@@ -67,7 +67,7 @@ transparent_none start kind held ps h n =
 
 one_part : (start : SizeSerializer) (held : OpenCompound) (ps : List (Option Tree)) → single_parts start held ps → complete kinds.Single ps ≡ true → meant start.pending (whole kinds.Single ps) ≡ None → ⊥
 one_part start held [] q done n = cc
-one_part start held (p ∷ []) q done n = subst (λ o. at_position (position_of start.pending) o (Ok held.sum) held.inner) (sym (ap (meant start.pending) (whole_one p)) ∙ n) q.1
+one_part start held (p ∷ []) q done n = subst (λ o. at_position (position_of start.pending) o (Ok held.sum) held.inner) (sym (ap (meant start.pending) (whole_single p)) ∙ n) q.1
 one_part start held (p ∷ (q ∷ ps)) r done n = cc
 
 single_none : (start : SizeSerializer) (kind : Kind) (held : OpenCompound) (ps : List (Option Tree)) → HoldsSingle start kind held ps → complete kind ps ≡ true → meant start.pending (whole kind ps) ≡ None → ⊥

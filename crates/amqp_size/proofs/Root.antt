@@ -24,7 +24,7 @@ root_size (Some t) (Err refusal.TooLong) after h = h
 root_size (Some t) (Err refusal.InvalidValue) after h = h
 root_size (Some t) (Err e) after h = absurd h.0
 
-at_root : (s : SizeSerializer) (o : Option Tree) (r : Result ℕ Refusal) (after : SizeSerializer) → s.pending ≡ Plain Root → size_permits s o r after → at_position Root o r after.pending
+pub at_root : (s : SizeSerializer) (o : Option Tree) (r : Result ℕ Refusal) (after : SizeSerializer) → s.pending ≡ Plain Root → size_permits s o r after → at_position Root o r after.pending
 at_root s o r after q h = subst (λ u. at_position (position_of u) (meant u o) r after.pending) q h
 
 -- its answer is the length of the bytes

@@ -14,6 +14,7 @@ use Rattle.amqp_size.specs.WholePending as pending
 use Rattle.amqp_size.specs.declared.shape.Shape.TheVariants as shapes
 use Rattle.amqp_size.specs.declared.serializer.SizeSerializer.{SizeSerializer}
 use Rattle.amqp_size.specs.declared.open_compound.OpenCompound.{OpenCompound}
+use Rattle.amqp_ser.proofs.Single.{whole_single}
 use Rattle.amqp_size.proofs.Positions.{meant_none, refusal}
 use Rattle.amqp_size.proofs.Whole.{stands_none}
 
@@ -40,19 +41,14 @@ single_kind (pending.Nothing p) kinds.Map h = cc
 single_kind (pending.Nothing p) (kinds.Variant i) h = cc
 single_kind (pending.Nothing p) (kinds.NewtypeVariant i) h = cc
 
--- one part is the whole, and more have none
-pub whole_one : (p : Option Tree) → whole kinds.Single (p ∷ []) ≡ p
-unfolding whole
-whole_one None = refl
-whole_one (Some t) = refl
-
 two : (p q : Option Tree) (o : Option Trees) → as_kind kinds.Single (prepend p (prepend q o)) ≡ None
 two None q o = refl
 two (Some t) None o = refl
 two (Some t) (Some u) None = refl
 two (Some t) (Some u) (Some us) = refl
 
-whole_two : (p q : Option Tree) (ps : List (Option Tree)) → whole kinds.Single (p ∷ (q ∷ ps)) ≡ None
+-- one part is the whole, and more have none
+pub whole_two : (p q : Option Tree) (ps : List (Option Tree)) → whole kinds.Single (p ∷ (q ∷ ps)) ≡ None
 unfolding whole
 whole_two p q ps = two p q (all_trees ps)
 
@@ -71,7 +67,7 @@ refused_single start kind held [] h p e after r [] =
     let here : at_position (position_of start.pending) (meant start.pending p) (Err e) after = subst (λ u. at_position (position_of u) (meant u p) (Err e) after) h.parts.1 r in
     let left = refusal (position_of start.pending) (meant start.pending p) e after here in
     subst (λ (k : Kind). at_position (position_of start.pending) (meant start.pending (whole k (p ∷ []))) (Err e) (pending.Plain (without_prefix held.position))) (sym h.kind_is)
-    (subst (λ o. at_position (position_of start.pending) (meant start.pending o) (Err e) (pending.Plain (without_prefix held.position))) (sym (whole_one p))
+    (subst (λ o. at_position (position_of start.pending) (meant start.pending o) (Err e) (pending.Plain (without_prefix held.position))) (sym (whole_single p))
     (subst (λ a. at_position (position_of start.pending) (meant start.pending p) (Err e) a) (left.1 ∙ ap pending.Plain (sym h.position)) here))
 refused_single start kind held [] h p e after r (q ∷ qs) = no_whole start held kind (p ∷ (q ∷ qs)) e h.position h.kind_is (whole_two p q qs) (refusal (position_of held.inner) (meant held.inner p) e after r).0
 refused_single start kind held (v ∷ []) h p e after r others = no_whole start held kind (v ∷ (p ∷ others)) e h.position h.kind_is (whole_two v p others) (refusal (position_of held.inner) (meant held.inner p) e after r).0

@@ -27,6 +27,7 @@ use Rattle.amqp_wire.specs.declared.header.HeaderKind.{HeaderKind}
 use Rattle.amqp_wire.specs.declared.header.HeaderKind.TheVariants as header_kind
 use Rattle.amqp_wire.proofs.CountWithinBytes.{no_false}
 use Rattle.amqp_wire.proofs.CompoundHeaders.{pairs_are}
+use Rattle.amqp_wire.proofs.Positions.{is_not}
 
 pub record Spelled (a : Bool) (kind : Shape) (ts : Trees) (t : Tree) : Type 0 where
   pub bytes : bytes_at a t ≡ opening a kind (compound_headers kind ts) ++ after_opening kind ts
@@ -167,9 +168,6 @@ only_case z i no_trees t h = cc
 only_case z i (more u no_trees) t h = let q : variant i u ≡ t = cc in subst (λ x. within_limits x ≡ true → dense_at z x ≡ true → Spelled (in_array z) (shape.NewtypeVariant i) (more u no_trees) x) q (spelled_only z i u)
 only_case z i (more u (more v ts)) t h = cc
 
-is_not : (o : Option Tree) (t : Tree) → o ≡ None → o ≡ Some t → ⊥
-is_not o t a b = let no : None ≡ Some t = sym a ∙ b in cc
-
 pub spelled : (z : Position) (u : Pending) (k : Kind) (ts : Trees) (t : Tree) → is_single k ≡ false → meant u (as_kind k (Some ts)) ≡ Some t → within_limits t ≡ true → dense_at z t ≡ true → Spelled (in_array z) (shape_of u k) ts t
 spelled z u kinds.Single ts t b h = cc
 spelled z (pending.Plain p) kinds.List ts t b h = let q : list ts ≡ t = cc in subst (λ x. within_limits x ≡ true → dense_at z x ≡ true → Spelled (in_array z) shape.List ts x) q (spelled_list z ts)
@@ -178,14 +176,14 @@ spelled z (pending.Plain p) (kinds.Variant i) ts t b h = let q : variant i (list
 spelled z (pending.Plain p) (kinds.NewtypeVariant i) ts t b h = only_case z i ts t h
 spelled z (pending.Array p) kinds.List ts t b h = let q : array ts ≡ t = cc in subst (λ x. within_limits x ≡ true → dense_at z x ≡ true → Spelled (in_array z) shape.Array ts x) q (spelled_array z ts)
 spelled z (pending.Transparent p) kinds.List ts t b h = let q : transparent ts ≡ t = cc in subst (λ x. within_limits x ≡ true → dense_at z x ≡ true → Spelled (in_array z) shape.Transparent ts x) q (spelled_transparent z ts)
-spelled z (pending.Array p) kinds.Map ts t b h = absurd (is_not _ t (refused_shape (pending.Array p) kinds.Map (Some ts) refl) h)
-spelled z (pending.Array p) (kinds.Variant i) ts t b h = absurd (is_not _ t (refused_shape (pending.Array p) (kinds.Variant i) (Some ts) refl) h)
-spelled z (pending.Array p) (kinds.NewtypeVariant i) ts t b h = absurd (is_not _ t (refused_shape (pending.Array p) (kinds.NewtypeVariant i) (Some ts) refl) h)
-spelled z (pending.Transparent p) kinds.Map ts t b h = absurd (is_not _ t (refused_shape (pending.Transparent p) kinds.Map (Some ts) refl) h)
-spelled z (pending.Transparent p) (kinds.Variant i) ts t b h = absurd (is_not _ t (refused_shape (pending.Transparent p) (kinds.Variant i) (Some ts) refl) h)
-spelled z (pending.Transparent p) (kinds.NewtypeVariant i) ts t b h = absurd (is_not _ t (refused_shape (pending.Transparent p) (kinds.NewtypeVariant i) (Some ts) refl) h)
-spelled z (pending.Scalar m p) kinds.List ts t b h = absurd (is_not _ t (refused_shape (pending.Scalar m p) kinds.List (Some ts) refl) h)
-spelled z (pending.Scalar m p) kinds.Map ts t b h = absurd (is_not _ t (refused_shape (pending.Scalar m p) kinds.Map (Some ts) refl) h)
-spelled z (pending.Scalar m p) (kinds.Variant i) ts t b h = absurd (is_not _ t (refused_shape (pending.Scalar m p) (kinds.Variant i) (Some ts) refl) h)
-spelled z (pending.Scalar m p) (kinds.NewtypeVariant i) ts t b h = absurd (is_not _ t (refused_shape (pending.Scalar m p) (kinds.NewtypeVariant i) (Some ts) refl) h)
-spelled z (pending.Nothing p) k ts t b h = absurd (is_not _ t refl h)
+spelled z (pending.Array p) kinds.Map ts t b h = is_not _ t (refused_shape (pending.Array p) kinds.Map (Some ts) refl) h
+spelled z (pending.Array p) (kinds.Variant i) ts t b h = is_not _ t (refused_shape (pending.Array p) (kinds.Variant i) (Some ts) refl) h
+spelled z (pending.Array p) (kinds.NewtypeVariant i) ts t b h = is_not _ t (refused_shape (pending.Array p) (kinds.NewtypeVariant i) (Some ts) refl) h
+spelled z (pending.Transparent p) kinds.Map ts t b h = is_not _ t (refused_shape (pending.Transparent p) kinds.Map (Some ts) refl) h
+spelled z (pending.Transparent p) (kinds.Variant i) ts t b h = is_not _ t (refused_shape (pending.Transparent p) (kinds.Variant i) (Some ts) refl) h
+spelled z (pending.Transparent p) (kinds.NewtypeVariant i) ts t b h = is_not _ t (refused_shape (pending.Transparent p) (kinds.NewtypeVariant i) (Some ts) refl) h
+spelled z (pending.Scalar m p) kinds.List ts t b h = is_not _ t (refused_shape (pending.Scalar m p) kinds.List (Some ts) refl) h
+spelled z (pending.Scalar m p) kinds.Map ts t b h = is_not _ t (refused_shape (pending.Scalar m p) kinds.Map (Some ts) refl) h
+spelled z (pending.Scalar m p) (kinds.Variant i) ts t b h = is_not _ t (refused_shape (pending.Scalar m p) (kinds.Variant i) (Some ts) refl) h
+spelled z (pending.Scalar m p) (kinds.NewtypeVariant i) ts t b h = is_not _ t (refused_shape (pending.Scalar m p) (kinds.NewtypeVariant i) (Some ts) refl) h
+spelled z (pending.Nothing p) k ts t b h = is_not _ t refl h

@@ -17,6 +17,7 @@ use Rattle.amqp_size.proofs.Whole.{refused_shape}
 use Rattle.amqp_wire.specs.TreeHeaders.{header, headers_of, headers_of_each, headers_of_pairs, compound_headers}
 use Rattle.amqp_wire.specs.Dense.{is_opaque, dense, dense_each, dense_pairs}
 use Rattle.amqp_wire.specs.Positions.{is_single}
+use Rattle.amqp_wire.proofs.Positions.{is_not}
 
 -- keys and values in turn, as trees and as pairs
 pub record Paired (ts : Trees) (prs : Pairs) : Type 0 where
@@ -66,9 +67,6 @@ only_entries i (more u no_trees) t h =
     ∙ ap (λ es. header (length (scalar_form (uint i) ++ (encoding u ++ []))) 2 None ∷ es) (sym (append-nil (headers_of u))))
 only_entries i (more u (more v ts)) t h = cc
 
-is_not : (o : Option Tree) (t : Tree) → o ≡ None → o ≡ Some t → ⊥
-is_not o t a b = let no : None ≡ Some t = sym a ∙ b in cc
-
 -- the table of the whole is that of its heads and that of its parts
 pub split : (u : Pending) (k : Kind) (ts : Trees) (t : Tree) → is_single k ≡ false → meant u (as_kind k (Some ts)) ≡ Some t → headers_of t ≡ compound_headers (shape_of u k) ts ++ headers_of_each ts
 split u kinds.Single ts t b h = cc
@@ -77,18 +75,18 @@ split (pending.Plain p) kinds.Map ts t b h = map_entries ts t (in_pairs ts) refl
 split (pending.Plain p) (kinds.Variant i) ts t b h = let q : variant i (list ts) ≡ t = cc in subst (λ x. headers_of x ≡ compound_headers (shape.Variant i) ts ++ headers_of_each ts) q refl
 split (pending.Plain p) (kinds.NewtypeVariant i) ts t b h = only_entries i ts t h
 split (pending.Array p) kinds.List ts t b h = let q : array ts ≡ t = cc in subst (λ x. headers_of x ≡ compound_headers shape.Array ts ++ headers_of_each ts) q refl
-split (pending.Array p) kinds.Map ts t b h = absurd (is_not _ t (refused_shape (pending.Array p) kinds.Map (Some ts) refl) h)
-split (pending.Array p) (kinds.Variant i) ts t b h = absurd (is_not _ t (refused_shape (pending.Array p) (kinds.Variant i) (Some ts) refl) h)
-split (pending.Array p) (kinds.NewtypeVariant i) ts t b h = absurd (is_not _ t (refused_shape (pending.Array p) (kinds.NewtypeVariant i) (Some ts) refl) h)
+split (pending.Array p) kinds.Map ts t b h = is_not _ t (refused_shape (pending.Array p) kinds.Map (Some ts) refl) h
+split (pending.Array p) (kinds.Variant i) ts t b h = is_not _ t (refused_shape (pending.Array p) (kinds.Variant i) (Some ts) refl) h
+split (pending.Array p) (kinds.NewtypeVariant i) ts t b h = is_not _ t (refused_shape (pending.Array p) (kinds.NewtypeVariant i) (Some ts) refl) h
 split (pending.Transparent p) kinds.List ts t b h = let q : transparent ts ≡ t = cc in subst (λ x. headers_of x ≡ compound_headers shape.Transparent ts ++ headers_of_each ts) q refl
-split (pending.Transparent p) kinds.Map ts t b h = absurd (is_not _ t (refused_shape (pending.Transparent p) kinds.Map (Some ts) refl) h)
-split (pending.Transparent p) (kinds.Variant i) ts t b h = absurd (is_not _ t (refused_shape (pending.Transparent p) (kinds.Variant i) (Some ts) refl) h)
-split (pending.Transparent p) (kinds.NewtypeVariant i) ts t b h = absurd (is_not _ t (refused_shape (pending.Transparent p) (kinds.NewtypeVariant i) (Some ts) refl) h)
-split (pending.Scalar m p) kinds.List ts t b h = absurd (is_not _ t (refused_shape (pending.Scalar m p) kinds.List (Some ts) refl) h)
-split (pending.Scalar m p) kinds.Map ts t b h = absurd (is_not _ t (refused_shape (pending.Scalar m p) kinds.Map (Some ts) refl) h)
-split (pending.Scalar m p) (kinds.Variant i) ts t b h = absurd (is_not _ t (refused_shape (pending.Scalar m p) (kinds.Variant i) (Some ts) refl) h)
-split (pending.Scalar m p) (kinds.NewtypeVariant i) ts t b h = absurd (is_not _ t (refused_shape (pending.Scalar m p) (kinds.NewtypeVariant i) (Some ts) refl) h)
-split (pending.Nothing p) k ts t b h = absurd (is_not _ t refl h)
+split (pending.Transparent p) kinds.Map ts t b h = is_not _ t (refused_shape (pending.Transparent p) kinds.Map (Some ts) refl) h
+split (pending.Transparent p) (kinds.Variant i) ts t b h = is_not _ t (refused_shape (pending.Transparent p) (kinds.Variant i) (Some ts) refl) h
+split (pending.Transparent p) (kinds.NewtypeVariant i) ts t b h = is_not _ t (refused_shape (pending.Transparent p) (kinds.NewtypeVariant i) (Some ts) refl) h
+split (pending.Scalar m p) kinds.List ts t b h = is_not _ t (refused_shape (pending.Scalar m p) kinds.List (Some ts) refl) h
+split (pending.Scalar m p) kinds.Map ts t b h = is_not _ t (refused_shape (pending.Scalar m p) kinds.Map (Some ts) refl) h
+split (pending.Scalar m p) (kinds.Variant i) ts t b h = is_not _ t (refused_shape (pending.Scalar m p) (kinds.Variant i) (Some ts) refl) h
+split (pending.Scalar m p) (kinds.NewtypeVariant i) ts t b h = is_not _ t (refused_shape (pending.Scalar m p) (kinds.NewtypeVariant i) (Some ts) refl) h
+split (pending.Nothing p) k ts t b h = is_not _ t refl h
 
 pub headers_of-join : (ts us : Trees) → headers_of_each (join ts us) ≡ headers_of_each ts ++ headers_of_each us
 headers_of-join no_trees us = refl

@@ -32,6 +32,7 @@ use Rattle.amqp_wire.specs.Positions.{is_single}
 use Rattle.amqp_wire.specs.declared.table.Header.{Header}
 use Rattle.amqp_wire.proofs.CountWithinBytes.{few, no_false}
 use Rattle.amqp_wire.proofs.CompoundHeaders.{pairs_are}
+use Rattle.amqp_wire.proofs.Positions.{is_not}
 
 pub made_positions : (s : Shape) (h : Header) → length (headers_from s h) ≡ header_count s
 made_positions shape.List h = refl
@@ -179,9 +180,6 @@ dense_array : (ts : Trees) → one_constructor ts ≡ true → dense_each positi
 dense_array no_trees e s = refl
 dense_array (more t ts) e s = elements (constructor t) (more t ts) e s
 
-is_not : (o : Option Tree) (t : Tree) → o ≡ None → o ≡ Some t → ⊥
-is_not o t a b = let no : None ≡ Some t = sym a ∙ b in cc
-
 -- a compound of solid parts is solid where it can stand
 pub dense_whole : (u : Pending) (k : Kind) (ts : Trees) (t : Tree) → is_single k ≡ false → meant u (as_kind k (Some ts)) ≡ Some t → dense_each position.Root ts ≡ true → placed t ≡ true → uniform_arrays t ≡ true → dense t ≡ true
 dense_whole u kinds.Single ts t b h s = cc
@@ -191,17 +189,17 @@ dense_whole (pending.Plain p) (kinds.Variant i) ts t b h s = let q : variant i (
 dense_whole (pending.Plain p) (kinds.NewtypeVariant i) ts t b h s = λ i a. dense_only _ ts t h s i
 dense_whole (pending.Array p) kinds.List ts t b h s = let q : array ts ≡ t = cc in subst (λ x. placed x ≡ true → uniform_arrays x ≡ true → dense x ≡ true) q (λ i a. dense_array ts (left_true (one_constructor ts) (uniform_arrays_each ts) a) s)
 dense_whole (pending.Transparent p) kinds.List ts t b h s = let q : transparent ts ≡ t = cc in subst (λ x. placed x ≡ true → uniform_arrays x ≡ true → dense x ≡ true) q (λ i a. s)
-dense_whole (pending.Array p) kinds.Map ts t b h s = absurd (is_not _ t (refused_shape (pending.Array p) kinds.Map (Some ts) refl) h)
-dense_whole (pending.Array p) (kinds.Variant i) ts t b h s = absurd (is_not _ t (refused_shape (pending.Array p) (kinds.Variant i) (Some ts) refl) h)
-dense_whole (pending.Array p) (kinds.NewtypeVariant i) ts t b h s = absurd (is_not _ t (refused_shape (pending.Array p) (kinds.NewtypeVariant i) (Some ts) refl) h)
-dense_whole (pending.Transparent p) kinds.Map ts t b h s = absurd (is_not _ t (refused_shape (pending.Transparent p) kinds.Map (Some ts) refl) h)
-dense_whole (pending.Transparent p) (kinds.Variant i) ts t b h s = absurd (is_not _ t (refused_shape (pending.Transparent p) (kinds.Variant i) (Some ts) refl) h)
-dense_whole (pending.Transparent p) (kinds.NewtypeVariant i) ts t b h s = absurd (is_not _ t (refused_shape (pending.Transparent p) (kinds.NewtypeVariant i) (Some ts) refl) h)
-dense_whole (pending.Scalar m p) kinds.List ts t b h s = absurd (is_not _ t (refused_shape (pending.Scalar m p) kinds.List (Some ts) refl) h)
-dense_whole (pending.Scalar m p) kinds.Map ts t b h s = absurd (is_not _ t (refused_shape (pending.Scalar m p) kinds.Map (Some ts) refl) h)
-dense_whole (pending.Scalar m p) (kinds.Variant i) ts t b h s = absurd (is_not _ t (refused_shape (pending.Scalar m p) (kinds.Variant i) (Some ts) refl) h)
-dense_whole (pending.Scalar m p) (kinds.NewtypeVariant i) ts t b h s = absurd (is_not _ t (refused_shape (pending.Scalar m p) (kinds.NewtypeVariant i) (Some ts) refl) h)
-dense_whole (pending.Nothing p) k ts t b h s = absurd (is_not _ t refl h)
+dense_whole (pending.Array p) kinds.Map ts t b h s = is_not _ t (refused_shape (pending.Array p) kinds.Map (Some ts) refl) h
+dense_whole (pending.Array p) (kinds.Variant i) ts t b h s = is_not _ t (refused_shape (pending.Array p) (kinds.Variant i) (Some ts) refl) h
+dense_whole (pending.Array p) (kinds.NewtypeVariant i) ts t b h s = is_not _ t (refused_shape (pending.Array p) (kinds.NewtypeVariant i) (Some ts) refl) h
+dense_whole (pending.Transparent p) kinds.Map ts t b h s = is_not _ t (refused_shape (pending.Transparent p) kinds.Map (Some ts) refl) h
+dense_whole (pending.Transparent p) (kinds.Variant i) ts t b h s = is_not _ t (refused_shape (pending.Transparent p) (kinds.Variant i) (Some ts) refl) h
+dense_whole (pending.Transparent p) (kinds.NewtypeVariant i) ts t b h s = is_not _ t (refused_shape (pending.Transparent p) (kinds.NewtypeVariant i) (Some ts) refl) h
+dense_whole (pending.Scalar m p) kinds.List ts t b h s = is_not _ t (refused_shape (pending.Scalar m p) kinds.List (Some ts) refl) h
+dense_whole (pending.Scalar m p) kinds.Map ts t b h s = is_not _ t (refused_shape (pending.Scalar m p) kinds.Map (Some ts) refl) h
+dense_whole (pending.Scalar m p) (kinds.Variant i) ts t b h s = is_not _ t (refused_shape (pending.Scalar m p) (kinds.Variant i) (Some ts) refl) h
+dense_whole (pending.Scalar m p) (kinds.NewtypeVariant i) ts t b h s = is_not _ t (refused_shape (pending.Scalar m p) (kinds.NewtypeVariant i) (Some ts) refl) h
+dense_whole (pending.Nothing p) k ts t b h s = is_not _ t refl h
 
 -- the parts of a compound have a count of four bytes
 pub few_parts : (start : SizeSerializer) (kind : Kind) (held : OpenCompound) (ps : List (Option Tree)) (h : HoldsGathered start kind held ps) → dense_each position.Root h.ts ≡ true → count h.ts ≤ 4294967295

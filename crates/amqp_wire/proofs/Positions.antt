@@ -21,36 +21,18 @@ use Rattle.amqp_size.specs.declared.shape.Shape.TheVariants as shape
 use Rattle.amqp_size.proofs.Part.{next_inner, suited_inside, more_one}
 use Rattle.amqp_size.proofs.Refusing.{part_bad}
 use Rattle.amqp_size.proofs.Spoil.{bad_in, odd_none, spoiled_rest}
+use Rattle.amqp_size.proofs.Single.{single_kind}
 use Rattle.amqp_size.proofs.Transparent.{transparent_shape, placed-join, spoiled_transparent, part_bad as element_bad}
 use Rattle.amqp_size.proofs.Whole.{refused_shape, stands, stands_none}
 use Rattle.amqp_size.proofs.Positions.{meant_none, refusal}
 use Rattle.amqp_wire.specs.HeaderBytes.{in_array}
 use Rattle.amqp_wire.specs.Dense.{fit}
 use Rattle.amqp_wire.specs.Positions.{part_position, part_at, suited_parts, is_single, inner_after}
+use Rattle.amqp_wire.proofs.HeldKinds.{never_single}
 
 -- nothing else opens a single compound
 pub not_single : (u : Pending) (k : Kind) → is_single k ≡ false → shape_of u k ≡ shape.Single → ⊥
-not_single u kinds.Single c e = cc
-not_single (pending.Plain q) kinds.List c e = cc
-not_single (pending.Plain q) kinds.Map c e = cc
-not_single (pending.Plain q) (kinds.Variant i) c e = cc
-not_single (pending.Plain q) (kinds.NewtypeVariant i) c e = cc
-not_single (pending.Array q) kinds.List c e = cc
-not_single (pending.Array q) kinds.Map c e = cc
-not_single (pending.Array q) (kinds.Variant i) c e = cc
-not_single (pending.Array q) (kinds.NewtypeVariant i) c e = cc
-not_single (pending.Transparent q) kinds.List c e = cc
-not_single (pending.Transparent q) kinds.Map c e = cc
-not_single (pending.Transparent q) (kinds.Variant i) c e = cc
-not_single (pending.Transparent q) (kinds.NewtypeVariant i) c e = cc
-not_single (pending.Scalar m q) kinds.List c e = cc
-not_single (pending.Scalar m q) kinds.Map c e = cc
-not_single (pending.Scalar m q) (kinds.Variant i) c e = cc
-not_single (pending.Scalar m q) (kinds.NewtypeVariant i) c e = cc
-not_single (pending.Nothing q) kinds.List c e = cc
-not_single (pending.Nothing q) kinds.Map c e = cc
-not_single (pending.Nothing q) (kinds.Variant i) c e = cc
-not_single (pending.Nothing q) (kinds.NewtypeVariant i) c e = cc
+not_single u k c e = never_single k (single_kind u k e) c
 
 -- maps have no constructor of their elements
 pub map_inside : (u : Pending) (ts : Trees) → part_at (shape_of u kinds.Map) ts ≡ position.Inside
@@ -231,7 +213,7 @@ ended_only i (more u (more v ts)) t e h = cc
 some_is : (t v : Tree) → Some t ≡ Some v → t ≡ v
 some_is t v h = cc
 
-is_not : {X : Type 0} (o : Option Tree) (t : Tree) → o ≡ None → o ≡ Some t → X
+pub is_not : {X : Type 0} (o : Option Tree) (t : Tree) → o ≡ None → o ≡ Some t → X
 is_not o t a b = let no : None ≡ Some t = sym a ∙ b in cc
 
 plain_list : (ts : Trees) → (uniform_arrays_each ts && inside_each ts) ≡ true → Whole 0xd0 (list ts)

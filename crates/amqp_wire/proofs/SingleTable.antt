@@ -4,7 +4,7 @@ use Rattle.amqp_ser.specs.Tree.{Tree}
 use Rattle.amqp_ser.specs.Compounds.{whole, complete}
 use Rattle.amqp_ser.specs.declared.kind.Kind.TheVariants as kinds
 use Rattle.amqp_size.specs.Position.{meant}
-use Rattle.amqp_size.proofs.Single.{whole_one}
+use Rattle.amqp_ser.proofs.Single.{whole_single}
 use Rattle.amqp_wire.specs.Measurer.{listed, SingleTable}
 use Rattle.amqp_wire.specs.Writer.{Extends}
 use Rattle.amqp_wire.specs.declared.table.Header.{Header}
@@ -36,5 +36,5 @@ lone_back start table cut ps h e = subst (λ x. SingleTable start x ps) (sym e) 
 -- the whole has the headers of its one part
 pub lone_whole : (start : Measurer) (table : List Header) (ps : List (Option Tree)) → SingleTable start table ps → complete kinds.Single ps ≡ true → listed (meant start.size.pending (whole kinds.Single ps)) start.table.headers.items table
 lone_whole start table [] h e = absurd (no_false e)
-lone_whole start table (p ∷ []) h e = subst (λ o. listed (meant start.size.pending o) start.table.headers.items table) (sym (whole_one p)) (h.one p refl)
+lone_whole start table (p ∷ []) h e = subst (λ o. listed (meant start.size.pending o) start.table.headers.items table) (sym (whole_single p)) (h.one p refl)
 lone_whole start table (p ∷ (q ∷ ps)) h e = absurd (no_false e)

@@ -10,7 +10,8 @@ use Rattle.amqp_size.specs.WholePosition.{Position}
 use Rattle.amqp_size.specs.WholePending.{Pending}
 use Rattle.amqp_size.specs.WholePending as pending
 use Rattle.amqp_size.specs.declared.shape.Shape.TheVariants as shape
-use Rattle.amqp_size.proofs.Single.{whole_one}
+use Rattle.amqp_ser.proofs.Single.{whole_single}
+use Rattle.amqp_size.proofs.Single.{whole_two}
 use Rattle.amqp_size.proofs.Positions.{meant_none, refusal}
 use Rattle.amqp_size.proofs.Whole.{stands_none}
 use Rattle.amqp_wire.specs.HeaderBytes.{in_array, bytes_at}
@@ -89,17 +90,6 @@ alone_back start s cut held new ps h k e position is inner =
           (subst (λ u. takes (position_of start.pending) (meant start.pending p) u) (sym inner) w.0, wrote_same (position_of start.pending) start.output s cut (meant start.pending p) e w.1);
     }
 
-two : (p q : Option Tree) (o : Option Trees) → as_kind kinds.Single (prepend p (prepend q o)) ≡ None
-two None q o = refl
-two (Some t) None o = refl
-two (Some t) (Some u) None = refl
-two (Some t) (Some u) (Some us) = refl
-
--- more than one part have no tree
-whole_two : (p q : Option Tree) (ps : List (Option Tree)) → whole kinds.Single (p ∷ (q ∷ ps)) ≡ None
-unfolding whole
-whole_two p q ps = two p q (all_trees ps)
-
 no_whole : (start : Writer) (held : Writing) (qs : List (Option Tree)) (u : Pending) (o : Option Tree) (e : Refusal) (after : Pending) → without_prefix held.position ≡ without_prefix (position_of start.pending) → at_position (position_of u) o (Err e) after → whole kinds.Single qs ≡ None →
     at_position (position_of start.pending) (meant start.pending (whole kinds.Single qs)) (Err e) (pending.Plain (without_prefix held.position))
 no_whole start held qs u o e after at w n =
@@ -112,7 +102,7 @@ refused_whole : (start before : Writer) (held : Writing) (ps : List (Option Tree
 refused_whole start before held [] p e after h at w [] =
     let here = subst (λ u. at_position (position_of u) (meant u p) (Err e) after) (at ∙ (h.none refl).0) w in
     let left = refusal (position_of start.pending) (meant start.pending p) e after here in
-    subst (λ o. at_position (position_of start.pending) (meant start.pending o) (Err e) (pending.Plain (without_prefix held.position))) (sym (whole_one p))
+    subst (λ o. at_position (position_of start.pending) (meant start.pending o) (Err e) (pending.Plain (without_prefix held.position))) (sym (whole_single p))
     (subst (λ a. at_position (position_of start.pending) (meant start.pending p) (Err e) a) (left.1 ∙ ap pending.Plain (sym h.position)) here)
 refused_whole start before held [] p e after h at w (q ∷ others) = no_whole start held (p ∷ (q ∷ others)) before.pending (meant before.pending p) e after h.position w (whole_two p q others)
 refused_whole start before held (v ∷ []) p e after h at w others = no_whole start held (v ∷ (p ∷ others)) before.pending (meant before.pending p) e after h.position w (whole_two v p others)
@@ -127,7 +117,7 @@ alone_refused start before cut held ps p e after h at k w others = (k, (refused_
 pub alone_written : (start : Writer) (s : Output) (held : Writing) (ps : List (Option Tree)) → WrittenSingle start s held ps → complete kinds.Single ps ≡ true → writer_permits start (whole kinds.Single ps) (Ok tt) (record { pending = held.inner; output = s })
 alone_written start s held [] h done = absurd (no_false done)
 alone_written start s held (p ∷ []) h done =
-    (h.kept, subst (λ o. takes (position_of start.pending) (meant start.pending o) held.inner × wrote (position_of start.pending) start.output (meant start.pending o) s) (sym (whole_one p)) (h.one p refl))
+    (h.kept, subst (λ o. takes (position_of start.pending) (meant start.pending o) held.inner × wrote (position_of start.pending) start.output (meant start.pending o) s) (sym (whole_single p)) (h.one p refl))
 alone_written start s held (p ∷ (q ∷ ps)) h done = absurd (no_false done)
 
 -- what is answered where the compound was opened is answered there

@@ -20,6 +20,7 @@ use Rattle.amqp_wire.specs.declared.measurer.Measurer.{Measurer}
 use Rattle.amqp_wire.specs.declared.output.Output.{Output}
 use Rattle.amqp_wire.specs.declared.table.Header.{Header}
 use Rattle.amqp_wire.specs.declared.writer.Writer.{Writer}
+use Rattle.amqp_size.proofs.Root.{at_root}
 use Rattle.amqp_wire.proofs.CountWithinBytes.{no_false}
 
 -- the first walk went well: the length and the headers of a tree that may be written
@@ -37,9 +38,6 @@ meets t n u hs s h l r = record {
   listed = ap (λ k. drop k s.table.items) r.taken ∙ (r.table ∙ (l.0 ∙ sym (append-nil (headers_of t))));
   room = let a : length s.out.items ≡ 0 = ap length r.out in let b : n ≡ length (encoding t) = h.len in let c = r.room in omega arith;
 }
-
-at_root : (s : SizeSerializer) (o : Option Tree) (r : Result ℕ Refusal) (after : SizeSerializer) → s.pending ≡ Plain Root → size_permits s o r after → at_position Root o r after.pending
-at_root s o r after q h = subst (λ u. at_position (position_of u) (meant u o) r after.pending) q h
 
 listed_root : (measurer : Measurer) (o : Option Tree) (hs : List Header) → measurer.size.pending ≡ Plain Root → measurer.table.headers.items ≡ [] → listed (meant measurer.size.pending o) measurer.table.headers.items hs → listed o [] hs
 listed_root measurer o hs p e l = subst (λ u. listed (meant u o) [] hs) p (subst (λ b. listed (meant measurer.size.pending o) b hs) e l)
