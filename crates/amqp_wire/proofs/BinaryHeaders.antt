@@ -1,5 +1,5 @@
 -- A binary has no header in the table, whatever its marker makes of it.
-use Rattle.std.proofs.Common.{◌≡◌, ℕ, List, [], ◌++◌, Some, None, Bool, true, false, inr, Result, Ok, Err, length, nat_eq, refl, sym, ◌∙◌, subst, append-nil, if◌then◌else◌}
+use Rattle.std.proofs.Common.{◌≡◌, ℕ, List, [], Some, None, Bool, true, false, inr, Result, Ok, Err, length, nat_eq, refl, sym, ◌∙◌, subst, append-nil, if◌then◌else◌}
 use Rattle.amqp_frame.specs.Whole.{is_frame}
 use Rattle.amqp_frame.proofs.Whole.{some_byte_passes}
 use Rattle.amqp_ser.specs.Tree.{decimal32, decimal64, decimal128, uuid, binary, Tree, scalar, lazy}

@@ -12,7 +12,6 @@ use Rattle.amqp_ser.proofs.Joins.{join, joined, uniform_arrays-join, inside-join
 use Rattle.amqp_ser.proofs.Pairing.{pairing, even}
 use Rattle.amqp_size.specs.SizeSerializer.{at_position, inner_of, one_in, first_position}
 use Rattle.amqp_size.specs.Position.{position_of, meant, without_prefix, suits, element, next, shape_of, is_array, is_gathered, inner_pending}
-use Rattle.amqp_size.specs.WholePosition.{Position}
 use Rattle.amqp_size.specs.WholePosition as position
 use Rattle.amqp_size.specs.WholePending.{Pending}
 use Rattle.amqp_size.specs.WholePending as pending

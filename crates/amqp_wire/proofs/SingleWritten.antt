@@ -1,8 +1,8 @@
 -- The bytes of a single compound.
 use Rattle.std.proofs.Common.{◌≡◌, List, [], ◌∷◌, ◌++◌, Option, Some, None, true, Result, Ok, Err, length, refl, ap, sym, ◌∙◌, subst, arith, drop}
 use Rattle.amqp_size.specs.declared.refusal.Refusal.{Refusal}
-use Rattle.amqp_ser.specs.Tree.{Tree, Trees}
-use Rattle.amqp_ser.specs.Compounds.{all_trees, prepend, as_kind, whole, complete}
+use Rattle.amqp_ser.specs.Tree.{Tree}
+use Rattle.amqp_ser.specs.Compounds.{whole, complete}
 use Rattle.amqp_ser.specs.declared.kind.Kind.TheVariants as kinds
 use Rattle.amqp_size.specs.SizeSerializer.{at_position}
 use Rattle.amqp_size.specs.Position.{position_of, meant, without_prefix}

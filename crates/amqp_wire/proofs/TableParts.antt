@@ -4,7 +4,7 @@ use Rattle.std.specs.Prelude.{IfErr}
 use Rattle.amqp_size.specs.declared.refusal.Refusal.{Refusal}
 use Rattle.amqp_size.specs.declared.refusal.Refusal.TheVariants.{OutOfMemory}
 use Rattle.amqp_ser.specs.Tree.{Tree, Trees, no_trees, more, count}
-use Rattle.amqp_ser.specs.Compounds.{all_trees, prepend, as_kind, whole, paired}
+use Rattle.amqp_ser.specs.Compounds.{all_trees, as_kind, whole, paired}
 use Rattle.amqp_ser.specs.declared.kind.Kind.{Kind}
 use Rattle.amqp_ser.specs.declared.kind.Kind.TheVariants as kinds
 use Rattle.amqp_ser.proofs.Bools.{left_true, both, is_le}

@@ -7,12 +7,11 @@ use Rattle.amqp_ser.specs.SizeAndBytes.{AreBytesOf}
 use Rattle.amqp_ser.specs.Writable.{uniform_arrays, within_limits, placed}
 use Rattle.amqp_ser.proofs.Bools.{both, le_true}
 use Rattle.amqp_size.specs.Position.{position_of, meant}
-use Rattle.amqp_size.specs.SizeSerializer.{at_position, size_permits}
+use Rattle.amqp_size.specs.SizeSerializer.{at_position}
 use Rattle.amqp_size.specs.WholePosition.{Root}
 use Rattle.amqp_size.specs.WholePending.{Pending, Plain}
 use Rattle.amqp_size.specs.declared.refusal.Refusal.{Refusal}
 use Rattle.amqp_size.specs.declared.refusal.Refusal.TheVariants as refusal
-use Rattle.amqp_size.specs.declared.serializer.SizeSerializer.{SizeSerializer}
 use Rattle.amqp_wire.specs.TreeHeaders.{headers_of}
 use Rattle.amqp_wire.specs.Measurer.{listed, measurer_permits}
 use Rattle.amqp_wire.specs.Writer.{Kept, FitsOutput, Written, wrote, writes_tree, accepts, writer_permits}
