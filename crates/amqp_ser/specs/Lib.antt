@@ -16,6 +16,7 @@ pub mod Fixed
 pub mod Carried
 pub mod Forms
 pub mod Feeding
+pub mod OpenCompounds
 pub mod StructFeeding
 pub mod Named
 pub mod Words

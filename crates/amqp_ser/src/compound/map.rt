@@ -1,11 +1,11 @@
 //! Maps, with a key that may be pending.
 
-ghost use Rattle.std.specs.Prelude.{◌≡◌, ◌++◌, ◌∷◌, [], List, Option, None, Err, MatchResult, IfErr, IsErr, not, true, false};
+ghost use Rattle.std.specs.Prelude.{◌≡◌, [], List, Option, Err, MatchResult, IfErr, IsErr, not, true, false};
 ghost use mir.Syntax.{named};
 ghost use Rattle.std.specs.Borrow.{Lends, sem};
 ghost use Rattle.amqp_ser.specs.Tree.{Tree};
 ghost use Rattle.amqp_ser.specs.Compounds.{whole, paired};
-ghost use Rattle.amqp_ser.specs.Feeding.{Feeds};
+ghost use Rattle.amqp_ser.specs.OpenCompounds.{MapHas, has_key, FeedsMap, FeedsPair, RefusesInTurn};
 
 use super::feed::{feed_entry, feed_part};
 use crate::kind::Kind;
@@ -75,16 +75,13 @@ impl<'a, S: Serializer> SerializeMap<'a, S> {
     pub fn serialize_key<T: Serialize>(&mut self, key: &T) -> Result<(), S::Error>
         ensures same { self.new.serializer.ghost_name ≡ self.old.serializer.ghost_name }
         ensures pending { MatchResult result
-            (λ _. (self.old.pending ≡ false) × (self.new.pending ≡ true))
-            (λ _. self.new.pending ≡ self.old.pending) }
-        ensures step { self.old.pending ≡ false →
-            Feeds S.permits S.has Kind.Map (T.tree key.now) self.old.serializer.now self.old.held
-            result self.new.serializer.now self.new.held }
-        ensures misuse { self.old.pending ≡ true → (start : S) (ps : List (Option Tree)) →
-            S.has start Kind.Map self.old.serializer.now self.old.held ps →
-            IfErr result (λ e. S.has start Kind.Map self.new.serializer.now self.new.held ps
-            × S.permits start None (Err e) self.new.serializer.now) }
-        ensures invalid { self.old.pending ≡ true → IfErr result S.is_misuse }
+            (λ _. (has_key self.old ≡ false) × (has_key self.new ≡ true))
+            (λ _. has_key self.new ≡ has_key self.old) }
+        ensures step { has_key self.old ≡ false →
+            FeedsMap S.permits S.has (T.tree key.now) self.old result self.new }
+        ensures misuse { has_key self.old ≡ true →
+            RefusesInTurn S.permits S.has self.old result self.new }
+        ensures invalid { has_key self.old ≡ true → IfErr result S.is_misuse }
     {
         if self.pending {
             return Err(self.serializer.misuse(&mut self.held));
@@ -103,16 +100,13 @@ impl<'a, S: Serializer> SerializeMap<'a, S> {
     pub fn serialize_value<T: Serialize>(&mut self, value: &T) -> Result<(), S::Error>
         ensures same { self.new.serializer.ghost_name ≡ self.old.serializer.ghost_name }
         ensures pending { MatchResult result
-            (λ _. (self.old.pending ≡ true) × (self.new.pending ≡ false))
-            (λ _. self.new.pending ≡ self.old.pending) }
-        ensures step { self.old.pending ≡ true →
-            Feeds S.permits S.has Kind.Map (T.tree value.now) self.old.serializer.now self.old.held
-            result self.new.serializer.now self.new.held }
-        ensures misuse { self.old.pending ≡ false → (start : S) (ps : List (Option Tree)) →
-            S.has start Kind.Map self.old.serializer.now self.old.held ps →
-            IfErr result (λ e. S.has start Kind.Map self.new.serializer.now self.new.held ps
-            × S.permits start None (Err e) self.new.serializer.now) }
-        ensures invalid { self.old.pending ≡ false → IfErr result S.is_misuse }
+            (λ _. (has_key self.old ≡ true) × (has_key self.new ≡ false))
+            (λ _. has_key self.new ≡ has_key self.old) }
+        ensures step { has_key self.old ≡ true →
+            FeedsMap S.permits S.has (T.tree value.now) self.old result self.new }
+        ensures misuse { has_key self.old ≡ false →
+            RefusesInTurn S.permits S.has self.old result self.new }
+        ensures invalid { has_key self.old ≡ false → IfErr result S.is_misuse }
     {
         if !self.pending {
             return Err(self.serializer.misuse(&mut self.held));
@@ -134,23 +128,12 @@ impl<'a, S: Serializer> SerializeMap<'a, S> {
         value: &V,
     ) -> Result<(), S::Error>
         ensures same { self.new.serializer.ghost_name ≡ self.old.serializer.ghost_name }
-        ensures pending { self.new.pending ≡ self.old.pending }
-        ensures step { self.old.pending ≡ false → (start : S) (ps : List (Option Tree)) →
-            S.has start Kind.Map self.old.serializer.now self.old.held ps → paired ps ≡ true →
-            MatchResult result
-            (λ _. S.has start Kind.Map self.new.serializer.now self.new.held
-            (ps ++ (K.tree key.now ∷ (V.tree value.now ∷ []))))
-            (λ e. S.has start Kind.Map self.new.serializer.now self.new.held ps
-            × ((rest : List (Option Tree)) →
-            S.permits start (whole Kind.Map (ps ++ (K.tree key.now ∷ (V.tree value.now ∷ rest))))
-            (Err e) self.new.serializer.now)) }
-        ensures misuse { self.old.pending ≡ true →
-            IsErr result
-            × ((start : S) (ps : List (Option Tree)) →
-            S.has start Kind.Map self.old.serializer.now self.old.held ps →
-            IfErr result (λ e. S.has start Kind.Map self.new.serializer.now self.new.held ps
-            × S.permits start None (Err e) self.new.serializer.now)) }
-        ensures invalid { self.old.pending ≡ true → IfErr result S.is_misuse }
+        ensures pending { has_key self.new ≡ has_key self.old }
+        ensures step { has_key self.old ≡ false →
+            FeedsPair S.permits S.has (K.tree key.now) (V.tree value.now) self.old result self.new }
+        ensures misuse { has_key self.old ≡ true →
+            IsErr result × RefusesInTurn S.permits S.has self.old result self.new }
+        ensures invalid { has_key self.old ≡ true → IfErr result S.is_misuse }
     {
         if self.pending {
             return Err(self.serializer.misuse(&mut self.held));
@@ -165,10 +148,9 @@ impl<'a, S: Serializer> SerializeMap<'a, S> {
     #[inline(always)]
     pub fn end(self) -> Result<S::Ok, S::Error>
         ensures ended { (start : S) (ps : List (Option Tree)) →
-            S.has start Kind.Map self.entry.serializer.now self.entry.held ps →
-            not self.entry.pending ≡ paired ps →
+            MapHas S.has start self.entry ps → not (has_key self.entry) ≡ paired ps →
             S.permits start (whole Kind.Map ps) result self.exit.0.now }
-        ensures invalid { self.entry.pending ≡ true → IsErr result × IfErr result S.is_misuse }
+        ensures invalid { has_key self.entry ≡ true → IsErr result × IfErr result S.is_misuse }
     {
         let SerializeMap {
             serializer,

@@ -1,11 +1,11 @@
 //! Lists: sequences and tuples.
 
-ghost use Rattle.std.specs.Prelude.{◌≡◌, ◌++◌, ◌∷◌, [], List, Option, Err, MatchResult};
+ghost use Rattle.std.specs.Prelude.{◌≡◌, [], List, Option};
 ghost use mir.Syntax.{named};
 ghost use Rattle.std.specs.Borrow.{Lends, sem};
 ghost use Rattle.amqp_ser.specs.Tree.{Tree};
 ghost use Rattle.amqp_ser.specs.Compounds.{whole};
-ghost use Rattle.amqp_ser.specs.Feeding.{Feeds};
+ghost use Rattle.amqp_ser.specs.OpenCompounds.{ListHas, FeedsList};
 
 use super::feed::feed_part;
 use crate::kind::Kind;
@@ -66,8 +66,7 @@ impl<'a, S: Serializer> SerializeSeq<'a, S> {
     #[inline(always)]
     pub fn serialize_element<T: Serialize>(&mut self, value: &T) -> Result<(), S::Error>
         ensures same { self.new.serializer.ghost_name ≡ self.old.serializer.ghost_name }
-        ensures step { Feeds S.permits S.has Kind.List (T.tree value.now) self.old.serializer.now
-            self.old.held result self.new.serializer.now self.new.held }
+        ensures step { FeedsList S.permits S.has (T.tree value.now) self.old result self.new }
     {
         feed_part(&mut *self.serializer, &mut self.held, value)
     }
@@ -79,7 +78,7 @@ impl<'a, S: Serializer> SerializeSeq<'a, S> {
     #[inline(always)]
     pub fn end(self) -> Result<S::Ok, S::Error>
         ensures { (start : S) (ps : List (Option Tree)) →
-            S.has start Kind.List self.entry.serializer.now self.entry.held ps →
+            ListHas S.has start self.entry ps →
             S.permits start (whole Kind.List ps) result self.exit.0.now }
     {
         let SerializeSeq { serializer, held } = self;

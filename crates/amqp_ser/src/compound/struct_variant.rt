@@ -1,11 +1,11 @@
 //! Struct variants: an index and the list of the fields.
 
-ghost use Rattle.std.specs.Prelude.{ℕ, ◌≡◌, ◌++◌, ◌∷◌, [], List, Option, Err, MatchResult};
+ghost use Rattle.std.specs.Prelude.{ℕ, ◌≡◌, [], List, Option};
 ghost use mir.Syntax.{named};
 ghost use Rattle.std.specs.Borrow.{Lends, sem};
 ghost use Rattle.amqp_ser.specs.Tree.{Tree};
 ghost use Rattle.amqp_ser.specs.Compounds.{whole};
-ghost use Rattle.amqp_ser.specs.Feeding.{Feeds};
+ghost use Rattle.amqp_ser.specs.OpenCompounds.{StructVariantHas, FeedsStructVariant};
 
 use super::feed::feed_part;
 use crate::kind::Kind;
@@ -70,9 +70,7 @@ impl<'a, S: Serializer> SerializeStructVariant<'a, S> {
         value: &T,
     ) -> Result<(), S::Error>
         ensures same { self.new.serializer.ghost_name ≡ self.old.serializer.ghost_name }
-        ensures step { (i : ℕ) →
-            Feeds S.permits S.has (Kind.Variant i) (T.tree value.now) self.old.serializer.now
-            self.old.held result self.new.serializer.now self.new.held }
+        ensures step { FeedsStructVariant S.permits S.has (T.tree value.now) self.old result self.new }
     {
         feed_part(&mut *self.serializer, &mut self.held, value)
     }
@@ -84,7 +82,7 @@ impl<'a, S: Serializer> SerializeStructVariant<'a, S> {
     #[inline(always)]
     pub fn end(self) -> Result<S::Ok, S::Error>
         ensures { (start : S) (i : ℕ) (ps : List (Option Tree)) →
-            S.has start (Kind.Variant i) self.entry.serializer.now self.entry.held ps →
+            StructVariantHas S.has start i self.entry ps →
             S.permits start (whole (Kind.Variant i) ps) result self.exit.0.now }
     {
         let SerializeStructVariant { serializer, held } = self;

@@ -1,0 +1,71 @@
+-- Lists, maps and variants under way: what one was fed so far, and what a call feeds it.
+use Rattle.std.specs.Prelude.{ℕ, Bool, List, ◌∷◌, ◌++◌, [], Option, None, true, Result, Err, MatchResult, IfErr, ◌≡◌}
+use Rattle.amqp_ser.specs.Tree.{Tree}
+use Rattle.amqp_ser.specs.Compounds.{whole, paired}
+use Rattle.amqp_ser.specs.Feeding.{Feeds}
+use Rattle.amqp_ser.specs.declared.kind.Kind.{Kind}
+use Rattle.amqp_ser.specs.declared.kind.Kind.TheVariants as kind
+use Rattle.amqp_ser.specs.declared.compound.map.SerializeMap.{SerializeMap}
+use Rattle.amqp_ser.specs.declared.compound.sequence.SerializeSeq.{SerializeSeq}
+use Rattle.amqp_ser.specs.declared.compound.struct_variant.SerializeStructVariant.{SerializeStructVariant}
+use Rattle.amqp_ser.specs.declared.compound.variant.SerializeTupleVariant.{SerializeTupleVariant}
+
+-- the list, which this serializer opened, was fed these elements
+abbrev pub ListHas : {S H O E : Type 0} → (S → Kind → S → H → List (Option Tree) → Type 0) → S → SerializeSeq S O E H → List (Option Tree) → Type 0
+ListHas has start list elements = has start kind.List list.serializer.now list.held elements
+
+-- the list is fed one element more, or is as it was
+abbrev pub FeedsList : {S H O E : Type 0} → (S → Option Tree → Result O E → S → Type 0) → (S → Kind → S → H → List (Option Tree) → Type 0) →
+    Option Tree → SerializeSeq S O E H → Result (Unit {0}) E → SerializeSeq S O E H → Type 0
+FeedsList permits has element before result after =
+    Feeds permits has kind.List element before.serializer.now before.held result after.serializer.now after.held
+
+-- the map, which this serializer opened, was fed these keys and values in turn
+abbrev pub MapHas : {S H O E : Type 0} → (S → Kind → S → H → List (Option Tree) → Type 0) → S → SerializeMap S O E H → List (Option Tree) → Type 0
+MapHas has start map parts = has start kind.Map map.serializer.now map.held parts
+
+-- the map has a key whose value is to come
+abbrev pub has_key : {S H O E : Type 0} → SerializeMap S O E H → Bool
+has_key map = map.pending
+
+-- the map is fed a key or a value more, or is as it was
+abbrev pub FeedsMap : {S H O E : Type 0} → (S → Option Tree → Result O E → S → Type 0) → (S → Kind → S → H → List (Option Tree) → Type 0) →
+    Option Tree → SerializeMap S O E H → Result (Unit {0}) E → SerializeMap S O E H → Type 0
+FeedsMap permits has part before result after =
+    Feeds permits has kind.Map part before.serializer.now before.held result after.serializer.now after.held
+
+-- the map is fed one pair more, or is as it was
+abbrev pub FeedsPair : {S H O E : Type 0} → (S → Option Tree → Result O E → S → Type 0) → (S → Kind → S → H → List (Option Tree) → Type 0) →
+    Option Tree → Option Tree → SerializeMap S O E H → Result (Unit {0}) E → SerializeMap S O E H → Type 0
+FeedsPair {S} permits has key value before result after =
+    (start : S) (ps : List (Option Tree)) → MapHas has start before ps → paired ps ≡ true →
+    MatchResult result
+    (λ _. MapHas has start after (ps ++ (key ∷ (value ∷ []))))
+    (λ e. MapHas has start after ps × ((rest : List (Option Tree)) →
+    permits start (whole kind.Map (ps ++ (key ∷ (value ∷ rest)))) (Err e) after.serializer.now))
+
+-- a key or a value out of turn: the map is as it was, and there is no tree
+abbrev pub RefusesInTurn : {S H O E : Type 0} → (S → Option Tree → Result O E → S → Type 0) → (S → Kind → S → H → List (Option Tree) → Type 0) →
+    SerializeMap S O E H → Result (Unit {0}) E → SerializeMap S O E H → Type 0
+RefusesInTurn {S} permits has before result after =
+    (start : S) (ps : List (Option Tree)) → MapHas has start before ps →
+    IfErr result (λ e. MapHas has start after ps × permits start None (Err e) after.serializer.now)
+
+-- the variant of this index, which this serializer opened, was fed these fields
+abbrev pub VariantHas : {S H O E : Type 0} → (S → Kind → S → H → List (Option Tree) → Type 0) → S → ℕ → SerializeTupleVariant S O E H → List (Option Tree) → Type 0
+VariantHas has start index variant fields = has start (kind.Variant index) variant.serializer.now variant.held fields
+
+-- the variant is fed one field more, or is as it was
+abbrev pub FeedsVariant : {S H O E : Type 0} → (S → Option Tree → Result O E → S → Type 0) → (S → Kind → S → H → List (Option Tree) → Type 0) →
+    Option Tree → SerializeTupleVariant S O E H → Result (Unit {0}) E → SerializeTupleVariant S O E H → Type 0
+FeedsVariant permits has field before result after =
+    (index : ℕ) → Feeds permits has (kind.Variant index) field before.serializer.now before.held result after.serializer.now after.held
+
+-- the same of a variant whose fields have names
+abbrev pub StructVariantHas : {S H O E : Type 0} → (S → Kind → S → H → List (Option Tree) → Type 0) → S → ℕ → SerializeStructVariant S O E H → List (Option Tree) → Type 0
+StructVariantHas has start index variant fields = has start (kind.Variant index) variant.serializer.now variant.held fields
+
+abbrev pub FeedsStructVariant : {S H O E : Type 0} → (S → Option Tree → Result O E → S → Type 0) → (S → Kind → S → H → List (Option Tree) → Type 0) →
+    Option Tree → SerializeStructVariant S O E H → Result (Unit {0}) E → SerializeStructVariant S O E H → Type 0
+FeedsStructVariant permits has field before result after =
+    (index : ℕ) → Feeds permits has (kind.Variant index) field before.serializer.now before.held result after.serializer.now after.held
