@@ -6,6 +6,7 @@ ghost use Rattle.amqp_ser.specs.Fixed.{fixed_scalar};
 ghost use Rattle.amqp_ser.specs.Compounds.{whole, complete, paired};
 ghost use Rattle.amqp_ser.specs.Composites.{as_described, descriptor_of};
 ghost use Rattle.amqp_ser.specs.Marked.{is_descriptor_name, is_value_name, marked, mark_of};
+ghost use Rattle.amqp_ser.specs.OpenCompounds.{ListHas, MapHas, has_key, VariantHas, StructVariantHas};
 ghost use Rattle.amqp_ser.specs.Structs.{Stands, struct_form, is_basic_name, is_tagged, named_variant};
 ghost use Rattle.amqp_data.specs.Fixed.{f32_bits, f64_bits};
 
@@ -344,8 +345,7 @@ pub trait Serializer {
     ) -> Result<SerializeSeq<'_, Self>, Self::Error>
     where
         Self: Sized,
-        ensures opened { IfOk result
-            (λ seq. Self.has self.old Kind.List seq.serializer.now seq.held []) }
+        ensures opened { IfOk result (λ seq. ListHas Self.has self.old seq []) }
         ensures same_reference { IfOk result
             (λ seq. seq.serializer.ghost_name ≡ self.entry.ghost_name) }
         ensures succeeds { IsOk result }
@@ -362,8 +362,7 @@ pub trait Serializer {
     ) -> Result<SerializeTuple<'_, Self>, Self::Error>
     where
         Self: Sized,
-        ensures opened { IfOk result
-            (λ tuple. Self.has self.old Kind.List tuple.serializer.now tuple.held []) }
+        ensures opened { IfOk result (λ tuple. ListHas Self.has self.old tuple []) }
         ensures same_reference { IfOk result
             (λ tuple. tuple.serializer.ghost_name ≡ self.entry.ghost_name) }
         ensures succeeds { IsOk result }
@@ -456,9 +455,8 @@ pub trait Serializer {
     ) -> Result<SerializeMap<'_, Self>, Self::Error>
     where
         Self: Sized,
-        ensures opened { IfOk result
-            (λ map. Self.has self.old Kind.Map map.serializer.now map.held []) }
-        ensures no_key { IfOk result (λ map. map.pending ≡ false) }
+        ensures opened { IfOk result (λ map. MapHas Self.has self.old map []) }
+        ensures no_key { IfOk result (λ map. has_key map ≡ false) }
         ensures same_reference { IfOk result
             (λ map. map.serializer.ghost_name ≡ self.entry.ghost_name) }
         ensures succeeds { IsOk result }
@@ -506,9 +504,7 @@ pub trait Serializer {
     ) -> Result<SerializeTupleVariant<'_, Self>, Self::Error>
     where
         Self: Sized,
-        ensures opened { IfOk result
-            (λ variant. Self.has self.old (Kind.Variant index) variant.serializer.now
-            variant.held []) }
+        ensures opened { IfOk result (λ variant. VariantHas Self.has self.old index variant []) }
         ensures same_reference { IfOk result
             (λ variant. variant.serializer.ghost_name ≡ self.entry.ghost_name) }
         ensures succeeds { IsOk result }
@@ -529,8 +525,7 @@ pub trait Serializer {
     where
         Self: Sized,
         ensures opened { IfOk result
-            (λ variant. Self.has self.old (Kind.Variant index) variant.serializer.now
-            variant.held []) }
+            (λ variant. StructVariantHas Self.has self.old index variant []) }
         ensures same_reference { IfOk result
             (λ variant. variant.serializer.ghost_name ≡ self.entry.ghost_name) }
         ensures succeeds { IsOk result }
