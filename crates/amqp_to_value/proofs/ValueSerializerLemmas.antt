@@ -2,14 +2,13 @@
 use Rattle.std.proofs.Common.{◌≡◌, List, [], ◌∷◌, ◌++◌, Option, Some, None, Result, ok_or, true, true≢false, refl, ap, sym, ◌∙◌, subst}
 use Rattle.amqp_data.specs.declared.error.Error.{Error}
 use Rattle.amqp_data.specs.declared.error.Error.TheVariants as error
-use Rattle.amqp_ser.specs.Tree.{Descriptor, Tree, Trees, Pairs, null, scalar, list, array, map, described, variant, lazy, transparent, no_trees, more}
+use Rattle.amqp_ser.specs.Tree.{Descriptor, Tree, Trees, Pairs, null, scalar, no_trees, more}
 use Rattle.amqp_ser.specs.Compounds.{all_trees, prepend, complete, in_pairs, as_kind, whole, paired}
-use Rattle.amqp_ser.specs.Marked.{marked, marked_tree}
 use Rattle.amqp_ser.specs.declared.kind.Kind.{Kind}
 use Rattle.amqp_ser.specs.declared.kind.Kind.TheVariants as kinds
-use Rattle.amqp_ser.specs.declared.mark.Mark.TheVariants as mark
 use Rattle.amqp_ser.proofs.Joins.{join, joined, all_trees-append, kind_none}
 use Rattle.amqp_ser.proofs.Pairing.{Pairing, pairing, paired-even}
+use Rattle.amqp_ser.proofs.Unmarked.{unmarked}
 use Rattle.amqp_value.specs.Image.{image}
 use Rattle.amqp_value.specs.TreeOf.{tree_of}
 use Rattle.amqp_value.specs.declared.value.Value.{Value}
@@ -31,24 +30,10 @@ use Rattle.amqp_to_value.proofs.LazyLemmas.{part_lacks}
 none-some : (t : Tree) → None ≡ Some t → ⊥
 none-some t q = cc
 
-unmarked : (t : Tree) → marked_tree mark.Other t ≡ Some t
-unmarked (scalar s) = refl
-unmarked (list ts) = refl
-unmarked (array ts) = refl
-unmarked (map ps) = refl
-unmarked (described d t) = refl
-unmarked (variant i t) = refl
-unmarked (lazy bs) = refl
-unmarked (transparent ts) = refl
-
-other : (p : Option Tree) → marked mark.Other p ≡ p
-other None = refl
-other (Some t) = unmarked t
-
 -- what is meant with nothing before it
 pub plain_answer : (s : Serializer) (ds : List Descriptor) (p : Option Tree) (r : Result Value Error) → IsKept ds s → IsImageOf (meant_by s p) r → IsImageOf p r
 plain_answer s ds p r kept is =
-    subst (λ o. IsImageOf o r) (ap (λ ds. described_by ds (meant s.pending p)) (standing_none s.descriptors kept.0.1) ∙ ap (λ u. meant u p) kept.0.0 ∙ other p) is
+    subst (λ o. IsImageOf o r) (ap (λ ds. described_by ds (meant s.pending p)) (standing_none s.descriptors kept.0.1) ∙ ap (λ u. meant u p) kept.0.0 ∙ unmarked p) is
 
 pub meant_none : (u : PendingMark) → meant u None ≡ None
 meant_none (pending.Mark m) = refl

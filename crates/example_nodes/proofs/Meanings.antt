@@ -2,12 +2,12 @@
 use Rattle.std.proofs.Common.{◌≡◌, ℕ, ◌^◌, ◌≤◌, inr, List, [], ◌∷◌, Option, Some, None, Result, Ok, Err, MatchResult, true, false, refl, sym, subst}
 use Rattle.amqp_data.specs.declared.error.Error.{Error}
 use Rattle.amqp_data.specs.declared.error.Error.TheVariants.{TooLong}
-use Rattle.amqp_ser.specs.Tree.{Tree, Trees, Pairs, scalar, list, array, map, described, variant, lazy, transparent, no_trees, more}
+use Rattle.amqp_ser.specs.Tree.{Tree, Trees, Pairs, list, variant, no_trees, more}
 use Rattle.amqp_ser.specs.Compounds.{all_trees, prepend, as_kind, as_map, as_variant, in_pairs, only, whole}
-use Rattle.amqp_ser.specs.Marked.{marked_tree}
 use Rattle.amqp_ser.specs.declared.kind.Kind.{Kind}
 use Rattle.amqp_ser.specs.declared.kind.Kind.TheVariants as kinds
 use Rattle.amqp_ser.specs.declared.mark.Mark.TheVariants as mark
+use Rattle.amqp_ser.proofs.Unmarked.{unmarked}
 use Rattle.example_nodes.specs.Nodes.{CountsFrom, IsRefusal, meant_parts}
 use Rattle.example_nodes.specs.PendingMark.{fits, meant}
 use Rattle.example_nodes.specs.declared.pending_mark.PendingMark.{PendingMark}
@@ -20,20 +20,10 @@ never q = cc
 abbrev pub Sums : ℕ → Result ℕ Error → Type 0
 Sums m r = MatchResult r (λ n. n ≡ m) (λ e. (e ≡ TooLong) × (2 ^ 64 ≤ m))
 
-unmarked : (t : Tree) → Some t ≡ marked_tree mark.Other t
-unmarked (scalar s) = refl
-unmarked (list ts) = refl
-unmarked (array ts) = refl
-unmarked (map ps) = refl
-unmarked (described d t) = refl
-unmarked (variant i t) = refl
-unmarked (lazy bs) = refl
-unmarked (transparent ts) = refl
-
 -- under no marker each tree is meant as it is
 pub as_it_is : (p : Option Tree) → p ≡ meant (pending.Mark mark.Other) p
 as_it_is None = refl
-as_it_is (Some t) = unmarked t
+as_it_is (Some t) = sym (unmarked (Some t))
 
 first_single : (u : PendingMark) (t : Tree) (m : Option Tree) (o : Option Trees) → m ≡ meant u (Some t) → as_kind kinds.Single (prepend m o) ≡ meant u (as_kind kinds.Single (prepend (Some t) o))
 first_single u t None None e = refl
