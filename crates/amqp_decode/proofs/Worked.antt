@@ -1,21 +1,13 @@
 -- Worked rows: bytes and the trees that they spell, computed.
-use Rattle.std.proofs.Common.{ℕ, pos, negsuc, ◌+◌, ◌*◌, ◌-◌, List, [], ◌∷◌, true, nat_le, if◌then◌else◌, codes, refl}
+use Rattle.std.proofs.Common.{ℕ, pos, negsuc, List, [], ◌∷◌, true, codes, refl}
 use Rattle.amqp_ser.specs.Tree.{null, bool, uint, ubyte, int, binary, code, Tree, scalar, list, array, map, described, no_pairs, pair, trees_of}
 use Rattle.amqp_frame.specs.Code.{category}
+use Rattle.amqp_ser.proofs.Worked.{bytes}
 use Rattle.amqp_decode.specs.Codes.{primitive_of}
 use Rattle.amqp_decode.specs.Parsed.{parse, parse_content, sized_at, counted_in, descriptor_at}
 use Rattle.amqp_decode.specs.Scalars.{scalar_in}
 use Rattle.amqp_decode.specs.Spells.{Spells}
 use Rattle.amqp_decode.proofs.Whole.{spelled, none-spelled}
-
-abbrev digit : ℕ → ℕ
-digit c = if nat_le 97 c then c - 87 else c - 48
-
--- the bytes of pairs of hexadecimal digits
-abbrev bytes : List ℕ → List ℕ
-bytes [] = []
-bytes (a ∷ []) = []
-bytes (a ∷ (b ∷ cs)) = (digit a * 16 + digit b) ∷ bytes cs
 
 abbrev Row : List ℕ → Tree → Type 0
 Row hexadecimal t = Spells 3 (bytes hexadecimal) t

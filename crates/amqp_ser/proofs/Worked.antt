@@ -8,11 +8,11 @@ use Rattle.amqp_ser.specs.Marked.{marked}
 use Rattle.amqp_ser.specs.declared.mark.Mark.TheVariants as mark
 use Rattle.amqp_ser.specs.Writable.{uniform_arrays, placed, within_limits, writable}
 
-abbrev digit : ℕ → ℕ
+abbrev pub digit : ℕ → ℕ
 digit c = if nat_le 97 c then c - 87 else c - 48
 
 -- the bytes of pairs of hexadecimal digits
-abbrev bytes : List ℕ → List ℕ
+abbrev pub bytes : List ℕ → List ℕ
 bytes [] = []
 bytes (a ∷ []) = []
 bytes (a ∷ (b ∷ cs)) = (digit a * 16 + digit b) ∷ bytes cs
