@@ -18,6 +18,17 @@ use std::alloc::Global;
 const PIECE: usize = 4096;
 
 /// Takes the next encoded value, code by code, with a count of those that are still open.
+///
+/// # Encoding
+/// AMQP 1.0 part 1, section 1.2.
+///
+/// # Errors
+/// `InvalidFormatCode` at a code that is refused, which is the last byte taken; `UnexpectedEof`
+/// where the input ends before the value does, of which nothing is left; `Io` where a read failed;
+/// `OutOfMemory` where memory for the bytes is refused.
+///
+/// # Example
+/// From `500140` it takes `5001` and leaves `40`.
 pub fn take_value<R: Read>(alloc: Global, reader: &mut R) -> Result<Bytes, Error>
     ensures frame { IfOk result (λ bytes.
         IsFrame bytes × Consumes (R.left reader.old) (R.left reader.new) bytes) }
