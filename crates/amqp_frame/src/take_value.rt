@@ -20,14 +20,17 @@ const PIECE: usize = 4096;
 /// Takes the next encoded value, code by code, with a count of those that are still open.
 ///
 /// # Encoding
+///
 /// AMQP 1.0 part 1, section 1.2.
 ///
 /// # Errors
-/// `InvalidFormatCode` at a code that is refused, which is the last byte taken; `UnexpectedEof`
-/// where the input ends before the value does, of which nothing is left; `Io` where a read failed;
-/// `OutOfMemory` where memory for the bytes is refused.
+///
+/// [`Error::InvalidFormatCode`] at a refused code, which is the last byte taken.
+/// [`Error::UnexpectedEof`] where the input ends before the value does, and nothing is left.
+/// [`Error::Io`] where a read failed, and [`Error::OutOfMemory`].
 ///
 /// # Example
+///
 /// From `500140` it takes `5001` and leaves `40`.
 pub fn take_value<R: Read>(alloc: Global, reader: &mut R) -> Result<Bytes, Error>
     ensures frame { IfOk result (λ bytes.
