@@ -42,6 +42,9 @@ impl From<u32> for F32Bits {
 ///
 /// # Encoding
 /// `82` and eight bytes, big-endian.
+///
+/// # Example
+/// The bits 3FF8000000000000, which are 1.5, are written `823ff8000000000000`.
 #[derive(Debug, PartialEq, Eq, PartialOrd, Ord, Hash, Clone, Copy)]
 pub struct F64Bits(u64);
 

@@ -58,6 +58,9 @@ impl TryFrom<&[u8]> for Dec32 {
 ///
 /// # Encoding
 /// `84` and the bytes.
+///
+/// # Example
+/// The bytes 01 to 08 are written `840102030405060708`.
 #[derive(Debug, PartialEq, Eq, PartialOrd, Ord, Hash, Clone, Copy)]
 pub struct Dec64([u8; 8]);
 
@@ -104,6 +107,9 @@ impl TryFrom<&[u8]> for Dec64 {
 ///
 /// # Encoding
 /// `94` and the bytes.
+///
+/// # Example
+/// The bytes 00 to 0F are written `94000102030405060708090a0b0c0d0e0f`.
 #[derive(Debug, PartialEq, Eq, PartialOrd, Ord, Hash, Clone, Copy)]
 pub struct Dec128([u8; 16]);
 

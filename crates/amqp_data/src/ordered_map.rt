@@ -86,6 +86,10 @@ impl<K: Hash + Eq, V> OrderedMap<K, V> {
     ///
     /// # Memory
     /// Takes none.
+    ///
+    /// # Example
+    /// Of the pairs (2, `true`) and (1, `false`) with ubytes as keys: written `c10704500241500142`, in this
+    /// order.
     pub fn from_distinct(entries: Vec<(K, V)>) -> Self
         requires { AreDistinct K.eq (keys_of entries.items) }
         ensures { entries_of result ≡ entries.items }
@@ -94,6 +98,9 @@ impl<K: Hash + Eq, V> OrderedMap<K, V> {
     }
 
     /// The value of the key, if it is present. The keys are searched in order.
+    ///
+    /// # Example
+    /// In the map from 1 to `true`: `Some(&true)` of the key 1, `None` of the key 2.
     pub fn get(&self, key: &K) -> Option<&V>
         ensures { option_copied result ≡ lookup (K.eq key.now) (entries_of self.now) }
     {
@@ -114,6 +121,10 @@ impl<K: Hash + Eq, V> OrderedMap<K, V> {
     ///
     /// # Memory
     /// Takes none where the key is present.
+    ///
+    /// # Example
+    /// Into a map of no pairs, 1 and `true`: `Ok(None)`. Then 1 and `false`: `Ok(Some(true))`. With ubytes as
+    /// keys the map is then written `c10402500142`.
     pub fn insert(&mut self, key: K, value: V) -> Result<Option<V>, Error>
     where
         K: Drop,

@@ -28,6 +28,9 @@ impl Symbol {
     ///
     /// # Memory
     /// Takes `alloc`.
+    ///
+    /// # Example
+    /// Of `amqp`: a symbol that is written `a304616d7170` and shown `:amqp`.
     pub fn try_from_str(alloc: Global, text: &str) -> Result<Symbol, Error>
         ensures ok { IfOk result (λ symbol. symbol_text symbol ≡ text.now) }
         ensures memory { IfErr result (λ e. e ≡ Error.OutOfMemory) }
@@ -75,6 +78,9 @@ impl fmt::Display for Symbol {
 ///
 /// # Encoding
 /// As a `Symbol` of the same text.
+///
+/// # Example
+/// `SymbolRef::from("amqp")` is written `a304616d7170`, and `as_inner` of it is `amqp`.
 #[derive(Debug, PartialEq, Eq, PartialOrd, Ord, Hash, Clone, Copy)]
 pub struct SymbolRef<'a>(&'a str);
 

@@ -20,6 +20,9 @@ pub struct Timestamp(i64);
 
 impl Timestamp {
     /// The moment so many milliseconds after the epoch, or before it where they are negative.
+    ///
+    /// # Example
+    /// Of -1: the moment that is shown `1969-12-31T23:59:59.999Z`, and written `83ffffffffffffffff`.
     pub fn from_milliseconds(milliseconds: i64) -> Timestamp
         ensures { milliseconds_of result ≡ milliseconds }
     {

@@ -30,6 +30,9 @@ impl<T> TransparentVec<T> {
     ///
     /// # Memory
     /// Takes none.
+    ///
+    /// # Example
+    /// Of `true`, `false` and `true`: written `414241`. Of no elements: no byte.
     pub fn new(items: Vec<T>) -> TransparentVec<T>
         ensures { transparent_items result ≡ items.items }
     {
@@ -80,6 +83,9 @@ impl<T> TransparentVec<T> {
     ///
     /// # Memory
     /// Takes `alloc`.
+    ///
+    /// # Example
+    /// Of an iterator over `true` and `false`: written `4142`.
     pub fn try_collect<I: Iterator<Item = T>>(
         alloc: Global,
         iter: I,

@@ -13,6 +13,9 @@ use std::fmt::{Formatter, Write};
 ///
 /// # Encoding
 /// `98` and the bytes.
+///
+/// # Example
+/// The bytes 00, 11, 22 up to FF are written `9800112233445566778899aabbccddeeff`.
 #[derive(Debug, PartialEq, Eq, PartialOrd, Ord, Hash, Clone, Copy)]
 pub struct Uuid([u8; 16]);
 

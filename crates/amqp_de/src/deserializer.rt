@@ -47,30 +47,51 @@ pub trait Deserializer: Sized + Drop {
     ghost pairs: { Self.Entries → List (Tree × Tree) };
 
     /// Whether it holds null.
+    ///
+    /// # Example
+    /// True of null alone.
     fn is_null(&self) -> bool
         ensures { IsTrue result ↔ value self.now ≡ scalar null };
 
     /// Whether it holds what a variant's index may be: a uint or a symbol.
+    ///
+    /// # Example
+    /// True of the uint 1 and of the symbol `a`, and false of the ulong 1.
     fn is_index(&self) -> bool
         ensures { result ≡ is_index (value self.now) };
 
     /// Opens the first level.
+    ///
+    /// # Example
+    /// Of the ubyte 1: `Content::Ubyte(1)`. Of the list of it: `Content::List` of one element.
     fn open(self) -> Content<Self, Self::Elements, Self::Entries>
         ensures { content_tree value items pairs result ≡ value self };
 
     /// The whole, as an untyped value.
+    ///
+    /// # Example
+    /// Of null: `Value::Null`.
     fn into_value(self) -> Value
         ensures { tree_of result ≡ value self };
 
     /// Takes the next element.
+    ///
+    /// # Example
+    /// Of the ubytes 1 and 2: what holds 1, then what holds 2, then `None`.
     fn next_element(elements: &mut Self::Elements) -> Option<Self>
         ensures { TakesNext value (items elements.old) (items elements.new) result };
 
     /// Takes the next pair.
+    ///
+    /// # Example
+    /// Of the pair of the uint 1 and the ubyte 2: what holds 1 and what holds 2, then `None`.
     fn next_pair(entries: &mut Self::Entries) -> Option<(Self, Self)>
         ensures { TakesPair value (pairs entries.old) (pairs entries.new) result };
 
     /// Takes the value of the first key that is the string of this name.
+    ///
+    /// # Example
+    /// Of the string `x` with the ubyte 1 and `y` with 2, by the name `y`: what holds 2. By the name `z`: `None`.
     fn take_named(entries: &mut Self::Entries, name: &str) -> Option<Self>
         ensures { TakesNamed value name.now (pairs entries.old) (pairs entries.new) result };
 
@@ -82,6 +103,12 @@ pub trait Deserializer: Sized + Drop {
     }
 
     /// Deserializes a `bool`.
+    ///
+    /// # Errors
+    /// Invalid where no boolean is held; as the visitor otherwise.
+    ///
+    /// # Example
+    /// Of `true`: `visit_bool(true)`. Of the ubyte 1: invalid.
     final fn deserialize_bool<V: Visitor>(self, visitor: V) -> Result<V::Value, Self::Error>
         ensures read { Answers Self.Error.is_memory
             (ByPlain (V.gives visitor) bool (value self)) result }
@@ -95,6 +122,12 @@ pub trait Deserializer: Sized + Drop {
     }
 
     /// Deserializes a `u8`.
+    ///
+    /// # Errors
+    /// Invalid where no ubyte is held; as the visitor otherwise.
+    ///
+    /// # Example
+    /// Of the ubyte 5: `visit_u8(5)`. Of the uint 5: invalid.
     final fn deserialize_u8<V: Visitor>(self, visitor: V) -> Result<V::Value, Self::Error>
         ensures read { Answers Self.Error.is_memory
             (ByPlain (V.gives visitor) ubyte (value self)) result }
@@ -108,6 +141,12 @@ pub trait Deserializer: Sized + Drop {
     }
 
     /// Deserializes a `u16`.
+    ///
+    /// # Errors
+    /// Invalid where no ushort is held; as the visitor otherwise.
+    ///
+    /// # Example
+    /// Of the ushort 256: `visit_u16(256)`.
     final fn deserialize_u16<V: Visitor>(self, visitor: V) -> Result<V::Value, Self::Error>
         ensures read { Answers Self.Error.is_memory
             (ByPlain (V.gives visitor) ushort (value self)) result }
@@ -121,6 +160,12 @@ pub trait Deserializer: Sized + Drop {
     }
 
     /// Deserializes a `u32`.
+    ///
+    /// # Errors
+    /// Invalid where no uint is held; as the visitor otherwise.
+    ///
+    /// # Example
+    /// Of the uint 1: `visit_u32(1)`. Of the ulong 1: invalid.
     final fn deserialize_u32<V: Visitor>(self, visitor: V) -> Result<V::Value, Self::Error>
         ensures read { Answers Self.Error.is_memory
             (ByPlain (V.gives visitor) uint (value self)) result }
@@ -134,6 +179,12 @@ pub trait Deserializer: Sized + Drop {
     }
 
     /// Deserializes a `u64`.
+    ///
+    /// # Errors
+    /// Invalid where no ulong is held; as the visitor otherwise.
+    ///
+    /// # Example
+    /// Of the ulong 13: `visit_u64(13)`.
     final fn deserialize_u64<V: Visitor>(self, visitor: V) -> Result<V::Value, Self::Error>
         ensures read { Answers Self.Error.is_memory
             (ByPlain (V.gives visitor) ulong (value self)) result }
@@ -147,6 +198,12 @@ pub trait Deserializer: Sized + Drop {
     }
 
     /// Deserializes an `i8`.
+    ///
+    /// # Errors
+    /// Invalid where no byte is held; as the visitor otherwise.
+    ///
+    /// # Example
+    /// Of the byte -1: `visit_i8(-1)`.
     final fn deserialize_i8<V: Visitor>(self, visitor: V) -> Result<V::Value, Self::Error>
         ensures read { Answers Self.Error.is_memory
             (ByPlain (V.gives visitor) byte (value self)) result }
@@ -160,6 +217,12 @@ pub trait Deserializer: Sized + Drop {
     }
 
     /// Deserializes an `i16`.
+    ///
+    /// # Errors
+    /// Invalid where no short is held; as the visitor otherwise.
+    ///
+    /// # Example
+    /// Of the short -2: `visit_i16(-2)`.
     final fn deserialize_i16<V: Visitor>(self, visitor: V) -> Result<V::Value, Self::Error>
         ensures read { Answers Self.Error.is_memory
             (ByPlain (V.gives visitor) short (value self)) result }
@@ -173,6 +236,12 @@ pub trait Deserializer: Sized + Drop {
     }
 
     /// Deserializes an `i32`.
+    ///
+    /// # Errors
+    /// Invalid where no int is held; as the visitor otherwise.
+    ///
+    /// # Example
+    /// Of the int 128: `visit_i32(128)`.
     final fn deserialize_i32<V: Visitor>(self, visitor: V) -> Result<V::Value, Self::Error>
         ensures read { Answers Self.Error.is_memory
             (ByPlain (V.gives visitor) int (value self)) result }
@@ -186,6 +255,12 @@ pub trait Deserializer: Sized + Drop {
     }
 
     /// Deserializes an `i64`.
+    ///
+    /// # Errors
+    /// Invalid where no long is held; as the visitor otherwise.
+    ///
+    /// # Example
+    /// Of the long -1: `visit_i64(-1)`. Of a timestamp: invalid.
     final fn deserialize_i64<V: Visitor>(self, visitor: V) -> Result<V::Value, Self::Error>
         ensures read { Answers Self.Error.is_memory
             (ByPlain (V.gives visitor) long (value self)) result }
@@ -199,6 +274,12 @@ pub trait Deserializer: Sized + Drop {
     }
 
     /// Deserializes an `f32`, by its bits.
+    ///
+    /// # Errors
+    /// Invalid where no float is held; as the visitor otherwise.
+    ///
+    /// # Example
+    /// Of the float 1.5: `visit_f32` of the bits 3FC00000.
     final fn deserialize_f32<V: Visitor>(self, visitor: V) -> Result<V::Value, Self::Error>
         ensures read { Answers Self.Error.is_memory
             (ByPlain (V.gives visitor) float (value self)) result }
@@ -212,6 +293,12 @@ pub trait Deserializer: Sized + Drop {
     }
 
     /// Deserializes an `f64`, by its bits.
+    ///
+    /// # Errors
+    /// Invalid where no double is held; as the visitor otherwise.
+    ///
+    /// # Example
+    /// Of the double 1.5: `visit_f64` of the bits 3FF8000000000000.
     final fn deserialize_f64<V: Visitor>(self, visitor: V) -> Result<V::Value, Self::Error>
         ensures read { Answers Self.Error.is_memory
             (ByPlain (V.gives visitor) double (value self)) result }
@@ -225,6 +312,12 @@ pub trait Deserializer: Sized + Drop {
     }
 
     /// Deserializes a `char`.
+    ///
+    /// # Errors
+    /// Invalid where no character is held; as the visitor otherwise.
+    ///
+    /// # Example
+    /// Of the character `a`: `visit_char('a')`.
     final fn deserialize_char<V: Visitor>(self, visitor: V) -> Result<V::Value, Self::Error>
         ensures read { Answers Self.Error.is_memory
             (ByPlain (V.gives visitor) char (value self)) result }
@@ -238,6 +331,12 @@ pub trait Deserializer: Sized + Drop {
     }
 
     /// Deserializes a `String`.
+    ///
+    /// # Errors
+    /// Invalid where no string is held; as the visitor otherwise.
+    ///
+    /// # Example
+    /// Of the string `a`: `visit_string` of it. Of the symbol `a`: invalid.
     final fn deserialize_string<V: Visitor>(self, visitor: V) -> Result<V::Value, Self::Error>
         ensures read { Answers Self.Error.is_memory
             (ByPlain (V.gives visitor) string (value self)) result }
@@ -251,6 +350,12 @@ pub trait Deserializer: Sized + Drop {
     }
 
     /// Deserializes a string. As `deserialize_string`.
+    ///
+    /// # Errors
+    /// Invalid where no string is held; as the visitor otherwise.
+    ///
+    /// # Example
+    /// Of the string `a`: `visit_string` of it.
     final fn deserialize_str<V: Visitor>(self, visitor: V) -> Result<V::Value, Self::Error>
         ensures read { Answers Self.Error.is_memory
             (ByPlain (V.gives visitor) string (value self)) result }
@@ -261,6 +366,12 @@ pub trait Deserializer: Sized + Drop {
     }
 
     /// Deserializes a binary.
+    ///
+    /// # Errors
+    /// Invalid where no binary is held; as the visitor otherwise.
+    ///
+    /// # Example
+    /// Of the binary 01, 02: `visit_byte_buf` of it. Of a list of ubytes: invalid.
     final fn deserialize_byte_buf<V: Visitor>(self, visitor: V) -> Result<V::Value, Self::Error>
         ensures read { Answers Self.Error.is_memory
             (ByPlain (V.gives visitor) binary (value self)) result }
@@ -274,6 +385,12 @@ pub trait Deserializer: Sized + Drop {
     }
 
     /// Deserializes a binary. As `deserialize_byte_buf`.
+    ///
+    /// # Errors
+    /// Invalid where no binary is held; as the visitor otherwise.
+    ///
+    /// # Example
+    /// Of the binary 01, 02: `visit_byte_buf` of it.
     final fn deserialize_bytes<V: Visitor>(self, visitor: V) -> Result<V::Value, Self::Error>
         ensures read { Answers Self.Error.is_memory
             (ByPlain (V.gives visitor) binary (value self)) result }
@@ -284,6 +401,12 @@ pub trait Deserializer: Sized + Drop {
     }
 
     /// Deserializes an `Option`: null as nothing, and anything else as something.
+    ///
+    /// # Errors
+    /// As the visitor.
+    ///
+    /// # Example
+    /// Of null: `visit_none()`. Of the uint 5: `visit_some` of what holds it.
     final fn deserialize_option<V: Visitor>(self, visitor: V) -> Result<V::Value, Self::Error>
         ensures read { Answers Self.Error.is_memory
             (ByOption (V.gives visitor) (value self)) result }
@@ -298,6 +421,12 @@ pub trait Deserializer: Sized + Drop {
     }
 
     /// Deserializes `()`, from null.
+    ///
+    /// # Errors
+    /// Invalid where something else than null is held; as the visitor otherwise.
+    ///
+    /// # Example
+    /// Of null: `visit_unit()`. Of `false`: invalid.
     final fn deserialize_unit<V: Visitor>(self, visitor: V) -> Result<V::Value, Self::Error>
         ensures read { Answers Self.Error.is_memory (ByUnit (V.gives visitor) (value self)) result }
         ensures law { Returns (ByUnit (V.stands visitor) (value self))
@@ -311,6 +440,12 @@ pub trait Deserializer: Sized + Drop {
     }
 
     /// Deserializes a unit struct. As `deserialize_unit`.
+    ///
+    /// # Errors
+    /// Invalid where something else than null is held; as the visitor otherwise.
+    ///
+    /// # Example
+    /// Of null: `visit_unit()`, whatever the name.
     final fn deserialize_unit_struct<V: Visitor>(
         self,
         _name: &str,
@@ -324,6 +459,12 @@ pub trait Deserializer: Sized + Drop {
     }
 
     /// Deserializes the elements of a list.
+    ///
+    /// # Errors
+    /// Invalid where no list is held; as the visitor otherwise.
+    ///
+    /// # Example
+    /// Of the list of the ubytes 1 and 2: `visit_seq` of these two. Of their array: invalid.
     #[tactic(auto, using(crate::proofs::Lists::list_of_trees))]
     final fn deserialize_seq<V: Visitor>(self, visitor: V) -> Result<V::Value, Self::Error>
         ensures read { Answers Self.Error.is_memory (ByList (V.gives visitor) (value self)) result }
@@ -337,6 +478,12 @@ pub trait Deserializer: Sized + Drop {
     }
 
     /// Deserializes a tuple. As `deserialize_seq`.
+    ///
+    /// # Errors
+    /// Invalid where no list is held; as the visitor otherwise.
+    ///
+    /// # Example
+    /// Of the list of the ubyte 1 and `true`: `visit_seq` of these two.
     final fn deserialize_tuple<V: Visitor>(self, visitor: V) -> Result<V::Value, Self::Error>
         ensures read { Answers Self.Error.is_memory (ByList (V.gives visitor) (value self)) result }
         ensures law { Returns (ByList (V.stands visitor) (value self))
@@ -346,6 +493,12 @@ pub trait Deserializer: Sized + Drop {
     }
 
     /// Deserializes the keys and values of a map.
+    ///
+    /// # Errors
+    /// Invalid where no map is held; as the visitor otherwise.
+    ///
+    /// # Example
+    /// Of the map from the ubyte 1 to `true`: `visit_map` of this pair.
     #[tactic(auto, using(crate::proofs::Lists::entries_in_pairs))]
     final fn deserialize_map<V: Visitor>(self, visitor: V) -> Result<V::Value, Self::Error>
         ensures read { Answers Self.Error.is_memory (ByMap (V.gives visitor) (value self)) result }
@@ -359,6 +512,12 @@ pub trait Deserializer: Sized + Drop {
     }
 
     /// Deserializes an identifier: a uint, or the text of a symbol.
+    ///
+    /// # Errors
+    /// Invalid where neither a uint nor a symbol is held; as the visitor otherwise.
+    ///
+    /// # Example
+    /// Of the uint 1: `visit_u32(1)`. Of the symbol `a`: `visit_string` of `a`. Of the string `a`: invalid.
     final fn deserialize_identifier<V: Visitor>(self, visitor: V) -> Result<V::Value, Self::Error>
         ensures read { Answers Self.Error.is_memory
             (ByIdentifier (V.gives visitor) (value self)) result }
@@ -373,6 +532,12 @@ pub trait Deserializer: Sized + Drop {
     }
 
     /// Deserializes anything, as null.
+    ///
+    /// # Errors
+    /// As the visitor.
+    ///
+    /// # Example
+    /// Of the list of nothing: `visit_unit()`.
     final fn deserialize_ignored_any<V: Visitor>(self, visitor: V) -> Result<V::Value, Self::Error>
         ensures read { Answers Self.Error.is_memory (V.gives visitor (plain_event null)) result }
         ensures law { Returns (V.stands visitor (plain_event null))
@@ -382,6 +547,12 @@ pub trait Deserializer: Sized + Drop {
     }
 
     /// Deserializes a described value: a descriptor and the value after it.
+    ///
+    /// # Errors
+    /// Invalid where no described value is held; as the visitor otherwise.
+    ///
+    /// # Example
+    /// Of the code 1 and `true`: `visit_described` of this code and of what holds `true`. Of `true` alone: invalid.
     final fn deserialize_described<V: Visitor>(self, visitor: V) -> Result<V::Value, Self::Error>
         ensures read { Answers Self.Error.is_memory
             (ByDescribed (V.gives visitor) (value self)) result }
@@ -396,6 +567,14 @@ pub trait Deserializer: Sized + Drop {
 
     /// Deserializes a struct: the elements of a list; under a name that asks for a descriptor, that and
     /// the value after it.
+    ///
+    /// # Errors
+    /// Invalid where no list is held, or, under a name that asks for a descriptor, no described value; as the visitor
+    /// otherwise.
+    ///
+    /// # Example
+    /// Of the list of the ubyte 1: `visit_seq` of it. Under the name `DESCRIBED_LIST` of the code 1 and that list:
+    /// `visit_described`.
     final fn deserialize_struct<V: Visitor>(
         self,
         name: &str,
@@ -415,6 +594,12 @@ pub trait Deserializer: Sized + Drop {
     }
 
     /// Deserializes a tuple struct. As `deserialize_struct`.
+    ///
+    /// # Errors
+    /// As `deserialize_struct`.
+    ///
+    /// # Example
+    /// Of the list of the ubyte 1: `visit_seq` of it.
     final fn deserialize_tuple_struct<V: Visitor>(
         self,
         name: &str,
@@ -430,6 +615,12 @@ pub trait Deserializer: Sized + Drop {
     }
 
     /// Deserializes a descriptor: a ulong, or the text of a symbol.
+    ///
+    /// # Errors
+    /// Invalid where neither a ulong nor a symbol is held; as the visitor otherwise.
+    ///
+    /// # Example
+    /// Of the ulong 1: `visit_u64(1)`. Of the symbol `a:b`: `visit_string` of `a:b`.
     final fn deserialize_descriptor<V: Visitor>(self, visitor: V) -> Result<V::Value, Self::Error>
         ensures read { Answers Self.Error.is_memory
             (ByDescriptor (V.gives visitor) (value self)) result }
@@ -445,6 +636,14 @@ pub trait Deserializer: Sized + Drop {
 
     /// Deserializes a variant: its index alone, a list of the index and what comes with it, or a map from
     /// the one to the other.
+    ///
+    /// # Errors
+    /// The message `Expecting a Value` for an empty list or map; invalid for a map of several pairs, and where no uint,
+    /// symbol, list or map is held; as the visitor otherwise.
+    ///
+    /// # Example
+    /// Of the uint 3: `visit_enum` of this index, with nothing. Of the map from the uint 1 to the ulong 13, or the list
+    /// of these: `visit_enum` of the index 1 with 13.
     #[tactic(auto, using(crate::proofs::Lists::list_of_trees, crate::proofs::Lists::entries_in_pairs))]
     final fn deserialize_variant<V: Visitor>(self, visitor: V) -> Result<V::Value, Self::Error>
         ensures read { Answers Self.Error.is_memory
@@ -475,6 +674,14 @@ pub trait Deserializer: Sized + Drop {
     }
 
     /// Deserializes an enum by its name: an untyped value, a descriptor, or a variant.
+    ///
+    /// # Errors
+    /// Under the name `VALUE` as the visitor; under `DESCRIPTOR` as `deserialize_descriptor`; else as
+    /// `deserialize_variant`.
+    ///
+    /// # Example
+    /// Of the uint 3: `visit_enum` of this index. Under the name `VALUE`: `visit_value` of `Value::Uint(3)`. Under
+    /// `DESCRIPTOR`: invalid.
     final fn deserialize_enum<V: Visitor>(
         self,
         name: &str,
@@ -499,6 +706,12 @@ pub trait Deserializer: Sized + Drop {
     }
 
     /// Deserializes the elements of an array.
+    ///
+    /// # Errors
+    /// Invalid where no array is held; as the visitor otherwise.
+    ///
+    /// # Example
+    /// Of the array of the ubytes 1 and 2: `visit_seq` of these two. Of their list: invalid.
     #[tactic(auto, using(crate::proofs::Lists::list_of_trees))]
     final fn deserialize_array<V: Visitor>(self, visitor: V) -> Result<V::Value, Self::Error>
         ensures read { Answers Self.Error.is_memory
@@ -513,6 +726,14 @@ pub trait Deserializer: Sized + Drop {
     }
 
     /// Deserializes what a newtype's name asks for.
+    ///
+    /// # Errors
+    /// Invalid where another kind is held than the mark makes, and always under `Mark::Lazy`; as the visitor otherwise.
+    /// `Mark::Other` and `Mark::Transparent` take any kind.
+    ///
+    /// # Example
+    /// Of the symbol `a` and `Mark::Symbol`: `visit_string` of `a`. Of a timestamp of 13 milliseconds and
+    /// `Mark::Timestamp`: `visit_i64(13)`.
     final fn deserialize_marked<V: Visitor>(
         self,
         mark: Mark,
@@ -557,6 +778,13 @@ pub trait Deserializer: Sized + Drop {
     }
 
     /// Deserializes a newtype struct: anything; under a marker's name, what that asks for.
+    ///
+    /// # Errors
+    /// As `deserialize_marked`, by the name's mark; under a name that is no marker as the visitor.
+    ///
+    /// # Example
+    /// Of the uint 1 under the name `Celsius`: `visit_newtype_struct` of what holds it. Of the symbol `a` under
+    /// `SYMBOL`: `visit_string` of `a`.
     final fn deserialize_newtype_struct<V: Visitor>(
         self,
         name: &str,
@@ -572,6 +800,13 @@ pub trait Deserializer: Sized + Drop {
 
     /// Deserializes a value by its kind. A symbol, a timestamp, a uuid and a decimal are shown as
     /// untyped values.
+    ///
+    /// # Errors
+    /// As the visitor.
+    ///
+    /// # Example
+    /// Of `true`: `visit_bool(true)`. Of the array of the ubyte 1: `visit_seq` of it. Of the symbol `a`: `visit_value`
+    /// of it.
     #[tactic(auto, using(crate::proofs::Lists::list_of_trees, crate::proofs::Lists::entries_in_pairs))]
     final fn deserialize_any<V: Visitor>(self, visitor: V) -> Result<V::Value, Self::Error>
         ensures read { Answers Self.Error.is_memory

@@ -34,6 +34,9 @@ pub trait Fields: Sized + Drop {
     ///
     /// # Errors
     /// Invalid where an element is missing or another than the field's; out of memory.
+    ///
+    /// # Example
+    /// Of the ubytes 1, 2 and 3, by `x` and `y`: 1 and 2.
     fn read_elements<D: Deserializer>(
         &self,
         alloc: Global,
@@ -48,6 +51,9 @@ pub trait Fields: Sized + Drop {
     ///
     /// # Errors
     /// Invalid where an entry is missing or another than the field's; out of memory.
+    ///
+    /// # Example
+    /// Of the entries from the string `y` to 2 and from `x` to 1, by `x` and `y`: 1 and 2.
     fn read_entries<D: Deserializer>(
         &self,
         alloc: Global,

@@ -7,6 +7,9 @@ ghost use Rattle.amqp_de.specs.Events.{is_described_name};
 use amqp_data::markers;
 
 /// Whether a struct of this name stands after a descriptor.
+///
+/// # Example
+/// True of `DESCRIBED_BASIC`, `DESCRIBED_LIST` and `DESCRIBED_MAP` alone.
 pub fn is_described_name(name: &str) -> bool
     ensures { result ≡ is_described_name name.now }
 {
@@ -16,6 +19,9 @@ pub fn is_described_name(name: &str) -> bool
 }
 
 /// Whether an enum of this name is an untyped value.
+///
+/// # Example
+/// True of `VALUE` alone.
 pub fn is_value_name(name: &str) -> bool
     ensures { result ≡ is_value_name name.now }
 {
@@ -23,6 +29,9 @@ pub fn is_value_name(name: &str) -> bool
 }
 
 /// Whether an enum of this name is a descriptor.
+///
+/// # Example
+/// True of `DESCRIPTOR` alone.
 pub fn is_descriptor_name(name: &str) -> bool
     ensures { result ≡ is_descriptor_name name.now }
 {

@@ -27,6 +27,9 @@ pub trait Describes {
     ghost wanted: { Self → Descriptor };
 
     /// Whether it is this one.
+    ///
+    /// # Example
+    /// `1u64` is `Descriptor::Code(1)` alone, and `SymbolRef::from("a:b")` the name `a:b` alone.
     fn is(&self, descriptor: &Descriptor) -> bool
         ensures { IsTrue result ↔ descriptor_content descriptor.now ≡ wanted self.now };
 }
@@ -57,6 +60,9 @@ impl Describes for SymbolRef<'_> {
 ///
 /// # Errors
 /// As the seed, and only where nothing is read.
+///
+/// # Example
+/// Of the list of the ubyte 1, by `ListOf(named! { "x" })`: the parts `(1, ())`.
 pub fn read<T: Record, D: Deserializer, S: Seed<Value = T::Parts>>(
     alloc: Global,
     deserializer: D,
@@ -76,6 +82,10 @@ pub fn read<T: Record, D: Deserializer, S: Seed<Value = T::Parts>>(
 ///
 /// # Errors
 /// Invalid where there is another descriptor, or none; as the seed otherwise. Only where nothing is read.
+///
+/// # Example
+/// Of the code 1 and the list of the ubyte 1, by `&1u64` and `ListOf(named! { "x" })`: the parts `(1, ())`. By `&2u64`:
+/// invalid.
 #[tactic(auto, unfolding(crate::specs::Fields::OnDescribed))]
 pub fn read_described<T: Record, D: Deserializer, K: Describes, S: Seed<Value = T::Parts>>(
     alloc: Global,

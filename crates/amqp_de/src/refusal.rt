@@ -11,14 +11,23 @@ pub trait Refusal: Sized + Drop {
     ghost is_memory: { Self → Type 0 };
 
     /// A request for memory was refused.
+    ///
+    /// # Example
+    /// As an `Error`: `OutOfMemory`.
     fn memory() -> Self
         ensures { is_memory result };
 
     /// The value is of another kind than the one that is read.
+    ///
+    /// # Example
+    /// As an `Error`: `InvalidValue`.
     fn invalid() -> Self
         ensures { ¬ (is_memory result) };
 
     /// A reader's own words.
+    ///
+    /// # Example
+    /// As an `Error`: `Message(words)`.
     fn message(words: &'static str) -> Self
         ensures { ¬ (is_memory result) };
 }

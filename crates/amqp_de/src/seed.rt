@@ -28,6 +28,12 @@ pub trait Seed: Sized + Drop {
     ghost same: { Self.Value → Self.Value → Type 0 };
 
     /// Reads it.
+    ///
+    /// # Errors
+    /// Only where the tree is read as nothing, out of memory aside.
+    ///
+    /// # Example
+    /// `Of(PhantomData::<u32>)` reads the uint 1 as 1, and refuses the ulong 1.
     fn read<D: Deserializer>(self, alloc: Global, deserializer: D) -> Result<Self::Value, D::Error>
         ensures read { Answers D.Error.is_memory (λ x. reads self (D.value deserializer) x) result }
         ensures law { Restores image restorable same

@@ -9,6 +9,7 @@ ghost use Rattle.amqp_value.specs.TreeOf.{tree_of};
 use amqp_data::{Dec32, Dec64, Dec128, Symbol, Timestamp, Uuid};
 use amqp_value::Value;
 
+/// The untyped value of a decimal32.
 #[tactic(auto, using(crate::proofs::Values::of_decimal32))]
 pub fn decimal32_value(value: Dec32) -> Value
     ensures { tree_of result ≡ scalar (decimal32 (dec32_bytes value)) }
@@ -16,6 +17,7 @@ pub fn decimal32_value(value: Dec32) -> Value
     Value::Decimal32(value)
 }
 
+/// The untyped value of a decimal64.
 #[tactic(auto, using(crate::proofs::Values::of_decimal64))]
 pub fn decimal64_value(value: Dec64) -> Value
     ensures { tree_of result ≡ scalar (decimal64 (dec64_bytes value)) }
@@ -23,6 +25,7 @@ pub fn decimal64_value(value: Dec64) -> Value
     Value::Decimal64(value)
 }
 
+/// The untyped value of a decimal128.
 #[tactic(auto, using(crate::proofs::Values::of_decimal128))]
 pub fn decimal128_value(value: Dec128) -> Value
     ensures { tree_of result ≡ scalar (decimal128 (dec128_bytes value)) }
@@ -30,6 +33,7 @@ pub fn decimal128_value(value: Dec128) -> Value
     Value::Decimal128(value)
 }
 
+/// The untyped value of a timestamp.
 #[tactic(auto, using(crate::proofs::Values::of_timestamp))]
 pub fn timestamp_value(value: Timestamp) -> Value
     ensures { tree_of result ≡ scalar (timestamp (milliseconds_of value)) }
@@ -37,6 +41,7 @@ pub fn timestamp_value(value: Timestamp) -> Value
     Value::Timestamp(value)
 }
 
+/// The untyped value of a uuid.
 #[tactic(auto, using(crate::proofs::Values::of_uuid))]
 pub fn uuid_value(value: Uuid) -> Value
     ensures { tree_of result ≡ scalar (uuid (uuid_bytes value)) }
@@ -44,6 +49,7 @@ pub fn uuid_value(value: Uuid) -> Value
     Value::Uuid(value)
 }
 
+/// The untyped value of a symbol.
 #[tactic(auto, using(crate::proofs::Values::of_symbol))]
 pub fn symbol_value(value: Symbol) -> Value
     ensures { tree_of result ≡ scalar (symbol (symbol_text value)) }

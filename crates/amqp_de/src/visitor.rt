@@ -18,7 +18,8 @@ use amqp_value::Value;
 /// What a deserializer shows a value to, to make another of it.
 ///
 /// # Errors
-/// A visit is invalid where nothing is given for what it shows, and so is one that is not written.
+/// A visit is refused where nothing is given for what it shows. One that is not written is invalid where `refuses` says
+/// so, and out of memory otherwise.
 ///
 /// # Implementer notes
 /// Write `refuses`, and the visits that give a value; the others are refused. All that has no parts comes by
@@ -37,6 +38,9 @@ pub trait Visitor: Sized + Drop {
     ghost same: { Self.Value → Self.Value → Type 0 };
 
     /// Whether no event of this visit gives a value. The visits that are not written ask it.
+    ///
+    /// # Example
+    /// Of a visitor of lists: `!matches!(visit, Visit::Seq)`.
     fn refuses(&self, visit: Visit) -> bool
         ensures gives { IsTrue result → (e : Event) (x : Self.Value) →
             visit_of e ≡ visit → ¬ gives self.now e x }
@@ -44,6 +48,12 @@ pub trait Visitor: Sized + Drop {
             visit_of e ≡ visit → ¬ stands self.now e x };
 
     /// Visits what has no parts.
+    ///
+    /// # Errors
+    /// Only where nothing is given for it, out of memory aside. Not written, it is invalid where `refuses` says so.
+    ///
+    /// # Example
+    /// The uint 1 comes as `Plain::U32(1)`, null as `Plain::Unit`, and an absent one as `Plain::None`.
     fn visit_plain<E: Refusal>(self, plain: Plain) -> Result<Self::Value, E>
         ensures read { Answers E.is_memory (gives self (plain_shown plain)) result }
         ensures law { Returns (stands self (plain_shown plain)) same E.is_memory result }
@@ -52,6 +62,12 @@ pub trait Visitor: Sized + Drop {
     }
 
     /// Visits something that may be absent.
+    ///
+    /// # Errors
+    /// Only where nothing is given for it, out of memory aside. Not written, it is invalid where `refuses` says so.
+    ///
+    /// # Example
+    /// By `deserialize_option`, of the uint 5: what holds 5.
     fn visit_some<D: Deserializer>(self, deserializer: D) -> Result<Self::Value, D::Error>
         ensures read { Answers D.Error.is_memory
             (gives self (some_event (D.value deserializer))) result }
@@ -62,6 +78,12 @@ pub trait Visitor: Sized + Drop {
     }
 
     /// Visits what stands in a newtype.
+    ///
+    /// # Errors
+    /// Only where nothing is given for it, out of memory aside. Not written, it is invalid where `refuses` says so.
+    ///
+    /// # Example
+    /// By `deserialize_newtype_struct` under the name `Celsius`, of the uint 1: what holds 1.
     fn visit_newtype_struct<D: Deserializer>(self, deserializer: D) -> Result<Self::Value, D::Error>
         ensures read { Answers D.Error.is_memory
             (gives self (newtype_event (D.value deserializer))) result }
@@ -72,6 +94,12 @@ pub trait Visitor: Sized + Drop {
     }
 
     /// Visits the elements of a list or an array.
+    ///
+    /// # Errors
+    /// Only where nothing is given for it, out of memory aside. Not written, it is invalid where `refuses` says so.
+    ///
+    /// # Example
+    /// By `deserialize_seq`, of the list of the ubytes 1 and 2: these elements, in order.
     fn visit_seq<A: SeqAccess>(self, elements: A) -> Result<Self::Value, A::Error>
         ensures read { Answers A.Error.is_memory (gives self (seq_event (A.left elements))) result }
         ensures law { Returns (stands self (seq_event (A.left elements)))
@@ -81,6 +109,12 @@ pub trait Visitor: Sized + Drop {
     }
 
     /// Visits the keys and values of a map.
+    ///
+    /// # Errors
+    /// Only where nothing is given for it, out of memory aside. Not written, it is invalid where `refuses` says so.
+    ///
+    /// # Example
+    /// By `deserialize_map`, of the map from the ubyte 1 to `true`: this pair.
     fn visit_map<A: MapAccess>(self, entries: A) -> Result<Self::Value, A::Error>
         requires { A.owed entries ≡ None }
         ensures read { Answers A.Error.is_memory (gives self (map_event (A.left entries))) result }
@@ -91,6 +125,12 @@ pub trait Visitor: Sized + Drop {
     }
 
     /// Visits one of the variants of an enum.
+    ///
+    /// # Errors
+    /// Only where nothing is given for it, out of memory aside. Not written, it is invalid where `refuses` says so.
+    ///
+    /// # Example
+    /// By `deserialize_enum`, of the map from the uint 1 to the ulong 13: the index 1 with 13.
     fn visit_enum<A: EnumAccess>(self, variant: A) -> Result<Self::Value, A::Error>
         ensures read { Answers A.Error.is_memory
             (gives self (enum_event (A.index variant) (A.content variant))) result }
@@ -101,6 +141,12 @@ pub trait Visitor: Sized + Drop {
     }
 
     /// Visits a value after its descriptor.
+    ///
+    /// # Errors
+    /// Only where nothing is given for it, out of memory aside. Not written, it is invalid where `refuses` says so.
+    ///
+    /// # Example
+    /// By `deserialize_described`, of the code 1 and `true`: `Descriptor::Code(1)`, and what holds `true`.
     fn visit_described<D: Deserializer>(
         self,
         descriptor: Descriptor,
@@ -117,6 +163,12 @@ pub trait Visitor: Sized + Drop {
     }
 
     /// Visits an untyped value.
+    ///
+    /// # Errors
+    /// Only where nothing is given for it, out of memory aside. Not written, it is invalid where `refuses` says so.
+    ///
+    /// # Example
+    /// By `deserialize_any`, of the symbol `a`: `Value::Symbol` of it.
     fn visit_value<E: Refusal>(self, value: Value) -> Result<Self::Value, E>
         ensures read { Answers E.is_memory (gives self (value_event (tree_of value))) result }
         ensures law { Returns (stands self (value_event (tree_of value))) same E.is_memory result }
@@ -125,6 +177,12 @@ pub trait Visitor: Sized + Drop {
     }
 
     /// Visits `()`, from null.
+    ///
+    /// # Errors
+    /// As `visit_plain`.
+    ///
+    /// # Example
+    /// `visit_plain(Plain::Unit)`.
     final fn visit_unit<E: Refusal>(self) -> Result<Self::Value, E>
         ensures read { Answers E.is_memory (gives self (plain_event null)) result }
         ensures law { Returns (stands self (plain_event null)) same E.is_memory result }
@@ -133,6 +191,12 @@ pub trait Visitor: Sized + Drop {
     }
 
     /// Visits nothing, where something may be absent.
+    ///
+    /// # Errors
+    /// As `visit_plain`.
+    ///
+    /// # Example
+    /// `visit_plain(Plain::None)`.
     final fn visit_none<E: Refusal>(self) -> Result<Self::Value, E>
         ensures read { Answers E.is_memory (gives self none_event) result }
         ensures law { Returns (stands self none_event) same E.is_memory result }
@@ -141,6 +205,12 @@ pub trait Visitor: Sized + Drop {
     }
 
     /// Visits a `bool`.
+    ///
+    /// # Errors
+    /// As `visit_plain`.
+    ///
+    /// # Example
+    /// Of `true`: `visit_plain(Plain::Bool(true))`.
     final fn visit_bool<E: Refusal>(self, value: bool) -> Result<Self::Value, E>
         ensures read { Answers E.is_memory (gives self (plain_event (bool value))) result }
         ensures law { Returns (stands self (plain_event (bool value))) same E.is_memory result }
@@ -149,6 +219,12 @@ pub trait Visitor: Sized + Drop {
     }
 
     /// Visits a `u8`.
+    ///
+    /// # Errors
+    /// As `visit_plain`.
+    ///
+    /// # Example
+    /// Of 5: `visit_plain(Plain::U8(5))`.
     final fn visit_u8<E: Refusal>(self, value: u8) -> Result<Self::Value, E>
         ensures read { Answers E.is_memory (gives self (plain_event (ubyte value))) result }
         ensures law { Returns (stands self (plain_event (ubyte value))) same E.is_memory result }
@@ -157,6 +233,12 @@ pub trait Visitor: Sized + Drop {
     }
 
     /// Visits a `u16`.
+    ///
+    /// # Errors
+    /// As `visit_plain`.
+    ///
+    /// # Example
+    /// Of 256: `visit_plain(Plain::U16(256))`.
     final fn visit_u16<E: Refusal>(self, value: u16) -> Result<Self::Value, E>
         ensures read { Answers E.is_memory (gives self (plain_event (ushort value))) result }
         ensures law { Returns (stands self (plain_event (ushort value))) same E.is_memory result }
@@ -165,6 +247,12 @@ pub trait Visitor: Sized + Drop {
     }
 
     /// Visits a `u32`.
+    ///
+    /// # Errors
+    /// As `visit_plain`.
+    ///
+    /// # Example
+    /// Of 1: `visit_plain(Plain::U32(1))`.
     final fn visit_u32<E: Refusal>(self, value: u32) -> Result<Self::Value, E>
         ensures read { Answers E.is_memory (gives self (plain_event (uint value))) result }
         ensures law { Returns (stands self (plain_event (uint value))) same E.is_memory result }
@@ -173,6 +261,12 @@ pub trait Visitor: Sized + Drop {
     }
 
     /// Visits a `u64`.
+    ///
+    /// # Errors
+    /// As `visit_plain`.
+    ///
+    /// # Example
+    /// Of 13: `visit_plain(Plain::U64(13))`.
     final fn visit_u64<E: Refusal>(self, value: u64) -> Result<Self::Value, E>
         ensures read { Answers E.is_memory (gives self (plain_event (ulong value))) result }
         ensures law { Returns (stands self (plain_event (ulong value))) same E.is_memory result }
@@ -181,6 +275,12 @@ pub trait Visitor: Sized + Drop {
     }
 
     /// Visits an `i8`.
+    ///
+    /// # Errors
+    /// As `visit_plain`.
+    ///
+    /// # Example
+    /// Of -1: `visit_plain(Plain::I8(-1))`.
     final fn visit_i8<E: Refusal>(self, value: i8) -> Result<Self::Value, E>
         ensures read { Answers E.is_memory (gives self (plain_event (byte value))) result }
         ensures law { Returns (stands self (plain_event (byte value))) same E.is_memory result }
@@ -189,6 +289,12 @@ pub trait Visitor: Sized + Drop {
     }
 
     /// Visits an `i16`.
+    ///
+    /// # Errors
+    /// As `visit_plain`.
+    ///
+    /// # Example
+    /// Of -2: `visit_plain(Plain::I16(-2))`.
     final fn visit_i16<E: Refusal>(self, value: i16) -> Result<Self::Value, E>
         ensures read { Answers E.is_memory (gives self (plain_event (short value))) result }
         ensures law { Returns (stands self (plain_event (short value))) same E.is_memory result }
@@ -197,6 +303,12 @@ pub trait Visitor: Sized + Drop {
     }
 
     /// Visits an `i32`.
+    ///
+    /// # Errors
+    /// As `visit_plain`.
+    ///
+    /// # Example
+    /// Of 128: `visit_plain(Plain::I32(128))`.
     final fn visit_i32<E: Refusal>(self, value: i32) -> Result<Self::Value, E>
         ensures read { Answers E.is_memory (gives self (plain_event (int value))) result }
         ensures law { Returns (stands self (plain_event (int value))) same E.is_memory result }
@@ -205,6 +317,12 @@ pub trait Visitor: Sized + Drop {
     }
 
     /// Visits an `i64`.
+    ///
+    /// # Errors
+    /// As `visit_plain`.
+    ///
+    /// # Example
+    /// Of -1: `visit_plain(Plain::I64(-1))`.
     final fn visit_i64<E: Refusal>(self, value: i64) -> Result<Self::Value, E>
         ensures read { Answers E.is_memory (gives self (plain_event (long value))) result }
         ensures law { Returns (stands self (plain_event (long value))) same E.is_memory result }
@@ -213,6 +331,12 @@ pub trait Visitor: Sized + Drop {
     }
 
     /// Visits an `f32`, by its bits.
+    ///
+    /// # Errors
+    /// As `visit_plain`.
+    ///
+    /// # Example
+    /// Of the bits 3FC00000, which are 1.5: `visit_plain` of `Plain::F32` of them.
     final fn visit_f32<E: Refusal>(self, value: F32Bits) -> Result<Self::Value, E>
         ensures read { Answers E.is_memory
             (gives self (plain_event (float (f32_bits value)))) result }
@@ -223,6 +347,12 @@ pub trait Visitor: Sized + Drop {
     }
 
     /// Visits an `f64`, by its bits.
+    ///
+    /// # Errors
+    /// As `visit_plain`.
+    ///
+    /// # Example
+    /// Of the bits 3FF8000000000000, which are 1.5: `visit_plain` of `Plain::F64` of them.
     final fn visit_f64<E: Refusal>(self, value: F64Bits) -> Result<Self::Value, E>
         ensures read { Answers E.is_memory
             (gives self (plain_event (double (f64_bits value)))) result }
@@ -233,6 +363,12 @@ pub trait Visitor: Sized + Drop {
     }
 
     /// Visits a `char`.
+    ///
+    /// # Errors
+    /// As `visit_plain`.
+    ///
+    /// # Example
+    /// Of `a`: `visit_plain(Plain::Char('a'))`.
     final fn visit_char<E: Refusal>(self, value: char) -> Result<Self::Value, E>
         ensures read { Answers E.is_memory (gives self (plain_event (char value))) result }
         ensures law { Returns (stands self (plain_event (char value))) same E.is_memory result }
@@ -241,6 +377,12 @@ pub trait Visitor: Sized + Drop {
     }
 
     /// Visits a `String`.
+    ///
+    /// # Errors
+    /// As `visit_plain`.
+    ///
+    /// # Example
+    /// Of `a`: `visit_plain` of `Plain::String` of it.
     final fn visit_string<E: Refusal>(self, value: String) -> Result<Self::Value, E>
         ensures read { Answers E.is_memory
             (gives self (plain_event (string (string_bytes value)))) result }
@@ -251,6 +393,12 @@ pub trait Visitor: Sized + Drop {
     }
 
     /// Visits a binary.
+    ///
+    /// # Errors
+    /// As `visit_plain`.
+    ///
+    /// # Example
+    /// Of the bytes 01, 02: `visit_plain` of `Plain::ByteBuf` of them.
     final fn visit_byte_buf<E: Refusal>(self, value: ByteBuf) -> Result<Self::Value, E>
         ensures read { Answers E.is_memory
             (gives self (plain_event (binary (byte_buf_bytes value)))) result }

@@ -10,6 +10,9 @@ use indexmap::IndexMap;
 use std::alloc::Global;
 
 /// The map of these pairs, in their order.
+///
+/// # Errors
+/// `OutOfMemory` where memory for the pairs is refused.
 pub fn map_value(alloc: Global, pairs: IndexMap<Value, Value>) -> Result<Value, Error>
     ensures { MatchResult result
         (λ v. tree_of v ≡ map (pairs_trees pairs.entries))

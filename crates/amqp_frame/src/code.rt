@@ -15,6 +15,10 @@ pub enum Category {
 }
 
 /// Whether the code is accepted as that of a primitive type.
+///
+/// # Example
+///
+/// True of `40`, `a1` and `c0`, and false of `00`, `4f` and `ff`.
 #[tactic(auto, unfolding(crate::specs::Code::is_primitive_code))]
 pub fn is_primitive(code: u8) -> bool
     ensures { result ≡ is_primitive_code code }
@@ -23,6 +27,11 @@ pub fn is_primitive(code: u8) -> bool
 }
 
 /// The category of a code, by its high four bits.
+///
+/// # Example
+///
+/// Of `70`: `Fixed(4)`. Of `a1`, `c0` and `e0`: `OneByteSize`. Of `b1`, `d0` and `f0`:
+/// `FourByteSize`.
 #[tactic(auto, unfolding(crate::specs::Code::category))]
 pub fn category_of(code: u8) -> Category
     ensures { result ≡ category code }
@@ -40,6 +49,10 @@ pub fn category_of(code: u8) -> Category
 }
 
 /// How many bytes of a payload, from its first on, are its size.
+///
+/// # Example
+///
+/// Of `Fixed(4)`: 0. Of `OneByteSize`: 1. Of `FourByteSize`: 4.
 #[tactic(auto, unfolding(crate::specs::Code::size_width))]
 pub fn size_width_of(category: Category) -> usize
     ensures width { result ≡ size_width category }
@@ -53,6 +66,10 @@ pub fn size_width_of(category: Category) -> usize
 }
 
 /// How many bytes follow the size.
+///
+/// # Example
+///
+/// Of `Fixed(4)`: 4. Of `OneByteSize` and `08`: 8. Of `FourByteSize` and `00000100`: 256.
 #[tactic(auto, unfolding(crate::specs::Code::size_width, crate::specs::Code::body_len))]
 pub fn body_len_of(category: Category, size: &[u8]) -> u32
     requires { length size.now ≡ size_width category }

@@ -32,6 +32,10 @@ pub trait Read {
     /// # Memory
     ///
     /// Takes none.
+    ///
+    /// # Example
+    ///
+    /// Of `5001`: 50, and again 50.
     fn peek(&mut self) -> Result<Option<u8>, Error>
         ensures ok { IfOk result (λ byte. IfSome (left self.old) (λ s. byte ≡ slice_get s 0)) }
         ensures io { IfErr result (λ e.
@@ -50,6 +54,10 @@ pub trait Read {
     /// # Memory
     ///
     /// Takes none.
+    ///
+    /// # Example
+    ///
+    /// Of `5001`: 50, then 01, then `None`.
     fn next(&mut self) -> Result<Option<u8>, Error>
         ensures ok { IfOk result (λ byte.
             Consumes (left self.old) (left self.new) (option_to_list byte)) }
@@ -71,6 +79,11 @@ pub trait Read {
     /// # Memory
     ///
     /// Takes none.
+    ///
+    /// # Example
+    ///
+    /// Of `5001`, for two bytes: 50 and 01. For three: [`Error::UnexpectedEof`], and nothing is
+    /// left.
     fn read_exact(&mut self, buf: &mut [u8]) -> Result<(), Error>
         ensures ok { OnOk result (Consumes (left self.old) (left self.new) buf.new) }
         ensures end { IsErrOf result Error.UnexpectedEof →

@@ -18,6 +18,20 @@ use std::alloc::Global;
 const PIECE: usize = 4096;
 
 /// Takes the next encoded value, code by code, with a count of those that are still open.
+///
+/// # Encoding
+///
+/// AMQP 1.0 part 1, section 1.2.
+///
+/// # Errors
+///
+/// [`Error::InvalidFormatCode`] at a refused code, which is the last byte taken.
+/// [`Error::UnexpectedEof`] where the input ends before the value does, and nothing is left.
+/// [`Error::Io`] where a read failed, and [`Error::OutOfMemory`].
+///
+/// # Example
+///
+/// From `500140` it takes `5001` and leaves `40`.
 pub fn take_value<R: Read>(alloc: Global, reader: &mut R) -> Result<Bytes, Error>
     ensures frame { IfOk result (λ bytes.
         IsFrame bytes × Consumes (R.left reader.old) (R.left reader.new) bytes) }

@@ -11,6 +11,9 @@ use amqp_wire::{to_lazy_value, to_vec};
 use std::alloc::Global;
 
 /// Makes each call once.
+///
+/// # Errors
+/// `OutOfMemory` where a request for memory is refused; any other is a wrong answer.
 pub fn all(rt: &(impl Print + AllocGlobal)) -> Result<(), Error> {
     let alloc = rt.alloc();
     report(rt, "names", names(alloc)?);

@@ -43,6 +43,9 @@ impl Serialize for AsMap {
 }
 
 /// Makes each call once.
+///
+/// # Errors
+/// `OutOfMemory` where a request for memory is refused; any other is a wrong answer.
 pub fn all(rt: &(impl Print + AllocGlobal)) -> Result<(), Error> {
     let alloc = rt.alloc();
     report(rt, "an array of lists", array_of_lists(alloc)?);

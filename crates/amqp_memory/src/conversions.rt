@@ -9,6 +9,9 @@ use std::collections::{BTreeMap, HashMap};
 use std::str;
 
 /// Makes each conversion once.
+///
+/// # Errors
+/// `OutOfMemory` where a request for memory is refused; any other is a wrong answer.
 pub fn all(alloc: Global) -> Result<bool, Error> {
     Ok(parts(alloc)? && lists(alloc)? && maps(alloc)? && hashed(alloc)?)
 }
@@ -62,6 +65,9 @@ fn hashed(alloc: Global) -> Result<bool, Error> {
 }
 
 /// Makes each conversion with about a mebibyte.
+///
+/// # Errors
+/// `OutOfMemory` where a request for memory is refused; any other is a wrong answer.
 pub fn large(alloc: Global) -> Result<bool, Error> {
     Ok(long_parts(alloc)? && long_lists(alloc)? && large_maps(alloc)? && large_hashed(alloc)?)
 }
@@ -97,6 +103,9 @@ fn long_lists(alloc: Global) -> Result<bool, Error> {
 }
 
 /// The map of 1,024 pairs of a kibibyte each.
+///
+/// # Errors
+/// `OutOfMemory` where a request for memory is refused; any other is a wrong answer.
 pub fn pairs(alloc: Global) -> Result<BTreeMap<u16, ByteBuf>, Error> {
     let mut pairs = BTreeMap::new(alloc);
     for key in 0..1024u16 {

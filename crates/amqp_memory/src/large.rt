@@ -18,6 +18,9 @@ use std::str;
 pub const MEBIBYTE: usize = 1 << 20;
 
 /// Makes each call once.
+///
+/// # Errors
+/// `OutOfMemory` where a request for memory is refused; any other is a wrong answer.
 pub fn all(rt: &(impl Print + AllocGlobal)) -> Result<(), Error> {
     let alloc = rt.alloc();
     report(rt, "a long name", name(alloc)?);

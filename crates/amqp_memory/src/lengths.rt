@@ -20,6 +20,9 @@ const FRAMES: [&[u8]; 9] = [
 ];
 
 /// Makes each call once.
+///
+/// # Errors
+/// `OutOfMemory` where a request for memory is refused; any other is a wrong answer.
 pub fn all(rt: &(impl Print + AllocGlobal)) -> Result<(), Error> {
     for frame in FRAMES {
         report(rt, "a false length", is_end(taken(rt, frame))?);

@@ -20,6 +20,9 @@ const MAP: &[u8] = b"\xc1\x0b\x04\x50\x01\xa1\x01a\x50\x02\xa1\x01b";
 const NUMBERS: &[u8] = b"\xc0\x0b\x05\x50\x01\x50\x02\x50\x03\x50\x04\x50\x05";
 
 /// The value inside a frame of every kind that takes memory.
+///
+/// # Errors
+/// `OutOfMemory` where a request for memory is refused; any other is a wrong answer.
 pub fn decoded(alloc: Global) -> Result<bool, Error> {
     let value = decode_value(alloc, LIST)?;
     let starts = matches!(&value, Value::List(items) if items.len() == 6);
@@ -27,6 +30,9 @@ pub fn decoded(alloc: Global) -> Result<bool, Error> {
 }
 
 /// The types that take memory as they are read.
+///
+/// # Errors
+/// `OutOfMemory` where a request for memory is refused; any other is a wrong answer.
 pub fn types(alloc: Global) -> Result<bool, Error> {
     Ok(lists(alloc)? && maps(alloc)?)
 }
@@ -60,6 +66,9 @@ fn maps(alloc: Global) -> Result<bool, Error> {
 }
 
 /// The types that take memory as they are read, each of about a mebibyte.
+///
+/// # Errors
+/// `OutOfMemory` where a request for memory is refused; any other is a wrong answer.
 pub fn large_types(alloc: Global) -> Result<bool, Error> {
     Ok(large_lists(alloc)? && large_maps(alloc)?)
 }

@@ -23,6 +23,9 @@ impl Serialize for NoTree {
 }
 
 /// Makes each call 100,000 times.
+///
+/// # Errors
+/// `OutOfMemory` where a request for memory is refused; any other is a wrong answer.
 pub fn all(rt: &(impl Print + AllocGlobal)) -> Result<(), Error> {
     let alloc = rt.alloc();
     report(

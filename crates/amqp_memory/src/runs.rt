@@ -7,6 +7,9 @@ use serde_amqp::{VecWriter, run_cut, run_lines};
 use std::alloc::Global;
 
 /// Makes each run once.
+///
+/// # Errors
+/// `OutOfMemory` where a request for memory is refused; any other is a wrong answer.
 pub fn all(rt: &(impl Print + AllocGlobal)) -> Result<(), Error> {
     let alloc = rt.alloc();
     report(rt, "a run over lines", lines(alloc)?);

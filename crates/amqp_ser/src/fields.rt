@@ -38,6 +38,10 @@ pub trait Fields {
     ///
     /// # Errors
     /// The serializer's refusal of a field.
+    ///
+    /// # Example
+    /// Of `x`, the ubyte 1, and an absent `y` the one part `5001`; where `y` is the first of the
+    /// two, `40` and `5001`.
     fn feed<S: Serializer>(&self, serializer: &mut S, held: &mut S::Open) -> Result<(), S::Error>
         ensures { FeedsAll S.permits S.has (up_to_last (values_of (named self.now))) serializer.old
             held.old result serializer.new held.new };
@@ -46,6 +50,9 @@ pub trait Fields {
     ///
     /// # Errors
     /// The serializer's refusal of a name or a field.
+    ///
+    /// # Example
+    /// Of `x`, the ubyte 1, and an absent `y` as symbols: `a301785001`.
     fn feed_named<S: Serializer>(
         &self,
         serializer: &mut S,

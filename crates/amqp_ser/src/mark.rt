@@ -34,6 +34,9 @@ pub enum Mark {
 ///
 /// # Memory
 /// Takes none.
+///
+/// # Example
+/// `SYMBOL` and `SYMBOL_REF` stand for `Mark::Symbol`, `Celsius` for `Mark::Other`.
 pub fn mark_named(name: &str) -> Mark
     ensures { result ≡ mark_of name.now }
 {

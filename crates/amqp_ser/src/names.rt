@@ -10,6 +10,9 @@ use amqp_data::markers;
 ///
 /// # Memory
 /// Takes none.
+///
+/// # Example
+/// True of `DESCRIBED_BASIC` alone.
 #[inline(always)]
 pub fn is_basic_name(name: &str) -> bool
     ensures { result ≡ is_basic_name name.now }
@@ -21,6 +24,9 @@ pub fn is_basic_name(name: &str) -> bool
 ///
 /// # Memory
 /// Takes none.
+///
+/// # Example
+/// True of `DESCRIBED_BASIC` and `DESCRIBED_LIST` alone.
 pub fn is_tagged(name: &str) -> bool
     ensures { result ≡ is_tagged name.now }
 {
@@ -31,6 +37,9 @@ pub fn is_tagged(name: &str) -> bool
 ///
 /// # Memory
 /// Takes none.
+///
+/// # Example
+/// True of `VALUE` alone.
 pub fn is_value_name(name: &str) -> bool
     ensures { result ≡ is_value_name name.now }
 {
@@ -42,6 +51,9 @@ pub fn is_value_name(name: &str) -> bool
 ///
 /// # Memory
 /// Takes none.
+///
+/// # Example
+/// True of `DESCRIPTOR` alone.
 #[inline(always)]
 pub fn is_descriptor_name(key: &str) -> bool
     ensures { result ≡ is_descriptor_name key.now }

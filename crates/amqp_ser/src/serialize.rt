@@ -16,6 +16,12 @@ pub trait Serialize {
     ghost tree: { Self → Option Tree };
 
     /// Serializes the value: the answer is the serializer's on the value's tree.
+    ///
+    /// # Errors
+    /// The serializer's refusal of the tree: always where the value has none.
+    ///
+    /// # Example
+    /// `true` is `41`, the list of the strings `a` and `bc` is `c00802a10161a1026263`.
     fn serialize<S: Serializer>(&self, serializer: &mut S) -> Result<S::Ok, S::Error>
         ensures { S.permits serializer.old (tree self.now) result serializer.new };
 }

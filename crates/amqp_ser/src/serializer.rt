@@ -29,6 +29,13 @@ use amqp_data::{F32Bits, F64Bits};
 /// An author writes the fourteen required methods; the methods that values call, named as serde
 /// names them, stand on these and are the same for every serializer.
 ///
+/// # Errors
+/// Which refusals come is the serializer's to say, by `permits`; where there is no tree it always
+/// refuses. Those of this repository refuse as `InvalidValue` where there is no tree, and as
+/// `OutOfMemory` where memory for the answer is refused. Those that measure or write refuse as
+/// `TooLong` past a limit too, and as `InvalidValue` where a tree cannot be written, as an array of
+/// two kinds.
+///
 /// # Implementer notes
 /// `permits before tree answer after` says which answers are permitted on a tree, or on none, and
 /// what they leave of the serializer: fresh after each call, refused ones too. `has start kind now
@@ -68,27 +75,75 @@ pub trait Serializer {
         permits before None (Ok answer) after → ⊥ };
 
     /// Serializes null or a scalar of fixed width.
+    ///
+    /// # Encoding
+    /// That of its kind (AMQP 1.0 part 1, sections 1.6.1 to 1.6.12 and 1.6.16).
+    ///
+    /// # Errors
+    /// The serializer's refusal of it where it stands: as `InvalidValue` under a mark that does not
+    /// take it, or among an array's elements of another kind.
+    ///
+    /// # Example
+    /// `Fixed::Bool(true)` is `41`, `Fixed::Null` is `40`.
     fn serialize_fixed(&mut self, fixed: Fixed) -> Result<Self::Ok, Self::Error>
         ensures { permits self.old (Some (scalar (fixed_scalar fixed))) result self.new };
 
     /// Serializes null.
+    ///
+    /// # Encoding
+    /// `40` (AMQP 1.0 part 1, section 1.6.1).
+    ///
+    /// # Errors
+    /// The serializer's refusal of it where it stands: as `InvalidValue` under a mark that does not
+    /// take it, or among an array's elements of another kind.
+    ///
+    /// # Example
+    /// Null is `40`.
     fn serialize_null(&mut self) -> Result<Self::Ok, Self::Error>
         ensures { permits self.old (Some (scalar null)) result self.new };
 
     /// Serializes a string.
+    ///
+    /// # Encoding
+    /// `a1` and a length of one byte up to 254 bytes, else `b1` and four; in an array always `b1`
+    /// (AMQP 1.0 part 1, section 1.6.20).
+    ///
+    /// # Errors
+    /// The serializer's refusal of it where it stands: as `TooLong` past 4,294,967,291 bytes,
+    /// `InvalidValue` under a mark that does not take it, or `OutOfMemory`.
+    ///
+    /// # Example
+    /// `a` is `a10161`; as an array's element its payload is `0000000161`.
     fn serialize_str(&mut self, v: &str) -> Result<Self::Ok, Self::Error>
         ensures { permits self.old (Some (scalar (string v.now))) result self.new };
 
     /// Serializes a binary.
+    ///
+    /// # Encoding
+    /// `a0` and a length of one byte up to 254 bytes, else `b0` and four; in an array always `b0`
+    /// (AMQP 1.0 part 1, section 1.6.19).
+    ///
+    /// # Errors
+    /// The serializer's refusal of it where it stands: as `TooLong` past 4,294,967,291 bytes,
+    /// `InvalidValue` under a mark that does not take it, or `OutOfMemory`.
+    ///
+    /// # Example
+    /// The bytes 01, 02 are `a0020102`.
     fn serialize_bytes(&mut self, v: &[u8]) -> Result<Self::Ok, Self::Error>
         ensures { permits self.old (Some (scalar (binary v.now))) result self.new };
 
     /// Makes ready for a tree that stands for the marked one.
+    ///
+    /// # Example
+    /// `Mark::Symbol` before the string `amqp`: `a304616d7170`.
     fn mark(&mut self, mark: Mark)
         ensures { (t : Option Tree) (r : Result Self.Ok Self.Error) (after : Self) →
             permits self.new t r after → permits self.old (marked mark t) r after };
 
     /// Opens a compound.
+    ///
+    /// # Example
+    /// `Kind::List`, ended with no part, is `45`.
     fn begin(&mut self, kind: Kind) -> Self::Open
         ensures { has self.old kind self.new result [] };
 
@@ -106,6 +161,9 @@ pub trait Serializer {
 
     /// Takes the answer on a part: the compound has it, or is as it was. A refused part is never
     /// taken.
+    ///
+    /// # Errors
+    /// The part's refusal, or the serializer's of the part after those before it.
     fn end_part(
         &mut self,
         held: &mut Self::Open,
@@ -144,6 +202,10 @@ pub trait Serializer {
 
     /// Takes the answer on a descriptor: the value to come is described by it, or the compound is
     /// as it was. A refused one is never taken, nor one that is no ulong and no symbol.
+    ///
+    /// # Errors
+    /// The descriptor's refusal, or the serializer's of it: always where it is no ulong and no
+    /// symbol.
     fn end_descriptor(
         &mut self,
         held: &mut Self::Open,
@@ -164,6 +226,12 @@ pub trait Serializer {
             descriptor_of d ≡ None → IsErr result };
 
     /// Ends the compound.
+    ///
+    /// # Errors
+    /// The serializer's refusal of the tree of the parts: always where there is none.
+    ///
+    /// # Example
+    /// The list of the strings `a` and `bc` is `c00802a10161a1026263`.
     fn end(&mut self, held: Self::Open) -> Result<Self::Ok, Self::Error>
         ensures { (start : Self) (kind : Kind) (ps : List (Option Tree)) →
             has start kind self.old held ps →
@@ -178,6 +246,16 @@ pub trait Serializer {
     }
 
     /// Serializes a `bool`, a boolean.
+    ///
+    /// # Encoding
+    /// `41` true, `42` false; in an array `56`, then `01` or `00` (AMQP 1.0 part 1, section 1.6.2).
+    ///
+    /// # Errors
+    /// The serializer's refusal of it where it stands: as `InvalidValue` under a mark that does not
+    /// take it, or among an array's elements of another kind.
+    ///
+    /// # Example
+    /// `true` is `41`.
     #[inline(always)]
     final fn serialize_bool(&mut self, v: bool) -> Result<Self::Ok, Self::Error>
         ensures { Self.permits self.old (Some (scalar (bool v))) result self.new }
@@ -186,6 +264,16 @@ pub trait Serializer {
     }
 
     /// Serializes an `i8`, a byte.
+    ///
+    /// # Encoding
+    /// `51` and one byte (AMQP 1.0 part 1, section 1.6.7).
+    ///
+    /// # Errors
+    /// The serializer's refusal of it where it stands: as `InvalidValue` under a mark that does not
+    /// take it, or among an array's elements of another kind.
+    ///
+    /// # Example
+    /// -1 is `51ff`.
     #[inline(always)]
     final fn serialize_i8(&mut self, v: i8) -> Result<Self::Ok, Self::Error>
         ensures { Self.permits self.old (Some (scalar (byte v))) result self.new }
@@ -194,6 +282,16 @@ pub trait Serializer {
     }
 
     /// Serializes an `i16`, a short.
+    ///
+    /// # Encoding
+    /// `61` and two bytes (AMQP 1.0 part 1, section 1.6.8).
+    ///
+    /// # Errors
+    /// The serializer's refusal of it where it stands: as `InvalidValue` under a mark that does not
+    /// take it, or among an array's elements of another kind.
+    ///
+    /// # Example
+    /// -2 is `61fffe`.
     #[inline(always)]
     final fn serialize_i16(&mut self, v: i16) -> Result<Self::Ok, Self::Error>
         ensures { Self.permits self.old (Some (scalar (short v))) result self.new }
@@ -202,6 +300,17 @@ pub trait Serializer {
     }
 
     /// Serializes an `i32`, an int.
+    ///
+    /// # Encoding
+    /// `54` and one byte from -128 to 127, else `71` and four; in an array always `71` (AMQP 1.0
+    /// part 1, section 1.6.9).
+    ///
+    /// # Errors
+    /// The serializer's refusal of it where it stands: as `InvalidValue` under a mark that does not
+    /// take it, or among an array's elements of another kind.
+    ///
+    /// # Example
+    /// 1 is `5401`, 128 is `7100000080`.
     #[inline(always)]
     final fn serialize_i32(&mut self, v: i32) -> Result<Self::Ok, Self::Error>
         ensures { Self.permits self.old (Some (scalar (int v))) result self.new }
@@ -210,6 +319,17 @@ pub trait Serializer {
     }
 
     /// Serializes an `i64`, a long.
+    ///
+    /// # Encoding
+    /// `55` and one byte from -128 to 127, else `81` and eight; in an array always `81` (AMQP 1.0
+    /// part 1, section 1.6.10).
+    ///
+    /// # Errors
+    /// The serializer's refusal of it where it stands: as `InvalidValue` under a mark that does not
+    /// take it, or among an array's elements of another kind.
+    ///
+    /// # Example
+    /// -1 is `55ff`, 128 is `810000000000000080`.
     #[inline(always)]
     final fn serialize_i64(&mut self, v: i64) -> Result<Self::Ok, Self::Error>
         ensures { Self.permits self.old (Some (scalar (long v))) result self.new }
@@ -218,6 +338,16 @@ pub trait Serializer {
     }
 
     /// Serializes a `u8`, a ubyte.
+    ///
+    /// # Encoding
+    /// `50` and one byte (AMQP 1.0 part 1, section 1.6.3).
+    ///
+    /// # Errors
+    /// The serializer's refusal of it where it stands: as `InvalidValue` under a mark that does not
+    /// take it, or among an array's elements of another kind.
+    ///
+    /// # Example
+    /// 5 is `5005`.
     #[inline(always)]
     final fn serialize_u8(&mut self, v: u8) -> Result<Self::Ok, Self::Error>
         ensures { Self.permits self.old (Some (scalar (ubyte v))) result self.new }
@@ -226,6 +356,16 @@ pub trait Serializer {
     }
 
     /// Serializes a `u16`, a ushort.
+    ///
+    /// # Encoding
+    /// `60` and two bytes (AMQP 1.0 part 1, section 1.6.4).
+    ///
+    /// # Errors
+    /// The serializer's refusal of it where it stands: as `InvalidValue` under a mark that does not
+    /// take it, or among an array's elements of another kind.
+    ///
+    /// # Example
+    /// 256 is `600100`.
     #[inline(always)]
     final fn serialize_u16(&mut self, v: u16) -> Result<Self::Ok, Self::Error>
         ensures { Self.permits self.old (Some (scalar (ushort v))) result self.new }
@@ -234,6 +374,17 @@ pub trait Serializer {
     }
 
     /// Serializes a `u32`, a uint.
+    ///
+    /// # Encoding
+    /// `43` for 0, `52` and one byte up to 255, else `70` and four; in an array always `70` (AMQP
+    /// 1.0 part 1, section 1.6.5).
+    ///
+    /// # Errors
+    /// The serializer's refusal of it where it stands: as `InvalidValue` under a mark that does not
+    /// take it, or among an array's elements of another kind.
+    ///
+    /// # Example
+    /// 0 is `43`, 1 is `5201`, 256 is `7000000100`.
     #[inline(always)]
     final fn serialize_u32(&mut self, v: u32) -> Result<Self::Ok, Self::Error>
         ensures { Self.permits self.old (Some (scalar (uint v))) result self.new }
@@ -242,6 +393,17 @@ pub trait Serializer {
     }
 
     /// Serializes a `u64`, a ulong.
+    ///
+    /// # Encoding
+    /// `44` for 0, `53` and one byte up to 255, else `80` and eight; in an array always `80` (AMQP
+    /// 1.0 part 1, section 1.6.6).
+    ///
+    /// # Errors
+    /// The serializer's refusal of it where it stands: as `InvalidValue` under a mark that does not
+    /// take it, or among an array's elements of another kind.
+    ///
+    /// # Example
+    /// 0 is `44`, 13 is `530d`, 256 is `800000000000000100`.
     #[inline(always)]
     final fn serialize_u64(&mut self, v: u64) -> Result<Self::Ok, Self::Error>
         ensures { Self.permits self.old (Some (scalar (ulong v))) result self.new }
@@ -250,6 +412,16 @@ pub trait Serializer {
     }
 
     /// Serializes an `f32`, a float, by its bits.
+    ///
+    /// # Encoding
+    /// `72` and four bytes (AMQP 1.0 part 1, section 1.6.11).
+    ///
+    /// # Errors
+    /// The serializer's refusal of it where it stands: as `InvalidValue` under a mark that does not
+    /// take it, or among an array's elements of another kind.
+    ///
+    /// # Example
+    /// The bits 3FC00000, which are 1.5, are `723fc00000`.
     #[inline(always)]
     final fn serialize_f32(&mut self, v: F32Bits) -> Result<Self::Ok, Self::Error>
         ensures { Self.permits self.old (Some (scalar (float (f32_bits v)))) result self.new }
@@ -258,6 +430,16 @@ pub trait Serializer {
     }
 
     /// Serializes an `f64`, a double, by its bits.
+    ///
+    /// # Encoding
+    /// `82` and eight bytes (AMQP 1.0 part 1, section 1.6.12).
+    ///
+    /// # Errors
+    /// The serializer's refusal of it where it stands: as `InvalidValue` under a mark that does not
+    /// take it, or among an array's elements of another kind.
+    ///
+    /// # Example
+    /// The bits 3FF8000000000000, which are 1.5, are `823ff8000000000000`.
     #[inline(always)]
     final fn serialize_f64(&mut self, v: F64Bits) -> Result<Self::Ok, Self::Error>
         ensures { Self.permits self.old (Some (scalar (double (f64_bits v)))) result self.new }
@@ -266,6 +448,16 @@ pub trait Serializer {
     }
 
     /// Serializes a `char`.
+    ///
+    /// # Encoding
+    /// `73` and its number in four bytes (AMQP 1.0 part 1, section 1.6.16).
+    ///
+    /// # Errors
+    /// The serializer's refusal of it where it stands: as `InvalidValue` under a mark that does not
+    /// take it, or among an array's elements of another kind.
+    ///
+    /// # Example
+    /// `a` is `7300000061`.
     #[inline(always)]
     final fn serialize_char(&mut self, v: char) -> Result<Self::Ok, Self::Error>
         ensures { Self.permits self.old (Some (scalar (char v))) result self.new }
@@ -274,6 +466,16 @@ pub trait Serializer {
     }
 
     /// Serializes `None`, as null.
+    ///
+    /// # Encoding
+    /// `40` (AMQP 1.0 part 1, section 1.6.1).
+    ///
+    /// # Errors
+    /// The serializer's refusal of it where it stands: as `InvalidValue` under a mark that does not
+    /// take it, or among an array's elements of another kind.
+    ///
+    /// # Example
+    /// `None` is `40`.
     #[inline(always)]
     final fn serialize_none(&mut self) -> Result<Self::Ok, Self::Error>
         ensures { Self.permits self.old (Some (scalar null)) result self.new }
@@ -282,6 +484,16 @@ pub trait Serializer {
     }
 
     /// Serializes `()`, as null.
+    ///
+    /// # Encoding
+    /// `40` (AMQP 1.0 part 1, section 1.6.1).
+    ///
+    /// # Errors
+    /// The serializer's refusal of it where it stands: as `InvalidValue` under a mark that does not
+    /// take it, or among an array's elements of another kind.
+    ///
+    /// # Example
+    /// `()` is `40`.
     #[inline(always)]
     final fn serialize_unit(&mut self) -> Result<Self::Ok, Self::Error>
         ensures { Self.permits self.old (Some (scalar null)) result self.new }
@@ -290,6 +502,16 @@ pub trait Serializer {
     }
 
     /// Serializes a struct without fields, as null.
+    ///
+    /// # Encoding
+    /// `40` (AMQP 1.0 part 1, section 1.6.1).
+    ///
+    /// # Errors
+    /// The serializer's refusal of it where it stands: as `InvalidValue` under a mark that does not
+    /// take it, or among an array's elements of another kind.
+    ///
+    /// # Example
+    /// A struct without fields is `40`, whatever its name.
     #[inline(always)]
     final fn serialize_unit_struct(&mut self, _name: &'static str) -> Result<Self::Ok, Self::Error>
         ensures { Self.permits self.old (Some (scalar null)) result self.new }
@@ -298,6 +520,16 @@ pub trait Serializer {
     }
 
     /// Serializes a variant without a value, as the uint of its index.
+    ///
+    /// # Encoding
+    /// As a `u32` of that number.
+    ///
+    /// # Errors
+    /// The serializer's refusal of it where it stands: as `InvalidValue` under a mark that does not
+    /// take it, or among an array's elements of another kind.
+    ///
+    /// # Example
+    /// The variant 3 is `5203`.
     #[inline(always)]
     final fn serialize_unit_variant(
         &mut self,
@@ -311,6 +543,12 @@ pub trait Serializer {
     }
 
     /// Serializes the value of a `Some`, as itself.
+    ///
+    /// # Errors
+    /// The serializer's refusal of the value: always where it has no tree.
+    ///
+    /// # Example
+    /// `Some(true)` is `41`.
     #[inline(always)]
     final fn serialize_some<T: Serialize>(&mut self, v: &T) -> Result<Self::Ok, Self::Error>
     where
@@ -321,6 +559,14 @@ pub trait Serializer {
     }
 
     /// Serializes a newtype struct, as its name marks the tree inside it.
+    ///
+    /// # Errors
+    /// The serializer's refusal of the marked tree: always where there is none, as under a marker
+    /// over another kind than it takes.
+    ///
+    /// # Example
+    /// The string `amqp` is `a304616d7170` under the name `SYMBOL`, and `a104616d7170` under one
+    /// that is no marker.
     #[inline(always)]
     final fn serialize_newtype_struct<T: Serialize>(
         &mut self,
@@ -338,6 +584,15 @@ pub trait Serializer {
 
     /// Begins to serialize a sequence, a list. The length is a hint: it is not checked and reserves
     /// nothing.
+    ///
+    /// # Encoding
+    /// A list (AMQP 1.0 part 1, section 1.6.22).
+    ///
+    /// # Errors
+    /// None: opening is never refused.
+    ///
+    /// # Example
+    /// The strings `a` and `bc` are `c00802a10161a1026263`.
     #[inline(always)]
     final fn serialize_seq(
         &mut self,
@@ -355,6 +610,15 @@ pub trait Serializer {
     }
 
     /// Begins to serialize a tuple, a list of its elements.
+    ///
+    /// # Encoding
+    /// A list (AMQP 1.0 part 1, section 1.6.22).
+    ///
+    /// # Errors
+    /// None: opening is never refused.
+    ///
+    /// # Example
+    /// The ubyte 1 and `true` are `c00402500141`.
     #[inline(always)]
     final fn serialize_tuple(
         &mut self,
@@ -373,6 +637,17 @@ pub trait Serializer {
 
     /// Begins to serialize a tuple struct: a list of its fields, of which the first is the
     /// descriptor where the name asks for one.
+    ///
+    /// # Encoding
+    /// A list (AMQP 1.0 part 1, section 1.6.22); under the names `DESCRIBED_LIST` and
+    /// `DESCRIBED_BASIC` a described value (section 1.2).
+    ///
+    /// # Errors
+    /// None: opening is never refused.
+    ///
+    /// # Example
+    /// The ubyte 1 and `true` are `c00402500141`. Under the name `DESCRIBED_LIST` the ulong 1 and
+    /// `true` are `005301c0020141`.
     #[tactic(auto, unfolding(crate::specs::Structs::Stands))]
     #[inline(always)]
     final fn serialize_tuple_struct(
@@ -408,6 +683,18 @@ pub trait Serializer {
 
     /// Begins to serialize a struct: a list of its fields, a map from their names or the one field
     /// itself, as its name says.
+    ///
+    /// # Encoding
+    /// A list (AMQP 1.0 part 1, section 1.6.22), under the name `DESCRIBED_MAP` a map (1.6.23) and
+    /// under `DESCRIBED_BASIC` the one value; a first field with the key `DESCRIPTOR` comes before
+    /// it (section 1.2).
+    ///
+    /// # Errors
+    /// None: opening is never refused.
+    ///
+    /// # Example
+    /// The fields `x`, the ubyte 1, and `y`, `true`, are `c00402500141`. Under the name
+    /// `DESCRIBED_MAP` the field `x` alone is `c10602a101785001`.
     #[tactic(auto, unfolding(crate::specs::Structs::Stands))]
     #[inline(always)]
     final fn serialize_struct(
@@ -432,6 +719,16 @@ pub trait Serializer {
     }
 
     /// Serializes a described value: a descriptor, which is a ulong or a symbol, before a value.
+    ///
+    /// # Encoding
+    /// `00`, the descriptor and the value (AMQP 1.0 part 1, section 1.2).
+    ///
+    /// # Errors
+    /// The serializer's refusal of the described value: always where the descriptor is no ulong and
+    /// no symbol, or the value has no tree.
+    ///
+    /// # Example
+    /// The code 1 and `true` are `00530141`.
     #[inline(always)]
     final fn serialize_described<D: Serialize, T: Serialize>(
         &mut self,
@@ -448,6 +745,15 @@ pub trait Serializer {
     }
 
     /// Begins to serialize a map.
+    ///
+    /// # Encoding
+    /// A map (AMQP 1.0 part 1, section 1.6.23).
+    ///
+    /// # Errors
+    /// None: opening is never refused.
+    ///
+    /// # Example
+    /// From the ubyte 1 to `true` it is `c10402500141`.
     #[inline(always)]
     final fn serialize_map(
         &mut self,
@@ -467,6 +773,17 @@ pub trait Serializer {
 
     /// Serializes a variant of one value; in the enum named `VALUE` it is the value itself, and in
     /// that named `DESCRIPTOR` a misuse. Other names of an enum and its variants are not written.
+    ///
+    /// # Encoding
+    /// The map of one pair, from the index as a uint to the value; in the enum named `VALUE` the
+    /// value alone.
+    ///
+    /// # Errors
+    /// The serializer's refusal of the variant: always where the value has no tree, and a misuse
+    /// (`InvalidValue`) in the enum named `DESCRIPTOR`.
+    ///
+    /// # Example
+    /// The variant 1 of the ulong 13 is `c105025201530d`, and in the enum named `VALUE` `530d`.
     #[inline(always)]
     final fn serialize_newtype_variant<T: Serialize>(
         &mut self,
@@ -494,6 +811,15 @@ pub trait Serializer {
     }
 
     /// Begins to serialize a variant of fields that have no names.
+    ///
+    /// # Encoding
+    /// The map of one pair, from the index as a uint to the list of the fields.
+    ///
+    /// # Errors
+    /// None: opening is never refused.
+    ///
+    /// # Example
+    /// The variant 1 of `true` and the ubyte 1 is `c109025201c00402415001`.
     #[inline(always)]
     final fn serialize_tuple_variant(
         &mut self,
@@ -514,6 +840,16 @@ pub trait Serializer {
     }
 
     /// Begins to serialize a variant of named fields.
+    ///
+    /// # Encoding
+    /// The map of one pair, from the index as a uint to the list of the fields. Their names are not
+    /// written.
+    ///
+    /// # Errors
+    /// None: opening is never refused.
+    ///
+    /// # Example
+    /// The variant 1 of the fields `a`, `true`, and `b`, the ubyte 1, is `c109025201c00402415001`.
     #[inline(always)]
     final fn serialize_struct_variant(
         &mut self,

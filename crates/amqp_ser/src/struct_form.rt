@@ -21,6 +21,9 @@ pub enum StructForm {
 ///
 /// # Memory
 /// Takes none.
+///
+/// # Example
+/// Of `DESCRIBED_MAP` it is a map, of `DESCRIBED_BASIC` the one field, of `Point` a list.
 #[inline(always)]
 pub fn struct_form(name: &str) -> StructForm
     ensures { result ≡ struct_form name.now }

@@ -73,6 +73,9 @@ impl OpenBody {
     }
 
     /// The value of the compound.
+    ///
+    /// # Errors
+    /// `InvalidValue` where the parts make no value, `OutOfMemory` where memory for it is refused.
     #[inline(always)]
     pub fn into_value(self, alloc: Global) -> Result<Value, Error>
         ensures { (pending : PendingMark) (kind : Kind) (ps : List (Option Tree)) →

@@ -63,6 +63,9 @@ impl Parts {
     }
 
     /// Takes one part more.
+    ///
+    /// # Errors
+    /// `AllocError` where memory for the part is refused: it is dropped, and the parts are as they were.
     #[inline(always)]
     pub fn add_part(&mut self, part: Value) -> Result<(), AllocError>
         ensures makes { (o : Option Trees) → compound_tree self.new o ≡ compound_tree self.old o }
@@ -98,6 +101,9 @@ impl Parts {
     }
 
     /// The value of the compound.
+    ///
+    /// # Errors
+    /// `InvalidValue` where the parts make no value, `OutOfMemory` where memory for it is refused.
     #[inline(always)]
     pub fn into_value(self, alloc: Global) -> Result<Value, Error>
         ensures { (ts : Trees) → HoldsImages self ts →

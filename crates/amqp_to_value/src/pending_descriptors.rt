@@ -111,6 +111,9 @@ impl PendingDescriptors {
     }
 
     /// What was put aside, and one described value more, the innermost. What came later is let go.
+    ///
+    /// # Errors
+    /// `OutOfMemory` where memory for the described value is refused.
     #[inline(always)]
     pub fn describe(
         &mut self,
@@ -170,6 +173,9 @@ impl PendingDescriptors {
     }
 
     /// The value alone: what it stood in is put aside again, for which there is room.
+    ///
+    /// # Errors
+    /// None for a value that stands in what was put aside, where there is room for that.
     #[inline(always)]
     pub fn unwrap(&mut self, saved: Saved, value: Value) -> Result<Value, Error>
         ensures { (others own : List Content) (t : Tree) → self.old.kept ≡ others →

@@ -18,6 +18,9 @@ use amqp_value::Value;
 use std::alloc::Global;
 
 /// The value of a scalar of fixed width.
+///
+/// # Example
+/// Of `Fixed::Bool(true)`: `Value::Bool(true)`.
 #[inline(always)]
 pub fn fixed_value(fixed: Fixed) -> Value
     ensures { tree_of result ≡ scalar (fixed_scalar fixed) }
@@ -40,6 +43,12 @@ pub fn fixed_value(fixed: Fixed) -> Value
 }
 
 /// The value of a scalar of fixed width under a marker.
+///
+/// # Errors
+/// `InvalidValue` where the marker does not take it.
+///
+/// # Example
+/// Of the long 13 under `Mark::Timestamp`: `Value::Timestamp` of 13 milliseconds. Of `true`: `InvalidValue`.
 #[inline(always)]
 pub fn marked_fixed(pending: PendingMark, fixed: Fixed) -> Result<Value, Error>
     ensures { IsImageOf (meant pending (Some (scalar (fixed_scalar fixed)))) result }
@@ -54,6 +63,12 @@ pub fn marked_fixed(pending: PendingMark, fixed: Fixed) -> Result<Value, Error>
 }
 
 /// The value of a text under a marker.
+///
+/// # Errors
+/// `InvalidValue` where the marker does not take it, `OutOfMemory` where memory for the copy is refused.
+///
+/// # Example
+/// Of `a` under `Mark::Symbol`: `Value::Symbol` of it; under `Mark::Other`: `Value::String`.
 #[inline(always)]
 pub fn marked_text(alloc: Global, pending: PendingMark, text: &str) -> Result<Value, Error>
     ensures { IsImageOf (meant pending (Some (scalar (string text.now)))) result }
@@ -66,6 +81,13 @@ pub fn marked_text(alloc: Global, pending: PendingMark, text: &str) -> Result<Va
 }
 
 /// The value of a binary under a marker.
+///
+/// # Errors
+/// `InvalidValue` where the marker does not take it, or takes another length, and under `Mark::Lazy`; `OutOfMemory`
+/// where memory for the copy is refused.
+///
+/// # Example
+/// Of 4 bytes under `Mark::Decimal32`: `Value::Decimal32` of them. Of 5: `InvalidValue`.
 #[inline(never)]
 pub fn marked_bytes(alloc: Global, pending: PendingMark, bytes: &[u8]) -> Result<Value, Error>
     ensures { IsImageOf (meant pending (Some (scalar (binary bytes.now)))) result }
@@ -81,6 +103,12 @@ pub fn marked_bytes(alloc: Global, pending: PendingMark, bytes: &[u8]) -> Result
 }
 
 /// The descriptor that a value is: a name where it is a symbol, a code where it is a ulong.
+///
+/// # Errors
+/// `InvalidValue` where it is neither.
+///
+/// # Example
+/// Of the ulong 1: `Descriptor::Code(1)`. Of the uint 1: `InvalidValue`.
 #[inline(never)]
 pub fn descriptor_from(value: Value) -> Result<Descriptor, Error>
     ensures { MatchResult result

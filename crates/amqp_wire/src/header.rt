@@ -199,6 +199,10 @@ impl Output {
     }
 
     /// Opens a compound: writes what stands before its parts.
+    ///
+    /// # Errors
+    /// `InvalidValue` for a shape that has no header of its own or is refused, and where no header
+    /// is left; `TooLong` where there is no room for it.
     #[inline(never)]
     pub fn open(&mut self, in_array: bool, shape: Shape) -> Result<(), Refusal>
         ensures kept { Kept self.old self.new }

@@ -117,6 +117,9 @@ impl Output {
     }
 
     /// Writes bytes, where there is room.
+    ///
+    /// # Errors
+    /// `TooLong` where there is no room for them.
     #[inline(always)]
     pub fn put(&mut self, bytes: &[u8]) -> Result<(), Refusal>
         ensures kept { Kept self.old self.new }
@@ -134,6 +137,9 @@ impl Output {
     }
 
     /// Writes a few bytes one by one, where there is room.
+    ///
+    /// # Errors
+    /// `TooLong` where there is no room for them.
     #[inline(always)]
     pub fn put_few(&mut self, bytes: &[u8]) -> Result<(), Refusal>
         ensures kept { Kept self.old self.new }
@@ -207,6 +213,12 @@ impl Output {
     }
 
     /// Writes a value of fixed width.
+    ///
+    /// # Errors
+    /// `TooLong` where there is no room for it.
+    ///
+    /// # Example
+    /// `Fixed::Uint(0)` is `43`, and in an array `00000000`.
     #[inline(always)]
     pub fn put_fixed(&mut self, in_array: bool, fixed: Fixed) -> Result<(), Refusal>
         ensures kept { Kept self.old self.new }
@@ -245,6 +257,12 @@ impl Output {
     }
 
     /// Writes null.
+    ///
+    /// # Errors
+    /// `TooLong` where there is no room for it. In an array it takes none.
+    ///
+    /// # Example
+    /// `40`, and in an array no byte.
     #[inline(always)]
     pub fn put_null(&mut self, in_array: bool) -> Result<(), Refusal>
         ensures kept { Kept self.old self.new }
@@ -259,6 +277,12 @@ impl Output {
     }
 
     /// Writes a text or a binary, with the code of a length of one byte or that of four.
+    ///
+    /// # Errors
+    /// `TooLong` where there is no room for it.
+    ///
+    /// # Example
+    /// The string `a` is `a10161`, and in an array `0000000161`.
     #[inline(always)]
     pub fn put_text(
         &mut self,
@@ -278,6 +302,12 @@ impl Output {
     }
 
     /// Writes bytes after their code, or alone in an array.
+    ///
+    /// # Errors
+    /// `TooLong` where there is no room for them.
+    ///
+    /// # Example
+    /// The code `74` and 01, 02, 03, 04 are `7401020304`, and in an array `01020304`.
     #[inline(always)]
     pub fn put_exact(&mut self, in_array: bool, code: u8, bytes: &[u8]) -> Result<(), Refusal>
         ensures kept { Kept self.old self.new }

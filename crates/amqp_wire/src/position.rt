@@ -24,6 +24,10 @@ pub fn in_array(position: Position) -> bool
 }
 
 /// Where what comes after a tree with this constructor stands, if the tree is taken there.
+///
+/// # Errors
+/// `InvalidValue` where an array has another constructor, for a descriptor that is no ulong and no
+/// symbol, and for a described value as an array's element.
 #[inline(always)]
 pub fn accepted(position: Position, code: u8) -> Result<Pending, Refusal>
     ensures { (t : Tree) → constructor t ≡ Some code → uniform_arrays t ≡ true → inside t ≡ true →
@@ -61,6 +65,9 @@ pub fn accepted(position: Position, code: u8) -> Result<Pending, Refusal>
 
 /// Where the value after a descriptor stands. No marker takes a described value, and it is no
 /// descriptor.
+///
+/// # Errors
+/// `InvalidValue` where a descriptor is to stand.
 #[inline(always)]
 pub fn described(pending: Pending) -> Result<Pending, Refusal>
     ensures { MatchResult result

@@ -11,6 +11,12 @@ use amqp_wire::to_vec;
 use std::alloc::Global;
 
 /// The bytes of a value that goes into a frame with so much room.
+///
+/// # Errors
+/// `TooLong` where they do not fit; what `serialized_size` and `to_vec` refuse the value with.
+///
+/// # Example
+/// Of the string `a`: `a10161` in a room of 3, and `TooLong` in one of 2.
 pub fn bytes_for_frame<T: Serialize>(
     alloc: Global,
     value: &T,

@@ -31,10 +31,16 @@ pub trait MapAccess: Sized + Drop {
     ghost left: { Self → List (Tree × Tree) };
 
     /// Whether a value is owed.
+    ///
+    /// # Example
+    /// True after `next_key`, until `next_value`.
     fn owes(&self) -> bool
         ensures { IsTrue result ↔ IsSome (owed self.now) };
 
     /// Takes the next pair.
+    ///
+    /// # Example
+    /// Of the pair of the uint 1 and the ubyte 2: what holds 1 and what holds 2, then `None`.
     fn next_pair(&mut self) -> Option<(Self::Item, Self::Item)>
         ensures taken { TakesPair Self.Item.value (left self.old) (left self.new) result }
         ensures kept { owed self.new ≡ owed self.old };
@@ -45,6 +51,9 @@ pub trait MapAccess: Sized + Drop {
         ensures kept { left self.new ≡ left self.old };
 
     /// Takes the value that is owed.
+    ///
+    /// # Example
+    /// After `owe` of what holds the ubyte 2: `Some` of it, then `None`.
     fn take_owed(&mut self) -> Option<Self::Item>
         ensures taken { value_of Self.Item.value result ≡ owed self.old }
         ensures owed { owed self.new ≡ None }
@@ -55,6 +64,10 @@ pub trait MapAccess: Sized + Drop {
     ///
     /// # Errors
     /// Invalid while a value is owed, and nothing changes; as the seed otherwise, and only where the key is not read.
+    ///
+    /// # Example
+    /// Of the pair of the uint 1 and the ubyte 2, by `Of(PhantomData::<u32>)`: `Some(1)`. Again, before the value:
+    /// invalid.
     final fn next_key_seed<K: Seed>(
         &mut self,
         alloc: Global,
@@ -84,6 +97,9 @@ pub trait MapAccess: Sized + Drop {
     ///
     /// # Errors
     /// Invalid where none is owed; as the seed otherwise, and only where the value is not read.
+    ///
+    /// # Example
+    /// After that key, by `Of(PhantomData::<u8>)`: 2. Before it: invalid.
     final fn next_value_seed<V: Seed>(
         &mut self,
         alloc: Global,
@@ -107,6 +123,9 @@ pub trait MapAccess: Sized + Drop {
     ///
     /// # Errors
     /// Invalid while a value is owed, and nothing changes; as the seeds otherwise, and only where the pair is not read.
+    ///
+    /// # Example
+    /// Of the pair of the uint 3 and the ubyte 4, by the seeds of `u32` and `u8`: `Some((3, 4))`, then `None`.
     final fn next_entry_seed<K: Seed, V: Seed>(
         &mut self,
         alloc: Global,
@@ -135,6 +154,9 @@ pub trait MapAccess: Sized + Drop {
     ///
     /// # Errors
     /// Invalid while a value is owed; as the type otherwise.
+    ///
+    /// # Example
+    /// Of the pair of the uint 1 and the ubyte 2, as a `u32`: `Some(1)`. Again, before the value: invalid.
     final fn next_key<K: Deserialize>(&mut self, alloc: Global) -> Result<Option<K>, Self::Error>
         ensures read { ReadsKey Self.Error.is_memory K.reads
             (owed self.old) (left self.old) (owed self.new) (left self.new) result }
@@ -148,6 +170,9 @@ pub trait MapAccess: Sized + Drop {
     ///
     /// # Errors
     /// Invalid where none is owed; as the type otherwise.
+    ///
+    /// # Example
+    /// After that key, as a `u8`: 2. Before it: invalid.
     final fn next_value<V: Deserialize>(&mut self, alloc: Global) -> Result<V, Self::Error>
         ensures read { ReadsValue Self.Error.is_memory V.reads
             (owed self.old) (left self.old) (owed self.new) (left self.new) result }
@@ -161,6 +186,9 @@ pub trait MapAccess: Sized + Drop {
     ///
     /// # Errors
     /// Invalid while a value is owed; as the types otherwise.
+    ///
+    /// # Example
+    /// Of the pair of the uint 3 and the ubyte 4, as `u32` and `u8`: `Some((3, 4))`, then `None`.
     final fn next_entry<K: Deserialize, V: Deserialize>(
         &mut self,
         alloc: Global,

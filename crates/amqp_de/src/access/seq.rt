@@ -25,6 +25,9 @@ pub trait SeqAccess: Sized + Drop {
     ghost left: { Self → List Tree };
 
     /// Takes the next element.
+    ///
+    /// # Example
+    /// Of the ubytes 1 and 2: what holds 1, then what holds 2, then `None`.
     fn next_item(&mut self) -> Option<Self::Item>
         ensures { TakesNext Self.Item.value (left self.old) (left self.new) result };
 
@@ -32,6 +35,9 @@ pub trait SeqAccess: Sized + Drop {
     ///
     /// # Errors
     /// As the seed, and only where the element is not read.
+    ///
+    /// # Example
+    /// Of the string `a` and the ubyte 2, by `Of(PhantomData::<u8>)`: invalid, then `Some(2)`, then `None`.
     final fn next_element_seed<S: Seed>(
         &mut self,
         alloc: Global,
@@ -55,6 +61,9 @@ pub trait SeqAccess: Sized + Drop {
     ///
     /// # Errors
     /// As the type, and only where the element is not read.
+    ///
+    /// # Example
+    /// Of the string `a` and the ubyte 2, as `u8`: invalid, then `Some(2)`, then `None`.
     final fn next_element<T: Deserialize>(
         &mut self,
         alloc: Global,

@@ -35,6 +35,9 @@ pub trait EnumAccess: Sized + Drop {
     ghost content: { Self → Option Tree };
 
     /// The index, and what comes with it.
+    ///
+    /// # Example
+    /// Of the index 1 with the ulong 13: what holds 1, and what gives 13.
     fn split(self) -> (Self::Item, Self::Variant)
         ensures index { Self.Item.value result.0 ≡ index self }
         ensures content { Self.Variant.content result.1 ≡ content self };
@@ -43,6 +46,9 @@ pub trait EnumAccess: Sized + Drop {
     ///
     /// # Errors
     /// As the seed, and only where the index is not read.
+    ///
+    /// # Example
+    /// Of the index 1, by `Of(PhantomData::<u32>)`: 1, and what comes with it.
     final fn variant_seed<S: Seed>(
         self,
         alloc: Global,
@@ -64,6 +70,9 @@ pub trait EnumAccess: Sized + Drop {
     ///
     /// # Errors
     /// As the type, and only where the index is not read.
+    ///
+    /// # Example
+    /// Of the index 1, as a `u32`: 1, and what comes with it.
     final fn variant<T: Deserialize>(self, alloc: Global) -> Result<(T, Self::Variant), Self::Error>
         ensures read { Picks Self.Error.is_memory T.reads
             Self.Variant.content (index self) (content self) result }
@@ -89,10 +98,19 @@ pub trait VariantAccess: Sized + Drop {
     ghost content: { Self → Option Tree };
 
     /// What holds it, if there is something.
+    ///
+    /// # Example
+    /// Of the ulong 13: `Some` of what holds it. Of nothing: `None`.
     fn into_item(self) -> Option<Self::Item>
         ensures { value_of Self.Item.value result ≡ content self };
 
     /// Reads a variant with nothing. What comes with it is ignored.
+    ///
+    /// # Errors
+    /// None: it is never refused.
+    ///
+    /// # Example
+    /// `Ok(())`, also where the ulong 13 comes with the index.
     final fn unit_variant(self) -> Result<(), Self::Error>
         ensures { result ≡ Ok tt }
     {
@@ -104,6 +122,9 @@ pub trait VariantAccess: Sized + Drop {
     /// # Errors
     /// The message `Expecting a value` where nothing comes with the index; as the seed otherwise. Only where nothing
     /// is read.
+    ///
+    /// # Example
+    /// Of the ulong 13, by `Of(PhantomData::<u64>)`: 13. Of nothing: the message.
     final fn newtype_variant_seed<S: Seed>(
         self,
         alloc: Global,
@@ -126,6 +147,9 @@ pub trait VariantAccess: Sized + Drop {
     ///
     /// # Errors
     /// As [`VariantAccess::newtype_variant_seed`].
+    ///
+    /// # Example
+    /// Of the ulong 13, as a `u64`: 13.
     final fn newtype_variant<T: Deserialize>(self, alloc: Global) -> Result<T, Self::Error>
         ensures read { Answers Self.Error.is_memory (There T.reads (content self)) result }
         ensures law { RestoresOwed T.image T.restorable T.same
@@ -139,6 +163,9 @@ pub trait VariantAccess: Sized + Drop {
     /// # Errors
     /// The message `Expecting Value::List` where nothing comes with the index; invalid where it is no list; as the
     /// visitor otherwise.
+    ///
+    /// # Example
+    /// Of the list of the ubytes 1 and 2: `visit_seq` of these two.
     final fn tuple_variant<V: Visitor>(self, visitor: V) -> Result<V::Value, Self::Error>
         ensures read { Answers Self.Error.is_memory
             (There (ByList (V.gives visitor)) (content self)) result }
@@ -152,6 +179,12 @@ pub trait VariantAccess: Sized + Drop {
     }
 
     /// Deserializes a struct variant. As [`VariantAccess::tuple_variant`].
+    ///
+    /// # Errors
+    /// As [`VariantAccess::tuple_variant`].
+    ///
+    /// # Example
+    /// Of the list of the ubytes 1 and 2: `visit_seq` of these two.
     final fn struct_variant<V: Visitor>(self, visitor: V) -> Result<V::Value, Self::Error>
         ensures read { Answers Self.Error.is_memory
             (There (ByList (V.gives visitor)) (content self)) result }

@@ -47,6 +47,9 @@ pub trait Variants: Sized + Drop {
     ///
     /// # Errors
     /// Invalid for an index past the last; what the variant's value is refused with; a message where it is missing.
+    ///
+    /// # Example
+    /// Of three variants the index 3 is invalid.
     fn read<D: Deserializer>(
         self,
         alloc: Global,

@@ -31,6 +31,11 @@ fn is_misplaced(form: StructForm, described: bool, opened: bool, descriptor: boo
 
 /// Feeds any field, or the descriptor. What is held comes and goes by value, so that it is in no
 /// memory of the caller's.
+///
+/// # Errors
+/// The serializer's refusal of the field, of a descriptor that is no ulong and no symbol, of a
+/// second or late descriptor, or of a second field where there is one alone. What is held is then
+/// as it was.
 #[tactic(auto, unfolding(crate::specs::Structs::Stands))]
 #[inline(never)]
 pub fn feed_owned<S: Serializer, T: Serialize>(
@@ -114,6 +119,9 @@ pub fn feed_owned<S: Serializer, T: Serialize>(
 }
 
 /// Feeds any field, or the descriptor: what is held is moved out for it, and back.
+///
+/// # Errors
+/// As `feed_owned`.
 #[inline(always)]
 pub fn feed_any<S: Serializer, T: Serialize>(
     serializer: &mut S,

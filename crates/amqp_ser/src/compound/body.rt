@@ -48,6 +48,9 @@ fn feed_field<S: Serializer, T: Serialize>(
 
 /// Opens a map or a list in place of a single compound and feeds it its first field, or leaves the
 /// single compound as it was.
+///
+/// # Errors
+/// The serializer's refusal of the field; no body is open then.
 #[tactic(auto, unfolding(crate::specs::Structs::Stands))]
 #[inline(always)]
 pub fn open_body<S: Serializer, T: Serialize>(
@@ -102,6 +105,10 @@ fn end_empty<S: Serializer>(
 }
 
 /// Ends a body, or the single compound in its place where no field was taken.
+///
+/// # Errors
+/// The serializer's refusal of the tree of the fields, or of no field where there is one alone,
+/// which is a misuse.
 #[inline(always)]
 pub fn end_fields<S: Serializer>(
     serializer: &mut S,

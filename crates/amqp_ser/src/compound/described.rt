@@ -11,6 +11,9 @@ use crate::serialize::Serialize;
 use crate::serializer::Serializer;
 
 /// Feeds a descriptor before the one value of a single compound, or leaves it as it was.
+///
+/// # Errors
+/// The serializer's refusal of the descriptor: always where it is no ulong and no symbol.
 #[tactic(auto, unfolding(crate::specs::Structs::Stands))]
 #[inline(always)]
 pub fn feed_descriptor<S: Serializer, T: Serialize>(
@@ -34,6 +37,9 @@ pub fn feed_descriptor<S: Serializer, T: Serialize>(
 }
 
 /// Feeds a single compound its one value, or leaves it as it was.
+///
+/// # Errors
+/// The serializer's refusal of the value.
 #[inline(always)]
 pub fn feed_single<S: Serializer, T: Serialize>(
     serializer: &mut S,
@@ -50,6 +56,9 @@ pub fn feed_single<S: Serializer, T: Serialize>(
 }
 
 /// Ends a single compound that has its one value.
+///
+/// # Errors
+/// The serializer's refusal of the value: always where it has no tree.
 #[inline(always)]
 pub fn end_single<S: Serializer>(serializer: &mut S, held: S::Open) -> Result<S::Ok, S::Error>
     ensures { (start : S) (p : Option Tree) → S.has start Kind.Single serializer.old held (p ∷ []) →
@@ -59,6 +68,16 @@ pub fn end_single<S: Serializer>(serializer: &mut S, held: S::Open) -> Result<S:
 }
 
 /// Serializes a described value, as a struct named `DESCRIBED_BASIC` of a descriptor and one field.
+///
+/// # Encoding
+/// `00`, the descriptor and the value (AMQP 1.0 part 1, section 1.2).
+///
+/// # Errors
+/// The serializer's refusal of the described value: always where the descriptor is no ulong and no
+/// symbol, or the value has no tree.
+///
+/// # Example
+/// The code 1 and `true` are `00530141`.
 #[tactic(auto, unfolding(crate::specs::Structs::Stands))]
 #[inline(always)]
 pub fn serialize_described<S: Serializer, D: Serialize, T: Serialize>(

@@ -10,6 +10,9 @@ use crate::serialize::Serialize;
 use crate::serializer::Serializer;
 
 /// Feeds a compound one part more, or leaves it as it was.
+///
+/// # Errors
+/// The serializer's refusal of the part.
 #[inline(always)]
 pub fn feed_part<S: Serializer, T: Serialize>(
     serializer: &mut S,
@@ -26,6 +29,9 @@ pub fn feed_part<S: Serializer, T: Serialize>(
 }
 
 /// Feeds a map one entry more, or leaves it as it was.
+///
+/// # Errors
+/// The serializer's refusal of the key or of the value.
 #[inline(always)]
 pub fn feed_entry<S: Serializer, K: Serialize, V: Serialize>(
     serializer: &mut S,

@@ -60,6 +60,9 @@ fn close_first<S: Serializer>(
 
 /// Feeds a list one field more, the first after it was opened in place of a single compound; or
 /// leaves what was as it was.
+///
+/// # Errors
+/// The serializer's refusal of the field.
 #[tactic(auto, unfolding(crate::specs::Structs::Stands))]
 #[inline(always)]
 pub fn feed_list_field<S: Serializer, T: Serialize>(

@@ -16,6 +16,9 @@ use crate::serializer::Serializer;
 ///
 /// # Encoding
 /// AMQP 1.0 part 1, section 1.6.23.
+///
+/// # Example
+/// Of the key 1, a ubyte, and the value `true`: `c10402500141`.
 pub struct SerializeMap<'a, S: Serializer> {
     serializer: &'a mut S,
     held: S::Open,
@@ -71,6 +74,9 @@ impl<'a, S: Serializer> SerializeMap<'a, S> {
     /// # Errors
     /// The serializer's refusal of the key, or of a second key while one is pending; the map is
     /// then as it was.
+    ///
+    /// # Example
+    /// The ubyte 1 adds `5001`.
     #[inline(always)]
     pub fn serialize_key<T: Serialize>(&mut self, key: &T) -> Result<(), S::Error>
         ensures same { self.new.serializer.ghost_name ≡ self.old.serializer.ghost_name }
@@ -96,6 +102,9 @@ impl<'a, S: Serializer> SerializeMap<'a, S> {
     /// # Errors
     /// The serializer's refusal of the value, after which the key is still pending, or of a value
     /// without a key; the map is then as it was.
+    ///
+    /// # Example
+    /// After that key `true` adds `41`.
     #[inline(always)]
     pub fn serialize_value<T: Serialize>(&mut self, value: &T) -> Result<(), S::Error>
         ensures same { self.new.serializer.ghost_name ≡ self.old.serializer.ghost_name }
@@ -121,6 +130,9 @@ impl<'a, S: Serializer> SerializeMap<'a, S> {
     /// # Errors
     /// The serializer's refusal of the key or of the value, or of an entry while a key is pending;
     /// the map is then as it was.
+    ///
+    /// # Example
+    /// The ubyte 1 and `true` add `500141`.
     #[inline(always)]
     pub fn serialize_entry<K: Serialize, V: Serialize>(
         &mut self,
@@ -145,6 +157,9 @@ impl<'a, S: Serializer> SerializeMap<'a, S> {
     ///
     /// # Errors
     /// The serializer's refusal of that tree, or of a map whose last key has no value.
+    ///
+    /// # Example
+    /// Of no pairs: `c10100`. Of the ubyte 1 and `true`: `c10402500141`.
     #[inline(always)]
     pub fn end(self) -> Result<S::Ok, S::Error>
         ensures ended { (start : S) (ps : List (Option Tree)) →

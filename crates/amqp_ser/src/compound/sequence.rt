@@ -16,6 +16,9 @@ use crate::serializer::Serializer;
 ///
 /// # Encoding
 /// AMQP 1.0 part 1, section 1.6.22.
+///
+/// # Example
+/// Of the strings `a` and `bc`: `c00802a10161a1026263`.
 pub struct SerializeSeq<'a, S: Serializer> {
     serializer: &'a mut S,
     held: S::Open,
@@ -63,6 +66,10 @@ impl<'a, S: Serializer> SerializeSeq<'a, S> {
     ///
     /// # Errors
     /// The serializer's refusal of the element; the list is then as it was and may be fed on.
+    ///
+    /// # Example
+    /// The string `a` adds `a10161`; under `Mark::Array` it adds `0000000161`, and the first one
+    /// its constructor `b1` too.
     #[inline(always)]
     pub fn serialize_element<T: Serialize>(&mut self, value: &T) -> Result<(), S::Error>
         ensures same { self.new.serializer.ghost_name ≡ self.old.serializer.ghost_name }
@@ -75,6 +82,9 @@ impl<'a, S: Serializer> SerializeSeq<'a, S> {
     ///
     /// # Errors
     /// The serializer's refusal of that tree.
+    ///
+    /// # Example
+    /// Of no elements: `45`. Of the strings `a` and `bc`: `c00802a10161a1026263`.
     #[inline(always)]
     pub fn end(self) -> Result<S::Ok, S::Error>
         ensures { (start : S) (ps : List (Option Tree)) →

@@ -94,6 +94,10 @@ impl<'a, S: Serializer> SerializeStruct<'a, S> {
     /// The serializer's refusal of the field, of a descriptor that is no ulong and no symbol, of a
     /// second or late descriptor, or of a second field where there is one alone; the struct is then
     /// as it was and may be fed on.
+    ///
+    /// # Example
+    /// The ubyte 1 with the key `x` adds `5001`, and under the name `DESCRIBED_MAP` `a101785001`.
+    /// As a first field, the ulong 1 with the key `DESCRIPTOR` puts `005301` before the fields.
     #[tactic(auto, unfolding(crate::specs::Structs::Stands))]
     #[inline(always)]
     pub fn serialize_field<T: Serialize>(
@@ -180,6 +184,10 @@ impl<'a, S: Serializer> SerializeStruct<'a, S> {
     ///
     /// # Errors
     /// The serializer's refusal of that tree, or of no field where there is one alone.
+    ///
+    /// # Example
+    /// Of the descriptor 1 and the field `true`: `005301c0020141`; under the name `DESCRIBED_BASIC`
+    /// `00530141`.
     #[tactic(auto, unfolding(crate::specs::Structs::Stands))]
     #[inline(always)]
     pub fn end(self) -> Result<S::Ok, S::Error>

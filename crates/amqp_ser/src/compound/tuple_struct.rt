@@ -93,6 +93,10 @@ impl<'a, S: Serializer> SerializeTupleStruct<'a, S> {
     /// # Errors
     /// The serializer's refusal of the field, of a descriptor that is no ulong and no symbol, or of
     /// a second field where there is one alone; the struct is then as it was and may be fed on.
+    ///
+    /// # Example
+    /// The ubyte 1 adds `5001`. Under the name `DESCRIBED_LIST` a first ulong 1 puts `005301`
+    /// before the fields.
     #[tactic(auto, unfolding(crate::specs::Structs::Stands))]
     #[inline(always)]
     pub fn serialize_field<T: Serialize>(&mut self, value: &T) -> Result<(), S::Error>
@@ -153,6 +157,10 @@ impl<'a, S: Serializer> SerializeTupleStruct<'a, S> {
     ///
     /// # Errors
     /// The serializer's refusal of that tree, or of no field where there is one alone.
+    ///
+    /// # Example
+    /// Of the ubyte 1 and `true`: `c00402500141`. Under the name `DESCRIBED_LIST`, of the ulong 1
+    /// and `true`: `005301c0020141`.
     #[tactic(auto, unfolding(crate::specs::Structs::Stands))]
     #[inline(always)]
     pub fn end(self) -> Result<S::Ok, S::Error>

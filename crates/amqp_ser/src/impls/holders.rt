@@ -57,6 +57,15 @@ impl<T: Serialize, const N: usize> Serialize for [T; N] {
 }
 
 /// Serializes the list of the items.
+///
+/// # Encoding
+/// A list (AMQP 1.0 part 1, section 1.6.22).
+///
+/// # Errors
+/// The serializer's refusal of an item, or of the list.
+///
+/// # Example
+/// Of the strings `a` and `bc`: `c00802a10161a1026263`.
 #[inline(always)]
 pub fn serialize_items<T: Serialize, S: Serializer>(
     items: &[T],

@@ -138,6 +138,9 @@ impl Value {
     ///
     /// # Memory
     /// Takes `alloc`, as the pairs grow.
+    ///
+    /// # Example
+    /// Of 2 to `true` and 1 to `false`, with ubytes as keys: a `Map`, written `c10704500241500142`.
     pub fn try_from_ordered_map<K: Into<Value> + Drop, V: Into<Value> + Drop>(
         alloc: Global,
         map: OrderedMap<K, V>,

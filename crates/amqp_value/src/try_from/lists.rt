@@ -14,6 +14,9 @@ use amqp_data::Array;
 ///
 /// # Memory
 /// Takes the list's own allocator, once, and nothing where there are no items.
+///
+/// # Example
+/// The list of the ubytes 1 and 2, as a `Vec<u8>`: 1 and 2. The list of the ubyte 1 and null: `Unfit(Null)`.
 impl<T: TryFrom<Value, Error = Value> + Drop> TryFrom<Value> for Vec<T> {
     type Error = ConvertFault;
 
@@ -34,6 +37,9 @@ impl<T: TryFrom<Value, Error = Value> + Drop> TryFrom<Value> for Vec<T> {
 ///
 /// # Memory
 /// Takes the array's own allocator, once, and nothing where there are no elements.
+///
+/// # Example
+/// The array of the ubytes 1 and 2, as an `Array<u8>`: 1 and 2. The list of them: `Unfit` of that list.
 impl<T: TryFrom<Value, Error = Value> + Drop> TryFrom<Value> for Array<T> {
     type Error = ConvertFault;
 

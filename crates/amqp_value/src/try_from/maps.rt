@@ -21,6 +21,10 @@ use std::hash::Hash;
 ///
 /// # Memory
 /// Takes the map's own allocator, as the pairs grow.
+///
+/// # Example
+/// The map from the ubyte 1 to `true`, as an `OrderedMap<u8, bool>`: 1 to `true`. As an `OrderedMap<u8, u8>`:
+/// `Unfit(Bool(true))`.
 impl<K, V> TryFrom<Value> for OrderedMap<K, V>
 where
     K: TryFrom<Value, Error = Value> + Hash + Eq + Drop,
