@@ -32,6 +32,7 @@ pub enum PayloadShape {
 }
 
 /// What the payload of the code holds.
+#[inline(always)]
 pub fn payload_shape(code: EncodingCodes) -> PayloadShape
     ensures { result ≡ shape_of_code code }
 {
@@ -52,6 +53,7 @@ pub fn payload_shape(code: EncodingCodes) -> PayloadShape
 ///
 /// # Errors
 /// `InvalidValue` for the code of a described value, `InvalidFormatCode` where no name has this code.
+#[inline(always)]
 pub fn primitive_code(byte: u8) -> Result<EncodingCodes, Error>
     ensures ok { IfOk result (λ code. primitive_of byte ≡ Some code) }
     ensures err { IfErr result (λ e. primitive_of byte ≡ None) }

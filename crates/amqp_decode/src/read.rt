@@ -62,6 +62,7 @@ fn read_frame<'a>(alloc: Global, bytes: &'a [u8], depth: u16) -> Result<(Value, 
 
 // The same, where what stands inside is at most so deep.
 #[cycle(read)]
+#[inline(always)]
 fn read_frame_over<'a>(
     alloc: Global,
     bytes: &'a [u8],
@@ -127,6 +128,7 @@ fn read_content(
 
 // The same, where what stands inside is at most so deep.
 #[cycle(read)]
+#[inline(always)]
 fn read_content_over(
     alloc: Global,
     code: EncodingCodes,
@@ -158,6 +160,7 @@ fn read_content_over(
 
 // The list of so many encoded values, which fill the body.
 #[cycle(read)]
+#[inline(never)]
 fn read_list(alloc: Global, count: u32, body: &[u8], depth: u16) -> Result<Value, Error>
     ensures ok { IfOk result (λ v. parse_list (parse depth) (count, body.now) ≡ Some (tree_of v)) }
     ensures err { IfErr result (λ e. ¬ (e ≡ OutOfMemory) →
@@ -179,6 +182,7 @@ fn read_list(alloc: Global, count: u32, body: &[u8], depth: u16) -> Result<Value
 
 // The map of so many encoded values, keys and values in turn, which fill the body.
 #[cycle(read)]
+#[inline(never)]
 fn read_map(alloc: Global, count: u32, body: &[u8], depth: u16) -> Result<Value, Error>
     ensures ok { IfOk result (λ v. parse_map (parse depth) (count, body.now) ≡ Some (tree_of v)) }
     ensures err { IfErr result (λ e. ¬ (e ≡ OutOfMemory) →
@@ -204,6 +208,7 @@ fn read_map(alloc: Global, count: u32, body: &[u8], depth: u16) -> Result<Value,
 
 // The array of the values of so many payloads, which fill the body after their constructor.
 #[cycle(read)]
+#[inline(never)]
 fn read_array(alloc: Global, count: u32, body: &[u8], depth: u16) -> Result<Value, Error>
     ensures ok { IfOk result (λ v.
         parse_array (parse_content depth) (count, body.now) ≡ Some (tree_of v)) }

@@ -19,6 +19,7 @@ use amqp_value::Value;
 use std::alloc::Global;
 
 // The one byte of the content.
+#[inline(always)]
 fn byte_of(content: &[u8]) -> Result<u8, Error>
     ensures ok { IfOk result (λ b. single content.now ≡ Some b) }
     ensures err { IfErr result (λ e. single content.now ≡ None) }
@@ -30,6 +31,7 @@ fn byte_of(content: &[u8]) -> Result<u8, Error>
 }
 
 // The bytes of the content, so many.
+#[inline(always)]
 fn bytes_of<const N: usize>(content: &[u8]) -> Result<[u8; N], Error>
     ensures ok { IfOk result (λ b. exact N content.now ≡ Some b) }
     ensures err { IfErr result (λ e. exact N content.now ≡ None) }
@@ -63,6 +65,7 @@ fn binary_of(alloc: Global, content: &[u8]) -> Result<Vec<u8>, Error>
 }
 
 // The truth value that the byte is.
+#[inline(always)]
 fn truth_of(byte: u8) -> Result<Value, Error>
     ensures ok { IfOk result (λ v. next (truth byte) scalar_tree ≡ Some (tree_of v)) }
     ensures err { IfErr result (λ e. truth byte ≡ None) }
@@ -75,6 +78,7 @@ fn truth_of(byte: u8) -> Result<Value, Error>
 }
 
 // The character of the number.
+#[inline(always)]
 fn character_of(number: u32) -> Result<Value, Error>
     ensures ok { IfOk result (λ v. next (character number) scalar_tree ≡ Some (tree_of v)) }
     ensures err { IfErr result (λ e. character number ≡ None) }
@@ -91,6 +95,7 @@ fn character_of(number: u32) -> Result<Value, Error>
 /// `InvalidValue` where the code is of another shape, and for a content that is no truth value, no character or no
 /// text.
 #[tactic(auto, unfolding(crate::specs::Scalars::scalar_in))]
+#[inline(always)]
 pub fn read_scalar(alloc: Global, code: EncodingCodes, content: &[u8]) -> Result<Value, Error>
     ensures ok { IfOk result (λ v.
         next (scalar_in code content.now) scalar_tree ≡ Some (tree_of v)) }
