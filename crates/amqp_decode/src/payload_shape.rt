@@ -49,6 +49,19 @@ pub fn payload_shape(code: EncodingCodes) -> PayloadShape
     }
 }
 
+/// Whether the values of the code have no payload, so that an array's elements of it take no bytes.
+pub fn has_no_payload(code: EncodingCodes) -> bool {
+    matches!(
+        code,
+        EncodingCodes::Null
+            | EncodingCodes::BooleanTrue
+            | EncodingCodes::BooleanFalse
+            | EncodingCodes::Uint0
+            | EncodingCodes::Ulong0
+            | EncodingCodes::List0
+    )
+}
+
 /// The primitive code of a byte.
 ///
 /// # Errors

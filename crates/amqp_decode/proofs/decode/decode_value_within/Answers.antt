@@ -5,7 +5,7 @@ use Rattle.amqp_value.specs.TreeOf.{tree_of}
 use Rattle.amqp_decode.specs.Parsed.{parse}
 use Rattle.amqp_decode.specs.Spells.{Spells}
 use Rattle.amqp_decode.proofs.Whole.{nil-from_length, none-spelled, rest-spelled, spelled}
-use Rattle.amqp_decode.proofs.read.decode_value.Goals as goal
+use Rattle.amqp_decode.proofs.decode.decode_value_within.Goals as goal
 
 pub returns-in_err-value-clause-err : goal.returns-in_err-value-clause-err
 returns-in_err-value-clause-err c =
