@@ -54,7 +54,8 @@ pub fn decode_value_within(alloc: Global, bytes: &[u8], elements: u32) -> Result
     ensures ok { IfOk result (λ v. Spells 256 bytes.now (tree_of v)) }
     ensures err { IfErr result (λ e. ¬ (e ≡ OutOfMemory) → (t : Tree) → ¬ Spells 256 bytes.now t) }
 {
-    let (value, rest) = read_frame(alloc, bytes, 256, elements)?;
+    let mut rest = bytes;
+    let value = read_frame(alloc, &mut rest, 256, elements)?;
     if rest.is_empty() {
         Ok(value)
     } else {

@@ -14,17 +14,17 @@ use amqp_value::Value;
 use indexmap::IndexMap;
 use std::alloc::Global;
 
-// The value that the bytes spell first, and the bytes after it. Elements that take no bytes are at most so many in an
+// The value that the bytes spell first; the bytes after it are left. Elements that take no bytes are at most so many in an
 // array: more of them are out of memory.
 #[cycle(read)]
-pub fn read_frame<'a>(
+pub fn read_frame(
     alloc: Global,
-    bytes: &'a [u8],
+    bytes: &mut &[u8],
     depth: u16,
     elements: u32,
-) -> Result<(Value, &'a [u8]), Error>
-    ensures ok { IfOk result (λ r. parse depth bytes.now ≡ Some (tree_of r.0, r.1.now)) }
-    ensures err { IfErr result (λ e. ¬ (e ≡ OutOfMemory) → parse depth bytes.now ≡ None) }
+) -> Result<Value, Error>
+    ensures ok { IfOk result (λ v. parse depth bytes.old.now ≡ Some (tree_of v, bytes.new.now)) }
+    ensures err { IfErr result (λ e. ¬ (e ≡ OutOfMemory) → parse depth bytes.old.now ≡ None) }
 {
     if depth == 0 {
         return Err(Error::InvalidValue);
@@ -35,51 +35,53 @@ pub fn read_frame<'a>(
 // The same, where what stands inside is at most so deep.
 #[cycle(read)]
 #[inline(always)]
-fn read_frame_over<'a>(
+fn read_frame_over(
     alloc: Global,
-    bytes: &'a [u8],
+    bytes: &mut &[u8],
     depth: u16,
     elements: u32,
-) -> Result<(Value, &'a [u8]), Error>
-    ensures ok { IfOk result (λ r.
-        frame_in (parse depth) (parse_content depth) bytes.now ≡ Some (tree_of r.0, r.1.now)) }
+) -> Result<Value, Error>
+    ensures ok { IfOk result (λ v.
+        frame_in (parse depth) (parse_content depth) bytes.old.now
+        ≡ Some (tree_of v, bytes.new.now)) }
     ensures err { IfErr result (λ e. ¬ (e ≡ OutOfMemory) →
-        frame_in (parse depth) (parse_content depth) bytes.now ≡ None) }
+        frame_in (parse depth) (parse_content depth) bytes.old.now ≡ None) }
 {
     match bytes.split_first() {
         None => Err(Error::UnexpectedEof),
         Some((0, rest)) => {
             let (descriptor, rest) = read_descriptor(alloc, rest)?;
-            let (value, rest) = read_frame(alloc, rest, depth, elements)?;
+            *bytes = rest;
+            let value = read_frame(alloc, bytes, depth, elements)?;
             let described = Box::new(alloc, Described { descriptor, value })?;
-            Ok((Value::Described(described), rest))
+            Ok(Value::Described(described))
         }
         Some((byte, rest)) => {
             let code = primitive_code(*byte)?;
             let (content, rest) = read_payload(code, rest)?;
-            let value = read_content_over(alloc, code, content, depth, elements)?;
-            Ok((value, rest))
+            *bytes = rest;
+            read_content_over(alloc, code, content, depth, elements)
         }
     }
 }
 
-// The value of the code's payload, which comes first, and the bytes after it.
+// The value of the code's payload, which comes first; the bytes after it are left.
 #[cycle(read)]
-fn read_item<'a>(
+fn read_item(
     alloc: Global,
     code: EncodingCodes,
-    bytes: &'a [u8],
+    bytes: &mut &[u8],
     depth: u16,
     elements: u32,
-) -> Result<(Value, &'a [u8]), Error>
-    ensures ok { IfOk result (λ r.
-        payload_in (parse_content depth) code bytes.now ≡ Some (tree_of r.0, r.1.now)) }
+) -> Result<Value, Error>
+    ensures ok { IfOk result (λ v.
+        payload_in (parse_content depth) code bytes.old.now ≡ Some (tree_of v, bytes.new.now)) }
     ensures err { IfErr result (λ e. ¬ (e ≡ OutOfMemory) →
-        payload_in (parse_content depth) code bytes.now ≡ None) }
+        payload_in (parse_content depth) code bytes.old.now ≡ None) }
 {
     let (content, rest) = read_payload(code, bytes)?;
-    let value = read_content(alloc, code, content, depth, elements)?;
-    Ok((value, rest))
+    *bytes = rest;
+    read_content(alloc, code, content, depth, elements)
 }
 
 // The value of the content of a code's payload.
@@ -151,9 +153,8 @@ fn read_list(
     let mut items = Vec::new(alloc);
     let mut rest = body;
     for _ in 0..count {
-        let (item, after) = read_frame(alloc, rest, depth, elements)?;
+        let item = read_frame(alloc, &mut rest, depth, elements)?;
         items.push(item)?;
-        rest = after;
     }
     if rest.is_empty() {
         Ok(Value::List(items))
@@ -182,10 +183,9 @@ fn read_map(
     let mut pairs: IndexMap<Value, Value> = IndexMap::new(alloc);
     let mut rest = body;
     for _ in 0..count / 2 {
-        let (key, after) = read_frame(alloc, rest, depth, elements)?;
-        let (value, after) = read_frame(alloc, after, depth, elements)?;
+        let key = read_frame(alloc, &mut rest, depth, elements)?;
+        let value = read_frame(alloc, &mut rest, depth, elements)?;
         drop(pairs.insert(key, value)?);
-        rest = after;
     }
     if rest.is_empty() {
         map_value(alloc, pairs)
@@ -219,9 +219,8 @@ fn read_array(
                 return Err(Error::OutOfMemory);
             }
             for _ in 0..count {
-                let (item, after) = read_item(alloc, code, rest, depth, elements)?;
+                let item = read_item(alloc, code, &mut rest, depth, elements)?;
                 items.push(item)?;
-                rest = after;
             }
             if !rest.is_empty() {
                 return Err(Error::InvalidValue);
