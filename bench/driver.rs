@@ -3,10 +3,11 @@
 //!     driver list                          each contender, shape and operation that answers, with the answer of one run
 //!     driver run WHO SHAPE OP TIMES        one call, to be counted from outside
 //!     driver count WHO SHAPE OP            allocations and bytes asked for by one run (where built with --cfg count)
-//!     driver time                          the least ns of one run
+//!     driver time [OP]                     the least ns of one run, of that operation alone
 //!
 //! Operations: 0 the size, 1 the bytes in a fresh vector, 2 the hash (FNV-1a) of the bytes, 3 an untyped value,
-//! 4 the text of an untyped value that stands ready, in a fresh string.
+//! 4 the text of an untyped value that stands ready, in a fresh string, 5 an untyped value read from the bytes, 6 as 3,
+//! and the value read out of it. Where built with --cfg proton, Qpid Proton reads the bytes too.
 
 mod plain;
 
@@ -38,19 +39,24 @@ const SHAPES: [(&str, Source); 12] = [
 ];
 
 /// How many operations there are.
-const OPERATIONS: u32 = 5;
+const OPERATIONS: u32 = 7;
 
 /// The operation that answers with a hash: it is compared and not measured.
 const HASH: u32 = 2;
+
+/// The operation that reads an untyped value from bytes.
+const READ: u32 = 5;
 
 #[derive(Clone, Copy, PartialEq)]
 enum Who {
     Table,
     Buffers,
     Project,
+    Proton,
 }
 
-const WHO: [(&str, Who); 3] = [("table", Who::Table), ("buffers", Who::Buffers), ("project", Who::Project)];
+const WHO: [(&str, Who); 4] =
+    [("table", Who::Table), ("buffers", Who::Buffers), ("project", Who::Project), ("proton", Who::Proton)];
 
 unsafe extern "C" {
     fn amqp_shape(shape: u32, op: u32, times: u64) -> u64;
@@ -178,7 +184,39 @@ fn hash(bytes: &[u8]) -> u64 {
     bytes.iter().fold(0xcbf29ce484222325, |h, b| (h ^ *b as u64).wrapping_mul(0x100000001b3))
 }
 
+#[cfg(proton)]
+mod proton {
+    //! Reading by Qpid Proton's codec, with a fresh tree each time.
+    use std::ffi::{c_char, c_void};
+
+    unsafe extern "C" {
+        fn pn_data(capacity: usize) -> *mut c_void;
+        fn pn_data_decode(data: *mut c_void, bytes: *const c_char, size: usize) -> isize;
+        fn pn_data_free(data: *mut c_void);
+    }
+
+    pub fn read(bytes: &[u8]) -> u64 {
+        unsafe {
+            let data = pn_data(16);
+            let taken = pn_data_decode(data, bytes.as_ptr().cast(), bytes.len());
+            pn_data_free(data);
+            u64::from(taken == bytes.len() as isize)
+        }
+    }
+}
+
+#[cfg(not(proton))]
+mod proton {
+    pub fn read(_: &[u8]) -> u64 {
+        0
+    }
+}
+
 fn repeat<T: Serialize>(who: Who, v: &T, op: u32, times: u64) -> u64 {
+    if who == Who::Proton {
+        let bytes = if op == READ { plain::table(v).unwrap() } else { return 0 };
+        return (0..times).map(|_| proton::read(black_box(&bytes))).sum();
+    }
     let encode = |v: &T| if who == Who::Table { plain::table(v) } else { plain::buffers(v) };
     match op {
         0 if who == Who::Table => (0..times).map(|_| plain::size(black_box(v)).unwrap() as u64).sum(),
@@ -337,7 +375,7 @@ fn main() {
                         let found = answer(*who, shape, op, 1);
                         if found != 0 && command == "list" {
                             println!("{} {shape} {op} {found} {}", WHO[name].0, SHAPES[shape].0);
-                        } else if found != 0 && op != HASH {
+                        } else if found != 0 && op != HASH && (words.len() < 3 || op as u64 == number(2)) {
                             rows.push((name, *who, shape, op));
                         }
                     }

@@ -1,10 +1,11 @@
 """Builds the project's library and the driver, measures, and prints a table and what was asked beside what is.
 
-    python3 bench/run.py [--check] [--library FILE] [--keep FOLDER] [--no-instructions] [--no-time]
+    python3 bench/run.py [--check | --proton] [--library FILE] [--keep FOLDER] [--no-instructions] [--no-time]
 
 Needs rt, rustc and ar, and valgrind for the instructions. --library takes a library that stands ready, made by --keep:
 FOLDER/libamqp.a is the project with the kit's heap functions, in one file. --check measures the project's instructions and
 allocations alone, compares them with the table of README.md, and fails where one is more than five percent above it.
+--proton measures reading untyped values beside Qpid Proton alone, and needs libqpid-proton11-dev.
 """
 import datetime
 import os
@@ -15,7 +16,8 @@ import tempfile
 
 HERE = os.path.dirname(os.path.abspath(__file__))
 CRATE = os.path.join(HERE, '..', 'crates', 'amqp_bench')
-CALLS = {0: 'size', 1: 'bytes', 3: 'value', 4: 'text'}
+CALLS = {0: 'size', 1: 'bytes', 3: 'value', 4: 'text', 5: 'read', 6: 'typed'}
+READ = 5
 WHO = ['table', 'buffers', 'project']
 ALLOWED = 1.05
 
@@ -93,6 +95,8 @@ def main():
     folder = arg('--keep') or tempfile.mkdtemp(prefix='amqp-bench-')
     os.makedirs(folder, exist_ok=True)
     made = os.path.abspath(arg('--library') or library(folder))
+    if '--proton' in sys.argv:
+        return beside_proton(driver(folder, made, 'proton', ['--cfg', 'proton', '-C', 'link-arg=-lqpid-proton']))
     plain = driver(folder, made, 'driver', [])
     wraps = ['-C', 'link-arg=-Wl,--wrap=malloc,--wrap=realloc', '--cfg', 'count']
     counting = driver(folder, made, 'counting', wraps)
@@ -106,6 +110,26 @@ def main():
     show(names, size, found)
     if '--no-instructions' not in sys.argv:
         targets(names, found)
+
+
+def beside_proton(built):
+    """Prints what reading takes, with a tree or value that is made and freed each time."""
+    both, names, ns = ['project', 'proton'], {}, {}
+    for line in run([built, 'list']).splitlines():
+        one, shape, call, answer, name = line.split(' ', 4)
+        if one == 'proton':
+            names[shape] = name
+    if '--no-time' not in sys.argv:
+        for line in run([built, 'time', str(READ)]).splitlines():
+            who, shape, call, least = line.split()
+            ns[who, shape] = float(least)
+    print('| Shape | instructions: project | Proton | Proton / project | ns: project | Proton | Proton / project |\n|' + '---|' * 7)
+    for shape, name in names.items():
+        count = [instructions(built, who, shape, str(READ)) for who in both]
+        least = [ns.get((who, shape)) for who in both]
+        row = [name] + ['%d' % one for one in count] + ['%.1f' % (count[1] / count[0])]
+        row += ['%.0f' % one for one in least] + ['%.1f' % (least[1] / least[0])] if all(least) else ['-'] * 3
+        print('| ' + ' | '.join(row) + ' |')
 
 
 def recorded():

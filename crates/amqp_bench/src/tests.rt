@@ -62,6 +62,41 @@ fn each_shape_is_written_and_made(rt: HostRuntime) {
         );
         assert_eq!(rt; amqp_shape(rt.alloc(), shape, 3, 2), 2, "shape {shape}");
         assert!(rt; amqp_shape(rt.alloc(), shape, 4, 1) > 0);
+        assert_eq!(rt; amqp_shape(rt.alloc(), shape, 5, 2), 2, "shape {shape}");
+    }
+}
+
+#[test]
+fn types_are_read_out_of_untyped_values(rt: HostRuntime) {
+    for (shape, reads) in [
+        (0, 0),
+        (1, 3),
+        (2, 3),
+        (3, 0),
+        (4, 3),
+        (5, 3),
+        (6, 3),
+        (7, 0),
+    ] {
+        assert_eq!(rt; amqp_shape(rt.alloc(), shape, 6, 3), reads, "shape {shape}");
+    }
+    assert_eq!(rt; amqp_bench(rt.alloc(), 0, 6, b"a\nbc", 3), 3);
+    assert_eq!(rt; amqp_bench(rt.alloc(), 1, 6, b"\0\0\0\x01", 3), 3);
+}
+
+#[test]
+fn values_that_are_spelled_answer_as_others(rt: HostRuntime) {
+    let alloc = rt.alloc();
+    // The list of the uint 0, in its longest form, and true.
+    let spelled = b"\xc0\x07\x02\x70\0\0\0\0\x41";
+    for work in 2..=4 {
+        assert_eq!(rt; amqp_bench(alloc, work, 0, spelled, 2), 10);
+        assert_eq!(rt;
+            amqp_bench(alloc, work, 2, spelled, 1),
+            hash_of(b"\xc0\x03\x02\x43\x41")
+        );
+        assert_eq!(rt; amqp_bench(alloc, work, 5, spelled, 2), 2);
+        assert_eq!(rt; amqp_bench(alloc, work, 0, b"\x46", 2), 0);
     }
 }
 

@@ -9,6 +9,7 @@ use crate::payload_shape::Count;
 use amqp_data::{EncodingCodes, Error};
 
 // So many bytes, and those after them.
+#[inline(always)]
 fn cut_at(bytes: &[u8], len: usize) -> Result<(&[u8], &[u8]), Error>
     ensures ok { IfOk result (λ r. cut len bytes.now ≡ Some (r.0.now, r.1.now)) }
     ensures err { IfErr result (λ e. cut len bytes.now ≡ None) }
@@ -21,6 +22,7 @@ fn cut_at(bytes: &[u8], len: usize) -> Result<(&[u8], &[u8]), Error>
 }
 
 // The number in four bytes, or in one, and the bytes after it.
+#[inline(always)]
 fn read_number(wide: bool, bytes: &[u8]) -> Result<(u32, &[u8]), Error>
     ensures ok { IfOk result (λ r. number_at wide bytes.now ≡ Some (r.0, r.1.now)) }
     ensures err { IfErr result (λ e. number_at wide bytes.now ≡ None) }
@@ -39,6 +41,7 @@ fn read_number(wide: bool, bytes: &[u8]) -> Result<(u32, &[u8]), Error>
 
 // As many bytes as the number before them says, and those after them.
 #[tactic(auto, unfolding(crate::specs::Parsed::sized_at))]
+#[inline(always)]
 fn read_sized(wide: bool, bytes: &[u8]) -> Result<(&[u8], &[u8]), Error>
     ensures ok { IfOk result (λ r. sized_at wide bytes.now ≡ Some (r.0.now, r.1.now)) }
     ensures err { IfErr result (λ e. sized_at wide bytes.now ≡ None) }
@@ -52,6 +55,7 @@ fn read_sized(wide: bool, bytes: &[u8]) -> Result<(&[u8], &[u8]), Error>
 /// # Errors
 /// `UnexpectedEof` where the bytes end before the payload does.
 #[tactic(auto, unfolding(amqp_frame::specs::Code::category))]
+#[inline(always)]
 pub fn read_payload(code: EncodingCodes, bytes: &[u8]) -> Result<(&[u8], &[u8]), Error>
     ensures ok { IfOk result (λ r.
         content_at (category (code_of code)) bytes.now ≡ Some (r.0.now, r.1.now)) }
@@ -73,6 +77,7 @@ pub fn read_payload(code: EncodingCodes, bytes: &[u8]) -> Result<(&[u8], &[u8]),
 /// # Errors
 /// `UnexpectedEof` where the content ends before the count does.
 #[tactic(auto, unfolding(crate::specs::Parsed::counted_in))]
+#[inline(always)]
 pub fn read_count(count: Count, content: &[u8]) -> Result<(u32, &[u8]), Error>
     ensures ok { IfOk result (λ r. counted_in count content.now ≡ Some (r.0, r.1.now)) }
     ensures err { IfErr result (λ e. counted_in count content.now ≡ None) }

@@ -6,10 +6,11 @@
 #![tactic(auto)]
 
 mod cut;
+mod decode;
 pub mod laws;
 mod map_value;
 mod payload_shape;
 mod read;
 mod scalar;
 
-pub use read::decode_value;
+pub use decode::{decode_value, decode_value_within};

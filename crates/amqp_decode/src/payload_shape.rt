@@ -32,6 +32,7 @@ pub enum PayloadShape {
 }
 
 /// What the payload of the code holds.
+#[inline(always)]
 pub fn payload_shape(code: EncodingCodes) -> PayloadShape
     ensures { result ≡ shape_of_code code }
 {
@@ -48,10 +49,24 @@ pub fn payload_shape(code: EncodingCodes) -> PayloadShape
     }
 }
 
+/// Whether the values of the code have no payload, so that an array's elements of it take no bytes.
+pub fn has_no_payload(code: EncodingCodes) -> bool {
+    matches!(
+        code,
+        EncodingCodes::Null
+            | EncodingCodes::BooleanTrue
+            | EncodingCodes::BooleanFalse
+            | EncodingCodes::Uint0
+            | EncodingCodes::Ulong0
+            | EncodingCodes::List0
+    )
+}
+
 /// The primitive code of a byte.
 ///
 /// # Errors
 /// `InvalidValue` for the code of a described value, `InvalidFormatCode` where no name has this code.
+#[inline(always)]
 pub fn primitive_code(byte: u8) -> Result<EncodingCodes, Error>
     ensures ok { IfOk result (λ code. primitive_of byte ≡ Some code) }
     ensures err { IfErr result (λ e. primitive_of byte ≡ None) }

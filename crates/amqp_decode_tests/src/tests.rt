@@ -1,5 +1,6 @@
 //! What no clause says: which refusal comes, that calls succeed, and worked rows of every spelling.
 
+mod bounded;
 mod compounds;
 mod deep;
 mod scalars;

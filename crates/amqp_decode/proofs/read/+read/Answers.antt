@@ -16,17 +16,17 @@ pub read_content-returns-clause-err : goal.read_content-returns-clause-err
 read_content-returns-clause-err t c = rw (parse_content-at c.args.depth c.args.code c.args.content.now (omega (arith, c.if-depth-eq0.false))) c.read_content_over.ensures.err
 
 pub read_frame-returns-then-depth-eq0-clause-err : goal.read_frame-returns-then-depth-eq0-clause-err
-read_frame-returns-then-depth-eq0-clause-err t c = λ _. parse-zero c.args.depth c.args.bytes.now c.if-depth-eq0.true
+read_frame-returns-then-depth-eq0-clause-err t c = λ _. parse-zero c.args.depth c.args.bytes.now.now c.if-depth-eq0.true
 
 pub read_frame-returns-clause-ok : goal.read_frame-returns-clause-ok
-read_frame-returns-clause-ok t c = rw (parse-at c.args.depth c.args.bytes.now (omega (arith, c.if-depth-eq0.false))) c.read_frame_over.ensures.ok
+read_frame-returns-clause-ok t c = rw (parse-at c.args.depth c.args.bytes.now.now (omega (arith, c.if-depth-eq0.false))) c.read_frame_over.ensures.ok
 
 pub read_frame-returns-clause-err : goal.read_frame-returns-clause-err
-read_frame-returns-clause-err t c = rw (parse-at c.args.depth c.args.bytes.now (omega (arith, c.if-depth-eq0.false))) c.read_frame_over.ensures.err
+read_frame-returns-clause-err t c = rw (parse-at c.args.depth c.args.bytes.now.now (omega (arith, c.if-depth-eq0.false))) c.read_frame_over.ensures.err
 
 pub read_list-loop-preserved : goal.read_list-loop-preserved
 read_list-loop-preserved t c =
-    let step = values-next (parse c.args.depth) c.args.count c.loop.counter c.loop.rest.now c.in_ok-item.after.now c.in_ok-item.item c.loop.items.items c.loop-test.true c.in_ok-item.ensures.ok in
+    let step = values-next (parse c.args.depth) c.args.count c.loop.counter c.loop.rest.now c.read_frame.new.bytes.now c.in_ok-item.item c.loop.items.items c.loop-test.true c.in_ok-item.ensures.ok in
     let pushed : c.push.new.self.items ≡ c.loop.items.items ++ c.in_ok-item.item ∷ [] = search rules in
     rw pushed (step ∙ c.loop.invariant)
 
@@ -38,9 +38,9 @@ read_list-returns-in_err-item-clause-err t c =
 
 pub read_map-loop-preserved : goal.read_map-loop-preserved
 read_map-loop-preserved t c =
-    let step = insert-next (parse c.args.depth) (c.args.count / 2) c.loop.counter c.loop.rest.now c.in_ok-key.after.now c.in_ok-value.after.now (tree_of c.in_ok-key.key) (tree_of c.in_ok-value.value) (pairs_trees c.loop.pairs.entries) c.loop-test.true c.in_ok-key.ensures.ok c.in_ok-value.ensures.ok in
+    let step = insert-next (parse c.args.depth) (c.args.count / 2) c.loop.counter c.loop.rest.now c.read_frame.new.bytes.now c.read_frame-in-loop.new.bytes.now (tree_of c.in_ok-key.key) (tree_of c.in_ok-value.value) (pairs_trees c.loop.pairs.entries) c.loop-test.true c.in_ok-key.ensures.ok c.in_ok-value.ensures.ok in
     let inserted = ap pairs_trees c.in_ok-insert.ensures.entries ∙ pairs_trees-insert_entry c.loop.pairs.entries c.in_ok-key.key c.in_ok-value.value in
-    ap (insert (parse c.args.depth) (c.args.count / 2 - (c.loop.counter + 1)) c.in_ok-value.after.now) inserted ∙ (step ∙ c.loop.invariant)
+    ap (insert (parse c.args.depth) (c.args.count / 2 - (c.loop.counter + 1)) c.read_frame-in-loop.new.bytes.now) inserted ∙ (step ∙ c.loop.invariant)
 
 pub read_map-returns-in_err-key-clause-err : goal.read_map-returns-in_err-key-clause-err
 read_map-returns-in_err-key-clause-err t c =
@@ -51,14 +51,14 @@ read_map-returns-in_err-key-clause-err t c =
 
 pub read_map-returns-in_err-value-clause-err : goal.read_map-returns-in_err-value-clause-err
 read_map-returns-in_err-value-clause-err t c =
-    let none : parse c.args.depth c.in_ok-key.after.now ≡ None → parse_map (parse c.args.depth) (c.args.count, c.args.body.now) ≡ None =
+    let none : parse c.args.depth c.read_frame.new.bytes.now ≡ None → parse_map (parse c.args.depth) (c.args.count, c.args.body.now) ≡ None =
     λ h. map-none (parse c.args.depth) c.args.count c.args.body.now
-    (sym c.loop.invariant ∙ insert-no_value (parse c.args.depth) (c.args.count / 2) c.loop.counter c.loop.rest.now c.in_ok-key.after.now (tree_of c.in_ok-key.key) (pairs_trees c.loop.pairs.entries) c.loop-test.true c.in_ok-key.ensures.ok h) in
+    (sym c.loop.invariant ∙ insert-no_value (parse c.args.depth) (c.args.count / 2) c.loop.counter c.loop.rest.now c.read_frame.new.bytes.now (tree_of c.in_ok-key.key) (pairs_trees c.loop.pairs.entries) c.loop-test.true c.in_ok-key.ensures.ok h) in
     search (rules, none)
 
 pub read_array-loop-preserved : goal.read_array-loop-preserved
 read_array-loop-preserved t c =
-    let step = values-next (payload_in (parse_content c.args.depth) c.in_ok-code-in-Some.code) c.args.count c.loop.counter c.loop.rest.now c.in_ok-item-in-Some.after.now c.in_ok-item-in-Some.item c.loop.items.items c.loop-test.true c.in_ok-item-in-Some.ensures.ok in
+    let step = values-next (payload_in (parse_content c.args.depth) c.in_ok-code-in-Some.code) c.args.count c.loop.counter c.loop.rest.now c.read_item.new.bytes.now c.in_ok-item-in-Some.item c.loop.items.items c.loop-test.true c.in_ok-item-in-Some.ensures.ok in
     let pushed : c.push.new.self.items ≡ c.loop.items.items ++ c.in_ok-item-in-Some.item ∷ [] = search rules in
     rw pushed (step ∙ c.loop.invariant)
 

@@ -5,7 +5,7 @@ use Rattle.amqp_value.specs.TreeOf.{tree_of}
 use Rattle.amqp_decode.specs.Parsed.{parse}
 use Rattle.amqp_decode.specs.Spells.{Spells}
 use Rattle.amqp_decode.proofs.Whole.{nil-from_length, none-spelled, rest-spelled, spelled}
-use Rattle.amqp_decode.proofs.read.decode_value.Goals as goal
+use Rattle.amqp_decode.proofs.decode.decode_value_within.Goals as goal
 
 pub returns-in_err-value-clause-err : goal.returns-in_err-value-clause-err
 returns-in_err-value-clause-err c =
@@ -14,9 +14,9 @@ returns-in_err-value-clause-err c =
 
 pub returns-then-is_empty-clause-ok : goal.returns-then-is_empty-clause-ok
 returns-then-is_empty-clause-ok c =
-    let len : length c.in_ok-value.rest.now ≡ 0 = grind (arith, common_steps) in
-    let empty : c.in_ok-value.rest.now ≡ [] = nil-from_length c.in_ok-value.rest.now len in
+    let len : length c.read_frame.new.bytes.now ≡ 0 = grind (arith, common_steps) in
+    let empty : c.read_frame.new.bytes.now ≡ [] = nil-from_length c.read_frame.new.bytes.now len in
     spelled 256 c.args.bytes.now (tree_of c.in_ok-value.value) (c.in_ok-value.ensures.ok ∙ ap (λ r. Some (tree_of c.in_ok-value.value, r)) empty)
 
 pub returns-else-is_empty-clause-err : goal.returns-else-is_empty-clause-err
-returns-else-is_empty-clause-err c = λ _. rest-spelled 256 c.args.bytes.now c.in_ok-value.rest.now (tree_of c.in_ok-value.value) c.in_ok-value.ensures.ok (search rules)
+returns-else-is_empty-clause-err c = λ _. rest-spelled 256 c.args.bytes.now c.read_frame.new.bytes.now (tree_of c.in_ok-value.value) c.in_ok-value.ensures.ok (search rules)
