@@ -5,6 +5,7 @@ pub mod Steps
 pub mod Finds
 pub mod Means
 pub mod Whole
+pub mod OwnImage
 pub mod Framed
 pub mod ScalarBytes
 pub mod Encodes

@@ -22,6 +22,11 @@ pub fn spelled_frame()
     ensures { (d : ℕ) (bytes : List ℕ) (t : Tree) → Spells d bytes t → IsFrame bytes }
 {}
 
+/// What bytes spell is its own image: no map in it has a key twice.
+pub fn spelled_trees_are_their_own_images()
+    ensures { (d : ℕ) (bytes : List ℕ) (t : Tree) → Spells d bytes t → image t ≡ t }
+{}
+
 /// The bytes of a tree spell its image, where the tree can be written and nothing in it is lazy or transparent.
 pub fn own_bytes()
     ensures { (t : Tree) (d : ℕ) → IsRanged t → writable t ≡ true →

@@ -1,1 +1,2 @@
 pub mod StandLemmas
+pub mod ImageLemmas

@@ -15,6 +15,7 @@ use Rattle.amqp_to_value.specs.PendingMark.{meant}
 use Rattle.amqp_to_value.specs.declared.pending_mark.PendingMark.TheVariants as pending
 use Rattle.amqp_to_value.specs.declared.serializer.Serializer.{Serializer}
 use Rattle.amqp_to_value.proofs.PendingDescriptorLemmas.{described_by-None, refuses_in, standing_left, stands_in}
+use Rattle.amqp_to_value.proofs.LazyLemmas.{spoils}
 use Rattle.amqp_to_value.proofs.ValueSerializerLemmas.{meant_none}
 
 -- a value in all that it stood in
@@ -34,9 +35,12 @@ finished_not start after t e old p q fresh is left none r =
     (refuses_in (standing start.descriptors) (meant start.pending t) e r, (((fresh, none), is ∙ p), (more.0, left ∙ more.1 ∙ ap (λ ds. ds ++ more.0) q)))
 
 -- what is kept stays so by an answer
+pub kept_same : (ds : List Descriptor) (start after : Serializer) (r : Result Value Error) → start.descriptors.kept ≡ ds → Leaves start.descriptors.kept (standing start.descriptors) r after → IsKept ds after
+kept_same ds start after (Ok v) h k = (k.0.0, k.0.1 ∙ h)
+kept_same ds start after (Err e) h k = (k.0.0, k.0.1 ∙ h)
+
 pub kept_on : (ds : List Descriptor) (start after : Serializer) (r : Result Value Error) → IsKept ds start → Leaves start.descriptors.kept (standing start.descriptors) r after → IsKept ds after
-kept_on ds start after (Ok v) h k = (k.0.0, k.0.1 ∙ h.1)
-kept_on ds start after (Err e) h k = (k.0.0, k.0.1 ∙ h.1)
+kept_on ds start after r h k = kept_same ds start after r h.1 k
 
 -- after a part, what the compound stands in is put aside again
 pub parted_again : (start now : Serializer) → IsKept (start.descriptors.kept ++ standing start.descriptors) now
@@ -48,8 +52,15 @@ pub aside_again : (start now : Serializer) (descriptors : DescriptorsState) (mor
 aside_again start now descriptors more fresh next rel = (((fresh.0, next ∙ fresh.1), rel.0), (more, rel.1))
 
 -- nothing is permitted on none but a refusal
+pub none_too : (s : Serializer) (e : Error) → refuses e None → refuses e (meant_by s None)
+none_too s e r = subst (refuses e) (sym (ap (described_by (standing s.descriptors)) (meant_none s.pending) ∙ described_by-None (standing s.descriptors))) r
+
 pub none_refused : (s : Serializer) → refuses error.InvalidValue (meant_by s None)
-none_refused s = subst (refuses error.InvalidValue) (sym (ap (described_by (standing s.descriptors)) (meant_none s.pending) ∙ described_by-None (standing s.descriptors))) tt
+none_refused s = none_too s error.InvalidValue tt
+
+-- what refuses a tree or none, refuses none
+pub refuses_too : (e : Error) (o : Option Tree) → refuses e o → refuses e None
+refuses_too e o r = spoils e o None (λ h. tt) r
 
 -- two parts make no single compound
 two_trees : (t u : Tree) (o : Option Trees) → as_kind kinds.Single (prepend (Some t) (prepend (Some u) o)) ≡ None
@@ -67,17 +78,8 @@ pub single_refused : (s : Serializer) (p : Option Tree) (e : Error) (rest : List
 unfolding whole
 single_refused s None e rest r = r
 single_refused s (Some t) e [] r = r
-single_refused s (Some t) error.OutOfMemory (q ∷ rest) r = tt
-single_refused s (Some t) error.InvalidValue (q ∷ rest) r = subst (λ o. refuses error.InvalidValue (meant_by s o)) (sym (two_parts (Some t) q rest)) (none_refused s)
-single_refused s (Some t) e (q ∷ rest) r = absurd r
+single_refused s (Some t) e (q ∷ rest) r =
+    subst (λ o. refuses e (meant_by s o)) (sym (two_parts (Some t) q rest)) (none_too s e (refuses_too e (meant_by s (Some t)) r))
 
 pub second_refused : (s : Serializer) (p q : Option Tree) (e : Error) (rest : List (Option Tree)) → refuses e None → refuses e (meant_by s (whole kinds.Single (p ∷ (q ∷ rest))))
-second_refused s p q error.OutOfMemory rest r = tt
-second_refused s p q error.InvalidValue rest r = subst (λ o. refuses error.InvalidValue (meant_by s o)) (sym (two_parts p q rest)) (none_refused s)
-second_refused s p q e rest r = absurd r
-
--- what refuses a tree or none, refuses none
-pub refuses_too : (e : Error) (o : Option Tree) → refuses e o → refuses e None
-refuses_too error.OutOfMemory o r = tt
-refuses_too error.InvalidValue o r = tt
-refuses_too e o r = absurd r
+second_refused s p q e rest r = subst (λ o. refuses e (meant_by s o)) (sym (two_parts p q rest)) (none_too s e r)

@@ -3,45 +3,58 @@ use Rattle.std.proofs.Common.{◌≡◌, ◌+◌, true, List, [], ◌∷◌, ◌
 use Rattle.std.proofs.lemmas.List.{length-append}
 use Rattle.amqp_data.specs.declared.error.Error.{Error}
 use Rattle.amqp_data.specs.declared.error.Error.TheVariants as error
-use Rattle.amqp_ser.specs.Tree.{Descriptor, Tree, scalar, list, array, map, described, variant, lazy, transparent}
+use Rattle.amqp_ser.specs.Tree.{Scalar, Descriptor, Tree, scalar, symbol, ulong}
 use Rattle.amqp_ser.specs.Composites.{as_described, descriptor_of}
 use Rattle.amqp_value.specs.Image.{image}
 use Rattle.amqp_value.specs.TreeOf.{tree_of}
 use Rattle.amqp_value.specs.declared.value.Value.{Value}
 use Rattle.amqp_to_value.specs.PendingDescriptors.{described_by, standing}
-use Rattle.amqp_to_value.specs.ValueSerializer.{Leaves, meant_by, value_permits}
+use Rattle.amqp_to_value.specs.ValueSerializer.{IsKeepingDescriptor, Leaves, meant_by, value_permits}
 use Rattle.amqp_to_value.specs.ImageOf.{refuses, StandsFor, IsImageOf}
-use Rattle.amqp_to_value.specs.PendingMark.{meant}
+use Rattle.amqp_to_value.specs.PendingMark.{as_descriptor, meant}
 use Rattle.amqp_to_value.specs.declared.pending_mark.PendingMark.{PendingMark}
 use Rattle.amqp_to_value.specs.declared.serializer.Serializer.{Serializer}
-use Rattle.amqp_to_value.proofs.AnswerLemmas.{none_refused}
-use Rattle.amqp_to_value.proofs.LazyLemmas.{lazy_descriptor}
+use Rattle.amqp_to_value.proofs.AnswerLemmas.{none_refused, none_too}
+use Rattle.amqp_to_value.proofs.LazyLemmas.{read_refused}
+use Rattle.amqp_to_value.proofs.PendingDescriptorLemmas.{standing_none}
 
--- a tree is the descriptor that its image is
-descriptor-image : (t : Tree) → descriptor_of (Some (image t)) ≡ descriptor_of (Some t)
-descriptor-image (scalar s) = refl
-descriptor-image (list ts) = refl
-descriptor-image (array ts) = refl
-descriptor-image (map ps) = refl
-descriptor-image (described d t) = refl
-descriptor-image (variant n t) = refl
-descriptor-image (lazy bs) = refl
-descriptor-image (transparent ts) = refl
+-- a value in a descriptor's place is the descriptor that the tree is
+same_scalar : (v : Value) (s : Scalar) → StandsFor v (Some (scalar s)) → descriptor_of (Some (scalar s)) ≡ descriptor_of (Some (tree_of v))
+same_scalar v s h = ap (λ u. descriptor_of (Some (image u))) (sym h.1) ∙ ap (λ u. descriptor_of (Some u)) (sym h.2)
 
-pub same_descriptor : (v : Value) (d : Option Tree) → StandsFor v d → descriptor_of d ≡ descriptor_of (Some (tree_of v))
-same_descriptor v None s = absurd s
-same_descriptor v (Some t) s = sym (descriptor-image t) ∙ ap (λ u. descriptor_of (Some u)) (sym s)
+scalar_descriptor : (v : Value) (s : Scalar) → StandsFor v (as_descriptor (Some (scalar s))) → descriptor_of (Some (scalar s)) ≡ descriptor_of (Some (tree_of v))
+scalar_descriptor v (ulong n) h = same_scalar v (ulong n) h
+scalar_descriptor v (symbol bs) h = same_scalar v (symbol bs) h
+scalar_descriptor v s h = absurd h
+
+pub same_descriptor : (v : Value) (d : Option Tree) → StandsFor v (as_descriptor d) → descriptor_of d ≡ descriptor_of (Some (tree_of v))
+same_descriptor v None h = absurd h
+same_descriptor v (Some (scalar s)) h = scalar_descriptor v s h
+same_descriptor v (Some t) h = absurd h
+
+-- what is answered there
+pub descriptor_answer : (start s : Serializer) (d : Option Tree) (r : Result Value Error) → IsKeepingDescriptor start s → IsImageOf (meant_by s d) r → IsImageOf (as_descriptor d) r
+descriptor_answer start s d r keeping is =
+    subst (λ o. IsImageOf o r) (ap (λ ds. described_by ds (meant s.pending d)) (standing_none s.descriptors keeping.1) ∙ ap (λ u. meant u d) keeping.0) is
 
 -- where there is no descriptor there is no described value
 pub no_descriptor : (start : Serializer) (d t : Option Tree) → descriptor_of d ≡ None → refuses error.InvalidValue (meant_by start (as_described (descriptor_of d) t))
 no_descriptor start d t none = subst (λ o. refuses error.InvalidValue (meant_by start (as_described o t))) (sym none) (none_refused start)
 
-pub descriptor_refused : (start : Serializer) (d : Option Tree) (e : Error) → refuses e d → (t : Option Tree) → refuses e (meant_by start (as_described (descriptor_of d) t))
-descriptor_refused start d error.OutOfMemory r t = tt
-descriptor_refused start None error.InvalidValue r t = none_refused start
-descriptor_refused start (Some u) error.InvalidValue r t = no_descriptor start (Some u) t (lazy_descriptor u r)
-descriptor_refused start d e r t = absurd r
+memory_alone : (start : Serializer) (e : Error) (o : Option Tree) → e ≡ error.OutOfMemory → refuses e o
+memory_alone start e o is = subst (λ x. refuses x o) (sym is) tt
 
+scalar_refused : (start : Serializer) (s : Scalar) (e : Error) → refuses e (as_descriptor (Some (scalar s))) → (t : Option Tree) → refuses e (meant_by start (as_described (descriptor_of (Some (scalar s))) t))
+scalar_refused start (ulong n) e r t = memory_alone start e _ (read_refused e (scalar (ulong n)) (scalar (ulong n)) refl r)
+scalar_refused start (symbol bs) e r t = memory_alone start e _ (read_refused e (scalar (symbol bs)) (scalar (symbol bs)) refl r)
+scalar_refused start s e r t = none_too start e r
+
+pub descriptor_refused : (start : Serializer) (d : Option Tree) (e : Error) → refuses e (as_descriptor d) → (t : Option Tree) → refuses e (meant_by start (as_described (descriptor_of d) t))
+descriptor_refused start None e r t = none_too start e r
+descriptor_refused start (Some (scalar s)) e r t = scalar_refused start s e r t
+descriptor_refused start (Some u) e r t = none_too start e r
+
+-- one descriptor more
 described_by-last : (ds : List Descriptor) (d : Descriptor) (t : Option Tree) → described_by (ds ++ (d ∷ [])) t ≡ described_by ds (as_described (Some d) t)
 described_by-last [] d t = refl
 described_by-last (e ∷ ds) d t = ap (as_described (Some e)) (described_by-last ds d t)

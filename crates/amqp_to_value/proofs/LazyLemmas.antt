@@ -1,104 +1,119 @@
--- What holds something lazy has no value, wherever it stands.
-use Rattle.std.proofs.Common.{◌≡◌, ℕ, Bool, true, false, ◌||◌, List, [], ◌∷◌, ◌++◌, Option, Some, None, refl, ap, sym, ◌∙◌, subst}
+-- Where a lazy part spells no value there is none of the whole, wherever it stands.
+use Rattle.std.proofs.Common.{◌≡◌, ℕ, Bool, true, false, List, [], ◌∷◌, ◌++◌, Option, Some, None, refl, sym, subst, if◌then◌else◌}
+use Rattle.amqp_data.specs.declared.error.Error.{Error}
 use Rattle.amqp_data.specs.declared.error.Error.TheVariants as error
-use Rattle.amqp_ser.specs.Tree.{Descriptor, Tree, Trees, Pairs, scalar, list, array, map, described, variant, lazy, transparent, no_trees, more, no_pairs, pair}
-use Rattle.amqp_ser.specs.Composites.{descriptor_of}
+use Rattle.amqp_decode.specs.Spells.{Spells}
+use Rattle.amqp_frame.specs.Whole.{is_frame}
+use Rattle.amqp_ser.specs.Tree.{Descriptor, Tree, Trees, Pairs, scalar, list, array, map, described, variant, lazy, transparent, no_trees, more}
 use Rattle.amqp_ser.specs.Compounds.{all_trees, prepend, as_kind, as_map, as_variant, in_pairs, prepend_pair, only, whole}
-use Rattle.amqp_ser.specs.Marked.{marked, marked_tree}
+use Rattle.amqp_ser.specs.Marked.{marked_tree, of_frame}
 use Rattle.amqp_ser.specs.declared.kind.Kind.{Kind}
 use Rattle.amqp_ser.specs.declared.kind.Kind.TheVariants as kinds
 use Rattle.amqp_ser.specs.declared.mark.Mark.{Mark}
 use Rattle.amqp_ser.specs.declared.mark.Mark.TheVariants as mark
 use Rattle.amqp_ser.proofs.Joins.{join, joined, all_trees-append, kind_none}
-use Rattle.amqp_to_value.specs.HasLazy.{has_lazy, has_lazy_each, has_lazy_pairs}
-use Rattle.amqp_to_value.specs.ImageOf.{refuses}
+use Rattle.amqp_to_value.specs.ImageOf.{IsFault, refuses}
+use Rattle.amqp_to_value.specs.Opened.{Opened, AreOpened, HasOpenedPairs, IsUnreadable}
 use Rattle.amqp_to_value.specs.PendingDescriptors.{described_in}
-use Rattle.amqp_to_value.specs.PendingMark.{meant}
+use Rattle.amqp_to_value.specs.PendingMark.{as_descriptor, meant}
 use Rattle.amqp_to_value.specs.declared.pending_mark.PendingMark.{PendingMark}
 use Rattle.amqp_to_value.specs.declared.pending_mark.PendingMark.TheVariants as pending
 
-no_lazy : false ≡ true → ⊥
-no_lazy h = cc
-
-either : (a b : Bool) → b ≡ true → (a || b) ≡ true
-either true b h = refl
-either false b h = h
-
--- a tree that holds something lazy is no descriptor
-pub lazy_descriptor : (t : Tree) → has_lazy t ≡ true → descriptor_of (Some t) ≡ None
-lazy_descriptor (scalar s) h = absurd (no_lazy h)
-lazy_descriptor (list ts) h = refl
-lazy_descriptor (array ts) h = refl
-lazy_descriptor (map ps) h = refl
-lazy_descriptor (described d t) h = refl
-lazy_descriptor (variant i t) h = refl
-lazy_descriptor (lazy bs) h = refl
-lazy_descriptor (transparent ts) h = refl
-
-pub lazy_described_in : (ds : List Descriptor) (t : Tree) → has_lazy (described_in ds t) ≡ has_lazy t
-lazy_described_in [] t = refl
-lazy_described_in (d ∷ ds) t = lazy_described_in ds t
-
--- the trees of a lazy part and others
-lazy_join : (us : Trees) (t : Tree) (ts : Trees) → has_lazy t ≡ true → has_lazy_each (join us (more t ts)) ≡ true
-lazy_join no_trees t ts h = ap (λ b. b || has_lazy_each ts) h
-lazy_join (more u us) t ts h = either (has_lazy u) _ (lazy_join us t ts h)
-
--- no tree, or one that holds something lazy
+-- no tree, or one with a lazy part that spells no value
 abbrev pub Lacks : Option Tree → Type 0
-Lacks o = refuses error.InvalidValue o
+Lacks None = Unit {0}
+Lacks (Some t) = IsUnreadable t
 
--- the pairs hold what the keys and values in turn hold
+-- a fault refuses it
+pub faulted : (e : Error) (o : Option Tree) → IsFault e → Lacks o → refuses e o
+faulted error.OutOfMemory o f h = tt
+faulted error.InvalidValue None f h = f
+faulted error.InvalidFormatCode None f h = f
+faulted error.UnexpectedEof None f h = f
+faulted error.InvalidValue (Some t) f h = (f, h)
+faulted error.InvalidFormatCode (Some t) f h = (f, h)
+faulted error.UnexpectedEof (Some t) f h = (f, h)
+faulted e o f h = absurd f
+
+-- what refuses one that lacks a value, refuses another
+pub spoils : (e : Error) (o q : Option Tree) → (Lacks o → Lacks q) → refuses e o → refuses e q
+spoils error.OutOfMemory o q h r = tt
+spoils error.InvalidValue None q h r = faulted error.InvalidValue q r (h tt)
+spoils error.InvalidValue (Some t) q h r = faulted error.InvalidValue q r.0 (h r.1)
+spoils error.InvalidFormatCode None q h r = faulted error.InvalidFormatCode q r (h tt)
+spoils error.InvalidFormatCode (Some t) q h r = faulted error.InvalidFormatCode q r.0 (h r.1)
+spoils error.UnexpectedEof None q h r = faulted error.UnexpectedEof q r (h tt)
+spoils error.UnexpectedEof (Some t) q h r = faulted error.UnexpectedEof q r.0 (h r.1)
+spoils e None q h r = absurd r
+spoils e (Some t) q h r = absurd r.0
+
+-- a tree that can be read is refused for want of memory alone
+pub read_refused : (e : Error) (t u : Tree) → Opened t u → refuses e (Some t) → e ≡ error.OutOfMemory
+read_refused error.OutOfMemory t u o r = refl
+read_refused e t u o r = absurd (r.1 u o)
+
+-- after descriptors
+pub unreadable_in : (ds : List Descriptor) (t : Tree) → IsUnreadable t → IsUnreadable (described_in ds t)
+unreadable_in [] t h = h
+unreadable_in (d ∷ ds) t h = λ u o. unreadable_in ds t h o.0 o.2
+
+-- trees of which one cannot be read
+abbrev AreUnreadable : Trees → Type 0
+AreUnreadable ts = (us : Trees) → AreOpened ts us → ⊥
+
+lazy_join : (us : Trees) (t : Tree) (ts : Trees) → IsUnreadable t → AreUnreadable (join us (more t ts))
+lazy_join no_trees t ts h = λ vs o. h o.0 o.3
+lazy_join (more u us) t ts h = λ vs o. lazy_join us t ts h o.1 o.4
+
+-- keys and values in turn are read where the pairs are
 abbrev PairsAlike : Option Pairs → Trees → Type 0
 PairsAlike None ts = Unit {0}
-PairsAlike (Some ps) ts = has_lazy_pairs ps ≡ has_lazy_each ts
+PairsAlike (Some ps) ts = (qs : Pairs) → HasOpenedPairs ps qs → (us : Trees) × AreOpened ts us
 
-pair_alike : (k v : Tree) (o : Option Pairs) (ts : Trees) → PairsAlike o ts
-    → PairsAlike (prepend_pair k v o) (more k (more v ts))
+pair_alike : (k v : Tree) (o : Option Pairs) (ts : Trees) → PairsAlike o ts → PairsAlike (prepend_pair k v o) (more k (more v ts))
 pair_alike k v None ts h = tt
-pair_alike k v (Some ps) ts h = ap (λ b. has_lazy k || (has_lazy v || b)) h
+pair_alike k v (Some ps) ts h = λ qs o.
+    let r = h o.2 o.6 in
+    (more o.0 (more o.1 r.0), (o.0, more o.1 r.0, refl, o.4, (o.1, r.0, refl, o.5, r.1)))
 
 pairs_alike : (ts : Trees) → PairsAlike (in_pairs ts) ts
-pairs_alike no_trees = refl
+pairs_alike no_trees = λ qs o. (no_trees, refl)
 pairs_alike (more k no_trees) = tt
 pairs_alike (more k (more v ts)) = pair_alike k v (in_pairs ts) ts (pairs_alike ts)
 
-map_lacks : (o : Option Pairs) (ts : Trees) → PairsAlike o ts → has_lazy_each ts ≡ true → Lacks (as_map o)
+map_lacks : (o : Option Pairs) (ts : Trees) → PairsAlike o ts → AreUnreadable ts → Lacks (as_map o)
 map_lacks None ts alike h = tt
-map_lacks (Some ps) ts alike h = alike ∙ h
+map_lacks (Some ps) ts alike h = λ u o.
+    let r = alike o.0 o.2 in
+    h r.0 r.1
 
-alone : (b : Bool) → (b || false) ≡ true → b ≡ true
-alone true h = refl
-alone false h = h
-
-one_lacks : (ts : Trees) → has_lazy_each ts ≡ true → Lacks (only ts)
+one_lacks : (ts : Trees) → AreUnreadable ts → Lacks (only ts)
 one_lacks no_trees h = tt
-one_lacks (more t no_trees) h = alone (has_lazy t) h
+one_lacks (more t no_trees) h = λ u o. h (more u no_trees) (u, no_trees, refl, o, refl)
 one_lacks (more t (more u ts)) h = tt
 
-variant_lacks : (i : ℕ) (ts : Trees) → has_lazy_each ts ≡ true → Lacks (as_variant i (only ts))
+variant_lacks : (i : ℕ) (ts : Trees) → AreUnreadable ts → Lacks (as_variant i (only ts))
 variant_lacks i no_trees h = tt
-variant_lacks i (more t no_trees) h = alone (has_lazy t) h
+variant_lacks i (more t no_trees) h = λ u o. h (more o.0 no_trees) (o.0, no_trees, refl, o.2, refl)
 variant_lacks i (more t (more u ts)) h = tt
 
-kind_lacks : (k : Kind) (ts : Trees) → has_lazy_each ts ≡ true → Lacks (as_kind k (Some ts))
-kind_lacks kinds.List ts h = h
+kind_lacks : (k : Kind) (ts : Trees) → AreUnreadable ts → Lacks (as_kind k (Some ts))
+kind_lacks kinds.List ts h = λ u o. h o.0 o.2
 kind_lacks kinds.Map ts h = map_lacks (in_pairs ts) ts (pairs_alike ts) h
-kind_lacks (kinds.Variant i) ts h = h
+kind_lacks (kinds.Variant i) ts h = λ u o. h o.2.0 o.2.2
 kind_lacks (kinds.NewtypeVariant i) ts h = variant_lacks i ts h
 kind_lacks kinds.Single ts h = one_lacks ts h
 
-joined_lacks : (k : Kind) (a b : Option Trees) (t : Tree) → has_lazy t ≡ true
-    → Lacks (as_kind k (joined a (prepend (Some t) b)))
+joined_lacks : (k : Kind) (a b : Option Trees) (t : Tree) → IsUnreadable t → Lacks (as_kind k (joined a (prepend (Some t) b)))
 joined_lacks k None b t h = subst Lacks (sym (kind_none k)) tt
 joined_lacks k (Some us) None t h = subst Lacks (sym (kind_none k)) tt
 joined_lacks k (Some us) (Some ts) t h = kind_lacks k (join us (more t ts)) (lazy_join us t ts h)
 
 -- a marker leaves it so
-marked_lacks : (m : Mark) (t : Tree) → has_lazy t ≡ true → Lacks (marked_tree m t)
-marked_lacks m (scalar s) h = absurd (no_lazy h)
-marked_lacks mark.Array (list ts) h = h
-marked_lacks mark.Transparent (list ts) h = h
+marked_lacks : (m : Mark) (t : Tree) → IsUnreadable t → Lacks (marked_tree m t)
+marked_lacks m (scalar s) h = absurd (h (scalar s) refl)
+marked_lacks mark.Array (list ts) h = λ u o. h (list o.0) (o.0, refl, o.2)
+marked_lacks mark.Transparent (list ts) h = λ u o. h (list o.0) (o.0, refl, o.2)
 marked_lacks mark.Other (list ts) h = h
 marked_lacks mark.Other (array ts) h = h
 marked_lacks mark.Other (map ps) h = h
@@ -108,15 +123,43 @@ marked_lacks mark.Other (lazy bs) h = h
 marked_lacks mark.Other (transparent ts) h = h
 marked_lacks _ _ h = tt
 
-meant_lacks : (u : PendingMark) (o : Option Tree) → Lacks o → Lacks (meant u o)
+descriptor_lacks : (t : Tree) → IsUnreadable t → Lacks (as_descriptor (Some t))
+descriptor_lacks (scalar s) h = absurd (h (scalar s) refl)
+descriptor_lacks (list ts) h = tt
+descriptor_lacks (array ts) h = tt
+descriptor_lacks (map ps) h = tt
+descriptor_lacks (described d t) h = tt
+descriptor_lacks (variant i t) h = tt
+descriptor_lacks (lazy bs) h = tt
+descriptor_lacks (transparent ts) h = tt
+
+pub meant_lacks : (u : PendingMark) (o : Option Tree) → Lacks o → Lacks (meant u o)
 meant_lacks pending.Nothing o h = tt
+meant_lacks pending.Descriptor None h = tt
+meant_lacks pending.Descriptor (Some t) h = descriptor_lacks t h
 meant_lacks (pending.Mark m) None h = tt
 meant_lacks (pending.Mark m) (Some t) h = marked_lacks m t h
 
 -- a whole lacks a value where a part does
 pub part_lacks : (u : PendingMark) (k : Kind) (ps : List (Option Tree)) (t : Tree) (rest : List (Option Tree))
-    → has_lazy t ≡ true → Lacks (meant u (whole k (ps ++ (Some t ∷ rest))))
+    → IsUnreadable t → Lacks (meant u (whole k (ps ++ (Some t ∷ rest))))
 unfolding whole
 part_lacks u k ps t rest h =
     subst (λ o. Lacks (meant u (as_kind k o))) (sym (all_trees-append ps (Some t ∷ rest)))
     (meant_lacks u _ (joined_lacks k (all_trees ps) (all_trees rest) t h))
+
+-- bytes that spell nothing
+frame_lacks : (b : Bool) (bs : List ℕ) → ((t : Tree) → Spells 256 bs t → ⊥) → Lacks (if b then Some (lazy bs) else None)
+frame_lacks true bs h = h
+frame_lacks false bs h = tt
+
+-- the refusal of bytes that were not read
+pub lazy_refused : (bs : List ℕ) (e r : Error) → (e ≡ error.OutOfMemory → r ≡ error.OutOfMemory) → ((e ≡ error.OutOfMemory → ⊥) → IsFault r)
+    → ((e ≡ error.OutOfMemory → ⊥) → (t : Tree) → Spells 256 bs t → ⊥) → refuses r (of_frame bs)
+lazy_refused bs error.OutOfMemory r memory fault none = subst (λ x. refuses x (of_frame bs)) (sym (memory refl)) tt
+lazy_refused bs error.InvalidValue r memory fault none = let no : error.InvalidValue ≡ error.OutOfMemory → ⊥ = λ e. cc in faulted r (of_frame bs) (fault no) (frame_lacks (is_frame bs) bs (none no))
+lazy_refused bs error.InvalidFormatCode r memory fault none = let no : error.InvalidFormatCode ≡ error.OutOfMemory → ⊥ = λ e. cc in faulted r (of_frame bs) (fault no) (frame_lacks (is_frame bs) bs (none no))
+lazy_refused bs error.UnexpectedEof r memory fault none = let no : error.UnexpectedEof ≡ error.OutOfMemory → ⊥ = λ e. cc in faulted r (of_frame bs) (fault no) (frame_lacks (is_frame bs) bs (none no))
+lazy_refused bs error.TooLong r memory fault none = let no : error.TooLong ≡ error.OutOfMemory → ⊥ = λ e. cc in faulted r (of_frame bs) (fault no) (frame_lacks (is_frame bs) bs (none no))
+lazy_refused bs error.Io r memory fault none = let no : error.Io ≡ error.OutOfMemory → ⊥ = λ e. cc in faulted r (of_frame bs) (fault no) (frame_lacks (is_frame bs) bs (none no))
+lazy_refused bs (error.Message w) r memory fault none = let no : error.Message w ≡ error.OutOfMemory → ⊥ = λ e. cc in faulted r (of_frame bs) (fault no) (frame_lacks (is_frame bs) bs (none no))

@@ -1,4 +1,6 @@
 pub mod LazyLemmas
+pub mod OpenedLemmas
+pub mod ReadLemmas
 pub mod PendingDescriptorLemmas
 pub mod HeldImagesLemmas
 pub mod MapLemmas
@@ -6,4 +8,5 @@ pub mod ValueSerializerLemmas
 pub mod AnswerLemmas
 pub mod PartLemmas
 pub mod DescriptorLemmas
+pub mod ScalarLemmas
 pub mod SoundLemmas

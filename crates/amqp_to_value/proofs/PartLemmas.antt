@@ -12,6 +12,7 @@ use Rattle.amqp_value.specs.declared.value.Value.{Value}
 use Rattle.amqp_to_value.specs.PendingDescriptors.{described_in, described_by, standing}
 use Rattle.amqp_to_value.specs.ValueSerializer.{HasParts, IsSaved, IsFresh, IsReady, Leaves, meant_by, value_permits}
 use Rattle.amqp_to_value.specs.ImageOf.{refuses, StandsFor}
+use Rattle.amqp_to_value.specs.Opened.{Opened}
 use Rattle.amqp_to_value.specs.PendingMark.{meant}
 use Rattle.amqp_to_value.specs.declared.pending_mark.PendingMark.{PendingMark}
 use Rattle.amqp_to_value.specs.declared.pending_mark.PendingMark.TheVariants as pending
@@ -62,10 +63,12 @@ second_part start after k u v (q ∷ (s ∷ ps)) p h saved = absurd h.2
 -- the value of a single compound stands in what the compound stands in, for which there is room
 pub record Stood (start after : Serializer) (p : Option Tree) (v : Value) : Type 0 where
   pub tree : Tree
+  pub read : Tree
+  pub opened : Opened tree read
   pub others : after.descriptors.kept ≡ start.descriptors.kept
   pub none : after.descriptors.next ≡ false
   pub room : length (start.descriptors.kept ++ (standing start.descriptors)) ≤ after.descriptors.room
-  pub within : tree_of v ≡ described_in (standing start.descriptors) (image tree)
+  pub within : tree_of v ≡ described_in (standing start.descriptors) (image read)
   pub means : meant start.pending p ≡ Some tree
 
 pub stands : (start before after : Serializer) (u : PendingMark) (p : Option Tree) (v : Value) → IsReady start before (body.Single u None) → value_permits before p (Ok v) after → Stood start after p v
@@ -73,15 +76,17 @@ stands start before after u p v ready r =
     let s = stood (standing start.descriptors) (meant start.pending p) v (subst (StandsFor v) (same_meant start before u p ready) r.0) in
     record {
       tree = s.0;
+      read = s.1;
+      opened = s.3;
       others = r.1.0.1 ∙ ready.1;
       none = r.1.0.0.1;
       room = subst (λ n. n ≤ after.descriptors.room) (λ i. length (ready.1 i ++ ready.2 i)) r.1.1;
-      within = s.2;
-      means = s.1;
+      within = s.4;
+      means = s.2;
     }
 
-pub single_taken : (start after : Serializer) (k : Kind) (u : PendingMark) (v : Value) (ps : List (Option Tree)) (p : Option Tree) (t : Tree) → HasParts start.pending k (body.Single u None) ps
-    → meant start.pending p ≡ Some t → after.pending ≡ pending.Mark mark.Other → (tree_of v ≡ image t) × (after.descriptors.kept ≡ start.descriptors.kept) × (after.descriptors.later ≡ standing start.descriptors) × (after.descriptors.next ≡ false)
+pub single_taken : (start after : Serializer) (k : Kind) (u : PendingMark) (v : Value) (ps : List (Option Tree)) (p : Option Tree) (t w : Tree) → HasParts start.pending k (body.Single u None) ps
+    → meant start.pending p ≡ Some t → Opened t w → after.pending ≡ pending.Mark mark.Other → (tree_of v ≡ image w) × (after.descriptors.kept ≡ start.descriptors.kept) × (after.descriptors.later ≡ standing start.descriptors) × (after.descriptors.next ≡ false)
     → HasParts start.pending k (body.Single u (Some v)) (ps ++ (p ∷ [])) × IsSaved start after
-single_taken start after k u v [] p t h m fresh is = ((h.0, h.1, subst (StandsFor v) (sym m) is.0), (((fresh, is.3), is.1), ([], is.2 ∙ sym (append-nil _))))
-single_taken start after k u v (q ∷ ps) p t h m fresh is = absurd h.2
+single_taken start after k u v [] p t w h m o fresh is = ((h.0, h.1, subst (StandsFor v) (sym m) (w, o, is.0)), (((fresh, is.3), is.1), ([], is.2 ∙ sym (append-nil _))))
+single_taken start after k u v (q ∷ ps) p t w h m o fresh is = absurd h.2

@@ -4,7 +4,6 @@ use Rattle.std.proofs.lemmas.List.{map-append, take-map, drop-map, take-append-d
 use Rattle.std.proofs.Math.Seq.{take-append_seam, drop-append_seam}
 use Rattle.amqp_data.specs.declared.described.Described.{Described}
 use Rattle.amqp_data.specs.declared.error.Error.{Error}
-use Rattle.amqp_data.specs.declared.error.Error.TheVariants as error
 use Rattle.amqp_ser.specs.Carried.{descriptor_content}
 use Rattle.amqp_ser.specs.Tree.{Descriptor, Tree, described}
 use Rattle.amqp_value.specs.Image.{image}
@@ -14,7 +13,9 @@ use Rattle.amqp_value.specs.declared.value.Value.TheOpen.{Value-F}
 use Rattle.amqp_value.specs.declared.value.Value.TheVariants.{Described as DescribedValue}
 use Rattle.amqp_to_value.specs.PendingDescriptors.{DescriptorsState, descriptors_of, described_in, described_by, standing}
 use Rattle.amqp_to_value.specs.ImageOf.{refuses, StandsFor}
-use Rattle.amqp_to_value.proofs.LazyLemmas.{lazy_described_in}
+use Rattle.amqp_to_value.specs.Opened.{Opened}
+use Rattle.amqp_to_value.proofs.LazyLemmas.{Lacks, spoils, unreadable_in}
+use Rattle.amqp_to_value.proofs.OpenedLemmas.{opened_in, opened_inside}
 
 -- what comes after the kept ones begins with what the next value stands in
 pub standing_left : (p : DescriptorsState) → (more : List Descriptor) × (p.later ≡ standing p ++ more)
@@ -50,20 +51,26 @@ described_by-None (d ∷ ds) = rw (described_by-None ds) refl
 -- a value in what it stands in
 pub stands_in : (ds : List Descriptor) (o : Option Tree) (v w : Value) → tree_of w ≡ described_in ds (tree_of v) → StandsFor v o → StandsFor w (described_by ds o)
 stands_in ds None v w is s = absurd s
-stands_in ds (Some t) v w is s = subst (StandsFor w) (sym (described_by-Some ds t)) (is ∙ ap (described_in ds) s ∙ sym (image-described_in ds t))
+stands_in ds (Some t) v w is s =
+    subst (StandsFor w) (sym (described_by-Some ds t))
+    (described_in ds s.0, opened_in ds t s.0 s.1, is ∙ ap (described_in ds) s.2 ∙ sym (image-described_in ds s.0))
 
 -- and back
-pub stood : (ds : List Descriptor) (o : Option Tree) (v : Value) → StandsFor v (described_by ds o) → (t : Tree) × (o ≡ Some t) × (tree_of v ≡ described_in ds (image t))
+pub stood : (ds : List Descriptor) (o : Option Tree) (v : Value) → StandsFor v (described_by ds o)
+    → (t : Tree) × (u : Tree) × (o ≡ Some t) × Opened t u × (tree_of v ≡ described_in ds (image u))
 stood ds None v s = absurd (subst (StandsFor v) (described_by-None ds) s)
-stood ds (Some t) v s = (t, refl, subst (StandsFor v) (described_by-Some ds t) s ∙ image-described_in ds t)
+stood ds (Some t) v s =
+    let h = subst (StandsFor v) (described_by-Some ds t) s in
+    let r = opened_inside ds t h.0 h.1 in
+    (t, r.0, refl, r.2, h.2 ∙ ap image r.1 ∙ image-described_in ds r.0)
+
+lacks_in : (ds : List Descriptor) (o : Option Tree) → Lacks o → Lacks (described_by ds o)
+lacks_in ds None h = subst Lacks (sym (described_by-None ds)) tt
+lacks_in ds (Some t) h = subst Lacks (sym (described_by-Some ds t)) (unreadable_in ds t h)
 
 -- a refusal there
 pub refuses_in : (ds : List Descriptor) (o : Option Tree) (e : Error) → refuses e o → refuses e (described_by ds o)
-refuses_in ds o error.OutOfMemory r = tt
-refuses_in ds None error.InvalidValue r = subst (refuses error.InvalidValue) (sym (described_by-None ds)) tt
-refuses_in ds (Some t) error.InvalidValue r =
-    subst (refuses error.InvalidValue) (sym (described_by-Some ds t)) (lazy_described_in ds t ∙ r)
-refuses_in ds o e r = absurd r
+refuses_in ds o e r = spoils e o (described_by ds o) (lacks_in ds o) r
 
 -- what is kept stands before
 pub all_contents : (bs : List (Box (Described Value) Global)) (kept : ℕ) (others later : List Descriptor) → descriptors_of (take kept bs) ≡ others → descriptors_of (drop kept bs) ≡ later → descriptors_of bs ≡ others ++ later

@@ -9,6 +9,6 @@ use Rattle.amqp_value.proofs.SoundLemmas.{sound-image}
 
 pub answer_sound : (t : Option Tree) (r : Result Value Error) → IsImageOf t r → IfOk r IsSound
 answer_sound None (Ok v) h = absurd h
-answer_sound (Some t) (Ok v) h = sound-image t v h
+answer_sound (Some t) (Ok v) h = sound-image h.0 v h.2
 answer_sound None (Err e) h = tt
 answer_sound (Some t) (Err e) h = tt

@@ -1,5 +1,5 @@
 -- What an open compound holds after one part more, or one less.
-use Rattle.std.proofs.Common.{◌≡◌, List, [], ◌∷◌, ◌++◌, Option, Some, None, Result, ok_or, true, true≢false, refl, ap, sym, ◌∙◌, subst}
+use Rattle.std.proofs.Common.{◌≡◌, List, [], ◌∷◌, ◌++◌, Option, Some, None, Result, ok_or, false, true, true≢false, refl, ap, sym, ◌∙◌, subst}
 use Rattle.amqp_data.specs.declared.error.Error.{Error}
 use Rattle.amqp_data.specs.declared.error.Error.TheVariants as error
 use Rattle.amqp_ser.specs.Tree.{Descriptor, Tree, Trees, Pairs, null, scalar, no_trees, more}
@@ -14,7 +14,8 @@ use Rattle.amqp_value.specs.TreeOf.{tree_of}
 use Rattle.amqp_value.specs.declared.value.Value.{Value}
 use Rattle.amqp_to_value.specs.ImageOf.{refuses, StandsFor, IsImageOf}
 use Rattle.amqp_to_value.specs.PendingMark.{meant}
-use Rattle.amqp_to_value.specs.HeldImages.{then, HoldsImages, compound_tree, TakesPairs}
+use Rattle.amqp_to_value.specs.HeldImages.{is_single, then, HoldsImages, IsOpenedImage, compound_tree, TakesPairs}
+use Rattle.amqp_to_value.specs.Opened.{AreOpened}
 use Rattle.amqp_to_value.specs.PendingDescriptors.{described_by}
 use Rattle.amqp_to_value.specs.ValueSerializer.{HoldsParts, HasParts, HasValue, IsKept, meant_by}
 use Rattle.amqp_to_value.specs.declared.pending_mark.PendingMark.{PendingMark}
@@ -25,7 +26,8 @@ use Rattle.amqp_to_value.specs.declared.parts.Parts.TheVariants as parts
 use Rattle.amqp_to_value.specs.declared.serializer.Serializer.{Serializer}
 use Rattle.amqp_to_value.proofs.PendingDescriptorLemmas.{standing_none}
 use Rattle.amqp_to_value.proofs.HeldImagesLemmas.{join_then, all_trees-then}
-use Rattle.amqp_to_value.proofs.LazyLemmas.{part_lacks}
+use Rattle.amqp_to_value.proofs.LazyLemmas.{Lacks, part_lacks, spoils}
+use Rattle.amqp_to_value.proofs.OpenedLemmas.{compound_opened, opened-last, opened-then, opened_answer, still_pairs}
 
 none-some : (t : Tree) → None ≡ Some t → ⊥
 none-some t q = cc
@@ -37,6 +39,7 @@ plain_answer s ds p r kept is =
 
 pub meant_none : (u : PendingMark) → meant u None ≡ None
 meant_none (pending.Mark m) = refl
+meant_none pending.Descriptor = refl
 meant_none pending.Nothing = refl
 
 joined_none : (o : Option Trees) → joined o None ≡ None
@@ -49,17 +52,30 @@ unfolding whole
 without u kind ps rest =
     ap (λ o. meant u (as_kind kind o)) (all_trees-append ps (None ∷ rest) ∙ joined_none (all_trees ps)) ∙ ap (meant u) (kind_none kind) ∙ meant_none u
 
+whole_lacks : (u : PendingMark) (kind : Kind) (ps : List (Option Tree)) (p : Option Tree) (rest : List (Option Tree)) → Lacks p → Lacks (meant u (whole kind (ps ++ (p ∷ rest))))
+whole_lacks u kind ps None rest h = subst Lacks (sym (without u kind ps rest)) tt
+whole_lacks u kind ps (Some t) rest h = part_lacks u kind ps t rest h
+
 -- the refusal of a part is permitted on every continuation
 pub refused : (u : PendingMark) (kind : Kind) (ps : List (Option Tree)) (p : Option Tree) (e : Error) → refuses e p → (rest : List (Option Tree)) → refuses e (meant u (whole kind (ps ++ (p ∷ rest))))
-refused u kind ps p error.OutOfMemory r rest = tt
-refused u kind ps None error.InvalidValue r rest = subst (refuses error.InvalidValue) (sym (without u kind ps rest)) tt
-refused u kind ps (Some t) error.InvalidValue r rest = part_lacks u kind ps t rest r
-refused u kind ps p e r rest = absurd r
+refused u kind ps p e r rest = spoils e p (meant u (whole kind (ps ++ (p ∷ rest)))) (whole_lacks u kind ps p rest) r
+
+-- a kind of several parts
+pub not_single : (k : Kind) → (k ≡ kinds.Single → ⊥) → is_single k ≡ false
+not_single kinds.Single h = absurd (h refl)
+not_single kinds.List h = refl
+not_single kinds.Map h = refl
+not_single (kinds.Variant i) h = refl
+not_single (kinds.NewtypeVariant i) h = refl
+
+-- no part yet
+pub nothing_held : (u : PendingMark) (k : Kind) (parts : Parts) → HoldsImages parts no_trees → ((o : Option Trees) → meant u (as_kind k o) ≡ compound_tree parts o) → HoldsParts u k parts []
+nothing_held u k parts fed makes = record { ts = no_trees; trees = refl; us = no_trees; opened = refl; fed = fed; makes = makes }
 
 module _ (u : PendingMark) (kind : Kind) (old new : Parts) (ps : List (Option Tree)) (h : HoldsParts u kind old ps) (makes : (o : Option Trees) → compound_tree new o ≡ compound_tree old o) where
   -- the same parts
-  kept : HoldsImages new h.ts → HoldsParts u kind new ps
-  kept fed = record { ts = h.ts; trees = h.trees; fed = fed; makes = λ o. h.makes o ∙ sym (makes o) }
+  kept : HoldsImages new h.us → HoldsParts u kind new ps
+  kept fed = record { ts = h.ts; trees = h.trees; us = h.us; opened = h.opened; fed = fed; makes = λ o. h.makes o ∙ sym (makes o) }
 
   -- one part more
   pub part_taken : (p : Option Tree) (v : Value) → StandsFor v p → ((ts : Trees) (t : Tree) → HoldsImages old ts → tree_of v ≡ image t → HoldsImages new (then ts t)) → HoldsParts u kind new (ps ++ (p ∷ []))
@@ -67,14 +83,16 @@ module _ (u : PendingMark) (kind : Kind) (old new : Parts) (ps : List (Option Tr
   part_taken (Some t) v s step = record {
     ts = then h.ts t;
     trees = all_trees-then ps h.ts t h.trees;
-    fed = step h.ts t h.fed s;
+    us = then h.us s.0;
+    opened = opened-then h.ts h.us t s.0 h.opened s.1;
+    fed = step h.us s.0 h.fed s.2;
     makes = λ o. h.makes o ∙ sym (makes o);
   }
 
   -- no part more
   pub part_left : (p : Option Tree) (v : Value) → StandsFor v p → ((ts : Trees) (t : Tree) → HoldsImages old ts → tree_of v ≡ image t → HoldsImages new ts) → HoldsParts u kind new ps
   part_left None v s step = absurd s
-  part_left (Some t) v s step = kept (step h.ts t h.fed s)
+  part_left (Some t) v s step = kept (step h.us s.0 h.fed s.2)
 
 -- a compound of the kind map takes keys and values in turn
 takes_pairs : (u : PendingMark) (o : Parts) → ((ts : Option Trees) → meant u (as_kind kinds.Map ts) ≡ compound_tree o ts) → TakesPairs o
@@ -101,10 +119,14 @@ undone u old new ps p h even makes back =
     let last = last_part (all_trees ps) p h.ts (sym (all_trees-append ps (p ∷ [])) ∙ h.trees) in
     let us = last.0 in
     let pairs : Pairing us = pairing us (sym (paired-even ps us last.2) ∙ even) in
+    let read = opened-last us last.1 h.us (subst (λ x. AreOpened x h.us) last.3 h.opened) in
+    let still = still_pairs us read.0 pairs.pairs read.3 pairs.are in
     record {
       ts = us;
       trees = last.2;
-      fed = back us pairs.pairs last.1 pairs.are (takes_pairs u old h.makes) (subst (HoldsImages old) last.3 h.fed);
+      us = read.0;
+      opened = read.3;
+      fed = back read.0 still.0 read.1 still.1 (takes_pairs u old h.makes) (subst (HoldsImages old) read.2 h.fed);
       makes = λ o. h.makes o ∙ sym (makes o);
     }
 
@@ -127,7 +149,8 @@ single_value u w k o r ps h c e =
 
 -- the value of a compound of parts
 pub parts_value : (u : PendingMark) (k : Kind) (parts : Parts) (r : Result Value Error) (ps : List (Option Tree)) → HoldsParts u k parts ps
-    → ((ts : Trees) → HoldsImages parts ts → IsImageOf (compound_tree parts (Some ts)) r) → IsImageOf (meant u (whole k ps)) r
+    → ((ts : Trees) → HoldsImages parts ts → IsOpenedImage (compound_tree parts (Some ts)) r) → IsImageOf (meant u (whole k ps)) r
 unfolding whole
 parts_value u k parts r ps h gives =
-    subst (λ o. IsImageOf o r) (sym (h.makes (Some h.ts)) ∙ ap (λ o. meant u (as_kind k o)) (sym h.trees)) (gives h.ts h.fed)
+    subst (λ o. IsImageOf o r) (sym (h.makes (Some h.ts)) ∙ ap (λ o. meant u (as_kind k o)) (sym h.trees))
+    (opened_answer (compound_tree parts (Some h.ts)) (compound_tree parts (Some h.us)) r (compound_opened parts h.ts h.us h.opened) (gives h.us h.fed))

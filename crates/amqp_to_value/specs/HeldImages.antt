@@ -1,5 +1,7 @@
--- What a compound holds of the trees that it was fed.
-use Rattle.std.specs.Prelude.{◌≡◌, Bool, true, false, Option, Some, None, option_map}
+-- What a compound holds of the trees that it was fed, once their lazy parts are read.
+use Rattle.std.specs.Prelude.{◌≡◌, Bool, true, false, Option, Some, None, Result, Ok, Err, option_map}
+use Rattle.amqp_data.specs.declared.error.Error.{Error}
+use Rattle.amqp_data.specs.declared.error.Error.TheVariants as error
 use Rattle.amqp_ser.specs.Tree.{Tree, Trees, Pairs, no_trees, more, no_pairs}
 use Rattle.amqp_ser.specs.Compounds.{as_kind}
 use Rattle.amqp_ser.specs.Marked.{marked}
@@ -8,6 +10,7 @@ use Rattle.amqp_ser.specs.declared.kind.Kind.TheVariants as kind
 use Rattle.amqp_ser.specs.declared.mark.Mark.TheVariants as mark
 use Rattle.amqp_value.specs.Image.{image, images, insert_tree}
 use Rattle.amqp_value.specs.TreeOf.{tree_of, all_of, pairs_trees}
+use Rattle.amqp_value.specs.declared.value.Value.{Value}
 use Rattle.amqp_to_value.specs.declared.map_builder.MapBuilder.{MapBuilder}
 use Rattle.amqp_to_value.specs.declared.parts.Parts.{Parts}
 use Rattle.amqp_to_value.specs.declared.parts.Parts.TheVariants as held
@@ -59,6 +62,17 @@ compound_tree (held.Map g) ts = as_kind kind.Map ts
 compound_tree (held.Variant i v) ts = as_kind (kind.Variant i) ts
 compound_tree (held.NewtypeVariant i v) ts = as_kind (kind.NewtypeVariant i) ts
 compound_tree held.Refused ts = None
+
+-- the answers on a tree without lazy parts, or on none: the image, out of memory on any, and invalid on none
+abbrev pub refuses_opened : Error → Option Tree → Type 0
+refuses_opened error.OutOfMemory t = Unit {0}
+refuses_opened error.InvalidValue None = Unit {0}
+refuses_opened e t = ⊥
+
+abbrev pub IsOpenedImage : Option Tree → Result Value Error → Type 0
+IsOpenedImage None (Ok v) = ⊥
+IsOpenedImage (Some t) (Ok v) = tree_of v ≡ image t
+IsOpenedImage t (Err e) = refuses_opened e t
 
 -- a compound of keys and values in turn
 abbrev pub TakesPairs : Parts → Type 0

@@ -2,6 +2,7 @@
 -- `TakesPairs` in HeldImages, which private clauses alone cite.
 pub mod PendingDescriptors
 pub mod HasLazy
+pub mod Opened
 pub mod ImageOf
 pub mod PendingMark
 pub mod HeldImages

@@ -11,6 +11,7 @@ use Rattle.amqp_ser.specs.declared.mark.Mark.TheVariants as mark
 use Rattle.amqp_value.specs.declared.value.Value.{Value}
 use Rattle.amqp_to_value.specs.PendingDescriptors.{saved_of, described_by, standing}
 use Rattle.amqp_to_value.specs.ImageOf.{IsImageOf, StandsFor}
+use Rattle.amqp_to_value.specs.Opened.{AreOpened}
 use Rattle.amqp_to_value.specs.PendingMark.{meant}
 use Rattle.amqp_to_value.specs.HeldImages.{HoldsImages, is_single, compound_tree}
 use Rattle.amqp_to_value.specs.declared.pending_mark.PendingMark.{PendingMark}
@@ -53,7 +54,10 @@ value_permits s t r after = IsImageOf (meant_by s t) r × Leaves s.descriptors.k
 pub record HoldsParts (pending : PendingMark) (kind : Kind) (held : Parts) (ps : List (Option Tree)) : Type 0 where
   pub ts : Trees
   pub trees : all_trees ps ≡ Some ts
-  pub fed : HoldsImages held ts
+  -- the same, once their lazy parts are read
+  pub us : Trees
+  pub opened : AreOpened ts us
+  pub fed : HoldsImages held us
   pub makes : (o : Option Trees) → meant pending (as_kind kind o) ≡ compound_tree held o
 
 -- a single compound has no value and no part, or the value of its one part
@@ -77,6 +81,10 @@ IsSaved start s = IsKept start.descriptors.kept s × IsLeft (standing start.desc
 abbrev pub IsKeeping : Serializer → Serializer → Type 0
 IsKeeping start s = IsKept (start.descriptors.kept ++ standing start.descriptors) s
 
+-- the same, for the time of a descriptor
+abbrev pub IsKeepingDescriptor : Serializer → Serializer → Type 0
+IsKeepingDescriptor start s = (s.pending ≡ pending.Descriptor) × (s.descriptors.next ≡ false) × (s.descriptors.kept ≡ start.descriptors.kept ++ standing start.descriptors)
+
 -- before its value a single compound has the serializer stand as at its opening
 abbrev pub IsReady : Serializer → Serializer → OpenBody → Type 0
 IsReady start s (body.Single u None) = (s.pending ≡ start.pending) × (s.descriptors.kept ≡ start.descriptors.kept) × (standing s.descriptors ≡ standing start.descriptors)
@@ -91,7 +99,7 @@ value_awaits start k s held ps = (held.saved ≡ saved_of start.descriptors.kept
 
 -- a single compound is ready for a descriptor
 abbrev pub value_awaits_descriptor : Serializer → Serializer → OpenValue → Type 0
-value_awaits_descriptor start s held = (held.saved ≡ saved_of start.descriptors.kept (standing start.descriptors)) × HasParts start.pending kind.Single held.body [] × IsKeeping start s
+value_awaits_descriptor start s held = (held.saved ≡ saved_of start.descriptors.kept (standing start.descriptors)) × HasParts start.pending kind.Single held.body [] × IsKeepingDescriptor start s
 
 described_none : (ds : List Descriptor) → described_by ds None ≡ None
 described_none [] = refl
@@ -99,6 +107,7 @@ described_none (d ∷ ds) = ap (as_described (Some d)) (described_none ds)
 
 none_meant : (u : PendingMark) → meant u None ≡ None
 none_meant (pending.Mark m) = refl
+none_meant pending.Descriptor = refl
 none_meant pending.Nothing = refl
 
 -- where there is no tree there is no value

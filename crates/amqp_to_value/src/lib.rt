@@ -1,12 +1,14 @@
 //! The untyped value that a value stands for.
 //!
 //! `to_value` gives the value whose tree is the image of what it is given. `Serializer` is the serializer behind
-//! it, and takes values piece by piece. The bytes of a value and of its image are the same, but for transparent
+//! it, and takes values piece by piece. A lazy value is read by `amqp_decode`: it is the value that its bytes spell.
+//! The bytes of a value and of its image are the same, but for transparent
 //! vectors, whose images are lists, and for maps two of whose keys have one image.
 #![tactic(auto)]
 
 mod image;
 pub mod laws;
+mod lazy;
 mod map_builder;
 mod open_value;
 mod parts;

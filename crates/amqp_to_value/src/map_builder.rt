@@ -4,8 +4,7 @@ ghost use Rattle.std.specs.Prelude.{◌≡◌, MatchResult, None};
 ghost use Rattle.amqp_ser.specs.Tree.{Trees, map, no_pairs};
 ghost use Rattle.amqp_ser.specs.Compounds.{as_map, in_pairs};
 ghost use Rattle.amqp_value.specs.TreeOf.{tree_of, pairs_trees};
-ghost use Rattle.amqp_to_value.specs.HeldImages.{held_pairs, feed, fed_onto};
-ghost use Rattle.amqp_to_value.specs.ImageOf.{IsImageOf};
+ghost use Rattle.amqp_to_value.specs.HeldImages.{held_pairs, feed, fed_onto, IsOpenedImage};
 
 use amqp_data::{Error, OrderedMap};
 use amqp_value::Value;
@@ -71,7 +70,7 @@ impl MapBuilder {
     #[inline(never)]
     pub fn into_value(self, alloc: Global) -> Result<Value, Error>
         ensures { (ts : Trees) → held_pairs self ≡ fed_onto ts no_pairs →
-            IsImageOf (as_map (in_pairs ts)) result }
+            IsOpenedImage (as_map (in_pairs ts)) result }
     {
         match self.key {
             Some(_) => Err(Error::InvalidValue),

@@ -5,8 +5,7 @@ ghost use Rattle.amqp_ser.specs.Tree.{Tree, Trees, Pairs, no_trees};
 ghost use Rattle.amqp_ser.specs.Compounds.{as_kind, in_pairs};
 ghost use Rattle.amqp_value.specs.Image.{image, variant_map};
 ghost use Rattle.amqp_value.specs.TreeOf.{tree_of};
-ghost use Rattle.amqp_to_value.specs.HeldImages.{HoldsImages, is_single, compound_tree, then, TakesPairs};
-ghost use Rattle.amqp_to_value.specs.ImageOf.{IsImageOf};
+ghost use Rattle.amqp_to_value.specs.HeldImages.{HoldsImages, is_single, compound_tree, then, TakesPairs, IsOpenedImage};
 ghost use Rattle.amqp_to_value.specs.PendingMark.{meant};
 
 use crate::map_builder::MapBuilder;
@@ -107,7 +106,7 @@ impl Parts {
     #[inline(always)]
     pub fn into_value(self, alloc: Global) -> Result<Value, Error>
         ensures { (ts : Trees) → HoldsImages self ts →
-            IsImageOf (compound_tree self (Some ts)) result }
+            IsOpenedImage (compound_tree self (Some ts)) result }
     {
         match self {
             Parts::List(items) => Ok(Value::List(items)),

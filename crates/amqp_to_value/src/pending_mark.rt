@@ -13,6 +13,8 @@ use amqp_ser::Mark;
 pub enum PendingMark {
     /// One marker, or none, which is `Mark::Other`.
     Mark(Mark),
+    /// No marker, in the place of a descriptor: a ulong or a symbol.
+    Descriptor,
     /// Markers that no tree satisfies together.
     Nothing,
 }
@@ -26,11 +28,12 @@ impl PendingMark {
         match (self, mark) {
             (pending, Mark::Other) => pending,
             (PendingMark::Mark(Mark::Other), mark) => PendingMark::Mark(mark),
-            _ => PendingMark::Nothing,
+            (PendingMark::Descriptor, Mark::Symbol) => PendingMark::Mark(Mark::Symbol),
+            (_, _) => PendingMark::Nothing,
         }
     }
 
-    /// The same with a descriptor, inside: no marker is satisfied by a described value.
+    /// The same with a descriptor, inside: no marker is satisfied by a described value, and it is no descriptor.
     #[inline(always)]
     pub fn with_descriptor(self) -> PendingMark
         ensures { (d : Descriptor) (t : Option Tree) →
@@ -38,7 +41,7 @@ impl PendingMark {
     {
         match self {
             PendingMark::Mark(Mark::Other) => self,
-            PendingMark::Mark(_) | PendingMark::Nothing => PendingMark::Nothing,
+            _ => PendingMark::Nothing,
         }
     }
 }

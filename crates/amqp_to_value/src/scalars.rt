@@ -6,9 +6,11 @@ ghost use Rattle.amqp_ser.specs.Composites.{descriptor_of};
 ghost use Rattle.amqp_ser.specs.Tree.{scalar, binary, string};
 ghost use Rattle.amqp_ser.specs.Fixed.{fixed_scalar};
 ghost use Rattle.amqp_value.specs.TreeOf.{tree_of};
+ghost use Rattle.amqp_to_value.specs.HeldImages.{IsOpenedImage};
 ghost use Rattle.amqp_to_value.specs.ImageOf.{IsImageOf};
 ghost use Rattle.amqp_to_value.specs.PendingMark.{meant};
 
+use crate::lazy::lazy_value;
 use crate::pending_mark::PendingMark;
 use amqp_data::{
     ByteBuf, Dec32, Dec64, Dec128, Descriptor, Error, F32Bits, F64Bits, Symbol, Timestamp, Uuid,
@@ -51,13 +53,14 @@ pub fn fixed_value(fixed: Fixed) -> Value
 /// Of the long 13 under `Mark::Timestamp`: `Value::Timestamp` of 13 milliseconds. Of `true`: `InvalidValue`.
 #[inline(always)]
 pub fn marked_fixed(pending: PendingMark, fixed: Fixed) -> Result<Value, Error>
-    ensures { IsImageOf (meant pending (Some (scalar (fixed_scalar fixed)))) result }
+    ensures { IsOpenedImage (meant pending (Some (scalar (fixed_scalar fixed)))) result }
 {
     match (pending, fixed) {
         (PendingMark::Mark(Mark::Other), fixed) => Ok(fixed_value(fixed)),
         (PendingMark::Mark(Mark::Timestamp), Fixed::Long(v)) => Ok(Value::Timestamp(Timestamp::from(
             v,
         ))),
+        (PendingMark::Descriptor, Fixed::Ulong(v)) => Ok(Value::Ulong(v)),
         _ => Err(Error::InvalidValue),
     }
 }
@@ -71,7 +74,7 @@ pub fn marked_fixed(pending: PendingMark, fixed: Fixed) -> Result<Value, Error>
 /// Of `a` under `Mark::Symbol`: `Value::Symbol` of it; under `Mark::Other`: `Value::String`.
 #[inline(always)]
 pub fn marked_text(alloc: Global, pending: PendingMark, text: &str) -> Result<Value, Error>
-    ensures { IsImageOf (meant pending (Some (scalar (string text.now)))) result }
+    ensures { IsOpenedImage (meant pending (Some (scalar (string text.now)))) result }
 {
     match pending {
         PendingMark::Mark(Mark::Other) => Ok(Value::String(String::from_str(alloc, text)?)),
@@ -98,6 +101,7 @@ pub fn marked_bytes(alloc: Global, pending: PendingMark, bytes: &[u8]) -> Result
         PendingMark::Mark(Mark::Decimal64) => Ok(Value::Decimal64(Dec64::try_from(bytes)?)),
         PendingMark::Mark(Mark::Decimal128) => Ok(Value::Decimal128(Dec128::try_from(bytes)?)),
         PendingMark::Mark(Mark::Uuid) => Ok(Value::Uuid(Uuid::try_from(bytes)?)),
+        PendingMark::Mark(Mark::Lazy) => lazy_value(alloc, bytes),
         _ => Err(Error::InvalidValue),
     }
 }

@@ -23,6 +23,8 @@ use std::mem;
 
 /// Makes untyped values; it is fresh after each call, refused ones too.
 ///
+/// A binary under the marker `LAZY_VALUE` is the value that its bytes spell, which are one encoded value.
+///
 /// # Memory
 /// Between calls it keeps nothing, but for the descriptors of one refused value: they are let go when the next compound
 /// is opened, or with the serializer.
@@ -230,6 +232,7 @@ impl amqp_ser::Serializer for Serializer {
 
     #[inline(always)]
     fn begin_descriptor(&mut self, held: &mut OpenValue) {
+        self.pending = PendingMark::Descriptor;
         self.descriptors.keep(held.saved);
     }
 

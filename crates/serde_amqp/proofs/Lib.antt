@@ -4,4 +4,5 @@ pub mod Runs
 pub mod Decided
 pub mod LineLemmas
 pub mod StringLemmas
+pub mod LazyLemmas
 pub mod PartLemmas

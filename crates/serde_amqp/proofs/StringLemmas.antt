@@ -10,6 +10,8 @@ use Rattle.amqp_ser.specs.Writable.{uniform_arrays, uniform_arrays_each, inside_
 use Rattle.amqp_ser.specs.SizeAndBytes.{IsSizeOf, AreBytesOf}
 use Rattle.amqp_to_value.specs.HasLazy.{has_lazy, has_lazy_each}
 use Rattle.amqp_to_value.specs.ImageOf.{IsImageOf}
+use Rattle.amqp_to_value.proofs.LazyLemmas.{read_refused}
+use Rattle.amqp_to_value.proofs.ReadLemmas.{opened-itself, stands-image}
 use Rattle.amqp_value.specs.declared.value.Value.{Value}
 use Rattle.amqp_value.specs.Image.{image}
 use Rattle.amqp_value.specs.Text.{text_of}
@@ -78,18 +80,15 @@ each-not_lazy : (lines : List (List ℕ)) → has_lazy_each (string_trees lines)
 each-not_lazy [] = refl
 each-not_lazy (line ∷ lines) = each-not_lazy lines
 
-strings-not_lazy : (lines : List (List ℕ)) → has_lazy (strings_tree lines) ≡ true → ⊥
+strings-not_lazy : (lines : List (List ℕ)) → has_lazy (strings_tree lines) ≡ false
 unfolding strings_tree
-strings-not_lazy lines h = let no : true ≡ false = sym h ∙ each-not_lazy lines in cc
+strings-not_lazy lines = each-not_lazy lines
 
 value-refused-at : (items : List (Bor (List ℕ))) (e : Error) → IsImageOf (Some (strings_tree (texts items))) (Err e) → RefusesReport items e
-value-refused-at items OutOfMemory h = (inr refl, λ k. absurd (cc))
-value-refused-at items TooLong h = absurd h
-value-refused-at items InvalidValue h = absurd (strings-not_lazy (texts items) h)
-value-refused-at items InvalidFormatCode h = absurd h
-value-refused-at items UnexpectedEof h = absurd h
-value-refused-at items Io h = absurd h
-value-refused-at items (Message words) h = absurd h
+value-refused-at items e h =
+    let t = strings_tree (texts items) in
+    let is : e ≡ OutOfMemory = read_refused e t t (opened-itself t (strings-not_lazy (texts items))) h in
+    subst (RefusesReport items) (sym is) (inr refl, λ k. absurd (cc))
 
 -- a refused image
 pub value-refused : (items : List (Bor (List ℕ))) (e : Error) → IsImageOf (vector_tree items) (Err e) → RefusesReport items e
@@ -100,7 +99,7 @@ pub reported : (items : List (Bor (List ℕ))) (size : ℕ) (bytes : List ℕ) (
 reported items size bytes value s b v =
     let size_is : (writable (strings_tree (texts items)) ≡ true) × (size ≡ length (encoding (strings_tree (texts items)))) = subst (λ t. IsSizeOf t (Ok size)) (strings-whole items) s in
     let bytes_are : (writable (strings_tree (texts items)) ≡ true) × (bytes ≡ encoding (strings_tree (texts items))) = subst (λ t. AreBytesOf t (Ok bytes)) (strings-whole items) b in
-    let value_is : tree_of value ≡ image (strings_tree (texts items)) = subst (λ t. IsImageOf t (Ok value)) (strings-whole items) v in (
+    let value_is : tree_of value ≡ image (strings_tree (texts items)) = stands-image (strings_tree (texts items)) value (strings-not_lazy (texts items)) (subst (λ t. IsImageOf t (Ok value)) (strings-whole items) v) in (
       size_is.0,
       ap (λ n. three_lines n bytes (text_of (tree_of value))) size_is.1
           ∙ (ap (λ l. three_lines (length (encoding (strings_tree (texts items)))) l (text_of (tree_of value))) bytes_are.1

@@ -1,7 +1,20 @@
 //! Laws of the definitions alone. A caller learns one by calling its function.
 
-ghost use Rattle.std.specs.Prelude.{ℕ, List};
+ghost use Rattle.std.specs.Prelude.{◌≡◌, ◌≤◌, ℕ, List, Some, true};
+ghost use Rattle.amqp_data.specs.declared.error.Error.{Error};
+ghost use Rattle.amqp_data.specs.declared.error.Error.TheVariants.{OutOfMemory};
+ghost use Rattle.amqp_decode.specs.Depth.{IsOrdinary, depth_of};
+ghost use Rattle.amqp_ser.specs.Encoding.{encoding};
+ghost use Rattle.amqp_ser.specs.Ranged.{IsRanged};
+ghost use Rattle.amqp_ser.specs.Tree.{Tree, lazy};
+ghost use Rattle.amqp_ser.specs.Writable.{writable};
+ghost use Rattle.amqp_to_value.specs.ImageOf.{StandsFor, refuses};
+ghost use Rattle.amqp_value.specs.Image.{image};
+ghost use Rattle.amqp_value.specs.Plain.{IsPlain};
+ghost use Rattle.amqp_value.specs.TreeOf.{tree_of};
 ghost use Rattle.serde_amqp.specs.Lines.{lines_of, AreLines};
+
+use amqp_value::Value;
 
 /// Every text is its lines with 0A after each, which may be left out after the last.
 ///
@@ -10,4 +23,29 @@ ghost use Rattle.serde_amqp.specs.Lines.{lines_of, AreLines};
 /// Takes none.
 pub fn text_is_its_lines()
     ensures { (s : List ℕ) → AreLines s (lines_of s) }
+{}
+
+/// The lazy value of a tree's bytes stands for the tree's image: where the tree can be written, is at most 256 deep and
+/// has nothing lazy or transparent in it, such a lazy value has that image, and it is refused for want of memory alone.
+///
+/// # Memory
+///
+/// Takes none.
+pub fn lazy_values_have_the_image_of_what_they_hold()
+    ensures image { (t : Tree) (v : Value) → IsRanged t → writable t ≡ true → IsOrdinary t →
+        depth_of t ≤ 256 → StandsFor v (Some (lazy (encoding t))) → tree_of v ≡ image t }
+    ensures read { (t : Tree) (e : Error) → IsRanged t → writable t ≡ true → IsOrdinary t →
+        depth_of t ≤ 256 → refuses e (Some (lazy (encoding t))) → e ≡ OutOfMemory }
+{}
+
+/// Plain trees that can be written have the same bytes exactly where they have one image.
+///
+/// # Memory
+///
+/// Takes none.
+pub fn same_bytes_exactly_where_one_image()
+    ensures bytes { (t u : Tree) → IsPlain t → IsPlain u → image t ≡ image u →
+        encoding t ≡ encoding u }
+    ensures image { (t u : Tree) → IsRanged t → IsRanged u → writable t ≡ true → writable u ≡ true →
+        IsPlain t → IsPlain u → encoding t ≡ encoding u → image t ≡ image u }
 {}

@@ -2,7 +2,8 @@
 //!
 //! One `Serialize` gives three things: the length of a value's bytes ([`serialized_size`], without memory),
 //! the bytes ([`to_vec`]) and the untyped [`Value`] ([`to_value`]). [`lazy::LazyValue`] cuts one encoded value
-//! off any reader, with no look at what it holds.
+//! off any reader, with no look at what it holds; [`to_value`] of it reads that, as [`decode::decode_value`] does of
+//! bytes.
 //!
 //! This crate is the top of the workspace. Its modules hand out what the crates below have, under the names
 //! of the Rust crate `serde_amqp`. It adds [`Write`], the counterpart of [`read::Read`], and the program's
@@ -10,6 +11,7 @@
 #![tactic(auto)]
 
 mod cut;
+pub mod decode;
 pub mod described;
 pub mod descriptor;
 pub mod extensions;

@@ -8,6 +8,7 @@ mod cut_rows;
 mod errors;
 mod fields;
 mod flushes;
+mod lazy_reading;
 mod lazy_values;
 mod line_rows;
 mod marked;

@@ -1,42 +1,26 @@
-//! Lazy values: written as they are wherever a value may stand but in arrays, and without an untyped
-//! value yet.
+//! Lazy values: written as they are wherever a value may stand but in arrays, and read wherever they stand.
 
 use super::marked::{After, Newtype};
-use super::rows::{decoded, refused};
+use super::rows::{decoded, refused, row};
 use amqp_data::{
-    Array, ByteBuf, Described, Descriptor, OrderedMap, Timestamp, TransparentVec, markers,
+    Array, ByteBuf, Described, Descriptor, OrderedMap, Symbol, Timestamp, TransparentVec, markers,
 };
 use amqp_frame::{LazyValue, SliceReader};
 use amqp_ser::{Serialize, VariantOf, fields};
 use serde_amqp::lazy::to_lazy_value;
-use serde_amqp::{Error, VecWriter, run_cut, serialized_size, to_value, to_vec};
+use serde_amqp::{Error, Value, VecWriter, run_cut, serialized_size, to_value, to_vec};
 use std::alloc::Global;
 use std::process::Abort;
 use std::test::Fail;
 
-// The lazy value of these bytes.
-fn lazy(alloc: Global, hexadecimal: &str) -> Result<LazyValue, Fail> {
+/// The lazy value of these bytes.
+pub fn lazy(alloc: Global, hexadecimal: &str) -> Result<LazyValue, Fail> {
     let bytes = decoded(alloc, hexadecimal)?;
     Ok(LazyValue::from_reader(alloc, &mut SliceReader::new(&bytes))?)
 }
 
-// The value has this length and these bytes, and the value serializer refuses it.
-fn written<R: Abort, T: Serialize>(
-    rt: &R,
-    alloc: Global,
-    name: &str,
-    value: &T,
-    hexadecimal: &str,
-) -> Result<(), Fail> {
-    let bytes = decoded(alloc, hexadecimal)?;
-    assert_eq!(rt;
-        serialized_size(value),
-        Ok(bytes.len()),
-        "the length of {name}"
-    );
-    assert!(rt; to_vec(alloc, value)? == bytes, "the bytes of {name}");
-    has_no_value(rt, alloc, name, value);
-    Ok(())
+fn described(alloc: Global, descriptor: Descriptor, value: Value) -> Result<Value, Fail> {
+    Ok(Value::Described(Box::new(alloc, Described { descriptor, value })?))
 }
 
 fn has_no_value<R: Abort, T: Serialize>(rt: &R, alloc: Global, name: &str, value: &T) {
@@ -67,7 +51,8 @@ const HELLO: &str = "a10d48656c6c6f2c20576f726c6421";
 fn a_value_is_held_as_its_bytes(rt: HostRuntime) -> Result<(), Fail> {
     let a = rt.alloc();
     let hello = held(&rt, a, &"Hello, World!", HELLO)?;
-    written(&rt, a, "a lazy string", &hello, HELLO)?;
+    let text = Value::String(String::from_str(a, "Hello, World!")?);
+    row(&rt, a, "a lazy string", &hello, HELLO, &text)?;
     held(&rt, a, &hello, HELLO)?;
     held(&rt, a, &(), "40")?;
     let composite = Described {
@@ -75,10 +60,12 @@ fn a_value_is_held_as_its_bytes(rt: HostRuntime) -> Result<(), Fail> {
         value: vec![in a; Timestamp::from_milliseconds(12345)]?,
     };
     let bytes = "005373c00a01830000000000003039";
-    let described = held(&rt, a, &composite, bytes)?;
-    assert_eq!(rt; serialized_size(&described), Ok(15));
+    let lazy_composite = held(&rt, a, &composite, bytes)?;
+    assert_eq!(rt; serialized_size(&lazy_composite), Ok(15));
     assert_eq!(rt; serialized_size(&composite), Ok(15));
-    written(&rt, a, "a lazy composite", &described, bytes)
+    let fields = Value::List(vec![in a; Value::Timestamp(Timestamp::from_milliseconds(12345))]?);
+    let image = described(a, Descriptor::from(0x73u64), fields)?;
+    row(&rt, a, "a lazy composite", &lazy_composite, bytes, &image)
 }
 
 #[test]
@@ -98,33 +85,65 @@ fn lazy_values_stand_in_each_place(rt: HostRuntime) -> Result<(), Fail> {
     let yes = &lazy(a, "41")?;
     let mut map = OrderedMap::new(a);
     drop(map.insert(null, yes)?);
-    written(&rt, a, "a key and a value", &map, "c103024041")?;
-    let described = Described {
+    let mut pairs = OrderedMap::new(a);
+    drop(pairs.insert(Value::Null, Value::Bool(true))?);
+    row(
+        &rt,
+        a,
+        "a key and a value",
+        &map,
+        "c103024041",
+        &Value::Map(pairs),
+    )?;
+    let once = Described {
         descriptor: Descriptor::from(1u64),
         value: null,
     };
-    written(&rt, a, "after a descriptor", &described, "00530140")?;
+    let image = described(a, Descriptor::from(1u64), Value::Null)?;
+    row(&rt, a, "after a descriptor", &once, "00530140", &image)?;
     let twice = Described {
         descriptor: Descriptor::from(2u64),
-        value: &described,
+        value: &once,
     };
-    written(&rt, a, "after two", &twice, "00530200530140")?;
+    let image = described(a, Descriptor::from(2u64), image)?;
+    row(&rt, a, "after two", &twice, "00530200530140", &image)?;
     let variant = VariantOf(1, fields! { "it": null });
-    written(&rt, a, "in a variant", &variant, "c107025201c0020140")?;
+    let mut payload = OrderedMap::new(a);
+    let fields = Value::List(vec![in a; Value::Null]?);
+    drop(payload.insert(Value::Uint(1), fields)?);
+    let image = Value::Map(payload);
+    row(
+        &rt,
+        a,
+        "in a variant",
+        &variant,
+        "c107025201c0020140",
+        &image,
+    )?;
     let bare = TransparentVec::from(vec![in a; null, yes]?);
-    written(&rt, a, "one after another", &bare, "4041")
+    let image = Value::List(vec![in a; Value::Null, Value::Bool(true)]?);
+    row(&rt, a, "one after another", &bare, "4041", &image)
 }
 
 #[test]
 fn described_lazy_values_stand_in_lists(rt: HostRuntime) -> Result<(), Fail> {
     let a = rt.alloc();
     let null = &lazy(a, "40")?;
-    let described = Described {
+    let once = Described {
         descriptor: Descriptor::from(1u64),
         value: null,
     };
-    let list = vec![in a; described]?;
-    written(&rt, a, "described, in a list", &list, "c0050100530140")
+    let list = vec![in a; once]?;
+    let image = described(a, Descriptor::from(1u64), Value::Null)?;
+    let image = Value::List(vec![in a; image]?);
+    row(
+        &rt,
+        a,
+        "described, in a list",
+        &list,
+        "c0050100530140",
+        &image,
+    )
 }
 
 #[test]
@@ -133,17 +152,18 @@ fn lazy_values_are_no_elements_and_no_descriptors(rt: HostRuntime) -> Result<(),
     let null = &lazy(a, "40")?;
     let array = Array::from(vec![in a; null]?);
     refused(&rt, a, "an array", &array, Error::InvalidValue);
-    has_no_value(&rt, a, "an array", &array);
+    let image = Value::Array(Array::from(vec![in a; Value::Null]?));
+    assert!(rt; to_value(a, &array)? == image, "the value of an array");
     let nested = vec![in a; Array::from(vec![in a; null, null]?)]?;
     refused(&rt, a, "an array in a list", &nested, Error::InvalidValue);
     let ulong = &lazy(a, "44")?;
     refused(&rt, a, "a descriptor", &After(ulong), Error::InvalidValue);
     has_no_value(&rt, a, "a descriptor", &After(ulong));
-    let described = Described {
+    let once = Described {
         descriptor: Descriptor::from(1u64),
         value: null,
     };
-    let array = Array::from(vec![in a; described]?);
+    let array = Array::from(vec![in a; once]?);
     refused(&rt, a, "a described element", &array, Error::InvalidValue);
     Ok(())
 }
@@ -152,10 +172,24 @@ fn lazy_values_are_no_elements_and_no_descriptors(rt: HostRuntime) -> Result<(),
 fn the_marker_takes_one_whole_encoded_value(rt: HostRuntime) -> Result<(), Fail> {
     let a = rt.alloc();
     let name = markers::LAZY_VALUE;
-    for hexadecimal in ["40", "00a1016145", HELLO] {
-        let value = &ByteBuf::from(decoded(a, hexadecimal)?);
-        written(&rt, a, hexadecimal, &Newtype { name, value }, hexadecimal)?;
+    let name_a = Descriptor::Name(Symbol::try_from_str(a, "a")?);
+    let composite = described(a, name_a, Value::List(Vec::new(a)))?;
+    let text = Value::String(String::from_str(a, "Hello, World!")?);
+    let rows = [
+        ("40", Value::Null),
+        ("00a3016145", composite),
+        (HELLO, text),
+    ];
+    for (hexadecimal, image) in &rows {
+        let value = &ByteBuf::from(decoded(a, *hexadecimal)?);
+        let newtype = Newtype { name, value };
+        row(&rt, a, *hexadecimal, &newtype, *hexadecimal, image)?;
     }
+    // One encoded value whose descriptor is a string is written, and spells nothing.
+    let value = &ByteBuf::from(decoded(a, "00a1016145")?);
+    let newtype = Newtype { name, value };
+    assert!(rt; to_vec(a, &newtype)? == decoded(a, "00a1016145")?);
+    has_no_value(&rt, a, "a string before a value", &newtype);
     for hexadecimal in ["a10561", "4040", "4010", "10", "005301", ""] {
         let value = &ByteBuf::from(decoded(a, hexadecimal)?);
         let newtype = Newtype { name, value };

@@ -3,12 +3,12 @@ use Rattle.amqp_ser.specs.Same.{same_tree}
 use Rattle.amqp_value.specs.TreeOf.{tree_of}
 use Rattle.amqp_value.proofs.SameLemmas.{same-itself}
 use Rattle.amqp_value.proofs.Sameness.{equal-is_same}
-use Rattle.amqp_value.proofs.SoundLemmas.{image-sound}
+use Rattle.amqp_to_value.proofs.ReadLemmas.{own}
 use Rattle.amqp_to_value.proofs.laws.sound_values_come_back_equal.Goals as goal
 
 pub returns : goal.returns
 returns c = record {
-  tree = λ a b sound stands. stands ∙ image-sound a sound;
+  tree = λ a b sound stands. own a b sound stands;
   equal = λ a b sound stands.
-      equal-is_same b a ∙ ap (λ t. same_tree t (tree_of a)) (stands ∙ image-sound a sound) ∙ same-itself (tree_of a);
+      equal-is_same b a ∙ ap (λ t. same_tree t (tree_of a)) (own a b sound stands) ∙ same-itself (tree_of a);
 }

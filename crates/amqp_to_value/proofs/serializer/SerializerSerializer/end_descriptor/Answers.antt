@@ -5,9 +5,8 @@ use Rattle.amqp_ser.specs.Composites.{as_described, descriptor_of}
 use Rattle.amqp_to_value.specs.PendingDescriptors.{standing}
 use Rattle.amqp_to_value.specs.ValueSerializer.{IsSaved, meant_by, value_permits}
 use Rattle.amqp_to_value.specs.ImageOf.{refuses}
-use Rattle.amqp_to_value.proofs.AnswerLemmas.{aside_again, kept_on, parted_again}
-use Rattle.amqp_to_value.proofs.ValueSerializerLemmas.{plain_answer}
-use Rattle.amqp_to_value.proofs.DescriptorLemmas.{descriptor_refused, no_descriptor, permitted_before, same_descriptor}
+use Rattle.amqp_to_value.proofs.AnswerLemmas.{aside_again, kept_same, parted_again}
+use Rattle.amqp_to_value.proofs.DescriptorLemmas.{descriptor_answer, descriptor_refused, no_descriptor, permitted_before, same_descriptor}
 use Rattle.amqp_to_value.proofs.serializer.SerializerSerializer.end_descriptor.Goals as goal
 
 pub returns-in_err-part-clause-step : goal.returns-in_err-part-clause-step
@@ -15,10 +14,10 @@ returns-in_err-part-clause-step c = λ start before d h r.
     let e = c.in_err-part.field-0.0 in
     let all = start.descriptors.kept ++ standing start.descriptors in
     let answer = subst (λ x. value_permits before d x c.args.self.now) c.in_err-part.was r in
-    let kept = kept_on all before c.args.self.now (Err e) h.2 answer.1 in
+    let kept = kept_same all before c.args.self.now (Err e) h.2.2 answer.1 in
     let saved = aside_again start c.args.self.now c.release.new.self c.args.self.now.descriptors.later kept.0 c.release.ensures.next
     (c.release.ensures.parted start.descriptors.kept (standing start.descriptors) _ (parted_again start c.args.self.now kept) h.0) in
-    let refused = plain_answer before all d (Err e) h.2 answer.0 in
+    let refused = descriptor_answer start before d (Err e) h.2 answer.0 in
     let same : c.from_residual.result ≡ Err e = search rules in
     rw same ((h.0, h.1, saved), λ t. (descriptor_refused start d e refused t, saved))
 
@@ -27,10 +26,10 @@ returns-in_err-descriptor-clause-step c = λ start before d h r.
     let v = c.in_ok-part.field-0 in
     let all = start.descriptors.kept ++ standing start.descriptors in
     let answer = subst (λ x. value_permits before d x c.args.self.now) c.in_ok-part.was r in
-    let kept = kept_on all before c.args.self.now (Ok v) h.2 answer.1 in
+    let kept = kept_same all before c.args.self.now (Ok v) h.2.2 answer.1 in
     let saved = aside_again start c.args.self.now c.release.new.self c.args.self.now.descriptors.later kept.0 c.release.ensures.next
     (c.release.ensures.parted start.descriptors.kept (standing start.descriptors) _ (parted_again start c.args.self.now kept) h.0) in
-    let stands = plain_answer before all d (Ok v) h.2 answer.0 in
+    let stands = descriptor_answer start before d (Ok v) h.2 answer.0 in
     let none = c.in_err-descriptor.ensures in
     let same : c.from_residual-in_err-descriptor.result ≡ Err InvalidValue = search rules in
     rw same ((h.0, h.1, saved), λ t. (no_descriptor start d t (same_descriptor v d stands ∙ none.0), saved))
@@ -41,7 +40,7 @@ returns-in_err-held-clause-step c = λ start before d h r.
     let e = c.in_err-held.field-0.0 in
     let all = start.descriptors.kept ++ standing start.descriptors in
     let answer = subst (λ x. value_permits before d x c.args.self.now) c.in_ok-part.was r in
-    let kept = kept_on all before c.args.self.now (Ok v) h.2 answer.1 in
+    let kept = kept_same all before c.args.self.now (Ok v) h.2.2 answer.1 in
     let rel = c.release.ensures.parted start.descriptors.kept (standing start.descriptors) _ (parted_again start c.args.self.now kept) h.0 in
     let after = c.in_err-held.ensures start.descriptors.kept (standing start.descriptors) c.args.self.now.descriptors.later rel.0 rel.1 (c.release.ensures.next ∙ kept.0.1) h.0 in
     let saved : IsSaved start (record { alloc = c.args.self.now.alloc; pending = c.args.self.now.pending; descriptors = c.describe.new.self }) = (((kept.0.0, after.4), after.1), (after.2, after.3)) in
@@ -54,8 +53,8 @@ returns-clause-step c = λ start before d h r.
     let x = descriptor_content c.in_ok-descriptor.descriptor in
     let all = start.descriptors.kept ++ standing start.descriptors in
     let answer = subst (λ x. value_permits before d x c.args.self.now) c.in_ok-part.was r in
-    let kept = kept_on all before c.args.self.now (Ok v) h.2 answer.1 in
-    let stands = plain_answer before all d (Ok v) h.2 answer.0 in
+    let kept = kept_same all before c.args.self.now (Ok v) h.2.2 answer.1 in
+    let stands = descriptor_answer start before d (Ok v) h.2 answer.0 in
     let rel = c.release.ensures.parted start.descriptors.kept (standing start.descriptors) _ (parted_again start c.args.self.now kept) h.0 in
     let after = c.in_ok-held.ensures start.descriptors.kept (standing start.descriptors) c.args.self.now.descriptors.later rel.0 rel.1 (c.release.ensures.next ∙ kept.0.1) h.0 in
     let inner = c.describe-2.ensures start.pending h.1 in

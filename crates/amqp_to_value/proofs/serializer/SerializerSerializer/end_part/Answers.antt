@@ -25,7 +25,7 @@ returns-in_err-unwrap-in-None-clause-step c = λ start kind before ps p h r.
     let s = stands start before c.args.self.now c.in-Single.field-0 p c.in_ok-value.value (subst (IsReady start before) is h.2)
     (subst (λ x. value_permits before p x c.args.self.now) c.in_ok-value.was r) in
     let rel = c.release.ensures.parted start.descriptors.kept (standing start.descriptors) c.args.self.now.descriptors.later (ap (λ ds. ds ++ c.args.self.now.descriptors.later) s.others) h.0 in
-    absurd (c.in_err-unwrap-in-None.ensures start.descriptors.kept (standing start.descriptors) (image s.tree) rel.0 (c.release.ensures.next ∙ s.none) h.0
+    absurd (c.in_err-unwrap-in-None.ensures start.descriptors.kept (standing start.descriptors) (image s.read) rel.0 (c.release.ensures.next ∙ s.none) h.0
     (subst (λ n. length (start.descriptors.kept ++ standing start.descriptors) ≤ n) (sym c.release.ensures.room) s.room) s.within)
 
 pub returns-in_ok-unwrap-in-None-clause-step : goal.returns-in_ok-unwrap-in-None-clause-step
@@ -35,8 +35,8 @@ returns-in_ok-unwrap-in-None-clause-step c = λ start kind before ps p h r.
     let s = stands start before c.args.self.now c.in-Single.field-0 p c.in_ok-value.value (subst (IsReady start before) is h.2) answer in
     let rel = c.release.ensures.parted start.descriptors.kept (standing start.descriptors) c.args.self.now.descriptors.later (ap (λ ds. ds ++ c.args.self.now.descriptors.later) s.others) h.0 in
     let taken = single_taken start (record { alloc = c.args.self.now.alloc; pending = c.args.self.now.pending; descriptors = c.unwrap.new.self }) kind c.in-Single.field-0
-    c.in_ok-unwrap-in-None.field-0 ps p s.tree (subst (λ b. HasParts start.pending kind b ps) is h.1) s.means answer.1.0.0.0
-    (c.in_ok-unwrap-in-None.ensures start.descriptors.kept (standing start.descriptors) (image s.tree) rel.0 (c.release.ensures.next ∙ s.none) h.0
+    c.in_ok-unwrap-in-None.field-0 ps p s.tree s.read (subst (λ b. HasParts start.pending kind b ps) is h.1) s.means s.opened answer.1.0.0.0
+    (c.in_ok-unwrap-in-None.ensures start.descriptors.kept (standing start.descriptors) (image s.read) rel.0 (c.release.ensures.next ∙ s.none) h.0
     (subst (λ n. length (start.descriptors.kept ++ standing start.descriptors) ≤ n) (sym c.release.ensures.room) s.room) s.within) in
     (h.0, subst (λ o. HasParts start.pending kind (body.Single c.in-Single.field-0 o) (ps ++ (p ∷ []))) (sym c.keep.ensures) taken.0, taken.1)
 

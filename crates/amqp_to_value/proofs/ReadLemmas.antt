@@ -1,0 +1,117 @@
+-- Trees without lazy parts, which are what they are read as.
+use Rattle.std.proofs.Common.{◌≡◌, false, true, true≢false, Bool, ◌||◌, Some, refl, ap, sym, ◌∙◌, subst, if◌then◌else◌, List, ℕ, None}
+use Rattle.amqp_ser.specs.Tree.{Tree, Trees, Pairs, scalar, list, array, map, described, variant, lazy, transparent, no_trees, more, no_pairs, pair}
+use Rattle.amqp_value.specs.Plain.{IsPlain, ArePlain, HasPlainPairs}
+use Rattle.amqp_to_value.specs.HasLazy.{has_lazy, has_lazy_each, has_lazy_pairs}
+use Rattle.amqp_to_value.specs.Opened.{Opened, AreOpened, HasOpenedPairs}
+use Rattle.amqp_decode.specs.Spells.{Spells}
+use Rattle.amqp_decode.proofs.Framed.{spells-frame}
+use Rattle.amqp_decode.proofs.OwnImage.{spelled-own_image}
+use Rattle.amqp_decode.proofs.Whole.{one-tree}
+use Rattle.amqp_frame.proofs.Whole.{frame_passes}
+use Rattle.amqp_ser.specs.Marked.{of_frame}
+use Rattle.amqp_value.specs.Image.{image}
+use Rattle.amqp_value.specs.Sound.{IsSound}
+use Rattle.amqp_value.specs.TreeOf.{tree_of}
+use Rattle.amqp_value.specs.declared.value.Value.{Value}
+use Rattle.amqp_value.proofs.SoundLemmas.{image-sound, sound-plain}
+use Rattle.amqp_to_value.specs.ImageOf.{StandsFor}
+
+first : (a b : Bool) → (a || b) ≡ false → a ≡ false
+first true b h = h
+first false b h = refl
+
+second : (a b : Bool) → (a || b) ≡ false → b ≡ false
+second true b h = absurd (true≢false h)
+second false b h = h
+
+mutual
+  -- each is read as itself
+  pub opened-itself : (t : Tree) → has_lazy t ≡ false → Opened t t
+  opened-itself (scalar s) h = refl
+  opened-itself (list ts) h = (ts, refl, opened-themselves ts h)
+  opened-itself (array ts) h = (ts, refl, opened-themselves ts h)
+  opened-itself (map ps) h = (ps, refl, opened-pairs ps h)
+  opened-itself (described d t) h = (t, refl, opened-itself t h)
+  opened-itself (variant i t) h = (t, refl, opened-itself t h)
+  opened-itself (lazy bs) h = absurd (true≢false h)
+  opened-itself (transparent ts) h = (ts, refl, opened-themselves ts h)
+
+  opened-themselves : (ts : Trees) → has_lazy_each ts ≡ false → AreOpened ts ts
+  opened-themselves no_trees h = refl
+  opened-themselves (more t ts) h =
+      (t, ts, refl, opened-itself t (first (has_lazy t) (has_lazy_each ts) h), opened-themselves ts (second (has_lazy t) (has_lazy_each ts) h))
+
+  opened-pairs : (ps : Pairs) → has_lazy_pairs ps ≡ false → HasOpenedPairs ps ps
+  opened-pairs no_pairs h = refl
+  opened-pairs (pair k v ps) h =
+      let rest = second (has_lazy k) (has_lazy v || has_lazy_pairs ps) h in (
+        k,
+        v,
+        ps,
+        refl,
+        opened-itself k (first (has_lazy k) (has_lazy v || has_lazy_pairs ps) h),
+        opened-itself v (first (has_lazy v) (has_lazy_pairs ps) rest),
+        opened-pairs ps (second (has_lazy v) (has_lazy_pairs ps) rest),
+      )
+
+mutual
+  -- a plain tree has no lazy part
+  pub plain-not_lazy : (t : Tree) → IsPlain t → has_lazy t ≡ false
+  plain-not_lazy (scalar s) h = refl
+  plain-not_lazy (list ts) h = each-not_lazy ts h
+  plain-not_lazy (array ts) h = each-not_lazy ts h
+  plain-not_lazy (map ps) h = pairs-not_lazy ps h
+  plain-not_lazy (described d t) h = plain-not_lazy t h
+  plain-not_lazy (variant i t) h = plain-not_lazy t h
+  plain-not_lazy (lazy bs) h = absurd h
+  plain-not_lazy (transparent ts) h = absurd h
+
+  each-not_lazy : (ts : Trees) → ArePlain ts → has_lazy_each ts ≡ false
+  each-not_lazy no_trees h = refl
+  each-not_lazy (more t ts) h = ap (λ b. b || has_lazy_each ts) (plain-not_lazy t h.0) ∙ each-not_lazy ts h.1
+
+  pairs-not_lazy : (ps : Pairs) → HasPlainPairs ps → has_lazy_pairs ps ≡ false
+  pairs-not_lazy no_pairs h = refl
+  pairs-not_lazy (pair k v ps) h =
+      ap (λ b. b || (has_lazy v || has_lazy_pairs ps)) (plain-not_lazy k h.0)
+      ∙ ap (λ b. b || has_lazy_pairs ps) (plain-not_lazy v h.1) ∙ pairs-not_lazy ps h.3
+
+mutual
+  -- no tree is read as two
+  pub one-opened : (t u w : Tree) → Opened t u → Opened t w → u ≡ w
+  one-opened (scalar s) u w a b = a ∙ sym b
+  one-opened (list ts) u w a b = a.1 ∙ ap list (each-opened ts a.0 b.0 a.2 b.2) ∙ sym b.1
+  one-opened (array ts) u w a b = a.1 ∙ ap array (each-opened ts a.0 b.0 a.2 b.2) ∙ sym b.1
+  one-opened (map ps) u w a b = a.1 ∙ ap map (pairs-opened ps a.0 b.0 a.2 b.2) ∙ sym b.1
+  one-opened (described d t) u w a b = a.1 ∙ ap (described d) (one-opened t a.0 b.0 a.2 b.2) ∙ sym b.1
+  one-opened (variant i t) u w a b = a.1 ∙ ap (variant i) (one-opened t a.0 b.0 a.2 b.2) ∙ sym b.1
+  one-opened (lazy bs) u w a b = one-tree 256 256 bs u w a b
+  one-opened (transparent ts) u w a b = a.1 ∙ ap transparent (each-opened ts a.0 b.0 a.2 b.2) ∙ sym b.1
+
+  each-opened : (ts us ws : Trees) → AreOpened ts us → AreOpened ts ws → us ≡ ws
+  each-opened no_trees us ws a b = a ∙ sym b
+  each-opened (more t ts) us ws a b =
+      a.2 ∙ (λ i. more (one-opened t a.0 b.0 a.3 b.3 i) (each-opened ts a.1 b.1 a.4 b.4 i)) ∙ sym b.2
+
+  pairs-opened : (ps qs rs : Pairs) → HasOpenedPairs ps qs → HasOpenedPairs ps rs → qs ≡ rs
+  pairs-opened no_pairs qs rs a b = a ∙ sym b
+  pairs-opened (pair k v ps) qs rs a b =
+      a.3 ∙ (λ i. pair (one-opened k a.0 b.0 a.4 b.4 i) (one-opened v a.1 b.1 a.5 b.5 i) (pairs-opened ps a.2 b.2 a.6 b.6 i)) ∙ sym b.3
+
+-- a tree without lazy parts is read as itself alone
+pub opened-same : (t u : Tree) → has_lazy t ≡ false → Opened t u → u ≡ t
+opened-same t u h o = one-opened t u t o (opened-itself t h)
+
+-- a value that stands for such a tree has its image
+pub stands-image : (t : Tree) (v : Value) → has_lazy t ≡ false → StandsFor v (Some t) → tree_of v ≡ image t
+stands-image t v h s = s.2 ∙ ap image (opened-same t s.0 h s.1)
+
+pub own : (a b : Value) → IsSound a → StandsFor b (Some (tree_of a)) → tree_of b ≡ tree_of a
+own a b sound s = stands-image (tree_of a) b (plain-not_lazy (tree_of a) (sound-plain a sound)) s ∙ image-sound a sound
+
+-- a value that the bytes spell stands for them as a lazy value
+pub lazy_read : (v : Value) (bs : List ℕ) → Spells 256 bs (tree_of v) → StandsFor v (of_frame bs)
+lazy_read v bs h =
+    subst (λ b. StandsFor v (if b then Some (lazy bs) else None)) (sym (frame_passes bs (spells-frame h)))
+    (tree_of v, h, sym (spelled-own_image h))

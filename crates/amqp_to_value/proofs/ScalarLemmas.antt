@@ -1,0 +1,81 @@
+-- Scalars under a marker: each is read as itself.
+use Rattle.std.proofs.Common.{ℕ, Bool, true, false, if◌then◌else◌, List, Option, Some, None, Result, refl}
+use Rattle.amqp_data.specs.declared.error.Error.{Error}
+use Rattle.amqp_ser.specs.Fixed.{fixed_scalar}
+use Rattle.amqp_ser.specs.Marked.{marked_scalar}
+use Rattle.amqp_ser.specs.Tree.{Scalar, Tree, scalar, binary, long, string, symbol, ulong}
+use Rattle.amqp_ser.specs.declared.fixed.Fixed.{Fixed}
+use Rattle.amqp_ser.specs.declared.fixed.Fixed.TheVariants as fixed
+use Rattle.amqp_ser.specs.declared.mark.Mark.{Mark}
+use Rattle.amqp_ser.specs.declared.mark.Mark.TheVariants as mark
+use Rattle.amqp_value.specs.declared.value.Value.{Value}
+use Rattle.amqp_to_value.specs.HeldImages.{IsOpenedImage}
+use Rattle.amqp_to_value.specs.ImageOf.{IsImageOf}
+use Rattle.amqp_to_value.specs.PendingMark.{as_descriptor, meant}
+use Rattle.amqp_to_value.specs.declared.pending_mark.PendingMark.{PendingMark}
+use Rattle.amqp_to_value.specs.declared.pending_mark.PendingMark.TheVariants as pending
+use Rattle.amqp_to_value.proofs.OpenedLemmas.{IsOpened, opened_answer}
+
+-- a scalar, or none
+abbrev IsScalar : Option Tree → Type 0
+IsScalar None = Unit {0}
+IsScalar (Some (scalar s)) = Unit {0}
+IsScalar (Some t) = ⊥
+
+itself : (o : Option Tree) → IsScalar o → IsOpened o o
+itself None h = tt
+itself (Some (scalar s)) h = refl
+itself (Some t) h = absurd h
+
+abbrev IsNoBinary : Scalar → Type 0
+IsNoBinary (binary bs) = ⊥
+IsNoBinary s = Unit {0}
+
+sized_is : (b : Bool) (s : Scalar) → IsScalar (if b then Some (scalar s) else None)
+sized_is true s = tt
+sized_is false s = tt
+
+marked_is : (m : Mark) (s : Scalar) → IsNoBinary s → IsScalar (marked_scalar m s)
+marked_is mark.Symbol (string bs) h = tt
+marked_is mark.Timestamp (long z) h = tt
+marked_is mark.Decimal32 (binary bs) h = absurd h
+marked_is mark.Decimal64 (binary bs) h = absurd h
+marked_is mark.Decimal128 (binary bs) h = absurd h
+marked_is mark.Uuid (binary bs) h = absurd h
+marked_is mark.Lazy (binary bs) h = absurd h
+marked_is mark.Other s h = tt
+marked_is _ _ h = tt
+
+descriptor_is : (s : Scalar) → IsScalar (as_descriptor (Some (scalar s)))
+descriptor_is (ulong n) = tt
+descriptor_is (symbol bs) = tt
+descriptor_is s = tt
+
+meant_is : (u : PendingMark) (s : Scalar) → IsNoBinary s → IsScalar (meant u (Some (scalar s)))
+meant_is (pending.Mark m) s h = marked_is m s h
+meant_is pending.Descriptor s h = descriptor_is s
+meant_is pending.Nothing s h = tt
+
+pub scalar_answer : (u : PendingMark) (s : Scalar) (r : Result Value Error) → IsNoBinary s → IsOpenedImage (meant u (Some (scalar s))) r → IsImageOf (meant u (Some (scalar s))) r
+scalar_answer u s r h g = opened_answer (meant u (Some (scalar s))) (meant u (Some (scalar s))) r (itself (meant u (Some (scalar s))) (meant_is u s h)) g
+
+no_binary : (f : Fixed) → IsNoBinary (fixed_scalar f)
+no_binary fixed.Null = tt
+no_binary (fixed.Bool b) = tt
+no_binary (fixed.Ubyte n) = tt
+no_binary (fixed.Ushort n) = tt
+no_binary (fixed.Uint n) = tt
+no_binary (fixed.Ulong n) = tt
+no_binary (fixed.Byte z) = tt
+no_binary (fixed.Short z) = tt
+no_binary (fixed.Int z) = tt
+no_binary (fixed.Long z) = tt
+no_binary (fixed.Float n) = tt
+no_binary (fixed.Double n) = tt
+no_binary (fixed.Char c) = tt
+
+pub fixed_answer : (u : PendingMark) (f : Fixed) (r : Result Value Error) → IsOpenedImage (meant u (Some (scalar (fixed_scalar f)))) r → IsImageOf (meant u (Some (scalar (fixed_scalar f)))) r
+fixed_answer u f r g = scalar_answer u (fixed_scalar f) r (no_binary f) g
+
+pub text_answer : (u : PendingMark) (bs : List ℕ) (r : Result Value Error) → IsOpenedImage (meant u (Some (scalar (string bs)))) r → IsImageOf (meant u (Some (scalar (string bs)))) r
+text_answer u bs r g = scalar_answer u (string bs) r tt g

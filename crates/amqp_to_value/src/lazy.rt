@@ -1,0 +1,40 @@
+//! The value inside a lazy value.
+
+ghost use Rattle.std.specs.Prelude.{◌≡◌, false, true};
+ghost use Rattle.amqp_frame.specs.Whole.{is_frame};
+ghost use Rattle.amqp_ser.specs.Marked.{of_frame};
+ghost use Rattle.amqp_to_value.specs.ImageOf.{IsFault, IsImageOf};
+
+use amqp_data::Error;
+use amqp_decode::decode_value;
+use amqp_frame::is_frame;
+use amqp_value::Value;
+use std::alloc::Global;
+
+/// The value that the bytes spell, where they are one encoded value.
+#[inline(never)]
+pub fn lazy_value(alloc: Global, bytes: &[u8]) -> Result<Value, Error>
+    ensures { IsImageOf (of_frame bytes.now) result }
+{
+    match decode_value(alloc, bytes) {
+        Ok(value) => Ok(value),
+        Err(e) => Err(refusal(e, bytes)),
+    }
+}
+
+// The refusal of bytes that were not read: what was wrong with them where they are one encoded value, and otherwise
+// invalid; out of memory stays what it is.
+fn refusal(e: Error, bytes: &[u8]) -> Error
+    ensures memory { e ≡ Error.OutOfMemory → result ≡ Error.OutOfMemory }
+    ensures code { e ≡ Error.InvalidFormatCode → is_frame bytes.now ≡ true → result ≡ e }
+    ensures end { e ≡ Error.UnexpectedEof → is_frame bytes.now ≡ true → result ≡ e }
+    ensures other { ¬ (e ≡ Error.OutOfMemory) → is_frame bytes.now ≡ false → result ≡ Error.InvalidValue }
+    ensures fault { ¬ (e ≡ Error.OutOfMemory) → IsFault result }
+{
+    match e {
+        Error::OutOfMemory => Error::OutOfMemory,
+        Error::InvalidFormatCode if is_frame(bytes) => Error::InvalidFormatCode,
+        Error::UnexpectedEof if is_frame(bytes) => Error::UnexpectedEof,
+        _ => Error::InvalidValue,
+    }
+}
