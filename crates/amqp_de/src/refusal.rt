@@ -18,6 +18,10 @@ pub trait Refusal: Sized + Drop {
     fn invalid() -> Self
         ensures { ¬ (is_memory result) };
 
+    /// The value is too long to be written.
+    fn too_long() -> Self
+        ensures { ¬ (is_memory result) };
+
     /// A reader's own words.
     fn message(words: &'static str) -> Self
         ensures { ¬ (is_memory result) };
@@ -32,6 +36,10 @@ impl Refusal for Error {
 
     fn invalid() -> Error {
         Error::InvalidValue
+    }
+
+    fn too_long() -> Error {
+        Error::TooLong
     }
 
     fn message(words: &'static str) -> Error {
