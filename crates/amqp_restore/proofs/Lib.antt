@@ -1,1 +1,3 @@
 pub mod StandLemmas
+pub mod MapLemmas
+pub mod ValueLemmas
