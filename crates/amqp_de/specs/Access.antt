@@ -49,6 +49,12 @@ abbrev pub RestoresKey : {T E : Type 0} → (T → Tree) → (T → Type 0) → 
 RestoresKey {T} image P S Memory owed left r =
     (x : T) (t : Tree) (es : List (Tree × Tree)) → P x → owed ≡ None → left ≡ (image x, t) ∷ es → MatchResult r (λ o. IsSomeAnd o (λ y. S y x)) Memory
 
+abbrev pub RestoresEntry : {K V E : Type 0} → (K → Tree) → (K → Type 0) → (K → K → Type 0) → (V → Tree) → (V → Type 0) → (V → V → Type 0) → (E → Type 0)
+    → Option Tree → List (Tree × Tree) → Result (Option (K × V)) E → Type 0
+RestoresEntry {K} {V} f P S g Q T Memory owed left r =
+    (x : K × V) (es : List (Tree × Tree)) → P x.0 → Q x.1 → owed ≡ None → left ≡ (f x.0, g x.1) ∷ es →
+    MatchResult r (λ o. IsSomeAnd o (λ y. S y.0 x.0 × T y.1 x.1)) Memory
+
 abbrev pub RestoresOwed : {T E : Type 0} → (T → Tree) → (T → Type 0) → (T → T → Type 0) → (E → Type 0) → Option Tree → Result T E → Type 0
 RestoresOwed {T} image P S Memory owed r = (x : T) → P x → owed ≡ Some (image x) → MatchResult r (λ y. S y x) Memory
 

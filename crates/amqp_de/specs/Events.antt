@@ -1,12 +1,15 @@
 -- What a visitor is shown of a value, and which trees are shown so (AMQP 1.0 part 1, section 1.6).
-use Rattle.std.specs.Prelude.{◌≡◌, ◌≢◌, ◌⊎◌, ◌||◌, ℕ, ℤ, Bool, true, false, List, [], ◌∷◌, Option, Some, None, Result, MatchResult, string_bytes}
+use Rattle.std.specs.Prelude.{◌≡◌, ◌≢◌, ◌⊎◌, ◌||◌, ℕ, ℤ, Bool, true, false, List, [], ◌∷◌, Option, Some, None, Result, MatchResult, bytes_eq, codes, string_bytes}
 use Rattle.amqp_data.specs.Fixed.{f32_bits, f64_bits}
 use Rattle.amqp_data.specs.Items.{byte_buf_bytes}
 use Rattle.amqp_ser.specs.Tree as tree
 use Rattle.amqp_ser.specs.Tree.{Tree, Trees, Pairs, Scalar, Descriptor, scalar, list, array, map, described}
 use Rattle.amqp_ser.specs.declared.mark.Mark.{Mark}
 use Rattle.amqp_ser.specs.declared.mark.Mark.TheVariants as mark
+use Rattle.amqp_ser.specs.Encoding.{encoding}
 use Rattle.amqp_ser.specs.Structs.{is_basic_name, is_list_name, is_map_name}
+use Rattle.amqp_ser.specs.Writable.{writable}
+use Rattle.amqp_value.specs.FormatCode.{code_of_kind}
 use Rattle.amqp_de.specs.Enums.{first}
 use Rattle.amqp_de.specs.Parts.{elements_in, entries_in}
 use Rattle.amqp_de.specs.declared.shown.Visit.{Visit}
@@ -131,11 +134,17 @@ module _ {T : Type 0} (G : Event → T → Type 0) where
   abbrev pub ByValue : Tree → T → Type 0
   ByValue t x = G (value_event t) x
 
-  -- an enum by its name: an untyped value, a descriptor, or a variant
-  abbrev pub ByEnum : Bool → Bool → Tree → T → Type 0
-  ByEnum true b = ByValue
-  ByEnum false true = ByDescriptor
-  ByEnum false false = ByVariant
+  -- the elements of an array, or the format code of any other value
+  abbrev pub ByFormat : Tree → T → Type 0
+  ByFormat (array ts) x = G (seq_event (elements_in ts)) x
+  ByFormat t x = G (plain_event (tree.ubyte (code_of_kind t))) x
+
+  -- an enum by its name: an untyped value, a descriptor, an array's elements or a format code, or a variant
+  abbrev pub ByEnum : Bool → Bool → Bool → Tree → T → Type 0
+  ByEnum true b c = ByValue
+  ByEnum false true c = ByDescriptor
+  ByEnum false false true = ByFormat
+  ByEnum false false false = ByVariant
 
   -- a symbol as a text, a timestamp as a number, another scalar as an untyped value
   abbrev pub BySymbol : Tree → T → Type 0
@@ -151,8 +160,9 @@ module _ {T : Type 0} (G : Event → T → Type 0) where
   abbrev pub ByNewtype : Tree → T → Type 0
   ByNewtype t x = G (newtype_event t) x
 
-  abbrev pub ByNothing : Tree → T → Type 0
-  ByNothing t x = ⊥
+  -- the bytes of what can be written
+  abbrev pub ByWritten : Tree → T → Type 0
+  ByWritten t x = (writable t ≡ true) × G (plain_event (tree.binary (encoding t))) x
 
   -- a newtype by what its name asks for
   abbrev pub ByMark : Mark → Tree → T → Type 0
@@ -164,7 +174,7 @@ module _ {T : Type 0} (G : Event → T → Type 0) where
   ByMark mark.Uuid = ByKind tree.uuid
   ByMark mark.Array = ByArray
   ByMark mark.Transparent = ByNewtype
-  ByMark mark.Lazy = ByNothing
+  ByMark mark.Lazy = ByWritten
   ByMark mark.Other = ByNewtype
 
 -- whether a tree is the index of a variant by itself
@@ -176,6 +186,10 @@ is_index_scalar s = false
 abbrev pub is_index : Tree → Bool
 is_index (scalar s) = is_index_scalar s
 is_index t = false
+
+-- the name of an enum that is an array's elements, or a format code
+abbrev pub is_array_name : List ℕ → Bool
+is_array_name n = bytes_eq n (codes "__ARRAY")
 
 -- the names of structs that stand after a descriptor
 abbrev pub is_described_name : List ℕ → Bool

@@ -1,6 +1,9 @@
 -- What types that hold others read (AMQP 1.0 part 1, sections 1.2 and 1.6).
-use Rattle.std.specs.Prelude.{◌≡◌, ℕ, List, Option, Some, None, length, take}
+use Rattle.std.specs.Prelude.{◌≡◌, ℕ, true, List, Option, Some, None, length, take}
 use Rattle.std.specs.List.{AllZip}
+use Rattle.amqp_frame.specs.Frame.{IsFrame}
+use Rattle.amqp_ser.specs.Encoding.{encoding}
+use Rattle.amqp_ser.specs.Writable.{writable}
 use Rattle.amqp_ser.specs.Tree.{null, ulong, symbol, Descriptor, name, code, Tree, scalar, list, array}
 use Rattle.amqp_de.specs.Parts.{elements_in}
 
@@ -46,3 +49,7 @@ ReadsFirst R n ts xs = (length xs ≡ n) × AllZip R (take n ts) xs
 abbrev pub descriptor_tree : Descriptor → Tree
 descriptor_tree (code n) = scalar (ulong n)
 descriptor_tree (name s) = scalar (symbol s)
+
+-- the bytes of what can be written as one encoded value
+abbrev pub ReadsLazy : Tree → List ℕ → Type 0
+ReadsLazy t bs = (writable t ≡ true) × IsFrame (encoding t) × (bs ≡ encoding t)

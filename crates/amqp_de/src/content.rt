@@ -1,7 +1,13 @@
 //! One level of what a deserializer holds.
 
+ghost use Rattle.std.specs.Prelude.{◌≡◌, List};
+ghost use Rattle.amqp_ser.specs.Tree.{Tree};
+ghost use Rattle.amqp_value.specs.FormatCode.{code_of_kind};
+ghost use Rattle.amqp_de.specs.ContentTree.{content_tree};
+
 use amqp_data::{
-    ByteBuf, Dec32, Dec64, Dec128, Descriptor, F32Bits, F64Bits, Symbol, Timestamp, Uuid,
+    ByteBuf, Dec32, Dec64, Dec128, Descriptor, EncodingCodes, F32Bits, F64Bits, Symbol, Timestamp,
+    Uuid,
 };
 
 /// One level of what a deserializer `D` holds: null, a scalar, or a compound whose parts are still to be read.
@@ -57,4 +63,41 @@ pub enum Content<D, P, E> {
     Map(E),
     /// A descriptor, and the value that it describes.
     Described(Descriptor, D),
+}
+
+impl<D, P, E> Content<D, P, E> {
+    /// The code of the value's kind, as that of a `Value`.
+    pub fn format_code(&self) -> u8
+        ensures { (value : D → Tree) (items : P → List Tree) (pairs : E → List (Tree × Tree)) →
+            result ≡ code_of_kind (content_tree value items pairs self.now) }
+    {
+        let code = match self {
+            Content::Described(_, _) => EncodingCodes::DescribedType,
+            Content::Null => EncodingCodes::Null,
+            Content::Bool(_) => EncodingCodes::Boolean,
+            Content::Ubyte(_) => EncodingCodes::Ubyte,
+            Content::Ushort(_) => EncodingCodes::Ushort,
+            Content::Uint(_) => EncodingCodes::Uint,
+            Content::Ulong(_) => EncodingCodes::Ulong,
+            Content::Byte(_) => EncodingCodes::Byte,
+            Content::Short(_) => EncodingCodes::Short,
+            Content::Int(_) => EncodingCodes::Int,
+            Content::Long(_) => EncodingCodes::Long,
+            Content::Float(_) => EncodingCodes::Float,
+            Content::Double(_) => EncodingCodes::Double,
+            Content::Decimal32(_) => EncodingCodes::Decimal32,
+            Content::Decimal64(_) => EncodingCodes::Decimal64,
+            Content::Decimal128(_) => EncodingCodes::Decimal128,
+            Content::Char(_) => EncodingCodes::Char,
+            Content::Timestamp(_) => EncodingCodes::Timestamp,
+            Content::Uuid(_) => EncodingCodes::Uuid,
+            Content::Binary(_) => EncodingCodes::Vbin32,
+            Content::String(_) => EncodingCodes::Str32,
+            Content::Symbol(_) => EncodingCodes::Sym32,
+            Content::List(_) => EncodingCodes::List32,
+            Content::Map(_) => EncodingCodes::Map32,
+            Content::Array(_) => EncodingCodes::Array32,
+        };
+        u8::from(code)
+    }
 }

@@ -6,16 +6,20 @@ ghost use Rattle.amqp_ser.specs.Tree.{Tree, scalar, null, bool, ubyte, ushort, u
 ghost use Rattle.amqp_value.specs.TreeOf.{tree_of};
 ghost use Rattle.amqp_de.specs.Answers.{Answers, TakesNext, TakesPair, TakesNamed};
 ghost use Rattle.amqp_de.specs.ContentTree.{content_tree};
-ghost use Rattle.amqp_de.specs.Events.{plain_event, any_event, is_index, is_described_name, Returns, ByPlain, ByOption, ByUnit, ByList, ByMap, ByIdentifier, ByDescribed, ByStruct, ByDescriptor, ByVariant, ByEnum, ByArray, ByMark};
+ghost use Rattle.amqp_de.specs.Events.{plain_event, any_event, is_index, is_array_name, is_described_name, Returns, ByPlain, ByOption, ByUnit, ByList, ByMap, ByIdentifier, ByDescribed, ByStruct, ByDescriptor, ByFormat, ByVariant, ByEnum, ByArray, ByWritten, ByMark};
 
 use crate::access::{ElementsOf, EntriesOf, VariantOf};
 use crate::content::Content;
-use crate::names::{is_described_name, is_descriptor_name, is_value_name};
+use crate::names::{is_array_name, is_described_name, is_descriptor_name, is_value_name};
 use crate::refusal::Refusal;
 use crate::untyped;
+use crate::unwritable::unwritable;
 use crate::visitor::Visitor;
+use amqp_data::ByteBuf;
 use amqp_ser::{Mark, mark_named};
 use amqp_value::Value;
+use amqp_wire::to_vec;
+use std::alloc::Global;
 
 /// What a type is read out of: it holds a tree, and gives it away level by level.
 ///
@@ -26,7 +30,7 @@ use amqp_value::Value;
 /// has the message `Expecting a Value`. Otherwise the answer is the visitor's.
 ///
 /// # Implementer notes
-/// The seven calls above the first `deserialize_..` are to be written.
+/// The eight calls above the first `deserialize_..` are to be written.
 pub trait Deserializer: Sized + Drop {
     /// The refusals of what is read.
     type Error: Refusal;
@@ -45,6 +49,9 @@ pub trait Deserializer: Sized + Drop {
 
     /// The trees of the keys and values, in order.
     ghost pairs: { Self.Entries → List (Tree × Tree) };
+
+    /// The allocator for the bytes of a lazy value.
+    fn alloc(&self) -> Global;
 
     /// Whether it holds null.
     ///
@@ -673,15 +680,36 @@ pub trait Deserializer: Sized + Drop {
         }
     }
 
-    /// Deserializes an enum by its name: an untyped value, a descriptor, or a variant.
+    /// Deserializes the elements of an array, or the format code of any other value.
     ///
     /// # Errors
-    /// Under the name `VALUE` as the visitor; under `DESCRIPTOR` as `deserialize_descriptor`; else as
-    /// `deserialize_variant`.
+    /// As the visitor.
+    ///
+    /// # Example
+    /// Of the uint 3: `visit_u8(0x70)`. Of an array: `visit_seq` of its elements.
+    #[tactic(auto, using(crate::proofs::Lists::list_of_trees))]
+    final fn deserialize_format<V: Visitor>(self, visitor: V) -> Result<V::Value, Self::Error>
+        ensures read { Answers Self.Error.is_memory
+            (ByFormat (V.gives visitor) (value self)) result }
+        ensures law { Returns (ByFormat (V.stands visitor) (value self))
+            V.same Self.Error.is_memory result }
+    {
+        match self.open() {
+            Content::Array(elements) => visitor.visit_seq(ElementsOf::<Self>::new(elements)),
+            other => visitor.visit_u8(other.format_code()),
+        }
+    }
+
+    /// Deserializes an enum by its name: an untyped value, a descriptor, an array's elements or another
+    /// value's format code, or a variant.
+    ///
+    /// # Errors
+    /// Under the name `VALUE` as the visitor; under `DESCRIPTOR` as `deserialize_descriptor`; under `ARRAY` as
+    /// `deserialize_format`; else as `deserialize_variant`.
     ///
     /// # Example
     /// Of the uint 3: `visit_enum` of this index. Under the name `VALUE`: `visit_value` of `Value::Uint(3)`. Under
-    /// `DESCRIPTOR`: invalid.
+    /// `DESCRIPTOR`: invalid. Under `ARRAY`: `visit_u8(0x70)`.
     final fn deserialize_enum<V: Visitor>(
         self,
         name: &str,
@@ -689,17 +717,19 @@ pub trait Deserializer: Sized + Drop {
     ) -> Result<V::Value, Self::Error>
         ensures read { Answers Self.Error.is_memory
             (ByEnum (V.gives visitor) (is_value_name name.now)
-            (is_descriptor_name name.now) (value self))
+            (is_descriptor_name name.now) (is_array_name name.now) (value self))
             result }
         ensures law { Returns
             (ByEnum (V.stands visitor) (is_value_name name.now)
-            (is_descriptor_name name.now) (value self))
+            (is_descriptor_name name.now) (is_array_name name.now) (value self))
             V.same Self.Error.is_memory result }
     {
         if is_value_name(name) {
             visitor.visit_value(self.into_value())
         } else if is_descriptor_name(name) {
             self.deserialize_descriptor(visitor)
+        } else if is_array_name(name) {
+            self.deserialize_format(visitor)
         } else {
             self.deserialize_variant(visitor)
         }
@@ -725,11 +755,31 @@ pub trait Deserializer: Sized + Drop {
         }
     }
 
+    /// Deserializes a lazy value: the bytes that the value is written as.
+    ///
+    /// # Errors
+    /// Invalid or too long where the value cannot be written, as `to_vec`; out of memory; as the visitor otherwise.
+    ///
+    /// # Example
+    /// Of the string `a`: `visit_byte_buf` of `a10161`.
+    final fn deserialize_written<V: Visitor>(self, visitor: V) -> Result<V::Value, Self::Error>
+        ensures read { Answers Self.Error.is_memory
+            (ByWritten (V.gives visitor) (value self)) result }
+        ensures law { Returns (ByWritten (V.stands visitor) (value self))
+            V.same Self.Error.is_memory result }
+    {
+        let alloc = self.alloc();
+        match to_vec(alloc, &self.into_value()) {
+            Ok(bytes) => visitor.visit_byte_buf(ByteBuf::from(bytes)),
+            Err(error) => Err(unwritable(error)),
+        }
+    }
+
     /// Deserializes what a newtype's name asks for.
     ///
     /// # Errors
-    /// Invalid where another kind is held than the mark makes, and always under `Mark::Lazy`; as the visitor otherwise.
-    /// `Mark::Other` and `Mark::Transparent` take any kind.
+    /// Invalid where another kind is held than the mark makes; under `Mark::Lazy` as `deserialize_written`; as the
+    /// visitor otherwise. `Mark::Other` and `Mark::Transparent` take any kind.
     ///
     /// # Example
     /// Of the symbol `a` and `Mark::Symbol`: `visit_string` of `a`. Of a timestamp of 13 milliseconds and
@@ -747,7 +797,7 @@ pub trait Deserializer: Sized + Drop {
         match mark {
             Mark::Transparent | Mark::Other => visitor.visit_newtype_struct(self),
             Mark::Array => self.deserialize_array(visitor),
-            Mark::Lazy => Err(Self::Error::invalid()),
+            Mark::Lazy => self.deserialize_written(visitor),
             Mark::Symbol => match self.open() {
                 Content::Symbol(name) => visitor.visit_string(name.into_inner()),
                 _ => Err(Self::Error::invalid()),

@@ -16,6 +16,7 @@ mod refusal;
 mod seed;
 mod shown;
 mod untyped;
+mod unwritable;
 mod visitor;
 
 pub use access::{ContentOf, ElementsOf, EntriesOf, VariantOf};

@@ -2,7 +2,7 @@
 
 ghost use Rattle.std.specs.Prelude.{◌≡◌};
 ghost use Rattle.amqp_ser.specs.Marked.{is_descriptor_name, is_value_name};
-ghost use Rattle.amqp_de.specs.Events.{is_described_name};
+ghost use Rattle.amqp_de.specs.Events.{is_array_name, is_described_name};
 
 use amqp_data::markers;
 
@@ -26,6 +26,13 @@ pub fn is_value_name(name: &str) -> bool
     ensures { result ≡ is_value_name name.now }
 {
     name == markers::VALUE
+}
+
+/// Whether an enum of this name is an array's elements, or the format code of another value.
+pub fn is_array_name(name: &str) -> bool
+    ensures { result ≡ is_array_name name.now }
+{
+    name == markers::ARRAY
 }
 
 /// Whether an enum of this name is a descriptor.

@@ -56,6 +56,18 @@ impl Describes for SymbolRef<'_> {
     }
 }
 
+/// The name of a symbol.
+impl Describes for &str {
+    ghost wanted = { λ s. name s.now };
+
+    fn is(&self, descriptor: &Descriptor) -> bool {
+        match descriptor {
+            Descriptor::Code(_) => false,
+            Descriptor::Name(symbol) => symbol.as_inner().as_str() == *self,
+        }
+    }
+}
+
 /// Reads the parts of a value.
 ///
 /// # Errors

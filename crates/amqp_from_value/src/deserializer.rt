@@ -98,6 +98,10 @@ impl de::Deserializer for Deserializer {
 
     ghost pairs = { entries_left };
 
+    fn alloc(&self) -> Global {
+        self.alloc
+    }
+
     fn is_null(&self) -> bool {
         matches!(&self.value, Value::Null)
     }

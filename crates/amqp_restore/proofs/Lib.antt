@@ -1,2 +1,4 @@
 pub mod StandLemmas
 pub mod ImageLemmas
+pub mod MapLemmas
+pub mod ValueLemmas

@@ -3,6 +3,8 @@
 use crate::laws;
 use crate::restore::Restore;
 use amqp_data::{Array, Described, TransparentVec};
+use amqp_value::Value;
+use amqp_value::laws::sound_values_are_their_own_images;
 
 #[tactic(auto, using(crate::proofs::StandLemmas::optional_stand))]
 impl<T: Restore> Restore for Option<T> {
@@ -19,6 +21,14 @@ impl<T: Restore> Restore for Box<T> {
 
 #[tactic(auto, using(crate::proofs::StandLemmas::items_stand))]
 impl<T: Restore> Restore for Vec<T> {
+    fn returns() {
+        laws::lists_return();
+        T::returns();
+    }
+}
+
+#[tactic(auto, using(crate::proofs::StandLemmas::items_stand))]
+impl<T: Restore, const N: usize> Restore for [T; N] {
     fn returns() {
         laws::lists_return();
         T::returns();
@@ -45,5 +55,12 @@ impl<T: Restore> Restore for Described<T> {
     fn returns() {
         laws::described_return();
         T::returns();
+    }
+}
+
+#[tactic(auto, using(crate::proofs::ValueLemmas::nothing_lazy))]
+impl Restore for Value {
+    fn returns() {
+        sound_values_are_their_own_images();
     }
 }

@@ -3,6 +3,7 @@
 
 mod holders;
 pub mod laws;
+mod maps;
 mod restore;
 mod scalars;
 mod tuples;

@@ -2,7 +2,7 @@
 
 ghost use Rattle.std.specs.Prelude.{◌≡◌, ◌↔◌, IsTrue, IsSome, List, Option, Some, None};
 ghost use Rattle.amqp_ser.specs.Tree.{Tree};
-ghost use Rattle.amqp_de.specs.Access.{ReadsKey, ReadsValue, ReadsEntry, RestoresKey, RestoresOwed};
+ghost use Rattle.amqp_de.specs.Access.{ReadsKey, ReadsValue, ReadsEntry, RestoresEntry, RestoresKey, RestoresOwed};
 ghost use Rattle.amqp_de.specs.Answers.{TakesPair};
 ghost use Rattle.amqp_de.specs.Enums.{value_of};
 
@@ -132,8 +132,10 @@ pub trait MapAccess: Sized + Drop {
         key_seed: K,
         value_seed: V,
     ) -> Result<Option<(K::Value, V::Value)>, Self::Error>
-        ensures { ReadsEntry Self.Error.is_memory (K.reads key_seed) (V.reads value_seed)
+        ensures read { ReadsEntry Self.Error.is_memory (K.reads key_seed) (V.reads value_seed)
             (owed self.old) (left self.old) (owed self.new) (left self.new) result }
+        ensures law { RestoresEntry K.image K.restorable K.same V.image V.restorable V.same
+            Self.Error.is_memory (owed self.old) (left self.old) result }
     {
         if self.owes() {
             return Err(Self::Error::invalid());
@@ -193,8 +195,10 @@ pub trait MapAccess: Sized + Drop {
         &mut self,
         alloc: Global,
     ) -> Result<Option<(K, V)>, Self::Error>
-        ensures { ReadsEntry Self.Error.is_memory K.reads V.reads
+        ensures read { ReadsEntry Self.Error.is_memory K.reads V.reads
             (owed self.old) (left self.old) (owed self.new) (left self.new) result }
+        ensures law { RestoresEntry K.image K.restorable K.same V.image V.restorable V.same
+            Self.Error.is_memory (owed self.old) (left self.old) result }
     {
         self.next_entry_seed(alloc, Of(PhantomData::<K>), Of(PhantomData::<V>))
     }

@@ -1,8 +1,9 @@
 //! Types that hold others: options and boxes; and untyped values.
 
 ghost use Rattle.std.specs.Prelude.{◌≡◌};
+ghost use Rattle.amqp_value.specs.Sound.{IsSound};
 ghost use Rattle.amqp_value.specs.TreeOf.{tree_of};
-ghost use Rattle.amqp_de.specs.Reads.{Always, ReadsOption, image_option, RestorableOption, SameOption};
+ghost use Rattle.amqp_de.specs.Reads.{ReadsOption, image_option, RestorableOption, SameOption};
 
 use crate::de::{Deserialize, Deserializer, Refusal};
 use amqp_value::Value;
@@ -47,7 +48,7 @@ impl Deserialize for Value {
 
     ghost image = { tree_of };
 
-    ghost restorable = { Always };
+    ghost restorable = { IsSound };
 
     ghost same = { λ v w. tree_of v ≡ tree_of w };
 
