@@ -104,21 +104,13 @@ items_in h n (c ∷ s) = next (primitive_of c) (λ code. next (gather (payload_i
 abbrev pub parse_array : ContentReader → ℕ × List ℕ → Option Tree
 parse_array h p = next (items_in h p.0 p.1) (λ ts. Some (tree.array (trees_of ts)))
 
--- a compound's content, with f for the encoded values in it and h for the items
-abbrev pub compound_in : FrameReader → ContentReader → PayloadShape → List ℕ → Option Tree
-compound_in f h (shape.List count) s = next (counted_in count s) (parse_list f)
-compound_in f h (shape.Map count) s = next (counted_in count s) (parse_map f)
-compound_in f h (shape.Array count) s = next (counted_in count s) (parse_array h)
-compound_in f h shape.Described s = None
-compound_in f h shape.Scalar s = None
-
--- a content
+-- a content, with f for the encoded values in it and h for the items
 abbrev pub content_in : FrameReader → ContentReader → PayloadShape → ContentReader
-content_in f h shape.Scalar code s = next (scalar_in code s) scalar_tree
 content_in f h shape.Described code s = None
-content_in f h (shape.List count) code s = compound_in f h (shape.List count) s
-content_in f h (shape.Map count) code s = compound_in f h (shape.Map count) s
-content_in f h (shape.Array count) code s = compound_in f h (shape.Array count) s
+content_in f h shape.Scalar code s = next (scalar_in code s) scalar_tree
+content_in f h (shape.List count) code s = next (counted_in count s) (parse_list f)
+content_in f h (shape.Map count) code s = next (counted_in count s) (parse_map f)
+content_in f h (shape.Array count) code s = next (counted_in count s) (parse_array h)
 
 abbrev pub content_of : FrameReader → ContentReader → ContentReader
 content_of f h code s = content_in f h (shape_of_code code) code s

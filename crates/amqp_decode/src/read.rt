@@ -3,8 +3,7 @@
 ghost use Rattle.std.specs.Prelude.{◌≡◌, ℕ, IfOk, IfErr, Some, None};
 ghost use Rattle.amqp_data.specs.declared.error.Error.TheVariants.{OutOfMemory};
 ghost use Rattle.amqp_value.specs.TreeOf.{tree_of};
-ghost use Rattle.amqp_decode.specs.Parsed.{parse, parse_content, payload_in, content_of, compound_in, frame_in, descriptor_at, parse_described, parse_list, parse_map, parse_array};
-ghost use Rattle.amqp_decode.specs.Scalars.{next};
+ghost use Rattle.amqp_decode.specs.Parsed.{parse, parse_content, payload_in, content_of, frame_in, parse_list, parse_map, parse_array};
 
 use crate::cut::{read_count, read_payload};
 use crate::map_value::map_value;
@@ -51,8 +50,11 @@ fn read_frame_over(
     match bytes.split_first() {
         None => Err(Error::UnexpectedEof),
         Some((0, rest)) => {
+            let (descriptor, rest) = read_descriptor(alloc, rest)?;
             *bytes = rest;
-            read_described(alloc, bytes, depth, elements)
+            let value = read_frame(alloc, bytes, depth, elements)?;
+            let described = Box::new(alloc, Described { descriptor, value })?;
+            Ok(Value::Described(described))
         }
         Some((byte, rest)) => {
             let code = primitive_code(*byte)?;
@@ -61,28 +63,6 @@ fn read_frame_over(
             read_content_over(alloc, code, content, depth, elements)
         }
     }
-}
-
-// The described value of the descriptor and the value that come first; the bytes after them are left.
-#[cycle(read)]
-#[inline(never)]
-fn read_described(
-    alloc: Global,
-    bytes: &mut &[u8],
-    depth: u16,
-    elements: u32,
-) -> Result<Value, Error>
-    ensures ok { IfOk result (λ v.
-        next (descriptor_at bytes.old.now) (parse_described (parse depth))
-        ≡ Some (tree_of v, bytes.new.now)) }
-    ensures err { IfErr result (λ e. ¬ (e ≡ OutOfMemory) →
-        next (descriptor_at bytes.old.now) (parse_described (parse depth)) ≡ None) }
-{
-    let (descriptor, rest) = read_descriptor(alloc, bytes)?;
-    *bytes = rest;
-    let value = read_frame(alloc, bytes, depth, elements)?;
-    let described = Box::new(alloc, Described { descriptor, value })?;
-    Ok(Value::Described(described))
 }
 
 // The value of the code's payload, which comes first; the bytes after it are left.
@@ -139,27 +119,8 @@ fn read_content_over(
         content_of (parse depth) (parse_content depth) code content.now ≡ None) }
 {
     match payload_shape(code) {
+        PayloadShape::Described => Err(Error::InvalidValue),
         PayloadShape::Scalar => read_scalar(alloc, code, content),
-        shape => read_compound(alloc, shape, content, depth, elements),
-    }
-}
-
-// The compound of this shape with this content.
-#[cycle(read)]
-#[inline(never)]
-fn read_compound(
-    alloc: Global,
-    shape: PayloadShape,
-    content: &[u8],
-    depth: u16,
-    elements: u32,
-) -> Result<Value, Error>
-    ensures ok { IfOk result (λ v.
-        compound_in (parse depth) (parse_content depth) shape content.now ≡ Some (tree_of v)) }
-    ensures err { IfErr result (λ e. ¬ (e ≡ OutOfMemory) →
-        compound_in (parse depth) (parse_content depth) shape content.now ≡ None) }
-{
-    match shape {
         PayloadShape::List(count) => {
             let (count, body) = read_count(count, content)?;
             read_list(alloc, count, body, depth, elements)
@@ -172,7 +133,6 @@ fn read_compound(
             let (count, body) = read_count(count, content)?;
             read_array(alloc, count, body, depth, elements)
         }
-        PayloadShape::Described | PayloadShape::Scalar => Err(Error::InvalidValue),
     }
 }
 

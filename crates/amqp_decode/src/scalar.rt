@@ -4,9 +4,9 @@ ghost use Rattle.std.specs.Prelude.{◌≡◌, IfOk, IfErr, Some, None, true, fa
 ghost use Rattle.std.specs.Str.{is_utf8};
 ghost use Rattle.amqp_data.specs.declared.error.Error.TheVariants.{OutOfMemory};
 ghost use Rattle.amqp_ser.specs.Carried.{descriptor_content};
-ghost use Rattle.amqp_ser.specs.Tree.{scalar, binary, string, symbol, decimal128, uuid};
+ghost use Rattle.amqp_ser.specs.Tree.{scalar};
 ghost use Rattle.amqp_value.specs.TreeOf.{tree_of};
-ghost use Rattle.amqp_decode.specs.Scalars.{next, single, exact, scalar_from, truth, text, character, scalar_in, scalar_tree};
+ghost use Rattle.amqp_decode.specs.Scalars.{next, single, exact, truth, character, scalar_in, scalar_tree};
 ghost use Rattle.amqp_decode.specs.Parsed.{tree_descriptor, descriptor_at};
 
 use crate::cut::read_payload;
@@ -89,57 +89,6 @@ fn character_of(number: u32) -> Result<Value, Error>
     }
 }
 
-// The binary of this content.
-#[inline(never)]
-fn read_binary(alloc: Global, content: &[u8]) -> Result<Value, Error>
-    ensures ok { IfOk result (λ v. scalar (binary content.now) ≡ tree_of v) }
-    ensures err { IfErr result (λ e. e ≡ OutOfMemory) }
-{
-    Ok(Value::Binary(ByteBuf::from(binary_of(alloc, content)?)))
-}
-
-// The string of this content.
-#[inline(never)]
-fn read_string(alloc: Global, content: &[u8]) -> Result<Value, Error>
-    ensures ok { IfOk result (λ v.
-        next (text string content.now) scalar_tree ≡ Some (tree_of v)) }
-    ensures err { IfErr result (λ e. ¬ (e ≡ OutOfMemory) → text string content.now ≡ None) }
-{
-    Ok(Value::String(text_of(alloc, content)?))
-}
-
-// The symbol of this content.
-#[inline(never)]
-fn read_symbol(alloc: Global, content: &[u8]) -> Result<Value, Error>
-    ensures ok { IfOk result (λ v.
-        next (text symbol content.now) scalar_tree ≡ Some (tree_of v)) }
-    ensures err { IfErr result (λ e. ¬ (e ≡ OutOfMemory) → text symbol content.now ≡ None) }
-{
-    Ok(Value::Symbol(Symbol::from(text_of(alloc, content)?)))
-}
-
-// The decimal of these sixteen bytes.
-#[inline(never)]
-fn read_decimal128(content: &[u8]) -> Result<Value, Error>
-    ensures ok { IfOk result (λ v.
-        next (scalar_from decimal128 (exact 16 content.now)) scalar_tree ≡ Some (tree_of v)) }
-    ensures err { IfErr result (λ e. scalar_from decimal128 (exact 16 content.now) ≡ None) }
-{
-    let bytes: [u8; 16] = bytes_of(content)?;
-    Ok(Value::Decimal128(Dec128::from(bytes)))
-}
-
-// The UUID of these sixteen bytes.
-#[inline(never)]
-fn read_uuid(content: &[u8]) -> Result<Value, Error>
-    ensures ok { IfOk result (λ v.
-        next (scalar_from uuid (exact 16 content.now)) scalar_tree ≡ Some (tree_of v)) }
-    ensures err { IfErr result (λ e. scalar_from uuid (exact 16 content.now) ≡ None) }
-{
-    let bytes: [u8; 16] = bytes_of(content)?;
-    Ok(Value::Uuid(Uuid::from(bytes)))
-}
-
 /// The scalar that the content of the code's payload is.
 ///
 /// # Errors
@@ -189,11 +138,21 @@ pub fn read_scalar(alloc: Global, code: EncodingCodes, content: &[u8]) -> Result
             let bytes: [u8; 8] = bytes_of(content)?;
             Ok(Value::Decimal64(Dec64::from(bytes)))
         }
-        EncodingCodes::Decimal128 => read_decimal128(content),
-        EncodingCodes::Uuid => read_uuid(content),
-        EncodingCodes::Vbin8 | EncodingCodes::Vbin32 => read_binary(alloc, content),
-        EncodingCodes::Str8 | EncodingCodes::Str32 => read_string(alloc, content),
-        EncodingCodes::Sym8 | EncodingCodes::Sym32 => read_symbol(alloc, content),
+        EncodingCodes::Decimal128 => {
+            let bytes: [u8; 16] = bytes_of(content)?;
+            Ok(Value::Decimal128(Dec128::from(bytes)))
+        }
+        EncodingCodes::Uuid => {
+            let bytes: [u8; 16] = bytes_of(content)?;
+            Ok(Value::Uuid(Uuid::from(bytes)))
+        }
+        EncodingCodes::Vbin8 | EncodingCodes::Vbin32 => {
+            Ok(Value::Binary(ByteBuf::from(binary_of(alloc, content)?)))
+        }
+        EncodingCodes::Str8 | EncodingCodes::Str32 => Ok(Value::String(text_of(alloc, content)?)),
+        EncodingCodes::Sym8 | EncodingCodes::Sym32 => {
+            Ok(Value::Symbol(Symbol::from(text_of(alloc, content)?)))
+        }
         _ => Err(Error::InvalidValue),
     }
 }

@@ -23,17 +23,11 @@ decreases-read_map l = 6 * l.depth + 2
 abbrev pub decreases-read_array : goal.decreases-read_array
 decreases-read_array l = 6 * l.depth + 2
 
-abbrev pub decreases-read_described : goal.decreases-read_described
-decreases-read_described l = 6 * l.depth + 2
-
-abbrev pub decreases-read_compound : goal.decreases-read_compound
-decreases-read_compound l = 6 * l.depth + 3
-
 abbrev pub decreases-read_content_over : goal.decreases-read_content_over
-decreases-read_content_over l = 6 * l.depth + 4
+decreases-read_content_over l = 6 * l.depth + 3
 
 abbrev pub decreases-read_frame_over : goal.decreases-read_frame_over
-decreases-read_frame_over l = 6 * l.depth + 5
+decreases-read_frame_over l = 6 * l.depth + 4
 
 -- what is left, after what is there, gives the whole
 abbrev pub invariant-read_list-loop : goal.invariant-read_list-loop
