@@ -28,7 +28,8 @@ fn refusal(e: Error, bytes: &[u8]) -> Error
     ensures memory { e ≡ Error.OutOfMemory → result ≡ Error.OutOfMemory }
     ensures code { e ≡ Error.InvalidFormatCode → is_frame bytes.now ≡ true → result ≡ e }
     ensures end { e ≡ Error.UnexpectedEof → is_frame bytes.now ≡ true → result ≡ e }
-    ensures other { ¬ (e ≡ Error.OutOfMemory) → is_frame bytes.now ≡ false → result ≡ Error.InvalidValue }
+    ensures other { ¬ (e ≡ Error.OutOfMemory) → is_frame bytes.now ≡ false →
+        result ≡ Error.InvalidValue }
     ensures fault { ¬ (e ≡ Error.OutOfMemory) → IsFault result }
 {
     match e {
