@@ -2,6 +2,7 @@
 
 mod access;
 mod composites;
+mod lazy;
 mod lists;
 mod maps;
 mod rows;

@@ -2,6 +2,7 @@
 #![tactic(auto)]
 
 mod composites;
+mod day;
 mod position;
 mod restored;
 mod sky;
@@ -9,5 +10,6 @@ mod sky;
 mod tests;
 
 pub use composites::{Calibration, Limits, Span, Title};
+pub use day::{Day, Rain};
 pub use position::Position;
 pub use sky::Sky;

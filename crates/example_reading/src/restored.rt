@@ -1,10 +1,12 @@
 //! What is turned into an untyped value and read back is the same: the types that claim it.
 
 use crate::composites::{Limits, Span, Title};
+use crate::day::Day;
 use crate::position::Position;
 use crate::sky::Sky;
 use amqp_data::Symbol;
 use amqp_restore::{Restore, laws};
+use std::collections::BTreeMap;
 
 impl Restore for Position {
     fn returns() {
@@ -38,5 +40,13 @@ impl Restore for Sky {
     fn returns() {
         laws::variants_return();
         <Option<u32> as Restore>::returns();
+    }
+}
+
+impl Restore for Day {
+    fn returns() {
+        laws::lists_return();
+        <BTreeMap<u32, i32> as Restore>::returns();
+        <[u32; 2] as Restore>::returns();
     }
 }

@@ -1,6 +1,7 @@
 //! Values that are written, read back, and read from other forms.
 
 mod composites;
+mod days;
 mod fields;
 mod variants;
 

@@ -14,6 +14,7 @@ mod line_rows;
 mod marked;
 mod memory;
 mod paths;
+mod reading_paths;
 mod rows;
 mod streams;
 mod structs;

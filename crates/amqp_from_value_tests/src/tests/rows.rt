@@ -3,6 +3,7 @@
 use amqp_data::{Array, Described, Descriptor, Error, OrderedMap, Symbol};
 use amqp_de::{NamedOf, Seed, fields, named};
 use amqp_from_value::{Deserializer, from_value};
+use amqp_to_value::to_value;
 use amqp_value::Value;
 use std::alloc::Global;
 use std::test::Fail;
@@ -27,6 +28,9 @@ fn map<const N: usize>(alloc: Global, pairs: [(Value, Value); N]) -> Result<Valu
 fn null_is_no_value_at_every_depth(rt: HostRuntime) -> Result<(), Fail> {
     let alloc = rt.alloc();
     let none: Option<Option<u32>> = from_value(alloc, Value::Null)?;
+    assert!(rt; none.is_none());
+    let image = to_value(alloc, &Some(None::<u32>))?;
+    let none: Option<Option<u32>> = from_value(alloc, image)?;
     assert!(rt; none.is_none());
     let some: Option<Option<u32>> = from_value(alloc, Value::Uint(5))?;
     assert_eq!(rt; some, Some(Some(5)));

@@ -57,6 +57,32 @@ fn unit_variants(rt: HostRuntime) -> Result<(), Fail> {
     Ok(())
 }
 
+type Plain = OneOf<(), OneOf<(), Never>>;
+
+// Two unit variants.
+fn plain(alloc: Global, value: Value) -> Result<Plain, Error> {
+    EnumOf(variants! { unit, unit }).read(alloc, Deserializer::new(alloc, value))
+}
+
+#[test]
+fn a_unit_variant_is_its_index_or_a_map_of_it(rt: HostRuntime) -> Result<(), Fail> {
+    let alloc = rt.alloc();
+    assert!(rt; matches!(plain(alloc, Value::Uint(1)), Ok(variant!(1, ()))));
+    let entry = map(alloc, [(Value::Uint(1), Value::Null)])?;
+    assert!(rt; matches!(plain(alloc, entry), Ok(variant!(1, ()))));
+    let two = [(Value::Uint(0), Value::Null), (Value::Uint(1), Value::Null)];
+    assert!(rt; matches!(plain(alloc, map(alloc, two)?), Err(Error::InvalidValue)));
+    let alone = list(alloc, [Value::Uint(1)])?;
+    assert!(rt; matches!(plain(alloc, alone), Ok(variant!(1, ()))));
+    assert!(rt;
+        matches!(
+            plain(alloc, list(alloc, [])?),
+            Err(Error::Message("Expecting a Value"))
+        )
+    );
+    Ok(())
+}
+
 #[test]
 fn variants_of_fields(rt: HostRuntime) -> Result<(), Fail> {
     let alloc = rt.alloc();

@@ -5,7 +5,7 @@ ghost use Rattle.amqp_ser.specs.Tree.{Tree, scalar, uint, list, trees_of};
 ghost use Rattle.amqp_de.specs.Events.{seq_event, visit_of, ByList};
 ghost use Rattle.amqp_de.specs.Reads.{Always};
 
-use amqp_data::{Described, Descriptor, Error, OrderedMap, Symbol};
+use amqp_data::{Array, Described, Descriptor, Error, OrderedMap, Symbol};
 use amqp_de::VariantOf;
 use amqp_de::de::{
     self, Deserialize, Deserializer as _, EnumAccess, MapAccess, Plain, Refusal, SeqAccess,
@@ -207,6 +207,20 @@ fn each_call_has_its_visit(rt: HostRuntime) -> Result<(), Fail> {
         matches!(
             of(symbol(alloc)?).deserialize_enum("__VALUE", Which),
             Ok(Visit::Value)
+        )
+    );
+    let array = Value::Array(Array::from(Vec::from_array(alloc, [Value::Uint(1)])?));
+    assert!(rt; matches!(of(array).deserialize_enum("__ARRAY", Which), Ok(Visit::Seq)));
+    assert!(rt;
+        matches!(
+            of(list(alloc, [])?).deserialize_enum("__ARRAY", Which),
+            Ok(Visit::Plain)
+        )
+    );
+    assert!(rt;
+        matches!(
+            of(Value::Null).deserialize_newtype_struct("__LAZY_VALUE", Which),
+            Ok(Visit::Plain)
         )
     );
     assert!(rt;

@@ -1,0 +1,44 @@
+//! Lazy values: any value that can be written, as its bytes.
+
+use amqp_data::{Array, Error};
+use amqp_frame::LazyValue;
+use amqp_from_value::from_value;
+use amqp_value::Value;
+use std::alloc::Global;
+use std::test::Fail;
+
+fn list<const N: usize>(alloc: Global, items: [Value; N]) -> Result<Value, Fail> {
+    Ok(Value::List(Vec::from_array(alloc, items)?))
+}
+
+fn array<const N: usize>(alloc: Global, items: [Value; N]) -> Result<Value, Fail> {
+    Ok(Value::Array(Array::from(Vec::from_array(alloc, items)?)))
+}
+
+#[test]
+fn a_lazy_value_is_the_bytes_of_any_value(rt: HostRuntime) -> Result<(), Fail> {
+    let alloc = rt.alloc();
+    let text = Value::String(String::from_str(alloc, "Hello, World!")?);
+    let lazy: LazyValue = from_value(alloc, text)?;
+    assert_eq!(rt; lazy.as_slice(), b"\xa1\x0dHello, World!".as_slice());
+    let lazy: LazyValue = from_value(alloc, Value::Null)?;
+    assert_eq!(rt; lazy.as_slice(), b"\x40".as_slice());
+    let both = list(alloc, [Value::Uint(1), Value::Bool(true)])?;
+    let parts: Vec<LazyValue> = from_value(alloc, both)?;
+    assert_eq!(rt; parts.len(), 2);
+    assert_eq!(rt; parts[0].as_slice(), b"\x52\x01".as_slice());
+    assert_eq!(rt; parts[1].as_slice(), b"\x41".as_slice());
+    Ok(())
+}
+
+#[test]
+fn what_cannot_be_written_is_no_lazy_value(rt: HostRuntime) -> Result<(), Fail> {
+    let alloc = rt.alloc();
+    let mixed = array(alloc, [Value::Int(1), Value::Null])?;
+    let read: Result<LazyValue, Error> = from_value(alloc, mixed);
+    assert!(rt; matches!(read, Err(Error::InvalidValue)));
+    let mixed = array(alloc, [Value::Int(1), Value::Null])?;
+    let read: Result<Vec<LazyValue>, Error> = from_value(alloc, list(alloc, [mixed])?);
+    assert!(rt; matches!(read, Err(Error::InvalidValue)));
+    Ok(())
+}

@@ -1,0 +1,136 @@
+//! A struct with a map, and one after a symbol.
+
+use amqp_data::{Symbol, SymbolRef};
+use amqp_de::de::{Deserialize, Deserializer};
+use amqp_de::{Record, named, read, read_described};
+use amqp_ser::{Serialize, Serializer};
+use std::alloc::Global;
+use std::collections::BTreeMap;
+
+/// What a station measured on one day.
+#[derive(Debug, PartialEq, Drop)]
+pub struct Day {
+    /// The hours of sunrise and sunset.
+    pub light: [u32; 2],
+    /// Which station.
+    pub station: Symbol,
+    /// The temperature of each hour that was measured, in hundredths of a degree.
+    pub hours: BTreeMap<u32, i32>,
+}
+
+impl Serialize for Day {
+    ghost use Rattle.std.specs.Prelude.{[], ◌∷◌};
+    ghost use Rattle.amqp_ser.specs.Words.{list_of, of_symbol};
+
+    ghost tree = { λ d. list_of (⟦<[u32; 2] as Serialize>⟧.tree d.light
+        ∷ of_symbol d.station ∷ ⟦<BTreeMap<u32, i32> as Serialize>⟧.tree d.hours ∷ []) };
+
+    fn serialize<S: Serializer>(&self, serializer: &mut S) -> Result<S::Ok, S::Error> {
+        amqp_ser::ListOf(amqp_ser::fields! {
+                "light": &self.light,
+                "station": &self.station,
+                "hours": &self.hours,
+            })
+        .serialize(serializer)
+    }
+}
+
+impl Record for Day {
+    type Parts = ([u32; 2], (Symbol, (BTreeMap<u32, i32>, ())));
+
+    ghost parts = { λ d. (d.light, (d.station, (d.hours, tt))) };
+}
+
+impl Deserialize for Day {
+    ghost use Rattle.std.specs.Prelude.{◌≡◌, [], ◌∷◌, codes};
+    ghost use Rattle.amqp_data.specs.Text.{symbol_text};
+    ghost use Rattle.amqp_ser.specs.Tree.{scalar, symbol, list, trees_of};
+    ghost use Rattle.amqp_de.specs.Fields.{OnFields, must, end};
+
+    ghost reads = { λ t d. OnFields (
+        must (codes "light") ⟦<[u32; 2] as Deserialize>⟧.reads d.light (
+        must (codes "station") ⟦<Symbol as Deserialize>⟧.reads d.station (
+        must (codes "hours") ⟦<BTreeMap<u32, i32> as Deserialize>⟧.reads d.hours end))) t };
+
+    ghost image = { λ d. list (trees_of (⟦<[u32; 2] as Deserialize>⟧.image d.light
+        ∷ scalar (symbol (symbol_text d.station))
+        ∷ ⟦<BTreeMap<u32, i32> as Deserialize>⟧.image d.hours ∷ [])) };
+
+    ghost restorable = { λ d. ⟦<[u32; 2] as Deserialize>⟧.restorable d.light
+        × ⟦<BTreeMap<u32, i32> as Deserialize>⟧.restorable d.hours };
+
+    ghost same = { λ d e. ⟦<[u32; 2] as Deserialize>⟧.same d.light e.light
+        × (symbol_text d.station ≡ symbol_text e.station)
+        × ⟦<BTreeMap<u32, i32> as Deserialize>⟧.same d.hours e.hours };
+
+    fn deserialize<D: Deserializer>(alloc: Global, deserializer: D) -> Result<Day, D::Error> {
+        let amqp_de::fields! { light, station, hours } = read::<Day, D, _>(
+            alloc,
+            deserializer,
+            amqp_de::ListOf(named! { "light", "station", "hours" }),
+        )?;
+        Ok(Day {
+            light,
+            station,
+            hours,
+        })
+    }
+}
+
+/// How much rain fell, and over how many minutes: a list, described by a symbol.
+#[derive(Debug, PartialEq, Drop)]
+pub struct Rain {
+    /// Tenths of a millimetre.
+    pub amount: u32,
+    /// Minutes.
+    pub time: u16,
+}
+
+impl Serialize for Rain {
+    ghost use Rattle.std.specs.Prelude.{[], ◌∷◌, codes};
+    ghost use Rattle.amqp_ser.specs.Tree.{name};
+    ghost use Rattle.amqp_ser.specs.Words.{list_composite, of_u16, of_u32};
+
+    ghost tree = { λ r. list_composite (name (codes "station:rain:list")) (
+        of_u32 r.amount ∷ of_u16 r.time ∷ []) };
+
+    fn serialize<S: Serializer>(&self, serializer: &mut S) -> Result<S::Ok, S::Error> {
+        serializer.serialize_described(
+            &SymbolRef::from("station:rain:list"),
+            &amqp_ser::ListOf(amqp_ser::fields! { "amount": &self.amount, "time": &self.time }),
+        )
+    }
+}
+
+impl Record for Rain {
+    type Parts = (u32, (u16, ()));
+
+    ghost parts = { λ r. (r.amount, (r.time, tt)) };
+}
+
+impl Deserialize for Rain {
+    ghost use Rattle.std.specs.Prelude.{◌≡◌, [], ◌∷◌, codes};
+    ghost use Rattle.amqp_ser.specs.Tree.{name, described, list, scalar, trees_of, uint, ushort};
+    ghost use Rattle.amqp_de.specs.Fields.{OnDescribed, OnFields, must, end};
+
+    ghost reads = { λ t r. OnDescribed (name (codes "station:rain:list")) (OnFields (
+        must (codes "amount") ⟦<u32 as Deserialize>⟧.reads r.amount (
+        must (codes "time") ⟦<u16 as Deserialize>⟧.reads r.time end))) t };
+
+    ghost image = { λ r. described (name (codes "station:rain:list")) (list (trees_of (
+        scalar (uint r.amount) ∷ scalar (ushort r.time) ∷ []))) };
+
+    ghost restorable = { λ _. ⊥ };
+
+    ghost same = { λ r s. (r.amount ≡ s.amount) × (r.time ≡ s.time) };
+
+    fn deserialize<D: Deserializer>(alloc: Global, deserializer: D) -> Result<Rain, D::Error> {
+        let amqp_de::fields! { amount, time } = read_described::<Rain, D, _, _>(
+            alloc,
+            deserializer,
+            &"station:rain:list",
+            amqp_de::ListOf(named! { "amount", "time" }),
+        )?;
+        Ok(Rain { amount, time })
+    }
+}
