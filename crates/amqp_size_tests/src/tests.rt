@@ -7,7 +7,7 @@ ghost use Rattle.amqp_size.specs.Refused.{told};
 mod calls;
 
 use amqp_data::markers::SYMBOL;
-use amqp_data::{Array, Error};
+use amqp_data::{Array, Error, TransparentVec};
 use amqp_ser::{Kind, Mark, Serialize, Serializer};
 use amqp_size::width::{array_len, list_len, map_len, text_len};
 use amqp_size::{Refusal, SizeSerializer, serialized_size};
@@ -154,6 +154,47 @@ fn compounds_pass_over_what_they_refuse(rt: HostRuntime) {
     assert_eq!(rt; two_keys(&mut serializer), Ok(8));
     assert_eq!(rt; key_alone(&mut serializer), Err(Refusal::InvalidValue));
     assert_eq!(rt; serializer.serialize_str("b"), Ok(3), "fresh afterwards");
+}
+
+/// A list that is fed a transparent vector between two truth values.
+fn vector_within<S: Serializer>(
+    serializer: &mut S,
+    vector: &TransparentVec<bool>,
+) -> Result<S::Ok, S::Error> {
+    let mut list = serializer.serialize_seq(None)?;
+    list.serialize_element(&true)?;
+    if list.serialize_element(vector).is_ok() {
+        list.serialize_element(&"taken")?;
+    }
+    list.serialize_element(&false)?;
+    list.end()
+}
+
+/// A map that is fed a transparent vector as the value of a key, and then another value.
+fn vector_as_value<S: Serializer>(
+    serializer: &mut S,
+    vector: &TransparentVec<bool>,
+) -> Result<S::Ok, S::Error> {
+    let mut map = serializer.serialize_map(None)?;
+    map.serialize_key(&"a")?;
+    if map.serialize_value(vector).is_ok() {
+        map.serialize_key(&"taken")?;
+    }
+    map.serialize_value(&1u8)?;
+    map.end()
+}
+
+#[test]
+fn misplaced_vectors_leave_a_compound_as_it_was(rt: HostRuntime) -> Result<(), Fail> {
+    let a = rt.alloc();
+    let mut serializer = SizeSerializer::new();
+    let one = TransparentVec::from(vec![in a; true]?);
+    assert_eq!(rt; vector_within(&mut serializer, &one), Ok(5));
+    assert_eq!(rt; vector_as_value(&mut serializer, &one), Ok(8));
+    let none = TransparentVec::from(Vec::new(a));
+    assert_eq!(rt; vector_within(&mut serializer, &none), Ok(5), "no items");
+    assert_eq!(rt; vector_as_value(&mut serializer, &none), Ok(8));
+    Ok(())
 }
 
 #[test]
