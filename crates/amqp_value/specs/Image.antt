@@ -13,7 +13,7 @@ insert_tree no_pairs k v = pair k v no_pairs
 insert_tree (pair l w ps) k v = if same_tree k l then pair l v ps else pair l w (insert_tree ps k v)
 
 -- each kind is itself, but a variant is its map, transparent trees are a list, and the pairs of a map are
--- inserted in turn; a lazy tree has no image yet and stands as it is
+-- inserted in turn; a lazy tree stands as it is, and what it is read as is for those who read bytes
 abbrev mutual
   pub image : Tree → Tree
   image (scalar s) = scalar s
