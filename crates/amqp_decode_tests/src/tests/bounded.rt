@@ -8,10 +8,13 @@ use std::test::Fail;
 // How many elements the array has that these bytes spell, where so many without bytes are granted.
 fn elements(alloc: Global, bytes: &str, granted: u32) -> Result<Result<usize, Error>, AllocError> {
     let bytes = bytes_of(alloc, bytes)?;
-    Ok(match decode_value_within(alloc, &bytes, granted) {
-        Ok(Value::Array(array)) => Ok(array.as_inner().len()),
-        Ok(_) => Err(Error::InvalidValue),
-        Err(error) => Err(error),
+    let value = match decode_value_within(alloc, &bytes, granted) {
+        Ok(value) => value,
+        Err(error) => return Ok(Err(error)),
+    };
+    Ok(match &value {
+        Value::Array(array) => Ok(array.as_inner().len()),
+        _ => Err(Error::InvalidValue),
     })
 }
 
