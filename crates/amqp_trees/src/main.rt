@@ -1,6 +1,6 @@
 //! Prints random trees, and what each call answers on them, a line for each.
 //!
-//! The first argument is a seed, the second how many trees: 7 and 40 where there are none.
+//! The first argument is a seed, the second how many trees: 7 and 12 where there are none.
 //! `tools/differential` reads the trees' texts, and works out the answers anew.
 #![tactic(auto)]
 
@@ -22,7 +22,7 @@ use std::str;
 
 fn main(rt: HostRuntime) -> ExitCode {
     let seed = number(&rt, 1).unwrap_or(7);
-    let count = number(&rt, 2).unwrap_or(40);
+    let count = number(&rt, 2).unwrap_or(12);
     match run(&rt, seed, count) {
         Ok(()) => ExitCode::SUCCESS,
         Err(error) => {
