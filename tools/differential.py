@@ -302,12 +302,16 @@ def take(data, at, count):
 
 
 def decode(data, at, depth=256):
+    """The value that comes first, at most so deep, and the place after it. A descriptor has no parts: its depth is 0."""
     (code,), at = take(data, at, 1)
     if code:
         return contents(code, data, at, depth)
     if depth < 2:
         raise Refused(INVALID)
-    descriptor, at = decode(data, at, depth - 1)
+    (code,), at = take(data, at, 1)
+    if code == 0:
+        raise Refused(INVALID)
+    descriptor, at = contents(code, data, at, 0)
     if descriptor[0] not in ("ulong", "symbol"):
         raise Refused(INVALID)
     tree, at = decode(data, at, depth - 1)
@@ -332,6 +336,8 @@ def contents(code, data, at, depth):
         if kind != "binary":
             utf8(inner)
         return (kind, inner), at
+    if depth == 0:
+        raise Refused(INVALID)
     return elements(kind, inner, wide, depth), at
 
 
