@@ -1,0 +1,101 @@
+//! Structs that are fed by hand: each means the fields that it was fed rightly.
+
+ghost use Rattle.std.specs.Prelude.{◌∷◌, [], Some, codes};
+ghost use Rattle.amqp_ser.specs.Composites.{as_described, descriptor_of};
+ghost use Rattle.amqp_ser.specs.Compounds.{whole};
+ghost use Rattle.amqp_ser.specs.Tree.{scalar, string};
+ghost use Rattle.amqp_ser.specs.declared.kind.Kind.TheVariants.{List, Map, Variant};
+
+use amqp_data::markers;
+use amqp_ser::{Serialize, Serializer};
+
+/// A described list of two fields.
+pub fn list<S: Serializer, T: Serialize>(
+    serializer: &mut S,
+    descriptor: &T,
+    first: &T,
+    second: &T,
+) -> Result<S::Ok, S::Error>
+    ensures { S.permits serializer.old
+        (as_described (descriptor_of (T.tree descriptor.now))
+        (whole List (T.tree first.now ∷ T.tree second.now ∷ [])))
+        result serializer.new }
+{
+    let mut fields = serializer.serialize_struct(markers::DESCRIBED_LIST, 3)?;
+    fields.serialize_field(markers::DESCRIPTOR, descriptor)?;
+    fields.serialize_field("a", first)?;
+    fields.serialize_field("b", second)?;
+    fields.end()
+}
+
+/// A described map of two fields.
+pub fn map<S: Serializer, T: Serialize>(
+    serializer: &mut S,
+    descriptor: &T,
+    first: &T,
+    second: &T,
+) -> Result<S::Ok, S::Error>
+    ensures { S.permits serializer.old
+        (as_described (descriptor_of (T.tree descriptor.now))
+        (whole Map
+        (Some (scalar (string (codes "a"))) ∷ T.tree first.now
+        ∷ Some (scalar (string (codes "b"))) ∷ T.tree second.now ∷ [])))
+        result serializer.new }
+{
+    let mut fields = serializer.serialize_struct(markers::DESCRIBED_MAP, 0)?;
+    fields.serialize_field(markers::DESCRIPTOR, descriptor)?;
+    fields.serialize_field("a", first)?;
+    fields.serialize_field("b", second)?;
+    fields.end()
+}
+
+/// A described value of one field.
+pub fn basic<S: Serializer, T: Serialize>(
+    serializer: &mut S,
+    descriptor: &T,
+    value: &T,
+) -> Result<S::Ok, S::Error>
+    ensures { S.permits serializer.old
+        (as_described (descriptor_of (T.tree descriptor.now)) (T.tree value.now)) result
+        serializer.new }
+{
+    let mut fields = serializer.serialize_struct(markers::DESCRIBED_BASIC, 2)?;
+    fields.serialize_field(markers::DESCRIPTOR, descriptor)?;
+    fields.serialize_field("a", value)?;
+    fields.end()
+}
+
+/// A descriptor that is neither a ulong nor a symbol, which is refused, before another.
+pub fn wrong_descriptor<S: Serializer, T: Serialize>(
+    serializer: &mut S,
+    descriptor: &T,
+    value: &T,
+) -> Result<S::Ok, S::Error>
+    ensures { S.permits serializer.old
+        (as_described (descriptor_of (T.tree descriptor.now)) (whole List (T.tree value.now ∷ [])))
+        result serializer.new }
+{
+    let mut fields = serializer.serialize_tuple_struct(markers::DESCRIBED_LIST, 2)?;
+    if fields.serialize_field(&true).is_ok() {
+        return fields.end();
+    }
+    fields.serialize_field(descriptor)?;
+    fields.serialize_field(value)?;
+    fields.end()
+}
+
+/// Two fields of a tuple variant.
+pub fn variant<S: Serializer, T: Serialize>(
+    serializer: &mut S,
+    index: u32,
+    first: &T,
+    second: &T,
+) -> Result<S::Ok, S::Error>
+    ensures { S.permits serializer.old
+        (whole (Variant index) (T.tree first.now ∷ T.tree second.now ∷ [])) result serializer.new }
+{
+    let mut fields = serializer.serialize_tuple_variant("Sample", index, "Second", 2)?;
+    fields.serialize_field(first)?;
+    fields.serialize_field(second)?;
+    fields.end()
+}
