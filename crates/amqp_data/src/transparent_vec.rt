@@ -92,7 +92,10 @@ impl<T> TransparentVec<T> {
             transparent_items vector ≡ run.items)) }
         ensures memory { IfErr result (λ e. e ≡ Error.OutOfMemory) }
     {
-        let items: Vec<T> = iter.collect(alloc)?;
+        let mut items = Vec::new(alloc);
+        for item in iter {
+            items.push(item)?;
+        }
         Ok(TransparentVec(items))
     }
 }
