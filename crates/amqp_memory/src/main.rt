@@ -2,7 +2,29 @@
 //!
 //! It is run once for each request for memory, with that request refused: the call that asked must answer out of
 //! memory, and the program then ends with status 1. Any other answer shows, as other output or another text. The
-//! first argument names one part alone: `calls`, `lengths` or `large`.
+//! first argument names one part alone: `calls`, `lengths`, `large`, or `none`, whose calls take no memory.
+//!
+//! Each public call that takes memory stands in this table, with the line that is printed once it was made;
+//! `tools/memory` looks for others.
+//!
+//! | Line | Calls |
+//! |---|---|
+//! | names | `Symbol::try_from_str` |
+//! | maps | `OrderedMap::new`, `OrderedMap::insert`, `OrderedMap::into_iter` |
+//! | what an iterator gives | `TransparentVec::try_collect`, `TransparentVec::into_iter` |
+//! | bytes, refused values fed again | `to_vec` |
+//! | images | `to_value`, `TryFromSerializable::try_from_serializable`, `Serializer::new` |
+//! | frames | `LazyValue::from_reader`, `LazyValue::try_into_vec`, `to_lazy_value` |
+//! | conversions | `Value::try_from_str`, `Value::try_from_described`, `Value::try_from_array`, `Value::try_from_vec` |
+//! | the same | `Value::try_from_btree_map`, `Value::try_from_ordered_map`, `Vec::try_from`, `Array::try_from` |
+//! | the same | `OrderedMap::try_from`, `BTreeMap::try_from`, `HashMap::try_from`, `IndexMap::try_from` |
+//! | decoded values, types of one's own | `decode_value`, `decode_value_within` |
+//! | types out of values | `from_value`, `Deserializer::new`, `SeqAccess::new`, `MapAccess::new` |
+//! | types of one's own | `restored`, `read`, `read_described`, `Of::read`, `ListOf::read`, `NamedOf::read` |
+//! | the same | `Fields::read_elements`, `Must::read_elements`, `May::read_elements`, `Elements::new` |
+//! | the same | `Fields::read_entries`, `Must::read_entries`, `May::read_entries`, `Entries::new`, `Seed::read` |
+//! | the same | `Variants::read`, `EnumOf::read`, `UnitOr::read`, `DataOr::read` |
+//! | a run over lines, over frames | `run_lines`, `run_cut`, `VecWriter::new`, `Write::put` |
 #![tactic(auto)]
 
 mod again;
@@ -11,10 +33,12 @@ mod composites;
 mod conversions;
 mod large;
 mod lengths;
+mod own_types;
 mod reading;
 mod refused;
 mod report;
 mod runs;
+mod without;
 
 use amqp_data::Error;
 use std::env::Env;
@@ -42,6 +66,9 @@ fn make(rt: &(impl Print + AllocGlobal), part: &[u8]) -> Result<(), Error> {
         calls::all(rt)?;
         composites::all(rt)?;
         runs::all(rt)?;
+    }
+    if part.is_empty() || part == b"none".as_slice() {
+        without::all(rt);
     }
     if part.is_empty() || part == b"lengths".as_slice() {
         lengths::all(rt)?;
