@@ -1,7 +1,14 @@
 """Fails where a public call takes memory and the table at the head of the program amqp_memory does not have it.
 
-A call takes memory where its signature has `Global`, or where it may be refused and its comment names `OutOfMemory` or
-`ConvertFault::Memory`. It is public where its crate's root hands out its name, or that of its type or trait.
+A call takes memory
+
+- where an allocator is passed to it,
+- where it may be refused and its comment names `OutOfMemory` or `ConvertFault::Memory`, or says "out of memory",
+- where it may be refused as another call of its trait that takes memory, so its comment says,
+- where it feeds a serializer, or ends what was fed: so much as the serializer takes.
+
+A visitor, a reader and a writer are the caller's own: a call that hands them something takes what they take.
+It is public where its crate's root, or a public module of it, hands out its name, or that of its type or trait.
 """
 
 import re
@@ -16,11 +23,19 @@ LIBRARIES = (
 
 
 def exported(crate):
-    """The names that the crate's root hands out."""
-    text = (ROOT / crate / "src/lib.rt").read_text()
-    names = set()
-    for use in re.findall(r"^pub use ([^;]+);", text, re.M):
-        names.update(re.findall(r"\w+", use))
+    """The names that the crate's root and its public modules hand out."""
+    source = ROOT / crate / "src"
+    files, names = [source / "lib.rt"], set()
+    while files:
+        path = files.pop()
+        text = path.read_text()
+        for use in re.findall(r"^pub use ([^;]+);", text, re.M):
+            names.update(re.findall(r"\b\w+\b(?!::)", use))
+        names.update(re.findall(r"^pub (?:struct|enum|trait|fn) (\w+)", text, re.M))
+        folder = source if path.name == "lib.rt" else path.with_suffix("")
+        for module in re.findall(r"^pub mod (\w+);", text, re.M):
+            if module != "laws":
+                files.append(folder / f"{module}.rt")
     return names
 
 
@@ -57,9 +72,26 @@ def type_name(holder):
 
 
 def takes_memory(signature, comment):
-    if re.search(r"\bGlobal\b", signature):
+    arguments, _, answer = signature.rpartition(") ->")
+    if re.search(r"\bGlobal\b", arguments):
         return True
-    return "Result" in signature and ("OutOfMemory" in comment or "ConvertFault::Memory" in comment)
+    if "Result" not in answer:
+        return False
+    if re.search(r"OutOfMemory|ConvertFault::Memory|out of memory", comment):
+        return True
+    return feeds(arguments, answer)
+
+
+def feeds(arguments, answer):
+    """Whether a serializer is fed a value or a part, or what was fed to it is ended."""
+    fed = r"\bT: Serialize\b|\bK: Serialize\b|\bS: Serializer\b|: (?:&mut )?Self::Open|fn end\("
+    return bool(re.search(r"\b(S|Self)::Error\b", answer) and re.search(fed, arguments))
+
+
+def same_as(comment):
+    """The calls as which this one is refused, in its comment's words."""
+    errors = comment.partition("# Errors")[2].partition("///\n")[0]
+    return set(re.findall(r"[Aa]s `(\w+)`", errors))
 
 
 def conversions(text):
@@ -69,7 +101,7 @@ def conversions(text):
 
 
 def wanted():
-    calls = set()
+    calls, others = set(), []
     for crate in LIBRARIES:
         names = exported(crate)
         for path in sorted((ROOT / crate / "src").rglob("*.rt")):
@@ -78,8 +110,15 @@ def wanted():
             calls |= conversions(path.read_text())
             for holder, name, signature, comment in items(path.read_text()):
                 of = type_name(holder)
-                if takes_memory(signature, comment) and (of or name) in names:
-                    calls.add(f"{of}::{name}" if of else name)
+                call = f"{of}::{name}" if of else name
+                if of == "Visitor":
+                    continue
+                if (of or name) in names and takes_memory(signature, comment):
+                    calls.add(call)
+                elif (of or name) in names and "Result" in signature:
+                    others.append((call, {f"{of}::{other}" for other in same_as(comment)}))
+    while more := {call for call, same in others if same & calls} - calls:
+        calls |= more
     return calls
 
 
