@@ -2,6 +2,7 @@
 
 ghost use Rattle.std.specs.Prelude.{◌≡◌};
 ghost use Rattle.amqp_de.specs.Events.{visit_of};
+ghost use Rattle.amqp_de.specs.declared.shown.Visit.TheVariants as kind;
 
 use amqp_data::{Error, OrderedMap, markers};
 use amqp_de::de::{
@@ -88,9 +89,9 @@ struct Bytes;
 impl Visitor for Bytes {
     type Value = Visit;
 
-    ghost gives = { λ _ e visit. visit ≡ visit_of e };
+    ghost gives = { λ _ e _. visit_of e ≡ kind.Plain };
 
-    ghost stands = { λ _ e visit. visit ≡ visit_of e };
+    ghost stands = { λ _ _ _. ⊥ };
 
     ghost same = { λ x y. x ≡ y };
 
