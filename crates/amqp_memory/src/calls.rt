@@ -2,7 +2,7 @@
 
 use crate::again::Again;
 use crate::report::report;
-use crate::{conversions, reading};
+use crate::{accessors, conversions, lazy, own_types, reading, serializer};
 use amqp_data::{Array, Described, Descriptor, Error, OrderedMap, Symbol, TransparentVec};
 use amqp_frame::{LazyValue, SliceReader};
 use amqp_to_value::{TryFromSerializable, to_value};
@@ -28,6 +28,10 @@ pub fn all(rt: &(impl Print + AllocGlobal)) -> Result<(), Error> {
     report(rt, "conversions", conversions::all(alloc)?);
     report(rt, "decoded values", reading::decoded(alloc)?);
     report(rt, "types out of values", reading::types(alloc)?);
+    report(rt, "types of one's own", own_types::all(alloc)?);
+    report(rt, "lazy values", lazy::all(alloc)?);
+    report(rt, "calls of a serializer", serializer::all(alloc)?);
+    report(rt, "accessors", accessors::all(alloc)?);
     Ok(())
 }
 

@@ -1,7 +1,7 @@
 //! The calls that take memory, each with about a mebibyte.
 
 use crate::report::report;
-use crate::{conversions, reading};
+use crate::{conversions, own_types, reading};
 use amqp_data::{Array, ByteBuf, Error, OrderedMap, Symbol, TransparentVec};
 use amqp_decode::decode_value;
 use amqp_frame::{LazyValue, SliceReader};
@@ -38,6 +38,8 @@ pub fn all(rt: &(impl Print + AllocGlobal)) -> Result<(), Error> {
         "large types out of values",
         reading::large_types(alloc)?,
     );
+    report(rt, "a long lazy value", lazy(alloc)?);
+    report(rt, "large values that come back", own_types::large(alloc)?);
     report(rt, "a long line", line(alloc)?);
     report(rt, "a run over a long frame", run_of_frame(alloc)?);
     Ok(())
@@ -119,6 +121,13 @@ fn read(alloc: Global) -> Result<bool, Error> {
     let bytes = to_vec(alloc, &numbers)?;
     let read: Array<u32> = from_value(alloc, decode_value(alloc, &bytes)?)?;
     Ok(read == numbers)
+}
+
+fn lazy(alloc: Global) -> Result<bool, Error> {
+    let bytes = long_frame(alloc)?;
+    let held = LazyValue::from_reader(alloc, &mut SliceReader::new(&bytes))?;
+    let read: LazyValue = from_value(alloc, to_value(alloc, &held)?)?;
+    Ok(read == held)
 }
 
 fn line(alloc: Global) -> Result<bool, Error> {

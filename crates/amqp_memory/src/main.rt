@@ -1,20 +1,65 @@
-//! Makes the main calls that take memory, and prints what was done.
+//! Makes the calls that take memory, and prints what was done.
 //!
 //! It is run once for each request for memory, with that request refused: the call that asked must answer out of
 //! memory, and the program then ends with status 1. Any other answer shows, as other output or another text. The
-//! first argument names one part alone: `calls`, `lengths` or `large`.
+//! first argument names one part alone: `calls`, `lengths`, `large`, or `none`, whose calls take no memory.
+//!
+//! Each public call that takes memory stands in this table, with the line that is printed once it was made;
+//! `tools/memory` looks for others.
+//!
+//! | Line | Calls |
+//! |---|---|
+//! | names | `Symbol::try_from_str` |
+//! | maps | `OrderedMap::new`, `OrderedMap::insert` |
+//! | what an iterator gives | `TransparentVec::try_collect` |
+//! | bytes, refused values fed again | `to_vec`, `Serialize::serialize`, `Value::serialize` |
+//! | images | `to_value`, `TryFromSerializable::try_from_serializable`, `Serializer::new` |
+//! | frames | `LazyValue::from_reader`, `LazyValue::try_into_vec`, `to_lazy_value` |
+//! | conversions | `Value::try_from_str`, `Value::try_from_described`, `Value::try_from_array`, `Value::try_from_vec` |
+//! | the same | `Value::try_from_btree_map`, `Value::try_from_ordered_map`, `Vec::try_from`, `Array::try_from` |
+//! | the same | `OrderedMap::try_from`, `BTreeMap::try_from`, `HashMap::try_from`, `IndexMap::try_from` |
+//! | decoded values, types of one's own | `decode_value`, `decode_value_within` |
+//! | types out of values, lazy values | `from_value`, `Deserializer::new` |
+//! | types of one's own | `restored`, `read`, `read_described`, `Of::read`, `ListOf::read`, `NamedOf::read` |
+//! | the same | `Fields::read_elements`, `Must::read_elements`, `May::read_elements`, `Elements::new` |
+//! | the same | `Fields::read_entries`, `Must::read_entries`, `May::read_entries`, `Entries::new`, `Seed::read` |
+//! | the same | `Variants::read`, `EnumOf::read`, `UnitOr::read`, `DataOr::read` |
+//! | calls of a serializer | `Serializer::serialize_str`, `Serializer::serialize_bytes`, `Serializer::serialize_some` |
+//! | the same | `Serializer::serialize_newtype_struct`, `Serializer::serialize_newtype_variant` |
+//! | the same | `Serializer::serialize_described`, `Serializer::end_part`, `Serializer::end_descriptor` |
+//! | the same | `Serializer::end`, `SerializeSeq::serialize_element`, `SerializeSeq::end`, `SerializeMap::end` |
+//! | the same | `SerializeMap::serialize_key`, `SerializeMap::serialize_value`, `SerializeMap::serialize_entry` |
+//! | the same | `SerializeStruct::serialize_field`, `SerializeStruct::end`, `SerializeTupleStruct::serialize_field` |
+//! | the same | `SerializeTupleStruct::end`, `SerializeTupleVariant::serialize_field`, `SerializeTupleVariant::end` |
+//! | the same | `SerializeStructVariant::serialize_field`, `SerializeStructVariant::end` |
+//! | the same | `ListOf::serialize`, `MapOf::serialize`, `SymbolMapOf::serialize`, `VariantOf::serialize` |
+//! | the same | `Fields::feed`, `Fields::feed_named`, `Field::feed`, `Field::feed_named` |
+//! | the same | `OptionalField::feed`, `OptionalField::feed_named` |
+//! | accessors | `SeqAccess::new`, `SeqAccess::next_element`, `SeqAccess::next_element_seed`, `MapAccess::new` |
+//! | the same | `MapAccess::next_key`, `MapAccess::next_value`, `MapAccess::next_entry` |
+//! | the same | `MapAccess::next_key_seed`, `MapAccess::next_value_seed`, `MapAccess::next_entry_seed` |
+//! | the same | `EnumAccess::variant`, `EnumAccess::variant_seed`, `VariantAccess::newtype_variant` |
+//! | the same | `VariantAccess::newtype_variant_seed`, `Deserialize::deserialize` |
+//! | the same | `Deserializer::deserialize_written`, `Deserializer::deserialize_marked` |
+//! | the same | `Deserializer::deserialize_newtype_struct` |
+//! | a run over lines, over frames | `run_lines`, `run_cut`, `VecWriter::new`, `Write::put` |
 #![tactic(auto)]
 
+mod accessors;
 mod again;
 mod calls;
 mod composites;
 mod conversions;
 mod large;
+mod lazy;
 mod lengths;
+mod own_types;
 mod reading;
 mod refused;
 mod report;
 mod runs;
+mod serializer;
+mod without;
 
 use amqp_data::Error;
 use std::env::Env;
@@ -42,6 +87,9 @@ fn make(rt: &(impl Print + AllocGlobal), part: &[u8]) -> Result<(), Error> {
         calls::all(rt)?;
         composites::all(rt)?;
         runs::all(rt)?;
+    }
+    if part.is_empty() || part == b"none".as_slice() {
+        without::all(rt);
     }
     if part.is_empty() || part == b"lengths".as_slice() {
         lengths::all(rt)?;

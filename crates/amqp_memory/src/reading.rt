@@ -9,8 +9,8 @@ use amqp_wire::to_vec;
 use std::alloc::Global;
 use std::collections::{BTreeMap, HashMap};
 
-// A list of a string, a symbol, a binary, an array of strings, a map that holds a list, and a described value.
-const LIST: &[u8] =
+/// A list of a string, a symbol, a binary, an array of strings, a map that holds a list, and a described value.
+pub const LIST: &[u8] =
     b"\xc0\x2b\x06\xa1\x01a\xa3\x01k\xa0\x02\x01\x02\xe0\x0d\x02\xb1\0\0\0\x01a\0\0\0\x02bc\xc1\x07\x02\x50\x01\xc0\x02\x01\x41\x00\xa3\x03a:b\x50\x01";
 
 // The map from 1 to `a` and from 2 to `b`.

@@ -1,0 +1,118 @@
+//! The accessors of what a value holds, one call at a time, with what they must answer.
+
+ghost use Rattle.std.specs.Prelude.{◌≡◌};
+ghost use Rattle.amqp_de.specs.Events.{visit_of};
+ghost use Rattle.amqp_de.specs.declared.shown.Visit.TheVariants as kind;
+
+use amqp_data::{Error, OrderedMap, markers};
+use amqp_de::de::{
+    Deserialize, Deserializer as _, EnumAccess as _, MapAccess as _, Plain, Refusal,
+    SeqAccess as _, VariantAccess as _, Visit, Visitor,
+};
+use amqp_de::{Of, VariantOf};
+use amqp_from_value::{Deserializer, MapAccess, SeqAccess};
+use amqp_ser::Mark;
+use amqp_value::Value;
+use std::alloc::Global;
+use std::marker::PhantomData;
+
+// A number in a box of its own.
+type Boxed = Box<u32>;
+
+/// Makes each call once.
+///
+/// # Errors
+/// `OutOfMemory` where a request for memory is refused; any other is a wrong answer.
+pub fn all(alloc: Global) -> Result<bool, Error> {
+    Ok(elements(alloc)? && keys(alloc)? && entries(alloc)? && variants(alloc)? && written(alloc)?)
+}
+
+fn elements(alloc: Global) -> Result<bool, Error> {
+    let values = vec![in alloc; Value::Uint(1), Value::Uint(2)]?;
+    let mut access = SeqAccess::new(alloc, values);
+    let first = access.next_element::<Boxed>(alloc)?;
+    let second = access.next_element_seed(alloc, Of(PhantomData::<Boxed>))?;
+    Ok(is(first, 1) && is(second, 2))
+}
+
+fn is(read: Option<Boxed>, number: u32) -> bool {
+    read.is_some_and(|read| *read == number)
+}
+
+fn pairs(alloc: Global) -> Result<MapAccess, Error> {
+    let mut pairs = OrderedMap::new(alloc);
+    drop(pairs.insert(Value::Uint(1), Value::Uint(2))?);
+    drop(pairs.insert(Value::Uint(3), Value::Uint(4))?);
+    Ok(MapAccess::new(alloc, pairs))
+}
+
+fn keys(alloc: Global) -> Result<bool, Error> {
+    let mut access = pairs(alloc)?;
+    let key = access.next_key::<Boxed>(alloc)?;
+    let value = access.next_value::<Boxed>(alloc)?;
+    let second = access.next_key_seed(alloc, Of(PhantomData::<Boxed>))?;
+    let last = access.next_value_seed(alloc, Of(PhantomData::<Boxed>))?;
+    Ok(is(key, 1) && *value == 2 && is(second, 3) && *last == 4)
+}
+
+fn entries(alloc: Global) -> Result<bool, Error> {
+    let mut access = pairs(alloc)?;
+    let first = access.next_entry::<Boxed, Boxed>(alloc)?;
+    let seed = || Of(PhantomData::<Boxed>);
+    let second = access.next_entry_seed(alloc, seed(), seed())?;
+    Ok(is_pair(first, 1, 2) && is_pair(second, 3, 4))
+}
+
+fn is_pair(read: Option<(Boxed, Boxed)>, key: u32, value: u32) -> bool {
+    read.is_some_and(|(k, v)| *k == key && *v == value)
+}
+
+// The variant of the index 1 with the number 13.
+fn variant(alloc: Global) -> VariantOf<Deserializer> {
+    let index = Deserializer::new(alloc, Value::Uint(1));
+    VariantOf::new(index, Some(Deserializer::new(alloc, Value::Uint(13))))
+}
+
+fn variants(alloc: Global) -> Result<bool, Error> {
+    let (index, content) = variant(alloc).variant::<Boxed>(alloc)?;
+    let value = content.newtype_variant::<Boxed>(alloc)?;
+    let seed = || Of(PhantomData::<Boxed>);
+    let (second, content) = variant(alloc).variant_seed(alloc, seed())?;
+    let last = content.newtype_variant_seed(alloc, seed())?;
+    Ok(*index == 1 && *value == 13 && *second == 1 && *last == 13)
+}
+
+/// Takes the bytes of a lazy value.
+#[derive(Drop)]
+struct Bytes;
+
+impl Visitor for Bytes {
+    type Value = Visit;
+
+    ghost gives = { λ _ e _. visit_of e ≡ kind.Plain };
+
+    ghost stands = { λ _ _ _. ⊥ };
+
+    ghost same = { λ x y. x ≡ y };
+
+    fn refuses(&self, visit: Visit) -> bool {
+        !matches!(visit, Visit::Plain)
+    }
+
+    fn visit_plain<E: Refusal>(self, _plain: Plain) -> Result<Visit, E> {
+        Ok(Visit::Plain)
+    }
+}
+
+fn written(alloc: Global) -> Result<bool, Error> {
+    let of = |number: u32| Deserializer::new(alloc, Value::Uint(number));
+    let boxed = Boxed::deserialize(alloc, of(1))?;
+    let first = of(1).deserialize_written(Bytes)?;
+    let second = of(2).deserialize_marked(Mark::Lazy, Bytes)?;
+    let third = of(3).deserialize_newtype_struct(markers::LAZY_VALUE, Bytes)?;
+    let all = matches!(
+        (first, second, third),
+        (Visit::Plain, Visit::Plain, Visit::Plain)
+    );
+    Ok(all && *boxed == 1)
+}
