@@ -1,0 +1,3 @@
+pub mod Inserted
+pub mod PlaceLemmas
+pub mod ValueKeys

@@ -1,0 +1,4 @@
+use Rattle.amqp_gather.proofs.places.ascends.Goals as goal
+
+pub returns : goal.returns
+returns c = ?
