@@ -37,7 +37,6 @@ impl Gathered {
     ///
     /// # Memory
     /// A vector's, as the pairs grow: a repeated key takes its room as a new one does.
-    #[tactic(auto, using(crate::proofs::Inserted::inserted_push))]
     pub fn insert(&mut self, key: Value, value: Value) -> Result<(), AllocFailed<(Value, Value)>>
         ensures ok { OnOk result (gathered self.new
             ≡ insert_tree (gathered self.old) (tree_of key) (tree_of value)) }
@@ -54,7 +53,6 @@ impl Gathered {
     ///
     /// # Memory
     /// None where each key is greater than the one before it. Else at most a constant for each pair.
-    #[tactic(auto, using(crate::proofs::ValueKeys::merged_inserted))]
     pub fn into_entries(self, alloc: Global) -> Result<Vec<(Value, Value)>, AllocError>
         ensures { IfOk result (λ entries. pairs_trees entries.items ≡ gathered self) }
     {

@@ -4,7 +4,9 @@ use Rattle.amqp_gather.proofs.PlaceLemmas.{place-inside, set-place, new-last}
 use Rattle.amqp_gather.proofs.places.put.Goals as goal
 
 pub index_mut-requires : goal.index_mut-requires
-index_mut-requires c = place-inside equal c.args.key c.args.value c.args.entries.now.items c.in-Some.at (sym c.requires ∙ c.in-Some.is)
+index_mut-requires c =
+    let below = place-inside equal c.args.key c.args.value c.args.entries.now.items c.in-Some.at (sym c.requires ∙ c.in-Some.is) in
+    first_of (omega (arith, below), grind (arith, below))
 
 -- a present key: the pair at its place takes the value
 pub returns-in-Some : goal.returns-in-Some
