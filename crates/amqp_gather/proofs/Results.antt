@@ -1,5 +1,5 @@
 -- What calls answer, as trees.
-use Rattle.std.proofs.Common.{◌≡◌, ℕ, ◌+◌, ◌<◌, Bool, true, false, List, [], ◌∷◌, ◌++◌, length, get_or, take, Result, Ok, Err, OnOk, IfOk, Vec, Global, add-one, sym, ap, ◌∙◌, subst}
+use Rattle.std.proofs.Common.{◌≡◌, ℕ, ◌+◌, ◌<◌, Bool, true, false, List, [], ◌∷◌, ◌++◌, length, get_or, take, if◌then◌else◌, is_ok, Result, Ok, Err, OnOk, IfOk, Vec, Global, add-one, sym, ap, ◌∙◌, subst}
 use Rattle.std.proofs.Math.Seq.{take-suc}
 use Rattle.std.specs.Bool.{OnTrue}
 use Rattle.std.specs.List.{IsAllAdjacentAnswer}
@@ -13,10 +13,10 @@ use Rattle.amqp_gather.specs.Places.{equal, merged}
 use Rattle.amqp_gather.proofs.Inserted.{inserted_push}
 use Rattle.amqp_gather.proofs.ValueKeys.{key_order, merged_inserted, merged-ascending}
 
-pub pushed : {T E : Type 0} (r : Result T E) (old new : List (Value × Value)) (k v : Value) → OnOk r (new ≡ old ++ (k, v) ∷ [])
+pub pushed : {T E : Type 0} (r : Result T E) (old new : List (Value × Value)) (k v : Value) → new ≡ (if is_ok r then old ++ (k, v) ∷ [] else old)
     → OnOk r (inserted new no_pairs ≡ insert_tree (inserted old no_pairs) (tree_of k) (tree_of v))
 pushed (Ok x) old new k v h = ap (λ es. inserted es no_pairs) h ∙ inserted_push old (k, v) no_pairs
-pushed (Err e) old new k v h = h
+pushed (Err e) old new k v h = tt
 
 pub as_they_are : (es view : List (Value × Value)) → view ≡ es → merged equal view [] ≡ view → pairs_trees es ≡ inserted es no_pairs
 as_they_are es view is h =

@@ -6,7 +6,7 @@ use Rattle.amqp_gather.proofs.places.places_of.Goals as goal
 
 pub loop-pair-preserved : goal.loop-pair-preserved
 loop-pair-preserved c =
-    let x = c.pair-item.result.now in
+    let x = c.pair-item.result in
     let before = take c.loop-pair.pair-index c.args.pairs.now in
     let e : get_or c.args.pairs.now c.loop-pair.pair-index x ≡ x = search rules in
     let t = one_more c.args.pairs.now c.loop-pair.pair-index x c.loop-pair-test.true e in

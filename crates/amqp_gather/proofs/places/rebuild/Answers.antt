@@ -19,7 +19,7 @@ put-requires c =
     let split = taken_one c.into_iter-key-iterator.result c.loop-key.yielded _ (c.in-Some.key, c.in-Some.value) c.next.new.self c.loop-key.yielded_by c.in-Some.ensures.steps in
     let all = c.into_iter-key-iterator.ensures.into_iter_gives.0 in
     let d = c.index-at.result.now in
-    c.index-at.ensures.value ∙ (λ j. get_or (c.requires j) (c.loop-key.invariant.count j) d)
+    c.index-at.ensures ∙ (λ j. get_or (c.requires j) (c.loop-key.invariant.count j) d)
     ∙ ap (λ es. get_or (places equal es []) (length c.loop-key.yielded) d) (sym all ∙ split)
     ∙ places-at equal c.loop-key.yielded (c.in-Some.key, c.in-Some.value) (into_iter_items c.next.new.self) [] d
     ∙ ap (place equal c.in-Some.key) (sym c.loop-key.invariant.entries)
