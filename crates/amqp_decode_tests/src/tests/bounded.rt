@@ -1,3 +1,5 @@
+//! Arrays of elements that take no bytes: how many are granted.
+
 use super::bytes_of;
 use amqp_data::Error;
 use amqp_decode::{decode_value, decode_value_within};
