@@ -1,5 +1,5 @@
 -- Keys that stay apart by their contents.
-use Rattle.std.proofs.Common.{◌≡◌, ℕ, nat_eq, Bool, true, false, true≢false, List, [], ◌∷◌, ap, sym, ◌∙◌}
+use Rattle.std.proofs.Common.{◌≡◌, ℕ, nat_eq, Bool, true, false, List, [], ◌∷◌, ap, ◌∙◌}
 use Rattle.std.proofs.lemmas.Cmp.{nat_list_eq_equiv, nat_list_cmp_total, tied_itself}
 use Rattle.std.specs.Cmp.Lexicographic.{pointwise, slice_cmp}
 use Rattle.std.specs.Cmp.{IsEquivalence, IsTotalOrder}
@@ -9,8 +9,7 @@ use Rattle.std.specs.Ordering.{nat_cmp, ordering_reverse}
 use Rattle.std.specs.declared.cmp.Ordering.{Ordering}
 use Rattle.std.specs.declared.cmp.Ordering.TheVariants.{Less, Equal, Greater}
 use Rattle.amqp_data.specs.Pairs as pairs
-use Rattle.amqp_ser.specs.Tree.{Tree}
-use Rattle.amqp_de.specs.Maps.{IsSoToAll, AreDistinct, Ascend, HaveDistinctImages}
+use Rattle.amqp_de.specs.Maps.{IsSoToAll, AreDistinct, Ascend}
 
 module _ {K : Type 0} (S : K → K → Type 0) where
   module _ (eq : K → K → Bool) (laws : IsEquivalence eq) (equal : (x y : K) → S x y → eq x y ≡ true) where
@@ -33,40 +32,6 @@ module _ {K : Type 0} (S : K → K → Type 0) where
     pub distinct_ordered : (ks : List K) → pairs.AreDistinct eq ks → AreDistinct S eq ks
     distinct_ordered [] all = tt
     distinct_ordered (k ∷ ks) all = (all_apart k ks (all_lacked k ks all.0), distinct_ordered ks all.1)
-
-  module _ (image : K → Tree) (eq : K → K → Bool) (equal : (x y : K) → image x ≡ image y → eq x y ≡ true) where
-    differ : (k l : K) → eq k l ≡ false → ¬ (image k ≡ image l)
-    differ k l p q = true≢false (sym (equal k l q) ∙ p)
-
-    all_differ : (k : K) (ks : List K) → AllByRecursion (λ l. eq k l ≡ false) ks → AllByRecursion (λ l. ¬ (image k ≡ image l)) ks
-    all_differ k [] all = tt
-    all_differ k (l ∷ ks) all = (differ k l all.0, all_differ k ks all.1)
-
-    pub images_hashed : (ks : List K) → IsDistinct eq ks → HaveDistinctImages image ks
-    unfolding IsDistinct
-    images_hashed [] all = tt
-    images_hashed (k ∷ ks) all = (all_differ k ks all.0, images_hashed ks all.1)
-
-    lacked : (k : K) (ks : List K) → pairs.LacksKey eq k ks → AllByRecursion (λ l. eq k l ≡ false) ks
-    lacked k [] lacks = tt
-    lacked k (l ∷ ks) lacks = (lacks.0, lacked k ks lacks.1)
-
-    pub images_ordered : (ks : List K) → pairs.AreDistinct eq ks → HaveDistinctImages image ks
-    images_ordered [] all = tt
-    images_ordered (k ∷ ks) all = (all_differ k ks (lacked k ks all.0), images_ordered ks all.1)
-
-  module _ (image : K → Tree) (cmp : K → K → Ordering) (equal : (x y : K) → image x ≡ image y → cmp x y ≡ Equal) where
-    ahead : (k l : K) → cmp k l ≡ Less → ¬ (image k ≡ image l)
-    ahead k l p q = let same : Less ≡ Equal = sym p ∙ equal k l q in cc
-
-    all_ahead : (k : K) (ks : List K) → AllByRecursion (λ l. cmp k l ≡ Less) ks → AllByRecursion (λ l. ¬ (image k ≡ image l)) ks
-    all_ahead k [] all = tt
-    all_ahead k (l ∷ ks) all = (ahead k l all.0, all_ahead k ks all.1)
-
-    pub images_ascending : (ks : List K) → IsStrictlySortedBy cmp ks → HaveDistinctImages image ks
-    unfolding IsStrictlySortedBy
-    images_ascending [] all = tt
-    images_ascending (k ∷ ks) all = (all_ahead k ks all.0, images_ascending ks all.1)
 
   module _ (cmp : K → K → Ordering) (laws : IsTotalOrder cmp) (equal : (x y : K) → S x y → cmp x y ≡ Equal) where
     above : (k l : K) → cmp k l ≡ Less → IsSoToAll S (λ x y. cmp y x ≡ Greater) k l

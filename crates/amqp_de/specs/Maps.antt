@@ -57,10 +57,6 @@ IsSoToAll {K} S R k l = (x y : K) → S x k → S y l → R x y
 abbrev pub AreDistinct : {K : Type 0} → (K → K → Type 0) → (K → K → Bool) → List K → Type 0
 AreDistinct S eq = EachBefore (IsSoToAll S (λ x y. eq y x ≡ false))
 
--- no two keys have the same image
-abbrev pub HaveDistinctImages : {K : Type 0} → (K → Tree) → List K → Type 0
-HaveDistinctImages image = EachBefore (λ k l. ¬ (image k ≡ image l))
-
 -- the keys ascend by their contents
 abbrev pub Ascend : {K : Type 0} → (K → K → Type 0) → (K → K → Ordering) → List K → Type 0
 Ascend S cmp = EachBefore (IsSoToAll S (λ x y. cmp y x ≡ Greater))

@@ -6,7 +6,7 @@ ghost use Rattle.std.specs.List.{IsDistinct};
 ghost use Rattle.std.specs.List.Sorted.{IsStrictlySortedBy};
 ghost use Rattle.std.specs.declared.cmp.Ordering.TheVariants.{Equal};
 ghost use Rattle.amqp_data.specs.Pairs as pairs;
-ghost use Rattle.amqp_de.specs.Maps.{AreDistinct, Ascend, HaveDistinctImages};
+ghost use Rattle.amqp_de.specs.Maps.{AreDistinct, Ascend};
 
 use crate::de::Deserialize;
 use amqp_data::{ByteBuf, Symbol, Uuid};
@@ -30,57 +30,6 @@ pub fn distinct_keys_stay_apart<K: Deserialize + Eq>()
 pub fn ascending_keys_stay_apart<K: Deserialize + Ord>()
     ensures { ((x y : K) → K.same x y → K.cmp x y ≡ Equal) → (ks : List K) →
         IsStrictlySortedBy K.cmp ks → Ascend K.same K.cmp ks }
-{}
-
-/// Distinct keys have distinct images, where keys of the same image are equal: of an ordered map, and of a hash map.
-///
-/// # Memory
-/// Takes none.
-pub fn distinct_keys_have_distinct_images<K: Deserialize + Eq>()
-    ensures ordered { ((x y : K) → K.image x ≡ K.image y → K.eq x y ≡ true) →
-        (ks : List K) → pairs.AreDistinct K.eq ks → HaveDistinctImages K.image ks }
-    ensures hashed { ((x y : K) → K.image x ≡ K.image y → K.eq x y ≡ true) →
-        (ks : List K) → IsDistinct K.eq ks → HaveDistinctImages K.image ks }
-{}
-
-/// Ascending keys have distinct images, where keys of the same image are equal.
-///
-/// # Memory
-/// Takes none.
-pub fn ascending_keys_have_distinct_images<K: Deserialize + Ord>()
-    ensures { ((x y : K) → K.image x ≡ K.image y → K.cmp x y ≡ Equal) → (ks : List K) →
-        IsStrictlySortedBy K.cmp ks → HaveDistinctImages K.image ks }
-{}
-
-/// Keys of the same image have the same contents: numbers of 32 and 64 bits, texts, symbols, binaries and uuids.
-///
-/// # Memory
-/// Takes none.
-pub fn images_tell_contents()
-    ensures uint { (x y : ℕ) →
-        ⟦<u32 as Deserialize>⟧.image x ≡ ⟦<u32 as Deserialize>⟧.image y →
-        ⟦<u32 as Deserialize>⟧.same x y }
-    ensures ulong { (x y : ℕ) →
-        ⟦<u64 as Deserialize>⟧.image x ≡ ⟦<u64 as Deserialize>⟧.image y →
-        ⟦<u64 as Deserialize>⟧.same x y }
-    ensures int { (x y : ℤ) →
-        ⟦<i32 as Deserialize>⟧.image x ≡ ⟦<i32 as Deserialize>⟧.image y →
-        ⟦<i32 as Deserialize>⟧.same x y }
-    ensures long { (x y : ℤ) →
-        ⟦<i64 as Deserialize>⟧.image x ≡ ⟦<i64 as Deserialize>⟧.image y →
-        ⟦<i64 as Deserialize>⟧.same x y }
-    ensures string { (x y : String Global) →
-        ⟦<String as Deserialize>⟧.image x ≡ ⟦<String as Deserialize>⟧.image y →
-        ⟦<String as Deserialize>⟧.same x y }
-    ensures symbol { (x y : Symbol) →
-        ⟦<Symbol as Deserialize>⟧.image x ≡ ⟦<Symbol as Deserialize>⟧.image y →
-        ⟦<Symbol as Deserialize>⟧.same x y }
-    ensures binary { (x y : ByteBuf) →
-        ⟦<ByteBuf as Deserialize>⟧.image x ≡ ⟦<ByteBuf as Deserialize>⟧.image y →
-        ⟦<ByteBuf as Deserialize>⟧.same x y }
-    ensures uuid { (x y : Uuid) →
-        ⟦<Uuid as Deserialize>⟧.image x ≡ ⟦<Uuid as Deserialize>⟧.image y →
-        ⟦<Uuid as Deserialize>⟧.same x y }
 {}
 
 /// Keys of the same contents are equal: numbers of 32 and 64 bits, texts, symbols, binaries and uuids.

@@ -1,4 +1,5 @@
 pub mod StandLemmas
 pub mod ImageLemmas
+pub mod KeyLemmas
 pub mod MapLemmas
 pub mod ValueLemmas

@@ -13,7 +13,8 @@ use Rattle.amqp_value.specs.Image.{image, images_onto, insert_tree}
 use Rattle.amqp_value.specs.TreeOf.{pairs_of}
 use Rattle.amqp_value.proofs.ImageLemmas.{joined, Lacks, insert_tree-new}
 use Rattle.amqp_value.proofs.SameLemmas.{same-equal}
-use Rattle.amqp_de.specs.Maps.{pair_image, IsPair, HaveDistinctImages}
+use Rattle.amqp_de.specs.Maps.{pair_image, IsPair}
+use Rattle.amqp_restore.proofs.KeyLemmas.{HaveDistinctImages}
 use Rattle.amqp_restore.specs.Stands.{StandsAs}
 
 joined_none : (ps : Pairs) → joined ps no_pairs ≡ ps

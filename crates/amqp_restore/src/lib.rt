@@ -3,9 +3,11 @@
 
 mod holders;
 pub mod laws;
+mod map_key;
 mod maps;
 mod restore;
 mod scalars;
 mod tuples;
 
+pub use map_key::MapKey;
 pub use restore::{Restore, restored};

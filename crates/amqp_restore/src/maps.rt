@@ -1,22 +1,23 @@
-//! Maps come back, where no two keys have the same image.
+//! Maps come back: keys that stay apart by their contents have distinct images.
 
+use crate::map_key::MapKey;
 use crate::restore::Restore;
 use amqp_data::OrderedMap;
 use std::collections::BTreeMap;
 use std::hash::Hash;
 
-#[tactic(auto, using(crate::proofs::MapLemmas::map_stands))]
-impl<K: Restore + Ord, V: Restore> Restore for BTreeMap<K, V> {
+impl<K: Restore + MapKey + Ord, V: Restore> Restore for BTreeMap<K, V> {
     fn returns() {
         K::returns();
+        K::images_tell_contents();
         V::returns();
     }
 }
 
-#[tactic(auto, using(crate::proofs::MapLemmas::map_stands))]
-impl<K: Restore + Hash + Eq, V: Restore> Restore for OrderedMap<K, V> {
+impl<K: Restore + MapKey + Hash + Eq, V: Restore> Restore for OrderedMap<K, V> {
     fn returns() {
         K::returns();
+        K::images_tell_contents();
         V::returns();
     }
 }

@@ -1,11 +1,12 @@
-//! What is turned into an untyped value and read back is the same: the types that claim it.
+//! What is turned into an untyped value and read back is the same: the types that claim it, and those that a map's
+//! keys may have.
 
 use crate::composites::{Limits, Span, Title};
 use crate::day::Day;
 use crate::position::Position;
 use crate::sky::Sky;
 use amqp_data::Symbol;
-use amqp_restore::{Restore, laws};
+use amqp_restore::{MapKey, Restore, laws};
 use std::collections::BTreeMap;
 
 impl Restore for Position {
@@ -48,5 +49,22 @@ impl Restore for Day {
         laws::lists_return();
         <BTreeMap<u32, i32> as Restore>::returns();
         <[u32; 2] as Restore>::returns();
+    }
+}
+
+impl MapKey for Span {
+    fn images_tell_contents() {}
+}
+
+impl MapKey for Limits {
+    fn images_tell_contents() {
+        <Option<Symbol> as MapKey>::images_tell_contents();
+    }
+}
+
+impl MapKey for Day {
+    fn images_tell_contents() {
+        <[u32; 2] as MapKey>::images_tell_contents();
+        <BTreeMap<u32, i32> as MapKey>::images_tell_contents();
     }
 }

@@ -9,7 +9,7 @@ ghost use Rattle.amqp_ser.specs.Tree as tree;
 ghost use Rattle.amqp_value.specs.TreeOf.{pairs_of};
 ghost use Rattle.amqp_de.specs.Answers.{Answers, Refuses};
 ghost use Rattle.amqp_de.specs.Maps.{OnMap, ReadsPair, ReadsPairs, pair_image, IsPair, SamePair};
-ghost use Rattle.amqp_de.specs.Maps.{HoldsInOrder, HoldsSorted, HoldsHashed, SameInSomeOrder, AreDistinct, Ascend, HaveDistinctImages};
+ghost use Rattle.amqp_de.specs.Maps.{HoldsInOrder, HoldsSorted, HoldsHashed, SameInSomeOrder, AreDistinct, Ascend};
 
 use crate::de::{Content, Deserialize, Deserializer, Refusal};
 use amqp_data::OrderedMap;
@@ -124,8 +124,7 @@ impl<K: Deserialize + Hash + Eq, V: Deserialize> Deserialize for OrderedMap<K, V
     ghost image = { λ m. tree.map (pairs_of (map (pair_image K.image V.image) (entries_of m))) };
 
     ghost restorable = { λ m. AllByRecursion (IsPair K.restorable V.restorable) (entries_of m)
-        × AreDistinct K.same K.eq (keys_of (entries_of m))
-        × HaveDistinctImages K.image (keys_of (entries_of m)) };
+        × AreDistinct K.same K.eq (keys_of (entries_of m)) };
 
     ghost same = { λ m n. AllZip (SamePair K.same V.same) (entries_of m) (entries_of n) };
 
@@ -152,8 +151,7 @@ impl<K: Deserialize + Ord, V: Deserialize> Deserialize for BTreeMap<K, V> {
     ghost image = { λ m. tree.map (pairs_of (map (pair_image K.image V.image) m.entries)) };
 
     ghost restorable = { λ m. AllByRecursion (IsPair K.restorable V.restorable) m.entries
-        × Ascend K.same K.cmp (keys_of m.entries)
-        × HaveDistinctImages K.image (keys_of m.entries) };
+        × Ascend K.same K.cmp (keys_of m.entries) };
 
     ghost same = { λ m n. AllZip (SamePair K.same V.same) m.entries n.entries };
 
@@ -181,8 +179,7 @@ impl<K: Deserialize + Hash + Eq, V: Deserialize> Deserialize for HashMap<K, V> {
     ghost image = { λ m. tree.map (pairs_of (map (pair_image K.image V.image) m.entries)) };
 
     ghost restorable = { λ m. AllByRecursion (IsPair K.restorable V.restorable) m.entries
-        × AreDistinct K.same K.eq (keys_of m.entries)
-        × HaveDistinctImages K.image (keys_of m.entries) };
+        × AreDistinct K.same K.eq (keys_of m.entries) };
 
     ghost same = { SameInSomeOrder (SamePair K.same V.same) };
 
