@@ -7,10 +7,12 @@
 
 mod cut;
 mod decode;
+mod fixed;
 pub mod laws;
 mod map_value;
 mod payload_shape;
 mod read;
 mod scalar;
+mod stack;
 
 pub use decode::{decode_value, decode_value_within};

@@ -1,0 +1,230 @@
+//! A value from its encoded bytes, first part by part.
+
+
+use crate::cut::{read_count, read_payload};
+use crate::map_value::map_value;
+use crate::payload_shape::{PayloadShape, has_no_payload, payload_shape, primitive_code};
+use crate::fixed::read_fixed;
+use crate::scalar::{read_descriptor, read_scalar};
+use amqp_data::{Array, Described, EncodingCodes, Error};
+use amqp_value::Value;
+use indexmap::IndexMap;
+use std::alloc::Global;
+
+// The value that the bytes spell first; the bytes after it are left. Elements that take no bytes are at most so many in an
+// array: more of them are out of memory.
+#[cycle(read)]
+pub fn read_frame(
+    alloc: Global,
+    bytes: &mut &[u8],
+    depth: u16,
+    elements: u32,
+) -> Result<Value, Error>
+{
+    let mut stack = Vec::new(alloc);
+    read_frame_on(alloc, bytes, depth, elements, &mut stack)
+}
+
+// The same, with the values of the lists around it on the stack.
+#[cycle(read)]
+#[inline(always)]
+fn read_frame_on(
+    alloc: Global,
+    bytes: &mut &[u8],
+    depth: u16,
+    elements: u32,
+    stack: &mut Vec<Value>,
+) -> Result<Value, Error>
+{
+    if depth == 0 {
+        return Err(Error::InvalidValue);
+    }
+    if let Some((value, rest)) = read_fixed(bytes) {
+        *bytes = rest;
+        return Ok(value);
+    }
+    read_frame_over(alloc, bytes, depth - 1, elements, stack)
+}
+
+// The same, where what stands inside is at most so deep.
+#[cycle(read)]
+#[inline(never)]
+fn read_frame_over(
+    alloc: Global,
+    bytes: &mut &[u8],
+    depth: u16,
+    elements: u32,
+    stack: &mut Vec<Value>,
+) -> Result<Value, Error>
+{
+    match bytes.split_first() {
+        None => Err(Error::UnexpectedEof),
+        Some((0, rest)) => {
+            let (descriptor, rest) = read_descriptor(alloc, rest)?;
+            *bytes = rest;
+            let value = read_frame_on(alloc, bytes, depth, elements, stack)?;
+            let described = Box::new(alloc, Described { descriptor, value })?;
+            Ok(Value::Described(described))
+        }
+        Some((byte, rest)) => {
+            let code = primitive_code(*byte)?;
+            let (content, rest) = read_payload(code, rest)?;
+            *bytes = rest;
+            read_content_over(alloc, code, content, depth, elements, stack)
+        }
+    }
+}
+
+// The value of the code's payload, which comes first; the bytes after it are left.
+#[cycle(read)]
+fn read_item(
+    alloc: Global,
+    code: EncodingCodes,
+    bytes: &mut &[u8],
+    depth: u16,
+    elements: u32,
+    stack: &mut Vec<Value>,
+) -> Result<Value, Error>
+{
+    let (content, rest) = read_payload(code, bytes)?;
+    *bytes = rest;
+    read_content(alloc, code, content, depth, elements, stack)
+}
+
+// The value of the content of a code's payload.
+#[cycle(read)]
+fn read_content(
+    alloc: Global,
+    code: EncodingCodes,
+    content: &[u8],
+    depth: u16,
+    elements: u32,
+    stack: &mut Vec<Value>,
+) -> Result<Value, Error>
+{
+    if depth == 0 {
+        return Err(Error::InvalidValue);
+    }
+    read_content_over(alloc, code, content, depth - 1, elements, stack)
+}
+
+// The same, where what stands inside is at most so deep.
+#[cycle(read)]
+#[inline(always)]
+fn read_content_over(
+    alloc: Global,
+    code: EncodingCodes,
+    content: &[u8],
+    depth: u16,
+    elements: u32,
+    stack: &mut Vec<Value>,
+) -> Result<Value, Error>
+{
+    match payload_shape(code) {
+        PayloadShape::Described => Err(Error::InvalidValue),
+        PayloadShape::Scalar => read_scalar(alloc, code, content),
+        PayloadShape::List(count) => {
+            let (count, body) = read_count(count, content)?;
+            read_list(alloc, count, body, depth, elements, stack)
+        }
+        PayloadShape::Map(count) => {
+            let (count, body) = read_count(count, content)?;
+            read_map(alloc, count, body, depth, elements)
+        }
+        PayloadShape::Array(count) => {
+            let (count, body) = read_count(count, content)?;
+            read_array(alloc, count, body, depth, elements, stack)
+        }
+    }
+}
+
+// The list of so many encoded values, which fill the body.
+#[cycle(read)]
+#[inline(never)]
+fn read_list(
+    alloc: Global,
+    count: u32,
+    body: &[u8],
+    depth: u16,
+    elements: u32,
+    stack: &mut Vec<Value>,
+) -> Result<Value, Error>
+{
+    let start = stack.len();
+    let mut rest = body;
+    for _ in 0..count {
+        let item = read_frame_on(alloc, &mut rest, depth, elements, stack)?;
+        stack.push(item)?;
+    }
+    if !rest.is_empty() {
+        return Err(Error::InvalidValue);
+    }
+    if start == 0 {
+        Ok(Value::List(std::mem::replace(stack, Vec::new(alloc))))
+    } else if start <= stack.len() {
+        Ok(Value::List(stack.split_off(start)?))
+    } else {
+        Err(Error::InvalidValue)
+    }
+}
+
+// The map of so many encoded values, keys and values in turn, which fill the body.
+#[cycle(read)]
+#[inline(never)]
+fn read_map(
+    alloc: Global,
+    count: u32,
+    body: &[u8],
+    depth: u16,
+    elements: u32,
+) -> Result<Value, Error>
+{
+    if count % 2 != 0 {
+        return Err(Error::InvalidValue);
+    }
+    let mut pairs: IndexMap<Value, Value> = IndexMap::new(alloc);
+    let mut rest = body;
+    for _ in 0..count / 2 {
+        let key = read_frame(alloc, &mut rest, depth, elements)?;
+        let value = read_frame(alloc, &mut rest, depth, elements)?;
+        drop(pairs.insert(key, value)?);
+    }
+    if rest.is_empty() {
+        map_value(alloc, pairs)
+    } else {
+        Err(Error::InvalidValue)
+    }
+}
+
+// The array of the values of so many payloads, which fill the body after their constructor.
+#[cycle(read)]
+#[inline(never)]
+fn read_array(
+    alloc: Global,
+    count: u32,
+    body: &[u8],
+    depth: u16,
+    elements: u32,
+    stack: &mut Vec<Value>,
+) -> Result<Value, Error>
+{
+    let mut items = Vec::new(alloc);
+    match body.split_first() {
+        None if count == 0 => {}
+        None => return Err(Error::UnexpectedEof),
+        Some((constructor, mut rest)) => {
+            let code = primitive_code(*constructor)?;
+            if count > elements && has_no_payload(code) {
+                return Err(Error::OutOfMemory);
+            }
+            for _ in 0..count {
+                let item = read_item(alloc, code, &mut rest, depth, elements, stack)?;
+                items.push(item)?;
+            }
+            if !rest.is_empty() {
+                return Err(Error::InvalidValue);
+            }
+        }
+    }
+    Ok(Value::Array(Array::from(items)))
+}
