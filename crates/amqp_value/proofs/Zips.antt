@@ -56,6 +56,10 @@ pub fold_push : {A B : Type 0} (f : B → A → B) (b : B) (xs : List A) (x : A)
 fold_push f b [] x = refl
 fold_push f b (y ∷ xs) x = fold_push f (f b y) xs x
 
+-- a collection made by `f`, item by item, takes one more
+pub fold_pushed : {A B : Type 0} (f : B → A → B) (b : B) (xs : List A) (x : A) (old new : B) → new ≡ f old x → old ≡ fold f b xs → new ≡ fold f b (xs ++ x ∷ [])
+fold_pushed f b xs x old new put is = put ∙ ap (λ c. f c x) is ∙ sym (fold_push f b xs x)
+
 -- a pair that does not fit, where the fault says which value it was
 pub pair_stops : {K X A R : Type 0} (kg : Value → Result K Value → Type 0) (vg : Value → Result X Value → Type 0) (Made : List (K × X) → R → Type 0)
     (all : List (Value × Value)) (s : IntoIter (Value × Value) A) (xs : List (Value × Value)) (t : IntoIter (Value × Value) A) (p : Value × Value) (u : IntoIter (Value × Value) A) (done : List (K × X)) (fault : ConvertFault) (r : Result R ConvertFault)

@@ -5,6 +5,7 @@
 ghost use Rattle.std.specs.Prelude.{◌≡◌};
 ghost use Rattle.amqp_value.specs.declared.try_from.ConvertFault.TheVariants.{Memory};
 
+mod filling;
 mod lists;
 mod maps;
 mod scalars;
