@@ -1,0 +1,4 @@
+pub mod Inserted
+pub mod PlaceLemmas
+pub mod ValueKeys
+pub mod Results
