@@ -8,7 +8,6 @@
 mod cut;
 mod decode;
 pub mod laws;
-mod map_value;
 mod payload_shape;
 mod read;
 mod scalar;

@@ -6,12 +6,11 @@ ghost use Rattle.amqp_value.specs.TreeOf.{tree_of};
 ghost use Rattle.amqp_decode.specs.Parsed.{parse, parse_content, payload_in, content_of, frame_in, parse_list, parse_map, parse_array};
 
 use crate::cut::{read_count, read_payload};
-use crate::map_value::map_value;
 use crate::payload_shape::{PayloadShape, has_no_payload, payload_shape, primitive_code};
 use crate::scalar::{read_descriptor, read_scalar};
 use amqp_data::{Array, Described, EncodingCodes, Error};
+use amqp_gather::Gathered;
 use amqp_value::Value;
-use indexmap::IndexMap;
 use std::alloc::Global;
 
 // The value that the bytes spell first; the bytes after it are left. Elements that take no bytes are at most so many in an
@@ -180,15 +179,15 @@ fn read_map(
     if count % 2 != 0 {
         return Err(Error::InvalidValue);
     }
-    let mut pairs: IndexMap<Value, Value> = IndexMap::new(alloc);
+    let mut pairs = Gathered::new(alloc);
     let mut rest = body;
     for _ in 0..count / 2 {
         let key = read_frame(alloc, &mut rest, depth, elements)?;
         let value = read_frame(alloc, &mut rest, depth, elements)?;
-        drop(pairs.insert(key, value)?);
+        pairs.insert(key, value)?;
     }
     if rest.is_empty() {
-        map_value(alloc, pairs)
+        pairs.into_value(alloc)
     } else {
         Err(Error::InvalidValue)
     }

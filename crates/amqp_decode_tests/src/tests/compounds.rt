@@ -103,6 +103,36 @@ fn maps_have_every_spelling(rt: HostRuntime) -> Result<(), Fail> {
 }
 
 #[test]
+fn a_key_stands_where_it_came_first(rt: HostRuntime) -> Result<(), Fail> {
+    let a = rt.alloc();
+    let neighbours = map(a, [(Value::Uint(1), Value::Ubyte(2))])?;
+    spell(&rt, a, &neighbours, &["c109045201500152015002"])?;
+    let turned = map(
+        a,
+        [
+            (Value::Uint(3), Value::Ubyte(5)),
+            (Value::Uint(1), Value::Ubyte(4)),
+            (Value::Uint(2), Value::Ubyte(3)),
+        ],
+    )?;
+    spell(
+        &rt,
+        a,
+        &turned,
+        &["c1150a5203500152015002520250035201500452035005"],
+    )?;
+    let kinds = map(
+        a,
+        [
+            (text(a, "1")?, Value::Ubyte(1)),
+            (Value::Uint(1), Value::Ubyte(2)),
+            (Value::Ubyte(1), Value::Ubyte(3)),
+        ],
+    )?;
+    spell(&rt, a, &kinds, &["c10e06a1013150015201500250015003"])
+}
+
+#[test]
 fn arrays_have_every_spelling(rt: HostRuntime) -> Result<(), Fail> {
     let a = rt.alloc();
     spell(

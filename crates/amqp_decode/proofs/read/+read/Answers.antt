@@ -1,8 +1,8 @@
 use Rattle.std.proofs.Common.{rules, ◌≡◌, [], ◌∷◌, ◌++◌, Some, None, sym, ap, ◌∙◌, map, ◌+◌, ◌-◌, ◌/◌, arith}
-use Rattle.amqp_value.specs.TreeOf.{tree_of, pairs_trees}
+use Rattle.amqp_value.specs.TreeOf.{tree_of}
+use Rattle.amqp_gather.specs.Gathered.{gathered}
 use Rattle.amqp_decode.specs.Codes.{primitive_of}
 use Rattle.amqp_decode.specs.Parsed.{parse, parse_content, payload_in, parse_list, parse_map, parse_array, insert}
-use Rattle.amqp_value.proofs.MapLemmas.{pairs_trees-insert_entry}
 use Rattle.amqp_decode.proofs.Steps.{parse_content-zero, parse_content-at, parse-zero, parse-at, values-next, insert-next, insert-no_key, insert-no_value, list-none, map-none, array-none}
 use Rattle.amqp_decode.proofs.read.+read.Goals as goal
 
@@ -38,22 +38,21 @@ read_list-returns-in_err-item-clause-err t c =
 
 pub read_map-loop-preserved : goal.read_map-loop-preserved
 read_map-loop-preserved t c =
-    let step = insert-next (parse c.args.depth) (c.args.count / 2) c.loop.counter c.loop.rest.now c.read_frame.new.bytes.now c.read_frame-in-loop.new.bytes.now (tree_of c.in_ok-key.key) (tree_of c.in_ok-value.value) (pairs_trees c.loop.pairs.entries) c.loop-test.true c.in_ok-key.ensures.ok c.in_ok-value.ensures.ok in
-    let inserted = ap pairs_trees c.in_ok-insert.ensures.entries ∙ pairs_trees-insert_entry c.loop.pairs.entries c.in_ok-key.key c.in_ok-value.value in
-    ap (insert (parse c.args.depth) (c.args.count / 2 - (c.loop.counter + 1)) c.read_frame-in-loop.new.bytes.now) inserted ∙ (step ∙ c.loop.invariant)
+    let step = insert-next (parse c.args.depth) (c.args.count / 2) c.loop.counter c.loop.rest.now c.read_frame.new.bytes.now c.read_frame-in-loop.new.bytes.now (tree_of c.in_ok-key.key) (tree_of c.in_ok-value.value) (gathered c.loop.pairs) c.loop-test.true c.in_ok-key.ensures.ok c.in_ok-value.ensures.ok in
+    ap (insert (parse c.args.depth) (c.args.count / 2 - (c.loop.counter + 1)) c.read_frame-in-loop.new.bytes.now) c.in_ok-insert.ensures.ok ∙ (step ∙ c.loop.invariant)
 
 pub read_map-returns-in_err-key-clause-err : goal.read_map-returns-in_err-key-clause-err
 read_map-returns-in_err-key-clause-err t c =
     let none : parse c.args.depth c.loop.rest.now ≡ None → parse_map (parse c.args.depth) (c.args.count, c.args.body.now) ≡ None =
     λ h. map-none (parse c.args.depth) c.args.count c.args.body.now
-    (sym c.loop.invariant ∙ insert-no_key (parse c.args.depth) (c.args.count / 2) c.loop.counter c.loop.rest.now (pairs_trees c.loop.pairs.entries) c.loop-test.true h) in
+    (sym c.loop.invariant ∙ insert-no_key (parse c.args.depth) (c.args.count / 2) c.loop.counter c.loop.rest.now (gathered c.loop.pairs) c.loop-test.true h) in
     search (rules, none)
 
 pub read_map-returns-in_err-value-clause-err : goal.read_map-returns-in_err-value-clause-err
 read_map-returns-in_err-value-clause-err t c =
     let none : parse c.args.depth c.read_frame.new.bytes.now ≡ None → parse_map (parse c.args.depth) (c.args.count, c.args.body.now) ≡ None =
     λ h. map-none (parse c.args.depth) c.args.count c.args.body.now
-    (sym c.loop.invariant ∙ insert-no_value (parse c.args.depth) (c.args.count / 2) c.loop.counter c.loop.rest.now c.read_frame.new.bytes.now (tree_of c.in_ok-key.key) (pairs_trees c.loop.pairs.entries) c.loop-test.true c.in_ok-key.ensures.ok h) in
+    (sym c.loop.invariant ∙ insert-no_value (parse c.args.depth) (c.args.count / 2) c.loop.counter c.loop.rest.now c.read_frame.new.bytes.now (tree_of c.in_ok-key.key) (gathered c.loop.pairs) c.loop-test.true c.in_ok-key.ensures.ok h) in
     search (rules, none)
 
 pub read_array-loop-preserved : goal.read_array-loop-preserved
