@@ -9,8 +9,9 @@ use Rattle.amqp_ser.specs.declared.kind.Kind.{Kind}
 use Rattle.amqp_ser.specs.declared.kind.Kind.TheVariants as kind
 use Rattle.amqp_ser.specs.declared.mark.Mark.TheVariants as mark
 use Rattle.amqp_value.specs.Image.{image, images, insert_tree}
-use Rattle.amqp_value.specs.TreeOf.{tree_of, all_of, pairs_trees}
+use Rattle.amqp_value.specs.TreeOf.{tree_of, all_of}
 use Rattle.amqp_value.specs.declared.value.Value.{Value}
+use Rattle.amqp_gather.specs.Gathered.{gathered}
 use Rattle.amqp_to_value.specs.declared.map_builder.MapBuilder.{MapBuilder}
 use Rattle.amqp_to_value.specs.declared.parts.Parts.{Parts}
 use Rattle.amqp_to_value.specs.declared.parts.Parts.TheVariants as held
@@ -22,7 +23,7 @@ then (more u ts) t = more u (then ts t)
 
 -- the images of a map's pairs, and of the key whose value comes next
 abbrev pub held_pairs : MapBuilder → Pairs × Option Tree
-held_pairs g = (pairs_trees g.pairs.entries, option_map tree_of g.key)
+held_pairs g = (gathered g.pairs, option_map tree_of g.key)
 
 -- one part more: a key, or the value of the pending key
 abbrev pub feed : Pairs × Option Tree → Tree → Pairs × Option Tree

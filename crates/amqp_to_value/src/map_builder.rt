@@ -1,20 +1,20 @@
 //! The pairs of a map that is still fed.
 
 ghost use Rattle.std.specs.Prelude.{◌≡◌, MatchResult, None};
-ghost use Rattle.amqp_ser.specs.Tree.{Trees, map, no_pairs};
+ghost use Rattle.amqp_ser.specs.Tree.{Trees, no_pairs};
 ghost use Rattle.amqp_ser.specs.Compounds.{as_map, in_pairs};
-ghost use Rattle.amqp_value.specs.TreeOf.{tree_of, pairs_trees};
+ghost use Rattle.amqp_value.specs.TreeOf.{tree_of};
 ghost use Rattle.amqp_to_value.specs.HeldImages.{held_pairs, feed, fed_onto, IsOpenedImage};
 
-use amqp_data::{Error, OrderedMap};
+use amqp_data::Error;
+use amqp_gather::Gathered;
 use amqp_value::Value;
-use indexmap::IndexMap;
 use std::alloc::{AllocError, Global};
 
 /// The pairs of a map, in order, and the key whose value comes next.
 #[derive(Drop)]
 pub struct MapBuilder {
-    pairs: IndexMap<Value, Value>,
+    pairs: Gathered,
     key: Option<Value>,
 }
 
@@ -24,7 +24,7 @@ impl MapBuilder {
         ensures { held_pairs result ≡ (no_pairs, None) }
     {
         MapBuilder {
-            pairs: IndexMap::new(alloc),
+            pairs: Gathered::new(alloc),
             key: None,
         }
     }
@@ -45,7 +45,7 @@ impl MapBuilder {
                 Ok(())
             }
             Some(key) => match self.pairs.insert(key, part) {
-                Ok(_) => Ok(()),
+                Ok(()) => Ok(()),
                 Err(refused) => {
                     let (key, _part) = refused.value;
                     self.key = Some(key);
@@ -66,7 +66,8 @@ impl MapBuilder {
     /// The map of the pairs, none where a key is pending.
     ///
     /// # Errors
-    /// `InvalidValue` where a key is pending, `OutOfMemory` where memory for the pairs is refused.
+    /// `InvalidValue` where a key is pending, `OutOfMemory` where memory for the places of keys that do not
+    /// ascend is refused.
     #[inline(never)]
     pub fn into_value(self, alloc: Global) -> Result<Value, Error>
         ensures { (ts : Trees) → held_pairs self ≡ fed_onto ts no_pairs →
@@ -74,17 +75,7 @@ impl MapBuilder {
     {
         match self.key {
             Some(_) => Err(Error::InvalidValue),
-            None => map_value(alloc, self.pairs),
+            None => self.pairs.into_value(alloc),
         }
     }
-}
-
-// The map of these pairs, in their order.
-fn map_value(alloc: Global, pairs: IndexMap<Value, Value>) -> Result<Value, Error>
-    ensures { MatchResult result
-        (λ v. tree_of v ≡ map (pairs_trees pairs.entries))
-        (λ e. e ≡ Error.OutOfMemory) }
-{
-    let pairs: Vec<(Value, Value)> = pairs.into_iter().collect(alloc)?;
-    Ok(Value::Map(OrderedMap::from_distinct(pairs)))
 }

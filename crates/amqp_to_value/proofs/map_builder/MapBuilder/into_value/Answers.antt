@@ -1,5 +1,6 @@
 use Rattle.std.proofs.Common.{sym, ap, ◌∙◌, option_map}
-use Rattle.amqp_value.specs.TreeOf.{tree_of, pairs_trees}
+use Rattle.amqp_value.specs.TreeOf.{tree_of}
+use Rattle.amqp_gather.specs.Gathered.{gathered}
 use Rattle.amqp_to_value.proofs.HeldImagesLemmas.{pending_end, paired_end}
 use Rattle.amqp_to_value.proofs.map_builder.MapBuilder.into_value.Goals as goal
 
@@ -7,4 +8,4 @@ pub returns-in-Some : goal.returns-in-Some
 returns-in-Some c = λ ts h. pending_end ts (tree_of c.in-Some.field-0) (sym (ap (λ h. h.1) h) ∙ ap (option_map tree_of) c.in-Some.is)
 
 pub returns-in-None : goal.returns-in-None
-returns-in-None c = λ ts h. paired_end ts (pairs_trees c.args.self.pairs.entries) c.map_value.result (sym h ∙ ap (λ o. (pairs_trees c.args.self.pairs.entries, option_map tree_of o)) c.in-None.is) c.map_value.ensures
+returns-in-None c = λ ts h. paired_end ts (gathered c.args.self.pairs) c.into_value.result (sym h ∙ ap (λ o. (gathered c.args.self.pairs, option_map tree_of o)) c.in-None.is) c.into_value.ensures
