@@ -17,8 +17,8 @@ from pathlib import Path
 
 ROOT = Path(__file__).resolve().parent.parent / "crates"
 LIBRARIES = (
-    "amqp_calendar amqp_data amqp_frame amqp_ser amqp_size amqp_wire amqp_value amqp_to_value amqp_decode amqp_de "
-    "amqp_from_value amqp_restore serde_amqp"
+    "amqp_calendar amqp_data amqp_frame amqp_ser amqp_size amqp_wire amqp_value amqp_gather amqp_to_value amqp_decode "
+    "amqp_de amqp_from_value amqp_restore serde_amqp"
 ).split()
 
 

@@ -91,6 +91,18 @@ fn keys(alloc: Global) -> Result<bool, Error> {
         drop(map.insert(key, ())?);
     }
     let image = to_value(alloc, &map)?;
+    let ascending = to_vec(alloc, &image)? == to_vec(alloc, &map)?;
+    Ok(ascending && descending_keys(alloc)?)
+}
+
+// Keys that do not ascend: their places take memory too.
+fn descending_keys(alloc: Global) -> Result<bool, Error> {
+    let mut pairs = Vec::new(alloc);
+    for key in 0..20_000u32 {
+        pairs.push((20_000 - key, ()))?;
+    }
+    let map = OrderedMap::from_distinct(pairs);
+    let image = to_value(alloc, &map)?;
     Ok(to_vec(alloc, &image)? == to_vec(alloc, &map)?)
 }
 

@@ -19,6 +19,7 @@
 //! | the same | `Value::try_from_btree_map`, `Value::try_from_ordered_map`, `Vec::try_from`, `Array::try_from` |
 //! | the same | `OrderedMap::try_from`, `BTreeMap::try_from`, `HashMap::try_from`, `IndexMap::try_from` |
 //! | decoded values, types of one's own | `decode_value`, `decode_value_within` |
+//! | images, decoded values | `Gathered::new`, `Gathered::into_value` |
 //! | types out of values, lazy values | `from_value`, `Deserializer::new` |
 //! | types of one's own | `restored`, `read`, `read_described`, `Of::read`, `ListOf::read`, `NamedOf::read` |
 //! | the same | `Fields::read_elements`, `Must::read_elements`, `May::read_elements`, `Elements::new` |

@@ -19,14 +19,22 @@ const MAP: &[u8] = b"\xc1\x0b\x04\x50\x01\xa1\x01a\x50\x02\xa1\x01b";
 // The list of the ubytes 1 to 5.
 const NUMBERS: &[u8] = b"\xc0\x0b\x05\x50\x01\x50\x02\x50\x03\x50\x04\x50\x05";
 
-/// The value inside a frame of every kind that takes memory.
+// Keys that do not ascend, of which one comes twice: from 2 to 1, from 1 to 3, and from 2 to 4.
+const KEYS_IN_TURN: &[u8] = b"\xc1\x0d\x06\x50\x02\x50\x01\x50\x01\x50\x03\x50\x02\x50\x04";
+
+// The first of the equal keys keeps its place, and the last value stands: from 2 to 4 and from 1 to 3.
+const KEYS_ONCE: &[u8] = b"\xc1\x09\x04\x50\x02\x50\x04\x50\x01\x50\x03";
+
+/// The value inside a frame of every kind that takes memory, and a map whose keys do not ascend.
 ///
 /// # Errors
 /// `OutOfMemory` where a request for memory is refused; any other is a wrong answer.
 pub fn decoded(alloc: Global) -> Result<bool, Error> {
     let value = decode_value(alloc, LIST)?;
     let starts = matches!(&value, Value::List(items) if items.len() == 6);
-    Ok(starts && to_vec(alloc, &value)?.as_slice() == LIST)
+    let map = decode_value(alloc, KEYS_IN_TURN)?;
+    let once = to_vec(alloc, &map)?.as_slice() == KEYS_ONCE;
+    Ok(starts && once && to_vec(alloc, &value)?.as_slice() == LIST)
 }
 
 /// The types that take memory as they are read.

@@ -18,5 +18,6 @@ pub mod Forms
 pub mod Feeding
 pub mod OpenCompounds
 pub mod StructFeeding
+pub mod OpenStructs
 pub mod Named
 pub mod Words

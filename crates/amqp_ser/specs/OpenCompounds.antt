@@ -1,5 +1,6 @@
 -- Lists, maps and variants under way: what one was fed so far, and what a call feeds it.
 use Rattle.std.specs.Prelude.{ℕ, Bool, List, ◌∷◌, ◌++◌, [], Option, None, true, Result, Err, MatchResult, IfErr, ◌≡◌}
+use Rattle.std.specs.Borrow.{MutBor}
 use Rattle.amqp_ser.specs.Tree.{Tree}
 use Rattle.amqp_ser.specs.Compounds.{whole, paired}
 use Rattle.amqp_ser.specs.Feeding.{Feeds}
@@ -10,6 +11,13 @@ use Rattle.amqp_ser.specs.declared.compound.sequence.SerializeSeq.{SerializeSeq}
 use Rattle.amqp_ser.specs.declared.compound.struct_variant.SerializeStructVariant.{SerializeStructVariant}
 use Rattle.amqp_ser.specs.declared.compound.variant.SerializeTupleVariant.{SerializeTupleVariant}
 
+-- the reference that the list holds, and the list with another serializer there
+abbrev pub list_reference : {S H O E : Type 0} → SerializeSeq S O E H → MutBor S
+list_reference list = list.serializer
+
+abbrev pub list_with_serializer : {S H O E : Type 0} → SerializeSeq S O E H → S → SerializeSeq S O E H
+list_with_serializer list s = record list { serializer = record list.serializer { now = s } }
+
 -- the list, which this serializer opened, was fed these elements
 abbrev pub ListHas : {S H O E : Type 0} → (S → Kind → S → H → List (Option Tree) → Type 0) → S → SerializeSeq S O E H → List (Option Tree) → Type 0
 ListHas has start list elements = has start kind.List list.serializer.now list.held elements
@@ -19,6 +27,13 @@ abbrev pub FeedsList : {S H O E : Type 0} → (S → Option Tree → Result O E 
     Option Tree → SerializeSeq S O E H → Result (Unit {0}) E → SerializeSeq S O E H → Type 0
 FeedsList permits has element before result after =
     Feeds permits has kind.List element before.serializer.now before.held result after.serializer.now after.held
+
+-- the reference that the map holds, and the map with another serializer there
+abbrev pub map_reference : {S H O E : Type 0} → SerializeMap S O E H → MutBor S
+map_reference map = map.serializer
+
+abbrev pub map_with_serializer : {S H O E : Type 0} → SerializeMap S O E H → S → SerializeMap S O E H
+map_with_serializer map s = record map { serializer = record map.serializer { now = s } }
 
 -- the map, which this serializer opened, was fed these keys and values in turn
 abbrev pub MapHas : {S H O E : Type 0} → (S → Kind → S → H → List (Option Tree) → Type 0) → S → SerializeMap S O E H → List (Option Tree) → Type 0
@@ -51,6 +66,13 @@ RefusesInTurn {S} permits has before result after =
     (start : S) (ps : List (Option Tree)) → MapHas has start before ps →
     IfErr result (λ e. MapHas has start after ps × permits start None (Err e) after.serializer.now)
 
+-- the reference that the variant holds, and the variant with another serializer there
+abbrev pub variant_reference : {S H O E : Type 0} → SerializeTupleVariant S O E H → MutBor S
+variant_reference variant = variant.serializer
+
+abbrev pub variant_with_serializer : {S H O E : Type 0} → SerializeTupleVariant S O E H → S → SerializeTupleVariant S O E H
+variant_with_serializer variant s = record variant { serializer = record variant.serializer { now = s } }
+
 -- the variant of this index, which this serializer opened, was fed these fields
 abbrev pub VariantHas : {S H O E : Type 0} → (S → Kind → S → H → List (Option Tree) → Type 0) → S → ℕ → SerializeTupleVariant S O E H → List (Option Tree) → Type 0
 VariantHas has start index variant fields = has start (kind.Variant index) variant.serializer.now variant.held fields
@@ -62,6 +84,12 @@ FeedsVariant permits has field before result after =
     (index : ℕ) → Feeds permits has (kind.Variant index) field before.serializer.now before.held result after.serializer.now after.held
 
 -- the same of a variant whose fields have names
+abbrev pub struct_variant_reference : {S H O E : Type 0} → SerializeStructVariant S O E H → MutBor S
+struct_variant_reference variant = variant.serializer
+
+abbrev pub struct_variant_with_serializer : {S H O E : Type 0} → SerializeStructVariant S O E H → S → SerializeStructVariant S O E H
+struct_variant_with_serializer variant s = record variant { serializer = record variant.serializer { now = s } }
+
 abbrev pub StructVariantHas : {S H O E : Type 0} → (S → Kind → S → H → List (Option Tree) → Type 0) → S → ℕ → SerializeStructVariant S O E H → List (Option Tree) → Type 0
 StructVariantHas has start index variant fields = has start (kind.Variant index) variant.serializer.now variant.held fields
 

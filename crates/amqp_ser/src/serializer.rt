@@ -6,8 +6,9 @@ ghost use Rattle.amqp_ser.specs.Fixed.{fixed_scalar};
 ghost use Rattle.amqp_ser.specs.Compounds.{whole, complete, paired};
 ghost use Rattle.amqp_ser.specs.Composites.{as_described, descriptor_of};
 ghost use Rattle.amqp_ser.specs.Marked.{is_descriptor_name, is_value_name, marked, mark_of};
-ghost use Rattle.amqp_ser.specs.OpenCompounds.{ListHas, MapHas, has_key, VariantHas, StructVariantHas};
-ghost use Rattle.amqp_ser.specs.Structs.{Stands, struct_form, is_basic_name, is_tagged, named_variant};
+ghost use Rattle.amqp_ser.specs.OpenCompounds.{list_reference, ListHas, map_reference, MapHas, has_key, variant_reference, VariantHas, struct_variant_reference, StructVariantHas};
+ghost use Rattle.amqp_ser.specs.OpenStructs.{struct_reference, form_of, has_descriptor, has_field, StructHas, tuple_struct_reference, is_single, lacks_descriptor, is_open, TupleStructHas};
+ghost use Rattle.amqp_ser.specs.Structs.{struct_form, is_basic_name, is_tagged, named_variant};
 ghost use Rattle.amqp_data.specs.Fixed.{f32_bits, f64_bits};
 
 use crate::compound::described::serialize_described;
@@ -602,7 +603,7 @@ pub trait Serializer {
         Self: Sized,
         ensures opened { IfOk result (λ seq. ListHas Self.has self.old seq []) }
         ensures same_reference { IfOk result
-            (λ seq. seq.serializer.ghost_name ≡ self.entry.ghost_name) }
+            (λ seq. (list_reference seq).ghost_name ≡ self.entry.ghost_name) }
         ensures succeeds { IsOk result }
     {
         let held = self.begin(Kind::List);
@@ -628,7 +629,7 @@ pub trait Serializer {
         Self: Sized,
         ensures opened { IfOk result (λ tuple. ListHas Self.has self.old tuple []) }
         ensures same_reference { IfOk result
-            (λ tuple. tuple.serializer.ghost_name ≡ self.entry.ghost_name) }
+            (λ tuple. (list_reference tuple).ghost_name ≡ self.entry.ghost_name) }
         ensures succeeds { IsOk result }
     {
         let held = self.begin(Kind::List);
@@ -659,17 +660,15 @@ pub trait Serializer {
         Self: Sized,
         ensures opened { is_tagged name.now ≡ false →
             IfOk result
-            (λ fields. Stands Self.permits Self.has self.old None Kind.List fields.serializer.now
-            fields.held []) }
+            (λ fields. TupleStructHas Self.permits Self.has self.old None Kind.List fields []) }
         ensures single { is_tagged name.now ≡ true →
             IfOk result
-            (λ fields. Stands Self.permits Self.has self.old None Kind.Single fields.serializer.now
-            fields.held []) }
-        ensures form { IfOk result (λ fields. fields.single ≡ is_basic_name name.now) }
-        ensures awaits { IfOk result (λ fields. (fields.awaits ≡ is_tagged name.now)
-            × (fields.opened ≡ not (is_tagged name.now))) }
+            (λ fields. TupleStructHas Self.permits Self.has self.old None Kind.Single fields []) }
+        ensures form { IfOk result (λ fields. is_single fields ≡ is_basic_name name.now) }
+        ensures awaits { IfOk result (λ fields. (lacks_descriptor fields ≡ is_tagged name.now)
+            × (is_open fields ≡ not (is_tagged name.now))) }
         ensures same_reference { IfOk result
-            (λ fields. fields.serializer.ghost_name ≡ self.entry.ghost_name) }
+            (λ fields. (tuple_struct_reference fields).ghost_name ≡ self.entry.ghost_name) }
         ensures succeeds { IsOk result }
     {
         let single = is_basic_name(name);
@@ -705,13 +704,12 @@ pub trait Serializer {
     where
         Self: Sized,
         ensures opened { IfOk result
-            (λ fields. Stands Self.permits Self.has self.old None Kind.Single fields.serializer.now
-            fields.held []) }
-        ensures form { IfOk result (λ fields. fields.form ≡ struct_form name.now) }
-        ensures empty { IfOk result (λ fields. (fields.described ≡ false)
-            × (fields.opened ≡ false)) }
+            (λ fields. StructHas Self.permits Self.has self.old None Kind.Single fields []) }
+        ensures form { IfOk result (λ fields. form_of fields ≡ struct_form name.now) }
+        ensures empty { IfOk result (λ fields. (has_descriptor fields ≡ false)
+            × (has_field fields ≡ false)) }
         ensures same_reference { IfOk result
-            (λ fields. fields.serializer.ghost_name ≡ self.entry.ghost_name) }
+            (λ fields. (struct_reference fields).ghost_name ≡ self.entry.ghost_name) }
         ensures succeeds { IsOk result }
     {
         let held = self.begin(Kind::Single);
@@ -764,7 +762,7 @@ pub trait Serializer {
         ensures opened { IfOk result (λ map. MapHas Self.has self.old map []) }
         ensures no_key { IfOk result (λ map. has_key map ≡ false) }
         ensures same_reference { IfOk result
-            (λ map. map.serializer.ghost_name ≡ self.entry.ghost_name) }
+            (λ map. (map_reference map).ghost_name ≡ self.entry.ghost_name) }
         ensures succeeds { IsOk result }
     {
         let held = self.begin(Kind::Map);
@@ -832,7 +830,7 @@ pub trait Serializer {
         Self: Sized,
         ensures opened { IfOk result (λ variant. VariantHas Self.has self.old index variant []) }
         ensures same_reference { IfOk result
-            (λ variant. variant.serializer.ghost_name ≡ self.entry.ghost_name) }
+            (λ variant. (variant_reference variant).ghost_name ≡ self.entry.ghost_name) }
         ensures succeeds { IsOk result }
     {
         let held = self.begin(Kind::Variant(index));
@@ -863,7 +861,7 @@ pub trait Serializer {
         ensures opened { IfOk result
             (λ variant. StructVariantHas Self.has self.old index variant []) }
         ensures same_reference { IfOk result
-            (λ variant. variant.serializer.ghost_name ≡ self.entry.ghost_name) }
+            (λ variant. (struct_variant_reference variant).ghost_name ≡ self.entry.ghost_name) }
         ensures succeeds { IsOk result }
     {
         let opened = self.begin(Kind::Variant(index));

@@ -1,6 +1,7 @@
 //! Lazy values: any value that can be written, as its bytes.
 
 use amqp_data::{Array, Error};
+use amqp_de::de::Refusal;
 use amqp_frame::LazyValue;
 use amqp_from_value::from_value;
 use amqp_value::Value;
@@ -40,5 +41,19 @@ fn what_cannot_be_written_is_no_lazy_value(rt: HostRuntime) -> Result<(), Fail> 
     let mixed = array(alloc, [Value::Int(1), Value::Null])?;
     let read: Result<Vec<LazyValue>, Error> = from_value(alloc, list(alloc, [mixed])?);
     assert!(rt; matches!(read, Err(Error::InvalidValue)));
+    Ok(())
+}
+
+// The contracts say which refusal is out of memory; which error each of the others is stands here.
+#[test]
+fn each_cause_has_its_error(rt: HostRuntime) -> Result<(), Fail> {
+    let memory: Error = Refusal::memory();
+    assert!(rt; matches!(memory, Error::OutOfMemory));
+    let invalid: Error = Refusal::invalid();
+    assert!(rt; matches!(invalid, Error::InvalidValue));
+    let too_long: Error = Refusal::too_long();
+    assert!(rt; matches!(too_long, Error::TooLong));
+    let words: Error = Refusal::message("not a direction");
+    assert!(rt; matches!(words, Error::Message("not a direction")));
     Ok(())
 }

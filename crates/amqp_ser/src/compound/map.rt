@@ -5,7 +5,7 @@ ghost use mir.Syntax.{named};
 ghost use Rattle.std.specs.Borrow.{Lends, sem};
 ghost use Rattle.amqp_ser.specs.Tree.{Tree};
 ghost use Rattle.amqp_ser.specs.Compounds.{whole, paired};
-ghost use Rattle.amqp_ser.specs.OpenCompounds.{MapHas, has_key, FeedsMap, FeedsPair, RefusesInTurn};
+ghost use Rattle.amqp_ser.specs.OpenCompounds.{map_reference, map_with_serializer, MapHas, has_key, FeedsMap, FeedsPair, RefusesInTurn};
 
 use super::feed::{feed_entry, feed_part};
 use crate::kind::Kind;
@@ -28,7 +28,7 @@ pub struct SerializeMap<'a, S: Serializer> {
 impl<S: Serializer> Drop for SerializeMap<'_, S> {
     #[inline(always)]
     fn drop(self)
-        ensures { self.exit.0.now ≡ self.entry.serializer.now }
+        ensures { self.exit.0.now ≡ (map_reference self.entry).now }
     {
         let SerializeMap {
             serializer: _,
@@ -63,8 +63,8 @@ impl<'a, S: Serializer> SerializeMap<'a, S> {
             (Lends
             (the_row (record { mir = named 1; lft = [] }) S.row S.Ok.row S.Error.row S.Open.row)
             S.row self.entry result
-            (λ w. record self.old { serializer = record self.old.serializer { now = w } })) }
-        ensures now { result.now ≡ self.old.serializer.now }
+            (map_with_serializer self.old)) }
+        ensures now { result.now ≡ (map_reference self.old).now }
     {
         &mut *self.serializer
     }
@@ -79,7 +79,8 @@ impl<'a, S: Serializer> SerializeMap<'a, S> {
     /// The ubyte 1 adds `5001`.
     #[inline(always)]
     pub fn serialize_key<T: Serialize>(&mut self, key: &T) -> Result<(), S::Error>
-        ensures same { self.new.serializer.ghost_name ≡ self.old.serializer.ghost_name }
+        ensures same { (map_reference self.new).ghost_name
+            ≡ (map_reference self.old).ghost_name }
         ensures pending { MatchResult result
             (λ _. (has_key self.old ≡ false) × (has_key self.new ≡ true))
             (λ _. has_key self.new ≡ has_key self.old) }
@@ -107,7 +108,8 @@ impl<'a, S: Serializer> SerializeMap<'a, S> {
     /// After that key `true` adds `41`.
     #[inline(always)]
     pub fn serialize_value<T: Serialize>(&mut self, value: &T) -> Result<(), S::Error>
-        ensures same { self.new.serializer.ghost_name ≡ self.old.serializer.ghost_name }
+        ensures same { (map_reference self.new).ghost_name
+            ≡ (map_reference self.old).ghost_name }
         ensures pending { MatchResult result
             (λ _. (has_key self.old ≡ true) × (has_key self.new ≡ false))
             (λ _. has_key self.new ≡ has_key self.old) }
@@ -139,7 +141,8 @@ impl<'a, S: Serializer> SerializeMap<'a, S> {
         key: &K,
         value: &V,
     ) -> Result<(), S::Error>
-        ensures same { self.new.serializer.ghost_name ≡ self.old.serializer.ghost_name }
+        ensures same { (map_reference self.new).ghost_name
+            ≡ (map_reference self.old).ghost_name }
         ensures pending { has_key self.new ≡ has_key self.old }
         ensures step { has_key self.old ≡ false →
             FeedsPair S.permits S.has (K.tree key.now) (V.tree value.now) self.old result self.new }

@@ -5,7 +5,7 @@ ghost use mir.Syntax.{named};
 ghost use Rattle.std.specs.Borrow.{Lends, sem};
 ghost use Rattle.amqp_ser.specs.Tree.{Tree};
 ghost use Rattle.amqp_ser.specs.Compounds.{whole};
-ghost use Rattle.amqp_ser.specs.OpenCompounds.{ListHas, FeedsList};
+ghost use Rattle.amqp_ser.specs.OpenCompounds.{list_reference, list_with_serializer, ListHas, FeedsList};
 
 use super::feed::feed_part;
 use crate::kind::Kind;
@@ -27,7 +27,7 @@ pub struct SerializeSeq<'a, S: Serializer> {
 impl<S: Serializer> Drop for SerializeSeq<'_, S> {
     #[inline(always)]
     fn drop(self)
-        ensures { self.exit.0.now ≡ self.entry.serializer.now }
+        ensures { self.exit.0.now ≡ (list_reference self.entry).now }
     {
         let SerializeSeq {
             serializer: _,
@@ -56,8 +56,8 @@ impl<'a, S: Serializer> SerializeSeq<'a, S> {
             (Lends
             (the_row (record { mir = named 1; lft = [] }) S.row S.Ok.row S.Error.row S.Open.row)
             S.row self.entry result
-            (λ w. record self.old { serializer = record self.old.serializer { now = w } })) }
-        ensures now { result.now ≡ self.old.serializer.now }
+            (list_with_serializer self.old)) }
+        ensures now { result.now ≡ (list_reference self.old).now }
     {
         &mut *self.serializer
     }
@@ -72,7 +72,8 @@ impl<'a, S: Serializer> SerializeSeq<'a, S> {
     /// its constructor `b1` too.
     #[inline(always)]
     pub fn serialize_element<T: Serialize>(&mut self, value: &T) -> Result<(), S::Error>
-        ensures same { self.new.serializer.ghost_name ≡ self.old.serializer.ghost_name }
+        ensures same { (list_reference self.new).ghost_name
+            ≡ (list_reference self.old).ghost_name }
         ensures step { FeedsList S.permits S.has (T.tree value.now) self.old result self.new }
     {
         feed_part(&mut *self.serializer, &mut self.held, value)

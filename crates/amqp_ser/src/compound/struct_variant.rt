@@ -5,7 +5,7 @@ ghost use mir.Syntax.{named};
 ghost use Rattle.std.specs.Borrow.{Lends, sem};
 ghost use Rattle.amqp_ser.specs.Tree.{Tree};
 ghost use Rattle.amqp_ser.specs.Compounds.{whole};
-ghost use Rattle.amqp_ser.specs.OpenCompounds.{StructVariantHas, FeedsStructVariant};
+ghost use Rattle.amqp_ser.specs.OpenCompounds.{struct_variant_reference, struct_variant_with_serializer, StructVariantHas, FeedsStructVariant};
 
 use super::feed::feed_part;
 use crate::kind::Kind;
@@ -25,7 +25,7 @@ pub struct SerializeStructVariant<'a, S: Serializer> {
 impl<S: Serializer> Drop for SerializeStructVariant<'_, S> {
     #[inline(always)]
     fn drop(self)
-        ensures { self.exit.0.now ≡ self.entry.serializer.now }
+        ensures { self.exit.0.now ≡ (struct_variant_reference self.entry).now }
     {
         let SerializeStructVariant {
             serializer: _,
@@ -53,8 +53,8 @@ impl<'a, S: Serializer> SerializeStructVariant<'a, S> {
             (Lends
             (the_row (record { mir = named 1; lft = [] }) S.row S.Ok.row S.Error.row
             S.Open.row) S.row self.entry result
-            (λ w. record self.old { serializer = record self.old.serializer { now = w } })) }
-        ensures now { result.now ≡ self.old.serializer.now }
+            (struct_variant_with_serializer self.old)) }
+        ensures now { result.now ≡ (struct_variant_reference self.old).now }
     {
         &mut *self.serializer
     }
@@ -69,8 +69,10 @@ impl<'a, S: Serializer> SerializeStructVariant<'a, S> {
         _key: &'static str,
         value: &T,
     ) -> Result<(), S::Error>
-        ensures same { self.new.serializer.ghost_name ≡ self.old.serializer.ghost_name }
-        ensures step { FeedsStructVariant S.permits S.has (T.tree value.now) self.old result self.new }
+        ensures same { (struct_variant_reference self.new).ghost_name
+            ≡ (struct_variant_reference self.old).ghost_name }
+        ensures step { FeedsStructVariant S.permits S.has (T.tree value.now) self.old result
+            self.new }
     {
         feed_part(&mut *self.serializer, &mut self.held, value)
     }

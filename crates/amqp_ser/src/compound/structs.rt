@@ -7,8 +7,8 @@ ghost use Rattle.amqp_ser.specs.Tree.{Tree, scalar, string};
 ghost use Rattle.amqp_ser.specs.Compounds.{whole, paired};
 ghost use Rattle.amqp_ser.specs.Composites.{descriptor_of};
 ghost use Rattle.amqp_ser.specs.Marked.{is_descriptor_name};
-ghost use Rattle.amqp_ser.specs.StructFeeding.{FeedsDescriptor, FeedsFirst, FeedsElement, FeedsEntry, FeedsSingle, RefusesField};
-ghost use Rattle.amqp_ser.specs.Structs.{Stands, form_kind, open_kind, optionally_described, is_misplaced};
+ghost use Rattle.amqp_ser.specs.OpenStructs.{struct_reference, struct_with_serializer, form_of, has_descriptor, has_field, is_field_misplaced, StructHas, FeedsStructDescriptor, FeedsFirstField, FeedsListField, FeedsMapField, FeedsOnlyField, RefusesStructField};
+ghost use Rattle.amqp_ser.specs.Structs.{form_kind, optionally_described};
 
 use super::any_field::feed_any;
 use super::body::end_fields;
@@ -38,7 +38,7 @@ pub struct SerializeStruct<'a, S: Serializer> {
 impl<S: Serializer> Drop for SerializeStruct<'_, S> {
     #[inline(always)]
     fn drop(self)
-        ensures { self.exit.0.now ≡ self.entry.serializer.now }
+        ensures { self.exit.0.now ≡ (struct_reference self.entry).now }
     {
         let SerializeStruct {
             serializer: _,
@@ -82,8 +82,8 @@ impl<'a, S: Serializer> SerializeStruct<'a, S> {
             (Lends
             (the_row (record { mir = named 1; lft = [] }) S.row S.Ok.row S.Error.row S.Open.row)
             S.row self.entry result
-            (λ w. record self.old { serializer = record self.old.serializer { now = w } })) }
-        ensures now { result.now ≡ self.old.serializer.now }
+            (struct_with_serializer self.old)) }
+        ensures now { result.now ≡ (struct_reference self.old).now }
     {
         &mut *self.serializer
     }
@@ -105,48 +105,44 @@ impl<'a, S: Serializer> SerializeStruct<'a, S> {
         key: &'static str,
         value: &T,
     ) -> Result<(), S::Error>
-        ensures same { self.new.serializer.ghost_name ≡ self.old.serializer.ghost_name }
-        ensures form { self.new.form ≡ self.old.form }
-        ensures as_it_was { IfErr result (λ _. (self.new.described ≡ self.old.described)
-            × (self.new.opened ≡ self.old.opened)) }
+        ensures same { (struct_reference self.new).ghost_name
+            ≡ (struct_reference self.old).ghost_name }
+        ensures form { form_of self.new ≡ form_of self.old }
+        ensures as_it_was { IfErr result
+            (λ _. (has_descriptor self.new ≡ has_descriptor self.old)
+            × (has_field self.new ≡ has_field self.old)) }
         ensures described { IfOk result
-            (λ _. self.new.described ≡ (is_descriptor_name key.now || self.old.described)) }
+            (λ _. has_descriptor self.new
+            ≡ (is_descriptor_name key.now || has_descriptor self.old)) }
         ensures opened { IfOk result
-            (λ _. self.new.opened ≡ (not (is_descriptor_name key.now) || self.old.opened)) }
-        ensures descriptor { is_descriptor_name key.now ≡ true → self.old.described ≡ false →
-            self.old.opened ≡ false →
-            FeedsDescriptor S.permits S.has (T.tree value.now) self.old.serializer.now self.old.held
-            result self.new.serializer.now self.new.held }
-        ensures first_of_list { is_descriptor_name key.now ≡ false → self.old.opened ≡ false →
-            self.old.form ≡ StructForm.List →
-            FeedsFirst S.permits S.has Kind.List (T.tree value.now ∷ []) self.old.serializer.now
-            self.old.held result self.new.serializer.now self.new.held }
-        ensures next_of_list { is_descriptor_name key.now ≡ false → self.old.opened ≡ true →
-            self.old.form ≡ StructForm.List →
-            FeedsElement S.permits S.has (T.tree value.now) self.old.serializer.now self.old.held
-            result self.new.serializer.now self.new.held }
-        ensures first_of_map { is_descriptor_name key.now ≡ false → self.old.opened ≡ false →
-            self.old.form ≡ StructForm.Map →
-            FeedsFirst S.permits S.has Kind.Map
-            (Some (scalar (string key.now)) ∷ (T.tree value.now ∷ [])) self.old.serializer.now
-            self.old.held result self.new.serializer.now self.new.held }
-        ensures next_of_map { is_descriptor_name key.now ≡ false → self.old.opened ≡ true →
-            self.old.form ≡ StructForm.Map →
-            FeedsEntry S.permits S.has (Some (scalar (string key.now))) (T.tree value.now)
-            self.old.serializer.now self.old.held result self.new.serializer.now self.new.held }
-        ensures alone { is_descriptor_name key.now ≡ false → self.old.opened ≡ false →
-            self.old.form ≡ StructForm.Single →
-            FeedsSingle S.permits S.has (T.tree value.now) self.old.serializer.now self.old.held
-            result self.new.serializer.now self.new.held }
-        ensures misuse { is_misplaced self.old.form self.old.described self.old.opened
-            (is_descriptor_name key.now) ≡ true →
-            IsErr result × RefusesField S.permits S.has (open_kind self.old.opened self.old.form)
-            self.old.serializer.now self.old.held result self.new.serializer.now self.new.held }
-        ensures invalid { is_misplaced self.old.form self.old.described self.old.opened
-            (is_descriptor_name key.now) ≡ true → IfErr result S.is_misuse }
-        ensures other_kinds { is_descriptor_name key.now ≡ true → self.old.described ≡ false →
-            self.old.opened ≡ false → (start : S) →
-            Stands S.permits S.has start None Kind.Single self.old.serializer.now self.old.held [] →
+            (λ _. has_field self.new ≡ (not (is_descriptor_name key.now) || has_field self.old)) }
+        ensures descriptor { is_descriptor_name key.now ≡ true → has_descriptor self.old ≡ false →
+            has_field self.old ≡ false →
+            FeedsStructDescriptor S.permits S.has (T.tree value.now) self.old result self.new }
+        ensures first_of_list { is_descriptor_name key.now ≡ false → has_field self.old ≡ false →
+            form_of self.old ≡ StructForm.List →
+            FeedsFirstField S.permits S.has Kind.List (T.tree value.now ∷ []) self.old result
+            self.new }
+        ensures next_of_list { is_descriptor_name key.now ≡ false → has_field self.old ≡ true →
+            form_of self.old ≡ StructForm.List →
+            FeedsListField S.permits S.has (T.tree value.now) self.old result self.new }
+        ensures first_of_map { is_descriptor_name key.now ≡ false → has_field self.old ≡ false →
+            form_of self.old ≡ StructForm.Map →
+            FeedsFirstField S.permits S.has Kind.Map
+            (Some (scalar (string key.now)) ∷ (T.tree value.now ∷ [])) self.old result self.new }
+        ensures next_of_map { is_descriptor_name key.now ≡ false → has_field self.old ≡ true →
+            form_of self.old ≡ StructForm.Map →
+            FeedsMapField S.permits S.has (Some (scalar (string key.now))) (T.tree value.now)
+            self.old result self.new }
+        ensures alone { is_descriptor_name key.now ≡ false → has_field self.old ≡ false →
+            form_of self.old ≡ StructForm.Single →
+            FeedsOnlyField S.permits S.has (T.tree value.now) self.old result self.new }
+        ensures misuse { is_field_misplaced key.now self.old ≡ true →
+            IsErr result × RefusesStructField S.permits S.has self.old result self.new }
+        ensures invalid { is_field_misplaced key.now self.old ≡ true → IfErr result S.is_misuse }
+        ensures other_kinds { is_descriptor_name key.now ≡ true → has_descriptor self.old ≡ false →
+            has_field self.old ≡ false → (start : S) →
+            StructHas S.permits S.has start None Kind.Single self.old [] →
             descriptor_of (T.tree value.now) ≡ None → IsErr result }
     {
         let descriptor = is_descriptor_name(key);
@@ -191,30 +187,27 @@ impl<'a, S: Serializer> SerializeStruct<'a, S> {
     #[tactic(auto, unfolding(crate::specs::Structs::Stands))]
     #[inline(always)]
     pub fn end(self) -> Result<S::Ok, S::Error>
-        ensures list { self.entry.opened ≡ true → self.entry.form ≡ StructForm.List →
+        ensures list { has_field self.entry ≡ true → form_of self.entry ≡ StructForm.List →
             (start : S) (prefix : Option (Option Tree)) (ps : List (Option Tree)) →
-            Stands S.permits S.has start prefix Kind.List self.entry.serializer.now
-            self.entry.held ps →
+            StructHas S.permits S.has start prefix Kind.List self.entry ps →
             S.permits start (optionally_described prefix (whole Kind.List ps)) result
             self.exit.0.now }
-        ensures map { self.entry.opened ≡ true → self.entry.form ≡ StructForm.Map →
+        ensures map { has_field self.entry ≡ true → form_of self.entry ≡ StructForm.Map →
             (start : S) (prefix : Option (Option Tree)) (ps : List (Option Tree)) →
-            Stands S.permits S.has start prefix Kind.Map self.entry.serializer.now
-            self.entry.held ps → paired ps ≡ true →
+            StructHas S.permits S.has start prefix Kind.Map self.entry ps → paired ps ≡ true →
             S.permits start (optionally_described prefix (whole Kind.Map ps)) result
             self.exit.0.now }
-        ensures alone { self.entry.opened ≡ true → self.entry.form ≡ StructForm.Single →
+        ensures alone { has_field self.entry ≡ true → form_of self.entry ≡ StructForm.Single →
             (start : S) (prefix : Option (Option Tree)) (p : Option Tree) →
-            Stands S.permits S.has start prefix Kind.Single self.entry.serializer.now
-            self.entry.held
-            (p ∷ []) → S.permits start (optionally_described prefix p) result self.exit.0.now }
-        ensures empty { self.entry.opened ≡ false → (start : S) (prefix : Option (Option Tree)) →
-            Stands S.permits S.has start prefix Kind.Single self.entry.serializer.now
-            self.entry.held [] →
-            S.permits start (optionally_described prefix (whole (form_kind self.entry.form) []))
-            result
-            self.exit.0.now }
-        ensures invalid { self.entry.opened ≡ false → self.entry.form ≡ StructForm.Single →
+            StructHas S.permits S.has start prefix Kind.Single self.entry (p ∷ []) →
+            S.permits start (optionally_described prefix p) result self.exit.0.now }
+        ensures empty { has_field self.entry ≡ false →
+            (start : S) (prefix : Option (Option Tree)) →
+            StructHas S.permits S.has start prefix Kind.Single self.entry [] →
+            S.permits start
+            (optionally_described prefix (whole (form_kind (form_of self.entry)) []))
+            result self.exit.0.now }
+        ensures invalid { has_field self.entry ≡ false → form_of self.entry ≡ StructForm.Single →
             IsErr result × IfErr result S.is_misuse }
     {
         let SerializeStruct {

@@ -1,13 +1,13 @@
 //! Tuple structs: lists of their fields, of which the first may be a descriptor.
 
-ghost use Rattle.std.specs.Prelude.{◌≡◌, ◌∷◌, [], List, Option, None, IfOk, IfErr, IsErr, ◌&&◌, ◌||◌, not, true, false};
+ghost use Rattle.std.specs.Prelude.{◌≡◌, ◌∷◌, [], List, Option, None, IfOk, IfErr, IsErr, ◌||◌, not, true, false};
 ghost use mir.Syntax.{named};
 ghost use Rattle.std.specs.Borrow.{Lends, sem};
 ghost use Rattle.amqp_ser.specs.Tree.{Tree};
 ghost use Rattle.amqp_ser.specs.Compounds.{whole};
 ghost use Rattle.amqp_ser.specs.Composites.{descriptor_of};
-ghost use Rattle.amqp_ser.specs.StructFeeding.{FeedsDescriptor, FeedsFirst, FeedsElement, FeedsSingle, RefusesField};
-ghost use Rattle.amqp_ser.specs.Structs.{Stands, single_or_list, form_kind, open_kind, optionally_described, is_misplaced};
+ghost use Rattle.amqp_ser.specs.OpenStructs.{tuple_struct_reference, tuple_struct_with_serializer, is_single, lacks_descriptor, is_open, is_full, TupleStructHas, FeedsTupleStructDescriptor, FeedsFirstTupleStructField, FeedsTupleStructField, FeedsOnlyTupleStructField, RefusesTupleStructField};
+ghost use Rattle.amqp_ser.specs.Structs.{single_or_list, form_kind, optionally_described};
 
 use super::body::{end_fields, open_body};
 use super::described::{feed_descriptor, feed_single};
@@ -37,7 +37,7 @@ pub struct SerializeTupleStruct<'a, S: Serializer> {
 impl<S: Serializer> Drop for SerializeTupleStruct<'_, S> {
     #[inline(always)]
     fn drop(self)
-        ensures { self.exit.0.now ≡ self.entry.serializer.now }
+        ensures { self.exit.0.now ≡ (tuple_struct_reference self.entry).now }
     {
         let SerializeTupleStruct {
             serializer: _,
@@ -82,8 +82,8 @@ impl<'a, S: Serializer> SerializeTupleStruct<'a, S> {
             (Lends
             (the_row (record { mir = named 1; lft = [] }) S.row S.Ok.row S.Error.row S.Open.row)
             S.row self.entry result
-            (λ w. record self.old { serializer = record self.old.serializer { now = w } })) }
-        ensures now { result.now ≡ self.old.serializer.now }
+            (tuple_struct_with_serializer self.old)) }
+        ensures now { result.now ≡ (tuple_struct_reference self.old).now }
     {
         &mut *self.serializer
     }
@@ -100,37 +100,32 @@ impl<'a, S: Serializer> SerializeTupleStruct<'a, S> {
     #[tactic(auto, unfolding(crate::specs::Structs::Stands))]
     #[inline(always)]
     pub fn serialize_field<T: Serialize>(&mut self, value: &T) -> Result<(), S::Error>
-        ensures same { self.new.serializer.ghost_name ≡ self.old.serializer.ghost_name }
-        ensures single { self.new.single ≡ self.old.single }
-        ensures as_it_was { IfErr result (λ _. (self.new.awaits ≡ self.old.awaits)
-            × (self.new.opened ≡ self.old.opened)) }
+        ensures same { (tuple_struct_reference self.new).ghost_name
+            ≡ (tuple_struct_reference self.old).ghost_name }
+        ensures single { is_single self.new ≡ is_single self.old }
+        ensures as_it_was { IfErr result
+            (λ _. (lacks_descriptor self.new ≡ lacks_descriptor self.old)
+            × (is_open self.new ≡ is_open self.old)) }
         ensures flags { IfOk result
-            (λ _. (self.new.awaits ≡ false)
-            × (self.new.opened ≡ (not self.old.awaits || self.old.opened))) }
-        ensures descriptor { self.old.awaits ≡ true →
-            FeedsDescriptor S.permits S.has (T.tree value.now) self.old.serializer.now self.old.held
-            result self.new.serializer.now self.new.held }
-        ensures first { self.old.awaits ≡ false → self.old.opened ≡ false →
-            self.old.single ≡ false →
-            FeedsFirst S.permits S.has Kind.List (T.tree value.now ∷ []) self.old.serializer.now
-            self.old.held result self.new.serializer.now self.new.held }
-        ensures next { self.old.awaits ≡ false → self.old.opened ≡ true →
-            self.old.single ≡ false →
-            FeedsElement S.permits S.has (T.tree value.now) self.old.serializer.now self.old.held
-            result self.new.serializer.now self.new.held }
-        ensures alone { self.old.awaits ≡ false → self.old.opened ≡ false →
-            self.old.single ≡ true →
-            FeedsSingle S.permits S.has (T.tree value.now) self.old.serializer.now self.old.held
-            result self.new.serializer.now self.new.held }
-        ensures misuse { (not self.old.awaits && is_misplaced (single_or_list self.old.single) true
-            self.old.opened false) ≡ true →
-            IsErr result × RefusesField S.permits S.has
-            (open_kind self.old.opened (single_or_list self.old.single)) self.old.serializer.now
-            self.old.held result self.new.serializer.now self.new.held }
-        ensures invalid { (not self.old.awaits && is_misplaced (single_or_list self.old.single) true
-            self.old.opened false) ≡ true → IfErr result S.is_misuse }
-        ensures other_kinds { self.old.awaits ≡ true → (start : S) →
-            Stands S.permits S.has start None Kind.Single self.old.serializer.now self.old.held [] →
+            (λ _. (lacks_descriptor self.new ≡ false)
+            × (is_open self.new ≡ (not (lacks_descriptor self.old) || is_open self.old))) }
+        ensures descriptor { lacks_descriptor self.old ≡ true →
+            FeedsTupleStructDescriptor S.permits S.has (T.tree value.now) self.old result self.new }
+        ensures first { lacks_descriptor self.old ≡ false → is_open self.old ≡ false →
+            is_single self.old ≡ false →
+            FeedsFirstTupleStructField S.permits S.has Kind.List (T.tree value.now ∷ []) self.old
+            result self.new }
+        ensures next { lacks_descriptor self.old ≡ false → is_open self.old ≡ true →
+            is_single self.old ≡ false →
+            FeedsTupleStructField S.permits S.has (T.tree value.now) self.old result self.new }
+        ensures alone { lacks_descriptor self.old ≡ false → is_open self.old ≡ false →
+            is_single self.old ≡ true →
+            FeedsOnlyTupleStructField S.permits S.has (T.tree value.now) self.old result self.new }
+        ensures misuse { is_full self.old ≡ true →
+            IsErr result × RefusesTupleStructField S.permits S.has self.old result self.new }
+        ensures invalid { is_full self.old ≡ true → IfErr result S.is_misuse }
+        ensures other_kinds { lacks_descriptor self.old ≡ true → (start : S) →
+            TupleStructHas S.permits S.has start None Kind.Single self.old [] →
             descriptor_of (T.tree value.now) ≡ None → IsErr result }
     {
         if self.awaits {
@@ -164,24 +159,23 @@ impl<'a, S: Serializer> SerializeTupleStruct<'a, S> {
     #[tactic(auto, unfolding(crate::specs::Structs::Stands))]
     #[inline(always)]
     pub fn end(self) -> Result<S::Ok, S::Error>
-        ensures list { self.entry.opened ≡ true → self.entry.single ≡ false →
+        ensures list { is_open self.entry ≡ true → is_single self.entry ≡ false →
             (start : S) (prefix : Option (Option Tree)) (ps : List (Option Tree)) →
-            Stands S.permits S.has start prefix Kind.List self.entry.serializer.now
-            self.entry.held ps →
+            TupleStructHas S.permits S.has start prefix Kind.List self.entry ps →
             S.permits start (optionally_described prefix (whole Kind.List ps)) result
             self.exit.0.now }
-        ensures alone { self.entry.opened ≡ true → self.entry.single ≡ true →
+        ensures alone { is_open self.entry ≡ true → is_single self.entry ≡ true →
             (start : S) (prefix : Option (Option Tree)) (p : Option Tree) →
-            Stands S.permits S.has start prefix Kind.Single self.entry.serializer.now
-            self.entry.held
-            (p ∷ []) → S.permits start (optionally_described prefix p) result self.exit.0.now }
-        ensures empty { self.entry.opened ≡ false → (start : S) (prefix : Option (Option Tree)) →
-            Stands S.permits S.has start prefix Kind.Single self.entry.serializer.now
-            self.entry.held [] →
+            TupleStructHas S.permits S.has start prefix Kind.Single self.entry (p ∷ []) →
+            S.permits start (optionally_described prefix p) result self.exit.0.now }
+        ensures empty { is_open self.entry ≡ false →
+            (start : S) (prefix : Option (Option Tree)) →
+            TupleStructHas S.permits S.has start prefix Kind.Single self.entry [] →
             S.permits start
-            (optionally_described prefix (whole (form_kind (single_or_list self.entry.single)) []))
+            (optionally_described prefix
+            (whole (form_kind (single_or_list (is_single self.entry))) []))
             result self.exit.0.now }
-        ensures invalid { self.entry.opened ≡ false → self.entry.single ≡ true →
+        ensures invalid { is_open self.entry ≡ false → is_single self.entry ≡ true →
             IsErr result × IfErr result S.is_misuse }
     {
         let SerializeTupleStruct {

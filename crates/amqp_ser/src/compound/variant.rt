@@ -5,7 +5,7 @@ ghost use mir.Syntax.{named};
 ghost use Rattle.std.specs.Borrow.{Lends, sem};
 ghost use Rattle.amqp_ser.specs.Tree.{Tree};
 ghost use Rattle.amqp_ser.specs.Compounds.{whole};
-ghost use Rattle.amqp_ser.specs.OpenCompounds.{VariantHas, FeedsVariant};
+ghost use Rattle.amqp_ser.specs.OpenCompounds.{variant_reference, variant_with_serializer, VariantHas, FeedsVariant};
 
 use super::feed::feed_part;
 use crate::kind::Kind;
@@ -25,7 +25,7 @@ pub struct SerializeTupleVariant<'a, S: Serializer> {
 impl<S: Serializer> Drop for SerializeTupleVariant<'_, S> {
     #[inline(always)]
     fn drop(self)
-        ensures { self.exit.0.now ≡ self.entry.serializer.now }
+        ensures { self.exit.0.now ≡ (variant_reference self.entry).now }
     {
         let SerializeTupleVariant {
             serializer: _,
@@ -53,8 +53,8 @@ impl<'a, S: Serializer> SerializeTupleVariant<'a, S> {
             (Lends
             (tuple_variant.the_row (record { mir = named 1; lft = [] }) S.row S.Ok.row S.Error.row
             S.Open.row) S.row self.entry result
-            (λ w. record self.old { serializer = record self.old.serializer { now = w } })) }
-        ensures now { result.now ≡ self.old.serializer.now }
+            (variant_with_serializer self.old)) }
+        ensures now { result.now ≡ (variant_reference self.old).now }
     {
         &mut *self.serializer
     }
@@ -65,7 +65,8 @@ impl<'a, S: Serializer> SerializeTupleVariant<'a, S> {
     /// The serializer's refusal of the field; the variant is then as it was and may be fed on.
     #[inline(always)]
     pub fn serialize_field<T: Serialize>(&mut self, value: &T) -> Result<(), S::Error>
-        ensures same { self.new.serializer.ghost_name ≡ self.old.serializer.ghost_name }
+        ensures same { (variant_reference self.new).ghost_name
+            ≡ (variant_reference self.old).ghost_name }
         ensures step { FeedsVariant S.permits S.has (T.tree value.now) self.old result self.new }
     {
         feed_part(&mut *self.serializer, &mut self.held, value)
