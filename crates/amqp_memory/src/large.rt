@@ -97,11 +97,10 @@ fn keys(alloc: Global) -> Result<bool, Error> {
 
 // Keys that do not ascend: their places take memory too.
 fn descending_keys(alloc: Global) -> Result<bool, Error> {
-    let mut pairs = Vec::new(alloc);
-    for key in 0..20_000u32 {
-        pairs.push((20_000 - key, ()))?;
+    let mut map = OrderedMap::new(alloc);
+    for key in 0..4_000u16 {
+        drop(map.insert(u16::MAX - key, ())?);
     }
-    let map = OrderedMap::from_distinct(pairs);
     let image = to_value(alloc, &map)?;
     Ok(to_vec(alloc, &image)? == to_vec(alloc, &map)?)
 }
