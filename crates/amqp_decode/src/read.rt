@@ -1,13 +1,15 @@
 //! A value from its encoded bytes, first part by part.
 
-ghost use Rattle.std.specs.Prelude.{◌≡◌, ℕ, IfOk, IfErr, Some, None};
+ghost use Rattle.std.specs.Prelude.{◌≡◌, ℕ, IfOk, OnOk, IfErr, Some, None};
 ghost use Rattle.amqp_data.specs.declared.error.Error.TheVariants.{OutOfMemory};
 ghost use Rattle.amqp_value.specs.TreeOf.{tree_of};
 ghost use Rattle.amqp_decode.specs.Parsed.{parse, parse_content, payload_in, content_of, frame_in, parse_list, parse_map, parse_array};
 
 use crate::cut::{read_count, read_payload};
+use crate::fixed::read_fixed;
 use crate::payload_shape::{PayloadShape, has_no_payload, payload_shape, primitive_code};
 use crate::scalar::{read_descriptor, read_scalar};
+use crate::stack::take_from;
 use amqp_data::{Array, Described, EncodingCodes, Error};
 use amqp_gather::Gathered;
 use amqp_value::Value;
@@ -25,33 +27,57 @@ pub fn read_frame(
     ensures ok { IfOk result (λ v. parse depth bytes.old.now ≡ Some (tree_of v, bytes.new.now)) }
     ensures err { IfErr result (λ e. ¬ (e ≡ OutOfMemory) → parse depth bytes.old.now ≡ None) }
 {
+    let mut stack = Vec::new(alloc);
+    read_frame_on(alloc, bytes, depth, elements, &mut stack)
+}
+
+// The same, with the elements so far of the lists around it on the stack, which is left as it was.
+#[cycle(read)]
+#[inline(always)]
+fn read_frame_on(
+    alloc: Global,
+    bytes: &mut &[u8],
+    depth: u16,
+    elements: u32,
+    stack: &mut Vec<Value>,
+) -> Result<Value, Error>
+    ensures ok { IfOk result (λ v. parse depth bytes.old.now ≡ Some (tree_of v, bytes.new.now)) }
+    ensures err { IfErr result (λ e. ¬ (e ≡ OutOfMemory) → parse depth bytes.old.now ≡ None) }
+    ensures stack { OnOk result (stack.new.items ≡ stack.old.items) }
+{
     if depth == 0 {
         return Err(Error::InvalidValue);
     }
-    read_frame_over(alloc, bytes, depth - 1, elements)
+    if let Some((value, rest)) = read_fixed(bytes) {
+        *bytes = rest;
+        return Ok(value);
+    }
+    read_frame_over(alloc, bytes, depth - 1, elements, stack)
 }
 
 // The same, where what stands inside is at most so deep.
 #[cycle(read)]
-#[inline(always)]
+#[inline(never)]
 fn read_frame_over(
     alloc: Global,
     bytes: &mut &[u8],
     depth: u16,
     elements: u32,
+    stack: &mut Vec<Value>,
 ) -> Result<Value, Error>
     ensures ok { IfOk result (λ v.
         frame_in (parse depth) (parse_content depth) bytes.old.now
         ≡ Some (tree_of v, bytes.new.now)) }
     ensures err { IfErr result (λ e. ¬ (e ≡ OutOfMemory) →
         frame_in (parse depth) (parse_content depth) bytes.old.now ≡ None) }
+    ensures stack { OnOk result (stack.new.items ≡ stack.old.items) }
 {
     match bytes.split_first() {
         None => Err(Error::UnexpectedEof),
         Some((0, rest)) => {
             let (descriptor, rest) = read_descriptor(alloc, rest)?;
             *bytes = rest;
-            let value = read_frame(alloc, bytes, depth, elements)?;
+            let value = read_frame_on(alloc, bytes, depth, elements, stack)?;
             let described = Box::new(alloc, Described { descriptor, value })?;
             Ok(Value::Described(described))
         }
@@ -59,7 +85,7 @@ fn read_frame_over(
             let code = primitive_code(*byte)?;
             let (content, rest) = read_payload(code, rest)?;
             *bytes = rest;
-            read_content_over(alloc, code, content, depth, elements)
+            read_content_over(alloc, code, content, depth, elements, stack)
         }
     }
 }
@@ -72,15 +98,17 @@ fn read_item(
     bytes: &mut &[u8],
     depth: u16,
     elements: u32,
+    stack: &mut Vec<Value>,
 ) -> Result<Value, Error>
     ensures ok { IfOk result (λ v.
         payload_in (parse_content depth) code bytes.old.now ≡ Some (tree_of v, bytes.new.now)) }
     ensures err { IfErr result (λ e. ¬ (e ≡ OutOfMemory) →
         payload_in (parse_content depth) code bytes.old.now ≡ None) }
+    ensures stack { OnOk result (stack.new.items ≡ stack.old.items) }
 {
     let (content, rest) = read_payload(code, bytes)?;
     *bytes = rest;
-    read_content(alloc, code, content, depth, elements)
+    read_content(alloc, code, content, depth, elements, stack)
 }
 
 // The value of the content of a code's payload.
@@ -91,15 +119,17 @@ fn read_content(
     content: &[u8],
     depth: u16,
     elements: u32,
+    stack: &mut Vec<Value>,
 ) -> Result<Value, Error>
     ensures ok { IfOk result (λ v. parse_content depth code content.now ≡ Some (tree_of v)) }
     ensures err { IfErr result (λ e. ¬ (e ≡ OutOfMemory) →
         parse_content depth code content.now ≡ None) }
+    ensures stack { OnOk result (stack.new.items ≡ stack.old.items) }
 {
     if depth == 0 {
         return Err(Error::InvalidValue);
     }
-    read_content_over(alloc, code, content, depth - 1, elements)
+    read_content_over(alloc, code, content, depth - 1, elements, stack)
 }
 
 // The same, where what stands inside is at most so deep.
@@ -111,18 +141,20 @@ fn read_content_over(
     content: &[u8],
     depth: u16,
     elements: u32,
+    stack: &mut Vec<Value>,
 ) -> Result<Value, Error>
     ensures ok { IfOk result (λ v.
         content_of (parse depth) (parse_content depth) code content.now ≡ Some (tree_of v)) }
     ensures err { IfErr result (λ e. ¬ (e ≡ OutOfMemory) →
         content_of (parse depth) (parse_content depth) code content.now ≡ None) }
+    ensures stack { OnOk result (stack.new.items ≡ stack.old.items) }
 {
     match payload_shape(code) {
         PayloadShape::Described => Err(Error::InvalidValue),
         PayloadShape::Scalar => read_scalar(alloc, code, content),
         PayloadShape::List(count) => {
             let (count, body) = read_count(count, content)?;
-            read_list(alloc, count, body, depth, elements)
+            read_list(alloc, count, body, depth, elements, stack)
         }
         PayloadShape::Map(count) => {
             let (count, body) = read_count(count, content)?;
@@ -130,12 +162,13 @@ fn read_content_over(
         }
         PayloadShape::Array(count) => {
             let (count, body) = read_count(count, content)?;
-            read_array(alloc, count, body, depth, elements)
+            read_array(alloc, count, body, depth, elements, stack)
         }
     }
 }
 
-// The list of so many encoded values, which fill the body.
+// The list of so many encoded values, which fill the body. They are gathered on the stack, so that the list's own memory is
+// asked for once, for so many as were read.
 #[cycle(read)]
 #[inline(never)]
 fn read_list(
@@ -144,22 +177,24 @@ fn read_list(
     body: &[u8],
     depth: u16,
     elements: u32,
+    stack: &mut Vec<Value>,
 ) -> Result<Value, Error>
     ensures ok { IfOk result (λ v. parse_list (parse depth) (count, body.now) ≡ Some (tree_of v)) }
     ensures err { IfErr result (λ e. ¬ (e ≡ OutOfMemory) →
         parse_list (parse depth) (count, body.now) ≡ None) }
+    ensures stack { OnOk result (stack.new.items ≡ stack.old.items) }
 {
-    let mut items = Vec::new(alloc);
+    let start = stack.len();
     let mut rest = body;
     for _ in 0..count {
-        let item = read_frame(alloc, &mut rest, depth, elements)?;
-        items.push(item)?;
+        let item = read_frame_on(alloc, &mut rest, depth, elements, stack)?;
+        stack.push(item)?;
     }
-    if rest.is_empty() {
-        Ok(Value::List(items))
-    } else {
-        Err(Error::InvalidValue)
+    if !rest.is_empty() {
+        return Err(Error::InvalidValue);
     }
+    let items = take_from(alloc, stack, start)?;
+    Ok(Value::List(items))
 }
 
 // The map of so many encoded values, keys and values in turn, which fill the body.
@@ -202,11 +237,13 @@ fn read_array(
     body: &[u8],
     depth: u16,
     elements: u32,
+    stack: &mut Vec<Value>,
 ) -> Result<Value, Error>
     ensures ok { IfOk result (λ v.
         parse_array (parse_content depth) (count, body.now) ≡ Some (tree_of v)) }
     ensures err { IfErr result (λ e. ¬ (e ≡ OutOfMemory) →
         parse_array (parse_content depth) (count, body.now) ≡ None) }
+    ensures stack { OnOk result (stack.new.items ≡ stack.old.items) }
 {
     let mut items = Vec::new(alloc);
     match body.split_first() {
@@ -218,7 +255,7 @@ fn read_array(
                 return Err(Error::OutOfMemory);
             }
             for _ in 0..count {
-                let item = read_item(alloc, code, &mut rest, depth, elements)?;
+                let item = read_item(alloc, code, &mut rest, depth, elements, stack)?;
                 items.push(item)?;
             }
             if !rest.is_empty() {

@@ -1,4 +1,4 @@
-use Rattle.std.proofs.Common.{rules, ◌≡◌, [], ◌∷◌, ◌++◌, Some, None, sym, ap, ◌∙◌, map, ◌+◌, ◌-◌, ◌/◌, arith}
+use Rattle.std.proofs.Common.{rules, ◌≡◌, [], ◌∷◌, ◌++◌, Some, None, sym, ap, ◌∙◌, map, ◌+◌, ◌-◌, ◌/◌, arith, append_assoc}
 use Rattle.amqp_value.specs.TreeOf.{tree_of}
 use Rattle.amqp_gather.specs.Gathered.{gathered}
 use Rattle.amqp_decode.specs.Codes.{primitive_of}
@@ -26,14 +26,17 @@ read_frame-returns-clause-err t c = rw (parse-at c.args.depth c.args.bytes.now.n
 
 pub read_list-loop-preserved : goal.read_list-loop-preserved
 read_list-loop-preserved t c =
-    let step = values-next (parse c.args.depth) c.args.count c.loop.counter c.loop.rest.now c.read_frame.new.bytes.now c.in_ok-item.item c.loop.items.items c.loop-test.true c.in_ok-item.ensures.ok in
-    let pushed : c.push.new.self.items ≡ c.loop.items.items ++ c.in_ok-item.item ∷ [] = search rules in
-    rw pushed (step ∙ c.loop.invariant)
+    let done = c.loop.invariant.0 in
+    let step = values-next (parse c.args.depth) c.args.count c.loop.counter c.loop.rest.now c.read_frame_on.new.bytes.now c.in_ok-item.item done c.loop-test.true c.in_ok-item.ensures.ok in
+    let pushed : c.push.new.self.items ≡ c.read_frame_on.new.stack.items ++ c.in_ok-item.item ∷ [] = search rules in
+    (done ++ c.in_ok-item.item ∷ []
+    , pushed ∙ ap (λ s. s ++ c.in_ok-item.item ∷ []) (c.in_ok-item.ensures.stack ∙ c.loop.invariant.1) ∙ append_assoc
+    , step ∙ c.loop.invariant.2)
 
 pub read_list-returns-in_err-item-clause-err : goal.read_list-returns-in_err-item-clause-err
 read_list-returns-in_err-item-clause-err t c =
     let none : parse c.args.depth c.loop.rest.now ≡ None → parse_list (parse c.args.depth) (c.args.count, c.args.body.now) ≡ None =
-    λ h. list-none (parse c.args.depth) c.args.count c.loop.counter c.loop.rest.now c.args.body.now (map tree_of c.loop.items.items) c.loop-test.true c.loop.invariant h in
+    λ h. list-none (parse c.args.depth) c.args.count c.loop.counter c.loop.rest.now c.args.body.now (map tree_of c.loop.invariant.0) c.loop-test.true c.loop.invariant.2 h in
     search (rules, none)
 
 pub read_map-loop-preserved : goal.read_map-loop-preserved
@@ -59,12 +62,12 @@ pub read_array-loop-preserved : goal.read_array-loop-preserved
 read_array-loop-preserved t c =
     let step = values-next (payload_in (parse_content c.args.depth) c.in_ok-code-in-Some.code) c.args.count c.loop.counter c.loop.rest.now c.read_item.new.bytes.now c.in_ok-item-in-Some.item c.loop.items.items c.loop-test.true c.in_ok-item-in-Some.ensures.ok in
     let pushed : c.push.new.self.items ≡ c.loop.items.items ++ c.in_ok-item-in-Some.item ∷ [] = search rules in
-    rw pushed (step ∙ c.loop.invariant)
+    (rw pushed (step ∙ c.loop.invariant.0), c.in_ok-item-in-Some.ensures.stack ∙ c.loop.invariant.1)
 
 pub read_array-returns-in_err-item-in-Some-clause-err : goal.read_array-returns-in_err-item-in-Some-clause-err
 read_array-returns-in_err-item-in-Some-clause-err t c =
     let body : c.args.body.now ≡ c.in-Some.constructor.now ∷ c.in-Some.rest.now = search rules in
     let named : primitive_of c.in-Some.constructor.now ≡ Some c.in_ok-code-in-Some.code = search rules in
     let none : payload_in (parse_content c.args.depth) c.in_ok-code-in-Some.code c.loop.rest.now ≡ None → parse_array (parse_content c.args.depth) (c.args.count, c.args.body.now) ≡ None =
-    λ h. array-none (parse_content c.args.depth) c.in-Some.constructor.now c.in_ok-code-in-Some.code c.args.count c.loop.counter c.loop.rest.now c.args.body.now c.in-Some.rest.now (map tree_of c.loop.items.items) c.loop-test.true named body c.loop.invariant h in
+    λ h. array-none (parse_content c.args.depth) c.in-Some.constructor.now c.in_ok-code-in-Some.code c.args.count c.loop.counter c.loop.rest.now c.args.body.now c.in-Some.rest.now (map tree_of c.loop.items.items) c.loop-test.true named body c.loop.invariant.0 h in
     search (rules, none)
