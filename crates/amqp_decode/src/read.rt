@@ -1,6 +1,6 @@
 //! A value from its encoded bytes, first part by part.
 
-ghost use Rattle.std.specs.Prelude.{◌≡◌, ℕ, IfOk, OnOk, IfErr, Some, None};
+ghost use Rattle.std.specs.Prelude.{◌≡◌, ◌∷◌, ℕ, IfOk, OnOk, IfErr, Some, None};
 ghost use Rattle.amqp_data.specs.declared.error.Error.TheVariants.{OutOfMemory};
 ghost use Rattle.amqp_value.specs.TreeOf.{tree_of};
 ghost use Rattle.amqp_decode.specs.Parsed.{parse, parse_content, payload_in, content_of, frame_in, parse_list, parse_map, parse_array};
@@ -48,46 +48,47 @@ fn read_frame_on(
     if depth == 0 {
         return Err(Error::InvalidValue);
     }
-    if let Some((value, rest)) = read_fixed(bytes) {
+    let Some((code, rest)) = bytes.split_first() else {
+        return Err(Error::UnexpectedEof);
+    };
+    let code = *code;
+    if let Some((value, rest)) = read_fixed(code, rest) {
         *bytes = rest;
         return Ok(value);
     }
-    read_frame_over(alloc, bytes, depth - 1, elements, stack)
+    *bytes = rest;
+    read_frame_over(alloc, code, bytes, depth - 1, elements, stack)
 }
 
-// The same, where what stands inside is at most so deep.
+// The same from its code on, where what stands inside is at most so deep.
 #[cycle(read)]
 #[inline(never)]
 fn read_frame_over(
     alloc: Global,
+    code: u8,
     bytes: &mut &[u8],
     depth: u16,
     elements: u32,
     stack: &mut Vec<Value>,
 ) -> Result<Value, Error>
     ensures ok { IfOk result (λ v.
-        frame_in (parse depth) (parse_content depth) bytes.old.now
+        frame_in (parse depth) (parse_content depth) (code ∷ bytes.old.now)
         ≡ Some (tree_of v, bytes.new.now)) }
     ensures err { IfErr result (λ e. ¬ (e ≡ OutOfMemory) →
-        frame_in (parse depth) (parse_content depth) bytes.old.now ≡ None) }
+        frame_in (parse depth) (parse_content depth) (code ∷ bytes.old.now) ≡ None) }
     ensures stack { OnOk result (stack.new.items ≡ stack.old.items) }
 {
-    match bytes.split_first() {
-        None => Err(Error::UnexpectedEof),
-        Some((0, rest)) => {
-            let (descriptor, rest) = read_descriptor(alloc, rest)?;
-            *bytes = rest;
-            let value = read_frame_on(alloc, bytes, depth, elements, stack)?;
-            let described = Box::new(alloc, Described { descriptor, value })?;
-            Ok(Value::Described(described))
-        }
-        Some((byte, rest)) => {
-            let code = primitive_code(*byte)?;
-            let (content, rest) = read_payload(code, rest)?;
-            *bytes = rest;
-            read_content_over(alloc, code, content, depth, elements, stack)
-        }
+    if code == 0 {
+        let (descriptor, rest) = read_descriptor(alloc, bytes)?;
+        *bytes = rest;
+        let value = read_frame_on(alloc, bytes, depth, elements, stack)?;
+        let described = Box::new(alloc, Described { descriptor, value })?;
+        return Ok(Value::Described(described));
     }
+    let code = primitive_code(code)?;
+    let (content, rest) = read_payload(code, bytes)?;
+    *bytes = rest;
+    read_content(alloc, code, content, depth, elements, stack)
 }
 
 // The value of the code's payload, which comes first; the bytes after it are left.
@@ -104,38 +105,23 @@ fn read_item(
         payload_in (parse_content depth) code bytes.old.now ≡ Some (tree_of v, bytes.new.now)) }
     ensures err { IfErr result (λ e. ¬ (e ≡ OutOfMemory) →
         payload_in (parse_content depth) code bytes.old.now ≡ None) }
-    ensures stack { OnOk result (stack.new.items ≡ stack.old.items) }
-{
-    let (content, rest) = read_payload(code, bytes)?;
-    *bytes = rest;
-    read_content(alloc, code, content, depth, elements, stack)
-}
-
-// The value of the content of a code's payload.
-#[cycle(read)]
-fn read_content(
-    alloc: Global,
-    code: EncodingCodes,
-    content: &[u8],
-    depth: u16,
-    elements: u32,
-    stack: &mut Vec<Value>,
-) -> Result<Value, Error>
-    ensures ok { IfOk result (λ v. parse_content depth code content.now ≡ Some (tree_of v)) }
-    ensures err { IfErr result (λ e. ¬ (e ≡ OutOfMemory) →
-        parse_content depth code content.now ≡ None) }
-    ensures stack { OnOk result (stack.new.items ≡ stack.old.items) }
 {
     if depth == 0 {
         return Err(Error::InvalidValue);
     }
-    read_content_over(alloc, code, content, depth - 1, elements, stack)
+    if let Some((value, rest)) = read_fixed(u8::from(code), bytes) {
+        *bytes = rest;
+        return Ok(value);
+    }
+    let (content, rest) = read_payload(code, bytes)?;
+    *bytes = rest;
+    read_content(alloc, code, content, depth - 1, elements, stack)
 }
 
-// The same, where what stands inside is at most so deep.
+// The value of the content of a code's payload, where what stands inside is at most so deep.
 #[cycle(read)]
 #[inline(always)]
-fn read_content_over(
+fn read_content(
     alloc: Global,
     code: EncodingCodes,
     content: &[u8],
@@ -162,7 +148,7 @@ fn read_content_over(
         }
         PayloadShape::Array(count) => {
             let (count, body) = read_count(count, content)?;
-            read_array(alloc, count, body, depth, elements, stack)
+            read_array(alloc, count, body, depth, elements)
         }
     }
 }
@@ -237,15 +223,14 @@ fn read_array(
     body: &[u8],
     depth: u16,
     elements: u32,
-    stack: &mut Vec<Value>,
 ) -> Result<Value, Error>
     ensures ok { IfOk result (λ v.
         parse_array (parse_content depth) (count, body.now) ≡ Some (tree_of v)) }
     ensures err { IfErr result (λ e. ¬ (e ≡ OutOfMemory) →
         parse_array (parse_content depth) (count, body.now) ≡ None) }
-    ensures stack { OnOk result (stack.new.items ≡ stack.old.items) }
 {
     let mut items = Vec::new(alloc);
+    let mut stack = Vec::new(alloc);
     match body.split_first() {
         None if count == 0 => {}
         None => return Err(Error::UnexpectedEof),
@@ -255,7 +240,7 @@ fn read_array(
                 return Err(Error::OutOfMemory);
             }
             for _ in 0..count {
-                let item = read_item(alloc, code, &mut rest, depth, elements, stack)?;
+                let item = read_item(alloc, code, &mut rest, depth, elements, &mut stack)?;
                 items.push(item)?;
             }
             if !rest.is_empty() {

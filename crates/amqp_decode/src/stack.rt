@@ -9,11 +9,7 @@ use std::alloc::{AllocError, Global};
 ///
 /// # Errors
 /// Where that room is refused.
-pub fn take_from<T>(
-    alloc: Global,
-    stack: &mut Vec<T>,
-    start: usize,
-) -> Result<Vec<T>, AllocError>
+pub fn take_from<T>(alloc: Global, stack: &mut Vec<T>, start: usize) -> Result<Vec<T>, AllocError>
     requires { start ≤ vec_len stack.old }
     ensures taken { IfOk result (λ v. v.items ≡ drop start stack.old.items) }
     ensures left { OnOk result (stack.new.items ≡ take start stack.old.items) }

@@ -3,35 +3,30 @@ use Rattle.amqp_value.specs.TreeOf.{tree_of}
 use Rattle.amqp_gather.specs.Gathered.{gathered}
 use Rattle.amqp_decode.specs.Codes.{primitive_of}
 use Rattle.amqp_decode.specs.Parsed.{parse, parse_content, payload_in, parse_list, parse_map, parse_array, insert}
-use Rattle.amqp_decode.proofs.Steps.{parse_content-zero, parse_content-at, parse-zero, parse-at, values-next, insert-next, insert-no_key, insert-no_value, list-none, map-none, array-none}
+use Rattle.amqp_decode.proofs.Steps.{item-zero, item-ok, item-none, parse-zero, parse-at, values-next, insert-next, insert-no_key, insert-no_value, list-none, map-none, array-none}
 use Rattle.amqp_decode.proofs.read.+read.Goals as goal
 
-pub read_content-returns-then-depth-eq0-clause-err : goal.read_content-returns-then-depth-eq0-clause-err
-read_content-returns-then-depth-eq0-clause-err t c = λ _. parse_content-zero c.args.depth c.args.code c.args.content.now c.if-depth-eq0.true
+pub read_item-returns-then-depth-eq0-clause-err : goal.read_item-returns-then-depth-eq0-clause-err
+read_item-returns-then-depth-eq0-clause-err t c = λ _. item-zero c.args.depth c.args.code c.args.bytes.now.now c.if-depth-eq0.true
 
-pub read_content-returns-clause-ok : goal.read_content-returns-clause-ok
-read_content-returns-clause-ok t c = rw (parse_content-at c.args.depth c.args.code c.args.content.now (omega (arith, c.if-depth-eq0.false))) c.read_content_over.ensures.ok
+pub read_frame_on-returns-then-depth-eq0-clause-err : goal.read_frame_on-returns-then-depth-eq0-clause-err
+read_frame_on-returns-then-depth-eq0-clause-err t c = λ _. parse-zero c.args.depth c.args.bytes.now.now c.if-depth-eq0.true
 
-pub read_content-returns-clause-err : goal.read_content-returns-clause-err
-read_content-returns-clause-err t c = rw (parse_content-at c.args.depth c.args.code c.args.content.now (omega (arith, c.if-depth-eq0.false))) c.read_content_over.ensures.err
+pub read_frame_on-returns-clause-ok : goal.read_frame_on-returns-clause-ok
+read_frame_on-returns-clause-ok t c = rw (parse-at c.args.depth c.args.bytes.now.now (omega (arith, c.if-depth-eq0.false))) c.read_frame_over.ensures.ok
 
-pub read_frame-returns-then-depth-eq0-clause-err : goal.read_frame-returns-then-depth-eq0-clause-err
-read_frame-returns-then-depth-eq0-clause-err t c = λ _. parse-zero c.args.depth c.args.bytes.now.now c.if-depth-eq0.true
-
-pub read_frame-returns-clause-ok : goal.read_frame-returns-clause-ok
-read_frame-returns-clause-ok t c = rw (parse-at c.args.depth c.args.bytes.now.now (omega (arith, c.if-depth-eq0.false))) c.read_frame_over.ensures.ok
-
-pub read_frame-returns-clause-err : goal.read_frame-returns-clause-err
-read_frame-returns-clause-err t c = rw (parse-at c.args.depth c.args.bytes.now.now (omega (arith, c.if-depth-eq0.false))) c.read_frame_over.ensures.err
+pub read_frame_on-returns-clause-err : goal.read_frame_on-returns-clause-err
+read_frame_on-returns-clause-err t c = rw (parse-at c.args.depth c.args.bytes.now.now (omega (arith, c.if-depth-eq0.false))) c.read_frame_over.ensures.err
 
 pub read_list-loop-preserved : goal.read_list-loop-preserved
 read_list-loop-preserved t c =
     let done = c.loop.invariant.0 in
     let step = values-next (parse c.args.depth) c.args.count c.loop.counter c.loop.rest.now c.read_frame_on.new.bytes.now c.in_ok-item.item done c.loop-test.true c.in_ok-item.ensures.ok in
-    let pushed : c.push.new.self.items ≡ c.read_frame_on.new.stack.items ++ c.in_ok-item.item ∷ [] = search rules in
-    (done ++ c.in_ok-item.item ∷ []
-    , pushed ∙ ap (λ s. s ++ c.in_ok-item.item ∷ []) (c.in_ok-item.ensures.stack ∙ c.loop.invariant.1) ∙ append_assoc
-    , step ∙ c.loop.invariant.2)
+    let pushed : c.push.new.self.items ≡ c.read_frame_on.new.stack.items ++ c.in_ok-item.item ∷ [] = search rules in (
+      done ++ c.in_ok-item.item ∷ [],
+      pushed ∙ ap (λ s. s ++ c.in_ok-item.item ∷ []) (c.in_ok-item.ensures.stack ∙ c.loop.invariant.1) ∙ append_assoc,
+      step ∙ c.loop.invariant.2,
+    )
 
 pub read_list-returns-in_err-item-clause-err : goal.read_list-returns-in_err-item-clause-err
 read_list-returns-in_err-item-clause-err t c =
@@ -62,12 +57,12 @@ pub read_array-loop-preserved : goal.read_array-loop-preserved
 read_array-loop-preserved t c =
     let step = values-next (payload_in (parse_content c.args.depth) c.in_ok-code-in-Some.code) c.args.count c.loop.counter c.loop.rest.now c.read_item.new.bytes.now c.in_ok-item-in-Some.item c.loop.items.items c.loop-test.true c.in_ok-item-in-Some.ensures.ok in
     let pushed : c.push.new.self.items ≡ c.loop.items.items ++ c.in_ok-item-in-Some.item ∷ [] = search rules in
-    (rw pushed (step ∙ c.loop.invariant.0), c.in_ok-item-in-Some.ensures.stack ∙ c.loop.invariant.1)
+    rw pushed (step ∙ c.loop.invariant)
 
 pub read_array-returns-in_err-item-in-Some-clause-err : goal.read_array-returns-in_err-item-in-Some-clause-err
 read_array-returns-in_err-item-in-Some-clause-err t c =
     let body : c.args.body.now ≡ c.in-Some.constructor.now ∷ c.in-Some.rest.now = search rules in
     let named : primitive_of c.in-Some.constructor.now ≡ Some c.in_ok-code-in-Some.code = search rules in
     let none : payload_in (parse_content c.args.depth) c.in_ok-code-in-Some.code c.loop.rest.now ≡ None → parse_array (parse_content c.args.depth) (c.args.count, c.args.body.now) ≡ None =
-    λ h. array-none (parse_content c.args.depth) c.in-Some.constructor.now c.in_ok-code-in-Some.code c.args.count c.loop.counter c.loop.rest.now c.args.body.now c.in-Some.rest.now (map tree_of c.loop.items.items) c.loop-test.true named body c.loop.invariant.0 h in
+    λ h. array-none (parse_content c.args.depth) c.in-Some.constructor.now c.in_ok-code-in-Some.code c.args.count c.loop.counter c.loop.rest.now c.args.body.now c.in-Some.rest.now (map tree_of c.loop.items.items) c.loop-test.true named body c.loop.invariant h in
     search (rules, none)

@@ -7,32 +7,29 @@ use Rattle.amqp_decode.specs.Parsed.{parse, parse_content, payload_in, gather, i
 use Rattle.amqp_decode.proofs.read.+read.Given as goal
 
 -- what stands in a compound has a lesser depth, and calls for encoded values and items of that same depth
-abbrev pub decreases-read_content : goal.decreases-read_content
-decreases-read_content l = 9 * l.depth
-
 abbrev pub decreases-read_item : goal.decreases-read_item
-decreases-read_item l = 9 * l.depth + 1
-
-abbrev pub decreases-read_frame : goal.decreases-read_frame
-decreases-read_frame l = 9 * l.depth + 2
+decreases-read_item l = 9 * l.depth
 
 abbrev pub decreases-read_frame_on : goal.decreases-read_frame_on
-decreases-read_frame_on l = 9 * l.depth + 1
+decreases-read_frame_on l = 9 * l.depth
+
+abbrev pub decreases-read_frame : goal.decreases-read_frame
+decreases-read_frame l = 9 * l.depth + 1
 
 abbrev pub decreases-read_list : goal.decreases-read_list
-decreases-read_list l = 9 * l.depth + 3
+decreases-read_list l = 9 * l.depth + 2
 
 abbrev pub decreases-read_map : goal.decreases-read_map
-decreases-read_map l = 9 * l.depth + 3
+decreases-read_map l = 9 * l.depth + 2
 
 abbrev pub decreases-read_array : goal.decreases-read_array
-decreases-read_array l = 9 * l.depth + 3
+decreases-read_array l = 9 * l.depth + 2
 
-abbrev pub decreases-read_content_over : goal.decreases-read_content_over
-decreases-read_content_over l = 9 * l.depth + 4
+abbrev pub decreases-read_content : goal.decreases-read_content
+decreases-read_content l = 9 * l.depth + 3
 
 abbrev pub decreases-read_frame_over : goal.decreases-read_frame_over
-decreases-read_frame_over l = 9 * l.depth + 5
+decreases-read_frame_over l = 9 * l.depth + 4
 
 -- what is left, after what is there, gives the whole
 abbrev pub invariant-read_list-loop : goal.invariant-read_list-loop
@@ -46,5 +43,4 @@ invariant-read_map-loop l =
 
 abbrev pub invariant-read_array-loop : goal.invariant-read_array-loop
 invariant-read_array-loop l =
-    (gather (payload_in (parse_content l.depth) l.code) (l.count - l.counter) l.rest (map tree_of l.items.items) ≡ gather (payload_in (parse_content l.depth) l.code) l.count l.initial.rest [])
-    × (l.stack.items ≡ l.initial.stack.items)
+    gather (payload_in (parse_content l.depth) l.code) (l.count - l.counter) l.rest (map tree_of l.items.items) ≡ gather (payload_in (parse_content l.depth) l.code) l.count l.initial.rest []
