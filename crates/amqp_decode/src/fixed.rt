@@ -1,8 +1,10 @@
-//! The common scalars of no width and of fixed width, by one match.
+//! The common scalars of no width and of fixed width, by one match on the code.
 
 ghost use Rattle.std.specs.Prelude.{◌≡◌, ◌∷◌, IfSome, Some};
 ghost use Rattle.amqp_value.specs.TreeOf.{tree_of};
 ghost use Rattle.amqp_decode.specs.Parsed.{FrameReader, ContentReader, frame_in};
+ghost use Rattle.amqp_decode.specs.Parsed.{cut};
+ghost use Rattle.amqp_decode.specs.Scalars.{exact};
 
 use amqp_value::Value;
 
@@ -14,35 +16,70 @@ pub fn read_fixed(code: u8, bytes: &[u8]) -> Option<(Value, &[u8])>
         frame_in f h (code ∷ bytes.now) ≡ Some (tree_of r.0, r.1.now)) }
     ensures primitive { IfSome result (λ r. ¬ (code ≡ 0)) }
 {
-    match (code, bytes) {
-        (0x40, _) => Some((Value::Null, bytes)),
-        (0x41, _) => Some((Value::Bool(true), bytes)),
-        (0x42, _) => Some((Value::Bool(false), bytes)),
-        (0x43, _) => Some((Value::Uint(0), bytes)),
-        (0x44, _) => Some((Value::Ulong(0), bytes)),
-        (0x50, [a, rest @ ..]) => Some((Value::Ubyte(*a), rest)),
-        (0x52, [a, rest @ ..]) => Some((Value::Uint(u32::from(*a)), rest)),
-        (0x53, [a, rest @ ..]) => Some((Value::Ulong(u64::from(*a)), rest)),
-        (0x54, [a, rest @ ..]) => Some((Value::Int(i32::from(a.cast_signed())), rest)),
-        (0x55, [a, rest @ ..]) => Some((Value::Long(i64::from(a.cast_signed())), rest)),
-        (0x70, [a, b, c, d, rest @ ..]) => {
-            Some((Value::Uint(u32::from_be_bytes([*a, *b, *c, *d])), rest))
+    match code {
+        0x40 => Some((Value::Null, bytes)),
+        0x41 => Some((Value::Bool(true), bytes)),
+        0x42 => Some((Value::Bool(false), bytes)),
+        0x43 => Some((Value::Uint(0), bytes)),
+        0x44 => Some((Value::Ulong(0), bytes)),
+        0x50 => {
+            let (byte, rest) = bytes.split_first()?;
+            Some((Value::Ubyte(*byte), rest))
         }
-        (0x71, [a, b, c, d, rest @ ..]) => {
-            Some((Value::Int(i32::from_be_bytes([*a, *b, *c, *d])), rest))
+        0x52 => {
+            let (byte, rest) = bytes.split_first()?;
+            Some((Value::Uint(u32::from(*byte)), rest))
         }
-        (0x80, [a, b, c, d, e, f, g, h, rest @ ..]) => {
-            Some((
-                Value::Ulong(u64::from_be_bytes([*a, *b, *c, *d, *e, *f, *g, *h])),
-                rest,
-            ))
+        0x53 => {
+            let (byte, rest) = bytes.split_first()?;
+            Some((Value::Ulong(u64::from(*byte)), rest))
         }
-        (0x81, [a, b, c, d, e, f, g, h, rest @ ..]) => {
-            Some((
-                Value::Long(i64::from_be_bytes([*a, *b, *c, *d, *e, *f, *g, *h])),
-                rest,
-            ))
+        0x54 => {
+            let (byte, rest) = bytes.split_first()?;
+            Some((Value::Int(i32::from(byte.cast_signed())), rest))
+        }
+        0x55 => {
+            let (byte, rest) = bytes.split_first()?;
+            Some((Value::Long(i64::from(byte.cast_signed())), rest))
+        }
+        _ => read_wide(code, bytes),
+    }
+}
+
+// The same of the numbers of four and of eight bytes.
+#[inline(always)]
+fn read_wide(code: u8, bytes: &[u8]) -> Option<(Value, &[u8])>
+    ensures found { IfSome result (λ r. (f : FrameReader) (h : ContentReader) →
+        frame_in f h (code ∷ bytes.now) ≡ Some (tree_of r.0, r.1.now)) }
+    ensures primitive { IfSome result (λ r. ¬ (code ≡ 0)) }
+{
+    match code {
+        0x70 => {
+            let (number, rest) = split_fixed(bytes)?;
+            Some((Value::Uint(u32::from_be_bytes(number)), rest))
+        }
+        0x71 => {
+            let (number, rest) = split_fixed(bytes)?;
+            Some((Value::Int(i32::from_be_bytes(number)), rest))
+        }
+        0x80 => {
+            let (number, rest) = split_fixed(bytes)?;
+            Some((Value::Ulong(u64::from_be_bytes(number)), rest))
+        }
+        0x81 => {
+            let (number, rest) = split_fixed(bytes)?;
+            Some((Value::Long(i64::from_be_bytes(number)), rest))
         }
         _ => None,
     }
+}
+
+// So many bytes, and those after them.
+#[inline(always)]
+fn split_fixed<const N: usize>(bytes: &[u8]) -> Option<([u8; N], &[u8])>
+    ensures { IfSome result (λ r.
+        (cut N bytes.now ≡ Some (r.0, r.1.now)) × (exact N r.0 ≡ Some r.0)) }
+{
+    let (prefix, rest) = bytes.split_first_chunk::<N>()?;
+    Some((*prefix, rest))
 }
