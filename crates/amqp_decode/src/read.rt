@@ -48,16 +48,17 @@ fn read_frame_on(
     if depth == 0 {
         return Err(Error::InvalidValue);
     }
-    let Some((code, rest)) = bytes.split_first() else {
-        return Err(Error::UnexpectedEof);
-    };
-    let code = *code;
-    if let Some((value, rest)) = read_fixed(code, rest) {
-        *bytes = rest;
-        return Ok(value);
+    match bytes.split_first() {
+        None => Err(Error::UnexpectedEof),
+        Some((code, rest)) => {
+            if let Some((value, rest)) = read_fixed(*code, rest) {
+                *bytes = rest;
+                return Ok(value);
+            }
+            *bytes = rest;
+            read_frame_over(alloc, *code, bytes, depth - 1, elements, stack)
+        }
     }
-    *bytes = rest;
-    read_frame_over(alloc, code, bytes, depth - 1, elements, stack)
 }
 
 // The same from its code on, where what stands inside is at most so deep.
