@@ -1,4 +1,4 @@
-use Rattle.std.proofs.Common.{rules, refl, ◌≡◌, [], ◌∷◌, ◌++◌, Some, None, sym, ap, ◌∙◌, map, ◌+◌, ◌-◌, ◌/◌, arith, append_assoc}
+use Rattle.std.proofs.Common.{rules, ◌≡◌, [], ◌∷◌, ◌++◌, Some, None, sym, ap, ◌∙◌, map, ◌+◌, ◌-◌, ◌/◌, arith, append_assoc}
 use Rattle.amqp_value.specs.TreeOf.{tree_of}
 use Rattle.amqp_gather.specs.Gathered.{gathered}
 use Rattle.amqp_data.specs.FormatCode.{code_of}
