@@ -27,8 +27,7 @@ pub fn read_frame(
     ensures ok { IfOk result (λ v. parse depth bytes.old.now ≡ Some (tree_of v, bytes.new.now)) }
     ensures err { IfErr result (λ e. ¬ (e ≡ OutOfMemory) → parse depth bytes.old.now ≡ None) }
 {
-    let mut stack = Vec::new(alloc);
-    read_frame_on(alloc, bytes, depth, elements, &mut stack)
+    read_frame_on(alloc, bytes, depth, elements, &mut Vec::new(alloc))
 }
 
 // The same, with the elements so far of the lists around it on the stack, which is left as it was.
@@ -154,8 +153,7 @@ fn read_content(
     }
 }
 
-// The list of so many encoded values, which fill the body. They are gathered on the stack, so that the list's own memory is
-// asked for once, for so many as were read.
+// The list of so many encoded values, which fill the body. They wait on the stack till all are there.
 #[cycle(read)]
 #[inline(never)]
 fn read_list(
@@ -180,8 +178,7 @@ fn read_list(
     if !rest.is_empty() {
         return Err(Error::InvalidValue);
     }
-    let items = take_from(alloc, stack, start)?;
-    Ok(Value::List(items))
+    Ok(Value::List(take_from(alloc, stack, start)?))
 }
 
 // The map of so many encoded values, keys and values in turn, which fill the body.
