@@ -43,10 +43,10 @@ impl<'a, S: Serializer> SerializeMap<'a, S> {
 
     #[inline(always)]
     pub(crate) fn new(serializer: &'a mut S, held: S::Open) -> SerializeMap<'a, S>
-        ensures same_reference { result.serializer.ghost_name ≡ serializer.entry.ghost_name }
-        ensures now { result.serializer.now ≡ serializer.old }
-        ensures held { result.held ≡ held }
-        ensures no_key { result.pending ≡ false }
+        ensures same_reference { (map_reference result).ghost_name ≡ serializer.entry.ghost_name }
+        ensures opened { (start : S) → S.has start Kind.Map serializer.old held [] →
+            MapHas S.has start result [] }
+        ensures no_key { has_key result ≡ false }
     {
         SerializeMap {
             serializer,

@@ -41,9 +41,9 @@ impl<'a, S: Serializer> SerializeSeq<'a, S> {
 
     #[inline(always)]
     pub(crate) fn new(serializer: &'a mut S, held: S::Open) -> SerializeSeq<'a, S>
-        ensures same_reference { result.serializer.ghost_name ≡ serializer.entry.ghost_name }
-        ensures now { result.serializer.now ≡ serializer.old }
-        ensures held { result.held ≡ held }
+        ensures same_reference { (list_reference result).ghost_name ≡ serializer.entry.ghost_name }
+        ensures opened { (start : S) → S.has start Kind.List serializer.old held [] →
+            ListHas S.has start result [] }
     {
         SerializeSeq { serializer, held }
     }

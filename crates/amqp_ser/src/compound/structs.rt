@@ -53,18 +53,19 @@ impl<S: Serializer> Drop for SerializeStruct<'_, S> {
 impl<'a, S: Serializer> SerializeStruct<'a, S> {
     ghost use Rattle.amqp_ser.specs.contracts.compound.structs.SerializeStruct.{the_row};
 
+    #[tactic(auto, unfolding(crate::specs::Structs::Stands))]
     #[inline(always)]
     pub(crate) fn new(
         serializer: &'a mut S,
         held: S::Open,
         form: StructForm,
     ) -> SerializeStruct<'a, S>
-        ensures same_reference { result.serializer.ghost_name ≡ serializer.entry.ghost_name }
-        ensures now { result.serializer.now ≡ serializer.old }
-        ensures held { result.held ≡ held }
-        ensures form { result.form ≡ form }
-        ensures described { result.described ≡ false }
-        ensures opened { result.opened ≡ false }
+        ensures same_reference { (struct_reference result).ghost_name
+            ≡ serializer.entry.ghost_name }
+        ensures opened { (start : S) → S.has start Kind.Single serializer.old held [] →
+            StructHas S.permits S.has start None Kind.Single result [] }
+        ensures form { form_of result ≡ form }
+        ensures empty { (has_descriptor result ≡ false) × (has_field result ≡ false) }
     {
         SerializeStruct {
             serializer,

@@ -52,6 +52,7 @@ impl<S: Serializer> Drop for SerializeTupleStruct<'_, S> {
 impl<'a, S: Serializer> SerializeTupleStruct<'a, S> {
     ghost use Rattle.amqp_ser.specs.contracts.compound.tuple_struct.SerializeTupleStruct.{the_row};
 
+    #[tactic(auto, unfolding(crate::specs::Structs::Stands))]
     #[inline(always)]
     pub(crate) fn new(
         serializer: &'a mut S,
@@ -59,12 +60,12 @@ impl<'a, S: Serializer> SerializeTupleStruct<'a, S> {
         single: bool,
         awaits: bool,
     ) -> SerializeTupleStruct<'a, S>
-        ensures same_reference { result.serializer.ghost_name ≡ serializer.entry.ghost_name }
-        ensures now { result.serializer.now ≡ serializer.old }
-        ensures held { result.held ≡ held }
-        ensures single { result.single ≡ single }
-        ensures awaits { result.awaits ≡ awaits }
-        ensures opened { result.opened ≡ not awaits }
+        ensures same_reference { (tuple_struct_reference result).ghost_name
+            ≡ serializer.entry.ghost_name }
+        ensures opened { (start : S) (kind : Kind) → S.has start kind serializer.old held [] →
+            TupleStructHas S.permits S.has start None kind result [] }
+        ensures single { is_single result ≡ single }
+        ensures awaits { (lacks_descriptor result ≡ awaits) × (is_open result ≡ not awaits) }
     {
         SerializeTupleStruct {
             serializer,

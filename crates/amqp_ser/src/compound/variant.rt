@@ -39,9 +39,11 @@ impl<'a, S: Serializer> SerializeTupleVariant<'a, S> {
 
     #[inline(always)]
     pub(crate) fn new(serializer: &'a mut S, held: S::Open) -> SerializeTupleVariant<'a, S>
-        ensures same_reference { result.serializer.ghost_name ≡ serializer.entry.ghost_name }
-        ensures now { result.serializer.now ≡ serializer.old }
-        ensures held { result.held ≡ held }
+        ensures same_reference { (variant_reference result).ghost_name
+            ≡ serializer.entry.ghost_name }
+        ensures opened { (start : S) (index : ℕ) →
+            S.has start (Kind.Variant index) serializer.old held [] →
+            VariantHas S.has start index result [] }
     {
         SerializeTupleVariant { serializer, held }
     }
