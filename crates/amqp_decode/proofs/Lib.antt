@@ -3,6 +3,7 @@ pub mod TextLemmas
 pub mod DescriptorLemmas
 pub mod Steps
 pub mod Finds
+pub mod ScalarFramed
 pub mod Means
 pub mod Whole
 pub mod OwnImage

@@ -1,6 +1,12 @@
 -- What the functions are at each step of the reader.
-use Rattle.std.proofs.Common.{◌≡◌, ℕ, zero, suc, ◌+◌, ◌-◌, ◌/◌, ◌%◌, ◌<◌, Bool, true, false, List, [], ◌∷◌, ◌++◌, map, Some, None, if◌then◌else◌, ◌==◌, refl, sym, ap, ◌∙◌, arith}
+use Rattle.std.proofs.Common.{◌≡◌, ℕ, zero, suc, ◌+◌, ◌-◌, ◌/◌, ◌%◌, ◌<◌, Bool, true, false, List, [], ◌∷◌, ◌++◌, length, map, Option, Some, None, Result, Ok, Err, if◌then◌else◌, ◌==◌, refl, sym, ap, ◌∙◌, arith}
+use Rattle.std.proofs.lemmas.Grind.{common_steps}
+use Rattle.std.specs.Prelude.{IfOk, IfErr}
+use Rattle.amqp_data.specs.FormatCode.{code_of}
+use Rattle.amqp_data.specs.declared.error.Error.{Error}
+use Rattle.amqp_data.specs.declared.error.Error.TheVariants.{OutOfMemory}
 use Rattle.amqp_data.specs.declared.format_code.EncodingCodes.{EncodingCodes}
+use Rattle.amqp_frame.specs.Code.{category}
 use Rattle.amqp_ser.specs.Tree as tree
 use Rattle.amqp_ser.specs.Tree.{Tree, Pairs, no_pairs}
 use Rattle.amqp_value.specs.Image.{insert_tree}
@@ -8,7 +14,8 @@ use Rattle.amqp_value.specs.TreeOf.{tree_of}
 use Rattle.amqp_value.specs.declared.value.Value.{Value}
 use Rattle.amqp_decode.specs.Codes.{primitive_of}
 use Rattle.amqp_decode.specs.Scalars.{next}
-use Rattle.amqp_decode.specs.Parsed.{FrameReader, ContentReader, gather, insert, all, parse_list, parse_map, parse_array, payload_in, content_of, frame_in, parse, parse_content}
+use Rattle.amqp_decode.specs.Parsed.{FrameReader, ContentReader, gather, insert, all, parse_list, parse_map, parse_array, content_at, with_rest, payload_in, content_of, frame_in, parse, parse_content}
+use Rattle.amqp_decode.proofs.CodeLemmas.{named}
 
 pub parse_content-zero : (d : ℕ) (c : EncodingCodes) (s : List ℕ) → d ≡ 0 → parse_content d c s ≡ None
 unfolding parse_content
@@ -33,6 +40,52 @@ parse-at zero s lt = absurd (omega arith)
 parse-at (suc d) s lt =
     let e : suc d - 1 ≡ d = omega arith in
     rw e refl
+
+pub parse-empty : (d : ℕ) (s : List ℕ) → 0 < d → length s ≡ 0 → parse d s ≡ None
+parse-empty d [] lt e = rw (parse-at d [] lt) refl
+parse-empty d (b ∷ s) lt e = absurd (omega arith)
+
+-- the payload of a code, whose content is read at depth d
+pub item-zero : (d : ℕ) (c : EncodingCodes) (s : List ℕ) → d ≡ 0 → payload_in (parse_content d) c s ≡ None
+unfolding parse_content
+item-zero (suc d) c s e = absurd (omega arith)
+item-zero zero c s e = by_content (content_at (category (code_of c)) s)
+  where
+    by_content : (o : Option (List ℕ × List ℕ)) → next o (λ p. next (parse_content 0 c p.0) (with_rest p.1)) ≡ None
+    by_content None = refl
+    by_content (Some p) = refl
+
+module _ (d : ℕ) (c : EncodingCodes) (s content rest : List ℕ) where
+  pub item-ok : (r : Result Value Error) → 0 < d → content_at (category (code_of c)) s ≡ Some (content, rest)
+      → IfOk r (λ v. content_of (parse (d - 1)) (parse_content (d - 1)) c content ≡ Some (tree_of v))
+      → IfOk r (λ v. payload_in (parse_content d) c s ≡ Some (tree_of v, rest))
+  item-ok (Ok v) lt e h = rw (e, parse_content-at d c content lt, h) refl
+  item-ok (Err f) lt e h = tt
+
+  item-none : 0 < d → content_at (category (code_of c)) s ≡ Some (content, rest)
+      → content_of (parse (d - 1)) (parse_content (d - 1)) c content ≡ None → payload_in (parse_content d) c s ≡ None
+  item-none lt e h = rw (e, parse_content-at d c content lt, h) refl
+
+  pub item-err : (r : Result Value Error) → 0 < d → content_at (category (code_of c)) s ≡ Some (content, rest)
+      → IfErr r (λ e. (e ≡ OutOfMemory → ⊥) → content_of (parse (d - 1)) (parse_content (d - 1)) c content ≡ None)
+      → IfErr r (λ e. (e ≡ OutOfMemory → ⊥) → payload_in (parse_content d) c s ≡ None)
+  item-err (Ok v) lt e h = tt
+  item-err (Err f) lt e h = λ other. item-none lt e (h other)
+
+-- a scalar that the code's match found
+not-zero : (n : ℕ) → (n ≡ 0 → ⊥) → (n == 0) ≡ false
+not-zero zero some = absurd (some refl)
+not-zero (suc n) some = grind (arith, common_steps)
+
+pub item-fixed : (d : ℕ) (c : EncodingCodes) (s : List ℕ) (r : Option (Tree × List ℕ)) → 0 < d → (code_of c ≡ 0 → ⊥)
+    → frame_in (parse (d - 1)) (parse_content (d - 1)) (code_of c ∷ s) ≡ r → payload_in (parse_content d) c s ≡ r
+unfolding parse parse_content
+item-fixed zero c s r lt some e = absurd (omega arith)
+item-fixed (suc d) c s r lt some e =
+    let same : suc d - 1 ≡ d = omega arith in
+    let framed : frame_in (parse (suc d - 1)) (parse_content (suc d - 1)) (code_of c ∷ s) ≡ payload_in (parse_content (suc d)) c s =
+    rw (same, not-zero (code_of c) some, named (code_of c) c some refl) refl in
+    sym framed ∙ e
 
 pub trees-push : (vs : List Value) (v : Value) → map tree_of (vs ++ v ∷ []) ≡ map tree_of vs ++ tree_of v ∷ []
 trees-push [] v = refl

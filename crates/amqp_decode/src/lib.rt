@@ -7,9 +7,11 @@
 
 mod cut;
 mod decode;
+mod fixed;
 pub mod laws;
 mod payload_shape;
 mod read;
 mod scalar;
+mod stack;
 
 pub use decode::{decode_value, decode_value_within};

@@ -1,13 +1,15 @@
 //! A value from its encoded bytes, first part by part.
 
-ghost use Rattle.std.specs.Prelude.{◌≡◌, ℕ, IfOk, IfErr, Some, None};
+ghost use Rattle.std.specs.Prelude.{◌≡◌, ◌∷◌, ℕ, IfOk, OnOk, IfErr, Some, None};
 ghost use Rattle.amqp_data.specs.declared.error.Error.TheVariants.{OutOfMemory};
 ghost use Rattle.amqp_value.specs.TreeOf.{tree_of};
 ghost use Rattle.amqp_decode.specs.Parsed.{parse, parse_content, payload_in, content_of, frame_in, parse_list, parse_map, parse_array};
 
 use crate::cut::{read_count, read_payload};
+use crate::fixed::read_fixed;
 use crate::payload_shape::{PayloadShape, has_no_payload, payload_shape, primitive_code};
 use crate::scalar::{read_descriptor, read_scalar};
+use crate::stack::take_from;
 use amqp_data::{Array, Described, EncodingCodes, Error};
 use amqp_gather::Gathered;
 use amqp_value::Value;
@@ -25,43 +27,68 @@ pub fn read_frame(
     ensures ok { IfOk result (λ v. parse depth bytes.old.now ≡ Some (tree_of v, bytes.new.now)) }
     ensures err { IfErr result (λ e. ¬ (e ≡ OutOfMemory) → parse depth bytes.old.now ≡ None) }
 {
-    if depth == 0 {
-        return Err(Error::InvalidValue);
-    }
-    read_frame_over(alloc, bytes, depth - 1, elements)
+    read_frame_on(alloc, bytes, depth, elements, &mut Vec::new(alloc))
 }
 
-// The same, where what stands inside is at most so deep.
+// The same, with the elements so far of the lists around it on the stack, which is left as it was.
 #[cycle(read)]
 #[inline(always)]
-fn read_frame_over(
+fn read_frame_on(
     alloc: Global,
     bytes: &mut &[u8],
     depth: u16,
     elements: u32,
+    stack: &mut Vec<Value>,
 ) -> Result<Value, Error>
-    ensures ok { IfOk result (λ v.
-        frame_in (parse depth) (parse_content depth) bytes.old.now
-        ≡ Some (tree_of v, bytes.new.now)) }
-    ensures err { IfErr result (λ e. ¬ (e ≡ OutOfMemory) →
-        frame_in (parse depth) (parse_content depth) bytes.old.now ≡ None) }
+    ensures ok { IfOk result (λ v. parse depth bytes.old.now ≡ Some (tree_of v, bytes.new.now)) }
+    ensures err { IfErr result (λ e. ¬ (e ≡ OutOfMemory) → parse depth bytes.old.now ≡ None) }
+    ensures stack { OnOk result (stack.new.items ≡ stack.old.items) }
 {
+    if depth == 0 {
+        return Err(Error::InvalidValue);
+    }
     match bytes.split_first() {
         None => Err(Error::UnexpectedEof),
-        Some((0, rest)) => {
-            let (descriptor, rest) = read_descriptor(alloc, rest)?;
+        Some((code, rest)) => {
+            if let Some((value, rest)) = read_fixed(*code, rest) {
+                *bytes = rest;
+                return Ok(value);
+            }
             *bytes = rest;
-            let value = read_frame(alloc, bytes, depth, elements)?;
-            let described = Box::new(alloc, Described { descriptor, value })?;
-            Ok(Value::Described(described))
-        }
-        Some((byte, rest)) => {
-            let code = primitive_code(*byte)?;
-            let (content, rest) = read_payload(code, rest)?;
-            *bytes = rest;
-            read_content_over(alloc, code, content, depth, elements)
+            read_frame_over(alloc, *code, bytes, depth - 1, elements, stack)
         }
     }
+}
+
+// The same from its code on, where what stands inside is at most so deep.
+#[cycle(read)]
+#[inline(never)]
+fn read_frame_over(
+    alloc: Global,
+    code: u8,
+    bytes: &mut &[u8],
+    depth: u16,
+    elements: u32,
+    stack: &mut Vec<Value>,
+) -> Result<Value, Error>
+    ensures ok { IfOk result (λ v.
+        frame_in (parse depth) (parse_content depth) (code ∷ bytes.old.now)
+        ≡ Some (tree_of v, bytes.new.now)) }
+    ensures err { IfErr result (λ e. ¬ (e ≡ OutOfMemory) →
+        frame_in (parse depth) (parse_content depth) (code ∷ bytes.old.now) ≡ None) }
+    ensures stack { OnOk result (stack.new.items ≡ stack.old.items) }
+{
+    if code == 0 {
+        let (descriptor, rest) = read_descriptor(alloc, bytes)?;
+        *bytes = rest;
+        let value = read_frame_on(alloc, bytes, depth, elements, stack)?;
+        let described = Box::new(alloc, Described { descriptor, value })?;
+        return Ok(Value::Described(described));
+    }
+    let code = primitive_code(code)?;
+    let (content, rest) = read_payload(code, bytes)?;
+    *bytes = rest;
+    read_content(alloc, code, content, depth, elements, stack)
 }
 
 // The value of the code's payload, which comes first; the bytes after it are left.
@@ -72,57 +99,48 @@ fn read_item(
     bytes: &mut &[u8],
     depth: u16,
     elements: u32,
+    stack: &mut Vec<Value>,
 ) -> Result<Value, Error>
     ensures ok { IfOk result (λ v.
         payload_in (parse_content depth) code bytes.old.now ≡ Some (tree_of v, bytes.new.now)) }
     ensures err { IfErr result (λ e. ¬ (e ≡ OutOfMemory) →
         payload_in (parse_content depth) code bytes.old.now ≡ None) }
 {
+    if depth == 0 {
+        return Err(Error::InvalidValue);
+    }
+    if let Some((value, rest)) = read_fixed(u8::from(code), bytes) {
+        *bytes = rest;
+        return Ok(value);
+    }
     let (content, rest) = read_payload(code, bytes)?;
     *bytes = rest;
-    read_content(alloc, code, content, depth, elements)
+    read_content(alloc, code, content, depth - 1, elements, stack)
 }
 
-// The value of the content of a code's payload.
+// The value of the content of a code's payload, where what stands inside is at most so deep.
 #[cycle(read)]
+#[inline(always)]
 fn read_content(
     alloc: Global,
     code: EncodingCodes,
     content: &[u8],
     depth: u16,
     elements: u32,
-) -> Result<Value, Error>
-    ensures ok { IfOk result (λ v. parse_content depth code content.now ≡ Some (tree_of v)) }
-    ensures err { IfErr result (λ e. ¬ (e ≡ OutOfMemory) →
-        parse_content depth code content.now ≡ None) }
-{
-    if depth == 0 {
-        return Err(Error::InvalidValue);
-    }
-    read_content_over(alloc, code, content, depth - 1, elements)
-}
-
-// The same, where what stands inside is at most so deep.
-#[cycle(read)]
-#[inline(always)]
-fn read_content_over(
-    alloc: Global,
-    code: EncodingCodes,
-    content: &[u8],
-    depth: u16,
-    elements: u32,
+    stack: &mut Vec<Value>,
 ) -> Result<Value, Error>
     ensures ok { IfOk result (λ v.
         content_of (parse depth) (parse_content depth) code content.now ≡ Some (tree_of v)) }
     ensures err { IfErr result (λ e. ¬ (e ≡ OutOfMemory) →
         content_of (parse depth) (parse_content depth) code content.now ≡ None) }
+    ensures stack { OnOk result (stack.new.items ≡ stack.old.items) }
 {
     match payload_shape(code) {
         PayloadShape::Described => Err(Error::InvalidValue),
         PayloadShape::Scalar => read_scalar(alloc, code, content),
         PayloadShape::List(count) => {
             let (count, body) = read_count(count, content)?;
-            read_list(alloc, count, body, depth, elements)
+            read_list(alloc, count, body, depth, elements, stack)
         }
         PayloadShape::Map(count) => {
             let (count, body) = read_count(count, content)?;
@@ -135,7 +153,7 @@ fn read_content_over(
     }
 }
 
-// The list of so many encoded values, which fill the body.
+// The list of so many encoded values, which fill the body. They wait on the stack till all are there.
 #[cycle(read)]
 #[inline(never)]
 fn read_list(
@@ -144,22 +162,23 @@ fn read_list(
     body: &[u8],
     depth: u16,
     elements: u32,
+    stack: &mut Vec<Value>,
 ) -> Result<Value, Error>
     ensures ok { IfOk result (λ v. parse_list (parse depth) (count, body.now) ≡ Some (tree_of v)) }
     ensures err { IfErr result (λ e. ¬ (e ≡ OutOfMemory) →
         parse_list (parse depth) (count, body.now) ≡ None) }
+    ensures stack { OnOk result (stack.new.items ≡ stack.old.items) }
 {
-    let mut items = Vec::new(alloc);
+    let start = stack.len();
     let mut rest = body;
     for _ in 0..count {
-        let item = read_frame(alloc, &mut rest, depth, elements)?;
-        items.push(item)?;
+        let item = read_frame_on(alloc, &mut rest, depth, elements, stack)?;
+        stack.push(item)?;
     }
-    if rest.is_empty() {
-        Ok(Value::List(items))
-    } else {
-        Err(Error::InvalidValue)
+    if !rest.is_empty() {
+        return Err(Error::InvalidValue);
     }
+    Ok(Value::List(take_from(alloc, stack, start)?))
 }
 
 // The map of so many encoded values, keys and values in turn, which fill the body.
@@ -209,6 +228,7 @@ fn read_array(
         parse_array (parse_content depth) (count, body.now) ≡ None) }
 {
     let mut items = Vec::new(alloc);
+    let mut stack = Vec::new(alloc);
     match body.split_first() {
         None if count == 0 => {}
         None => return Err(Error::UnexpectedEof),
@@ -218,7 +238,7 @@ fn read_array(
                 return Err(Error::OutOfMemory);
             }
             for _ in 0..count {
-                let item = read_item(alloc, code, &mut rest, depth, elements)?;
+                let item = read_item(alloc, code, &mut rest, depth, elements, &mut stack)?;
                 items.push(item)?;
             }
             if !rest.is_empty() {

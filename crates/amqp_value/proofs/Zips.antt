@@ -1,10 +1,12 @@
 -- Lists whose items are related place by place, and what an iterator of a vector has given.
-use Rattle.std.proofs.Common.{◌≡◌, List, [], ◌∷◌, ◌++◌, ◌∙◌, ap, sym, subst, refl, fold, Some, true, Result, Ok, Err, is_ok, OnOk, true≢false}
+use Rattle.std.proofs.Common.{◌≡◌, Bool, List, [], ◌∷◌, ◌++◌, ◌∙◌, ap, sym, subst, refl, fold, Some, true, Result, Ok, Err, is_ok, OnOk, true≢false}
 use Rattle.std.specs.Iterator.{Yields}
 use Rattle.std.specs.List.{AllZip}
 use Rattle.std.specs.Vec.Iter.{into_iter_items, into_iter_steps}
 use Rattle.std.specs.declared.vec.IntoIter.{IntoIter}
-use Rattle.amqp_value.specs.Converts.{FirstFits, StopsAt, ConvertsAll, PairFits, PairFails, PairGives, PairsGive}
+use Rattle.amqp_data.specs.Pairs.{entries_of, insert_pair}
+use Rattle.amqp_data.specs.declared.ordered_map.OrderedMap.{OrderedMap}
+use Rattle.amqp_value.specs.Converts.{FirstFits, IsMapOf, StopsAt, ConvertsAll, PairConverts, PairFits, PairFails, PairGives, PairsGive}
 use Rattle.amqp_value.specs.declared.try_from.ConvertFault.{ConvertFault}
 use Rattle.amqp_value.specs.declared.try_from.ConvertFault.TheVariants.{Unfit, Memory}
 use Rattle.amqp_value.specs.declared.value.Value.{Value}
@@ -56,6 +58,10 @@ pub fold_push : {A B : Type 0} (f : B → A → B) (b : B) (xs : List A) (x : A)
 fold_push f b [] x = refl
 fold_push f b (y ∷ xs) x = fold_push f (f b y) xs x
 
+-- a collection made by `f`, item by item, takes one more
+pub fold_pushed : {A B : Type 0} (f : B → A → B) (b : B) (xs : List A) (x : A) (old new : B) → new ≡ f old x → old ≡ fold f b xs → new ≡ fold f b (xs ++ x ∷ [])
+fold_pushed f b xs x old new put is = put ∙ ap (λ c. f c x) is ∙ sym (fold_push f b xs x)
+
 -- a pair that does not fit, where the fault says which value it was
 pub pair_stops : {K X A R : Type 0} (kg : Value → Result K Value → Type 0) (vg : Value → Result X Value → Type 0) (Made : List (K × X) → R → Type 0)
     (all : List (Value × Value)) (s : IntoIter (Value × Value) A) (xs : List (Value × Value)) (t : IntoIter (Value × Value) A) (p : Value × Value) (u : IntoIter (Value × Value) A) (done : List (K × X)) (fault : ConvertFault) (r : Result R ConvertFault)
@@ -66,3 +72,12 @@ pair_stops kg vg Made all s xs t p u done Memory r is y z fit unfit e = absurd u
 pub on_ok : {T E : Type 0} (r : Result T E) (P : Type 0) → OnOk r P → is_ok r ≡ true → P
 on_ok (Ok x) P h e = h
 on_ok (Err x) P h e = absurd (true≢false (sym e))
+
+-- one pair more is inserted, its key and value converted
+pub one_more_converted : {K X : Type 0} (eq : Value → Value → Bool) (kc : K → Value → Type 0) (xc : X → Value → Type 0) (es : List (K × X)) (k : K) (x : X) (key value : Value) (old new : OrderedMap Value Value)
+    → IsMapOf eq kc xc es old → kc k key → xc x value → entries_of new ≡ insert_pair eq (entries_of old) key value → IsMapOf eq kc xc (es ++ (k, x) ∷ []) new
+one_more_converted eq kc xc es k x key value old new is kf xf put = (
+  is.0 ++ (key, value) ∷ [],
+  zip_push (PairConverts kc xc) es is.0 (k, x) (key, value) is.1 (kf, xf),
+  fold_pushed (λ done p. insert_pair eq done p.0 p.1) [] is.0 (key, value) (entries_of old) (entries_of new) put is.2,
+)

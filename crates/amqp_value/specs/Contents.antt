@@ -1,5 +1,5 @@
 -- What a value of one kind contains: none where it is of another (AMQP 1.0 part 1, section 1.6).
-use Rattle.std.specs.Prelude.{◌≡◌, ℕ, ℤ, Bool, Option, Some, None, Result, ok_or, String, Vec, Box}
+use Rattle.std.specs.Prelude.{◌≡◌, ℕ, ℤ, Bool, Option, Some, None, Result, ok_or, String, Vec}
 use Rattle.std.specs.Global.{Global}
 use Rattle.amqp_data.specs.declared.array.Array.{Array}
 use Rattle.amqp_data.specs.declared.bits.F32Bits.{F32Bits}

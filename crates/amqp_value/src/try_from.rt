@@ -7,6 +7,7 @@ ghost use Rattle.amqp_value.specs.declared.try_from.ConvertFault.TheVariants.{Me
 
 mod lists;
 mod maps;
+mod pairs;
 mod scalars;
 
 use crate::Value;

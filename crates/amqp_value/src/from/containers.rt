@@ -1,6 +1,6 @@
 //! The value of a text and of each container, whose parts are converted one by one.
 
-ghost use Rattle.std.specs.Prelude.{◌≡◌, MatchResult, IsSomeAnd, IfErr};
+ghost use Rattle.std.specs.Prelude.{◌≡◌, List, [], ◌∷◌, ◌++◌, MatchResult, IsSomeAnd, IfErr};
 ghost use Rattle.std.specs.List.{AllZip};
 ghost use Rattle.amqp_data.specs.Items.{array_items};
 ghost use Rattle.amqp_data.specs.Pairs.{entries_of};
@@ -124,7 +124,7 @@ impl Value {
     {
         let mut pairs = OrderedMap::new(alloc);
         for (key, value) in map {
-            drop(pairs.insert(key.into(), value.into())?);
+            insert_converted(&mut pairs, key, value)?;
         }
         Ok(Value::Map(pairs))
     }
@@ -152,7 +152,7 @@ impl Value {
     {
         let mut pairs = OrderedMap::new(alloc);
         for (key, value) in map.into_inner() {
-            drop(pairs.insert(key.into(), value.into())?);
+            insert_converted(&mut pairs, key, value)?;
         }
         Ok(Value::Map(pairs))
     }
@@ -169,4 +169,21 @@ fn convert_items<T: Into<Value> + Drop>(alloc: Global, items: Vec<T>) -> Result<
         values.push(item.into())?;
     }
     Ok(values)
+}
+
+// Inserts a pair, its key and value converted.
+fn insert_converted<K: Into<Value> + Drop, V: Into<Value> + Drop>(
+    pairs: &mut OrderedMap<Value, Value>,
+    key: K,
+    value: V,
+) -> Result<(), Error>
+    ensures { MatchResult result
+        (λ _. (done : List (K × V))
+        → IsMapOf ⟦<Value as PartialEq>⟧.eq K.converts V.converts done pairs.old
+        → IsMapOf ⟦<Value as PartialEq>⟧.eq K.converts V.converts
+        (done ++ (key, value) ∷ []) pairs.new)
+        (λ e. e ≡ Error.OutOfMemory) }
+{
+    drop(pairs.insert(key.into(), value.into())?);
+    Ok(())
 }

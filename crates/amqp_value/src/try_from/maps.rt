@@ -1,13 +1,14 @@
 //! Maps of four types out of maps. Keys that are converted to equal keys are inserted in their order: the last one's
 //! value stands.
 
-ghost use Rattle.std.specs.Prelude.{◌≡◌, [], IfOk, IfErr, IsSomeAnd};
+ghost use Rattle.std.specs.Prelude.{◌≡◌, []};
 ghost use Rattle.std.specs.HashMap.{IsFromIterResult};
 ghost use Rattle.indexmap.specs.IndexMap.{insert_all};
 ghost use Rattle.amqp_data.specs.Pairs.{entries_of};
-ghost use Rattle.amqp_value.specs.Converts.{MapGives, PairGives, PairsGive, inserted, inserted_sorted};
+ghost use Rattle.amqp_value.specs.Converts.{MapGives, inserted, inserted_sorted};
 
 use super::ConvertFault;
+use super::pairs::convert_pairs;
 use crate::Value;
 use amqp_data::OrderedMap;
 use indexmap::IndexMap;
@@ -37,7 +38,7 @@ where
 
     fn try_from(value: Value) -> Result<OrderedMap<K, V>, ConvertFault> {
         match value {
-            Value::Map(pairs) => convert_in_order(pairs.into_inner()),
+            Value::Map(pairs) => convert_pairs(pairs.into_inner()),
             other => Err(ConvertFault::Unfit(other)),
         }
     }
@@ -62,7 +63,7 @@ where
 
     fn try_from(value: Value) -> Result<BTreeMap<K, V>, ConvertFault> {
         match value {
-            Value::Map(pairs) => convert_sorted(pairs.into_inner()),
+            Value::Map(pairs) => convert_pairs(pairs.into_inner()),
             other => Err(ConvertFault::Unfit(other)),
         }
     }
@@ -87,7 +88,7 @@ where
 
     fn try_from(value: Value) -> Result<IndexMap<K, V>, ConvertFault> {
         match value {
-            Value::Map(pairs) => convert_indexed(pairs.into_inner()),
+            Value::Map(pairs) => convert_pairs(pairs.into_inner()),
             other => Err(ConvertFault::Unfit(other)),
         }
     }
@@ -112,88 +113,8 @@ where
 
     fn try_from(value: Value) -> Result<HashMap<K, V>, ConvertFault> {
         match value {
-            Value::Map(pairs) => convert_hashed(pairs.into_inner()),
+            Value::Map(pairs) => convert_pairs(pairs.into_inner()),
             other => Err(ConvertFault::Unfit(other)),
         }
     }
-}
-
-// Converts a key, and then its value.
-fn convert_pair<K, V>(key: Value, value: Value) -> Result<(K, V), ConvertFault>
-where
-    K: TryFrom<Value, Error = Value> + Drop,
-    V: TryFrom<Value, Error = Value> + Drop,
-    ensures { PairGives K.try_from_gives V.try_from_gives (key, value) result }
-{
-    match K::try_from(key) {
-        Ok(key) => match V::try_from(value) {
-            Ok(value) => Ok((key, value)),
-            Err(unfit_value) => Err(ConvertFault::Unfit(unfit_value)),
-        },
-        Err(unfit_key) => Err(ConvertFault::Unfit(unfit_key)),
-    }
-}
-
-#[tactic(auto, using(crate::proofs::Zips::zip_push))]
-fn convert_in_order<K, V>(pairs: Vec<(Value, Value)>) -> Result<OrderedMap<K, V>, ConvertFault>
-where
-    K: TryFrom<Value, Error = Value> + Hash + Eq + Drop,
-    V: TryFrom<Value, Error = Value> + Drop,
-    ensures { PairsGive K.try_from_gives V.try_from_gives
-        (λ done map. entries_of map ≡ inserted K.eq done) pairs.items result }
-{
-    let mut map = OrderedMap::new(*pairs.allocator());
-    for (key, value) in pairs {
-        let (key, value) = convert_pair(key, value)?;
-        drop(map.insert(key, value).map_err(|_| ConvertFault::Memory)?);
-    }
-    Ok(map)
-}
-
-#[tactic(auto, using(crate::proofs::Zips::zip_push))]
-fn convert_sorted<K, V>(pairs: Vec<(Value, Value)>) -> Result<BTreeMap<K, V>, ConvertFault>
-where
-    K: TryFrom<Value, Error = Value> + Ord + Drop,
-    V: TryFrom<Value, Error = Value> + Drop,
-    ensures { PairsGive K.try_from_gives V.try_from_gives
-        (λ done map. map.entries ≡ inserted_sorted K.cmp done) pairs.items result }
-{
-    let mut map = BTreeMap::new(*pairs.allocator());
-    for (key, value) in pairs {
-        let (key, value) = convert_pair(key, value)?;
-        drop(map.insert(key, value)?);
-    }
-    Ok(map)
-}
-
-#[tactic(auto, using(crate::proofs::Zips::zip_push))]
-fn convert_indexed<K, V>(pairs: Vec<(Value, Value)>) -> Result<IndexMap<K, V>, ConvertFault>
-where
-    K: TryFrom<Value, Error = Value> + Hash + Eq + Drop,
-    V: TryFrom<Value, Error = Value> + Drop,
-    ensures { PairsGive K.try_from_gives V.try_from_gives
-        (λ done map. map.entries ≡ insert_all K.eq [] done) pairs.items result }
-{
-    let mut map = IndexMap::new(*pairs.allocator());
-    for (key, value) in pairs {
-        let (key, value) = convert_pair(key, value)?;
-        drop(map.insert(key, value)?);
-    }
-    Ok(map)
-}
-
-#[tactic(auto, using(crate::proofs::Zips::zip_push))]
-fn convert_hashed<K, V>(pairs: Vec<(Value, Value)>) -> Result<HashMap<K, V>, ConvertFault>
-where
-    K: TryFrom<Value, Error = Value> + Hash + Eq + Drop,
-    V: TryFrom<Value, Error = Value> + Drop,
-    ensures { PairsGive K.try_from_gives V.try_from_gives
-        (λ done map. IsFromIterResult K.eq done map) pairs.items result }
-{
-    let mut map = HashMap::new(*pairs.allocator());
-    for (key, value) in pairs {
-        let (key, value) = convert_pair(key, value)?;
-        drop(map.insert(key, value)?);
-    }
-    Ok(map)
 }

@@ -1,39 +1,68 @@
-use Rattle.std.proofs.Common.{rules, ◌≡◌, [], ◌∷◌, ◌++◌, Some, None, sym, ap, ◌∙◌, map, ◌+◌, ◌-◌, ◌/◌, arith}
+use Rattle.std.proofs.Common.{rules, ◌≡◌, [], ◌∷◌, ◌++◌, Some, None, sym, ap, ◌∙◌, map, ◌+◌, ◌-◌, ◌/◌, arith, append_assoc}
 use Rattle.amqp_value.specs.TreeOf.{tree_of}
 use Rattle.amqp_gather.specs.Gathered.{gathered}
+use Rattle.amqp_data.specs.FormatCode.{code_of}
 use Rattle.amqp_decode.specs.Codes.{primitive_of}
 use Rattle.amqp_decode.specs.Parsed.{parse, parse_content, payload_in, parse_list, parse_map, parse_array, insert}
-use Rattle.amqp_decode.proofs.Steps.{parse_content-zero, parse_content-at, parse-zero, parse-at, values-next, insert-next, insert-no_key, insert-no_value, list-none, map-none, array-none}
+use Rattle.amqp_decode.proofs.Steps.{item-zero, item-ok, item-err, item-fixed, parse-zero, parse-at, parse-empty, values-next, insert-next, insert-no_key, insert-no_value, list-none, map-none, array-none}
 use Rattle.amqp_decode.proofs.read.+read.Goals as goal
 
-pub read_content-returns-then-depth-eq0-clause-err : goal.read_content-returns-then-depth-eq0-clause-err
-read_content-returns-then-depth-eq0-clause-err t c = λ _. parse_content-zero c.args.depth c.args.code c.args.content.now c.if-depth-eq0.true
+pub read_item-returns-then-depth-eq0-clause-err : goal.read_item-returns-then-depth-eq0-clause-err
+read_item-returns-then-depth-eq0-clause-err t c = λ _. item-zero c.args.depth c.args.code c.args.bytes.now.now c.if-depth-eq0.true
 
-pub read_content-returns-clause-ok : goal.read_content-returns-clause-ok
-read_content-returns-clause-ok t c = rw (parse_content-at c.args.depth c.args.code c.args.content.now (omega (arith, c.if-depth-eq0.false))) c.read_content_over.ensures.ok
+pub read_item-returns-in-Some-clause-ok : goal.read_item-returns-in-Some-clause-ok
+read_item-returns-in-Some-clause-ok t c =
+    let byte : c.from.result ≡ code_of c.args.code = search rules in
+    item-fixed c.args.depth c.args.code c.args.bytes.now.now (Some (tree_of c.in-Some.value, c.in-Some.rest.now)) (omega (arith, c.if-depth-eq0.false))
+    (λ zero. c.in-Some.ensures.primitive (byte ∙ zero))
+    (rw (sym byte) (c.in-Some.ensures.found (parse (c.args.depth - 1)) (parse_content (c.args.depth - 1))))
 
-pub read_content-returns-clause-err : goal.read_content-returns-clause-err
-read_content-returns-clause-err t c = rw (parse_content-at c.args.depth c.args.code c.args.content.now (omega (arith, c.if-depth-eq0.false))) c.read_content_over.ensures.err
+pub read_item-returns-clause-ok : goal.read_item-returns-clause-ok
+read_item-returns-clause-ok t c =
+    item-ok c.args.depth c.args.code c.args.bytes.now.now c.in_ok-content.content.now c.in_ok-content.rest.now c.read_content.result
+    (omega (arith, c.if-depth-eq0.false)) c.in_ok-content.ensures.ok c.read_content.ensures.ok
 
-pub read_frame-returns-then-depth-eq0-clause-err : goal.read_frame-returns-then-depth-eq0-clause-err
-read_frame-returns-then-depth-eq0-clause-err t c = λ _. parse-zero c.args.depth c.args.bytes.now.now c.if-depth-eq0.true
+pub read_item-returns-clause-err : goal.read_item-returns-clause-err
+read_item-returns-clause-err t c =
+    item-err c.args.depth c.args.code c.args.bytes.now.now c.in_ok-content.content.now c.in_ok-content.rest.now c.read_content.result
+    (omega (arith, c.if-depth-eq0.false)) c.in_ok-content.ensures.ok c.read_content.ensures.err
 
-pub read_frame-returns-clause-ok : goal.read_frame-returns-clause-ok
-read_frame-returns-clause-ok t c = rw (parse-at c.args.depth c.args.bytes.now.now (omega (arith, c.if-depth-eq0.false))) c.read_frame_over.ensures.ok
+pub read_frame_on-returns-then-depth-eq0-clause-err : goal.read_frame_on-returns-then-depth-eq0-clause-err
+read_frame_on-returns-then-depth-eq0-clause-err t c = λ _. parse-zero c.args.depth c.args.bytes.now.now c.if-depth-eq0.true
 
-pub read_frame-returns-clause-err : goal.read_frame-returns-clause-err
-read_frame-returns-clause-err t c = rw (parse-at c.args.depth c.args.bytes.now.now (omega (arith, c.if-depth-eq0.false))) c.read_frame_over.ensures.err
+pub read_frame_on-returns-in-None-clause-err : goal.read_frame_on-returns-in-None-clause-err
+read_frame_on-returns-in-None-clause-err t c = λ _. parse-empty c.args.depth c.args.bytes.now.now (omega (arith, c.if-depth-eq0.false)) (search rules)
+
+pub read_frame_on-returns-in-Some-read_fixed-clause-ok : goal.read_frame_on-returns-in-Some-read_fixed-clause-ok
+read_frame_on-returns-in-Some-read_fixed-clause-ok t c =
+    let bytes : c.args.bytes.now.now ≡ c.in-Some.code.now ∷ c.in-Some.rest.now = search rules in
+    rw (parse-at c.args.depth c.args.bytes.now.now (omega (arith, c.if-depth-eq0.false)), bytes)
+    (c.in-Some-read_fixed.ensures.found (parse (c.args.depth - 1)) (parse_content (c.args.depth - 1)))
+
+pub read_frame_on-returns-in_default-clause-ok : goal.read_frame_on-returns-in_default-clause-ok
+read_frame_on-returns-in_default-clause-ok t c =
+    let bytes : c.args.bytes.now.now ≡ c.in-Some.code.now ∷ c.in-Some.rest.now = search rules in
+    rw (parse-at c.args.depth c.args.bytes.now.now (omega (arith, c.if-depth-eq0.false)), bytes) c.read_frame_over.ensures.ok
+
+pub read_frame_on-returns-in_default-clause-err : goal.read_frame_on-returns-in_default-clause-err
+read_frame_on-returns-in_default-clause-err t c =
+    let bytes : c.args.bytes.now.now ≡ c.in-Some.code.now ∷ c.in-Some.rest.now = search rules in
+    rw (parse-at c.args.depth c.args.bytes.now.now (omega (arith, c.if-depth-eq0.false)), bytes) c.read_frame_over.ensures.err
 
 pub read_list-loop-preserved : goal.read_list-loop-preserved
 read_list-loop-preserved t c =
-    let step = values-next (parse c.args.depth) c.args.count c.loop.counter c.loop.rest.now c.read_frame.new.bytes.now c.in_ok-item.item c.loop.items.items c.loop-test.true c.in_ok-item.ensures.ok in
-    let pushed : c.push.new.self.items ≡ c.loop.items.items ++ c.in_ok-item.item ∷ [] = search rules in
-    rw pushed (step ∙ c.loop.invariant)
+    let done = c.loop.invariant.0 in
+    let step = values-next (parse c.args.depth) c.args.count c.loop.counter c.loop.rest.now c.read_frame_on.new.bytes.now c.in_ok-item.item done c.loop-test.true c.in_ok-item.ensures.ok in
+    let pushed : c.push.new.self.items ≡ c.read_frame_on.new.stack.items ++ c.in_ok-item.item ∷ [] = search rules in (
+      done ++ c.in_ok-item.item ∷ [],
+      pushed ∙ ap (λ s. s ++ c.in_ok-item.item ∷ []) (c.in_ok-item.ensures.stack ∙ c.loop.invariant.1) ∙ append_assoc c.args.stack.now.items done (c.in_ok-item.item ∷ []),
+      step ∙ c.loop.invariant.2,
+    )
 
 pub read_list-returns-in_err-item-clause-err : goal.read_list-returns-in_err-item-clause-err
 read_list-returns-in_err-item-clause-err t c =
     let none : parse c.args.depth c.loop.rest.now ≡ None → parse_list (parse c.args.depth) (c.args.count, c.args.body.now) ≡ None =
-    λ h. list-none (parse c.args.depth) c.args.count c.loop.counter c.loop.rest.now c.args.body.now (map tree_of c.loop.items.items) c.loop-test.true c.loop.invariant h in
+    λ h. list-none (parse c.args.depth) c.args.count c.loop.counter c.loop.rest.now c.args.body.now (map tree_of c.loop.invariant.0) c.loop-test.true c.loop.invariant.2 h in
     search (rules, none)
 
 pub read_map-loop-preserved : goal.read_map-loop-preserved

@@ -1,39 +1,41 @@
-use Rattle.std.proofs.Common.{◌≡◌, [], map, ◌+◌, ◌-◌, ◌*◌, ◌/◌}
+use Rattle.std.proofs.Common.{◌≡◌, List, [], ◌++◌, map, ◌+◌, ◌-◌, ◌*◌, ◌/◌}
 use Rattle.amqp_ser.specs.Tree.{no_pairs}
 use Rattle.amqp_value.specs.TreeOf.{tree_of}
 use Rattle.amqp_gather.specs.Gathered.{gathered}
+use Rattle.amqp_value.specs.declared.value.Value.{Value}
 use Rattle.amqp_decode.specs.Parsed.{parse, parse_content, payload_in, gather, insert}
 use Rattle.amqp_decode.proofs.read.+read.Given as goal
 
 -- what stands in a compound has a lesser depth, and calls for encoded values and items of that same depth
-abbrev pub decreases-read_content : goal.decreases-read_content
-decreases-read_content l = 6 * l.depth
-
 abbrev pub decreases-read_item : goal.decreases-read_item
-decreases-read_item l = 6 * l.depth + 1
+decreases-read_item l = 9 * l.depth
+
+abbrev pub decreases-read_frame_on : goal.decreases-read_frame_on
+decreases-read_frame_on l = 9 * l.depth
 
 abbrev pub decreases-read_frame : goal.decreases-read_frame
-decreases-read_frame l = 6 * l.depth + 1
+decreases-read_frame l = 9 * l.depth + 1
 
 abbrev pub decreases-read_list : goal.decreases-read_list
-decreases-read_list l = 6 * l.depth + 2
+decreases-read_list l = 9 * l.depth + 2
 
 abbrev pub decreases-read_map : goal.decreases-read_map
-decreases-read_map l = 6 * l.depth + 2
+decreases-read_map l = 9 * l.depth + 2
 
 abbrev pub decreases-read_array : goal.decreases-read_array
-decreases-read_array l = 6 * l.depth + 2
+decreases-read_array l = 9 * l.depth + 2
 
-abbrev pub decreases-read_content_over : goal.decreases-read_content_over
-decreases-read_content_over l = 6 * l.depth + 3
+abbrev pub decreases-read_content : goal.decreases-read_content
+decreases-read_content l = 9 * l.depth + 3
 
 abbrev pub decreases-read_frame_over : goal.decreases-read_frame_over
-decreases-read_frame_over l = 6 * l.depth + 4
+decreases-read_frame_over l = 9 * l.depth + 4
 
 -- what is left, after what is there, gives the whole
 abbrev pub invariant-read_list-loop : goal.invariant-read_list-loop
 invariant-read_list-loop l =
-    gather (parse l.depth) (l.count - l.counter) l.rest (map tree_of l.items.items) ≡ gather (parse l.depth) l.count l.body []
+    (done : List Value) × (l.stack.items ≡ l.initial.stack.items ++ done)
+    × (gather (parse l.depth) (l.count - l.counter) l.rest (map tree_of done) ≡ gather (parse l.depth) l.count l.body [])
 
 abbrev pub invariant-read_map-loop : goal.invariant-read_map-loop
 invariant-read_map-loop l =

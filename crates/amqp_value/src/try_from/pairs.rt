@@ -1,0 +1,116 @@
+//! The pairs of a map, each converted and inserted into a map of another type.
+
+ghost use Rattle.std.specs.Prelude.{◌≡◌, List, [], ◌∷◌, ◌++◌, IsTrue};
+ghost use Rattle.std.specs.HashMap.{IsFromIterResult};
+ghost use Rattle.indexmap.specs.IndexMap.{insert_all};
+ghost use Rattle.amqp_data.specs.Pairs.{entries_of};
+ghost use Rattle.amqp_value.specs.Converts.{PairGives, PairsGive, inserted, inserted_sorted};
+
+use super::ConvertFault;
+use crate::Value;
+use amqp_data::OrderedMap;
+use indexmap::IndexMap;
+use std::alloc::Global;
+use std::collections::{BTreeMap, HashMap};
+use std::hash::Hash;
+
+/// A map that pairs are inserted into.
+pub(super) trait Inserts<K, V>: Sized + Drop {
+    /// Which maps hold these pairs, inserted in turn.
+    ghost holds: { List (K × V) → Self → Type 0 };
+
+    /// A map of no pairs.
+    fn empty(alloc: Global) -> Self
+        ensures { holds [] result };
+
+    /// Inserts a pair, and says whether there was memory for it.
+    fn put(&mut self, key: K, value: V) -> bool
+        ensures { (done : List (K × V)) → IsTrue result →
+            holds done self.old → holds (done ++ (key, value) ∷ []) self.new };
+}
+
+impl<K: Hash + Eq + Drop, V: Drop> Inserts<K, V> for OrderedMap<K, V> {
+    ghost holds = { λ done map. entries_of map ≡ inserted K.eq done };
+
+    fn empty(alloc: Global) -> OrderedMap<K, V> {
+        OrderedMap::new(alloc)
+    }
+
+    #[tactic(auto, using(crate::proofs::Zips::fold_pushed))]
+    fn put(&mut self, key: K, value: V) -> bool {
+        OrderedMap::insert(self, key, value).is_ok()
+    }
+}
+
+impl<K: Ord + Drop, V: Drop> Inserts<K, V> for BTreeMap<K, V> {
+    ghost holds = { λ done map. map.entries ≡ inserted_sorted K.cmp done };
+
+    fn empty(alloc: Global) -> BTreeMap<K, V> {
+        BTreeMap::new(alloc)
+    }
+
+    #[tactic(auto, using(crate::proofs::Zips::fold_pushed))]
+    fn put(&mut self, key: K, value: V) -> bool {
+        BTreeMap::insert(self, key, value).is_ok()
+    }
+}
+
+impl<K: Hash + Eq + Drop, V: Drop> Inserts<K, V> for IndexMap<K, V> {
+    ghost holds = { λ done map. map.entries ≡ insert_all K.eq [] done };
+
+    fn empty(alloc: Global) -> IndexMap<K, V> {
+        IndexMap::new(alloc)
+    }
+
+    #[tactic(auto, using(crate::proofs::Zips::fold_pushed))]
+    fn put(&mut self, key: K, value: V) -> bool {
+        IndexMap::insert(self, key, value).is_ok()
+    }
+}
+
+impl<K: Hash + Eq + Drop, V: Drop> Inserts<K, V> for HashMap<K, V> {
+    ghost holds = { λ done map. IsFromIterResult K.eq done map };
+
+    fn empty(alloc: Global) -> HashMap<K, V> {
+        HashMap::new(alloc)
+    }
+
+    fn put(&mut self, key: K, value: V) -> bool {
+        HashMap::insert(self, key, value).is_ok()
+    }
+}
+
+/// Converts a key, and then its value.
+fn convert_pair<K, V>(key: Value, value: Value) -> Result<(K, V), ConvertFault>
+where
+    K: TryFrom<Value, Error = Value> + Drop,
+    V: TryFrom<Value, Error = Value> + Drop,
+    ensures { PairGives K.try_from_gives V.try_from_gives (key, value) result }
+{
+    match K::try_from(key) {
+        Ok(key) => match V::try_from(value) {
+            Ok(value) => Ok((key, value)),
+            Err(unfit_value) => Err(ConvertFault::Unfit(unfit_value)),
+        },
+        Err(unfit_key) => Err(ConvertFault::Unfit(unfit_key)),
+    }
+}
+
+/// Converts the pairs, and inserts them in turn, on their own allocator.
+#[tactic(auto, using(crate::proofs::Zips::zip_push))]
+pub(super) fn convert_pairs<K, V, M>(pairs: Vec<(Value, Value)>) -> Result<M, ConvertFault>
+where
+    K: TryFrom<Value, Error = Value> + Drop,
+    V: TryFrom<Value, Error = Value> + Drop,
+    M: Inserts<K, V>,
+    ensures { PairsGive K.try_from_gives V.try_from_gives M.holds pairs.items result }
+{
+    let mut map = M::empty(*pairs.allocator());
+    for (key, value) in pairs {
+        let (key, value) = convert_pair(key, value)?;
+        if !map.put(key, value) {
+            return Err(ConvertFault::Memory);
+        }
+    }
+    Ok(map)
+}
