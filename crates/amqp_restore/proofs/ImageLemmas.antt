@@ -15,7 +15,7 @@ pub read_for : (o : Option Tree) (u : Tree) (v : Value) → StandsAs o u → Sta
 read_for None u v h is = absurd h
 read_for (Some t) u v h is = stands-image t v h.1 is ∙ sym h.0
 
--- it is refused for want of memory alone
+-- it is refused as out of memory alone
 pub refused_for : (o : Option Tree) (u : Tree) (e : Error) → StandsAs o u → refuses e o → e ≡ OutOfMemory
 refused_for None u e h is = absurd h
 refused_for (Some t) u e h is = read_refused e t t (opened-itself t h.1) is

@@ -47,7 +47,7 @@ spoils error.UnexpectedEof (Some t) q h r = faulted error.UnexpectedEof q r.0 (h
 spoils e None q h r = absurd r
 spoils e (Some t) q h r = absurd r.0
 
--- a tree that can be read is refused for want of memory alone
+-- a tree that can be read is refused as out of memory alone
 pub read_refused : (e : Error) (t u : Tree) → Opened t u → refuses e (Some t) → e ≡ error.OutOfMemory
 read_refused error.OutOfMemory t u o r = refl
 read_refused e t u o r = absurd (r.1 u o)
