@@ -16,6 +16,9 @@ pub struct Array<T>(Vec<T>);
 
 impl<T> Array<T> {
     /// The elements.
+    ///
+    /// # Example
+    /// Of the array of the ubytes 1 and 2, written `e00402500102`: the vector of 1 and 2.
     pub fn as_inner(&self) -> &Vec<T>
         ensures { result.now.items ≡ array_items self.now }
     {
@@ -23,6 +26,9 @@ impl<T> Array<T> {
     }
 
     /// Gives the elements up.
+    ///
+    /// # Example
+    /// Of an array that is written `e00100`: a vector of no elements.
     pub fn into_inner(self) -> Vec<T>
         ensures { result.items ≡ array_items self }
     {

@@ -16,6 +16,9 @@ pub struct F32Bits(u32);
 
 impl F32Bits {
     /// The bits.
+    ///
+    /// # Example
+    /// Of the float 1.5, written `723fc00000`: `0x3fc00000`.
     pub fn as_inner(&self) -> &u32
         ensures { result.now ≡ f32_bits self.now }
     {
@@ -23,6 +26,9 @@ impl F32Bits {
     }
 
     /// The bits.
+    ///
+    /// # Example
+    /// Of the float -0.0, written `7280000000`: `0x80000000`.
     pub fn into_inner(self) -> u32
         ensures { result ≡ f32_bits self }
     {
@@ -50,6 +56,9 @@ pub struct F64Bits(u64);
 
 impl F64Bits {
     /// The bits.
+    ///
+    /// # Example
+    /// Of the double 1.5, written `823ff8000000000000`: `0x3ff8000000000000`.
     pub fn as_inner(&self) -> &u64
         ensures { result.now ≡ f64_bits self.now }
     {
@@ -57,6 +66,9 @@ impl F64Bits {
     }
 
     /// The bits.
+    ///
+    /// # Example
+    /// Of the double -0.0, written `828000000000000000`: `0x8000000000000000`.
     pub fn into_inner(self) -> u64
         ensures { result ≡ f64_bits self }
     {

@@ -15,6 +15,9 @@ pub struct ByteBuf(Vec<u8>);
 
 impl ByteBuf {
     /// The bytes.
+    ///
+    /// # Example
+    /// Of the binary that is written `a003616263`: the bytes 61, 62, 63.
     pub fn as_inner(&self) -> &Vec<u8>
         ensures { result.now.items ≡ byte_buf_bytes self.now }
     {
@@ -22,6 +25,9 @@ impl ByteBuf {
     }
 
     /// Gives the bytes up.
+    ///
+    /// # Example
+    /// Of the binary that is written `a000`: no bytes.
     pub fn into_inner(self) -> Vec<u8>
         ensures { result.items ≡ byte_buf_bytes self }
     {

@@ -17,6 +17,9 @@ pub struct Dec32([u8; 4]);
 
 impl Dec32 {
     /// The 4 bytes.
+    ///
+    /// # Example
+    /// Of the one that is written `7401020304`: the bytes 01, 02, 03, 04.
     pub fn as_inner(&self) -> &[u8; 4]
         ensures { result.now ≡ dec32_bytes self.now }
     {
@@ -24,6 +27,9 @@ impl Dec32 {
     }
 
     /// The 4 bytes.
+    ///
+    /// # Example
+    /// Of the one that is written `7404030201`: the bytes 04, 03, 02, 01.
     pub fn into_inner(self) -> [u8; 4]
         ensures { result ≡ dec32_bytes self }
     {
@@ -41,6 +47,9 @@ impl From<[u8; 4]> for Dec32 {
 
 /// # Errors
 /// `InvalidValue` where there are not 4 bytes.
+///
+/// # Example
+/// Of the bytes 01 to 04: the one that is written `7401020304`. Of 01 to 03: `InvalidValue`.
 impl TryFrom<&[u8]> for Dec32 {
     type Error = Error;
 
@@ -66,6 +75,9 @@ pub struct Dec64([u8; 8]);
 
 impl Dec64 {
     /// The 8 bytes.
+    ///
+    /// # Example
+    /// Of the one that is written `840102030405060708`: the bytes 01 to 08.
     pub fn as_inner(&self) -> &[u8; 8]
         ensures { result.now ≡ dec64_bytes self.now }
     {
@@ -73,6 +85,9 @@ impl Dec64 {
     }
 
     /// The 8 bytes.
+    ///
+    /// # Example
+    /// Of the one that is written `840807060504030201`: the bytes 08 down to 01.
     pub fn into_inner(self) -> [u8; 8]
         ensures { result ≡ dec64_bytes self }
     {
@@ -90,6 +105,10 @@ impl From<[u8; 8]> for Dec64 {
 
 /// # Errors
 /// `InvalidValue` where there are not 8 bytes.
+///
+/// # Example
+/// Of the bytes 01 to 08: the one that is written `840102030405060708`.
+/// Of 01 to 07: `InvalidValue`.
 impl TryFrom<&[u8]> for Dec64 {
     type Error = Error;
 
@@ -115,6 +134,9 @@ pub struct Dec128([u8; 16]);
 
 impl Dec128 {
     /// The 16 bytes.
+    ///
+    /// # Example
+    /// Of the one that is written `94000102030405060708090a0b0c0d0e0f`: the bytes 00 to 0F.
     pub fn as_inner(&self) -> &[u8; 16]
         ensures { result.now ≡ dec128_bytes self.now }
     {
@@ -122,6 +144,9 @@ impl Dec128 {
     }
 
     /// The 16 bytes.
+    ///
+    /// # Example
+    /// Of the one that is written `940f0e0d0c0b0a09080706050403020100`: the bytes 0F down to 00.
     pub fn into_inner(self) -> [u8; 16]
         ensures { result ≡ dec128_bytes self }
     {
@@ -139,6 +164,10 @@ impl From<[u8; 16]> for Dec128 {
 
 /// # Errors
 /// `InvalidValue` where there are not 16 bytes.
+///
+/// # Example
+/// Of the bytes 00 to 0F: the one that is written `94000102030405060708090a0b0c0d0e0f`.
+/// Of 00 to 0E: `InvalidValue`.
 impl TryFrom<&[u8]> for Dec128 {
     type Error = Error;
 

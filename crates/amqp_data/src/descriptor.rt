@@ -9,6 +9,10 @@ use crate::Symbol;
 ///
 /// # Encoding
 /// A symbol or a ulong, between the `00` and the value.
+///
+/// # Example
+/// Before null the code 1 is the `5301` of `00530140`, and the name `a:b` the `a303613a62` of
+/// `00a303613a6240`.
 #[derive(Debug, PartialEq, Eq, PartialOrd, Ord, Hash, Drop)]
 pub enum Descriptor {
     /// A symbolic descriptor.

@@ -7,6 +7,9 @@ use std::alloc::{AllocError, AllocFailed};
 use thiserror::Error as ThisError;
 
 /// Why a call refused.
+///
+/// # Example
+/// `OutOfMemory` is shown `out of memory`, and `Message("no such name")` `no such name`.
 #[derive(Debug, PartialEq, Eq, Drop, ThisError)]
 pub enum Error {
     /// A request for memory was refused.

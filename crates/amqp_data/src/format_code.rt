@@ -106,6 +106,9 @@ impl From<EncodingCodes> for u8 {
 
 /// # Errors
 /// `InvalidFormatCode` where no name has this code.
+///
+/// # Example
+/// Of `a1`: `Str8`. Of `46`: `InvalidFormatCode`.
 impl TryFrom<u8> for EncodingCodes {
     type Error = Error;
 

@@ -34,6 +34,9 @@ impl<K, V> OrderedMap<K, V> {
     ///
     /// # Memory
     /// Takes none, and keeps `alloc` for later insertions.
+    ///
+    /// # Example
+    /// Written `c10100`; once the ubyte 1 has `true`, `c10402500141`.
     pub fn new(alloc: Global) -> Self
         ensures { entries_of result ≡ [] }
     {
@@ -43,6 +46,9 @@ impl<K, V> OrderedMap<K, V> {
     }
 
     /// How many pairs there are.
+    ///
+    /// # Example
+    /// Of the map that is written `c10402500141`: 1, where the count in these bytes is 2.
     pub fn len(&self) -> usize
         ensures { result ≡ length (entries_of self.now) }
     {
@@ -50,6 +56,9 @@ impl<K, V> OrderedMap<K, V> {
     }
 
     /// Whether there are no pairs.
+    ///
+    /// # Example
+    /// True of the map that is written `c10100`, false of the one that is written `c10402500141`.
     pub fn is_empty(&self) -> bool
         ensures { result ≡ (length (entries_of self.now) == 0) }
     {
@@ -57,6 +66,9 @@ impl<K, V> OrderedMap<K, V> {
     }
 
     /// The pairs in order, as references.
+    ///
+    /// # Example
+    /// Of the map from 1 to `true`, written `c10402500141`: `(&1, &true)`, and then `None`.
     pub fn iter(&self) -> Iter<'_, K, V>
         ensures rest { entries_left result ≡ entries_of self.now }
         ensures fits { length (entries_left result) < 2 ^ 64 }
@@ -67,6 +79,9 @@ impl<K, V> OrderedMap<K, V> {
     }
 
     /// The pairs in order.
+    ///
+    /// # Example
+    /// Of the map that is written `c10704500241500142`: `[(2, true), (1, false)]`.
     pub fn as_slice(&self) -> &[(K, V)]
         ensures { result.now ≡ entries_of self.now }
     {
@@ -74,6 +89,9 @@ impl<K, V> OrderedMap<K, V> {
     }
 
     /// Gives the pairs up, in order.
+    ///
+    /// # Example
+    /// Of the map that is written `c10402500141`: the vector of the pair (1, `true`).
     pub fn into_inner(self) -> Vec<(K, V)>
         ensures { result.items ≡ entries_of self }
     {
@@ -161,6 +179,10 @@ impl<K: Hash + Eq, V> OrderedMap<K, V> {
 }
 
 /// The pairs of a map that are left, as references, in order.
+///
+/// # Example
+/// Over the map that is written `c10704500241500142`: `(&2, &true)`, then `(&1, &false)`, then
+/// `None`.
 #[derive(Drop)]
 pub struct Iter<'a, K, V> {
     rest: &'a [(K, V)],

@@ -39,6 +39,9 @@ impl Symbol {
     }
 
     /// The text.
+    ///
+    /// # Example
+    /// Of the symbol that is written `a304616d7170` and shown `:amqp`: `amqp`.
     pub fn as_inner(&self) -> &String
         ensures { string_bytes result.now ≡ symbol_text self.now }
     {
@@ -46,6 +49,9 @@ impl Symbol {
     }
 
     /// Gives the text up.
+    ///
+    /// # Example
+    /// Of the symbol that is written `a300` and shown `:`: a string of no bytes.
     pub fn into_inner(self) -> String
         ensures { string_bytes result ≡ symbol_text self }
     {
@@ -86,6 +92,9 @@ pub struct SymbolRef<'a>(&'a str);
 
 impl<'a> SymbolRef<'a> {
     /// The text.
+    ///
+    /// # Example
+    /// Of the one that is written `a304616d7170`: `amqp`.
     pub fn as_inner(&self) -> &'a str
         ensures { result.now ≡ symbol_ref_text self.now }
     {
@@ -93,6 +102,9 @@ impl<'a> SymbolRef<'a> {
     }
 
     /// Gives the text up.
+    ///
+    /// # Example
+    /// Of the one that is written `a303613a62`: `a:b`.
     pub fn into_inner(self) -> &'a str
         ensures { result.now ≡ symbol_ref_text self.entry }
     {

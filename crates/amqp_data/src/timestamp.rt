@@ -30,6 +30,9 @@ impl Timestamp {
     }
 
     /// The milliseconds since the epoch.
+    ///
+    /// # Example
+    /// Of the moment that is shown `1970-01-01T00:00:00.013Z`, written `83000000000000000d`: 13.
     pub fn milliseconds(&self) -> i64
         ensures { result ≡ milliseconds_of self.now }
     {
@@ -37,6 +40,9 @@ impl Timestamp {
     }
 
     /// The milliseconds since the epoch.
+    ///
+    /// # Example
+    /// Of the moment that is written `83ffffffffffffffff`: -1.
     pub fn as_inner(&self) -> &i64
         ensures { result.now ≡ milliseconds_of self.now }
     {
@@ -44,6 +50,10 @@ impl Timestamp {
     }
 
     /// The milliseconds since the epoch.
+    ///
+    /// # Example
+    /// Of the moment that is shown `1970-01-02T00:00:00.000Z`, written `830000000005265c00`:
+    /// 86,400,000.
     pub fn into_inner(self) -> i64
         ensures { result ≡ milliseconds_of self }
     {

@@ -40,6 +40,9 @@ impl<T> TransparentVec<T> {
     }
 
     /// Gives the elements up.
+    ///
+    /// # Example
+    /// Of what is written `4142`: the vector of `true` and `false`.
     pub fn into_inner(self) -> Vec<T>
         ensures { result.items ≡ transparent_items self }
     {
@@ -47,6 +50,9 @@ impl<T> TransparentVec<T> {
     }
 
     /// The elements.
+    ///
+    /// # Example
+    /// Of what is written `414241`: `[true, false, true]`.
     pub fn as_slice(&self) -> &[T]
         ensures { result.now ≡ transparent_items self.now }
     {
@@ -54,6 +60,9 @@ impl<T> TransparentVec<T> {
     }
 
     /// The elements, to add to, take from or change.
+    ///
+    /// # Example
+    /// Of what is written `41`: the vector of `true`. With `false` pushed to it, `4142`.
     pub fn as_mut(&mut self) -> &mut Vec<T>
         ensures* writes_back { sem 𝓛 (lends_vec T.row self.entry result) }
         ensures items { result.now.items ≡ transparent_items self.old }
@@ -62,6 +71,9 @@ impl<T> TransparentVec<T> {
     }
 
     /// The elements in order, as references.
+    ///
+    /// # Example
+    /// Of what is written `4142`: `&true`, then `&false`, then `None`.
     pub fn iter(&self) -> slice::Iter<'_, T>
         ensures { GivesRefs (transparent_items self.now) result }
     {
@@ -69,6 +81,9 @@ impl<T> TransparentVec<T> {
     }
 
     /// The elements in order, as references to write by.
+    ///
+    /// # Example
+    /// Of what is written `4142`: with each element negated by its reference, `4241`.
     pub fn iter_mut(&mut self) -> slice::IterMut<'_, T>
         ensures* writes_back { sem 𝓛 (lends_items T.row self.entry result) }
         ensures items { GivesMutRefs (transparent_items self.old) result }

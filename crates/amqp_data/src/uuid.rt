@@ -21,6 +21,9 @@ pub struct Uuid([u8; 16]);
 
 impl Uuid {
     /// The 16 bytes.
+    ///
+    /// # Example
+    /// Of the one that is written `9800112233445566778899aabbccddeeff`: the bytes 00, 11 up to FF.
     pub fn as_inner(&self) -> &[u8; 16]
         ensures { result.now ≡ uuid_bytes self.now }
     {
@@ -28,6 +31,9 @@ impl Uuid {
     }
 
     /// The 16 bytes.
+    ///
+    /// # Example
+    /// Of the one that is shown `00010203-0405-0607-0809-0a0b0c0d0e0f`: the bytes 00 to 0F.
     pub fn into_inner(self) -> [u8; 16]
         ensures { result ≡ uuid_bytes self }
     {
@@ -45,6 +51,10 @@ impl From<[u8; 16]> for Uuid {
 
 /// # Errors
 /// `InvalidValue` where there are not 16 bytes.
+///
+/// # Example
+/// Of the bytes 00 to 0F: the uuid that is shown `00010203-0405-0607-0809-0a0b0c0d0e0f`.
+/// Of 00 to 0E: `InvalidValue`.
 impl TryFrom<&[u8]> for Uuid {
     type Error = Error;
 

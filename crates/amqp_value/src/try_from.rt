@@ -14,6 +14,9 @@ use crate::Value;
 use std::alloc::{AllocError, AllocFailed};
 
 /// Why a value is not converted to a container.
+///
+/// # Example
+/// As a `Vec<u8>`, the ubyte 1: `Unfit(Ubyte(1))`. The list of the ubyte 1 and null: `Unfit(Null)`.
 #[derive(Debug, PartialEq, Eq, Drop)]
 pub enum ConvertFault {
     /// The value, where it is of another kind than the container's; else the first part that does not fit, in order,

@@ -51,6 +51,10 @@ where
 ///
 /// # Memory
 /// Takes the map's own allocator, as the pairs grow.
+///
+/// # Example
+/// The map of the ubytes 2 to `true` and 1 to `false`, as a `BTreeMap<u8, bool>`: 1 to `false`,
+/// then 2 to `true`.
 impl<K, V> TryFrom<Value> for BTreeMap<K, V>
 where
     K: TryFrom<Value, Error = Value> + Ord + Drop,
@@ -76,6 +80,10 @@ where
 ///
 /// # Memory
 /// Takes the map's own allocator, as the pairs grow. The hash has a fixed seed.
+///
+/// # Example
+/// The map of the ubytes 2 to `true` and 1 to `false`, as an `IndexMap<u8, bool>`: 2 to `true`,
+/// then 1 to `false`.
 impl<K, V> TryFrom<Value> for IndexMap<K, V>
 where
     K: TryFrom<Value, Error = Value> + Hash + Eq + Drop,
@@ -101,6 +109,9 @@ where
 ///
 /// # Memory
 /// Takes the map's own allocator, as the pairs grow. The hash has a fixed seed.
+///
+/// # Example
+/// The map from the ubyte 1 to `true`, as a `HashMap<u8, bool>`: 1 to `true`. Null: `Unfit(Null)`.
 impl<K, V> TryFrom<Value> for HashMap<K, V>
 where
     K: TryFrom<Value, Error = Value> + Hash + Eq + Drop,
