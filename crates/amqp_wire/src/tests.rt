@@ -5,6 +5,7 @@ mod described;
 mod feeding;
 mod goes_on;
 mod memory;
+mod misplaced;
 mod passed_over;
 mod refused;
 mod rows;

@@ -8,7 +8,7 @@ ghost use Rattle.amqp_ser.specs.declared.kind.Kind.TheVariants.{List};
 use super::refused::NoTree;
 use crate::measurer::Measurer;
 use crate::writer::Writer;
-use amqp_data::{Error, TransparentVec, markers};
+use amqp_data::{Error, markers};
 use amqp_ser::{Mark, Serialize, Serializer};
 use amqp_size::SizeSerializer;
 use std::alloc::Global;
@@ -187,21 +187,6 @@ impl Feed for MapNameOnTuple {
     }
 }
 
-#[derive(Drop)]
-struct MisplacedValue(TransparentVec<bool>);
-
-impl Feed for MisplacedValue {
-    fn feed<S: Serializer>(&self, serializer: &mut S) -> Result<S::Ok, S::Error> {
-        let mut map = serializer.serialize_map(None)?;
-        map.serialize_key(&"a")?;
-        if map.serialize_value(&self.0).is_ok() {
-            map.serialize_key(&"taken")?;
-        }
-        map.serialize_value(&1u8)?;
-        map.end()
-    }
-}
-
 #[test]
 fn descriptors_come_first_and_once(rt: HostRuntime) {
     let a = rt.alloc();
@@ -241,11 +226,4 @@ fn map_composites_write_their_names(rt: HostRuntime) {
     let one = b"\x00\x53\x13\xc1\x09\x02\xa1\x01p\xc0\x03\x01\x50\x01".as_slice();
     assert!(rt; is(a, &map, one), "a struct inside");
     assert!(rt; is(a, &MapNameOnTuple, b"\xc0\x02\x01\x41"), "a list");
-}
-
-#[test]
-fn a_misplaced_vector_leaves_its_key_pending(rt: HostRuntime) {
-    let a = rt.alloc();
-    let none = TransparentVec::from(Vec::new(a));
-    assert!(rt; is(a, &MisplacedValue(none), b"\xc1\x06\x02\xa1\x01a\x50\x01"));
 }
