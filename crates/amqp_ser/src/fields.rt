@@ -13,6 +13,9 @@ use crate::serializer::Serializer;
 use amqp_data::SymbolRef;
 
 /// What the keys of a map are that is made of fields.
+///
+/// # Example
+/// Of the name `x`: `a10178` as a string, `a30178` as a symbol.
 #[derive(Clone, Copy)]
 pub enum Keys {
     /// The fields' names as strings.
@@ -26,11 +29,19 @@ pub enum Keys {
 /// # Implementer notes
 /// `named` is what the fields mean. A compound that was fed the fields has the parts that `named`
 /// tells, after those that it had; a refusal is permitted on every continuation.
+///
+/// # Example
+/// `fields! { "x": 1u8, "y": true }` is `c00402500141` as a list, and `c10a04a101785001a1017941` as
+/// a map from strings.
 pub trait Fields {
     /// The fields in order: the name, whether the field is there, and the tree.
     ghost named: { Self → List (List ℕ × (Bool × Option Tree)) };
 
     /// Whether one of the fields is there.
+    ///
+    /// # Example
+    /// An absent `y` alone: false, and the list is `45`. With `x`, the ubyte 1, after it: true, and
+    /// the list is `c00402405001`.
     fn any_there(&self) -> bool
         ensures { result ≡ any_there (values_of (named self.now)) };
 
@@ -127,6 +138,9 @@ impl Fields for () {
 }
 
 /// A field, and those after it.
+///
+/// # Example
+/// `fields! { "x": 1u8 }` is one: in a list it is `5001`, in a map from strings `a101785001`.
 #[derive(Drop)]
 pub struct Field<'a, V, R> {
     /// The field's name.
@@ -164,6 +178,10 @@ impl<V: Serialize, R: Fields> Fields for Field<'_, V, R> {
 }
 
 /// A field that may be absent, and those after it.
+///
+/// # Example
+/// In `fields! { "x"?: &x, "y": true }` an `x` that is `None` is `40` in a list and nothing in a
+/// map; `Some(1u8)` is `5001` and, in a map from strings, `a101785001`.
 #[derive(Drop)]
 pub struct OptionalField<'a, V, R> {
     /// The field's name.

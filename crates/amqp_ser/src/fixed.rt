@@ -7,6 +7,9 @@ ghost use Rattle.std.specs.Prelude.{◌≡◌};
 ///
 /// # Encoding
 /// AMQP 1.0 part 1, sections 1.6.1 to 1.6.16, of fixed width (section 1.2.1).
+///
+/// # Example
+/// `Fixed::Ubyte(1)` is `5001`, `Fixed::Uint(0)` is `43`, `Fixed::Float(0x3fc00000)` `723fc00000`.
 #[derive(Clone, Copy)]
 pub enum Fixed {
     /// No value.

@@ -1,6 +1,11 @@
 //! What a compound is made of.
 
 /// What an open compound makes of the parts that it is fed.
+///
+/// # Example
+/// Of the ubyte 1 and `true`: `c00402500141` as a list, `c10402500141` as a map and
+/// `c109025201c00402500141` as `Variant(1)`. Of `true`: `c10402520141` as `NewtypeVariant(1)`, and
+/// `41` as `Single`.
 #[derive(Clone, Copy)]
 pub enum Kind {
     /// A list of its elements.

@@ -39,6 +39,10 @@ pub use struct_form::StructForm;
 /// the field is left out where it is `None`: in a map always, and in a list where no later field is
 /// there. Wrapped in [`ListOf`], [`MapOf`], [`SymbolMapOf`] or [`VariantOf`] the fields serialize
 /// as the list of them, as the map from their names, or as a variant.
+///
+/// # Example
+/// `ListOf(fields! { "x": 1u8, "y"?: &None::<bool> })` is `c003015001`, and `MapOf` of the same
+/// `c10602a101785001`.
 #[macro_export]
 macro_rules! fields {
     () => { () };

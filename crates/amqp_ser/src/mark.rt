@@ -6,6 +6,10 @@ ghost use Rattle.amqp_ser.specs.Marked.{mark_of};
 use amqp_data::markers;
 
 /// What the name of a newtype makes of the tree inside it.
+///
+/// # Example
+/// The string `amqp` is `a304616d7170` under `Mark::Symbol`. The list of `true` and `false` is
+/// `e00402560100` under `Mark::Array`, and `4142` under `Mark::Transparent`.
 #[derive(Clone, Copy)]
 pub enum Mark {
     /// A string becomes a symbol.

@@ -11,6 +11,10 @@ use crate::serializer::Serializer;
 /// `tree` is the meaning, and `serialize` owes each serializer's answer on it. Where there is no
 /// tree every serializer refuses. Hand the value's parts to the compound that the serializer opens,
 /// each once and in order, and pass each refusal on; or delegate to the impl of a part.
+///
+/// # Example
+/// `(1u8, true)` means the list of a ubyte and a boolean, `c00402500141`; `Some(true)` means what
+/// `true` means, `41`.
 pub trait Serialize {
     /// The value's tree, if it has one.
     ghost tree: { Self → Option Tree };

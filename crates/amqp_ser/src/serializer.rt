@@ -45,6 +45,10 @@ use amqp_data::{F32Bits, F64Bits};
 /// none at opening and one more after each that was taken; a refused part leaves the compound as it
 /// was, and its refusal is permitted on every continuation; at the end what is answered is
 /// permitted on the tree that the kind makes of the parts.
+///
+/// # Example
+/// On the list of the strings `a` and `bc` the answer is the length 10, the bytes
+/// `c00802a10161a1026263`, or an untyped list of two strings.
 pub trait Serializer {
     ghost use Rattle.amqp_ser.specs.declared.kind.Kind.{Kind};
 
@@ -153,6 +157,10 @@ pub trait Serializer {
 
     /// Makes ready for the next part. The first of a single compound stands where the compound was
     /// opened: any call may come there.
+    ///
+    /// # Example
+    /// Before a list's next element, the string `a`: once `end_part` has taken it, `a10161` is
+    /// added.
     fn begin_part(&mut self, held: &mut Self::Open)
         ensures ready { (start : Self) (kind : Kind) (ps : List (Option Tree)) →
             has start kind self.old held.old ps → awaits start kind self.new held.new ps }
@@ -165,6 +173,9 @@ pub trait Serializer {
     ///
     /// # Errors
     /// The part's refusal, or the serializer's of the part after those before it.
+    ///
+    /// # Example
+    /// The answer on `true` adds `41`; a refusal adds nothing.
     fn end_part(
         &mut self,
         held: &mut Self::Open,
@@ -180,6 +191,9 @@ pub trait Serializer {
         ensures refused { IfErr part (λ _. IsErr result) };
 
     /// Takes the last part back: a key whose value was refused.
+    ///
+    /// # Example
+    /// After the key 1, a ubyte, `5001` is taken back: a map of nothing else is `c10100`.
     fn undo_part(&mut self, held: &mut Self::Open)
         ensures back { (start : Self) (ps : List (Option Tree)) (p : Option Tree) →
             has start Kind.Map self.old held.old (ps ++ (p ∷ [])) → paired ps ≡ true →
@@ -190,6 +204,9 @@ pub trait Serializer {
             permits start t (Err e) self.old → permits start t (Err e) self.new };
 
     /// The refusal of parts that make no tree; the compound is as it was.
+    ///
+    /// # Example
+    /// An empty map refuses a value without a key by it, as `InvalidValue`; ended then: `c10100`.
     fn misuse(&mut self, held: &mut Self::Open) -> Self::Error
         ensures kept { (start : Self) (kind : Kind) (ps : List (Option Tree)) →
             has start kind self.old held.old ps →
@@ -197,6 +214,9 @@ pub trait Serializer {
         ensures invalid { is_misuse result };
 
     /// Makes ready for a descriptor, before the one value of a single compound.
+    ///
+    /// # Example
+    /// Before the ulong 1 as the descriptor of `true`, in all `00530141`.
     fn begin_descriptor(&mut self, held: &mut Self::Open)
         ensures { (start : Self) → has start Kind.Single self.old held.old [] →
             awaits_descriptor start self.new held.new };
@@ -207,6 +227,10 @@ pub trait Serializer {
     /// # Errors
     /// The descriptor's refusal, or the serializer's of it: always where it is no ulong and no
     /// symbol.
+    ///
+    /// # Example
+    /// The ulong 1 puts `005301` before the value, the symbol `a:b` `00a303613a62`. The ubyte 1 is
+    /// refused.
     fn end_descriptor(
         &mut self,
         held: &mut Self::Open,
@@ -239,6 +263,9 @@ pub trait Serializer {
             complete kind ps ≡ true → permits start (whole kind ps) result self.new };
 
     /// Whether values take a form for people to read: never.
+    ///
+    /// # Example
+    /// A `Uuid` is `98` and its 16 bytes, never its text.
     #[inline(always)]
     final fn is_human_readable(&self) -> bool
         ensures { result ≡ false }

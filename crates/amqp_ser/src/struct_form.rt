@@ -7,6 +7,9 @@ use crate::names::is_basic_name;
 use amqp_data::markers;
 
 /// What the fields of a struct are together.
+///
+/// # Example
+/// The one field `x`, the ubyte 1, is the list `c003015001`, the map `c10602a101785001`, or `5001`.
 #[derive(Clone, Copy)]
 pub enum StructForm {
     /// A list of them.

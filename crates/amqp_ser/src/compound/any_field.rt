@@ -36,6 +36,10 @@ fn is_misplaced(form: StructForm, described: bool, opened: bool, descriptor: boo
 /// The serializer's refusal of the field, of a descriptor that is no ulong and no symbol, of a
 /// second or late descriptor, or of a second field where there is one alone. What is held is then
 /// as it was.
+///
+/// # Example
+/// `true` with the key `x` adds `41` to a list and `a1017841` to a map. As a first field, the ulong
+/// 1 with the key `DESCRIPTOR` puts `005301` before the fields.
 #[tactic(auto, unfolding(crate::specs::Structs::Stands))]
 #[inline(never)]
 pub fn feed_owned<S: Serializer, T: Serialize>(
@@ -122,6 +126,9 @@ pub fn feed_owned<S: Serializer, T: Serialize>(
 ///
 /// # Errors
 /// As `feed_owned`.
+///
+/// # Example
+/// `true` with the key `x` adds `41` to a list and `a1017841` to a map.
 #[inline(always)]
 pub fn feed_any<S: Serializer, T: Serialize>(
     serializer: &mut S,

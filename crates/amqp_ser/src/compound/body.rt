@@ -51,6 +51,9 @@ fn feed_field<S: Serializer, T: Serialize>(
 ///
 /// # Errors
 /// The serializer's refusal of the field; no body is open then.
+///
+/// # Example
+/// The ubyte 1 with the key `x` opens the list `c003015001`, or the map `c10602a101785001`.
 #[tactic(auto, unfolding(crate::specs::Structs::Stands))]
 #[inline(always)]
 pub fn open_body<S: Serializer, T: Serialize>(
@@ -109,6 +112,9 @@ fn end_empty<S: Serializer>(
 /// # Errors
 /// The serializer's refusal of the tree of the fields, or of no field where there is one alone,
 /// which is a misuse.
+///
+/// # Example
+/// Of no field: the list `45`, or the map `c10100`. Of the ubyte 1: the list `c003015001`.
 #[inline(always)]
 pub fn end_fields<S: Serializer>(
     serializer: &mut S,

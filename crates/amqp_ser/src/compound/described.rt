@@ -14,6 +14,9 @@ use crate::serializer::Serializer;
 ///
 /// # Errors
 /// The serializer's refusal of the descriptor: always where it is no ulong and no symbol.
+///
+/// # Example
+/// The ulong 1 puts `005301` before the value, the symbol `a:b` `00a303613a62`.
 #[tactic(auto, unfolding(crate::specs::Structs::Stands))]
 #[inline(always)]
 pub fn feed_descriptor<S: Serializer, T: Serialize>(
@@ -40,6 +43,9 @@ pub fn feed_descriptor<S: Serializer, T: Serialize>(
 ///
 /// # Errors
 /// The serializer's refusal of the value.
+///
+/// # Example
+/// `true` is `41`, and after the descriptor 1 `00530141`.
 #[inline(always)]
 pub fn feed_single<S: Serializer, T: Serialize>(
     serializer: &mut S,
@@ -59,6 +65,9 @@ pub fn feed_single<S: Serializer, T: Serialize>(
 ///
 /// # Errors
 /// The serializer's refusal of the value: always where it has no tree.
+///
+/// # Example
+/// Of `true`: `41`; after the descriptor 1 `00530141`.
 #[inline(always)]
 pub fn end_single<S: Serializer>(serializer: &mut S, held: S::Open) -> Result<S::Ok, S::Error>
     ensures { (start : S) (p : Option Tree) → S.has start Kind.Single serializer.old held (p ∷ []) →

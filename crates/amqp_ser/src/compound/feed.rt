@@ -13,6 +13,9 @@ use crate::serializer::Serializer;
 ///
 /// # Errors
 /// The serializer's refusal of the part.
+///
+/// # Example
+/// `true` adds `41` to a list, and to a map as a key or a value.
 #[inline(always)]
 pub fn feed_part<S: Serializer, T: Serialize>(
     serializer: &mut S,
@@ -32,6 +35,9 @@ pub fn feed_part<S: Serializer, T: Serialize>(
 ///
 /// # Errors
 /// The serializer's refusal of the key or of the value.
+///
+/// # Example
+/// The ubyte 1 and `true` add `500141`.
 #[inline(always)]
 pub fn feed_entry<S: Serializer, K: Serialize, V: Serialize>(
     serializer: &mut S,

@@ -63,6 +63,9 @@ fn close_first<S: Serializer>(
 ///
 /// # Errors
 /// The serializer's refusal of the field.
+///
+/// # Example
+/// A first field `true` opens the list `c0020141`; a second one makes it `c003024141`.
 #[tactic(auto, unfolding(crate::specs::Structs::Stands))]
 #[inline(always)]
 pub fn feed_list_field<S: Serializer, T: Serialize>(

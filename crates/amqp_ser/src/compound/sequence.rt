@@ -98,4 +98,7 @@ impl<'a, S: Serializer> SerializeSeq<'a, S> {
 }
 
 /// A tuple whose elements are still fed: a list.
+///
+/// # Example
+/// Of the ubyte 1 and `true`: `c00402500141`.
 pub type SerializeTuple<'a, S> = SerializeSeq<'a, S>;

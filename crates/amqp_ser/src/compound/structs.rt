@@ -25,6 +25,10 @@ use crate::struct_form::StructForm;
 /// # Encoding
 /// `00`, the descriptor and the body (AMQP 1.0 part 1, section 1.2), or the body alone (sections
 /// 1.6.22 and 1.6.23).
+///
+/// # Example
+/// Of the descriptor 1 and the field `x`, `true`: `005301c0020141`; under the name `DESCRIBED_MAP`
+/// `005301c10502a1017841`.
 pub struct SerializeStruct<'a, S: Serializer> {
     serializer: &'a mut S,
     held: S::Open,

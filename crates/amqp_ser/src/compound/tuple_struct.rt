@@ -23,6 +23,10 @@ use crate::struct_form::StructForm;
 /// # Encoding
 /// `00`, the descriptor and the body (AMQP 1.0 part 1, section 1.2), or a list alone (section
 /// 1.6.22).
+///
+/// # Example
+/// Of the ubyte 1 and `true`: `c00402500141`; under the name `DESCRIBED_BASIC`, of the ulong 1 and
+/// `true`: `00530141`.
 pub struct SerializeTupleStruct<'a, S: Serializer> {
     serializer: &'a mut S,
     held: S::Open,

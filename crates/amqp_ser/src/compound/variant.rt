@@ -17,6 +17,9 @@ use crate::serializer::Serializer;
 /// # Encoding
 /// The map of one pair, from the index as a uint to the list of the fields (AMQP 1.0 part 1,
 /// section 1.6.23).
+///
+/// # Example
+/// Of the index 1, `true` and the ubyte 1: `c109025201c00402415001`.
 pub struct SerializeTupleVariant<'a, S: Serializer> {
     serializer: &'a mut S,
     held: S::Open,
@@ -63,6 +66,9 @@ impl<'a, S: Serializer> SerializeTupleVariant<'a, S> {
     ///
     /// # Errors
     /// The serializer's refusal of the field; the variant is then as it was and may be fed on.
+    ///
+    /// # Example
+    /// The ubyte 1 adds `5001` to the list of the fields.
     #[inline(always)]
     pub fn serialize_field<T: Serialize>(&mut self, value: &T) -> Result<(), S::Error>
         ensures same { (variant_reference self.new).ghost_name
@@ -76,6 +82,10 @@ impl<'a, S: Serializer> SerializeTupleVariant<'a, S> {
     ///
     /// # Errors
     /// The serializer's refusal of that tree.
+    ///
+    /// # Example
+    /// Of the index 1 and no fields: `c10402520145`. Of the index 1, `true` and the ubyte 1:
+    /// `c109025201c00402415001`.
     #[inline(always)]
     pub fn end(self) -> Result<S::Ok, S::Error>
         ensures { (start : S) (i : ℕ) (ps : List (Option Tree)) →
