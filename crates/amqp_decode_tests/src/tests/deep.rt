@@ -87,3 +87,48 @@ fn nulls_are_read_by_their_count(rt: HostRuntime) -> Result<(), Fail> {
     assert_eq!(rt; nulls.as_inner().len(), 10_000);
     Ok(())
 }
+
+#[test]
+fn a_mebibyte_of_arrays_in_an_array_is_read(rt: HostRuntime) -> Result<(), Fail> {
+    let alloc = rt.alloc();
+    let mut bytes = vec![in alloc; 0xf0, 0, 0x0f, 0xfd, 0xc5, 0, 3, 0xff, 0x70, 0xe0]?;
+    for _ in 0..262_000u32 {
+        bytes.extend_from_slice(&[3, 1, 0x50, 7])?;
+    }
+    let Value::Array(arrays) = decode_value(alloc, &bytes)? else {
+        return Err(Fail::from("no array"));
+    };
+    assert_eq!(rt; arrays.as_inner().len(), 262_000);
+    let _ = bytes.pop();
+    assert_eq!(rt; decode_value(alloc, &bytes), Err(Error::UnexpectedEof));
+    Ok(())
+}
+
+// A binary of so many bytes inside so many arrays of one element.
+fn nested_arrays(alloc: Global, depth: u32, len: u32) -> Result<Vec<u8>, AllocError> {
+    let mut bytes = Vec::new(alloc);
+    bytes.push(0xf0)?;
+    for outer in 1..depth {
+        let inside = depth.wrapping_sub(outer).wrapping_mul(9);
+        let size = len.wrapping_add(9).wrapping_add(inside);
+        bytes.extend_from_slice(&size.to_be_bytes())?;
+        bytes.extend_from_slice(&[0, 0, 0, 1, 0xf0])?;
+    }
+    bytes.extend_from_slice(&len.wrapping_add(9).to_be_bytes())?;
+    bytes.extend_from_slice(&[0, 0, 0, 1, 0xb0])?;
+    bytes.extend_from_slice(&len.to_be_bytes())?;
+    bytes.extend_from_slice(&Vec::from_elem(alloc, 1, len as usize)?)?;
+    Ok(bytes)
+}
+
+#[test]
+fn a_mebibyte_within_arrays_is_read(rt: HostRuntime) -> Result<(), Fail> {
+    let alloc = rt.alloc();
+    let value = decode_value(alloc, &nested_arrays(alloc, 255, 1_048_576)?)?;
+    assert_eq!(rt; value.format_code(), 0xf0);
+    assert_eq!(rt;
+        decode_value(alloc, &nested_arrays(alloc, 256, 1_048_576)?),
+        Err(Error::InvalidValue)
+    );
+    Ok(())
+}
