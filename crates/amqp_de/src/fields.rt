@@ -1,9 +1,10 @@
 //! The fields of a struct, read together.
 
-ghost use Rattle.std.specs.Prelude.{◌≡◌, List, [], ◌∷◌};
+ghost use Rattle.std.specs.Prelude.{◌≡◌, ℕ, List, [], ◌∷◌, Bool, true, MatchResult};
 ghost use Rattle.amqp_ser.specs.Tree.{Tree};
 ghost use Rattle.amqp_de.specs.Answers.{Answers, RestoresAll};
 ghost use Rattle.amqp_de.specs.Fields.{FieldSource, by_position, by_name, must, may, end};
+ghost use Rattle.amqp_de.specs.Present.{required, optional, values_of, up_to_last, those_there, distinct_names};
 ghost use Rattle.amqp_de.specs.Reads.{Always, image_option, RestorableOption, SameOption};
 
 use crate::de::{Deserialize, Deserializer, Refusal};
@@ -23,6 +24,9 @@ pub trait Fields: Sized + Drop {
 
     /// The images of the fields, in order.
     ghost images: { Self.Values → List Tree };
+
+    /// The names of the fields, whether each is there, and its image, in order.
+    ghost fields: { Self → Self.Values → List (List ℕ × (Bool × Tree)) };
 
     /// Whether each field comes back from its image.
     ghost restorable: { Self.Values → Type 0 };
@@ -45,7 +49,10 @@ pub trait Fields: Sized + Drop {
         ensures read { Answers D.Error.is_memory
             (λ x. reads self.now x (by_position (D.items elements.old))) result }
         ensures law { RestoresAll images restorable same
-            D.Error.is_memory (D.items elements.old) result };
+            D.Error.is_memory (D.items elements.old) result }
+        ensures short { (x : Self.Values) → restorable x →
+            D.items elements.old ≡ up_to_last (values_of (fields self.now x)) →
+            MatchResult result (λ y. same y x) D.Error.is_memory };
 
     /// Reads the fields from the entries of a map, by their names. Entries left over are ignored.
     ///
@@ -59,8 +66,12 @@ pub trait Fields: Sized + Drop {
         alloc: Global,
         entries: &mut D::Entries,
     ) -> Result<Self::Values, D::Error>
-        ensures { Answers D.Error.is_memory
-            (λ x. reads self.now x (by_name (D.pairs entries.old))) result };
+        ensures read { Answers D.Error.is_memory
+            (λ x. reads self.now x (by_name (D.pairs entries.old))) result }
+        ensures law { (x : Self.Values) → restorable x →
+            distinct_names (fields self.now x) ≡ true →
+            D.pairs entries.old ≡ those_there (fields self.now x) →
+            MatchResult result (λ y. same y x) D.Error.is_memory };
 }
 
 #[tactic(auto, unfolding(crate::specs::Fields::end))]
@@ -70,6 +81,8 @@ impl Fields for () {
     ghost reads = { λ _ _. end };
 
     ghost images = { λ _. [] };
+
+    ghost fields = { λ _ _. [] };
 
     ghost restorable = { Always };
 
@@ -110,6 +123,8 @@ impl<V: Deserialize, R: Fields> Fields for Must<V, R> {
     ghost reads = { λ f x. must f.name.now V.reads x.0 (R.reads f.rest x.1) };
 
     ghost images = { λ x. V.image x.0 ∷ R.images x.1 };
+
+    ghost fields = { λ f x. (f.name.now, required (V.image x.0)) ∷ R.fields f.rest x.1 };
 
     ghost restorable = { λ x. V.restorable x.0 × R.restorable x.1 };
 
@@ -164,6 +179,8 @@ impl<V: Deserialize, R: Fields> Fields for May<V, R> {
     ghost reads = { λ f x. may f.name.now V.reads x.0 (R.reads f.rest x.1) };
 
     ghost images = { λ x. image_option V.image x.0 ∷ R.images x.1 };
+
+    ghost fields = { λ f x. (f.name.now, optional V.image x.0) ∷ R.fields f.rest x.1 };
 
     ghost restorable = { λ x. RestorableOption V.image V.restorable x.0 × R.restorable x.1 };
 

@@ -1,9 +1,10 @@
 //! What is read of one value: a type, a list of fields, fields by name.
 
-ghost use Rattle.std.specs.Prelude.{◌≡◌};
+ghost use Rattle.std.specs.Prelude.{◌≡◌, true};
 ghost use Rattle.amqp_ser.specs.Tree.{Tree, list, trees_of};
 ghost use Rattle.amqp_de.specs.Answers.{Answers, Restores};
 ghost use Rattle.amqp_de.specs.Fields.{OnFields, OnNamed};
+ghost use Rattle.amqp_de.specs.Present.{values_of, short_list, short_map, distinct_names};
 
 use crate::de::{Content, Deserialize, Deserializer, Refusal};
 use crate::fields::Fields;
@@ -27,6 +28,15 @@ pub trait Seed: Sized + Drop {
     /// Whether two have the same contents.
     ghost same: { Self.Value → Self.Value → Type 0 };
 
+    /// The same without the absent fields at its end, where it is a list of fields.
+    ghost short: { Self → Self.Value → Tree } = { λ _. image };
+
+    /// The map of its fields that are there, by their names, where it is read from one.
+    ghost by_name: { Self → Self.Value → Tree } = { λ _. image };
+
+    /// Whether it is read from such a map: no two fields have the same name.
+    ghost is_named: { Self → Self.Value → Type 0 } = { λ _ _. ⊥ };
+
     /// Reads it.
     ///
     /// # Errors
@@ -37,6 +47,10 @@ pub trait Seed: Sized + Drop {
     fn read<D: Deserializer>(self, alloc: Global, deserializer: D) -> Result<Self::Value, D::Error>
         ensures read { Answers D.Error.is_memory (λ x. reads self (D.value deserializer) x) result }
         ensures law { Restores image restorable same
+            D.Error.is_memory (D.value deserializer) result }
+        ensures short { Restores (short self) restorable same
+            D.Error.is_memory (D.value deserializer) result }
+        ensures named { Restores (by_name self) (λ x. restorable x × is_named self x) same
             D.Error.is_memory (D.value deserializer) result };
 }
 
@@ -76,6 +90,8 @@ impl<F: Fields> Seed for ListOf<F> {
 
     ghost same = { F.same };
 
+    ghost short = { λ s x. short_list (values_of (F.fields s.0 x)) };
+
     fn read<D: Deserializer>(self, alloc: Global, deserializer: D) -> Result<F::Values, D::Error> {
         match deserializer.open() {
             Content::List(mut elements) => {
@@ -104,6 +120,12 @@ impl<F: Fields> Seed for NamedOf<F> {
     ghost restorable = { F.restorable };
 
     ghost same = { F.same };
+
+    ghost short = { λ s x. short_list (values_of (F.fields s.0 x)) };
+
+    ghost by_name = { λ s x. short_map (F.fields s.0 x) };
+
+    ghost is_named = { λ s x. distinct_names (F.fields s.0 x) ≡ true };
 
     fn read<D: Deserializer>(self, alloc: Global, deserializer: D) -> Result<F::Values, D::Error> {
         match deserializer.open() {
