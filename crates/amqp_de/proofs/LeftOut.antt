@@ -1,107 +1,119 @@
--- What fields stand as where the absent ones are left out.
-use Rattle.std.proofs.Common.{◌≡◌, ℕ, Bool, true, false, true≢false, List, [], ◌∷◌, Option, Some, None, is_some, refl, sym, ap, ◌∙◌}
+-- What fields stand as where absent ones are left out.
+use Rattle.std.proofs.Common.{◌≡◌, ℕ, Bool, true, false, true≢false, List, [], ◌∷◌, Option, Some, None, is_some, refl, sym, ap, subst, ◌∙◌}
 use Rattle.std.proofs.lemmas.Cmp.{nat_list_eq_equiv}
 use Rattle.std.specs.Prelude.{◌||◌, ◌&&◌, not, if◌then◌else◌, bytes_eq}
-use Rattle.amqp_ser.specs.Tree.{Tree, scalar, string}
+use Rattle.amqp_ser.specs.Tree.{Tree, scalar, string, list, map, trees_of}
+use Rattle.amqp_value.specs.TreeOf.{pairs_of}
+use Rattle.amqp_de.proofs.Lists.{same_trees, same_pairs}
 use Rattle.amqp_de.specs.Fields.{value_at, without}
-use Rattle.amqp_de.specs.Present.{optional, any_there, up_to_last, those_there, has_name, distinct_names}
-use Rattle.amqp_de.specs.Reads.{image_option}
+use Rattle.amqp_de.specs.Present.{optional, any_there, all_images, up_to_last, those_there, has_name, distinct_names, IsCut}
+use Rattle.amqp_de.specs.Reads.{image_option, SameOption}
 
-none_left : (fs : List (Bool × Tree)) → any_there fs ≡ false → up_to_last fs ≡ []
-none_left [] e = refl
-none_left (f ∷ fs) e = rw e refl
+-- the list in full is cut nowhere
+all_there : (fs : List (Bool × Tree)) → IsCut fs (all_images fs)
+all_there [] = refl
+all_there (f ∷ fs) = (refl, all_there fs)
 
-module _ {T : Type 0} (image : T → Tree) where
-  -- a list that ends before an optional field: it is absent, and so are those after it
-  ends_by : (o : Option T) (fs : List (Bool × Tree)) (b : Bool) → any_there fs ≡ b →
-      [] ≡ (if is_some o || b then image_option image o ∷ up_to_last fs else []) → (o ≡ None) × ([] ≡ up_to_last fs)
-  ends_by None fs false a e = (refl, sym (none_left fs a))
-  ends_by None fs true a e = absurd cc
-  ends_by (Some x) fs b a e = absurd cc
+cut_by : (b : Bool) (f : Bool × Tree) (fs : List (Bool × Tree)) → (f.0 || any_there fs) ≡ b → IsCut fs (up_to_last fs) →
+    IsCut (f ∷ fs) (if b then f.1 ∷ up_to_last fs else [])
+cut_by true f fs e k = (refl, k)
+cut_by false f fs e k = e
 
-  pub ends : (o : Option T) (fs : List (Bool × Tree)) → [] ≡ up_to_last (optional image o ∷ fs) → (o ≡ None) × ([] ≡ up_to_last fs)
-  ends o fs e = ends_by o fs (any_there fs) refl e
+some_there : (fs : List (Bool × Tree)) → IsCut fs (up_to_last fs)
+some_there [] = refl
+some_there (f ∷ fs) = cut_by (f.0 || any_there fs) f fs refl (some_there fs)
 
-  -- a list that goes on has the optional field, and those after it
-  goes_on_by : (o : Option T) (fs : List (Bool × Tree)) (b : Bool) (t : Tree) (ts : List Tree) →
-      t ∷ ts ≡ (if is_some o || b then image_option image o ∷ up_to_last fs else []) → (t ≡ image_option image o) × (ts ≡ up_to_last fs)
-  goes_on_by None fs false t ts e = absurd cc
-  goes_on_by None fs true t ts e = (cc, cc)
-  goes_on_by (Some x) fs b t ts e = (cc, cc)
+-- the elements of a list that stands for the fields in full, and of one without the absent fields at its end
+pub full : (fs : List (Bool × Tree)) (ts : List Tree) (t : Tree) → list (trees_of ts) ≡ t → t ≡ list (trees_of (all_images fs)) → IsCut fs ts
+full fs ts t e f = let same : trees_of ts ≡ trees_of (all_images fs) = cc in
+    subst (λ (us : List Tree). IsCut fs us) (sym (same_trees ts (all_images fs) same)) (all_there fs)
 
-  pub goes_on : (o : Option T) (fs : List (Bool × Tree)) (t : Tree) (ts : List Tree) → t ∷ ts ≡ up_to_last (optional image o ∷ fs) →
-      (t ≡ image_option image o) × (ts ≡ up_to_last fs)
-  goes_on o fs t ts e = goes_on_by o fs (any_there fs) t ts e
+pub cut : (fs : List (Bool × Tree)) (ts : List Tree) (t : Tree) → list (trees_of ts) ≡ t → t ≡ list (trees_of (up_to_last fs)) → IsCut fs ts
+cut fs ts t e f = let same : trees_of ts ≡ trees_of (up_to_last fs) = cc in
+    subst (λ (us : List Tree). IsCut fs us) (sym (same_trees ts (up_to_last fs) same)) (some_there fs)
 
+-- the entries of a map that stands for the fields that are there
+pub entries : (ns : List (List ℕ)) (fs : List (Bool × Tree)) (es : List (Tree × Tree)) (t : Tree) → map (pairs_of es) ≡ t →
+    t ≡ map (pairs_of (those_there ns fs)) → es ≡ those_there ns fs
+entries ns fs es t e f = let same : pairs_of es ≡ pairs_of (those_there ns fs) = cc in same_pairs es (those_there ns fs) same
+
+-- of the first entry its name has the value, and the rest is left
 itself : (n : List ℕ) → bytes_eq n n ≡ true
 itself n = nat_list_eq_equiv.refl n
 
--- of the first entry its name has the value, and the rest is left
-pub first_value : (n : List ℕ) (t : Tree) (es : List (Tree × Tree)) → value_at n ((scalar (string n), t) ∷ es) ≡ Some t
-first_value n t es = rw (itself n) refl
+first_value : (n : List ℕ) (t : Tree) (es : List (Tree × Tree)) → value_at n ((scalar (string n), t) ∷ es) ≡ Some t
+first_value n t es = ap (λ (b : Bool). if b then Some t else value_at n es) (itself n)
 
-pub first_without : (n : List ℕ) (t : Tree) (es : List (Tree × Tree)) → without n ((scalar (string n), t) ∷ es) ≡ es
-first_without n t es = rw (itself n) refl
+first_without : (n : List ℕ) (t : Tree) (es : List (Tree × Tree)) → without n ((scalar (string n), t) ∷ es) ≡ es
+first_without n t es = ap (λ (b : Bool). if b then es else (scalar (string n), t) ∷ without n es) (itself n)
 
--- a name that no field has is not there
 or_false : (a b : Bool) → (a || b) ≡ false → (a ≡ false) × (b ≡ false)
 or_false false b e = (refl, e)
 or_false true b e = absurd (true≢false e)
 
-not_true : (a : Bool) → not a ≡ true → a ≡ false
-not_true false e = refl
-not_true true e = absurd (true≢false (sym e))
+not_and : (a b : Bool) → (not a && b) ≡ true → (a ≡ false) × (b ≡ true)
+not_and false b e = (refl, e)
+not_and true b e = absurd (true≢false (sym e))
 
-pub and_true : (a b : Bool) → (not a && b) ≡ true → (a ≡ false) × (b ≡ true)
-and_true false b e = (refl, e)
-and_true true b e = absurd (true≢false (sym e))
+pub others_distinct : (n : List ℕ) (ns : List (List ℕ)) → distinct_names (n ∷ ns) ≡ true → distinct_names ns ≡ true
+others_distinct n ns e = (not_and (has_name n ns) (distinct_names ns) e).1
 
 module _ (n : List ℕ) where
+  -- a name that no field has is not there
   no_value_by : (m : List ℕ) (b : Bool) (t : Tree) (es : List (Tree × Tree)) → bytes_eq m n ≡ false → value_at n es ≡ None →
       value_at n (if b then (scalar (string m), t) ∷ es else es) ≡ None
-  no_value_by m true t es d e = rw d e
+  no_value_by m true t es d e = ap (λ (b : Bool). if b then Some t else value_at n es) d ∙ e
   no_value_by m false t es d e = e
 
-  pub no_value : (fs : List (List ℕ × (Bool × Tree))) → has_name n fs ≡ false → value_at n (those_there fs) ≡ None
-  no_value [] e = refl
-  no_value (f ∷ fs) e = let both = or_false (bytes_eq f.0 n) (has_name n fs) e in
-      no_value_by f.0 f.1.0 f.1.1 (those_there fs) both.0 (no_value fs both.1)
+  no_value : (ns : List (List ℕ)) (fs : List (Bool × Tree)) → has_name n ns ≡ false → value_at n (those_there ns fs) ≡ None
+  no_value [] fs e = refl
+  no_value (m ∷ ns) [] e = refl
+  no_value (m ∷ ns) (f ∷ fs) e = let both = or_false (bytes_eq m n) (has_name n ns) e in
+      no_value_by m f.0 f.1 (those_there ns fs) both.0 (no_value ns fs both.1)
 
   all_left_by : (m : List ℕ) (b : Bool) (t : Tree) (es : List (Tree × Tree)) → bytes_eq m n ≡ false → without n es ≡ es →
       without n (if b then (scalar (string m), t) ∷ es else es) ≡ (if b then (scalar (string m), t) ∷ es else es)
-  all_left_by m true t es d e = rw d (ap (λ r. (scalar (string m), t) ∷ r) e)
+  all_left_by m true t es d e =
+      ap (λ (b : Bool). if b then es else (scalar (string m), t) ∷ without n es) d ∙ ap (λ (r : List (Tree × Tree)). (scalar (string m), t) ∷ r) e
   all_left_by m false t es d e = e
 
-  pub all_left : (fs : List (List ℕ × (Bool × Tree))) → has_name n fs ≡ false → without n (those_there fs) ≡ those_there fs
-  all_left [] e = refl
-  all_left (f ∷ fs) e = let both = or_false (bytes_eq f.0 n) (has_name n fs) e in
-      all_left_by f.0 f.1.0 f.1.1 (those_there fs) both.0 (all_left fs both.1)
+  all_left : (ns : List (List ℕ)) (fs : List (Bool × Tree)) → has_name n ns ≡ false → without n (those_there ns fs) ≡ those_there ns fs
+  all_left [] fs e = refl
+  all_left (m ∷ ns) [] e = refl
+  all_left (m ∷ ns) (f ∷ fs) e = let both = or_false (bytes_eq m n) (has_name n ns) e in
+      all_left_by m f.0 f.1 (those_there ns fs) both.0 (all_left ns fs both.1)
 
   module _ {T : Type 0} (image : T → Tree) where
-    -- where the name of an optional field is not there, it is absent, and those after it are left
-    pub absent : (o : Option T) (fs : List (List ℕ × (Bool × Tree))) (es : List (Tree × Tree)) → has_name n fs ≡ false →
-        es ≡ those_there ((n, optional image o) ∷ fs) → value_at n es ≡ None → (o ≡ None) × (without n es ≡ those_there fs)
-    absent None fs es d e v = (refl, ap (without n) e ∙ all_left fs d)
-    absent (Some x) fs es d e v =
-        let same : Some (image x) ≡ None = sym (first_value n (image x) (those_there fs)) ∙ ap (value_at n) (sym e) ∙ v in absurd cc
+    value_by : (o : Option T) (ns : List (List ℕ)) (fs : List (Bool × Tree)) (es : List (Tree × Tree)) (t : Tree) → has_name n ns ≡ false →
+        es ≡ those_there (n ∷ ns) (optional image o ∷ fs) → value_at n es ≡ Some t → t ≡ image_option image o
+    value_by None ns fs es t d e v =
+        let same : None ≡ Some t = sym (no_value ns fs d) ∙ ap (value_at n) (sym e) ∙ v in absurd cc
+    value_by (Some x) ns fs es t d e v =
+        let same : Some t ≡ Some (image x) = sym v ∙ ap (value_at n) e ∙ first_value n (image x) (those_there ns fs) in cc
 
-    -- where it is there, its value is the field's image
-    pub present : (o : Option T) (fs : List (List ℕ × (Bool × Tree))) (es : List (Tree × Tree)) (t : Tree) → has_name n fs ≡ false →
-        es ≡ those_there ((n, optional image o) ∷ fs) → value_at n es ≡ Some t → (t ≡ image_option image o) × (without n es ≡ those_there fs)
-    present None fs es t d e v =
-        let same : None ≡ Some t = sym (no_value fs d) ∙ ap (value_at n) (sym e) ∙ v in absurd cc
-    present (Some x) fs es t d e v =
-        let same : Some t ≡ Some (image x) = sym v ∙ ap (value_at n) e ∙ first_value n (image x) (those_there fs) in
-        (cc, ap (without n) e ∙ first_without n (image x) (those_there fs))
+  rest_by : (b : Bool) (t : Tree) (ns : List (List ℕ)) (fs : List (Bool × Tree)) → has_name n ns ≡ false →
+      without n (if b then (scalar (string n), t) ∷ those_there ns fs else those_there ns fs) ≡ those_there ns fs
+  rest_by true t ns fs d = first_without n t (those_there ns fs)
+  rest_by false t ns fs d = all_left ns fs d
 
-  -- of a field that is always there
-  pub found : (t : Tree) (fs : List (List ℕ × (Bool × Tree))) (es : List (Tree × Tree)) (u : Tree) →
-      es ≡ those_there ((n, (true, t)) ∷ fs) → value_at n es ≡ Some u → (u ≡ t) × (without n es ≡ those_there fs)
-  found t fs es u e v =
-      let same : Some u ≡ Some t = sym v ∙ ap (value_at n) e ∙ first_value n t (those_there fs) in
-      (cc, ap (without n) e ∙ first_without n t (those_there fs))
+none_by : {T : Type 0} (S : T → T → Type 0) (o : Option T) (n : List ℕ) (t : Tree) (rs es : List (Tree × Tree)) →
+    es ≡ (if is_some o then (scalar (string n), t) ∷ rs else rs) → value_at n es ≡ None → SameOption S None o
+none_by S None n t rs es e v = tt
+none_by S (Some x) n t rs es e v = let same : Some t ≡ None = sym (first_value n t rs) ∙ ap (value_at n) (sym e) ∙ v in absurd cc
 
-  pub never_missing : (t : Tree) (fs : List (List ℕ × (Bool × Tree))) (es : List (Tree × Tree)) →
-      es ≡ those_there ((n, (true, t)) ∷ fs) → ¬ (value_at n es ≡ None)
-  never_missing t fs es e v =
-      let same : Some t ≡ None = sym (first_value n t (those_there fs)) ∙ ap (value_at n) (sym e) ∙ v in cc
+-- where the name of a field that may be absent is there, its value is the field's image
+pub present_value : {T : Type 0} (n : List ℕ) (image : T → Tree) (o : Option T) (ns : List (List ℕ)) (fs : List (Bool × Tree))
+    (es : List (Tree × Tree)) (t : Tree) → distinct_names (n ∷ ns) ≡ true → es ≡ those_there (n ∷ ns) (optional image o ∷ fs) →
+    value_at n es ≡ Some t → t ≡ image_option image o
+present_value n image o ns fs es t d e v = value_by n image o ns fs es t (not_and (has_name n ns) (distinct_names ns) d).0 e v
+
+-- where it is not there, the field is absent
+pub absent_same : {T : Type 0} (S : T → T → Type 0) (o : Option T) (n : List ℕ) (t : Tree) (rs es : List (Tree × Tree)) →
+    es ≡ (if is_some o then (scalar (string n), t) ∷ rs else rs) → value_at n es ≡ None → SameOption S None o
+absent_same S o n t rs es e v = none_by S o n t rs es e v
+
+-- what is left without it are the fields after it
+pub rest_there : (n : List ℕ) (b : Bool) (t : Tree) (ns : List (List ℕ)) (fs : List (Bool × Tree)) (es rest : List (Tree × Tree)) →
+    distinct_names (n ∷ ns) ≡ true → es ≡ (if b then (scalar (string n), t) ∷ those_there ns fs else those_there ns fs) →
+    rest ≡ without n es → rest ≡ those_there ns fs
+rest_there n b t ns fs es rest d e r = r ∙ ap (without n) e ∙ rest_by n b t ns fs (not_and (has_name n ns) (distinct_names ns) d).0

@@ -2,10 +2,10 @@
 
 ghost use Rattle.std.specs.Prelude.{◌≡◌, ℕ, List, [], ◌∷◌, Bool, true, MatchResult};
 ghost use Rattle.amqp_ser.specs.Tree.{Tree};
-ghost use Rattle.amqp_de.specs.Answers.{Answers, RestoresAll};
+ghost use Rattle.amqp_de.specs.Answers.{Answers};
 ghost use Rattle.amqp_de.specs.Fields.{FieldSource, by_position, by_name, must, may, end};
-ghost use Rattle.amqp_de.specs.Present.{required, optional, values_of, up_to_last, those_there, distinct_names};
-ghost use Rattle.amqp_de.specs.Reads.{Always, image_option, RestorableOption, SameOption};
+ghost use Rattle.amqp_de.specs.Present.{IsCut, required, optional, those_there, distinct_names};
+ghost use Rattle.amqp_de.specs.Reads.{Always, RestorableOption, SameOption};
 
 use crate::de::{Deserialize, Deserializer, Refusal};
 use std::alloc::Global;
@@ -22,11 +22,11 @@ pub trait Fields: Sized + Drop {
     /// Which elements or entries are read as which values.
     ghost reads: { Self → Self.Values → FieldSource → Type 0 };
 
-    /// The images of the fields, in order.
-    ghost images: { Self.Values → List Tree };
+    /// The names of the fields, in order.
+    ghost names: { Self → List (List ℕ) };
 
-    /// The names of the fields, whether each is there, and its image, in order.
-    ghost fields: { Self → Self.Values → List (List ℕ × (Bool × Tree)) };
+    /// Whether each field is there, and its image, in order.
+    ghost images: { Self.Values → List (Bool × Tree) };
 
     /// Whether each field comes back from its image.
     ghost restorable: { Self.Values → Type 0 };
@@ -48,10 +48,7 @@ pub trait Fields: Sized + Drop {
     ) -> Result<Self::Values, D::Error>
         ensures read { Answers D.Error.is_memory
             (λ x. reads self.now x (by_position (D.items elements.old))) result }
-        ensures law { RestoresAll images restorable same
-            D.Error.is_memory (D.items elements.old) result }
-        ensures short { (x : Self.Values) → restorable x →
-            D.items elements.old ≡ up_to_last (values_of (fields self.now x)) →
+        ensures law { (x : Self.Values) → restorable x → IsCut (images x) (D.items elements.old) →
             MatchResult result (λ y. same y x) D.Error.is_memory };
 
     /// Reads the fields from the entries of a map, by their names. Entries left over are ignored.
@@ -69,8 +66,8 @@ pub trait Fields: Sized + Drop {
         ensures read { Answers D.Error.is_memory
             (λ x. reads self.now x (by_name (D.pairs entries.old))) result }
         ensures law { (x : Self.Values) → restorable x →
-            distinct_names (fields self.now x) ≡ true →
-            D.pairs entries.old ≡ those_there (fields self.now x) →
+            distinct_names (names self.now) ≡ true →
+            D.pairs entries.old ≡ those_there (names self.now) (images x) →
             MatchResult result (λ y. same y x) D.Error.is_memory };
 }
 
@@ -80,9 +77,9 @@ impl Fields for () {
 
     ghost reads = { λ _ _. end };
 
-    ghost images = { λ _. [] };
+    ghost names = { λ _. [] };
 
-    ghost fields = { λ _ _. [] };
+    ghost images = { λ _. [] };
 
     ghost restorable = { Always };
 
@@ -122,9 +119,9 @@ impl<V: Deserialize, R: Fields> Fields for Must<V, R> {
 
     ghost reads = { λ f x. must f.name.now V.reads x.0 (R.reads f.rest x.1) };
 
-    ghost images = { λ x. V.image x.0 ∷ R.images x.1 };
+    ghost names = { λ f. f.name.now ∷ R.names f.rest };
 
-    ghost fields = { λ f x. (f.name.now, required (V.image x.0)) ∷ R.fields f.rest x.1 };
+    ghost images = { λ x. required (V.image x.0) ∷ R.images x.1 };
 
     ghost restorable = { λ x. V.restorable x.0 × R.restorable x.1 };
 
@@ -172,15 +169,15 @@ pub struct May<V, R> {
     pub rest: R,
 }
 
-#[tactic(auto, unfolding(crate::specs::Fields::may))]
+#[tactic(auto, using(crate::proofs::LeftOut::present_value, crate::proofs::LeftOut::absent_same, crate::proofs::LeftOut::rest_there, crate::proofs::LeftOut::others_distinct), unfolding(crate::specs::Fields::may))]
 impl<V: Deserialize, R: Fields> Fields for May<V, R> {
     type Values = (Option<V>, R::Values);
 
     ghost reads = { λ f x. may f.name.now V.reads x.0 (R.reads f.rest x.1) };
 
-    ghost images = { λ x. image_option V.image x.0 ∷ R.images x.1 };
+    ghost names = { λ f. f.name.now ∷ R.names f.rest };
 
-    ghost fields = { λ f x. (f.name.now, optional V.image x.0) ∷ R.fields f.rest x.1 };
+    ghost images = { λ x. optional V.image x.0 ∷ R.images x.1 };
 
     ghost restorable = { λ x. RestorableOption V.image V.restorable x.0 × R.restorable x.1 };
 
@@ -204,11 +201,16 @@ impl<V: Deserialize, R: Fields> Fields for May<V, R> {
         alloc: Global,
         entries: &mut D::Entries,
     ) -> Result<(Option<V>, R::Values), D::Error> {
-        let value = match D::take_named(&mut *entries, self.name) {
-            Some(entry) => Option::<V>::deserialize(alloc, entry)?,
-            None => None,
-        };
-        let rest = self.rest.read_entries::<D>(alloc, entries)?;
-        Ok((value, rest))
+        match D::take_named(&mut *entries, self.name) {
+            Some(entry) => {
+                let value = Option::<V>::deserialize(alloc, entry)?;
+                let rest = self.rest.read_entries::<D>(alloc, entries)?;
+                Ok((value, rest))
+            }
+            None => {
+                let rest = self.rest.read_entries::<D>(alloc, entries)?;
+                Ok((None, rest))
+            }
+        }
     }
 }

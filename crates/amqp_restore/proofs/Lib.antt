@@ -3,3 +3,4 @@ pub mod ImageLemmas
 pub mod KeyLemmas
 pub mod MapLemmas
 pub mod ValueLemmas
+pub mod FieldLemmas

@@ -223,10 +223,11 @@ impl Deserialize for Calibration {
         may (codes "divisor") ⟦<u32 as Deserialize>⟧.reads c.divisor (
         may (codes "remark") ⟦<String as Deserialize>⟧.reads c.remark end)))) t };
 
-    ghost image = { λ c. described (code 0x15) (short_map (
-        (codes "offset", required (scalar (int c.offset)))
-        ∷ (codes "divisor", optional ⟦<u32 as Deserialize>⟧.image c.divisor)
-        ∷ (codes "remark", optional ⟦<String as Deserialize>⟧.image c.remark) ∷ [])) };
+    ghost image = { λ c. described (code 0x15) (short_map
+        (codes "offset" ∷ codes "divisor" ∷ codes "remark" ∷ []) (
+        required (scalar (int c.offset))
+        ∷ optional ⟦<u32 as Deserialize>⟧.image c.divisor
+        ∷ optional ⟦<String as Deserialize>⟧.image c.remark ∷ [])) };
 
     ghost restorable = { λ c. ⟦<Option<u32> as Deserialize>⟧.restorable c.divisor
         × ⟦<Option<String> as Deserialize>⟧.restorable c.remark };

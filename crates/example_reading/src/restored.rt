@@ -1,8 +1,9 @@
 //! What is turned into an untyped value and read back is the same: the types that claim it, and those that a map's
 //! keys may have.
 
-use crate::composites::{Limits, Span, Title};
+use crate::composites::{Calibration, Limits, Span, Title};
 use crate::day::Day;
+use crate::gust::Gust;
 use crate::position::Position;
 use crate::sky::Sky;
 use amqp_data::Symbol;
@@ -34,6 +35,23 @@ impl Restore for Limits {
         laws::lists_return();
         laws::described_return();
         <Option<Symbol> as Restore>::returns();
+    }
+}
+
+impl Restore for Calibration {
+    fn returns() {
+        laws::named_maps_return();
+        laws::described_return();
+        <Option<u32> as Restore>::returns();
+        <Option<String> as Restore>::returns();
+    }
+}
+
+impl Restore for Gust {
+    fn returns() {
+        laws::short_lists_return();
+        laws::described_return();
+        <Option<u16> as Restore>::returns();
     }
 }
 
