@@ -1,7 +1,7 @@
 //! What is turned into an untyped value and read back is the same: the types that claim it, and those that a map's
 //! keys may have.
 
-use crate::composites::{Calibration, Limits, Span, Title};
+use crate::composites::{Limits, Span, Title};
 use crate::day::Day;
 use crate::gust::Gust;
 use crate::position::Position;
@@ -35,15 +35,6 @@ impl Restore for Limits {
         laws::lists_return();
         laws::described_return();
         <Option<Symbol> as Restore>::returns();
-    }
-}
-
-impl Restore for Calibration {
-    fn returns() {
-        laws::named_maps_return();
-        laws::described_return();
-        <Option<u32> as Restore>::returns();
-        <Option<String> as Restore>::returns();
     }
 }
 
