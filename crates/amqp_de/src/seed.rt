@@ -104,8 +104,8 @@ impl<F: Fields> Seed for ListOf<F> {
 
     fn read<D: Deserializer>(self, alloc: Global, deserializer: D) -> Result<F::Values, D::Error> {
         match deserializer.open() {
-            Content::List(mut elements) => {
-                match self.0.read_elements::<D>(alloc, &mut elements) {
+            Content::List(mut fields) => {
+                match self.0.read_elements::<D>(alloc, &mut fields) {
                     Ok(values) => Ok(values),
                     Err(error) => Err(error),
                 }
