@@ -119,7 +119,7 @@ entries_stand : (ps : List (Option Tree)) (es : List (Tree × Tree)) → Entries
 entries_stand ps es h n d =
     let s = map_stands part seen part seen Stands Stands (λ (b : Beside) k. k) (λ (b : Beside) k. k) (beside ps es) (each_stands ps es h n) (keys_differ ps es h d) in
     subst (λ (qs : List (Option Tree)). StandsAs (whole kind.Map qs) (tree.map (pairs_of es))) (the_parts ps es h)
-        (subst (λ (es' : tree.Pairs). StandsAs (whole kind.Map (parts_of part part (beside ps es))) (tree.map es')) (the_entries ps es h) s)
+    (subst (λ (es' : tree.Pairs). StandsAs (whole kind.Map (parts_of part part (beside ps es))) (tree.map es')) (the_entries ps es h) s)
 
 -- the names of fields that are there
 named_by : (b : Bool) (n : List ℕ) (t : Tree) (es : List (Tree × Tree)) → Names es → Names (if b then (scalar (string n), t) ∷ es else es)
