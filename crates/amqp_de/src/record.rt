@@ -1,9 +1,9 @@
 //! The two calls by which a type of fields is read.
 
-ghost use Rattle.std.specs.Prelude.{◌≡◌, ◌↔◌, IsTrue};
+ghost use Rattle.std.specs.Prelude.{◌≡◌, ◌↔◌, ℕ, List, IsTrue, MatchResult};
 ghost use Rattle.amqp_data.specs.Text.{symbol_ref_text, symbol_text};
 ghost use Rattle.amqp_ser.specs.Carried.{descriptor_content};
-ghost use Rattle.amqp_ser.specs.Tree.{Descriptor, code, name, described};
+ghost use Rattle.amqp_ser.specs.Tree.{Descriptor, Descriptor as AnyDescriptor, Tree, code, name, described};
 ghost use Rattle.amqp_de.specs.Answers.{PartsOf, RestoresParts};
 ghost use Rattle.amqp_de.specs.Fields.{OnDescribed};
 
@@ -85,8 +85,11 @@ pub fn read<T: Record, D: Deserializer, S: Seed<Value = T::Parts>>(
         S.restorable S.same D.Error.is_memory (D.value deserializer) result }
     ensures short { RestoresParts T.parts (λ v. S.short (T.parts v))
         S.restorable S.same D.Error.is_memory (D.value deserializer) result }
-    ensures named { S.is_named seed → RestoresParts T.parts (λ v. S.by_name seed (T.parts v))
-        S.restorable S.same D.Error.is_memory (D.value deserializer) result }
+    ensures named { (v : T) → (ns : List (List ℕ)) → S.restorable (T.parts v) →
+        D.value deserializer ≡ S.by_name ns (T.parts v) →
+        ns ≡ S.names seed →
+        S.is_named seed →
+        MatchResult result (λ y. S.same y (T.parts v)) D.Error.is_memory }
 {
     match seed.read(alloc, deserializer) {
         Ok(parts) => Ok(parts),
@@ -112,15 +115,20 @@ pub fn read_described<T: Record, D: Deserializer, K: Describes, S: Seed<Value = 
     ensures read { PartsOf T.parts D.Error.is_memory
         (λ x. OnDescribed (K.wanted descriptor.now) (λ t. S.reads seed t x) (D.value deserializer))
         result }
-    ensures law { RestoresParts T.parts
-        (λ v. described (K.wanted descriptor.now) (S.image (T.parts v)))
-        S.restorable S.same D.Error.is_memory (D.value deserializer) result }
+    ensures law { (v : T) → (e : AnyDescriptor) → S.restorable (T.parts v) →
+        D.value deserializer ≡ described e (S.image (T.parts v)) →
+        e ≡ K.wanted descriptor.now →
+        MatchResult result (λ y. S.same y (T.parts v)) D.Error.is_memory }
     ensures short { RestoresParts T.parts
         (λ v. described (K.wanted descriptor.now) (S.short (T.parts v)))
         S.restorable S.same D.Error.is_memory (D.value deserializer) result }
-    ensures named { S.is_named seed → RestoresParts T.parts
-        (λ v. described (K.wanted descriptor.now) (S.by_name seed (T.parts v)))
-        S.restorable S.same D.Error.is_memory (D.value deserializer) result }
+    ensures named { (v : T) → (e : AnyDescriptor) → (ns : List (List ℕ)) →
+        D.value deserializer ≡ described e (S.by_name ns (T.parts v)) →
+        S.restorable (T.parts v) →
+        e ≡ K.wanted descriptor.now →
+        ns ≡ S.names seed →
+        S.is_named seed →
+        MatchResult result (λ y. S.same y (T.parts v)) D.Error.is_memory }
 {
     match deserializer.open() {
         Content::Described(found, value) => {

@@ -1,6 +1,6 @@
 //! What is read of one value: a type, a list of fields, fields by name.
 
-ghost use Rattle.std.specs.Prelude.{◌≡◌, true};
+ghost use Rattle.std.specs.Prelude.{◌≡◌, ℕ, List, [], true};
 ghost use Rattle.amqp_ser.specs.Tree.{Tree, list, trees_of};
 ghost use Rattle.amqp_de.specs.Answers.{Answers, Restores};
 ghost use Rattle.amqp_de.specs.Fields.{OnFields, OnNamed};
@@ -31,8 +31,11 @@ pub trait Seed: Sized + Drop {
     /// The same without the absent fields at its end, where it is a list of fields.
     ghost short: { Self.Value → Tree };
 
-    /// The map of its fields that are there, by their names, where it is read from one.
-    ghost by_name: { Self → Self.Value → Tree };
+    /// The names of its fields, where it is read from a map by them.
+    ghost names: { Self → List (List ℕ) };
+
+    /// The map from such names to its fields that are there.
+    ghost by_name: { List (List ℕ) → Self.Value → Tree };
 
     /// Whether it is read from such a map: no two fields have the same name.
     ghost is_named: { Self → Type 0 };
@@ -50,7 +53,7 @@ pub trait Seed: Sized + Drop {
             D.Error.is_memory (D.value deserializer) result }
         ensures short { Restores short restorable same
             D.Error.is_memory (D.value deserializer) result }
-        ensures named { is_named self → Restores (by_name self) restorable same
+        ensures named { is_named self → Restores (by_name (names self)) restorable same
             D.Error.is_memory (D.value deserializer) result };
 }
 
@@ -70,6 +73,8 @@ impl<T: Deserialize> Seed for Of<T> {
     ghost same = { T.same };
 
     ghost short = { T.image };
+
+    ghost names = { λ _. [] };
 
     ghost by_name = { λ _. T.image };
 
@@ -97,6 +102,8 @@ impl<F: Fields> Seed for ListOf<F> {
     ghost same = { F.same };
 
     ghost short = { λ x. short_list (F.images x) };
+
+    ghost names = { λ _. [] };
 
     ghost by_name = { λ _ x. short_list (F.images x) };
 
@@ -133,7 +140,9 @@ impl<F: Fields> Seed for NamedOf<F> {
 
     ghost short = { λ x. short_list (F.images x) };
 
-    ghost by_name = { λ s x. short_map (F.names s.0) (F.images x) };
+    ghost names = { λ s. F.names s.0 };
+
+    ghost by_name = { λ ns x. short_map ns (F.images x) };
 
     ghost is_named = { λ s. distinct_names (F.names s.0) ≡ true };
 

@@ -95,6 +95,8 @@ impl<V: Variants> Seed for EnumOf<V> {
 
     ghost short = { λ x. enum_image (V.position x) (V.content x) };
 
+    ghost names = { λ _. [] };
+
     ghost by_name = { λ _ x. enum_image (V.position x) (V.content x) };
 
     ghost is_named = { λ _. ⊥ };
