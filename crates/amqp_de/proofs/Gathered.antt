@@ -2,13 +2,8 @@
 use Rattle.std.proofs.Common.{◌≡◌, inl, inr, List, [], ◌∷◌, ◌++◌, map, refl, sym, ap, ◌∙◌, append_assoc}
 use Rattle.std.proofs.lemmas.List.{append-nil}
 use Rattle.std.specs.List.{AllZip, AllByRecursion}
+use Rattle.amqp_value.proofs.Zips.{zip_push}
 use Rattle.amqp_de.specs.Answers.{Refuses}
-
-all_zip_more : {A B : Type 0} (R : A → B → Type 0) (ts : List A) (xs : List B) (t : A) (x : B) → AllZip R ts xs → R t x → AllZip R (ts ++ t ∷ []) (xs ++ x ∷ [])
-all_zip_more R [] [] t x h r = (r, tt)
-all_zip_more R [] (y ∷ ys) t x h r = absurd h
-all_zip_more R (u ∷ us) [] t x h r = absurd h
-all_zip_more R (u ∷ us) (y ∷ ys) t x h r = (h.0, all_zip_more R us ys t x h.1 r)
 
 module _ {A T : Type 0} (R : A → T → Type 0) where
   -- what was read before the rest
@@ -21,7 +16,7 @@ module _ {A T : Type 0} (R : A → T → Type 0) where
   pub read_more : (whole rest after : List A) (xs : List T) (t : A) (x : T) → ReadSoFar whole rest xs → rest ≡ t ∷ after → R t x
       → ReadSoFar whole after (xs ++ x ∷ [])
   read_more whole rest after xs t x (done, e, h) f r =
-      (done ++ t ∷ [], rw append_assoc (e ∙ ap (λ ts. done ++ ts) f), all_zip_more R done xs t x h r)
+      (done ++ t ∷ [], rw append_assoc (e ∙ ap (λ ts. done ++ ts) f), zip_push R done xs t x h r)
 
   pub read_whole : (whole : List A) (xs : List T) → ReadSoFar whole [] xs → AllZip R whole xs
   read_whole whole xs (done, e, h) = let p : done ≡ whole = sym (append-nil done) ∙ sym e in rw p at h
@@ -60,7 +55,7 @@ module _ {A T : Type 0} (image : T → A) (P : T → Type 0) (S : T → T → Ty
   next_half t after ys y xs done (x ∷ left) s p q all z =
       let head : t ≡ image x = cc in
       let tail : after ≡ map image left = cc in
-      (done ++ x ∷ [], left, tail, rw append_assoc q, all.1, all_zip_more S ys done y x z (s x all.0 head))
+      (done ++ x ∷ [], left, tail, rw append_assoc q, all.1, zip_push S ys done y x z (s x all.0 head))
 
   pub same_more : (whole rest after : List A) (ys : List T) (t : A) (y : T) → SameSoFar whole rest ys → rest ≡ t ∷ after
       → ((x : T) → P x → t ≡ image x → S y x) → SameSoFar whole after (ys ++ y ∷ [])

@@ -3,4 +3,3 @@ pub mod Gathered
 pub mod Inserted
 pub mod Keys
 pub mod Lists
-pub mod Values

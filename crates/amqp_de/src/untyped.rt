@@ -10,7 +10,7 @@ use amqp_data::{Dec32, Dec64, Dec128, Symbol, Timestamp, Uuid};
 use amqp_value::Value;
 
 /// The untyped value of a decimal32.
-#[tactic(auto, using(crate::proofs::Values::of_decimal32))]
+#[tactic(auto, using(amqp_value::proofs::BackLemmas::decimal32_tree))]
 pub fn decimal32_value(value: Dec32) -> Value
     ensures { tree_of result ≡ scalar (decimal32 (dec32_bytes value)) }
 {
@@ -18,7 +18,7 @@ pub fn decimal32_value(value: Dec32) -> Value
 }
 
 /// The untyped value of a decimal64.
-#[tactic(auto, using(crate::proofs::Values::of_decimal64))]
+#[tactic(auto, using(amqp_value::proofs::BackLemmas::decimal64_tree))]
 pub fn decimal64_value(value: Dec64) -> Value
     ensures { tree_of result ≡ scalar (decimal64 (dec64_bytes value)) }
 {
@@ -26,7 +26,7 @@ pub fn decimal64_value(value: Dec64) -> Value
 }
 
 /// The untyped value of a decimal128.
-#[tactic(auto, using(crate::proofs::Values::of_decimal128))]
+#[tactic(auto, using(amqp_value::proofs::BackLemmas::decimal128_tree))]
 pub fn decimal128_value(value: Dec128) -> Value
     ensures { tree_of result ≡ scalar (decimal128 (dec128_bytes value)) }
 {
@@ -34,7 +34,7 @@ pub fn decimal128_value(value: Dec128) -> Value
 }
 
 /// The untyped value of a timestamp.
-#[tactic(auto, using(crate::proofs::Values::of_timestamp))]
+#[tactic(auto, using(amqp_value::proofs::BackLemmas::timestamp_tree))]
 pub fn timestamp_value(value: Timestamp) -> Value
     ensures { tree_of result ≡ scalar (timestamp (milliseconds_of value)) }
 {
@@ -42,7 +42,7 @@ pub fn timestamp_value(value: Timestamp) -> Value
 }
 
 /// The untyped value of a uuid.
-#[tactic(auto, using(crate::proofs::Values::of_uuid))]
+#[tactic(auto, using(amqp_value::proofs::BackLemmas::uuid_tree))]
 pub fn uuid_value(value: Uuid) -> Value
     ensures { tree_of result ≡ scalar (uuid (uuid_bytes value)) }
 {
@@ -50,7 +50,7 @@ pub fn uuid_value(value: Uuid) -> Value
 }
 
 /// The untyped value of a symbol.
-#[tactic(auto, using(crate::proofs::Values::of_symbol))]
+#[tactic(auto, using(amqp_value::proofs::BackLemmas::symbol_tree))]
 pub fn symbol_value(value: Symbol) -> Value
     ensures { tree_of result ≡ scalar (symbol (symbol_text value)) }
 {

@@ -1,15 +1,12 @@
 -- The codes and their bytes.
 use Rattle.std.proofs.Common.{◌≡◌, ℕ, Bool, true, false, IsTrue, List, [], ◌∷◌, Option, Some, None, Result, Ok, Err, if◌then◌else◌, ◌==◌, refl, sym, ap, ◌∙◌, arith, subst}
-use Rattle.std.proofs.lemmas.Grind.{common_steps}
 use Rattle.std.specs.Prelude.{IfOk, IfErr}
 use Rattle.amqp_data.specs.FormatCode.{code_of, GivesName}
 use Rattle.amqp_data.specs.declared.error.Error.{Error}
 use Rattle.amqp_data.specs.declared.format_code.EncodingCodes.{EncodingCodes}
 use Rattle.amqp_data.specs.declared.format_code.EncodingCodes.TheVariants as code
+use Rattle.amqp_value.proofs.SameLemmas.{numbers}
 use Rattle.amqp_decode.specs.Codes.{primitive_codes, is_primitive, code_among, primitive_of}
-
-pub same-number : (a b : ℕ) → (a == b) ≡ true → a ≡ b
-same-number a b h = grind (arith, common_steps)
 
 -- a primitive code is that of its byte
 pub primitive-found : (c : EncodingCodes) → IsTrue (is_primitive c) → primitive_of (code_of c) ≡ Some c
@@ -112,7 +109,7 @@ first-says : (P : EncodingCodes → Type 0) (byte : ℕ) (c : EncodingCodes) (o 
 first-says P byte c o holds rest = by_test (code_of c == byte) refl
   where
     by_test : (b : Bool) → (code_of c == byte) ≡ b → Means P byte (if b then Some c else o)
-    by_test true is = (same-number (code_of c) byte is, holds)
+    by_test true is = (numbers (code_of c) byte is, holds)
     by_test false is = rest
 
 among-says : (P : EncodingCodes → Type 0) (cs : List EncodingCodes) (byte : ℕ) → Each P cs → Means P byte (code_among cs byte)

@@ -1,6 +1,7 @@
 -- The bytes of a tree spell its image.
 use Rattle.std.proofs.Common.{◌≡◌, ℕ, zero, suc, ◌+◌, ◌*◌, ◌<◌, ◌≤◌, Bool, true, false, ◌&&◌, IsTrue, List, [], ◌∷◌, ◌++◌, length, Option, Some, None, refl, sym, ap, ◌∙◌, subst, arith, length-append, if◌then◌else◌, nat_le}
 use Rattle.std.proofs.lemmas.List.{append-nil}
+use Rattle.std.proofs.lemmas.Bool.{and_parts}
 use Rattle.std.proofs.lemmas.Bool.Decides.{nat_tests}
 use Rattle.std.specs.Int.{to_be_bytes, w32}
 use Rattle.amqp_data.specs.FormatCode.{code_of}
@@ -19,13 +20,10 @@ use Rattle.amqp_decode.specs.Codes.{is_primitive}
 use Rattle.amqp_decode.specs.Depth.{depth_of, depth_of_each, depth_of_pairs, IsOrdinary, AreOrdinary, HasOrdinaryPairs}
 use Rattle.amqp_decode.specs.Spells.{IsNumber, IsPayload, IsCounted, Spells, SpellsContent, SpellsElements, SpellsItems, SpellsEntries}
 use Rattle.amqp_decode.specs.declared.payload_shape.Count.TheVariants.{Absent, OneByte, FourBytes}
-use Rattle.amqp_decode.proofs.CodeLemmas.{code-is, same-number}
+use Rattle.amqp_value.proofs.CodeLemmas.{same-is}
+use Rattle.amqp_decode.proofs.CodeLemmas.{code-is}
 use Rattle.amqp_decode.proofs.Means.{pick}
 use Rattle.amqp_decode.proofs.ScalarBytes.{widest, widest-code, widest-primitive, scalar-parse_content, scalar-bytes, descriptor-bytes, four-number}
-
-pub both : (a b : Bool) → (a && b) ≡ true → (a ≡ true) × (b ≡ true)
-both true b h = (refl, h)
-both false b h = absurd cc
 
 -- the images of trees, as a list
 abbrev images_list : Trees → List Tree
@@ -159,26 +157,26 @@ HasGood ps = HasRangedPairs ps × (within_limits_pairs ps ≡ true) × (uniform_
 
 first-good : (t : Tree) (ts : Trees) → AreGood (more t ts) → IsGood t × AreGood ts
 first-good t ts g =
-    let w = both (within_limits t) (within_limits_each ts) g.1 in
-    let a = both (uniform_arrays t) (uniform_arrays_each ts) g.2 in
+    let w = and_parts (within_limits t) (within_limits_each ts) g.1 in
+    let a = and_parts (uniform_arrays t) (uniform_arrays_each ts) g.2 in
     ((g.0.0, w.0, a.0, g.3.0), (g.0.1, w.1, a.1, g.3.1))
 
 pair-good : (k v : Tree) (ps : Pairs) → HasGood (pair k v ps) → IsGood k × IsGood v × HasGood ps
 pair-good k v ps g =
-    let w = both (within_limits k) (within_limits v && within_limits_pairs ps) g.1 in
-    let wv = both (within_limits v) (within_limits_pairs ps) w.1 in
-    let a = both (uniform_arrays k) (uniform_arrays v && uniform_arrays_pairs ps) g.2 in
-    let av = both (uniform_arrays v) (uniform_arrays_pairs ps) a.1 in
+    let w = and_parts (within_limits k) (within_limits v && within_limits_pairs ps) g.1 in
+    let wv = and_parts (within_limits v) (within_limits_pairs ps) w.1 in
+    let a = and_parts (uniform_arrays k) (uniform_arrays v && uniform_arrays_pairs ps) g.2 in
+    let av = and_parts (uniform_arrays v) (uniform_arrays_pairs ps) a.1 in
     ((g.0.0, w.0, a.0, g.3.0), (g.0.1, wv.0, av.0, g.3.1), (g.0.2, wv.1, av.1, g.3.2))
 
 list-good : (ts : Trees) → IsGood (list ts) → (fits (length (encoding_each ts)) ≡ true) × AreGood ts
 list-good ts g =
-    let w = both (fits (length (encoding_each ts))) (within_limits_each ts) g.1 in
+    let w = and_parts (fits (length (encoding_each ts))) (within_limits_each ts) g.1 in
     (w.0, (g.0, w.1, g.2, g.3))
 
 map-good : (ps : Pairs) → IsGood (map ps) → (fits (length (encoding_pairs ps)) ≡ true) × HasGood ps
 map-good ps g =
-    let w = both (fits (length (encoding_pairs ps))) (within_limits_pairs ps) g.1 in
+    let w = and_parts (fits (length (encoding_pairs ps))) (within_limits_pairs ps) g.1 in
     (w.0, (g.0, w.1, g.2, g.3))
 
 abbrev content_of : Trees → List ℕ
@@ -186,16 +184,16 @@ content_of ts = array_constructor ts ++ payload_each ts
 
 array-good : (ts : Trees) → IsGood (array ts) → (fits (length (content_of ts)) ≡ true) × (count ts < 4294967296) × (one_constructor ts ≡ true) × AreGood ts
 array-good ts g =
-    let w = both (fits (length (content_of ts))) (is_count (count ts) && within_limits_each ts) g.1 in
-    let v = both (is_count (count ts)) (within_limits_each ts) w.1 in
-    let a = both (one_constructor ts) (uniform_arrays_each ts) g.2 in
+    let w = and_parts (fits (length (content_of ts))) (is_count (count ts) && within_limits_each ts) g.1 in
+    let v = and_parts (is_count (count ts)) (within_limits_each ts) w.1 in
+    let a = and_parts (one_constructor ts) (uniform_arrays_each ts) g.2 in
     let n = v.0 in
     let lt : count ts < 4294967296 = grind (arith, nat_tests) in
     (w.0, lt, a.0, (g.0, v.1, a.1, g.3))
 
 variant-good : (i : ℕ) (t : Tree) → IsGood (variant i t) → (fits (length (scalar_form (uint i) ++ encoding t)) ≡ true) × (i < 4294967296) × IsGood t
 variant-good i t g =
-    let w = both (fits (length (scalar_form (uint i) ++ encoding t))) (within_limits t) g.1 in
+    let w = and_parts (fits (length (scalar_form (uint i) ++ encoding t))) (within_limits t) g.1 in
     (w.0, g.0.0, (g.0.1, w.1, g.2, g.3))
 
 -- each element has this code
@@ -203,17 +201,11 @@ abbrev EachOwn : EncodingCodes → Trees → Type 0
 EachOwn c no_trees = Unit {0}
 EachOwn c (more t ts) = (own_code t ≡ c) × EachOwn c ts
 
-constructor-same : (n : ℕ) (o : Option ℕ) → same_constructor (Some n) o ≡ true → o ≡ Some n
-constructor-same n None h = absurd cc
-constructor-same n (Some m) h =
-    let same = same-number n m h in
-    ap Some (sym same)
-
 each-own : (c : EncodingCodes) (ts : Trees) → IsTrue (is_primitive c) → each_constructor (Some (code_of c)) ts ≡ true → EachOwn c ts
 each-own c no_trees ok h = tt
 each-own c (more t ts) ok h =
-    let s = both (same_constructor (Some (code_of c)) (constructor t)) (each_constructor (Some (code_of c)) ts) h in
-    let own = own-code t (code_of c) (constructor-same (code_of c) (constructor t) s.0) in
+    let s = and_parts (same_constructor (Some (code_of c)) (constructor t)) (each_constructor (Some (code_of c)) ts) h in
+    let own = own-code t (code_of c) (same-is (code_of c) (constructor t) s.0) in
     (code-is (own_code t) c own.1 ok own.0, each-own c ts ok s.1)
 
 -- the one code of an array's elements
@@ -269,8 +261,8 @@ mutual
       (map-bytes d (pair_count ps) (encoding_pairs ps) (images_onto ps no_pairs) l.0 (pairs-spell ps no_pairs l.1 d (omega arith)))
   encoding-spells (described l t) g zero le = absurd (omega arith)
   encoding-spells (described l t) g (suc d) le =
-      let w = both _ (descriptor_fits l && within_limits t) g.1 in
-      let v = both (descriptor_fits l) (within_limits t) w.1 in
+      let w = and_parts _ (descriptor_fits l && within_limits t) g.1 in
+      let v = and_parts (descriptor_fits l) (within_limits t) w.1 in
       Spells.described d (descriptor_form l) (encoding t) l (image t) (descriptor-bytes l g.0.0 v.0) (encoding-spells t (g.0.1, v.1, g.2, g.3) d (omega arith))
   encoding-spells (variant i t) g zero le = absurd (omega arith)
   encoding-spells (variant i t) g (suc zero) le = absurd (omega arith)

@@ -11,6 +11,7 @@ use Rattle.amqp_frame.specs.declared.code.Category.TheVariants.{Fixed, OneByteSi
 use Rattle.amqp_ser.specs.Tree as tree
 use Rattle.amqp_ser.specs.Tree.{Scalar, Descriptor, Tree, Pairs, trees_of, no_pairs}
 use Rattle.amqp_value.specs.Image.{insert_tree}
+use Rattle.amqp_value.proofs.SameLemmas.{numbers}
 use Rattle.amqp_decode.specs.Codes.{is_primitive, primitive_of, shape_of_code}
 use Rattle.amqp_decode.specs.Scalars.{next, scalar_in, scalar_tree}
 use Rattle.amqp_decode.specs.Spells.{IsNumber, IsPayload, IsCounted, IsDescriptor, descriptor_scalar, Spells, SpellsContent, SpellsElements, SpellsItems, SpellsEntries}
@@ -19,7 +20,7 @@ use Rattle.amqp_decode.specs.declared.payload_shape.Count.{Count}
 use Rattle.amqp_decode.specs.declared.payload_shape.Count.TheVariants.{Absent, OneByte, FourBytes}
 use Rattle.amqp_decode.specs.declared.payload_shape.PayloadShape.{PayloadShape}
 use Rattle.amqp_decode.specs.declared.payload_shape.PayloadShape.TheVariants as shape
-use Rattle.amqp_decode.proofs.CodeLemmas.{same-number, primitive-says}
+use Rattle.amqp_decode.proofs.CodeLemmas.{primitive-says}
 
 -- what is found stands for the bytes before the rest
 abbrev pub Says : {A : Type 0} → (List ℕ → A → Type 0) → List ℕ → Option (A × List ℕ) → Type 0
@@ -265,7 +266,7 @@ module _ (d : ℕ) (f : FrameReader) (h : ContentReader) (frames : (s : List ℕ
     map-says count p is counts =
         pick (IfFound (SpellsContent (suc d) c s)) (p.0 % 2 == 0) (next (next (insert f (p.0 / 2) p.1 no_pairs) all) (λ ps. Some (tree.map ps))) None
         (λ even. next-says (IfFound (SpellsContent (suc d) c s)) (next (insert f (p.0 / 2) p.1 no_pairs) all) (λ ps. Some (tree.map ps)) tt
-        (λ ps found. let two : p.0 ≡ 2 * (p.0 / 2) = omega (arith, same-number (p.0 % 2) 0 even) in
+        (λ ps found. let two : p.0 ≡ 2 * (p.0 / 2) = omega (arith, numbers (p.0 % 2) 0 even) in
         SpellsContent.a_map d c count s (p.0 / 2) p.1 ps is (subst (λ z. IsCounted count s z p.1) two counts) (inserted-says d f frames (p.0 / 2) p.1 ps found)))
         (λ _. tt)
 
@@ -321,7 +322,7 @@ module _ (d : ℕ) (f : FrameReader) (h : ContentReader) (frames : (s : List ℕ
   frame-says [] = tt
   frame-says (byte ∷ s) =
       pick (Says (Spells (suc d)) (byte ∷ s)) (byte == 0) (next (descriptor_at s) (parse_described f)) (next (primitive_of byte) (λ code. payload_in (content_of f h) code s))
-      (λ e. subst (λ k. Says (Spells (suc d)) (k ∷ s) (next (descriptor_at s) (parse_described f))) (sym (same-number byte 0 e)) (optionally_described (Spells (suc d)) 0 s _ (described-says s)))
+      (λ e. subst (λ k. Says (Spells (suc d)) (k ∷ s) (next (descriptor_at s) (parse_described f))) (sym (numbers byte 0 e)) (optionally_described (Spells (suc d)) 0 s _ (described-says s)))
       (λ _. next-says (Says (Spells (suc d)) (byte ∷ s)) (primitive_of byte) (λ code. payload_in (content_of f h) code s) tt
       (λ c is. let named = primitive-says byte c is in
       under-code (Spells (suc d)) byte c s _ named.0 (primitive-frame c s named.1)))

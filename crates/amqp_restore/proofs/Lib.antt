@@ -2,4 +2,3 @@ pub mod StandLemmas
 pub mod ImageLemmas
 pub mod KeyLemmas
 pub mod MapLemmas
-pub mod ValueLemmas

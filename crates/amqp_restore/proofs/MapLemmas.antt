@@ -11,19 +11,11 @@ use Rattle.amqp_ser.specs.declared.kind.Kind.TheVariants as kind
 use Rattle.amqp_to_value.specs.HasLazy.{has_lazy, has_lazy_pairs}
 use Rattle.amqp_value.specs.Image.{image, images_onto, insert_tree}
 use Rattle.amqp_value.specs.TreeOf.{pairs_of}
-use Rattle.amqp_value.proofs.ImageLemmas.{joined, Lacks, insert_tree-new}
+use Rattle.amqp_value.proofs.ImageLemmas.{joined, joined_assoc, joined_none, Lacks, insert_tree-new}
 use Rattle.amqp_value.proofs.SameLemmas.{same-equal}
 use Rattle.amqp_de.specs.Maps.{pair_image, IsPair}
 use Rattle.amqp_restore.proofs.KeyLemmas.{HaveDistinctImages}
 use Rattle.amqp_restore.specs.Stands.{StandsAs}
-
-joined_none : (ps : Pairs) → joined ps no_pairs ≡ ps
-joined_none no_pairs = refl
-joined_none (pair k v ps) = ap (pair k v) (joined_none ps)
-
-joined_assoc : (ps qs rs : Pairs) → joined (joined ps qs) rs ≡ joined ps (joined qs rs)
-joined_assoc no_pairs qs rs = refl
-joined_assoc (pair k v ps) qs rs = ap (pair k v) (joined_assoc ps qs rs)
 
 -- trees that differ are not the same
 unlike : (t u : Tree) (b : Bool) → same_tree t u ≡ b → ¬ (t ≡ u) → same_tree t u ≡ false

@@ -58,7 +58,7 @@ impl<T: Restore> Restore for Described<T> {
     }
 }
 
-#[tactic(auto, using(crate::proofs::ValueLemmas::nothing_lazy))]
+#[tactic(auto, using(amqp_to_value::proofs::ReadLemmas::plain_not_lazy))]
 impl Restore for Value {
     fn returns() {
         sound_values_are_their_own_images();

@@ -59,7 +59,7 @@ of_tree (variant i t) x h = cc
 of_tree (lazy bs) x h = cc
 of_tree (transparent ts) x h = cc
 
-some_of : (o : Option Descriptor) → is_some o ≡ true → (x : Descriptor) × (o ≡ Some x)
+pub some_of : (o : Option Descriptor) → is_some o ≡ true → (x : Descriptor) × (o ≡ Some x)
 some_of None h = cc
 some_of (Some x) h = (x, refl)
 

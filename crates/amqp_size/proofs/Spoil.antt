@@ -1,5 +1,6 @@
 -- Parts that spoil every whole that they are in.
 use Rattle.std.proofs.Common.{◌≡◌, ℕ, ◌+◌, ◌<◌, List, [], ◌∷◌, ◌++◌, Option, Some, None, Bool, true, false, not, ◌&&◌, Err, length, refl, ap, sym, ◌∙◌, subst, arith, length-append, inl, inr}
+use Rattle.std.proofs.lemmas.Bool.{not-true, not-false}
 use Rattle.amqp_size.specs.declared.refusal.Refusal.{Refusal}
 use Rattle.amqp_size.specs.declared.refusal.Refusal.TheVariants as error
 use Rattle.amqp_ser.specs.Tree.{uint, Tree, Trees, list, array, map, variant, no_trees, more}
@@ -41,11 +42,7 @@ spoiled p t e h = elim (one_false (uniform_arrays t) (inside t) h) [
 pub odd_none : (ws : Trees) → even ws ≡ false → in_pairs ws ≡ None
 odd_none no_trees h = cc
 odd_none (more k no_trees) h = refl
-odd_none (more k (more v ts)) h = let e = odd_none ts (not_not (even ts) h) in rw e refl
-  where
-    not_not : (b : Bool) → not (not b) ≡ false → b ≡ false
-    not_not true h = h
-    not_not false h = refl
+odd_none (more k (more v ts)) h = let e = odd_none ts (not-true (even ts) (not-false (not (even ts)) h)) in rw e refl
 
 -- the refusal of no map, whatever the error
 none_map : (p : Position) (ws : Trees) (e : Refusal) → refuses_none e → even ws ≡ false → at_position p (as_map (in_pairs ws)) (Err e) (pending.Plain (without_prefix p))

@@ -9,14 +9,13 @@ use Rattle.amqp_ser.specs.declared.mark.Mark.TheVariants as mark
 use Rattle.amqp_value.specs.TreeOf.{tree_of}
 use Rattle.amqp_value.specs.declared.value.Value.{Value}
 use Rattle.amqp_to_value.specs.PendingDescriptors.{DescriptorsState, described_in, described_by, standing}
-use Rattle.amqp_to_value.specs.ValueSerializer.{IsSaved, IsFresh, IsKept, Leaves, meant_by, value_permits}
+use Rattle.amqp_to_value.specs.ValueSerializer.{IsSaved, IsFresh, IsKept, Leaves, described_none, meant_by, meant_none, value_permits}
 use Rattle.amqp_to_value.specs.ImageOf.{refuses, StandsFor}
 use Rattle.amqp_to_value.specs.PendingMark.{meant}
 use Rattle.amqp_to_value.specs.declared.pending_mark.PendingMark.TheVariants as pending
 use Rattle.amqp_to_value.specs.declared.serializer.Serializer.{Serializer}
-use Rattle.amqp_to_value.proofs.PendingDescriptorLemmas.{described_by-None, refuses_in, standing_left, stands_in}
+use Rattle.amqp_to_value.proofs.PendingDescriptorLemmas.{refuses_in, standing_left, stands_in}
 use Rattle.amqp_to_value.proofs.LazyLemmas.{spoils}
-use Rattle.amqp_to_value.proofs.ValueSerializerLemmas.{meant_none}
 
 -- a value in all that it stood in
 pub finished : (start after : Serializer) (t : Option Tree) (v w : Value) (others ds : List Descriptor) → others ≡ start.descriptors.kept → ds ≡ standing start.descriptors
@@ -51,9 +50,16 @@ pub aside_again : (start now : Serializer) (descriptors : DescriptorsState) (mor
     → (descriptors.kept ≡ start.descriptors.kept) × (descriptors.later ≡ standing start.descriptors ++ more) → IsSaved start (record { alloc = now.alloc; pending = now.pending; descriptors = descriptors })
 aside_again start now descriptors more fresh next rel = (((fresh.0, next ∙ fresh.1), rel.0), (more, rel.1))
 
+pub saved_after : (start before now : Serializer) (descriptors : DescriptorsState) (r : Result Value Error) → before.descriptors.kept ≡ start.descriptors.kept ++ standing start.descriptors → Leaves before.descriptors.kept (standing before.descriptors) r now
+    → descriptors.next ≡ now.descriptors.next → ((rest : List Descriptor) → now.descriptors.kept ++ now.descriptors.later ≡ start.descriptors.kept ++ rest → (descriptors.kept ≡ start.descriptors.kept) × (descriptors.later ≡ rest))
+    → IsSaved start (record { alloc = now.alloc; pending = now.pending; descriptors = descriptors })
+saved_after start before now descriptors r same left next parted =
+    let kept = kept_same (start.descriptors.kept ++ standing start.descriptors) before now r same left in
+    aside_again start now descriptors now.descriptors.later kept.0 next (parted (standing start.descriptors ++ now.descriptors.later) (parted_again start now kept))
+
 -- nothing is permitted on none but a refusal
 pub none_too : (s : Serializer) (e : Error) → refuses e None → refuses e (meant_by s None)
-none_too s e r = subst (refuses e) (sym (ap (described_by (standing s.descriptors)) (meant_none s.pending) ∙ described_by-None (standing s.descriptors))) r
+none_too s e r = subst (refuses e) (sym (ap (described_by (standing s.descriptors)) (meant_none s.pending) ∙ described_none (standing s.descriptors))) r
 
 pub none_refused : (s : Serializer) → refuses error.InvalidValue (meant_by s None)
 none_refused s = none_too s error.InvalidValue tt

@@ -14,6 +14,7 @@ use Rattle.amqp_value.specs.declared.value.Value.TheVariants.{Described as Descr
 use Rattle.amqp_to_value.specs.PendingDescriptors.{DescriptorsState, descriptors_of, described_in, described_by, standing}
 use Rattle.amqp_to_value.specs.ImageOf.{refuses, StandsFor}
 use Rattle.amqp_to_value.specs.Opened.{Opened}
+use Rattle.amqp_to_value.specs.ValueSerializer.{described_none}
 use Rattle.amqp_to_value.proofs.LazyLemmas.{Lacks, spoils, unreadable_in}
 use Rattle.amqp_to_value.proofs.OpenedLemmas.{opened_in, opened_inside}
 
@@ -44,10 +45,6 @@ described_by-Some : (ds : List Descriptor) (t : Tree) → described_by ds (Some 
 described_by-Some [] t = refl
 described_by-Some (d ∷ ds) t = rw (described_by-Some ds t) refl
 
-pub described_by-None : (ds : List Descriptor) → described_by ds None ≡ None
-described_by-None [] = refl
-described_by-None (d ∷ ds) = rw (described_by-None ds) refl
-
 -- a value in what it stands in
 pub stands_in : (ds : List Descriptor) (o : Option Tree) (v w : Value) → tree_of w ≡ described_in ds (tree_of v) → StandsFor v o → StandsFor w (described_by ds o)
 stands_in ds None v w is s = absurd s
@@ -58,14 +55,14 @@ stands_in ds (Some t) v w is s =
 -- and back
 pub stood : (ds : List Descriptor) (o : Option Tree) (v : Value) → StandsFor v (described_by ds o)
     → (t : Tree) × (u : Tree) × (o ≡ Some t) × Opened t u × (tree_of v ≡ described_in ds (image u))
-stood ds None v s = absurd (subst (StandsFor v) (described_by-None ds) s)
+stood ds None v s = absurd (subst (StandsFor v) (described_none ds) s)
 stood ds (Some t) v s =
     let h = subst (StandsFor v) (described_by-Some ds t) s in
     let r = opened_inside ds t h.0 h.1 in
     (t, r.0, refl, r.2, h.2 ∙ ap image r.1 ∙ image-described_in ds r.0)
 
 lacks_in : (ds : List Descriptor) (o : Option Tree) → Lacks o → Lacks (described_by ds o)
-lacks_in ds None h = subst Lacks (sym (described_by-None ds)) tt
+lacks_in ds None h = subst Lacks (sym (described_none ds)) tt
 lacks_in ds (Some t) h = subst Lacks (sym (described_by-Some ds t)) (unreadable_in ds t h)
 
 -- a refusal there

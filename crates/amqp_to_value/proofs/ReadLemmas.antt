@@ -57,25 +57,25 @@ mutual
 
 mutual
   -- a plain tree has no lazy part
-  pub plain-not_lazy : (t : Tree) → IsPlain t → has_lazy t ≡ false
-  plain-not_lazy (scalar s) h = refl
-  plain-not_lazy (list ts) h = each-not_lazy ts h
-  plain-not_lazy (array ts) h = each-not_lazy ts h
-  plain-not_lazy (map ps) h = pairs-not_lazy ps h
-  plain-not_lazy (described d t) h = plain-not_lazy t h
-  plain-not_lazy (variant i t) h = plain-not_lazy t h
-  plain-not_lazy (lazy bs) h = absurd h
-  plain-not_lazy (transparent ts) h = absurd h
+  pub plain_not_lazy : (t : Tree) → IsPlain t → has_lazy t ≡ false
+  plain_not_lazy (scalar s) h = refl
+  plain_not_lazy (list ts) h = each_not_lazy ts h
+  plain_not_lazy (array ts) h = each_not_lazy ts h
+  plain_not_lazy (map ps) h = pairs_not_lazy ps h
+  plain_not_lazy (described d t) h = plain_not_lazy t h
+  plain_not_lazy (variant i t) h = plain_not_lazy t h
+  plain_not_lazy (lazy bs) h = absurd h
+  plain_not_lazy (transparent ts) h = absurd h
 
-  each-not_lazy : (ts : Trees) → ArePlain ts → has_lazy_each ts ≡ false
-  each-not_lazy no_trees h = refl
-  each-not_lazy (more t ts) h = ap (λ b. b || has_lazy_each ts) (plain-not_lazy t h.0) ∙ each-not_lazy ts h.1
+  each_not_lazy : (ts : Trees) → ArePlain ts → has_lazy_each ts ≡ false
+  each_not_lazy no_trees h = refl
+  each_not_lazy (more t ts) h = ap (λ b. b || has_lazy_each ts) (plain_not_lazy t h.0) ∙ each_not_lazy ts h.1
 
-  pairs-not_lazy : (ps : Pairs) → HasPlainPairs ps → has_lazy_pairs ps ≡ false
-  pairs-not_lazy no_pairs h = refl
-  pairs-not_lazy (pair k v ps) h =
-      ap (λ b. b || (has_lazy v || has_lazy_pairs ps)) (plain-not_lazy k h.0)
-      ∙ ap (λ b. b || has_lazy_pairs ps) (plain-not_lazy v h.1) ∙ pairs-not_lazy ps h.3
+  pairs_not_lazy : (ps : Pairs) → HasPlainPairs ps → has_lazy_pairs ps ≡ false
+  pairs_not_lazy no_pairs h = refl
+  pairs_not_lazy (pair k v ps) h =
+      ap (λ b. b || (has_lazy v || has_lazy_pairs ps)) (plain_not_lazy k h.0)
+      ∙ ap (λ b. b || has_lazy_pairs ps) (plain_not_lazy v h.1) ∙ pairs_not_lazy ps h.3
 
 mutual
   -- no tree is read as two
@@ -108,7 +108,7 @@ pub stands-image : (t : Tree) (v : Value) → has_lazy t ≡ false → StandsFor
 stands-image t v h s = s.2 ∙ ap image (opened-same t s.0 h s.1)
 
 pub own : (a b : Value) → IsSound a → StandsFor b (Some (tree_of a)) → tree_of b ≡ tree_of a
-own a b sound s = stands-image (tree_of a) b (plain-not_lazy (tree_of a) (sound-plain a sound)) s ∙ image-sound a sound
+own a b sound s = stands-image (tree_of a) b (plain_not_lazy (tree_of a) (sound-plain a sound)) s ∙ image-sound a sound
 
 -- a value that the bytes spell stands for them as a lazy value
 pub lazy_read : (v : Value) (bs : List ℕ) → Spells 256 bs (tree_of v) → StandsFor v (of_frame bs)

@@ -17,7 +17,7 @@ use Rattle.amqp_to_value.specs.PendingMark.{meant}
 use Rattle.amqp_to_value.specs.HeldImages.{is_single, then, HoldsImages, IsOpenedImage, compound_tree, TakesPairs}
 use Rattle.amqp_to_value.specs.Opened.{AreOpened}
 use Rattle.amqp_to_value.specs.PendingDescriptors.{described_by}
-use Rattle.amqp_to_value.specs.ValueSerializer.{HoldsParts, HasParts, HasValue, IsKept, meant_by}
+use Rattle.amqp_to_value.specs.ValueSerializer.{HoldsParts, HasParts, HasValue, IsKept, meant_by, meant_none}
 use Rattle.amqp_to_value.specs.declared.pending_mark.PendingMark.{PendingMark}
 use Rattle.amqp_to_value.specs.declared.pending_mark.PendingMark.TheVariants as pending
 use Rattle.amqp_to_value.specs.declared.open_value.OpenBody.TheVariants as body
@@ -36,11 +36,6 @@ none-some t q = cc
 pub plain_answer : (s : Serializer) (ds : List Descriptor) (p : Option Tree) (r : Result Value Error) → IsKept ds s → IsImageOf (meant_by s p) r → IsImageOf p r
 plain_answer s ds p r kept is =
     subst (λ o. IsImageOf o r) (ap (λ ds. described_by ds (meant s.pending p)) (standing_none s.descriptors kept.0.1) ∙ ap (λ u. meant u p) kept.0.0 ∙ unmarked p) is
-
-pub meant_none : (u : PendingMark) → meant u None ≡ None
-meant_none (pending.Mark m) = refl
-meant_none pending.Descriptor = refl
-meant_none pending.Nothing = refl
 
 joined_none : (o : Option Trees) → joined o None ≡ None
 joined_none None = refl

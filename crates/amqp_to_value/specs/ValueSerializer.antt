@@ -101,16 +101,16 @@ value_awaits start k s held ps = (held.saved ≡ saved_of start.descriptors.kept
 abbrev pub value_awaits_descriptor : Serializer → Serializer → OpenValue → Type 0
 value_awaits_descriptor start s held = (held.saved ≡ saved_of start.descriptors.kept (standing start.descriptors)) × HasParts start.pending kind.Single held.body [] × IsKeepingDescriptor start s
 
-described_none : (ds : List Descriptor) → described_by ds None ≡ None
+pub described_none : (ds : List Descriptor) → described_by ds None ≡ None
 described_none [] = refl
 described_none (d ∷ ds) = ap (as_described (Some d)) (described_none ds)
 
-none_meant : (u : PendingMark) → meant u None ≡ None
-none_meant (pending.Mark m) = refl
-none_meant pending.Descriptor = refl
-none_meant pending.Nothing = refl
+pub meant_none : (u : PendingMark) → meant u None ≡ None
+meant_none (pending.Mark m) = refl
+meant_none pending.Descriptor = refl
+meant_none pending.Nothing = refl
 
 -- where there is no tree there is no value
 pub no_value_of_none : (s : Serializer) (v : Value) (after : Serializer) → value_permits s None (Ok v) after → ⊥
 no_value_of_none s v after h =
-    let none : meant_by s None ≡ None = ap (described_by (standing s.descriptors)) (none_meant s.pending) ∙ described_none (standing s.descriptors) in subst (StandsFor v) none h.0
+    let none : meant_by s None ≡ None = ap (described_by (standing s.descriptors)) (meant_none s.pending) ∙ described_none (standing s.descriptors) in subst (StandsFor v) none h.0

@@ -28,62 +28,62 @@ comes_back made tree content trees contents x v is = (
   λ r gives. gives ∙ ap (λ u. ok_or (content u) u) is ∙ ap (λ o. ok_or o (made x)) (contents x),
 )
 
-pub bool-tree : (x : Bool) → tree_of (kind.Bool x) ≡ scalar (tree.bool x)
-bool-tree x = search (rules, the_lemmas)
+pub bool_tree : (x : Bool) → tree_of (kind.Bool x) ≡ scalar (tree.bool x)
+bool_tree x = search (rules, the_lemmas)
 
-pub ubyte-tree : (x : ℕ) → tree_of (kind.Ubyte x) ≡ scalar (tree.ubyte x)
-ubyte-tree x = search (rules, the_lemmas)
+pub ubyte_tree : (x : ℕ) → tree_of (kind.Ubyte x) ≡ scalar (tree.ubyte x)
+ubyte_tree x = search (rules, the_lemmas)
 
-pub ushort-tree : (x : ℕ) → tree_of (kind.Ushort x) ≡ scalar (tree.ushort x)
-ushort-tree x = search (rules, the_lemmas)
+pub ushort_tree : (x : ℕ) → tree_of (kind.Ushort x) ≡ scalar (tree.ushort x)
+ushort_tree x = search (rules, the_lemmas)
 
-pub uint-tree : (x : ℕ) → tree_of (kind.Uint x) ≡ scalar (tree.uint x)
-uint-tree x = search (rules, the_lemmas)
+pub uint_tree : (x : ℕ) → tree_of (kind.Uint x) ≡ scalar (tree.uint x)
+uint_tree x = search (rules, the_lemmas)
 
-pub ulong-tree : (x : ℕ) → tree_of (kind.Ulong x) ≡ scalar (tree.ulong x)
-ulong-tree x = search (rules, the_lemmas)
+pub ulong_tree : (x : ℕ) → tree_of (kind.Ulong x) ≡ scalar (tree.ulong x)
+ulong_tree x = search (rules, the_lemmas)
 
-pub byte-tree : (x : ℤ) → tree_of (kind.Byte x) ≡ scalar (tree.byte x)
-byte-tree x = search (rules, the_lemmas)
+pub byte_tree : (x : ℤ) → tree_of (kind.Byte x) ≡ scalar (tree.byte x)
+byte_tree x = search (rules, the_lemmas)
 
-pub short-tree : (x : ℤ) → tree_of (kind.Short x) ≡ scalar (tree.short x)
-short-tree x = search (rules, the_lemmas)
+pub short_tree : (x : ℤ) → tree_of (kind.Short x) ≡ scalar (tree.short x)
+short_tree x = search (rules, the_lemmas)
 
-pub int-tree : (x : ℤ) → tree_of (kind.Int x) ≡ scalar (tree.int x)
-int-tree x = search (rules, the_lemmas)
+pub int_tree : (x : ℤ) → tree_of (kind.Int x) ≡ scalar (tree.int x)
+int_tree x = search (rules, the_lemmas)
 
-pub long-tree : (x : ℤ) → tree_of (kind.Long x) ≡ scalar (tree.long x)
-long-tree x = search (rules, the_lemmas)
+pub long_tree : (x : ℤ) → tree_of (kind.Long x) ≡ scalar (tree.long x)
+long_tree x = search (rules, the_lemmas)
 
-pub float-tree : (x : F32Bits) → tree_of (kind.Float x) ≡ scalar (tree.float (f32_bits x))
-float-tree x = search (rules, the_lemmas)
+pub float_tree : (x : F32Bits) → tree_of (kind.Float x) ≡ scalar (tree.float (f32_bits x))
+float_tree x = search (rules, the_lemmas)
 
-pub double-tree : (x : F64Bits) → tree_of (kind.Double x) ≡ scalar (tree.double (f64_bits x))
-double-tree x = search (rules, the_lemmas)
+pub double_tree : (x : F64Bits) → tree_of (kind.Double x) ≡ scalar (tree.double (f64_bits x))
+double_tree x = search (rules, the_lemmas)
 
-pub decimal32-tree : (x : Dec32) → tree_of (kind.Decimal32 x) ≡ scalar (tree.decimal32 (dec32_bytes x))
-decimal32-tree x = search (rules, the_lemmas)
+pub decimal32_tree : (x : Dec32) → tree_of (kind.Decimal32 x) ≡ scalar (tree.decimal32 (dec32_bytes x))
+decimal32_tree x = search (rules, the_lemmas)
 
-pub decimal64-tree : (x : Dec64) → tree_of (kind.Decimal64 x) ≡ scalar (tree.decimal64 (dec64_bytes x))
-decimal64-tree x = search (rules, the_lemmas)
+pub decimal64_tree : (x : Dec64) → tree_of (kind.Decimal64 x) ≡ scalar (tree.decimal64 (dec64_bytes x))
+decimal64_tree x = search (rules, the_lemmas)
 
-pub decimal128-tree : (x : Dec128) → tree_of (kind.Decimal128 x) ≡ scalar (tree.decimal128 (dec128_bytes x))
-decimal128-tree x = search (rules, the_lemmas)
+pub decimal128_tree : (x : Dec128) → tree_of (kind.Decimal128 x) ≡ scalar (tree.decimal128 (dec128_bytes x))
+decimal128_tree x = search (rules, the_lemmas)
 
-pub char-tree : (x : ℕ) → tree_of (kind.Char x) ≡ scalar (tree.char x)
-char-tree x = search (rules, the_lemmas)
+pub char_tree : (x : ℕ) → tree_of (kind.Char x) ≡ scalar (tree.char x)
+char_tree x = search (rules, the_lemmas)
 
-pub timestamp-tree : (x : Timestamp) → tree_of (kind.Timestamp x) ≡ scalar (tree.timestamp (milliseconds_of x))
-timestamp-tree x = search (rules, the_lemmas)
+pub timestamp_tree : (x : Timestamp) → tree_of (kind.Timestamp x) ≡ scalar (tree.timestamp (milliseconds_of x))
+timestamp_tree x = search (rules, the_lemmas)
 
-pub uuid-tree : (x : Uuid) → tree_of (kind.Uuid x) ≡ scalar (tree.uuid (uuid_bytes x))
-uuid-tree x = search (rules, the_lemmas)
+pub uuid_tree : (x : Uuid) → tree_of (kind.Uuid x) ≡ scalar (tree.uuid (uuid_bytes x))
+uuid_tree x = search (rules, the_lemmas)
 
-pub binary-tree : (x : ByteBuf) → tree_of (kind.Binary x) ≡ scalar (tree.binary (byte_buf_bytes x))
-binary-tree x = search (rules, the_lemmas)
+pub binary_tree : (x : ByteBuf) → tree_of (kind.Binary x) ≡ scalar (tree.binary (byte_buf_bytes x))
+binary_tree x = search (rules, the_lemmas)
 
-pub string-tree : (x : String Global) → tree_of (kind.String x) ≡ scalar (tree.string (string_bytes x))
-string-tree x = search (rules, the_lemmas)
+pub string_tree : (x : String Global) → tree_of (kind.String x) ≡ scalar (tree.string (string_bytes x))
+string_tree x = search (rules, the_lemmas)
 
-pub symbol-tree : (x : Symbol) → tree_of (kind.Symbol x) ≡ scalar (tree.symbol (symbol_text x))
-symbol-tree x = search (rules, the_lemmas)
+pub symbol_tree : (x : Symbol) → tree_of (kind.Symbol x) ≡ scalar (tree.symbol (symbol_text x))
+symbol_tree x = search (rules, the_lemmas)

@@ -12,11 +12,11 @@ abbrev pub joined : Pairs → Pairs → Pairs
 joined no_pairs qs = qs
 joined (pair k v ps) qs = pair k v (joined ps qs)
 
-joined_assoc : (ps qs rs : Pairs) → joined (joined ps qs) rs ≡ joined ps (joined qs rs)
+pub joined_assoc : (ps qs rs : Pairs) → joined (joined ps qs) rs ≡ joined ps (joined qs rs)
 joined_assoc no_pairs qs rs = refl
 joined_assoc (pair k v ps) qs rs = ap (pair k v) (joined_assoc ps qs rs)
 
-joined_none : (ps : Pairs) → joined ps no_pairs ≡ ps
+pub joined_none : (ps : Pairs) → joined ps no_pairs ≡ ps
 joined_none no_pairs = refl
 joined_none (pair k v ps) = ap (pair k v) (joined_none ps)
 

@@ -12,7 +12,7 @@ use Rattle.amqp_value.specs.Order.{cmp_tree}
 use Rattle.amqp_value.specs.TreeOf.{tree_of}
 use Rattle.amqp_value.specs.declared.value.Value.{Value, the_lemmas}
 use Rattle.amqp_value.specs.declared.value.Value.TheVariants as kind
-use Rattle.amqp_value.proofs.BackLemmas.{float-tree, double-tree}
+use Rattle.amqp_value.proofs.BackLemmas.{float_tree, double_tree}
 use Rattle.amqp_value.proofs.OrderLemmas.{compare, compare-is_order}
 
 tree_of-Null : tree_of kind.Null ≡ tree.scalar tree.null
@@ -22,10 +22,10 @@ tree_of-Described : (d : Box (Described Value) Global) → tree_of (kind.Describ
 tree_of-Described d = search (rules, the_lemmas)
 
 pub floats : (a b : F32Bits) → compare (kind.Float a) (kind.Float b) ≡ nat_cmp (f32_bits a) (f32_bits b)
-floats a b = compare-is_order (kind.Float a) (kind.Float b) ∙ (λ i. cmp_tree (float-tree a i) (float-tree b i))
+floats a b = compare-is_order (kind.Float a) (kind.Float b) ∙ (λ i. cmp_tree (float_tree a i) (float_tree b i))
 
 pub doubles : (a b : F64Bits) → compare (kind.Double a) (kind.Double b) ≡ nat_cmp (f64_bits a) (f64_bits b)
-doubles a b = compare-is_order (kind.Double a) (kind.Double b) ∙ (λ i. cmp_tree (double-tree a i) (double-tree b i))
+doubles a b = compare-is_order (kind.Double a) (kind.Double b) ∙ (λ i. cmp_tree (double_tree a i) (double_tree b i))
 
 pub described-null : (d : Box (Described Value) Global) → compare (kind.Described d) kind.Null ≡ Less
 described-null d = compare-is_order (kind.Described d) kind.Null ∙ (λ i. cmp_tree (tree_of-Described d i) (tree_of-Null i))

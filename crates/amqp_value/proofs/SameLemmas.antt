@@ -1,15 +1,12 @@
 -- Trees are the same exactly where they are equal.
 use Rattle.std.proofs.Common.{◌≡◌, ℕ, ℤ, Bool, true, false, true≢false, ◌&&◌, ◌==◌, List, [], ◌∷◌, refl, sym, ap, arith}
 use Rattle.std.specs.Ordering.{int_eq}
+use Rattle.std.proofs.lemmas.Bool.{and_parts}
 use Rattle.std.proofs.lemmas.Grind.{common_steps}
 use Rattle.amqp_ser.specs.Tree.{Scalar, null, bool, ubyte, ushort, uint, ulong, byte, short, int, long, float, double, decimal32, decimal64, decimal128, char, timestamp, uuid, binary, string, symbol, Descriptor, name, code, Tree, Trees, Pairs, scalar, list, array, map, described, variant, lazy, transparent, no_trees, more, no_pairs, pair}
 use Rattle.amqp_ser.specs.Same.{same_tree, same_trees, same_pairs, same_scalar, same_descriptor, same_bytes, same_bool}
 
-both : (a b : Bool) → (a && b) ≡ true → (a ≡ true) × (b ≡ true)
-both true b h = (refl, h)
-both false b h = absurd (true≢false (sym h))
-
-numbers : (a b : ℕ) → (a == b) ≡ true → a ≡ b
+pub numbers : (a b : ℕ) → (a == b) ≡ true → a ≡ b
 numbers a b h = grind (arith, common_steps)
 
 integers : (a b : ℤ) → int_eq a b ≡ true → a ≡ b
@@ -19,7 +16,7 @@ bytes : (a b : List ℕ) → same_bytes a b ≡ true → a ≡ b
 bytes [] [] h = refl
 bytes [] (y ∷ ys) h = absurd (true≢false (sym h))
 bytes (x ∷ xs) [] h = absurd (true≢false (sym h))
-bytes (x ∷ xs) (y ∷ ys) h = let e = both (x == y) (same_bytes xs ys) h in λ i. numbers x y e.0 i ∷ bytes xs ys e.1 i
+bytes (x ∷ xs) (y ∷ ys) h = let e = and_parts (x == y) (same_bytes xs ys) h in λ i. numbers x y e.0 i ∷ bytes xs ys e.1 i
 
 bools : (a b : Bool) → same_bool a b ≡ true → a ≡ b
 bools true true h = refl
@@ -65,8 +62,8 @@ mutual
   same-equal (array ts) (array us) h = ap array (sames-equal ts us h)
   same-equal (map ps) (map qs) h = ap map (pairs-equal ps qs h)
   same-equal (described d t) (described e u) h =
-      let s = both (same_descriptor d e) (same_tree t u) h in λ i. described (descriptors d e s.0 i) (same-equal t u s.1 i)
-  same-equal (variant m t) (variant n u) h = let s = both (m == n) (same_tree t u) h in λ i. variant (numbers m n s.0 i) (same-equal t u s.1 i)
+      let s = and_parts (same_descriptor d e) (same_tree t u) h in λ i. described (descriptors d e s.0 i) (same-equal t u s.1 i)
+  same-equal (variant m t) (variant n u) h = let s = and_parts (m == n) (same_tree t u) h in λ i. variant (numbers m n s.0 i) (same-equal t u s.1 i)
   same-equal (lazy a) (lazy b) h = ap lazy (bytes a b h)
   same-equal (transparent ts) (transparent us) h = ap transparent (sames-equal ts us h)
   same-equal _ _ h = absurd (true≢false (sym h))
@@ -74,14 +71,14 @@ mutual
   pub sames-equal : (ts us : Trees) → same_trees ts us ≡ true → ts ≡ us
   sames-equal no_trees no_trees h = refl
   sames-equal (more t ts) (more u us) h =
-      let s = both (same_tree t u) (same_trees ts us) h in λ i. more (same-equal t u s.0 i) (sames-equal ts us s.1 i)
+      let s = and_parts (same_tree t u) (same_trees ts us) h in λ i. more (same-equal t u s.0 i) (sames-equal ts us s.1 i)
   sames-equal _ _ h = absurd (true≢false (sym h))
 
   pub pairs-equal : (ps qs : Pairs) → same_pairs ps qs ≡ true → ps ≡ qs
   pairs-equal no_pairs no_pairs h = refl
   pairs-equal (pair k v ps) (pair l w qs) h =
-      let s = both (same_tree k l && same_tree v w) (same_pairs ps qs) h in
-      let e = both (same_tree k l) (same_tree v w) s.0 in
+      let s = and_parts (same_tree k l && same_tree v w) (same_pairs ps qs) h in
+      let e = and_parts (same_tree k l) (same_tree v w) s.0 in
       λ i. pair (same-equal k l e.0 i) (same-equal v w e.1 i) (pairs-equal ps qs s.1 i)
   pairs-equal _ _ h = absurd (true≢false (sym h))
 

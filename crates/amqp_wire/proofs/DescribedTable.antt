@@ -23,7 +23,7 @@ use Rattle.amqp_wire.specs.Dense.{is_opaque, dense}
 use Rattle.amqp_wire.specs.Writer.{Extends}
 use Rattle.amqp_wire.specs.declared.measurer.Measurer.{Measurer}
 use Rattle.amqp_wire.specs.declared.measurer.Measuring.{Measuring}
-use Rattle.amqp_size.proofs.Described.{described_rest}
+use Rattle.amqp_size.proofs.Described.{described_rest, some_of}
 use Rattle.amqp_wire.proofs.CountWithinBytes.{no_false}
 use Rattle.amqp_wire.proofs.HeldKinds.{held_single}
 use Rattle.amqp_wire.proofs.FilledHeaders.{suits_placed, inside_opaque}
@@ -39,15 +39,11 @@ descriptor_entries (variant i t) h = absurd (no_false h)
 descriptor_entries (lazy bs) h = absurd (no_false h)
 descriptor_entries (transparent ts) h = absurd (no_false h)
 
-is_one : (o : Option Descriptor) → is_some o ≡ true → (x : Descriptor) × (o ≡ Some x)
-is_one None h = absurd (no_false h)
-is_one (Some x) h = (x, refl)
-
 -- a descriptor that was counted is one, and left the table as it was
 pub counted_alone : (d : Option Tree) (n : ℕ) (after : Pending) (b a : List Header) → at_position position.Descriptor d (Ok n) after → listed d b a → ((x : Descriptor) × (descriptor_of d ≡ Some x)) × (a ≡ b)
 counted_alone None n after b a h l = absurd h
 counted_alone (Some t) n after b a h l =
-    (is_one (descriptor_of (Some t)) h.suited, l.0 ∙ ap (λ es. b ++ es) (descriptor_entries t h.suited) ∙ append-nil b)
+    (some_of (descriptor_of (Some t)) h.suited, l.0 ∙ ap (λ es. b ++ es) (descriptor_entries t h.suited) ∙ append-nil b)
 
 plain_position : (p : Position) (v : Pending) (n : ℕ) → plainly (described_position p n) ≡ Some v → (q : Position) × (pending.Plain q ≡ v)
 plain_position position.Root v n h = (position.Value (n + 1) base.Root, cc)

@@ -1,5 +1,6 @@
 -- What is held lazily, read again.
 use Rattle.std.proofs.Common.{ℕ, ◌≡◌, ◌≤◌, ◌&&◌, true, Some, ◌∙◌}
+use Rattle.std.proofs.lemmas.Bool.{and_parts}
 use Rattle.amqp_data.specs.declared.error.Error.{Error}
 use Rattle.amqp_data.specs.declared.error.Error.TheVariants.{OutOfMemory}
 use Rattle.amqp_ser.specs.Encoding.{encoding}
@@ -12,7 +13,7 @@ use Rattle.amqp_value.specs.TreeOf.{tree_of}
 use Rattle.amqp_value.specs.declared.value.Value.{Value}
 use Rattle.amqp_decode.specs.Depth.{IsOrdinary, AreOrdinary, HasOrdinaryPairs, depth_of}
 use Rattle.amqp_decode.specs.Spells.{Spells}
-use Rattle.amqp_decode.proofs.Encodes.{both, encoding-spells}
+use Rattle.amqp_decode.proofs.Encodes.{encoding-spells}
 use Rattle.amqp_decode.proofs.OwnImage.{spelled-own_image}
 use Rattle.amqp_decode.proofs.Whole.{one-tree}
 use Rattle.amqp_to_value.specs.ImageOf.{StandsFor, refuses}
@@ -21,8 +22,8 @@ use Rattle.amqp_to_value.proofs.LazyLemmas.{read_refused}
 -- the bytes of the tree spell its image
 pub own-bytes : (t : Tree) → IsRanged t → writable t ≡ true → IsOrdinary t → (d : ℕ) → depth_of t ≤ d → Spells d (encoding t) (image t)
 own-bytes t r w o d le =
-    let within_and = both (within_limits t) (uniform_arrays t && placed t) w in
-    let alike_and = both (uniform_arrays t) (placed t) within_and.1 in
+    let within_and = and_parts (within_limits t) (uniform_arrays t && placed t) w in
+    let alike_and = and_parts (uniform_arrays t) (placed t) within_and.1 in
     encoding-spells t (r, within_and.0, alike_and.0, o) d le
 
 pub held-image : (t : Tree) (v : Value) → Spells 256 (encoding t) (image t) → StandsFor v (Some (lazy (encoding t))) → tree_of v ≡ image t

@@ -1,6 +1,7 @@
 //! Worked rows of the accessors: what they answer, and what they leave.
 
-use amqp_data::{Error, OrderedMap};
+use super::ordered_map;
+use amqp_data::Error;
 use amqp_de::VariantOf;
 use amqp_de::de::{EnumAccess as _, MapAccess as _, SeqAccess as _, VariantAccess as _};
 use amqp_from_value::{Deserializer, MapAccess, SeqAccess, VariantAccess};
@@ -13,11 +14,7 @@ fn elements<const N: usize>(alloc: Global, items: [Value; N]) -> Result<SeqAcces
 }
 
 fn entries<const N: usize>(alloc: Global, pairs: [(Value, Value); N]) -> Result<MapAccess, Fail> {
-    let mut map = OrderedMap::new(alloc);
-    for (key, value) in Vec::from_array(alloc, pairs)? {
-        drop(map.insert(key, value)?);
-    }
-    Ok(MapAccess::new(alloc, map))
+    Ok(MapAccess::new(alloc, ordered_map(alloc, pairs)?))
 }
 
 #[test]

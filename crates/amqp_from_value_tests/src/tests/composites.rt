@@ -5,7 +5,8 @@ ghost use Rattle.amqp_ser.specs.Tree.{code, described, list, trees_of};
 ghost use Rattle.amqp_de.specs.Fields.{OnDescribed, OnFields, OnNamed, must, may, end};
 ghost use Rattle.amqp_de.specs.Reads.{image_option, RestorableOption, SameOption};
 
-use amqp_data::{Described, Descriptor, Error, OrderedMap};
+use super::{list, map, string};
+use amqp_data::{Described, Descriptor, Error};
 use amqp_de::de::{Deserialize, Deserializer};
 use amqp_de::{ListOf, NamedOf, Record, fields, named, read_described};
 use amqp_from_value::from_value;
@@ -96,22 +97,6 @@ fn described(alloc: Global, code: u64, value: Value) -> Result<Value, Fail> {
         value,
     };
     Ok(Value::Described(Box::new(alloc, whole)?))
-}
-
-fn list<const N: usize>(alloc: Global, items: [Value; N]) -> Result<Value, Fail> {
-    Ok(Value::List(Vec::from_array(alloc, items)?))
-}
-
-fn string(alloc: Global, text: &str) -> Result<Value, Fail> {
-    Ok(Value::String(String::from_str(alloc, text)?))
-}
-
-fn map<const N: usize>(alloc: Global, pairs: [(Value, Value); N]) -> Result<Value, Fail> {
-    let mut map = OrderedMap::new(alloc);
-    for (key, value) in Vec::from_array(alloc, pairs)? {
-        drop(map.insert(key, value)?);
-    }
-    Ok(Value::Map(map))
 }
 
 #[test]

@@ -1,20 +1,12 @@
 //! Lazy values: any value that can be written, as its bytes.
 
-use amqp_data::{Array, Error};
+use super::{array, list};
+use amqp_data::Error;
 use amqp_de::de::Refusal;
 use amqp_frame::LazyValue;
 use amqp_from_value::from_value;
 use amqp_value::Value;
-use std::alloc::Global;
 use std::test::Fail;
-
-fn list<const N: usize>(alloc: Global, items: [Value; N]) -> Result<Value, Fail> {
-    Ok(Value::List(Vec::from_array(alloc, items)?))
-}
-
-fn array<const N: usize>(alloc: Global, items: [Value; N]) -> Result<Value, Fail> {
-    Ok(Value::Array(Array::from(Vec::from_array(alloc, items)?)))
-}
 
 #[test]
 fn a_lazy_value_is_the_bytes_of_any_value(rt: HostRuntime) -> Result<(), Fail> {

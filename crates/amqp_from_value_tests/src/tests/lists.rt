@@ -1,18 +1,10 @@
 //! Worked rows of vectors, arrays and arrays of a fixed length: from a list, and from an array.
 
+use super::{array, list};
 use amqp_data::{Array, Error, TransparentVec};
 use amqp_from_value::from_value;
 use amqp_value::Value;
-use std::alloc::Global;
 use std::test::Fail;
-
-fn list<const N: usize>(alloc: Global, items: [Value; N]) -> Result<Value, Fail> {
-    Ok(Value::List(Vec::from_array(alloc, items)?))
-}
-
-fn array<const N: usize>(alloc: Global, items: [Value; N]) -> Result<Value, Fail> {
-    Ok(Value::Array(Array::from(Vec::from_array(alloc, items)?)))
-}
 
 #[test]
 fn vectors_are_read_from_lists(rt: HostRuntime) -> Result<(), Fail> {

@@ -1,23 +1,12 @@
 //! Worked rows of maps: pairs inserted in turn, each key before its value.
 
+use super::{list, map};
 use amqp_data::{Error, OrderedMap, Symbol};
 use amqp_from_value::from_value;
 use amqp_value::Value;
 use std::alloc::Global;
 use std::collections::{BTreeMap, HashMap};
 use std::test::Fail;
-
-fn list<const N: usize>(alloc: Global, items: [Value; N]) -> Result<Value, Fail> {
-    Ok(Value::List(Vec::from_array(alloc, items)?))
-}
-
-fn map<const N: usize>(alloc: Global, pairs: [(Value, Value); N]) -> Result<Value, Fail> {
-    let mut map = OrderedMap::new(alloc);
-    for (key, value) in Vec::from_array(alloc, pairs)? {
-        drop(map.insert(key, value)?);
-    }
-    Ok(Value::Map(map))
-}
 
 // Two keys that differ as values, and are one as lists of at least one number.
 fn keys_that_become_one(alloc: Global) -> Result<Value, Fail> {

@@ -1,6 +1,7 @@
 //! Worked rows of enums: from an index, a list and a map.
 
-use amqp_data::{Error, OrderedMap};
+use super::{list, map};
+use amqp_data::Error;
 use amqp_de::{EnumOf, Never, OneOf, Seed, named, variant, variants};
 use amqp_from_value::Deserializer;
 use amqp_value::Value;
@@ -17,18 +18,6 @@ fn sample(alloc: Global, value: Value) -> Result<Sample, Error> {
         alloc,
         Deserializer::new(alloc, value),
     )
-}
-
-fn list<const N: usize>(alloc: Global, items: [Value; N]) -> Result<Value, Fail> {
-    Ok(Value::List(Vec::from_array(alloc, items)?))
-}
-
-fn map<const N: usize>(alloc: Global, pairs: [(Value, Value); N]) -> Result<Value, Fail> {
-    let mut map = OrderedMap::new(alloc);
-    for (key, value) in Vec::from_array(alloc, pairs)? {
-        drop(map.insert(key, value)?);
-    }
-    Ok(Value::Map(map))
 }
 
 #[test]

@@ -5,7 +5,8 @@ ghost use Rattle.amqp_ser.specs.Tree.{Tree, scalar, uint, list, trees_of};
 ghost use Rattle.amqp_de.specs.Events.{seq_event, visit_of, ByList};
 ghost use Rattle.amqp_de.specs.Reads.{Always};
 
-use amqp_data::{Array, Described, Descriptor, Error, OrderedMap, Symbol};
+use super::{array, list};
+use amqp_data::{Described, Descriptor, Error, OrderedMap, Symbol};
 use amqp_de::VariantOf;
 use amqp_de::de::{
     self, Deserialize, Deserializer as _, EnumAccess, MapAccess, Plain, Refusal, SeqAccess,
@@ -133,10 +134,6 @@ fn symbol(alloc: Global) -> Result<Value, Fail> {
     Ok(Value::Symbol(Symbol::try_from_str(alloc, "k")?))
 }
 
-fn list<const N: usize>(alloc: Global, items: [Value; N]) -> Result<Value, Fail> {
-    Ok(Value::List(Vec::from_array(alloc, items)?))
-}
-
 #[test]
 fn a_point_comes_from_a_list_of_two(rt: HostRuntime) -> Result<(), Fail> {
     let alloc = rt.alloc();
@@ -209,7 +206,7 @@ fn each_call_has_its_visit(rt: HostRuntime) -> Result<(), Fail> {
             Ok(Visit::Value)
         )
     );
-    let array = Value::Array(Array::from(Vec::from_array(alloc, [Value::Uint(1)])?));
+    let array = array(alloc, [Value::Uint(1)])?;
     assert!(rt; matches!(of(array).deserialize_enum("__ARRAY", Which), Ok(Visit::Seq)));
     assert!(rt;
         matches!(

@@ -170,6 +170,29 @@ fn pairs<S: Serializer>(
     serializer.end(held)
 }
 
+/// Feeds the one part, at the first of three attempts that is taken, and ends.
+#[cycle(scripts)]
+fn feed_one<S: Serializer>(
+    serializer: &mut S,
+    mut held: S::Open,
+    refused: &mut Refused,
+    seed: u64,
+    depth: u32,
+) -> Result<S::Ok, S::Error> {
+    for part in 0..3u64 {
+        if feed(
+            &mut *serializer,
+            &mut held,
+            &mut *refused,
+            child(seed, part),
+            depth,
+        )? {
+            return serializer.end(held);
+        }
+    }
+    Err(serializer.misuse(&mut held))
+}
+
 /// One value that stands for itself, behind a descriptor or not.
 #[cycle(scripts)]
 fn alone<S: Serializer>(
@@ -194,18 +217,7 @@ fn alone<S: Serializer>(
             refused.add(next);
         }
     }
-    for part in 0..3u64 {
-        if feed(
-            &mut *serializer,
-            &mut held,
-            &mut *refused,
-            child(seed, part),
-            depth,
-        )? {
-            return serializer.end(held);
-        }
-    }
-    Err(serializer.misuse(&mut held))
+    feed_one(serializer, held, refused, seed, depth)
 }
 
 /// A variant of one value.
@@ -216,19 +228,8 @@ fn only<S: Serializer>(
     seed: u64,
     depth: u32,
 ) -> Result<S::Ok, S::Error> {
-    let mut held = serializer.begin(Kind::NewtypeVariant(7));
-    for part in 0..3u64 {
-        if feed(
-            &mut *serializer,
-            &mut held,
-            &mut *refused,
-            child(seed, part),
-            depth,
-        )? {
-            return serializer.end(held);
-        }
-    }
-    Err(serializer.misuse(&mut held))
+    let held = serializer.begin(Kind::NewtypeVariant(7));
+    feed_one(serializer, held, refused, seed, depth)
 }
 
 /// Any value of a depth, from a seed.

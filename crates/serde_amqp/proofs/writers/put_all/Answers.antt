@@ -1,5 +1,6 @@
 use Rattle.std.proofs.Common.{length-drop, arith}
-use Rattle.serde_amqp.proofs.Written.{rest-is, writes-more}
+use Rattle.amqp_frame.proofs.Primitive.{rest-is}
+use Rattle.serde_amqp.proofs.Written.{writes-more}
 use Rattle.serde_amqp.proofs.writers.put_all.Goals as goal
 
 pub loop-at-preserved : goal.loop-at-preserved

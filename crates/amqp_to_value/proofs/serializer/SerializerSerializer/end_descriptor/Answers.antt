@@ -5,18 +5,16 @@ use Rattle.amqp_ser.specs.Composites.{as_described, descriptor_of}
 use Rattle.amqp_to_value.specs.PendingDescriptors.{standing}
 use Rattle.amqp_to_value.specs.ValueSerializer.{IsSaved, meant_by, value_permits}
 use Rattle.amqp_to_value.specs.ImageOf.{refuses}
-use Rattle.amqp_to_value.proofs.AnswerLemmas.{aside_again, kept_same, parted_again}
+use Rattle.amqp_to_value.proofs.AnswerLemmas.{kept_same, parted_again, saved_after}
 use Rattle.amqp_to_value.proofs.DescriptorLemmas.{descriptor_answer, descriptor_refused, no_descriptor, permitted_before, same_descriptor}
 use Rattle.amqp_to_value.proofs.serializer.SerializerSerializer.end_descriptor.Goals as goal
 
 pub returns-in_err-part-clause-step : goal.returns-in_err-part-clause-step
 returns-in_err-part-clause-step c = λ start before d h r.
     let e = c.in_err-part.field-0.0 in
-    let all = start.descriptors.kept ++ standing start.descriptors in
     let answer = subst (λ x. value_permits before d x c.args.self.now) c.in_err-part.was r in
-    let kept = kept_same all before c.args.self.now (Err e) h.2.2 answer.1 in
-    let saved = aside_again start c.args.self.now c.release.new.self c.args.self.now.descriptors.later kept.0 c.release.ensures.next
-    (c.release.ensures.parted start.descriptors.kept (standing start.descriptors) _ (parted_again start c.args.self.now kept) h.0) in
+    let saved = saved_after start before c.args.self.now c.release.new.self (Err e) h.2.2 answer.1 c.release.ensures.next
+    (λ rest at. c.release.ensures.parted start.descriptors.kept (standing start.descriptors) rest at h.0) in
     let refused = descriptor_answer start before d (Err e) h.2 answer.0 in
     let same : c.from_residual.result ≡ Err e = search rules in
     rw same ((h.0, h.1, saved), λ t. (descriptor_refused start d e refused t, saved))
@@ -24,11 +22,9 @@ returns-in_err-part-clause-step c = λ start before d h r.
 pub returns-in_err-descriptor-clause-step : goal.returns-in_err-descriptor-clause-step
 returns-in_err-descriptor-clause-step c = λ start before d h r.
     let v = c.in_ok-part.field-0 in
-    let all = start.descriptors.kept ++ standing start.descriptors in
     let answer = subst (λ x. value_permits before d x c.args.self.now) c.in_ok-part.was r in
-    let kept = kept_same all before c.args.self.now (Ok v) h.2.2 answer.1 in
-    let saved = aside_again start c.args.self.now c.release.new.self c.args.self.now.descriptors.later kept.0 c.release.ensures.next
-    (c.release.ensures.parted start.descriptors.kept (standing start.descriptors) _ (parted_again start c.args.self.now kept) h.0) in
+    let saved = saved_after start before c.args.self.now c.release.new.self (Ok v) h.2.2 answer.1 c.release.ensures.next
+    (λ rest at. c.release.ensures.parted start.descriptors.kept (standing start.descriptors) rest at h.0) in
     let stands = descriptor_answer start before d (Ok v) h.2 answer.0 in
     let none = c.in_err-descriptor.ensures in
     let same : c.from_residual-in_err-descriptor.result ≡ Err InvalidValue = search rules in

@@ -3,7 +3,7 @@ use Rattle.amqp_value.specs.Image.{image}
 use Rattle.amqp_to_value.specs.PendingDescriptors.{standing}
 use Rattle.amqp_to_value.specs.ValueSerializer.{HasParts, IsReady, value_permits}
 use Rattle.amqp_to_value.specs.declared.open_value.OpenBody.TheVariants as body
-use Rattle.amqp_to_value.proofs.AnswerLemmas.{aside_again, kept_on, parted_again}
+use Rattle.amqp_to_value.proofs.AnswerLemmas.{aside_again, saved_after}
 use Rattle.amqp_to_value.proofs.ValueSerializerLemmas.{part_left, part_taken, plain_answer}
 use Rattle.amqp_to_value.proofs.PartLemmas.{single_taken, left_by_refusal, part_refused, second_part, stands}
 use Rattle.amqp_to_value.proofs.serializer.SerializerSerializer.end_part.Goals as goal
@@ -46,9 +46,8 @@ returns-in-Some-clause-step c = λ start kind before ps p h r.
     let has = subst (λ b. HasParts start.pending kind b ps) is h.1 in
     let ready = subst (IsReady start before) is h.2 in
     let answer = subst (λ x. value_permits before p x c.args.self.now) c.in_ok-value.was r in
-    let kept = kept_on _ before c.args.self.now (Ok c.in_ok-value.value) ready answer.1 in
-    let saved = aside_again start c.args.self.now c.release.new.self c.args.self.now.descriptors.later kept.0 c.release.ensures.next
-    (c.release.ensures.parted start.descriptors.kept (standing start.descriptors) _ (parted_again start c.args.self.now kept) h.0) in
+    let saved = saved_after start before c.args.self.now c.release.new.self (Ok c.in_ok-value.value) ready.1 answer.1 c.release.ensures.next
+    (λ rest at. c.release.ensures.parted start.descriptors.kept (standing start.descriptors) rest at h.0) in
     let second = second_part start (record { alloc = c.args.self.now.alloc; pending = c.args.self.now.pending; descriptors = c.release.new.self }) kind c.in-Single.field-0 _ ps p has saved in
     ((h.0, subst (λ b. HasParts start.pending kind b ps) c.in-Single.is h.1, second.0), second.1)
 
@@ -57,9 +56,8 @@ returns-in-Ok-clause-step c = λ start kind before ps p h r.
     let has = subst (λ b. HasParts start.pending kind b ps) c.in-Parts.is h.1 in
     let ready = subst (IsReady start before) c.in-Parts.is h.2 in
     let answer = subst (λ x. value_permits before p x c.args.self.now) c.in_ok-value.was r in
-    let kept = kept_on _ before c.args.self.now (Ok c.in_ok-value.value) ready answer.1 in
-    let saved = aside_again start c.args.self.now c.release.new.self c.args.self.now.descriptors.later kept.0 c.release.ensures.next
-    (c.release.ensures.parted start.descriptors.kept (standing start.descriptors) _ (parted_again start c.args.self.now kept) h.0) in (
+    let saved = saved_after start before c.args.self.now c.release.new.self (Ok c.in_ok-value.value) ready.1 answer.1 c.release.ensures.next
+    (λ rest at. c.release.ensures.parted start.descriptors.kept (standing start.descriptors) rest at h.0) in (
       h.0,
       (
         has.0,
@@ -74,9 +72,8 @@ returns-in-Err-clause-step c = λ start kind before ps p h r.
     let has = subst (λ b. HasParts start.pending kind b ps) c.in-Parts.is h.1 in
     let ready = subst (IsReady start before) c.in-Parts.is h.2 in
     let answer = subst (λ x. value_permits before p x c.args.self.now) c.in_ok-value.was r in
-    let kept = kept_on _ before c.args.self.now (Ok c.in_ok-value.value) ready answer.1 in
-    let saved = aside_again start c.args.self.now c.release.new.self c.args.self.now.descriptors.later kept.0 c.release.ensures.next
-    (c.release.ensures.parted start.descriptors.kept (standing start.descriptors) _ (parted_again start c.args.self.now kept) h.0) in (
+    let saved = saved_after start before c.args.self.now c.release.new.self (Ok c.in_ok-value.value) ready.1 answer.1 c.release.ensures.next
+    (λ rest at. c.release.ensures.parted start.descriptors.kept (standing start.descriptors) rest at h.0) in (
       (
         h.0,
         (

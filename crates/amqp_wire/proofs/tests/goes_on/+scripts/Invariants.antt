@@ -3,19 +3,22 @@ use Rattle.amqp_wire.proofs.tests.goes_on.+scripts.Given as goal
 
 -- a value takes one level of the depth, and its parts have the levels that are left
 abbrev pub decreases-value : goal.decreases-value
-decreases-value g l = l.depth * 3
+decreases-value g l = l.depth * 4
 
 abbrev pub decreases-feed : goal.decreases-feed
-decreases-feed g l = l.depth * 3 + 1
+decreases-feed g l = l.depth * 4 + 1
 
 abbrev pub decreases-sequence : goal.decreases-sequence
-decreases-sequence g l = l.depth * 3 + 2
+decreases-sequence g l = l.depth * 4 + 2
 
 abbrev pub decreases-pairs : goal.decreases-pairs
-decreases-pairs g l = l.depth * 3 + 2
+decreases-pairs g l = l.depth * 4 + 2
+
+abbrev pub decreases-feed_one : goal.decreases-feed_one
+decreases-feed_one g l = l.depth * 4 + 2
 
 abbrev pub decreases-alone : goal.decreases-alone
-decreases-alone g l = l.depth * 3 + 2
+decreases-alone g l = l.depth * 4 + 3
 
 abbrev pub decreases-only : goal.decreases-only
-decreases-only g l = l.depth * 3 + 2
+decreases-only g l = l.depth * 4 + 3
