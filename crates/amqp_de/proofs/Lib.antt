@@ -3,3 +3,4 @@ pub mod Gathered
 pub mod Inserted
 pub mod Keys
 pub mod Lists
+pub mod LeftOut

@@ -26,10 +26,6 @@ TakesPair value old new (Some e) = old ≡ (value e.0, value e.1) ∷ new
 abbrev pub Restores : {T E : Type 0} → (T → Tree) → (T → Type 0) → (T → T → Type 0) → (E → Type 0) → Tree → Result T E → Type 0
 Restores {T} image P S Memory t r = (x : T) → P x → t ≡ image x → MatchResult r (λ y. S y x) Memory
 
--- the same of a list of trees
-abbrev pub RestoresAll : {T E : Type 0} → (T → List Tree) → (T → Type 0) → (T → T → Type 0) → (E → Type 0) → List Tree → Result T E → Type 0
-RestoresAll {T} images P S Memory ts r = (x : T) → P x → ts ≡ images x → MatchResult r (λ y. S y x) Memory
-
 -- the parts of a value are read, or there is no value with such parts
 abbrev pub PartsOf : {V T E : Type 0} → (V → T) → (E → Type 0) → (T → Type 0) → Result T E → Type 0
 PartsOf parts Memory P (Ok x) = P x

@@ -3,6 +3,7 @@ pub mod Parts
 pub mod Maps
 pub mod Reads
 pub mod Fields
+pub mod Present
 pub mod Answers
 pub mod ContentTree
 pub mod Enums

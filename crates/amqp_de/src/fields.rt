@@ -1,10 +1,11 @@
 //! The fields of a struct, read together.
 
-ghost use Rattle.std.specs.Prelude.{◌≡◌, List, [], ◌∷◌};
+ghost use Rattle.std.specs.Prelude.{◌≡◌, ℕ, List, [], ◌∷◌, Bool, true, MatchResult};
 ghost use Rattle.amqp_ser.specs.Tree.{Tree};
-ghost use Rattle.amqp_de.specs.Answers.{Answers, RestoresAll};
+ghost use Rattle.amqp_de.specs.Answers.{Answers};
 ghost use Rattle.amqp_de.specs.Fields.{FieldSource, by_position, by_name, must, may, end};
-ghost use Rattle.amqp_de.specs.Reads.{Always, image_option, RestorableOption, SameOption};
+ghost use Rattle.amqp_de.specs.Present.{IsCut, required, optional, those_there, distinct_names};
+ghost use Rattle.amqp_de.specs.Reads.{Always, RestorableOption, SameOption};
 
 use crate::de::{Deserialize, Deserializer, Refusal};
 use std::alloc::Global;
@@ -21,8 +22,11 @@ pub trait Fields: Sized + Drop {
     /// Which elements or entries are read as which values.
     ghost reads: { Self → Self.Values → FieldSource → Type 0 };
 
-    /// The images of the fields, in order.
-    ghost images: { Self.Values → List Tree };
+    /// The names of the fields, in order.
+    ghost names: { Self → List (List ℕ) };
+
+    /// Whether each field is there, and its image, in order.
+    ghost images: { Self.Values → List (Bool × Tree) };
 
     /// Whether each field comes back from its image.
     ghost restorable: { Self.Values → Type 0 };
@@ -44,8 +48,8 @@ pub trait Fields: Sized + Drop {
     ) -> Result<Self::Values, D::Error>
         ensures read { Answers D.Error.is_memory
             (λ x. reads self.now x (by_position (D.items elements.old))) result }
-        ensures law { RestoresAll images restorable same
-            D.Error.is_memory (D.items elements.old) result };
+        ensures law { (x : Self.Values) → restorable x → IsCut (images x) (D.items elements.old) →
+            MatchResult result (λ y. same y x) D.Error.is_memory };
 
     /// Reads the fields from the entries of a map, by their names. Entries left over are ignored.
     ///
@@ -59,8 +63,12 @@ pub trait Fields: Sized + Drop {
         alloc: Global,
         entries: &mut D::Entries,
     ) -> Result<Self::Values, D::Error>
-        ensures { Answers D.Error.is_memory
-            (λ x. reads self.now x (by_name (D.pairs entries.old))) result };
+        ensures read { Answers D.Error.is_memory
+            (λ x. reads self.now x (by_name (D.pairs entries.old))) result }
+        ensures law { (x : Self.Values) → restorable x →
+            distinct_names (names self.now) ≡ true →
+            D.pairs entries.old ≡ those_there (names self.now) (images x) →
+            MatchResult result (λ y. same y x) D.Error.is_memory };
 }
 
 #[tactic(auto, unfolding(crate::specs::Fields::end))]
@@ -68,6 +76,8 @@ impl Fields for () {
     type Values = ();
 
     ghost reads = { λ _ _. end };
+
+    ghost names = { λ _. [] };
 
     ghost images = { λ _. [] };
 
@@ -109,7 +119,9 @@ impl<V: Deserialize, R: Fields> Fields for Must<V, R> {
 
     ghost reads = { λ f x. must f.name.now V.reads x.0 (R.reads f.rest x.1) };
 
-    ghost images = { λ x. V.image x.0 ∷ R.images x.1 };
+    ghost names = { λ f. f.name.now ∷ R.names f.rest };
+
+    ghost images = { λ x. required (V.image x.0) ∷ R.images x.1 };
 
     ghost restorable = { λ x. V.restorable x.0 × R.restorable x.1 };
 
@@ -157,13 +169,15 @@ pub struct May<V, R> {
     pub rest: R,
 }
 
-#[tactic(auto, unfolding(crate::specs::Fields::may))]
+#[tactic(auto, using(crate::proofs::LeftOut::present_value, crate::proofs::LeftOut::absent_same, crate::proofs::LeftOut::rest_there, crate::proofs::LeftOut::others_distinct), unfolding(crate::specs::Fields::may))]
 impl<V: Deserialize, R: Fields> Fields for May<V, R> {
     type Values = (Option<V>, R::Values);
 
     ghost reads = { λ f x. may f.name.now V.reads x.0 (R.reads f.rest x.1) };
 
-    ghost images = { λ x. image_option V.image x.0 ∷ R.images x.1 };
+    ghost names = { λ f. f.name.now ∷ R.names f.rest };
+
+    ghost images = { λ x. optional V.image x.0 ∷ R.images x.1 };
 
     ghost restorable = { λ x. RestorableOption V.image V.restorable x.0 × R.restorable x.1 };
 
@@ -187,11 +201,16 @@ impl<V: Deserialize, R: Fields> Fields for May<V, R> {
         alloc: Global,
         entries: &mut D::Entries,
     ) -> Result<(Option<V>, R::Values), D::Error> {
-        let value = match D::take_named(&mut *entries, self.name) {
-            Some(entry) => Option::<V>::deserialize(alloc, entry)?,
-            None => None,
-        };
-        let rest = self.rest.read_entries::<D>(alloc, entries)?;
-        Ok((value, rest))
+        match D::take_named(&mut *entries, self.name) {
+            Some(entry) => {
+                let value = Option::<V>::deserialize(alloc, entry)?;
+                let rest = self.rest.read_entries::<D>(alloc, entries)?;
+                Ok((value, rest))
+            }
+            None => {
+                let rest = self.rest.read_entries::<D>(alloc, entries)?;
+                Ok((None, rest))
+            }
+        }
     }
 }

@@ -83,6 +83,10 @@ pub fn read<T: Record, D: Deserializer, S: Seed<Value = T::Parts>>(
     ensures read { PartsOf T.parts D.Error.is_memory (S.reads seed (D.value deserializer)) result }
     ensures law { RestoresParts T.parts (λ v. S.image (T.parts v))
         S.restorable S.same D.Error.is_memory (D.value deserializer) result }
+    ensures short { RestoresParts T.parts (λ v. S.short (T.parts v))
+        S.restorable S.same D.Error.is_memory (D.value deserializer) result }
+    ensures named { S.is_named seed → RestoresParts T.parts (λ v. S.by_name seed (T.parts v))
+        S.restorable S.same D.Error.is_memory (D.value deserializer) result }
 {
     match seed.read(alloc, deserializer) {
         Ok(parts) => Ok(parts),
@@ -110,6 +114,12 @@ pub fn read_described<T: Record, D: Deserializer, K: Describes, S: Seed<Value = 
         result }
     ensures law { RestoresParts T.parts
         (λ v. described (K.wanted descriptor.now) (S.image (T.parts v)))
+        S.restorable S.same D.Error.is_memory (D.value deserializer) result }
+    ensures short { RestoresParts T.parts
+        (λ v. described (K.wanted descriptor.now) (S.short (T.parts v)))
+        S.restorable S.same D.Error.is_memory (D.value deserializer) result }
+    ensures named { S.is_named seed → RestoresParts T.parts
+        (λ v. described (K.wanted descriptor.now) (S.by_name seed (T.parts v)))
         S.restorable S.same D.Error.is_memory (D.value deserializer) result }
 {
     match deserializer.open() {

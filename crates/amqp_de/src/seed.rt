@@ -1,9 +1,10 @@
 //! What is read of one value: a type, a list of fields, fields by name.
 
-ghost use Rattle.std.specs.Prelude.{◌≡◌};
+ghost use Rattle.std.specs.Prelude.{◌≡◌, true};
 ghost use Rattle.amqp_ser.specs.Tree.{Tree, list, trees_of};
 ghost use Rattle.amqp_de.specs.Answers.{Answers, Restores};
 ghost use Rattle.amqp_de.specs.Fields.{OnFields, OnNamed};
+ghost use Rattle.amqp_de.specs.Present.{all_images, short_list, short_map, distinct_names};
 
 use crate::de::{Content, Deserialize, Deserializer, Refusal};
 use crate::fields::Fields;
@@ -27,6 +28,15 @@ pub trait Seed: Sized + Drop {
     /// Whether two have the same contents.
     ghost same: { Self.Value → Self.Value → Type 0 };
 
+    /// The same without the absent fields at its end, where it is a list of fields.
+    ghost short: { Self.Value → Tree };
+
+    /// The map of its fields that are there, by their names, where it is read from one.
+    ghost by_name: { Self → Self.Value → Tree };
+
+    /// Whether it is read from such a map: no two fields have the same name.
+    ghost is_named: { Self → Type 0 };
+
     /// Reads it.
     ///
     /// # Errors
@@ -37,6 +47,10 @@ pub trait Seed: Sized + Drop {
     fn read<D: Deserializer>(self, alloc: Global, deserializer: D) -> Result<Self::Value, D::Error>
         ensures read { Answers D.Error.is_memory (λ x. reads self (D.value deserializer) x) result }
         ensures law { Restores image restorable same
+            D.Error.is_memory (D.value deserializer) result }
+        ensures short { Restores short restorable same
+            D.Error.is_memory (D.value deserializer) result }
+        ensures named { is_named self → Restores (by_name self) restorable same
             D.Error.is_memory (D.value deserializer) result };
 }
 
@@ -55,6 +69,12 @@ impl<T: Deserialize> Seed for Of<T> {
 
     ghost same = { T.same };
 
+    ghost short = { T.image };
+
+    ghost by_name = { λ _. T.image };
+
+    ghost is_named = { λ _. ⊥ };
+
     fn read<D: Deserializer>(self, alloc: Global, deserializer: D) -> Result<T, D::Error> {
         T::deserialize(alloc, deserializer)
     }
@@ -64,22 +84,28 @@ impl<T: Deserialize> Seed for Of<T> {
 #[derive(Drop)]
 pub struct ListOf<F>(pub F);
 
-#[tactic(auto, using(crate::proofs::Lists::list_of_trees, crate::proofs::Lists::same_trees), unfolding(crate::specs::Fields::OnFields))]
+#[tactic(auto, using(crate::proofs::Lists::list_of_trees, crate::proofs::LeftOut::full, crate::proofs::LeftOut::cut), unfolding(crate::specs::Fields::OnFields, crate::specs::Present::short_list))]
 impl<F: Fields> Seed for ListOf<F> {
     type Value = F::Values;
 
     ghost reads = { λ s t x. OnFields (F.reads s.0 x) t };
 
-    ghost image = { λ x. list (trees_of (F.images x)) };
+    ghost image = { λ x. list (trees_of (all_images (F.images x))) };
 
     ghost restorable = { F.restorable };
 
     ghost same = { F.same };
 
+    ghost short = { λ x. short_list (F.images x) };
+
+    ghost by_name = { λ _ x. short_list (F.images x) };
+
+    ghost is_named = { λ _. ⊥ };
+
     fn read<D: Deserializer>(self, alloc: Global, deserializer: D) -> Result<F::Values, D::Error> {
         match deserializer.open() {
-            Content::List(mut elements) => {
-                match self.0.read_elements::<D>(alloc, &mut elements) {
+            Content::List(mut fields) => {
+                match self.0.read_elements::<D>(alloc, &mut fields) {
                     Ok(values) => Ok(values),
                     Err(error) => Err(error),
                 }
@@ -93,21 +119,33 @@ impl<F: Fields> Seed for ListOf<F> {
 #[derive(Drop)]
 pub struct NamedOf<F>(pub F);
 
-#[tactic(auto, using(crate::proofs::Lists::list_of_trees, crate::proofs::Lists::same_trees, crate::proofs::Lists::entries_in_pairs), unfolding(crate::specs::Fields::OnNamed))]
+#[tactic(auto, using(crate::proofs::Lists::list_of_trees, crate::proofs::Lists::entries_in_pairs, crate::proofs::LeftOut::full, crate::proofs::LeftOut::cut, crate::proofs::LeftOut::entries), unfolding(crate::specs::Fields::OnNamed, crate::specs::Present::short_list, crate::specs::Present::short_map))]
 impl<F: Fields> Seed for NamedOf<F> {
     type Value = F::Values;
 
     ghost reads = { λ s t x. OnNamed (F.reads s.0 x) t };
 
-    ghost image = { λ x. list (trees_of (F.images x)) };
+    ghost image = { λ x. list (trees_of (all_images (F.images x))) };
 
     ghost restorable = { F.restorable };
 
     ghost same = { F.same };
 
+    ghost short = { λ x. short_list (F.images x) };
+
+    ghost by_name = { λ s x. short_map (F.names s.0) (F.images x) };
+
+    ghost is_named = { λ s. distinct_names (F.names s.0) ≡ true };
+
     fn read<D: Deserializer>(self, alloc: Global, deserializer: D) -> Result<F::Values, D::Error> {
         match deserializer.open() {
-            Content::List(mut elements) | Content::Array(mut elements) => {
+            Content::List(mut elements) => {
+                match self.0.read_elements::<D>(alloc, &mut elements) {
+                    Ok(values) => Ok(values),
+                    Err(error) => Err(error),
+                }
+            }
+            Content::Array(mut elements) => {
                 match self.0.read_elements::<D>(alloc, &mut elements) {
                     Ok(values) => Ok(values),
                     Err(error) => Err(error),

@@ -2,15 +2,17 @@
 //!
 //! Each function does nothing: its contract is the law.
 
-ghost use Rattle.std.specs.Prelude.{ℕ, List, [], ◌∷◌, Option, Some};
+ghost use Rattle.std.specs.Prelude.{◌≡◌, ℕ, Bool, true, List, [], ◌∷◌, Option, Some, if◌then◌else◌};
 ghost use Rattle.amqp_ser.specs.Composites.{as_described};
 ghost use Rattle.amqp_ser.specs.Compounds.{whole};
 ghost use Rattle.amqp_ser.specs.Marked.{marked};
-ghost use Rattle.amqp_ser.specs.Tree.{Descriptor, Tree, Trees, array, list, described};
+ghost use Rattle.amqp_ser.specs.Named.{string_key};
+ghost use Rattle.amqp_ser.specs.Tree.{Descriptor, Tree, Trees, array, list, described, trees_of};
 ghost use Rattle.amqp_ser.specs.declared.kind.Kind.TheVariants as kind;
 ghost use Rattle.amqp_ser.specs.declared.mark.Mark.TheVariants as mark;
 ghost use Rattle.amqp_value.specs.Image.{variant_map};
-ghost use Rattle.amqp_restore.specs.Stands.{StandsAs, StandAs};
+ghost use Rattle.amqp_de.specs.Present.{distinct_names, short_list, short_map, up_to_last};
+ghost use Rattle.amqp_restore.specs.Stands.{StandsAs, StandAs, FieldsStandAs};
 
 /// The image of a list is the list of its elements' images.
 ///
@@ -51,4 +53,32 @@ pub fn described_return()
 pub fn variants_return()
     ensures value { (index : ℕ) (p : Option Tree) (u : Tree) → StandsAs p u → StandsAs (whole (kind.NewtypeVariant index) (p ∷ [])) (variant_map index u) }
     ensures fields { (index : ℕ) (ps : List (Option Tree)) (us : Trees) → StandAs ps us → StandsAs (whole (kind.Variant index) ps) (variant_map index (list us)) }
+{}
+
+/// The image of a list that is written without the absent fields at its end is the list of the images of those before.
+///
+/// # Memory
+/// Takes none.
+pub fn short_lists_return()
+    ensures whole { (ps : List (Option Tree)) (fs : List (Bool × Tree)) → StandAs ps (trees_of (up_to_last fs)) →
+        StandsAs (whole kind.List ps) (short_list fs) }
+    ensures field { (b : Bool) (p : Option Tree) (ps : List (Option Tree)) (t : Tree) (ts : List Tree) →
+        StandsAs p t → StandAs ps (trees_of ts) →
+        StandAs (if b then p ∷ ps else []) (trees_of (if b then t ∷ ts else [])) }
+{}
+
+/// The image of a map from names to fields is the map from the names to the images of the fields that are there.
+///
+/// # Memory
+/// Takes none.
+pub fn named_maps_return()
+    ensures whole { (ps : List (Option Tree)) (ns : List (List ℕ)) (fs : List (Bool × Tree)) →
+        distinct_names ns ≡ true → FieldsStandAs ps ns fs → StandsAs (whole kind.Map ps) (short_map ns fs) }
+    ensures none { FieldsStandAs [] [] [] }
+    ensures must { (n : List ℕ) (p : Option Tree) (ps : List (Option Tree)) (t : Tree)
+        (ns : List (List ℕ)) (fs : List (Bool × Tree)) → StandsAs p t → FieldsStandAs ps ns fs →
+        FieldsStandAs (string_key n ∷ p ∷ ps) (n ∷ ns) ((true, t) ∷ fs) }
+    ensures may { (b : Bool) (n : List ℕ) (p : Option Tree) (ps : List (Option Tree)) (t : Tree)
+        (ns : List (List ℕ)) (fs : List (Bool × Tree)) → StandsAs p t → FieldsStandAs ps ns fs →
+        FieldsStandAs (if b then string_key n ∷ p ∷ ps else ps) (n ∷ ns) ((b, t) ∷ fs) }
 {}

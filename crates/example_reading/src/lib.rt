@@ -3,6 +3,7 @@
 
 mod composites;
 mod day;
+mod gust;
 mod position;
 mod restored;
 mod sky;
@@ -11,5 +12,6 @@ mod tests;
 
 pub use composites::{Calibration, Limits, Span, Title};
 pub use day::{Day, Rain};
+pub use gust::Gust;
 pub use position::Position;
 pub use sky::Sky;

@@ -3,6 +3,7 @@
 
 use crate::composites::{Limits, Span, Title};
 use crate::day::Day;
+use crate::gust::Gust;
 use crate::position::Position;
 use crate::sky::Sky;
 use amqp_data::Symbol;
@@ -34,6 +35,14 @@ impl Restore for Limits {
         laws::lists_return();
         laws::described_return();
         <Option<Symbol> as Restore>::returns();
+    }
+}
+
+impl Restore for Gust {
+    fn returns() {
+        laws::short_lists_return();
+        laws::described_return();
+        <Option<u16> as Restore>::returns();
     }
 }
 

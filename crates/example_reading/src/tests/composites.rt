@@ -1,9 +1,10 @@
 //! Composites, from lists and maps, after their descriptors and others.
 
 use super::{coded, is_invalid, list, map, named, stands_for, string, text};
-use crate::{Calibration, Limits, Span, Title};
+use crate::{Calibration, Gust, Limits, Span, Title};
 use amqp_data::Symbol;
 use amqp_from_value::from_value;
+use amqp_restore::restored;
 use amqp_value::Value;
 use std::test::Fail;
 
@@ -87,5 +88,30 @@ fn calibrations_are_read_from_a_map_and_from_a_list(rt: HostRuntime) -> Result<(
     assert!(rt; is_invalid::<Calibration>(alloc, coded(alloc, 0x15, map(alloc, entries)?)?));
     let fields = list(alloc, [Value::Int(-3)])?;
     assert!(rt; is_invalid::<Calibration>(alloc, coded(alloc, 0x14, fields)?));
+    Ok(())
+}
+
+#[test]
+fn gusts_come_back_without_what_is_absent_at_the_end(rt: HostRuntime) -> Result<(), Fail> {
+    let alloc = rt.alloc();
+    let gust = |from: Option<u16>, at: Option<u16>| Gust {
+        speed: 90000,
+        from,
+        at,
+    };
+    let whole = coded(alloc, 0x17, list(alloc, [Value::Uint(90000)])?)?;
+    assert!(rt; stands_for(alloc, whole, &gust(None, None))?);
+    let fields = [Value::Uint(90000), Value::Ushort(270)];
+    let whole = coded(alloc, 0x17, list(alloc, fields)?)?;
+    assert!(rt; stands_for(alloc, whole, &gust(Some(270), None))?);
+    let fields = [Value::Uint(90000), Value::Null, Value::Ushort(600)];
+    let whole = coded(alloc, 0x17, list(alloc, fields)?)?;
+    assert!(rt; stands_for(alloc, whole, &gust(None, Some(600)))?);
+    let fields = [Value::Uint(90000), Value::Null, Value::Null];
+    let read: Gust = from_value(alloc, coded(alloc, 0x17, list(alloc, fields)?)?)?;
+    assert_eq!(rt; read, gust(None, None));
+    let known = gust(Some(270), Some(600));
+    assert_eq!(rt; restored(alloc, &known)?, known);
+    assert!(rt; is_invalid::<Gust>(alloc, coded(alloc, 0x17, list(alloc, [])?)?));
     Ok(())
 }

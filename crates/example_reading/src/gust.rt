@@ -1,0 +1,77 @@
+//! A described list that is written without the absent fields at its end.
+
+use amqp_de::de::{Deserialize, Deserializer};
+use amqp_de::{Record, named, read_described};
+use amqp_ser::{Serialize, Serializer};
+use std::alloc::Global;
+
+/// A gust of wind.
+#[derive(Debug, PartialEq, Drop)]
+pub struct Gust {
+    /// Metres in an hour.
+    pub speed: u32,
+    /// The degrees that it comes from, where they are known.
+    pub from: Option<u16>,
+    /// The minute of the day, where it is known.
+    pub at: Option<u16>,
+}
+
+impl Serialize for Gust {
+    ghost use Rattle.std.specs.Prelude.{[], ◌∷◌};
+    ghost use Rattle.amqp_ser.specs.Tree.{code};
+    ghost use Rattle.amqp_ser.specs.Words.{may, must, of_u16, of_u32, short_composite};
+
+    ghost tree = { λ g. short_composite (code 0x17) (
+        must (of_u32 g.speed) ∷ may of_u16 g.from ∷ may of_u16 g.at ∷ []) };
+
+    fn serialize<S: Serializer>(&self, serializer: &mut S) -> Result<S::Ok, S::Error> {
+        serializer.serialize_described(
+            &0x17u64,
+            &amqp_ser::ListOf(amqp_ser::fields! {
+                "speed": &self.speed,
+                "from"?: &self.from,
+                "at"?: &self.at,
+            }),
+        )
+    }
+}
+
+impl Record for Gust {
+    type Parts = (u32, (Option<u16>, (Option<u16>, ())));
+
+    ghost parts = { λ g. (g.speed, (g.from, (g.at, tt))) };
+}
+
+impl Deserialize for Gust {
+    ghost use Rattle.std.specs.Prelude.{◌≡◌, [], ◌∷◌, codes};
+    ghost use Rattle.amqp_ser.specs.Tree.{code, described, scalar, uint};
+    ghost use Rattle.amqp_de.specs.Fields.{OnDescribed, OnFields, must, may, end};
+    ghost use Rattle.amqp_de.specs.Present.{short_list, required, optional};
+
+    ghost reads = { λ t g. OnDescribed (code 0x17) (OnFields (
+        must (codes "speed") ⟦<u32 as Deserialize>⟧.reads g.speed (
+        may (codes "from") ⟦<u16 as Deserialize>⟧.reads g.from (
+        may (codes "at") ⟦<u16 as Deserialize>⟧.reads g.at end)))) t };
+
+    ghost image = { λ g. described (code 0x17) (short_list (
+        required (scalar (uint g.speed))
+        ∷ optional ⟦<u16 as Deserialize>⟧.image g.from
+        ∷ optional ⟦<u16 as Deserialize>⟧.image g.at ∷ [])) };
+
+    ghost restorable = { λ g. ⟦<Option<u16> as Deserialize>⟧.restorable g.from
+        × ⟦<Option<u16> as Deserialize>⟧.restorable g.at };
+
+    ghost same = { λ g h. (g.speed ≡ h.speed)
+        × ⟦<Option<u16> as Deserialize>⟧.same g.from h.from
+        × ⟦<Option<u16> as Deserialize>⟧.same g.at h.at };
+
+    fn deserialize<D: Deserializer>(alloc: Global, deserializer: D) -> Result<Gust, D::Error> {
+        let amqp_de::fields! { speed, from, at } = read_described::<Gust, D, _, _>(
+            alloc,
+            deserializer,
+            &0x17u64,
+            amqp_de::ListOf(named! { "speed", "from"?, "at"? }),
+        )?;
+        Ok(Gust { speed, from, at })
+    }
+}
