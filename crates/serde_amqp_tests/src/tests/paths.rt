@@ -9,8 +9,8 @@ use serde_amqp::ser::{
     SerializeTupleStruct, SerializeTupleVariant, Serializer as _,
 };
 use serde_amqp::{
-    Error, Value, described, descriptor, extensions, format_code, laws, lazy, primitives, read,
-    ser, size_ser, value,
+    Error, Value, decode, described, descriptor, extensions, format_code, laws, lazy, primitives,
+    read, ser, size_ser, value,
 };
 use std::alloc::Global;
 use std::process::Abort;
@@ -67,6 +67,10 @@ fn readers_frames_and_codes(rt: HostRuntime) -> Result<(), Fail> {
     let mut slice = read::SliceReader::new(bytes);
     let frame = lazy::LazyValue::from_reader(rt.alloc(), &mut slice)?;
     assert_eq!(rt; frame.as_slice(), b"\x40".as_slice());
+    let held: primitives::LazyValue = ser::to_lazy_value(rt.alloc(), &())?;
+    assert!(rt; held == frame);
+    assert!(rt; lazy::is_frame(held.as_slice()) && !lazy::is_frame(bytes));
+    assert!(rt; decode::decode_value(rt.alloc(), held.as_slice())? == Value::Null);
     let mut reader = read::IoReader::new(bytes);
     assert_eq!(rt; read::Read::next(&mut reader), Ok(Some(0x40)));
     let code = format_code::EncodingCodes::try_from(0x40)?;
