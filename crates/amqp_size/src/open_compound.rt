@@ -63,7 +63,7 @@ impl OpenCompound {
         OpenCompound {
             position: pending.position(),
             shape,
-            inner: shape.inner(pending),
+            inner: pending.inner(shape),
             prefix_len,
             sum: 0,
             before_last: 0,

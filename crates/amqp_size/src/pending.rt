@@ -4,7 +4,7 @@ ghost use Rattle.std.specs.Prelude.{◌≡◌, ℕ, Option};
 ghost use Rattle.amqp_ser.specs.Tree.{Tree};
 ghost use Rattle.amqp_ser.specs.Marked.{marked};
 ghost use Rattle.amqp_size.specs.State.{position_at, pending_at};
-ghost use Rattle.amqp_size.specs.Position.{position_of, meant, without_prefix, shape_of, the_mark};
+ghost use Rattle.amqp_size.specs.Position.{position_of, meant, without_prefix, inner_pending, shape_of, the_mark};
 
 use crate::position::Position;
 use crate::scalar_mark::ScalarMark;
@@ -68,6 +68,19 @@ impl Pending {
                 Kind::Single => Shape::Single,
                 _ => Shape::Refused,
             },
+        }
+    }
+
+    /// Where the first part of what is opened there stands.
+    #[inline(always)]
+    pub fn inner(self, shape: Shape) -> Pending
+        ensures { (h : ℕ) → pending_at result h ≡ inner_pending shape (pending_at self h) }
+    {
+        match shape {
+            Shape::Array => Pending::Plain(Position::First),
+            Shape::Transparent => Pending::Plain(Position::Root),
+            Shape::Single => self,
+            _ => Pending::Plain(Position::Inside),
         }
     }
 

@@ -23,8 +23,8 @@ use Rattle.amqp_wire.specs.TreeHeaders.{header, compound_headers, first_construc
 use Rattle.amqp_wire.specs.HeaderBytes.{in_array, pick, bytes_at, opening, header_bytes, whole_header, counted_header, after_opening, small_headers}
 use Rattle.amqp_wire.specs.Dense.{count_fits, is_opaque, fit, dense, dense_at, dense_each, dense_pairs}
 use Rattle.amqp_wire.specs.Positions.{part_position, is_single}
-use Rattle.amqp_wire.specs.declared.header.HeaderKind.{HeaderKind}
-use Rattle.amqp_wire.specs.declared.header.HeaderKind.TheVariants as header_kind
+use Rattle.amqp_wire.specs.declared.opening.HeaderKind.{HeaderKind}
+use Rattle.amqp_wire.specs.declared.opening.HeaderKind.TheVariants as header_kind
 use Rattle.amqp_wire.proofs.CountWithinBytes.{no_false}
 use Rattle.amqp_wire.proofs.CompoundHeaders.{pairs_are}
 use Rattle.amqp_wire.proofs.Positions.{is_not}

@@ -10,8 +10,8 @@ use Rattle.amqp_size.specs.declared.shape.Shape.TheVariants as shape
 use Rattle.amqp_wire.specs.TreeHeaders.{compound_headers}
 use Rattle.amqp_wire.specs.HeaderBytes.{header_bytes, small}
 use Rattle.amqp_wire.specs.Writer.{Kept, puts, leads, opens, PartsFitOutput}
-use Rattle.amqp_wire.specs.declared.table.Header.{Header}
-use Rattle.amqp_wire.specs.declared.header.HeaderKind.TheVariants as header_kind
+use Rattle.amqp_wire.specs.declared.header.Header.{Header}
+use Rattle.amqp_wire.specs.declared.opening.HeaderKind.TheVariants as header_kind
 use Rattle.amqp_wire.specs.declared.output.Output.{Output}
 
 pub then_puts : (s m a : Output) (n : ℕ) (x y : List ℕ) (r : Result (Unit {0}) Refusal) → m.out.items ≡ s.out.items ++ x → m.taken ≡ s.taken + n → Kept s m → a.taken ≡ m.taken → puts m y r a → leads s n (x ++ y) r a

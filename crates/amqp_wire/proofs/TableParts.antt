@@ -22,7 +22,7 @@ use Rattle.amqp_wire.specs.Measurer.{counts_tree, listed, PartsTable, answered, 
 use Rattle.amqp_wire.specs.Dense.{dense, dense_each}
 use Rattle.amqp_wire.specs.Positions.{is_single}
 use Rattle.amqp_wire.specs.Writer.{Extends}
-use Rattle.amqp_wire.specs.declared.table.Header.{Header}
+use Rattle.amqp_wire.specs.declared.header.Header.{Header}
 use Rattle.amqp_wire.specs.declared.measurer.Measurer.{Measurer}
 use Rattle.amqp_wire.specs.declared.measurer.Measuring.{Measuring}
 use Rattle.amqp_wire.proofs.HeldKinds.{never_single, held_trees, held_shape}

@@ -9,9 +9,9 @@ use Rattle.amqp_size.specs.WholePosition.{Position}
 use Rattle.amqp_size.specs.WholePosition.{Root, Inside, First, Element, Descriptor, Value}
 use Rattle.amqp_size.specs.declared.shape.Shape.{Shape}
 use Rattle.amqp_size.specs.declared.shape.Shape.TheVariants as shape
-use Rattle.amqp_wire.specs.declared.table.Header.{Header}
-use Rattle.amqp_wire.specs.declared.header.HeaderKind.{HeaderKind}
-use Rattle.amqp_wire.specs.declared.header.HeaderKind.TheVariants as header_kind
+use Rattle.amqp_wire.specs.declared.header.Header.{Header}
+use Rattle.amqp_wire.specs.declared.opening.HeaderKind.{HeaderKind}
+use Rattle.amqp_wire.specs.declared.opening.HeaderKind.TheVariants as header_kind
 
 abbrev pub in_array : Position → Bool
 in_array Root = false

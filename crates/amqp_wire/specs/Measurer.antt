@@ -13,7 +13,7 @@ use Rattle.amqp_wire.specs.TreeHeaders.{headers_of, headers_of_each, header_coun
 use Rattle.amqp_wire.specs.Dense.{dense, dense_each}
 use Rattle.amqp_wire.specs.Positions.{is_single}
 use Rattle.amqp_wire.specs.Writer.{Extends}
-use Rattle.amqp_wire.specs.declared.table.Header.{Header}
+use Rattle.amqp_wire.specs.declared.header.Header.{Header}
 use Rattle.amqp_wire.specs.declared.measurer.Measurer.{Measurer}
 use Rattle.amqp_wire.specs.declared.measurer.Measuring.{Measuring}
 

@@ -6,7 +6,7 @@ use Rattle.amqp_ser.specs.Encoding.{encoding, encoding_each, encoding_pairs, pay
 use Rattle.amqp_size.specs.Width.{uint_width, list_width}
 use Rattle.amqp_size.specs.declared.shape.Shape.{Shape}
 use Rattle.amqp_size.specs.declared.shape.Shape.TheVariants as shape
-use Rattle.amqp_wire.specs.declared.table.Header.{Header}
+use Rattle.amqp_wire.specs.declared.header.Header.{Header}
 
 abbrev pub header : ℕ → ℕ → Option ℕ → Header
 header n m c = record { len = n; count = m; constructor = c }

@@ -19,7 +19,7 @@ use Rattle.amqp_wire.specs.TreeHeaders.{headers_of, headers_of_each, compound_he
 use Rattle.amqp_wire.specs.HeaderBytes.{in_array, bytes_at, opening, after_opening, small_headers}
 use Rattle.amqp_wire.specs.Dense.{dense_at, dense_each}
 use Rattle.amqp_wire.specs.Positions.{part_position, part_at, suited_parts, is_single}
-use Rattle.amqp_wire.specs.declared.table.Header.{Header}
+use Rattle.amqp_wire.specs.declared.header.Header.{Header}
 use Rattle.amqp_wire.specs.declared.output.Output.{Output}
 use Rattle.amqp_wire.specs.declared.writer.Writer.{Writer}
 use Rattle.amqp_wire.specs.declared.writing.Writing.{Writing}

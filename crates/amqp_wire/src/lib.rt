@@ -10,13 +10,14 @@ mod accept;
 mod header;
 mod lazy_value;
 mod measurer;
+mod opening;
 mod output;
 mod position;
+mod scalars;
 mod table;
 #[cfg(test)]
 mod tests;
 mod two_walks;
-mod write;
 mod writer;
 mod writing;
 

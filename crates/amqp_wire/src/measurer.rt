@@ -3,7 +3,8 @@
 ghost use Rattle.std.specs.Prelude.{◌≡◌, ◌≤◌, ◌++◌, ◌∷◌, [], List, Option, Result, Ok, Err, MatchResult, IfErr, IsErr, true, false, ℕ};
 ghost use Rattle.amqp_ser.specs.Tree.{Tree};
 
-use crate::table::{Header, Table};
+use crate::header::Header;
+use crate::table::Table;
 use amqp_ser::{Fixed, Kind, Mark, Serializer};
 use amqp_size::width::LONGEST;
 use amqp_size::{OpenCompound, Refusal, SizeSerializer};

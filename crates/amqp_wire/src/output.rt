@@ -3,7 +3,7 @@
 ghost use Rattle.std.specs.Prelude.{◌≡◌, ◌≤◌, ◌++◌, ◌∷◌, [], length, take, drop, nat_le, IfErr, false};
 ghost use Rattle.std.specs.Vec.{vec_capacity};
 
-use crate::table::Header;
+use crate::header::Header;
 use amqp_data::EncodingCodes;
 use amqp_ser::Fixed;
 use amqp_size::{Form, Refusal};

@@ -2,20 +2,10 @@
 
 ghost use Rattle.std.specs.Prelude.{◌≡◌, ◌+◌, ◌≤◌, ◌++◌, ◌∷◌, ◌||◌, [], false, length, take, slice_set};
 
+use crate::header::Header;
 use amqp_size::Shape;
 use amqp_size::width::{list_width, uint_width};
 use std::alloc::Global;
-
-/// What stands before a compound's parts: a length, a count, and an array's constructor.
-#[derive(Clone, Copy, Debug)]
-pub struct Header {
-    /// The length of the body, or of an array's content.
-    pub len: u32,
-    /// How many parts there are.
-    pub count: u32,
-    /// The constructor of an array's elements, if there is one.
-    pub constructor: Option<u8>,
-}
 
 /// A table of headers.
 ///

@@ -7,9 +7,9 @@
 ghost use Rattle.std.specs.Prelude.{◌≡◌, ◌++◌, ◌∷◌, [], List, Option, Some, None, Result, Ok, Err, MatchResult, IfErr, IsErr, nat_le, length};
 ghost use Rattle.amqp_ser.specs.Tree.{Tree};
 
+use crate::header::Header;
 use crate::output::{Checkpoint, Output};
 use crate::position::{described, inner_after};
-use crate::table::Header;
 use crate::writing::Writing;
 use amqp_data::EncodingCodes;
 use amqp_frame::is_frame;
@@ -209,7 +209,7 @@ impl Serializer for Writer {
         Writing {
             position,
             shape,
-            inner: shape.inner(pending),
+            inner: pending.inner(shape),
             before_current: checkpoint,
             before_last: checkpoint,
         }

@@ -6,7 +6,7 @@ ghost use Rattle.amqp_ser.specs.Compounds.{whole};
 ghost use Rattle.amqp_ser.specs.declared.kind.Kind.TheVariants.{List};
 
 use super::to_vec;
-use crate::table::Header;
+use crate::header::Header;
 use amqp_data::Error;
 use amqp_ser::{Serialize, Serializer};
 use std::alloc::Global;

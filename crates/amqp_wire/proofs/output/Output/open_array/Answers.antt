@@ -3,7 +3,7 @@ use Rattle.std.specs.Vec.{vec_capacity}
 use Rattle.amqp_ser.specs.Encoding.{code_list}
 use Rattle.amqp_wire.specs.HeaderBytes.{header_bytes}
 use Rattle.amqp_wire.specs.Writer.{leads}
-use Rattle.amqp_wire.specs.declared.header.HeaderKind.TheVariants as header_kind
+use Rattle.amqp_wire.specs.declared.opening.HeaderKind.TheVariants as header_kind
 use Rattle.amqp_wire.proofs.OpeningBytes.{then_puts, short_more}
 use Rattle.amqp_wire.proofs.output.Output.open_array.Goals as goal
 

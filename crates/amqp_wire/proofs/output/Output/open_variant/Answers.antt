@@ -1,7 +1,7 @@
 use Rattle.std.proofs.Common.{length, refl, ◌∷◌, false}
 use Rattle.std.specs.Vec.{vec_capacity}
 use Rattle.amqp_wire.specs.HeaderBytes.{header_bytes}
-use Rattle.amqp_wire.specs.declared.header.HeaderKind.TheVariants as header_kind
+use Rattle.amqp_wire.specs.declared.opening.HeaderKind.TheVariants as header_kind
 use Rattle.amqp_wire.proofs.OpeningBytes.{then_leads, short_more}
 use Rattle.amqp_wire.proofs.output.Output.open_variant.Goals as goal
 
