@@ -13,6 +13,7 @@ use amqp_data::{EncodingCodes, Error};
 fn cut_at(bytes: &[u8], len: usize) -> Result<(&[u8], &[u8]), Error>
     ensures ok { IfOk result (λ r. cut len bytes.now ≡ Some (r.0.now, r.1.now)) }
     ensures err { IfErr result (λ e. cut len bytes.now ≡ None) }
+    ensures eof { IfErr result (λ e. e ≡ Error.UnexpectedEof) }
 {
     if len <= bytes.len() {
         Ok(bytes.split_at(len))
@@ -26,6 +27,7 @@ fn cut_at(bytes: &[u8], len: usize) -> Result<(&[u8], &[u8]), Error>
 fn read_number(wide: bool, bytes: &[u8]) -> Result<(u32, &[u8]), Error>
     ensures ok { IfOk result (λ r. number_at wide bytes.now ≡ Some (r.0, r.1.now)) }
     ensures err { IfErr result (λ e. number_at wide bytes.now ≡ None) }
+    ensures eof { IfErr result (λ e. e ≡ Error.UnexpectedEof) }
 {
     if wide {
         let (prefix, rest) = cut_at(bytes, 4)?;
@@ -45,6 +47,7 @@ fn read_number(wide: bool, bytes: &[u8]) -> Result<(u32, &[u8]), Error>
 fn read_sized(wide: bool, bytes: &[u8]) -> Result<(&[u8], &[u8]), Error>
     ensures ok { IfOk result (λ r. sized_at wide bytes.now ≡ Some (r.0.now, r.1.now)) }
     ensures err { IfErr result (λ e. sized_at wide bytes.now ≡ None) }
+    ensures eof { IfErr result (λ e. e ≡ Error.UnexpectedEof) }
 {
     let (len, rest) = read_number(wide, bytes)?;
     cut_at(rest, len as usize)
@@ -60,6 +63,7 @@ pub fn read_payload(code: EncodingCodes, bytes: &[u8]) -> Result<(&[u8], &[u8]),
     ensures ok { IfOk result (λ r.
         content_at (category (code_of code)) bytes.now ≡ Some (r.0.now, r.1.now)) }
     ensures err { IfErr result (λ e. content_at (category (code_of code)) bytes.now ≡ None) }
+    ensures eof { IfErr result (λ e. e ≡ Error.UnexpectedEof) }
 {
     match u8::from(code) / 16 {
         4 => cut_at(bytes, 0),
@@ -81,6 +85,7 @@ pub fn read_payload(code: EncodingCodes, bytes: &[u8]) -> Result<(&[u8], &[u8]),
 pub fn read_count(count: Count, content: &[u8]) -> Result<(u32, &[u8]), Error>
     ensures ok { IfOk result (λ r. counted_in count content.now ≡ Some (r.0, r.1.now)) }
     ensures err { IfErr result (λ e. counted_in count content.now ≡ None) }
+    ensures eof { IfErr result (λ e. e ≡ Error.UnexpectedEof) }
 {
     match count {
         Count::Absent => Ok((0, content)),

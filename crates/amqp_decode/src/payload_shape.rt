@@ -1,6 +1,6 @@
 //! What the payload of a code holds.
 
-ghost use Rattle.std.specs.Prelude.{◌≡◌, IfOk, IfErr, Some, None};
+ghost use Rattle.std.specs.Prelude.{◌≡◌, ◌≢◌, IfOk, IfErr, Some, None};
 ghost use Rattle.amqp_decode.specs.Codes.{primitive_of, shape_of_code};
 
 use amqp_data::{EncodingCodes, Error};
@@ -70,6 +70,8 @@ pub fn has_no_payload(code: EncodingCodes) -> bool {
 pub fn primitive_code(byte: u8) -> Result<EncodingCodes, Error>
     ensures ok { IfOk result (λ code. primitive_of byte ≡ Some code) }
     ensures err { IfErr result (λ e. primitive_of byte ≡ None) }
+    ensures described { IfErr result (λ e. byte ≡ 0 → e ≡ Error.InvalidValue) }
+    ensures unnamed { IfErr result (λ e. byte ≢ 0 → e ≡ Error.InvalidFormatCode) }
 {
     if byte == 0 {
         return Err(Error::InvalidValue);
