@@ -1,8 +1,10 @@
-//! False lengths: encoded values that claim four gigabytes, and end. They take no more memory than they have bytes,
-//! so the answer is the end of the input, also where each request for much at once is refused.
+//! False lengths and counts: encoded values that claim four gigabytes, or as many elements, and end. They take no more
+//! memory than their bytes ask for, so the answer is the end of the input, also where each request for much at once
+//! is refused.
 
 use crate::report::report;
 use amqp_data::Error;
+use amqp_decode::decode_value;
 use amqp_frame::{LazyValue, SliceReader};
 use serde_amqp::{VecWriter, run_cut};
 
@@ -19,6 +21,14 @@ const FRAMES: [&[u8]; 9] = [
     b"\x00\x40\xf0\x7f\xff\xff\xff",
 ];
 
+// A list, an array and a map whose sizes are right, and which count elements up to the largest number; the payload ends
+// after the first, or after the first pair.
+const COUNTS: [&[u8]; 3] = [
+    b"\xd0\x00\x00\x00\x05\xff\xff\xff\xff\x40",
+    b"\xf0\x00\x00\x00\x06\xff\xff\xff\xff\x50\x01",
+    b"\xd1\x00\x00\x00\x06\xff\xff\xff\xfe\x40\x40",
+];
+
 /// Makes each call once.
 ///
 /// # Errors
@@ -27,6 +37,9 @@ pub fn all(rt: &(impl Print + AllocGlobal)) -> Result<(), Error> {
     for frame in FRAMES {
         report(rt, "a false length", is_end(taken(rt, frame))?);
         report(rt, "a false length in a run", is_end(run(rt, frame))?);
+    }
+    for value in COUNTS {
+        report(rt, "a false count", is_end(decoded(rt, value))?);
     }
     Ok(())
 }
@@ -44,6 +57,11 @@ fn run(rt: &impl AllocGlobal, frame: &[u8]) -> Result<(), Error> {
         &mut SliceReader::new(frame),
         &mut VecWriter::new(alloc),
     )
+}
+
+fn decoded(rt: &impl AllocGlobal, bytes: &[u8]) -> Result<(), Error> {
+    decode_value(rt.alloc(), bytes)?;
+    Ok(())
 }
 
 // Whether the answer is the end of the input; out of memory is passed on.
