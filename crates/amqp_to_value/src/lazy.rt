@@ -1,8 +1,9 @@
 //! The value inside a lazy value.
 
-ghost use Rattle.std.specs.Prelude.{◌≡◌, false, true};
+ghost use Rattle.std.specs.Prelude.{◌≡◌, None, false, true};
 ghost use Rattle.amqp_frame.specs.Whole.{is_frame};
 ghost use Rattle.amqp_ser.specs.Marked.{of_frame};
+ghost use Rattle.amqp_to_value.specs.HeldImages.{IsOpenedImage};
 ghost use Rattle.amqp_to_value.specs.ImageOf.{IsFault, IsImageOf};
 
 use amqp_data::Error;
@@ -14,7 +15,8 @@ use std::alloc::Global;
 /// The value that the bytes spell, where they are one encoded value.
 #[inline(never)]
 pub fn lazy_value(alloc: Global, bytes: &[u8]) -> Result<Value, Error>
-    ensures { IsImageOf (of_frame bytes.now) result }
+    ensures image { IsImageOf (of_frame bytes.now) result }
+    ensures whole { is_frame bytes.now ≡ false → IsOpenedImage None result }
 {
     match decode_value(alloc, bytes) {
         Ok(value) => Ok(value),
@@ -30,6 +32,8 @@ fn refusal(e: Error, bytes: &[u8]) -> Error
     ensures end { e ≡ Error.UnexpectedEof → is_frame bytes.now ≡ true → result ≡ e }
     ensures other { ¬ (e ≡ Error.OutOfMemory) → is_frame bytes.now ≡ false →
         result ≡ Error.InvalidValue }
+    ensures others { ¬ (e ≡ Error.OutOfMemory) → ¬ (e ≡ Error.InvalidFormatCode) →
+        ¬ (e ≡ Error.UnexpectedEof) → result ≡ Error.InvalidValue }
     ensures fault { ¬ (e ≡ Error.OutOfMemory) → IsFault result }
 {
     match e {

@@ -93,7 +93,9 @@ pub fn marked_text(alloc: Global, pending: PendingMark, text: &str) -> Result<Va
 /// Of 4 bytes under `Mark::Decimal32`: `Value::Decimal32` of them. Of 5: `InvalidValue`.
 #[inline(never)]
 pub fn marked_bytes(alloc: Global, pending: PendingMark, bytes: &[u8]) -> Result<Value, Error>
-    ensures { IsImageOf (meant pending (Some (scalar (binary bytes.now)))) result }
+    ensures image { IsImageOf (meant pending (Some (scalar (binary bytes.now)))) result }
+    ensures other { ¬ (pending ≡ PendingMark.Mark Mark.Lazy) →
+        IsOpenedImage (meant pending (Some (scalar (binary bytes.now)))) result }
 {
     match pending {
         PendingMark::Mark(Mark::Other) => Ok(Value::Binary(ByteBuf::from(bytes.to_vec(alloc)?))),

@@ -1,5 +1,13 @@
+use Rattle.std.proofs.Common.{Some, None, if◌then◌else◌, subst}
+use Rattle.amqp_ser.specs.Tree.{lazy}
+use Rattle.amqp_to_value.specs.ImageOf.{StandsFor}
 use Rattle.amqp_to_value.proofs.ReadLemmas.{lazy_read}
 use Rattle.amqp_to_value.proofs.lazy.lazy_value.Goals as goal
 
-pub returns-in-Ok : goal.returns-in-Ok
-returns-in-Ok c = lazy_read c.in-Ok.value c.args.bytes.now c.in-Ok.ensures.ok
+pub returns-in-Ok-clause-image : goal.returns-in-Ok-clause-image
+returns-in-Ok-clause-image c = lazy_read c.in-Ok.value c.args.bytes.now c.in-Ok.ensures.ok
+
+pub returns-in-Ok-clause-whole : goal.returns-in-Ok-clause-whole
+returns-in-Ok-clause-whole c cut =
+    subst (λ b. StandsFor c.in-Ok.value (if b then Some (lazy c.args.bytes.now) else None)) cut
+    (lazy_read c.in-Ok.value c.args.bytes.now c.in-Ok.ensures.ok)

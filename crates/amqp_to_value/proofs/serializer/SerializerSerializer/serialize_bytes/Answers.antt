@@ -8,4 +8,4 @@ use Rattle.amqp_to_value.proofs.serializer.SerializerSerializer.serialize_bytes.
 pub returns : goal.returns
 returns c =
     c.finish.ensures c.args.self.now _ (ap (λ a. a.kept) c.take_pending-pending.ensures.descriptors) (ap standing c.take_pending-pending.ensures.descriptors) c.take_pending-pending.ensures.none
-    (subst (λ u. IsImageOf (meant u (Some (scalar (binary c.args.v.now)))) c.marked_bytes.result) c.take_pending-pending.ensures.pending c.marked_bytes.ensures)
+    (subst (λ u. IsImageOf (meant u (Some (scalar (binary c.args.v.now)))) c.marked_bytes.result) c.take_pending-pending.ensures.pending c.marked_bytes.ensures.image)
