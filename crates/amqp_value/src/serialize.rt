@@ -11,7 +11,7 @@ impl Serialize for Value {
 
     fn serialize<S: Serializer>(&self, serializer: &mut S) -> Result<S::Ok, S::Error> {
         match self {
-            Value::Described(v) => v.serialize(serializer),
+            Value::Described(v) => apart(v, serializer),
             Value::Null => serializer.serialize_unit(),
             Value::Bool(v) => v.serialize(serializer),
             Value::Ubyte(v) => v.serialize(serializer),
@@ -33,9 +33,28 @@ impl Serialize for Value {
             Value::Binary(v) => v.serialize(serializer),
             Value::String(v) => v.serialize(serializer),
             Value::Symbol(v) => v.serialize(serializer),
-            Value::List(v) => v.serialize(serializer),
-            Value::Map(v) => v.serialize(serializer),
-            Value::Array(v) => v.serialize(serializer),
+            Value::List(v) => apart(v, serializer),
+            Value::Map(v) => apart(v, serializer),
+            Value::Array(v) => apart(v, serializer),
         }
     }
+}
+
+/// Serializes a compound, with the room for its answer cleared where a compound comes alone.
+#[inline(always)]
+fn apart<T: Serialize, S: Serializer>(compound: &T, serializer: &mut S) -> Result<S::Ok, S::Error>
+    ensures { S.permits serializer.old (T.tree compound.now) result serializer.new }
+{
+    serialize_compound(compound, serializer)
+}
+
+/// Serializes a compound in a call of its own, so that a scalar saves no registers for it.
+#[inline(never)]
+fn serialize_compound<T: Serialize, S: Serializer>(
+    compound: &T,
+    serializer: &mut S,
+) -> Result<S::Ok, S::Error>
+    ensures { S.permits serializer.old (T.tree compound.now) result serializer.new }
+{
+    compound.serialize(serializer)
 }
