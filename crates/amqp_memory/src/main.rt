@@ -22,6 +22,7 @@
 //! | images, decoded values | `Gathered::new`, `Gathered::into_value` |
 //! | types out of values, lazy values | `from_value`, `Deserializer::new` |
 //! | types of one's own | `restored`, `read`, `read_described`, `Of::read`, `ListOf::read`, `NamedOf::read` |
+//! | the same | `read_map`, `read_described_map` |
 //! | the same | `Fields::read_elements`, `Must::read_elements`, `May::read_elements`, `Elements::new` |
 //! | the same | `Fields::read_entries`, `Must::read_entries`, `May::read_entries`, `Entries::new`, `Seed::read` |
 //! | the same | `Variants::read`, `EnumOf::read`, `UnitOr::read`, `DataOr::read` |
