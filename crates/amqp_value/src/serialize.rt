@@ -48,7 +48,7 @@ fn apart<T: Serialize, S: Serializer>(compound: &T, serializer: &mut S) -> Resul
     serialize_compound(compound, serializer)
 }
 
-/// Serializes a compound in a call of its own, so that a scalar saves no registers for it.
+/// Serializes a compound in a call of its own, so that a scalar clears no room for it.
 #[inline(never)]
 fn serialize_compound<T: Serialize, S: Serializer>(
     compound: &T,
