@@ -71,6 +71,9 @@ fn readers_frames_and_codes(rt: HostRuntime) -> Result<(), Fail> {
     assert!(rt; held == frame);
     assert!(rt; lazy::is_frame(held.as_slice()) && !lazy::is_frame(bytes));
     assert!(rt; decode::decode_value(rt.alloc(), held.as_slice())? == Value::Null);
+    let nulls: &[u8] = b"\xe0\x02\x03\x40";
+    let refused = decode::decode_value_within(rt.alloc(), nulls, 2);
+    assert!(rt; matches!(refused, Err(Error::OutOfMemory)));
     let mut reader = read::IoReader::new(bytes);
     assert_eq!(rt; read::Read::next(&mut reader), Ok(Some(0x40)));
     let code = format_code::EncodingCodes::try_from(0x40)?;
@@ -103,9 +106,17 @@ fn texts_are_their_lines()
     laws::text_is_its_lines();
 }
 
+// Laws of values and of their bytes.
+fn bytes_tell_values() {
+    laws::lazy_values_have_the_image_of_what_they_hold();
+    laws::same_bytes_exactly_where_one_image();
+    decode::laws::one_tree();
+}
+
 #[test]
 fn days_and_laws(rt: HostRuntime) {
     texts_are_their_lines();
+    bytes_tell_values();
     assert_eq!(rt; primitives::civil_from_days(11_016), (2000, 2, 29));
 }
 
