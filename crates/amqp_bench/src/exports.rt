@@ -80,7 +80,7 @@ pub extern "C" fn amqp_shape(alloc: Global, shape: u32, op: u32, times: u64) -> 
     ensures operations { 7 ≤ op → result ≡ 0 }
 {
     match shape {
-        0 => answer(alloc, Attach::example(alloc), op, times),
+        0 => answer_typed(alloc, Attach::example(alloc), op, times),
         1 => answer_typed(alloc, ints(alloc, 0, 1000), op, times),
         2 => answer_typed(alloc, rows(alloc, 1000), op, times),
         3 => answer(alloc, Chain::of_links(alloc, 255), op, times),

@@ -4,6 +4,7 @@
 #![tactic(auto)]
 
 mod attach;
+mod attach_read;
 mod chain;
 mod exports;
 mod fed;

@@ -69,7 +69,7 @@ fn each_shape_is_written_and_made(rt: HostRuntime) {
 #[test]
 fn types_are_read_out_of_untyped_values(rt: HostRuntime) {
     for (shape, reads) in [
-        (0, 0),
+        (0, 3),
         (1, 3),
         (2, 3),
         (3, 0),
