@@ -12,6 +12,7 @@ mod impls;
 pub mod laws;
 mod names;
 mod record;
+mod record_map;
 mod refusal;
 mod seed;
 mod shown;
@@ -23,6 +24,7 @@ pub use access::{ContentOf, ElementsOf, EntriesOf, VariantOf};
 pub use enums::{DataOr, EnumOf, Never, OneOf, UnitOr, Variants};
 pub use fields::{Fields, May, Must};
 pub use record::{Describes, Record, read, read_described};
+pub use record_map::{read_described_map, read_map};
 pub use seed::{ListOf, NamedOf, Of, Seed};
 
 /// The fields of a struct, in order: `named! { "name", "other"?, .. }`.

@@ -1,9 +1,9 @@
 //! The two calls by which a type of fields is read.
 
-ghost use Rattle.std.specs.Prelude.{◌≡◌, ◌↔◌, IsTrue};
+ghost use Rattle.std.specs.Prelude.{◌≡◌, ◌↔◌, IsTrue, MatchResult};
 ghost use Rattle.amqp_data.specs.Text.{symbol_ref_text, symbol_text};
 ghost use Rattle.amqp_ser.specs.Carried.{descriptor_content};
-ghost use Rattle.amqp_ser.specs.Tree.{Descriptor, code, name, described};
+ghost use Rattle.amqp_ser.specs.Tree.{Descriptor, Descriptor as AnyDescriptor, code, name, described};
 ghost use Rattle.amqp_de.specs.Answers.{PartsOf, RestoresParts};
 ghost use Rattle.amqp_de.specs.Fields.{OnDescribed};
 
@@ -85,8 +85,6 @@ pub fn read<T: Record, D: Deserializer, S: Seed<Value = T::Parts>>(
         S.restorable S.same D.Error.is_memory (D.value deserializer) result }
     ensures short { RestoresParts T.parts (λ v. S.short (T.parts v))
         S.restorable S.same D.Error.is_memory (D.value deserializer) result }
-    ensures named { S.is_named seed → RestoresParts T.parts (λ v. S.by_name seed (T.parts v))
-        S.restorable S.same D.Error.is_memory (D.value deserializer) result }
 {
     match seed.read(alloc, deserializer) {
         Ok(parts) => Ok(parts),
@@ -112,15 +110,14 @@ pub fn read_described<T: Record, D: Deserializer, K: Describes, S: Seed<Value = 
     ensures read { PartsOf T.parts D.Error.is_memory
         (λ x. OnDescribed (K.wanted descriptor.now) (λ t. S.reads seed t x) (D.value deserializer))
         result }
-    ensures law { RestoresParts T.parts
-        (λ v. described (K.wanted descriptor.now) (S.image (T.parts v)))
-        S.restorable S.same D.Error.is_memory (D.value deserializer) result }
-    ensures short { RestoresParts T.parts
-        (λ v. described (K.wanted descriptor.now) (S.short (T.parts v)))
-        S.restorable S.same D.Error.is_memory (D.value deserializer) result }
-    ensures named { S.is_named seed → RestoresParts T.parts
-        (λ v. described (K.wanted descriptor.now) (S.by_name seed (T.parts v)))
-        S.restorable S.same D.Error.is_memory (D.value deserializer) result }
+    ensures law { (v : T) → (d : AnyDescriptor) →
+        D.value deserializer ≡ described d (S.image (T.parts v)) → S.restorable (T.parts v) →
+        d ≡ K.wanted descriptor.now →
+        MatchResult result (λ y. S.same y (T.parts v)) D.Error.is_memory }
+    ensures short { (v : T) → (d : AnyDescriptor) →
+        D.value deserializer ≡ described d (S.short (T.parts v)) → S.restorable (T.parts v) →
+        d ≡ K.wanted descriptor.now →
+        MatchResult result (λ y. S.same y (T.parts v)) D.Error.is_memory }
 {
     match deserializer.open() {
         Content::Described(found, value) => {

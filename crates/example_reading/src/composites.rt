@@ -2,7 +2,7 @@
 
 use amqp_data::Symbol;
 use amqp_de::de::{Deserialize, Deserializer};
-use amqp_de::{NamedOf, Of, Record, named, read_described};
+use amqp_de::{NamedOf, Of, Record, named, read_described, read_described_map};
 use amqp_ser::{Serialize, Serializer};
 use std::alloc::Global;
 use std::marker::PhantomData;
@@ -214,19 +214,22 @@ impl Record for Calibration {
 
 impl Deserialize for Calibration {
     ghost use Rattle.std.specs.Prelude.{◌≡◌, [], ◌∷◌, codes};
-    ghost use Rattle.amqp_ser.specs.Tree.{code, described, int, list, scalar, trees_of};
+    ghost use Rattle.amqp_ser.specs.Tree.{code, described, int, scalar};
     ghost use Rattle.amqp_de.specs.Fields.{OnDescribed, OnNamed, must, may, end};
+    ghost use Rattle.amqp_de.specs.Present.{short_map, required, optional};
 
     ghost reads = { λ t c. OnDescribed (code 0x15) (OnNamed (
         must (codes "offset") ⟦<i32 as Deserialize>⟧.reads c.offset (
         may (codes "divisor") ⟦<u32 as Deserialize>⟧.reads c.divisor (
         may (codes "remark") ⟦<String as Deserialize>⟧.reads c.remark end)))) t };
 
-    ghost image = { λ c. described (code 0x15) (list (trees_of (
-        scalar (int c.offset) ∷ ⟦<Option<u32> as Deserialize>⟧.image c.divisor
-        ∷ ⟦<Option<String> as Deserialize>⟧.image c.remark ∷ []))) };
+    ghost image = { λ c. described (code 0x15) (short_map
+        (codes "offset" ∷ codes "divisor" ∷ codes "remark" ∷ []) (
+        required (scalar (int c.offset)) ∷ optional ⟦<u32 as Deserialize>⟧.image c.divisor
+        ∷ optional ⟦<String as Deserialize>⟧.image c.remark ∷ [])) };
 
-    ghost restorable = { λ _. ⊥ };
+    ghost restorable = { λ c. ⟦<Option<u32> as Deserialize>⟧.restorable c.divisor
+        × ⟦<Option<String> as Deserialize>⟧.restorable c.remark };
 
     ghost same = { λ c d. (c.offset ≡ d.offset)
         × ⟦<Option<u32> as Deserialize>⟧.same c.divisor d.divisor
@@ -236,11 +239,16 @@ impl Deserialize for Calibration {
         alloc: Global,
         deserializer: D,
     ) -> Result<Calibration, D::Error> {
-        let amqp_de::fields! { offset, divisor, remark } = read_described::<Calibration, D, _, _>(
+        let amqp_de::fields! { offset, divisor, remark } = read_described_map::<
+            Calibration,
+            D,
+            _,
+            _,
+        >(
             alloc,
             deserializer,
             &0x15u64,
-            NamedOf(named! { "offset", "divisor"?, "remark"? }),
+            named! { "offset", "divisor"?, "remark"? },
         )?;
         Ok(Calibration {
             offset,

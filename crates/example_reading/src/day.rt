@@ -112,6 +112,7 @@ impl Deserialize for Rain {
     ghost use Rattle.std.specs.Prelude.{◌≡◌, [], ◌∷◌, codes};
     ghost use Rattle.amqp_ser.specs.Tree.{name, described, list, scalar, trees_of, uint, ushort};
     ghost use Rattle.amqp_de.specs.Fields.{OnDescribed, OnFields, must, end};
+    ghost use Rattle.amqp_de.specs.Reads.{Always};
 
     ghost reads = { λ t r. OnDescribed (name (codes "station:rain:list")) (OnFields (
         must (codes "amount") ⟦<u32 as Deserialize>⟧.reads r.amount (
@@ -120,7 +121,7 @@ impl Deserialize for Rain {
     ghost image = { λ r. described (name (codes "station:rain:list")) (list (trees_of (
         scalar (uint r.amount) ∷ scalar (ushort r.time) ∷ []))) };
 
-    ghost restorable = { λ _. ⊥ };
+    ghost restorable = { Always };
 
     ghost same = { λ r s. (r.amount ≡ s.amount) × (r.time ≡ s.time) };
 

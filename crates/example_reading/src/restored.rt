@@ -1,8 +1,8 @@
 //! What is turned into an untyped value and read back is the same: the types that claim it, and those that a map's
 //! keys may have.
 
-use crate::composites::{Limits, Span, Title};
-use crate::day::Day;
+use crate::composites::{Calibration, Limits, Span, Title};
+use crate::day::{Day, Rain};
 use crate::gust::Gust;
 use crate::position::Position;
 use crate::sky::Sky;
@@ -38,6 +38,15 @@ impl Restore for Limits {
     }
 }
 
+impl Restore for Calibration {
+    fn returns() {
+        laws::named_maps_return();
+        laws::described_return();
+        <Option<u32> as Restore>::returns();
+        <Option<String> as Restore>::returns();
+    }
+}
+
 impl Restore for Gust {
     fn returns() {
         laws::short_lists_return();
@@ -58,6 +67,13 @@ impl Restore for Day {
         laws::lists_return();
         <BTreeMap<u32, i32> as Restore>::returns();
         <[u32; 2] as Restore>::returns();
+    }
+}
+
+impl Restore for Rain {
+    fn returns() {
+        laws::lists_return();
+        laws::described_return();
     }
 }
 

@@ -10,5 +10,5 @@ pub use amqp_de::de::{
 pub use amqp_de::{
     ContentOf, DataOr, Describes, ElementsOf, EntriesOf, EnumOf, Fields, ListOf, May, Must,
     NamedOf, Never, Of, OneOf, Record, Seed, UnitOr, VariantOf, Variants, laws, read,
-    read_described,
+    read_described, read_described_map, read_map,
 };

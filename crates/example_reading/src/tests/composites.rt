@@ -81,6 +81,7 @@ fn calibrations_are_read_from_a_map_and_from_a_list(rt: HostRuntime) -> Result<(
     ];
     let whole = coded(alloc, 0x15, map(alloc, entries)?)?;
     assert!(rt; stands_for(alloc, whole, &calibration)?);
+    assert_eq!(rt; restored(alloc, &calibration)?, calibration);
     let fields = [Value::Int(-3), Value::Null, string(alloc, "dry")?];
     let read: Calibration = from_value(alloc, coded(alloc, 0x15, list(alloc, fields)?)?)?;
     assert_eq!(rt; read, calibration);

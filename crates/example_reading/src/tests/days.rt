@@ -44,6 +44,7 @@ fn rain_is_described_by_a_symbol(rt: HostRuntime) -> Result<(), Fail> {
     let fields = list(alloc, [Value::Uint(105), Value::Ushort(60)])?;
     let whole = named(alloc, "station:rain:list", fields)?;
     assert!(rt; stands_for(alloc, whole, &rain)?);
+    assert_eq!(rt; restored(alloc, &rain)?, rain);
     let fields = list(alloc, [Value::Uint(105), Value::Ushort(60)])?;
     assert!(rt; is_invalid::<Rain>(alloc, named(alloc, "station:rain:map", fields)?));
     let fields = list(alloc, [Value::Uint(105), Value::Ushort(60)])?;

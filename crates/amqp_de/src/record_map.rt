@@ -1,0 +1,75 @@
+//! The two calls by which a type that is written as a map of its fields is read.
+
+ghost use Rattle.std.specs.Prelude.{◌≡◌, ℕ, List, true, MatchResult};
+ghost use Rattle.amqp_ser.specs.Tree.{Descriptor as AnyDescriptor, described};
+ghost use Rattle.amqp_de.specs.Answers.{PartsOf};
+ghost use Rattle.amqp_de.specs.Fields.{OnDescribed, OnNamed};
+ghost use Rattle.amqp_de.specs.Present.{short_map, distinct_names};
+
+use crate::de::{Content, Deserializer, Refusal};
+use crate::fields::Fields;
+use crate::record::{Describes, Record};
+use crate::seed::{NamedOf, Seed};
+use std::alloc::Global;
+
+/// Reads the parts of a value that is written as a map of its fields. A list or an array of them is read too.
+///
+/// What comes back is the map without what is absent, where no two fields have the same name.
+///
+/// # Errors
+/// Invalid where a field is missing or another than is asked for; out of memory. Only where nothing is read.
+///
+/// # Example
+/// Of the map from the string `x` to the ubyte 1, by `named! { "x" }`: the parts `(1, ())`.
+pub fn read_map<T: Record, D: Deserializer, F: Fields<Values = T::Parts>>(
+    alloc: Global,
+    deserializer: D,
+    fields: F,
+) -> Result<T::Parts, D::Error>
+    ensures read { PartsOf T.parts D.Error.is_memory
+        (λ x. OnNamed (F.reads fields x) (D.value deserializer)) result }
+    ensures law { (v : T) → (ns : List (List ℕ)) →
+        D.value deserializer ≡ short_map ns (F.images (T.parts v)) → F.restorable (T.parts v) →
+        ns ≡ F.names fields → distinct_names ns ≡ true →
+        MatchResult result (λ y. F.same y (T.parts v)) D.Error.is_memory }
+{
+    match NamedOf(fields).read(alloc, deserializer) {
+        Ok(parts) => Ok(parts),
+        Err(error) => Err(error),
+    }
+}
+
+/// Reads the parts of a value that is written, after this descriptor, as a map of its fields.
+///
+/// # Errors
+/// Invalid where there is another descriptor, or none; as [`read_map`] otherwise. Only where nothing is read.
+///
+/// # Example
+/// Of the code 1 and the map from the string `x` to the ubyte 1, by `&1u64` and `named! { "x" }`: the parts `(1, ())`.
+/// By `&2u64`: invalid.
+#[tactic(auto, unfolding(crate::specs::Fields::OnDescribed))]
+pub fn read_described_map<T: Record, D: Deserializer, K: Describes, F: Fields<Values = T::Parts>>(
+    alloc: Global,
+    deserializer: D,
+    descriptor: &K,
+    fields: F,
+) -> Result<T::Parts, D::Error>
+    ensures read { PartsOf T.parts D.Error.is_memory
+        (λ x. OnDescribed (K.wanted descriptor.now) (OnNamed (F.reads fields x))
+        (D.value deserializer)) result }
+    ensures law { (v : T) → (d : AnyDescriptor) → (ns : List (List ℕ)) →
+        D.value deserializer ≡ described d (short_map ns (F.images (T.parts v))) →
+        F.restorable (T.parts v) → d ≡ K.wanted descriptor.now →
+        ns ≡ F.names fields → distinct_names ns ≡ true →
+        MatchResult result (λ y. F.same y (T.parts v)) D.Error.is_memory }
+{
+    match deserializer.open() {
+        Content::Described(found, value) => {
+            if !descriptor.is(&found) {
+                return Err(D::Error::invalid());
+            }
+            read_map::<T, D, F>(alloc, value, fields)
+        }
+        _ => Err(D::Error::invalid()),
+    }
+}
