@@ -9,7 +9,7 @@ ghost use Rattle.amqp_de.specs.Present.{short_map, distinct_names};
 use crate::de::{Content, Deserializer, Refusal};
 use crate::fields::Fields;
 use crate::record::{Describes, Record};
-use crate::seed::{NamedOf, Seed};
+use crate::seed::read_named;
 use std::alloc::Global;
 
 /// Reads the parts of a value that is written as a map of its fields. A list or an array of them is read too.
@@ -33,7 +33,7 @@ pub fn read_map<T: Record, D: Deserializer, F: Fields<Values = T::Parts>>(
         ns ≡ F.names fields → distinct_names ns ≡ true →
         MatchResult result (λ y. F.same y (T.parts v)) D.Error.is_memory }
 {
-    match NamedOf(fields).read(alloc, deserializer) {
+    match read_named::<F, D>(alloc, deserializer, fields) {
         Ok(parts) => Ok(parts),
         Err(error) => Err(error),
     }

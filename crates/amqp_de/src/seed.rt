@@ -31,12 +31,6 @@ pub trait Seed: Sized + Drop {
     /// The same without the absent fields at its end, where it is a list of fields.
     ghost short: { Self.Value → Tree };
 
-    /// The map of its fields that are there, by their names, where it is read from one.
-    ghost by_name: { Self → Self.Value → Tree };
-
-    /// Whether it is read from such a map: no two fields have the same name.
-    ghost is_named: { Self → Type 0 };
-
     /// Reads it.
     ///
     /// # Errors
@@ -49,8 +43,6 @@ pub trait Seed: Sized + Drop {
         ensures law { Restores image restorable same
             D.Error.is_memory (D.value deserializer) result }
         ensures short { Restores short restorable same
-            D.Error.is_memory (D.value deserializer) result }
-        ensures named { is_named self → Restores (by_name self) restorable same
             D.Error.is_memory (D.value deserializer) result };
 }
 
@@ -70,10 +62,6 @@ impl<T: Deserialize> Seed for Of<T> {
     ghost same = { T.same };
 
     ghost short = { T.image };
-
-    ghost by_name = { λ _. T.image };
-
-    ghost is_named = { λ _. ⊥ };
 
     fn read<D: Deserializer>(self, alloc: Global, deserializer: D) -> Result<T, D::Error> {
         T::deserialize(alloc, deserializer)
@@ -98,10 +86,6 @@ impl<F: Fields> Seed for ListOf<F> {
 
     ghost short = { λ x. short_list (F.images x) };
 
-    ghost by_name = { λ _ x. short_list (F.images x) };
-
-    ghost is_named = { λ _. ⊥ };
-
     fn read<D: Deserializer>(self, alloc: Global, deserializer: D) -> Result<F::Values, D::Error> {
         match deserializer.open() {
             Content::List(mut fields) => {
@@ -115,11 +99,48 @@ impl<F: Fields> Seed for ListOf<F> {
     }
 }
 
+/// Reads fields of these names.
+#[tactic(auto, using(crate::proofs::Lists::list_of_trees, crate::proofs::Lists::entries_in_pairs, crate::proofs::LeftOut::full, crate::proofs::LeftOut::cut, crate::proofs::LeftOut::entries), unfolding(crate::specs::Fields::OnNamed, crate::specs::Present::short_list, crate::specs::Present::short_map))]
+pub(crate) fn read_named<F: Fields, D: Deserializer>(
+    alloc: Global,
+    deserializer: D,
+    fields: F,
+) -> Result<F::Values, D::Error>
+    ensures read { Answers D.Error.is_memory
+        (λ x. OnNamed (F.reads fields x) (D.value deserializer)) result }
+    ensures law { Restores (λ x. list (trees_of (all_images (F.images x)))) F.restorable F.same
+        D.Error.is_memory (D.value deserializer) result }
+    ensures short { Restores (λ x. short_list (F.images x)) F.restorable F.same
+        D.Error.is_memory (D.value deserializer) result }
+    ensures named { distinct_names (F.names fields) ≡ true →
+        Restores (λ x. short_map (F.names fields) (F.images x)) F.restorable F.same
+        D.Error.is_memory (D.value deserializer) result }
+{
+    match deserializer.open() {
+        Content::List(mut elements) => {
+            match fields.read_elements::<D>(alloc, &mut elements) {
+                Ok(values) => Ok(values),
+                Err(error) => Err(error),
+            }
+        }
+        Content::Array(mut elements) => {
+            match fields.read_elements::<D>(alloc, &mut elements) {
+                Ok(values) => Ok(values),
+                Err(error) => Err(error),
+            }
+        }
+        Content::Map(mut entries) => match fields.read_entries::<D>(alloc, &mut entries) {
+            Ok(values) => Ok(values),
+            Err(error) => Err(error),
+        },
+        _ => Err(D::Error::invalid()),
+    }
+}
+
 /// Fields of these names: a list or an array of them, by their places, or a map, by their names.
 #[derive(Drop)]
 pub struct NamedOf<F>(pub F);
 
-#[tactic(auto, using(crate::proofs::Lists::list_of_trees, crate::proofs::Lists::entries_in_pairs, crate::proofs::LeftOut::full, crate::proofs::LeftOut::cut, crate::proofs::LeftOut::entries), unfolding(crate::specs::Fields::OnNamed, crate::specs::Present::short_list, crate::specs::Present::short_map))]
 impl<F: Fields> Seed for NamedOf<F> {
     type Value = F::Values;
 
@@ -133,29 +154,7 @@ impl<F: Fields> Seed for NamedOf<F> {
 
     ghost short = { λ x. short_list (F.images x) };
 
-    ghost by_name = { λ s x. short_map (F.names s.0) (F.images x) };
-
-    ghost is_named = { λ s. distinct_names (F.names s.0) ≡ true };
-
     fn read<D: Deserializer>(self, alloc: Global, deserializer: D) -> Result<F::Values, D::Error> {
-        match deserializer.open() {
-            Content::List(mut elements) => {
-                match self.0.read_elements::<D>(alloc, &mut elements) {
-                    Ok(values) => Ok(values),
-                    Err(error) => Err(error),
-                }
-            }
-            Content::Array(mut elements) => {
-                match self.0.read_elements::<D>(alloc, &mut elements) {
-                    Ok(values) => Ok(values),
-                    Err(error) => Err(error),
-                }
-            }
-            Content::Map(mut entries) => match self.0.read_entries::<D>(alloc, &mut entries) {
-                Ok(values) => Ok(values),
-                Err(error) => Err(error),
-            },
-            _ => Err(D::Error::invalid()),
-        }
+        read_named::<F, D>(alloc, deserializer, self.0)
     }
 }

@@ -95,10 +95,6 @@ impl<V: Variants> Seed for EnumOf<V> {
 
     ghost short = { λ x. enum_image (V.position x) (V.content x) };
 
-    ghost by_name = { λ _ x. enum_image (V.position x) (V.content x) };
-
-    ghost is_named = { λ _. ⊥ };
-
     fn read<D: Deserializer>(self, alloc: Global, deserializer: D) -> Result<V::Value, D::Error> {
         match deserializer.open() {
             Content::Uint(index) => match self.0.read(alloc, index, None::<D>) {
