@@ -48,5 +48,6 @@ fn structs_are_lists_of_their_fields(rt: HostRuntime) -> Result<(), Fail> {
         &(Outer { inner: Wrapped(3) },),
         "c00601c003015403",
         &image,
-    )
+    );
+    Ok(())
 }
