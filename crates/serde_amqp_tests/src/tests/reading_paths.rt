@@ -194,6 +194,39 @@ fn types_of_ones_own(rt: HostRuntime) -> Result<(), Fail> {
     Ok(())
 }
 
+// A field by its name.
+fn field() -> de::Must<u32, ()> {
+    de::Must {
+        name: "x",
+        of: PhantomData,
+        rest: (),
+    }
+}
+
+// The map from the string `x` to the uint 1.
+fn map(alloc: Global) -> Result<Value, Fail> {
+    let mut pairs = serde_amqp::primitives::OrderedMap::new(alloc);
+    pairs.insert(Value::String(String::from_str(alloc, "x")?), Value::Uint(1))?;
+    Ok(Value::Map(pairs))
+}
+
+#[test]
+fn maps_of_fields(rt: HostRuntime) -> Result<(), Fail> {
+    let a = rt.alloc();
+    let plain = value::de::Deserializer::new(a, map(a)?);
+    assert_eq!(rt; de::read_map::<Count, _, _>(a, plain, field()), Ok((1, ())));
+    let tagged = described::Described {
+        descriptor: descriptor::Descriptor::Code(1),
+        value: map(a)?,
+    };
+    let tagged = value::de::Deserializer::new(a, Value::Described(Box::new(a, tagged)?));
+    assert_eq!(rt;
+        de::read_described_map::<Count, _, _, _>(a, tagged, &1u64, field()),
+        Ok((1, ()))
+    );
+    Ok(())
+}
+
 // What a type claims of its values as keys.
 fn keys_are_told<K: value::MapKey>() {
     K::images_tell_contents();
