@@ -47,11 +47,11 @@ first_value n t es = ap (λ (b : Bool). if b then Some t else value_at n es) (it
 first_without : (n : List ℕ) (t : Tree) (es : List (Tree × Tree)) → without n ((scalar (string n), t) ∷ es) ≡ es
 first_without n t es = ap (λ (b : Bool). if b then es else (scalar (string n), t) ∷ without n es) (itself n)
 
-or_false : (a b : Bool) → (a || b) ≡ false → (a ≡ false) × (b ≡ false)
+pub or_false : (a b : Bool) → (a || b) ≡ false → (a ≡ false) × (b ≡ false)
 or_false false b e = (refl, e)
 or_false true b e = absurd (true≢false e)
 
-not_and : (a b : Bool) → (not a && b) ≡ true → (a ≡ false) × (b ≡ true)
+pub not_and : (a b : Bool) → (not a && b) ≡ true → (a ≡ false) × (b ≡ true)
 not_and false b e = (refl, e)
 not_and true b e = absurd (true≢false (sym e))
 

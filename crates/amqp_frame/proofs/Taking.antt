@@ -13,7 +13,8 @@ use Rattle.amqp_frame.specs.Reader.{Failed, RunsOut}
 use Rattle.amqp_frame.specs.Taking.{FrameRefuses, Moves}
 use Rattle.amqp_frame.proofs.FirstFrame.{body_len-prefix}
 
-failed-later : (f g h : ℕ) → f ≤ g → g ≤ h → Failed g h → Failed f h
+-- a failure in a later call is one of the whole run
+pub failed-later : (f g h : ℕ) → f ≤ g → g ≤ h → Failed g h → Failed f h
 failed-later f g h fg gh (inl rose) = inl (omega arith)
 failed-later f g h fg gh (inr last) =
     elim (cases_lt f g) [ inl below ↦ inl (omega arith) | inr over ↦ inr (omega arith) ]

@@ -12,6 +12,7 @@ use Rattle.amqp_ser.specs.declared.kind.Kind.TheVariants as kind
 use Rattle.amqp_value.specs.TreeOf.{pairs_of}
 use Rattle.amqp_de.specs.Maps.{pair_image, IsPair}
 use Rattle.amqp_de.specs.Present.{any_there, distinct_names, has_name, short_list, short_map, those_there, up_to_last}
+use Rattle.amqp_de.proofs.LeftOut.{not_and, or_false}
 use Rattle.amqp_restore.proofs.KeyLemmas.{HaveDistinctImages}
 use Rattle.amqp_restore.proofs.MapLemmas.{map_stands}
 use Rattle.amqp_restore.proofs.StandLemmas.{list_stands}
@@ -130,14 +131,6 @@ named : (ns : List (List ℕ)) (fs : List (Bool × Tree)) → Names (those_there
 named [] fs = tt
 named (n ∷ ns) [] = tt
 named (n ∷ ns) (f ∷ fs) = named_by f.0 n f.1 (those_there ns fs) (named ns fs)
-
-or_false : (a b : Bool) → (a || b) ≡ false → (a ≡ false) × (b ≡ false)
-or_false false b e = (refl, e)
-or_false true b e = absurd (true≢false e)
-
-not_and : (a b : Bool) → (not a && b) ≡ true → (a ≡ false) × (b ≡ true)
-not_and false b e = (refl, e)
-not_and true b e = absurd (true≢false (sym e))
 
 other : (m n : List ℕ) → bytes_eq m n ≡ false → ¬ (scalar (string n) ≡ scalar (string m))
 other m n d e = let same : n ≡ m = cc in

@@ -13,6 +13,7 @@ use Rattle.amqp_data.specs.declared.error.Error.TheVariants.{OutOfMemory, TooLon
 use Rattle.amqp_frame.specs.Cut.{IsCut}
 use Rattle.amqp_frame.specs.Frame.{IsFrame, HasFrame, HasMalformed}
 use Rattle.amqp_frame.specs.Reader.{Failed}
+use Rattle.amqp_frame.proofs.Taking.{failed-later}
 use Rattle.serde_amqp.specs.Writer.{TakesPrefix}
 use Rattle.serde_amqp.specs.CutLines.{cut_line, cut_lines}
 use Rattle.serde_amqp.specs.CutRun.{Prints, PrintsPrefix, IsCutShort, CutRefuses}
@@ -113,11 +114,6 @@ module _ (some_cut : (s : List ℕ) → (frames : List (List ℕ)) × (rest : Li
   run-finish-refused (Err e) None b w v u p kept more h = tt
   run-finish-refused (Err e) (Some s) None w v u p kept more h = absurd p.3
   run-finish-refused (Err e) (Some s) (Some t) w v u p kept more h = at-most s t w v u e p kept (λ m. more (ap Err m)) h
-
-failed-later : (f g h : ℕ) → f ≤ g → g ≤ h → Failed g h → Failed f h
-failed-later f g h fg gh (inl rose) = inl (omega arith)
-failed-later f g h fg gh (inr last) =
-    elim (cases_lt f g) [ inl below ↦ inl (omega arith) | inr over ↦ inr (omega arith) ]
 
 -- a failure in a later call is one of the whole run
 pub either-failed : (f g h k l m : ℕ) → f ≤ g → g ≤ h → k ≤ l → l ≤ m → Failed g h ⊎ Failed l m → Failed f h ⊎ Failed k m
