@@ -52,11 +52,12 @@ fn attached(alloc: Global, form: u32, op: u32, times: u64) -> u64
     }
 }
 
-/// Answers on a value made of the data: work 0 is the list of the text's lines, work 1 the array of the numbers of
-/// four bytes each, works 2 to 4 the untyped value that the data spells; any other is 0.
+/// Answers on a value made of the data: work 0 is the list of the text's lines, work 1 the array of
+/// the numbers of four bytes each, works 2 to 4 the untyped value that the data spells; any other
+/// is 0.
 ///
-/// The operations are those of `repeat_typed`: 0 sizes, 1 bytes, 2 a hash of the bytes, 3 untyped values, 4 texts,
-/// 5 untyped values read from the bytes, 6 values read out of untyped ones.
+/// The operations are those of `repeat_typed`: 0 sizes, 1 bytes, 2 a hash of the bytes, 3 untyped
+/// values, 4 texts, 5 untyped values read from the bytes, 6 values read out of untyped ones.
 #[unsafe(no_mangle)]
 pub extern "C" fn amqp_bench(alloc: Global, work: u32, op: u32, data: &[u8], times: u64) -> u64
     ensures works { 5 ≤ work → result ≡ 0 }
@@ -70,10 +71,10 @@ pub extern "C" fn amqp_bench(alloc: Global, work: u32, op: u32, data: &[u8], tim
     }
 }
 
-/// Answers on a value made by a rule: 0 is a list of fourteen fields, 1 a list of 1,000 ints, 2 1,000 rows of ten
-/// ints, 3 a chain of 256 lists, 4 a binary of 65,536 bytes, 5 and 6 maps of 1,000 and 10,000 keys; 7 is the list of
-/// fields under a descriptor, 8 and 9 are those two of the first seven fields, fed one by one; any other is 0. The
-/// operations are those of `amqp_bench`.
+/// Answers on a value made by a rule: 0 is a list of fourteen fields, 1 a list of 1,000 ints, 2
+/// 1,000 rows of ten ints, 3 a chain of 256 lists, 4 a binary of 65,536 bytes, 5 and 6 maps of
+/// 1,000 and 10,000 keys; 7 is the list of fields under a descriptor, 8 and 9 are those two of the
+/// first seven fields, fed one by one; any other is 0. The operations are those of `amqp_bench`.
 #[unsafe(no_mangle)]
 pub extern "C" fn amqp_shape(alloc: Global, shape: u32, op: u32, times: u64) -> u64
     ensures shapes { 10 ≤ shape → result ≡ 0 }

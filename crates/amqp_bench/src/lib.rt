@@ -1,6 +1,7 @@
 //! What the bench measures, as a static library with two functions for C.
 //!
-//! Each call builds a value, answers on it many times and gives a sum, so that what is measured stands in one call.
+//! Each call builds a value, answers on it many times and gives a sum, so that what is measured
+//! stands in one call.
 #![tactic(auto)]
 
 mod attach;

@@ -52,7 +52,8 @@ fn add_value<T: Serialize>(alloc: Global, value: &T, sum: &mut u64) -> bool {
     }
 }
 
-/// Writes the text of an untyped value, adds how many bytes it has, and tells whether it was written.
+/// Writes the text of an untyped value, adds how many bytes it has, and tells whether it was
+/// written.
 #[inline(never)]
 fn add_text(alloc: Global, value: &Value, sum: &mut u64) -> bool {
     match value.to_string(alloc) {
@@ -139,9 +140,10 @@ fn round<T: Serialize>(alloc: Global, value: &T, op: u32, sum: &mut u64) -> bool
     }
 }
 
-/// What an operation answers on a value: 0 the sum of this many sizes, 1 the sum of this many written lengths, 2 the
-/// hash of the bytes, 3 how many untyped values were made, 4 the sum of this many lengths of texts, 5 how many untyped
-/// values were read from the bytes; 0 where a round is refused, and for any other operation.
+/// What an operation answers on a value: 0 the sum of this many sizes, 1 the sum of this many
+/// written lengths, 2 the hash of the bytes, 3 how many untyped values were made, 4 the sum of this
+/// many lengths of texts, 5 how many untyped values were read from the bytes; 0 where a round is
+/// refused, and for any other operation.
 ///
 /// # Memory
 /// Takes `alloc`, and gives it back after each round.

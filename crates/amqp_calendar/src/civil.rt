@@ -16,8 +16,9 @@ const EPOCH: i64 = CYCLES * 146_097 + 719_162;
 
 /// The date of a day as year, month and day, in the proleptic Gregorian calendar with a year 0.
 ///
-/// Day 0 is 1 January 1970. The days are those of all milliseconds that an `i64` counts: from -106,751,991,168 to
-/// 106,751,991,167. Months and days are counted from 1. No other date has this day, in any year of all integers.
+/// Day 0 is 1 January 1970. The days are those of all milliseconds that an `i64` counts: from
+/// -106,751,991,168 to 106,751,991,167. Months and days are counted from 1. No other date has this
+/// day, in any year of all integers.
 ///
 /// # Memory
 /// Takes none.
@@ -56,7 +57,8 @@ fn year_number(years: u64) -> i64
     years as i64 + 1 - 400 * CYCLES
 }
 
-// How many whole years lie before a day, and its place in its year. The long year is the last of each group.
+// How many whole years lie before a day, and its place in its year. The long year is the last of
+// each group.
 fn year_of(days: u64) -> (u64, u32)
     requires { days < 300_000_000_000 }
     ensures value { days_of result.0 + result.1 ≡ days }

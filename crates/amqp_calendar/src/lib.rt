@@ -1,7 +1,7 @@
 //! The calendar: the date of a day, and the text of a moment.
 //!
-//! It is the proleptic Gregorian calendar with a year 0, for the days of all milliseconds that an `i64` counts from the
-//! Unix epoch. It stands on nothing; `amqp_data` hands it on.
+//! It is the proleptic Gregorian calendar with a year 0, for the days of all milliseconds that an
+//! `i64` counts from the Unix epoch. It stands on nothing; `amqp_data` hands it on.
 #![tactic(auto)]
 
 mod civil;

@@ -6,8 +6,8 @@ ghost use Rattle.amqp_data.specs.Items.{array_items};
 /// Elements that are written under one constructor, where those of a `Vec<T>` have one each.
 ///
 /// # Encoding
-/// `e0` with a size and a count of one byte, `f0` with four each, then the constructor and the elements'
-/// payloads.
+/// `e0` with a size and a count of one byte, `f0` with four each, then the constructor and the
+/// elements' payloads.
 ///
 /// # Example
 /// An array of no elements is written `e00100`.

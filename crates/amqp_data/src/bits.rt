@@ -1,5 +1,5 @@
-//! Binary floating-point numbers, held as bits and never computed with (AMQP 1.0 part 1, sections 1.6.11 and
-//! 1.6.12).
+//! Binary floating-point numbers, held as bits and never computed with (AMQP 1.0 part 1, sections
+//! 1.6.11 and 1.6.12).
 
 ghost use Rattle.std.specs.Prelude.{◌≡◌};
 ghost use Rattle.amqp_data.specs.Fixed.{f32_bits, f64_bits};

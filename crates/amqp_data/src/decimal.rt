@@ -1,4 +1,5 @@
-//! Decimal floating-point numbers, held and never computed with (AMQP 1.0 part 1, sections 1.6.13 to 1.6.15).
+//! Decimal floating-point numbers, held and never computed with (AMQP 1.0 part 1, sections 1.6.13
+//! to 1.6.15).
 
 ghost use Rattle.std.specs.Prelude.{◌≡◌};
 ghost use Rattle.amqp_data.specs.Fixed.{dec32_bytes, dec64_bytes, dec128_bytes, GivesFixed};

@@ -18,8 +18,8 @@ pub enum Error {
     /// A length or a count is past its limit.
     #[error("too long")]
     TooLong,
-    /// A value of the wrong kind, a tree that cannot be written for another cause than a limit, or a misuse of a
-    /// compound.
+    /// A value of the wrong kind, a tree that cannot be written for another cause than a limit, or
+    /// a misuse of a compound.
     #[error("invalid value")]
     InvalidValue,
     /// A byte that is no accepted format code (AMQP 1.0 part 1, section 1.2).

@@ -1,6 +1,7 @@
 //! What equality, order and hash go by: the content of each type, and nothing else.
 //!
-//! A law is a function that does nothing: its clauses are the law. A caller's proof learns it by a call.
+//! A law is a function that does nothing: its clauses are the law. A caller's proof learns it by a
+//! call.
 
 ghost use Rattle.std.specs.Prelude.{◌≡◌, ◌&&◌, false, nat_eq};
 ghost use Rattle.std.specs.Cmp.Lexicographic.{pointwise, slice_cmp};

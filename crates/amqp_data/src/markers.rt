@@ -1,7 +1,7 @@
 //! The names by which a `Serialize` asks for a kind that serde has no method for.
 //!
-//! A newtype, struct or enum of such a name is written as the kind that the name says. Each name is two
-//! underscores and the constant's own name.
+//! A newtype, struct or enum of such a name is written as the kind that the name says. Each name is
+//! two underscores and the constant's own name.
 
 /// A newtype over a string: a symbol.
 ///

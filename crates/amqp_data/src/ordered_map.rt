@@ -19,8 +19,8 @@ use std::{mem, vec};
 /// No two keys are equal: each call that adds a key keeps it so.
 ///
 /// # Encoding
-/// `c1` with a size and a count of one byte, `d1` with four each, then each key and its value. The count is
-/// twice the number of pairs.
+/// `c1` with a size and a count of one byte, `d1` with four each, then each key and its value. The
+/// count is twice the number of pairs.
 ///
 /// # Example
 /// A map of no pairs is written `c10100`.
@@ -106,8 +106,8 @@ impl<K: Hash + Eq, V> OrderedMap<K, V> {
     /// Takes none.
     ///
     /// # Example
-    /// Of the pairs (2, `true`) and (1, `false`) with ubytes as keys: written `c10704500241500142`, in this
-    /// order.
+    /// Of the pairs (2, `true`) and (1, `false`) with ubytes as keys: written `c10704500241500142`,
+    /// in this order.
     pub fn from_distinct(entries: Vec<(K, V)>) -> Self
         requires { AreDistinct K.eq (keys_of entries.items) }
         ensures { entries_of result ≡ entries.items }
@@ -130,19 +130,19 @@ impl<K: Hash + Eq, V> OrderedMap<K, V> {
 
     /// Gives the key this value, and hands out the value that it had.
     ///
-    /// A present key keeps its place, and the key that was passed is dropped. A new key goes last. The keys are
-    /// searched in order.
+    /// A present key keeps its place, and the key that was passed is dropped. A new key goes last.
+    /// The keys are searched in order.
     ///
     /// # Errors
-    /// `OutOfMemory` where memory for a new key is refused. Nothing is changed then, and the pair is
-    /// dropped.
+    /// `OutOfMemory` where memory for a new key is refused. Nothing is changed then, and the pair
+    /// is dropped.
     ///
     /// # Memory
     /// Takes none where the key is present.
     ///
     /// # Example
-    /// Into a map of no pairs, 1 and `true`: `Ok(None)`. Then 1 and `false`: `Ok(Some(true))`. With ubytes as
-    /// keys the map is then written `c10402500142`.
+    /// Into a map of no pairs, 1 and `true`: `Ok(None)`. Then 1 and `false`: `Ok(Some(true))`. With
+    /// ubytes as keys the map is then written `c10402500142`.
     pub fn insert(&mut self, key: K, value: V) -> Result<Option<V>, Error>
     where
         K: Drop,

@@ -12,8 +12,8 @@ use std::fmt::{Formatter, Write};
 /// A symbol with its own text.
 ///
 /// # Encoding
-/// `a3` with a length of one byte, `b3` with a length of four. Any text is taken, though AMQP has symbols of
-/// ASCII alone.
+/// `a3` with a length of one byte, `b3` with a length of four. Any text is taken, though AMQP has
+/// symbols of ASCII alone.
 ///
 /// # Example
 /// `amqp` is written `a304616d7170`.

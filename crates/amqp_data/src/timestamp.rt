@@ -22,7 +22,8 @@ impl Timestamp {
     /// The moment so many milliseconds after the epoch, or before it where they are negative.
     ///
     /// # Example
-    /// Of -1: the moment that is shown `1969-12-31T23:59:59.999Z`, and written `83ffffffffffffffff`.
+    /// Of -1: the moment that is shown `1969-12-31T23:59:59.999Z`, and written
+    /// `83ffffffffffffffff`.
     pub fn from_milliseconds(milliseconds: i64) -> Timestamp
         ensures { milliseconds_of result ≡ milliseconds }
     {
@@ -69,8 +70,8 @@ impl From<i64> for Timestamp {
     }
 }
 
-/// Date and time in the proleptic Gregorian calendar with a year 0: `Y-MM-DDThh:mm:ss.mmmZ`. Years from 0 to 9999 have
-/// four digits, others a sign and at least six.
+/// Date and time in the proleptic Gregorian calendar with a year 0: `Y-MM-DDThh:mm:ss.mmmZ`. Years
+/// from 0 to 9999 have four digits, others a sign and at least six.
 ///
 /// # Example
 /// -1 millisecond is `1969-12-31T23:59:59.999Z`.

@@ -14,8 +14,8 @@ use std::{slice, vec};
 
 /// Elements that are written one after another, with no header of their own.
 ///
-/// A message of several sections is one. It is written at the root, or directly inside another at the root, and
-/// nowhere else.
+/// A message of several sections is one. It is written at the root, or directly inside another at
+/// the root, and nowhere else.
 ///
 /// # Encoding
 /// Each element in its own form.

@@ -9,7 +9,7 @@ use Rattle.std.specs.Map.{keys_of, update_all}
 use Rattle.std.specs.declared.cmp.Ordering.{Ordering}
 use Rattle.std.specs.declared.cmp.Ordering.TheVariants.{Greater}
 use Rattle.amqp_data.specs.Pairs.{insert_pair}
-use Rattle.amqp_value.specs.Converts.{inserted, inserted_sorted}
+use Rattle.amqp_value.specs.Converts.{inserted_in_order, inserted_sorted}
 use Rattle.amqp_ser.specs.Tree as tree
 use Rattle.amqp_ser.specs.Tree.{Tree}
 use Rattle.amqp_value.specs.TreeOf.{pairs_of}
@@ -75,7 +75,7 @@ module _ {K V : Type 0} where
     insert_new [] p all = refl
     insert_new (e ∷ es) p all = rw all.0 (ap (λ fs. e ∷ fs) (insert_new es p all.1))
 
-    pub distinct_inserted : (ps : List (K × V)) → EachBefore (λ p q. eq q.0 p.0 ≡ false) ps → inserted eq ps ≡ ps
+    pub distinct_inserted : (ps : List (K × V)) → EachBefore (λ p q. eq q.0 p.0 ≡ false) ps → inserted_in_order eq ps ≡ ps
     distinct_inserted = all_new (λ p q. eq q.0 p.0 ≡ false) (λ es p. insert_pair eq es p.0 p.1) insert_new
 
     -- no value is at a key that is new
@@ -93,7 +93,7 @@ module _ {K V : Type 0} where
 
 module _ {K V : Type 0} (S : K → K → Type 0) (U : V → V → Type 0) where
   -- pairs with the contents of a map's are inserted as they are
-  pub restored_in_order : (eq : K → K → Bool) (es ys xs : List (K × V)) → AllZip (SamePair S U) ys xs → AreDistinct S eq (keys_of xs) → es ≡ inserted eq ys → AllZip (SamePair S U) es xs
+  pub restored_in_order : (eq : K → K → Bool) (es ys xs : List (K × V)) → AllZip (SamePair S U) ys xs → AreDistinct S eq (keys_of xs) → es ≡ inserted_in_order eq ys → AllZip (SamePair S U) es xs
   restored_in_order eq es ys xs zip apart is =
       let each = each_before S U (λ x y. eq y x ≡ false) ys xs zip apart in
       rw (is ∙ distinct_inserted eq ys each) zip

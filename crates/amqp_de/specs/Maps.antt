@@ -9,7 +9,7 @@ use Rattle.std.specs.declared.cmp.Ordering.TheVariants.{Greater}
 use Rattle.amqp_data.specs.Pairs.{entries_of}
 use Rattle.amqp_data.specs.declared.ordered_map.OrderedMap.{OrderedMap}
 use Rattle.amqp_ser.specs.Tree.{Tree, map}
-use Rattle.amqp_value.specs.Converts.{inserted, inserted_sorted}
+use Rattle.amqp_value.specs.Converts.{inserted_in_order, inserted_sorted}
 use Rattle.amqp_de.specs.Parts.{entries_in}
 
 -- a map whose keys and values are so
@@ -38,7 +38,7 @@ module _ {K V : Type 0} where
 
   -- the map has the pairs inserted in turn: a present key keeps its place and takes the value, and a new key goes last
   abbrev pub HoldsInOrder : (K → K → Bool) → List (K × V) → OrderedMap K V → Type 0
-  HoldsInOrder eq ps m = entries_of m ≡ inserted eq ps
+  HoldsInOrder eq ps m = entries_of m ≡ inserted_in_order eq ps
 
   -- the map has the pairs inserted in turn, each key at its place
   abbrev pub HoldsSorted : (K → K → Ordering) → List (K × V) → tree.BTreeMap K V → Type 0

@@ -6,4 +6,4 @@ mod variant;
 
 pub use map::{EntriesOf, MapAccess};
 pub use seq::{ElementsOf, SeqAccess};
-pub use variant::{ContentOf, EnumAccess, VariantAccess, VariantOf};
+pub use variant::{ContentOf, EnumAccess, EnumAccessOf, VariantAccess};

@@ -10,7 +10,8 @@ use amqp_data::{
     Uuid,
 };
 
-/// One level of what a deserializer `D` holds: null, a scalar, or a compound whose parts are still to be read.
+/// One level of what a deserializer `D` holds: null, a scalar, or a compound whose parts are still
+/// to be read.
 #[derive(Drop)]
 pub enum Content<D, P, E> {
     /// Null.

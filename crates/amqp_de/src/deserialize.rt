@@ -27,8 +27,8 @@ pub trait Deserialize: Sized + Drop {
     /// Only where the tree is read as no value, out of memory aside.
     ///
     /// # Example
-    /// As a `u32` the uint 1 is 1, and the ulong 1 invalid. As an `Option<u32>` null is `None`, and the uint 5
-    /// `Some(5)`.
+    /// As a `u32` the uint 1 is 1, and the ulong 1 invalid. As an `Option<u32>` null is `None`, and
+    /// the uint 5 `Some(5)`.
     fn deserialize<D: Deserializer>(alloc: Global, deserializer: D) -> Result<Self, D::Error>
         ensures read { Answers D.Error.is_memory (reads (D.value deserializer)) result }
         ensures law { Restores image restorable same

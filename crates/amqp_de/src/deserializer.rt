@@ -8,7 +8,7 @@ ghost use Rattle.amqp_de.specs.Answers.{Answers, TakesNext, TakesPair, TakesName
 ghost use Rattle.amqp_de.specs.ContentTree.{content_tree};
 ghost use Rattle.amqp_de.specs.Events.{plain_event, any_event, is_index, is_array_name, is_described_name, Returns, ByPlain, ByOption, ByUnit, ByList, ByMap, ByIdentifier, ByDescribed, ByStruct, ByDescriptor, ByFormat, ByVariant, ByEnum, ByArray, ByWritten, ByMark};
 
-use crate::access::{ElementsOf, EntriesOf, VariantOf};
+use crate::access::{ElementsOf, EntriesOf, EnumAccessOf};
 use crate::content::Content;
 use crate::names::{is_array_name, is_described_name, is_descriptor_name, is_value_name};
 use crate::refusal::Refusal;
@@ -26,8 +26,9 @@ use std::alloc::Global;
 /// The calls `deserialize_..` show a visitor what it holds.
 ///
 /// # Errors
-/// A call `deserialize_..` is invalid where a value of another kind is held than it takes. An enum's empty list or map
-/// has the message `Expecting a Value`. Otherwise the answer is the visitor's.
+/// A call `deserialize_..` is invalid where a value of another kind is held than it takes. An
+/// enum's empty list or map has the message `Expecting a Value`. Otherwise the answer is the
+/// visitor's.
 ///
 /// # Implementer notes
 /// The eight calls above the first `deserialize_..` are to be written.
@@ -98,7 +99,8 @@ pub trait Deserializer: Sized + Drop {
     /// Takes the value of the first key that is the string of this name.
     ///
     /// # Example
-    /// Of the string `x` with the ubyte 1 and `y` with 2, by the name `y`: what holds 2. By the name `z`: `None`.
+    /// Of the string `x` with the ubyte 1 and `y` with 2, by the name `y`: what holds 2. By the
+    /// name `z`: `None`.
     fn take_named(entries: &mut Self::Entries, name: &str) -> Option<Self>
         ensures { TakesNamed value name.now (pairs entries.old) (pairs entries.new) result };
 
@@ -524,7 +526,8 @@ pub trait Deserializer: Sized + Drop {
     /// Invalid where neither a uint nor a symbol is held; as the visitor otherwise.
     ///
     /// # Example
-    /// Of the uint 1: `visit_u32(1)`. Of the symbol `a`: `visit_string` of `a`. Of the string `a`: invalid.
+    /// Of the uint 1: `visit_u32(1)`. Of the symbol `a`: `visit_string` of `a`. Of the string `a`:
+    /// invalid.
     final fn deserialize_identifier<V: Visitor>(self, visitor: V) -> Result<V::Value, Self::Error>
         ensures read { Answers Self.Error.is_memory
             (ByIdentifier (V.gives visitor) (value self)) result }
@@ -559,7 +562,8 @@ pub trait Deserializer: Sized + Drop {
     /// Invalid where no described value is held; as the visitor otherwise.
     ///
     /// # Example
-    /// Of the code 1 and `true`: `visit_described` of this code and of what holds `true`. Of `true` alone: invalid.
+    /// Of the code 1 and `true`: `visit_described` of this code and of what holds `true`. Of `true`
+    /// alone: invalid.
     final fn deserialize_described<V: Visitor>(self, visitor: V) -> Result<V::Value, Self::Error>
         ensures read { Answers Self.Error.is_memory
             (ByDescribed (V.gives visitor) (value self)) result }
@@ -572,16 +576,16 @@ pub trait Deserializer: Sized + Drop {
         }
     }
 
-    /// Deserializes a struct: the elements of a list; under a name that asks for a descriptor, that and
-    /// the value after it.
+    /// Deserializes a struct: the elements of a list; under a name that asks for a descriptor, that
+    /// and the value after it.
     ///
     /// # Errors
-    /// Invalid where no list is held, or, under a name that asks for a descriptor, no described value; as the visitor
-    /// otherwise.
+    /// Invalid where no list is held, or, under a name that asks for a descriptor, no described
+    /// value; as the visitor otherwise.
     ///
     /// # Example
-    /// Of the list of the ubyte 1: `visit_seq` of it. Under the name `DESCRIBED_LIST` of the code 1 and that list:
-    /// `visit_described`.
+    /// Of the list of the ubyte 1: `visit_seq` of it. Under the name `DESCRIBED_LIST` of the code 1
+    /// and that list: `visit_described`.
     final fn deserialize_struct<V: Visitor>(
         self,
         name: &str,
@@ -641,16 +645,16 @@ pub trait Deserializer: Sized + Drop {
         }
     }
 
-    /// Deserializes a variant: its index alone, a list of the index and what comes with it, or a map from
-    /// the one to the other.
+    /// Deserializes a variant: its index alone, a list of the index and what comes with it, or a
+    /// map from the one to the other.
     ///
     /// # Errors
-    /// The message `Expecting a Value` for an empty list or map; invalid for a map of several pairs, and where no uint,
-    /// symbol, list or map is held; as the visitor otherwise.
+    /// The message `Expecting a Value` for an empty list or map; invalid for a map of several
+    /// pairs, and where no uint, symbol, list or map is held; as the visitor otherwise.
     ///
     /// # Example
-    /// Of the uint 3: `visit_enum` of this index, with nothing. Of the map from the uint 1 to the ulong 13, or the list
-    /// of these: `visit_enum` of the index 1 with 13.
+    /// Of the uint 3: `visit_enum` of this index, with nothing. Of the map from the uint 1 to the
+    /// ulong 13, or the list of these: `visit_enum` of the index 1 with 13.
     #[tactic(auto, using(crate::proofs::Lists::list_of_trees, crate::proofs::Lists::entries_in_pairs))]
     final fn deserialize_variant<V: Visitor>(self, visitor: V) -> Result<V::Value, Self::Error>
         ensures read { Answers Self.Error.is_memory
@@ -659,20 +663,20 @@ pub trait Deserializer: Sized + Drop {
             V.same Self.Error.is_memory result }
     {
         if self.is_index() {
-            return visitor.visit_enum(VariantOf::<Self>::new(self, None));
+            return visitor.visit_enum(EnumAccessOf::<Self>::new(self, None));
         }
         match self.open() {
             Content::List(mut elements) => match Self::next_element(&mut elements) {
                 Some(index) => {
                     let item = Self::next_element(&mut elements);
-                    visitor.visit_enum(VariantOf::<Self>::new(index, item))
+                    visitor.visit_enum(EnumAccessOf::<Self>::new(index, item))
                 }
                 None => Err(Self::Error::message("Expecting a Value")),
             },
             Content::Map(mut entries) => match Self::next_pair(&mut entries) {
                 Some((index, item)) => match Self::next_pair(&mut entries) {
                     Some(_) => Err(Self::Error::invalid()),
-                    None => visitor.visit_enum(VariantOf::<Self>::new(index, Some(item))),
+                    None => visitor.visit_enum(EnumAccessOf::<Self>::new(index, Some(item))),
                 },
                 None => Err(Self::Error::message("Expecting a Value")),
             },
@@ -700,16 +704,16 @@ pub trait Deserializer: Sized + Drop {
         }
     }
 
-    /// Deserializes an enum by its name: an untyped value, a descriptor, an array's elements or another
-    /// value's format code, or a variant.
+    /// Deserializes an enum by its name: an untyped value, a descriptor, an array's elements or
+    /// another value's format code, or a variant.
     ///
     /// # Errors
-    /// Under the name `VALUE` as the visitor; under `DESCRIPTOR` as `deserialize_descriptor`; under `ARRAY` as
-    /// `deserialize_format`; else as `deserialize_variant`.
+    /// Under the name `VALUE` as the visitor; under `DESCRIPTOR` as `deserialize_descriptor`; under
+    /// `ARRAY` as `deserialize_format`; else as `deserialize_variant`.
     ///
     /// # Example
-    /// Of the uint 3: `visit_enum` of this index. Under the name `VALUE`: `visit_value` of `Value::Uint(3)`. Under
-    /// `DESCRIPTOR`: invalid. Under `ARRAY`: `visit_u8(0x70)`.
+    /// Of the uint 3: `visit_enum` of this index. Under the name `VALUE`: `visit_value` of
+    /// `Value::Uint(3)`. Under `DESCRIPTOR`: invalid. Under `ARRAY`: `visit_u8(0x70)`.
     final fn deserialize_enum<V: Visitor>(
         self,
         name: &str,
@@ -758,7 +762,8 @@ pub trait Deserializer: Sized + Drop {
     /// Deserializes a lazy value: the bytes that the value is written as.
     ///
     /// # Errors
-    /// Invalid or too long where the value cannot be written, as `to_vec`; out of memory; as the visitor otherwise.
+    /// Invalid or too long where the value cannot be written, as `to_vec`; out of memory; as the
+    /// visitor otherwise.
     ///
     /// # Example
     /// Of the string `a`: `visit_byte_buf` of `a10161`.
@@ -778,12 +783,13 @@ pub trait Deserializer: Sized + Drop {
     /// Deserializes what a newtype's name asks for.
     ///
     /// # Errors
-    /// Invalid where another kind is held than the mark makes; under `Mark::Lazy` as `deserialize_written`; as the
-    /// visitor otherwise. `Mark::Other` and `Mark::Transparent` take any kind.
+    /// Invalid where another kind is held than the mark makes; under `Mark::Lazy` as
+    /// `deserialize_written`; as the visitor otherwise. `Mark::Other` and `Mark::Transparent` take
+    /// any kind.
     ///
     /// # Example
-    /// Of the symbol `a` and `Mark::Symbol`: `visit_string` of `a`. Of a timestamp of 13 milliseconds and
-    /// `Mark::Timestamp`: `visit_i64(13)`.
+    /// Of the symbol `a` and `Mark::Symbol`: `visit_string` of `a`. Of a timestamp of 13
+    /// milliseconds and `Mark::Timestamp`: `visit_i64(13)`.
     final fn deserialize_marked<V: Visitor>(
         self,
         mark: Mark,
@@ -833,8 +839,8 @@ pub trait Deserializer: Sized + Drop {
     /// As `deserialize_marked`, by the name's mark; under a name that is no marker as the visitor.
     ///
     /// # Example
-    /// Of the uint 1 under the name `Celsius`: `visit_newtype_struct` of what holds it. Of the symbol `a` under
-    /// `SYMBOL`: `visit_string` of `a`.
+    /// Of the uint 1 under the name `Celsius`: `visit_newtype_struct` of what holds it. Of the
+    /// symbol `a` under `SYMBOL`: `visit_string` of `a`.
     final fn deserialize_newtype_struct<V: Visitor>(
         self,
         name: &str,
@@ -855,8 +861,8 @@ pub trait Deserializer: Sized + Drop {
     /// As the visitor.
     ///
     /// # Example
-    /// Of `true`: `visit_bool(true)`. Of the array of the ubyte 1: `visit_seq` of it. Of the symbol `a`: `visit_value`
-    /// of it.
+    /// Of `true`: `visit_bool(true)`. Of the array of the ubyte 1: `visit_seq` of it. Of the symbol
+    /// `a`: `visit_value` of it.
     #[tactic(auto, using(crate::proofs::Lists::list_of_trees, crate::proofs::Lists::entries_in_pairs))]
     final fn deserialize_any<V: Visitor>(self, visitor: V) -> Result<V::Value, Self::Error>
         ensures read { Answers Self.Error.is_memory

@@ -14,7 +14,8 @@ use std::marker::PhantomData;
 /// The fields that are asked for, in order, with their names. Written by the macro [`named!`].
 ///
 /// # Implementer notes
-/// `reads` is what the fields mean; the calls answer by it, and what stands for restorable fields comes back.
+/// `reads` is what the fields mean; the calls answer by it, and what stands for restorable fields
+/// comes back.
 pub trait Fields: Sized + Drop {
     /// The fields' values, as nested pairs.
     type Values: Drop;

@@ -11,8 +11,8 @@ ghost use Rattle.amqp_de.specs.Maps.{AreDistinct, Ascend};
 use crate::de::Deserialize;
 use amqp_data::{ByteBuf, Symbol, Uuid};
 
-/// Distinct keys are distinct by their contents, where keys of the same contents are equal: of an ordered map, and of
-/// a hash map.
+/// Distinct keys are distinct by their contents, where keys of the same contents are equal: of an
+/// ordered map, and of a hash map.
 ///
 /// # Memory
 /// Takes none.
@@ -32,7 +32,8 @@ pub fn ascending_keys_stay_apart<K: Deserialize + Ord>()
         IsStrictlySortedBy K.cmp ks → Ascend K.same K.cmp ks }
 {}
 
-/// Keys of the same contents are equal: numbers of 32 and 64 bits, texts, symbols, binaries and uuids.
+/// Keys of the same contents are equal: numbers of 32 and 64 bits, texts, symbols, binaries and
+/// uuids.
 ///
 /// # Memory
 /// Takes none.

@@ -20,7 +20,7 @@ mod untyped;
 mod unwritable;
 mod visitor;
 
-pub use access::{ContentOf, ElementsOf, EntriesOf, VariantOf};
+pub use access::{ContentOf, ElementsOf, EntriesOf, EnumAccessOf};
 pub use enums::{DataOr, EnumOf, Never, OneOf, UnitOr, Variants};
 pub use fields::{Fields, May, Must};
 pub use record::{Describes, Record, read, read_described};
@@ -29,8 +29,8 @@ pub use seed::{ListOf, NamedOf, Of, Seed};
 
 /// The fields of a struct, in order: `named! { "name", "other"?, .. }`.
 ///
-/// A `?` marks one that may be absent or null. Wrapped in [`ListOf`] or [`NamedOf`] it reads the fields' values, which
-/// the pattern [`fields!`] takes apart.
+/// A `?` marks one that may be absent or null. Wrapped in [`ListOf`] or [`NamedOf`] it reads the
+/// fields' values, which the pattern [`fields!`] takes apart.
 #[macro_export]
 macro_rules! named {
     () => { () };
@@ -59,10 +59,11 @@ macro_rules! fields {
     };
 }
 
-/// The variants of an enum, in order: `variants! { unit, newtype, named! { "side", "note"? }, .. }`.
+/// The variants of an enum, in order: `variants! { unit, newtype, named! { "side", "note"? }, ..
+/// }`.
 ///
-/// `unit` has no value, `newtype` has one, and a variant of fields has the list of them. Wrapped in [`EnumOf`] it reads
-/// one of the variants, which the pattern [`variant!`] tells.
+/// `unit` has no value, `newtype` has one, and a variant of fields has the list of them. Wrapped in
+/// [`EnumOf`] it reads one of the variants, which the pattern [`variant!`] tells.
 #[macro_export]
 macro_rules! variants {
     () => { () };
@@ -85,7 +86,8 @@ macro_rules! variants {
     };
 }
 
-/// The pattern of a variant that was read, by its place, and of none after the last: `variant!(none 4, never)`.
+/// The pattern of a variant that was read, by its place, and of none after the last: `variant!(none
+/// 4, never)`.
 #[macro_export]
 macro_rules! variant {
     (0, $value:pat) => { $crate::OneOf::This($value) };

@@ -95,11 +95,12 @@ pub fn read<T: Record, D: Deserializer, S: Seed<Value = T::Parts>>(
 /// Reads the parts of a value that stands after this descriptor.
 ///
 /// # Errors
-/// Invalid where there is another descriptor, or none; as the seed otherwise. Only where nothing is read.
+/// Invalid where there is another descriptor, or none; as the seed otherwise. Only where nothing is
+/// read.
 ///
 /// # Example
-/// Of the code 1 and the list of the ubyte 1, by `&1u64` and `ListOf(named! { "x" })`: the parts `(1, ())`. By `&2u64`:
-/// invalid.
+/// Of the code 1 and the list of the ubyte 1, by `&1u64` and `ListOf(named! { "x" })`: the parts
+/// `(1, ())`. By `&2u64`: invalid.
 #[tactic(auto, unfolding(crate::specs::Fields::OnDescribed))]
 pub fn read_described<T: Record, D: Deserializer, K: Describes, S: Seed<Value = T::Parts>>(
     alloc: Global,

@@ -12,12 +12,14 @@ use crate::record::{Describes, Record};
 use crate::seed::{NamedOf, Seed};
 use std::alloc::Global;
 
-/// Reads the parts of a value that is written as a map of its fields. A list or an array of them is read too.
+/// Reads the parts of a value that is written as a map of its fields. A list or an array of them is
+/// read too.
 ///
 /// What comes back is the map without what is absent, where no two fields have the same name.
 ///
 /// # Errors
-/// Invalid where a field is missing or another than is asked for; out of memory. Only where nothing is read.
+/// Invalid where a field is missing or another than is asked for; out of memory. Only where nothing
+/// is read.
 ///
 /// # Example
 /// Of the map from the string `x` to the ubyte 1, by `named! { "x" }`: the parts `(1, ())`.
@@ -42,11 +44,12 @@ pub fn read_map<T: Record, D: Deserializer, F: Fields<Values = T::Parts>>(
 /// Reads the parts of a value that is written, after this descriptor, as a map of its fields.
 ///
 /// # Errors
-/// Invalid where there is another descriptor, or none; as [`read_map`] otherwise. Only where nothing is read.
+/// Invalid where there is another descriptor, or none; as [`read_map`] otherwise. Only where
+/// nothing is read.
 ///
 /// # Example
-/// Of the code 1 and the map from the string `x` to the ubyte 1, by `&1u64` and `named! { "x" }`: the parts `(1, ())`.
-/// By `&2u64`: invalid.
+/// Of the code 1 and the map from the string `x` to the ubyte 1, by `&1u64` and `named! { "x" }`:
+/// the parts `(1, ())`. By `&2u64`: invalid.
 #[tactic(auto, unfolding(crate::specs::Fields::OnDescribed))]
 pub fn read_described_map<T: Record, D: Deserializer, K: Describes, F: Fields<Values = T::Parts>>(
     alloc: Global,

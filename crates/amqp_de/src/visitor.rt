@@ -18,12 +18,12 @@ use amqp_value::Value;
 /// What a deserializer shows a value to, to make another of it.
 ///
 /// # Errors
-/// A visit is refused where nothing is given for what it shows. One that is not written is invalid where `refuses` says
-/// so, and out of memory otherwise.
+/// A visit is refused where nothing is given for what it shows. One that is not written is invalid
+/// where `refuses` says so, and out of memory otherwise.
 ///
 /// # Implementer notes
-/// Write `refuses`, and the visits that give a value; the others are refused. All that has no parts comes by
-/// `visit_plain`.
+/// Write `refuses`, and the visits that give a value; the others are refused. All that has no parts
+/// comes by `visit_plain`.
 pub trait Visitor: Sized + Drop {
     /// What is made.
     type Value: Drop;
@@ -50,10 +50,12 @@ pub trait Visitor: Sized + Drop {
     /// Visits what has no parts.
     ///
     /// # Errors
-    /// Only where nothing is given for it, out of memory aside. Not written, it is invalid where `refuses` says so.
+    /// Only where nothing is given for it, out of memory aside. Not written, it is invalid where
+    /// `refuses` says so.
     ///
     /// # Example
-    /// The uint 1 comes as `Plain::U32(1)`, null as `Plain::Unit`, and an absent one as `Plain::None`.
+    /// The uint 1 comes as `Plain::U32(1)`, null as `Plain::Unit`, and an absent one as
+    /// `Plain::None`.
     fn visit_plain<E: Refusal>(self, plain: Plain) -> Result<Self::Value, E>
         ensures read { Answers E.is_memory (gives self (plain_shown plain)) result }
         ensures law { Returns (stands self (plain_shown plain)) same E.is_memory result }
@@ -64,7 +66,8 @@ pub trait Visitor: Sized + Drop {
     /// Visits something that may be absent.
     ///
     /// # Errors
-    /// Only where nothing is given for it, out of memory aside. Not written, it is invalid where `refuses` says so.
+    /// Only where nothing is given for it, out of memory aside. Not written, it is invalid where
+    /// `refuses` says so.
     ///
     /// # Example
     /// By `deserialize_option`, of the uint 5: what holds 5.
@@ -80,7 +83,8 @@ pub trait Visitor: Sized + Drop {
     /// Visits what stands in a newtype.
     ///
     /// # Errors
-    /// Only where nothing is given for it, out of memory aside. Not written, it is invalid where `refuses` says so.
+    /// Only where nothing is given for it, out of memory aside. Not written, it is invalid where
+    /// `refuses` says so.
     ///
     /// # Example
     /// By `deserialize_newtype_struct` under the name `Celsius`, of the uint 1: what holds 1.
@@ -96,7 +100,8 @@ pub trait Visitor: Sized + Drop {
     /// Visits the elements of a list or an array.
     ///
     /// # Errors
-    /// Only where nothing is given for it, out of memory aside. Not written, it is invalid where `refuses` says so.
+    /// Only where nothing is given for it, out of memory aside. Not written, it is invalid where
+    /// `refuses` says so.
     ///
     /// # Example
     /// By `deserialize_seq`, of the list of the ubytes 1 and 2: these elements, in order.
@@ -111,7 +116,8 @@ pub trait Visitor: Sized + Drop {
     /// Visits the keys and values of a map.
     ///
     /// # Errors
-    /// Only where nothing is given for it, out of memory aside. Not written, it is invalid where `refuses` says so.
+    /// Only where nothing is given for it, out of memory aside. Not written, it is invalid where
+    /// `refuses` says so.
     ///
     /// # Example
     /// By `deserialize_map`, of the map from the ubyte 1 to `true`: this pair.
@@ -127,7 +133,8 @@ pub trait Visitor: Sized + Drop {
     /// Visits one of the variants of an enum.
     ///
     /// # Errors
-    /// Only where nothing is given for it, out of memory aside. Not written, it is invalid where `refuses` says so.
+    /// Only where nothing is given for it, out of memory aside. Not written, it is invalid where
+    /// `refuses` says so.
     ///
     /// # Example
     /// By `deserialize_enum`, of the map from the uint 1 to the ulong 13: the index 1 with 13.
@@ -143,10 +150,12 @@ pub trait Visitor: Sized + Drop {
     /// Visits a value after its descriptor.
     ///
     /// # Errors
-    /// Only where nothing is given for it, out of memory aside. Not written, it is invalid where `refuses` says so.
+    /// Only where nothing is given for it, out of memory aside. Not written, it is invalid where
+    /// `refuses` says so.
     ///
     /// # Example
-    /// By `deserialize_described`, of the code 1 and `true`: `Descriptor::Code(1)`, and what holds `true`.
+    /// By `deserialize_described`, of the code 1 and `true`: `Descriptor::Code(1)`, and what holds
+    /// `true`.
     fn visit_described<D: Deserializer>(
         self,
         descriptor: Descriptor,
@@ -165,7 +174,8 @@ pub trait Visitor: Sized + Drop {
     /// Visits an untyped value.
     ///
     /// # Errors
-    /// Only where nothing is given for it, out of memory aside. Not written, it is invalid where `refuses` says so.
+    /// Only where nothing is given for it, out of memory aside. Not written, it is invalid where
+    /// `refuses` says so.
     ///
     /// # Example
     /// By `deserialize_any`, of the symbol `a`: `Value::Symbol` of it.

@@ -15,7 +15,7 @@ use Rattle.amqp_value.proofs.SameLemmas.{numbers}
 use Rattle.amqp_decode.specs.Codes.{is_primitive, primitive_of, shape_of_code}
 use Rattle.amqp_decode.specs.Scalars.{next, scalar_in, scalar_tree}
 use Rattle.amqp_decode.specs.Spells.{IsNumber, IsPayload, IsCounted, IsDescriptor, descriptor_scalar, Spells, SpellsContent, SpellsElements, SpellsItems, SpellsEntries}
-use Rattle.amqp_decode.specs.Parsed.{FrameReader, ContentReader, cut, number_at, sized_at, content_at, counted_in, tree_descriptor, descriptor_of, descriptor_at, gather, insert, all, parse_list, parse_map, items_in, parse_array, payload_in, with_rest, content_in, content_of, parse_described, frame_in, parse, parse_content}
+use Rattle.amqp_decode.specs.Parsed.{FrameReader, ContentReader, cut, number_at, sized_at, content_at, counted_in, tree_descriptor, parsed_descriptor, descriptor_at, gather, insert, all, parse_list, parse_map, items_in, parse_array, payload_in, with_rest, content_in, content_of, parse_described, frame_in, parse, parse_content}
 use Rattle.amqp_decode.specs.declared.payload_shape.Count.{Count}
 use Rattle.amqp_decode.specs.declared.payload_shape.Count.TheVariants.{Absent, OneByte, FourBytes}
 use Rattle.amqp_decode.specs.declared.payload_shape.PayloadShape.{PayloadShape}
@@ -174,10 +174,10 @@ pub descriptor-says : (s : List ℕ) → Says IsDescriptor s (descriptor_at s)
 unfolding descriptor_at
 descriptor-says [] = tt
 descriptor-says (byte ∷ s) =
-    next-says (Says IsDescriptor (byte ∷ s)) (primitive_of byte) (λ code. next (content_at (category (code_of code)) s) (descriptor_of code)) tt
+    next-says (Says IsDescriptor (byte ∷ s)) (primitive_of byte) (λ code. next (content_at (category (code_of code)) s) (parsed_descriptor code)) tt
     (λ c is. let named = primitive-says byte c is in
     under-code IsDescriptor byte c s _ named.0
-    (says-next (IsPayload (category (code_of c))) (λ b d. IsDescriptor (code_of c ∷ b) d) s (content_at (category (code_of c)) s) (descriptor_of c) (payload-says (category (code_of c)) s)
+    (says-next (IsPayload (category (code_of c))) (λ b d. IsDescriptor (code_of c ∷ b) d) s (content_at (category (code_of c)) s) (parsed_descriptor c) (payload-says (category (code_of c)) s)
     (λ p a e h. next-says (Says (λ b d. IsDescriptor (code_of c ∷ b) d) s) (next (next (scalar_in c p.0) scalar_tree) tree_descriptor) (λ d. Some (d, p.1)) tt
     (λ d found. (a, e, IsDescriptor.spelled c a p.0 d named.1 h (descriptor-from (scalar_in c p.0) d found))))))
 

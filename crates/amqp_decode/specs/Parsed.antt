@@ -53,12 +53,12 @@ tree_descriptor (tree.scalar (tree.symbol bs)) = Some (tree.name bs)
 tree_descriptor _ = None
 
 -- the descriptor, which comes first, and the rest
-abbrev pub descriptor_of : EncodingCodes → List ℕ × List ℕ → Option (Descriptor × List ℕ)
-descriptor_of code p = next (next (next (scalar_in code p.0) scalar_tree) tree_descriptor) (λ d. Some (d, p.1))
+abbrev pub parsed_descriptor : EncodingCodes → List ℕ × List ℕ → Option (Descriptor × List ℕ)
+parsed_descriptor code p = next (next (next (scalar_in code p.0) scalar_tree) tree_descriptor) (λ d. Some (d, p.1))
 
 unfoldable pub descriptor_at : List ℕ → Option (Descriptor × List ℕ)
 descriptor_at [] = None
-descriptor_at (byte ∷ s) = next (primitive_of byte) (λ code. next (content_at (category (code_of code)) s) (descriptor_of code))
+descriptor_at (byte ∷ s) = next (primitive_of byte) (λ code. next (content_at (category (code_of code)) s) (parsed_descriptor code))
 
 -- how an encoded value is read, and the content of a code's payload
 abbrev pub FrameReader : Type 0

@@ -8,8 +8,8 @@ ghost use Rattle.amqp_decode.specs.Scalars.{exact};
 
 use amqp_value::Value;
 
-/// The scalar of the code whose payload comes first, and the bytes after it, where it is null, a truth value by its
-/// code alone, or a whole number of 8, 32 or 64 bits, but for the byte.
+/// The scalar of the code whose payload comes first, and the bytes after it, where it is null, a
+/// truth value by its code alone, or a whole number of 8, 32 or 64 bits, but for the byte.
 #[inline(always)]
 pub fn read_fixed(code: u8, bytes: &[u8]) -> Option<(Value, &[u8])>
     ensures found { IfSome result (λ r. (f : FrameReader) (h : ContentReader) →

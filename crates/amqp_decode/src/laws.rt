@@ -27,14 +27,15 @@ pub fn spelled_trees_are_their_own_images()
     ensures { (d : ℕ) (bytes : List ℕ) (t : Tree) → Spells d bytes t → image t ≡ t }
 {}
 
-/// The bytes of a tree spell its image, where the tree can be written and nothing in it is lazy or transparent.
+/// The bytes of a tree spell its image, where the tree can be written and nothing in it is lazy or
+/// transparent.
 pub fn own_bytes()
     ensures { (t : Tree) (d : ℕ) → IsRanged t → writable t ≡ true →
         IsOrdinary t → depth_of t ≤ d → Spells d (encoding t) (image t) }
 {}
 
-/// Two trees that can be written and have nothing lazy or transparent in them have one image where they have the same
-/// bytes, at whatever depths.
+/// Two trees that can be written and have nothing lazy or transparent in them have one image where
+/// they have the same bytes, at whatever depths.
 pub fn same_bytes_same_image()
     ensures { (t u : Tree) → IsRanged t → IsRanged u → writable t ≡ true → writable u ≡ true →
         IsOrdinary t → IsOrdinary u → encoding t ≡ encoding u → image t ≡ image u }

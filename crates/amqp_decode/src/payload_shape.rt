@@ -65,7 +65,8 @@ pub fn has_no_payload(code: EncodingCodes) -> bool {
 /// The primitive code of a byte.
 ///
 /// # Errors
-/// `InvalidValue` for the code of a described value, `InvalidFormatCode` where no name has this code.
+/// `InvalidValue` for the code of a described value, `InvalidFormatCode` where no name has this
+/// code.
 #[inline(always)]
 pub fn primitive_code(byte: u8) -> Result<EncodingCodes, Error>
     ensures ok { IfOk result (λ code. primitive_of byte ≡ Some code) }

@@ -15,8 +15,8 @@ use amqp_gather::Gathered;
 use amqp_value::Value;
 use std::alloc::Global;
 
-// The value that the bytes spell first; the bytes after it are left. Elements that take no bytes are at most so many in an
-// array: more of them are out of memory.
+// The value that the bytes spell first; the bytes after it are left. Elements that take no bytes
+// are at most so many in an array: more of them are out of memory.
 #[cycle(read)]
 pub fn read_frame(
     alloc: Global,
@@ -153,7 +153,8 @@ fn read_content(
     }
 }
 
-// The list of so many encoded values, which fill the body. They wait on the stack till all are there.
+// The list of so many encoded values, which fill the body. They wait on the stack till all are
+// there.
 #[cycle(read)]
 #[inline(never)]
 fn read_list(

@@ -92,8 +92,8 @@ fn character_of(number: u32) -> Result<Value, Error>
 /// The scalar that the content of the code's payload is.
 ///
 /// # Errors
-/// `InvalidValue` where the code is of another shape, and for a content that is no truth value, no character or no
-/// text.
+/// `InvalidValue` where the code is of another shape, and for a content that is no truth value, no
+/// character or no text.
 #[tactic(auto, unfolding(crate::specs::Scalars::scalar_in))]
 #[inline(always)]
 pub fn read_scalar(alloc: Global, code: EncodingCodes, content: &[u8]) -> Result<Value, Error>
@@ -158,7 +158,7 @@ pub fn read_scalar(alloc: Global, code: EncodingCodes, content: &[u8]) -> Result
 }
 
 // The descriptor that a ulong or a symbol is.
-fn descriptor_of(value: Value) -> Result<Descriptor, Error>
+fn into_descriptor(value: Value) -> Result<Descriptor, Error>
     ensures ok { IfOk result (λ d. tree_descriptor (tree_of value) ≡ Some (descriptor_content d)) }
     ensures err { IfErr result (λ e. tree_descriptor (tree_of value) ≡ None) }
 {
@@ -184,6 +184,6 @@ pub fn read_descriptor(alloc: Global, bytes: &[u8]) -> Result<(Descriptor, &[u8]
     };
     let code = primitive_code(*byte)?;
     let (content, rest) = read_payload(code, bytes)?;
-    let descriptor = descriptor_of(read_scalar(alloc, code, content)?)?;
+    let descriptor = into_descriptor(read_scalar(alloc, code, content)?)?;
     Ok((descriptor, rest))
 }

@@ -4,8 +4,8 @@ ghost use Rattle.std.specs.Prelude.{◌≡◌, ◌≤◌, take, drop, vec_len, I
 
 use std::alloc::{AllocError, Global};
 
-/// What stands on the stack from a place on, taken off. Where nothing stands below, the stack itself is handed over;
-/// else its values move into room of exactly their number.
+/// What stands on the stack from a place on, taken off. Where nothing stands below, the stack
+/// itself is handed over; else its values move into room of exactly their number.
 ///
 /// # Errors
 /// Where that room is refused.

@@ -6,8 +6,8 @@ ghost use Rattle.amqp_frame.specs.Cut.{IsCut};
 ghost use Rattle.amqp_frame.specs.Frame.{IsFrame, IsIncomplete, IsMalformed, HasFrame, HasMalformed, ExactlyOne};
 ghost use Rattle.amqp_frame.specs.Whole.{is_frame};
 
-/// Of the prefixes of a string at most one is an encoded value, so no encoded value is a proper prefix
-/// of another.
+/// Of the prefixes of a string at most one is an encoded value, so no encoded value is a proper
+/// prefix of another.
 pub fn one_frame()
     ensures { (a b x y : List ℕ) → IsFrame a → IsFrame b → a ++ x ≡ b ++ y → (a ≡ b) × (x ≡ y) }
 {}

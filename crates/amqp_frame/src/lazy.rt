@@ -43,20 +43,21 @@ impl LazyValue {
     ///
     /// # Encoding
     ///
-    /// AMQP 1.0 part 1, sections 1.2 to 1.2.4. Accepted codes are 00, and 40 to FE with a low nibble
-    /// of 0 to E.
+    /// AMQP 1.0 part 1, sections 1.2 to 1.2.4. Accepted codes are 00, and 40 to FE with a low
+    /// nibble of 0 to E.
     ///
     /// # Errors
     ///
-    /// [`Error::InvalidFormatCode`] where a refused code stands where a value was to begin; it is the
-    /// last byte taken. [`Error::UnexpectedEof`] where the input ends before the value does; nothing
-    /// is left. [`Error::Io`] where a read failed, and [`Error::OutOfMemory`]. After each of them,
-    /// what was taken and what is left are together what was left before.
+    /// [`Error::InvalidFormatCode`] where a refused code stands where a value was to begin; it is
+    /// the last byte taken. [`Error::UnexpectedEof`] where the input ends before the value does;
+    /// nothing is left. [`Error::Io`] where a read failed, and [`Error::OutOfMemory`]. After each
+    /// of them, what was taken and what is left are together what was left before.
     ///
     /// # Memory
     ///
-    /// Takes `alloc`. It grows with the bytes that come, by pieces of at most 4,096, and not with the
-    /// sizes that they claim. Encoded values inside one another are counted, with no call for each.
+    /// Takes `alloc`. It grows with the bytes that come, by pieces of at most 4,096, and not with
+    /// the sizes that they claim. Encoded values inside one another are counted, with no call for
+    /// each.
     ///
     /// # Example
     ///

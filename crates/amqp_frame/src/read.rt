@@ -9,9 +9,10 @@ use amqp_data::Error;
 
 /// Gives bytes one after another, and counts its failures.
 ///
-/// For implementers: `left` is the bytes still to come, where the reader can tell them, and `failures` a
-/// `u64` that no call lowers. A call answers [`Error::Io`] only where it raised that count or found it at
-/// its last value, and at its last value always. So a reader whose count never rises never fails.
+/// For implementers: `left` is the bytes still to come, where the reader can tell them, and
+/// `failures` a `u64` that no call lowers. A call answers [`Error::Io`] only where it raised that
+/// count or found it at its last value, and at its last value always. So a reader whose count never
+/// rises never fails.
 pub trait Read {
     /// The bytes left, where the reader tells them.
     ghost left: { Self → Option (List ℕ) };
@@ -19,8 +20,8 @@ pub trait Read {
     /// How many reads failed.
     ghost failures: { Self → ℕ };
 
-    /// What a call makes of the count, where the reader says more than the clauses do: from whether it
-    /// answered [`Error::Io`], the count before and the count after.
+    /// What a call makes of the count, where the reader says more than the clauses do: from whether
+    /// it answered [`Error::Io`], the count before and the count after.
     ghost counts: { Bool → ℕ → ℕ → Type 0 } = { λ _ _ _. Unit {0} };
 
     /// Looks at the next byte, which stays: none at the end.
@@ -73,8 +74,8 @@ pub trait Read {
     ///
     /// # Errors
     ///
-    /// [`Error::UnexpectedEof`] where fewer are left, and then all of them are taken. [`Error::Io`] where
-    /// a read failed; what came before it is taken.
+    /// [`Error::UnexpectedEof`] where fewer are left, and then all of them are taken. [`Error::Io`]
+    /// where a read failed; what came before it is taken.
     ///
     /// # Memory
     ///

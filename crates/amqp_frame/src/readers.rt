@@ -62,8 +62,8 @@ impl Read for SliceReader<'_> {
 
 /// The bytes that a `std` reader gives.
 ///
-/// Each failed read counts one failure, an interrupted one too; no read is tried again. A call that does
-/// not fail counts none.
+/// Each failed read counts one failure, an interrupted one too; no read is tried again. A call that
+/// does not fail counts none.
 #[derive(Drop)]
 pub struct IoReader<R> {
     inner: R,

@@ -2,7 +2,7 @@
 use Rattle.std.specs.Prelude.{List, Option}
 use Rattle.amqp_ser.specs.Tree.{Tree}
 use Rattle.amqp_de.specs.Enums.{value_of}
-use Rattle.amqp_from_value.specs.Held.{held, elements_left, entries_left}
+use Rattle.amqp_from_value.specs.Held.{held, elements_left, unread_entries}
 use Rattle.amqp_from_value.specs.declared.access.SeqAccess.{SeqAccess}
 use Rattle.amqp_from_value.specs.declared.access.MapAccess.{MapAccess}
 
@@ -10,7 +10,7 @@ abbrev pub seq_left : SeqAccess → List Tree
 seq_left a = elements_left a.elements
 
 abbrev pub map_left : MapAccess → List (Tree × Tree)
-map_left a = entries_left a.entries
+map_left a = unread_entries a.entries
 
 abbrev pub map_owed : MapAccess → Option Tree
 map_owed a = value_of held a.owed

@@ -13,5 +13,5 @@ held d = tree_of d.value
 abbrev pub elements_left : Elements → List Tree
 elements_left e = map tree_of (into_iter_items e.values)
 
-abbrev pub entries_left : Entries → List (Tree × Tree)
-entries_left e = map (λ p. (tree_of p.0, tree_of p.1)) e.pairs.items
+abbrev pub unread_entries : Entries → List (Tree × Tree)
+unread_entries e = map (λ p. (tree_of p.0, tree_of p.1)) e.pairs.items

@@ -10,7 +10,8 @@ use amqp_de::{ContentOf, de};
 use amqp_value::Value;
 use std::alloc::Global;
 
-/// The elements of a list or an array, read one after another by the calls of `amqp_de::de::SeqAccess`.
+/// The elements of a list or an array, read one after another by the calls of
+/// `amqp_de::de::SeqAccess`.
 #[derive(Drop)]
 pub struct SeqAccess {
     elements: Elements,

@@ -67,14 +67,14 @@ impl Elements {
 }
 
 impl Entries {
-    ghost use Rattle.amqp_from_value.specs.Held.{entries_left};
+    ghost use Rattle.amqp_from_value.specs.Held.{unread_entries};
 
     /// The keys and values of a map.
     ///
     /// # Memory
     /// Takes none.
     pub fn new(alloc: Global, pairs: OrderedMap<Value, Value>) -> Entries
-        ensures { entries_left result ≡ map (λ p. (tree_of p.0, tree_of p.1)) (entries_of pairs) }
+        ensures { unread_entries result ≡ map (λ p. (tree_of p.0, tree_of p.1)) (entries_of pairs) }
     {
         Entries {
             alloc,
@@ -84,7 +84,7 @@ impl Entries {
 }
 
 impl de::Deserializer for Deserializer {
-    ghost use Rattle.amqp_from_value.specs.Held.{held, elements_left, entries_left};
+    ghost use Rattle.amqp_from_value.specs.Held.{held, elements_left, unread_entries};
 
     type Error = Error;
 
@@ -96,7 +96,7 @@ impl de::Deserializer for Deserializer {
 
     ghost items = { elements_left };
 
-    ghost pairs = { entries_left };
+    ghost pairs = { unread_entries };
 
     fn alloc(&self) -> Global {
         self.alloc
@@ -224,8 +224,8 @@ fn find(pairs: &VecDeque<(Value, Value)>, name: &str) -> Option<usize>
 /// Reads a `T` out of the value.
 ///
 /// # Errors
-/// `OutOfMemory`; otherwise what `T` refuses with, and only where the value is not read as a `T`: `InvalidValue` or
-/// `Message`. The value is dropped then.
+/// `OutOfMemory`; otherwise what `T` refuses with, and only where the value is not read as a `T`:
+/// `InvalidValue` or `Message`. The value is dropped then.
 pub fn from_value<T: Deserialize>(alloc: Global, value: Value) -> Result<T, Error>
     ensures read { Answers (λ e. e ≡ OutOfMemory) (T.reads (tree_of value)) result }
     ensures law { Restores T.image T.restorable T.same

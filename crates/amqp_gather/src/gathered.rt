@@ -12,8 +12,8 @@ use amqp_data::{Error, OrderedMap};
 use amqp_value::Value;
 use std::alloc::{AllocError, AllocFailed, Global};
 
-/// Pairs of a map, gathered one after another: a present key keeps its place and takes the value, and a new key goes
-/// last.
+/// Pairs of a map, gathered one after another: a present key keeps its place and takes the value,
+/// and a new key goes last.
 #[derive(Drop)]
 pub struct Gathered {
     pairs: Vec<(Value, Value)>,
@@ -54,8 +54,8 @@ impl Gathered {
     /// `OutOfMemory` where memory for the places of keys that do not ascend is refused.
     ///
     /// # Memory
-    /// None where each key is greater than the one before it. Else a tree of the keys, a place for each pair, and
-    /// one block for the pairs.
+    /// None where each key is greater than the one before it. Else a tree of the keys, a place for
+    /// each pair, and one block for the pairs.
     pub fn into_value(self, alloc: Global) -> Result<Value, Error>
         ensures { MatchResult result
             (λ v. tree_of v ≡ map (gathered self))

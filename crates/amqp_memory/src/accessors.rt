@@ -9,7 +9,7 @@ use amqp_de::de::{
     Deserialize, Deserializer as _, EnumAccess as _, MapAccess as _, Plain, Refusal,
     SeqAccess as _, VariantAccess as _, Visit, Visitor,
 };
-use amqp_de::{Of, VariantOf};
+use amqp_de::{EnumAccessOf, Of};
 use amqp_from_value::{Deserializer, MapAccess, SeqAccess};
 use amqp_ser::Mark;
 use amqp_value::Value;
@@ -68,9 +68,9 @@ fn is_pair(read: Option<(Boxed, Boxed)>, key: u32, value: u32) -> bool {
 }
 
 // The variant of the index 1 with the number 13.
-fn variant(alloc: Global) -> VariantOf<Deserializer> {
+fn variant(alloc: Global) -> EnumAccessOf<Deserializer> {
     let index = Deserializer::new(alloc, Value::Uint(1));
-    VariantOf::new(index, Some(Deserializer::new(alloc, Value::Uint(13))))
+    EnumAccessOf::new(index, Some(Deserializer::new(alloc, Value::Uint(13))))
 }
 
 fn variants(alloc: Global) -> Result<bool, Error> {

@@ -70,7 +70,8 @@ fn fed_again(alloc: Global) -> Result<bool, Error> {
     Ok(bytes.as_slice() == [0xc0, 7, 1, 0xc0, 4, 1, 0xa1, 1, b'a'].as_slice())
 }
 
-/// Five lists within one another: the table's growth is refused within the element that is fed again.
+/// Five lists within one another: the table's growth is refused within the element that is fed
+/// again.
 fn lists_fed_again(alloc: Global) -> Result<bool, Error> {
     let bytes = to_vec(alloc, &Again(((((("a",),),),),)))?;
     let expected: &[u8] =

@@ -1,4 +1,5 @@
-//! Arrays of lists, and composites that are lists and maps: headers of more than one compound, filled at their ends.
+//! Arrays of lists, and composites that are lists and maps: headers of more than one compound,
+//! filled at their ends.
 
 ghost use Rattle.std.specs.Prelude.{◌∷◌, [], codes};
 ghost use Rattle.amqp_ser.specs.Tree.{code};

@@ -1,4 +1,5 @@
-//! The conversions that take memory, each once, with what they must answer; and each with about a mebibyte.
+//! The conversions that take memory, each once, with what they must answer; and each with about a
+//! mebibyte.
 
 use crate::large::MEBIBYTE;
 use amqp_data::{Array, ByteBuf, Described, Descriptor, Error, OrderedMap};

@@ -1,5 +1,5 @@
-//! Lazy values: their bytes are read into untyped values, and untyped values are read as lazy ones, each once, with what
-//! they must answer.
+//! Lazy values: their bytes are read into untyped values, and untyped values are read as lazy ones,
+//! each once, with what they must answer.
 
 use crate::reading::LIST;
 use amqp_data::{Array, Error, OrderedMap};
@@ -21,7 +21,8 @@ fn lazy(alloc: Global, bytes: &[u8]) -> Result<LazyValue, Error> {
     LazyValue::from_reader(alloc, &mut SliceReader::new(bytes))
 }
 
-// A list with an array and a map inside, spelled whole, and a number that is spelled longer than it is written.
+// A list with an array and a map inside, spelled whole, and a number that is spelled longer than it
+// is written.
 fn in_a_list(alloc: Global) -> Result<bool, Error> {
     let held = vec![in alloc; lazy(alloc, LIST)?, lazy(alloc, b"\x70\0\0\0\0")?]?;
     let image = to_value(alloc, &held)?;

@@ -1,6 +1,6 @@
-//! False lengths and counts: encoded values that claim four gigabytes, or as many elements, and end. They take no more
-//! memory than their bytes ask for, so the answer is the end of the input, also where each request for much at once
-//! is refused.
+//! False lengths and counts: encoded values that claim four gigabytes, or as many elements, and
+//! end. They take no more memory than their bytes ask for, so the answer is the end of the input,
+//! also where each request for much at once is refused.
 
 use crate::report::report;
 use amqp_data::Error;
@@ -21,8 +21,8 @@ const FRAMES: [&[u8]; 9] = [
     b"\x00\x40\xf0\x7f\xff\xff\xff",
 ];
 
-// A list, an array and a map whose sizes are right, and which count elements up to the largest number; the payload ends
-// after the first, or after the first pair.
+// A list, an array and a map whose sizes are right, and which count elements up to the largest
+// number; the payload ends after the first, or after the first pair.
 const COUNTS: [&[u8]; 3] = [
     b"\xd0\x00\x00\x00\x05\xff\xff\xff\xff\x40",
     b"\xf0\x00\x00\x00\x06\xff\xff\xff\xff\x50\x01",

@@ -1,11 +1,12 @@
 //! Makes the calls that take memory, and prints what was done.
 //!
-//! It is run once for each request for memory, with that request refused: the call that asked must answer out of
-//! memory, and the program then ends with status 1. Any other answer shows, as other output or another text. The
-//! first argument names one part alone: `calls`, `lengths`, `large`, or `none`, whose calls take no memory.
+//! It is run once for each request for memory, with that request refused: the call that asked must
+//! answer out of memory, and the program then ends with status 1. Any other answer shows, as other
+//! output or another text. The first argument names one part alone: `calls`, `lengths`, `large`, or
+//! `none`, whose calls take no memory.
 //!
-//! Each public call that takes memory stands in this table, with the line that is printed once it was made;
-//! `tools/memory` looks for others.
+//! Each public call that takes memory stands in this table, with the line that is printed once it
+//! was made; `tools/memory` looks for others.
 //!
 //! | Line | Calls |
 //! |---|---|

@@ -1,4 +1,5 @@
-//! The calls that read bytes and untyped values, each once, with what they must answer; and types of about a mebibyte.
+//! The calls that read bytes and untyped values, each once, with what they must answer; and types
+//! of about a mebibyte.
 
 use crate::conversions::pairs;
 use amqp_data::{Array, ByteBuf, Error, OrderedMap, TransparentVec};
@@ -9,7 +10,8 @@ use amqp_wire::to_vec;
 use std::alloc::Global;
 use std::collections::{BTreeMap, HashMap};
 
-/// A list of a string, a symbol, a binary, an array of strings, a map that holds a list, and a described value.
+/// A list of a string, a symbol, a binary, an array of strings, a map that holds a list, and a
+/// described value.
 pub const LIST: &[u8] =
     b"\xc0\x2b\x06\xa1\x01a\xa3\x01k\xa0\x02\x01\x02\xe0\x0d\x02\xb1\0\0\0\x01a\0\0\0\x02bc\xc1\x07\x02\x50\x01\xc0\x02\x01\x41\x00\xa3\x03a:b\x50\x01";
 
@@ -22,7 +24,8 @@ const NUMBERS: &[u8] = b"\xc0\x0b\x05\x50\x01\x50\x02\x50\x03\x50\x04\x50\x05";
 // Keys that do not ascend, of which one comes twice: from 2 to 1, from 1 to 3, and from 2 to 4.
 const KEYS_IN_TURN: &[u8] = b"\xc1\x0d\x06\x50\x02\x50\x01\x50\x01\x50\x03\x50\x02\x50\x04";
 
-// The first of the equal keys keeps its place, and the last value stands: from 2 to 4 and from 1 to 3.
+// The first of the equal keys keeps its place, and the last value stands: from 2 to 4 and from 1 to
+// 3.
 const KEYS_ONCE: &[u8] = b"\xc1\x09\x04\x50\x02\x50\x04\x50\x01\x50\x03";
 
 /// The value inside a frame of every kind that takes memory, and a map whose keys do not ascend.

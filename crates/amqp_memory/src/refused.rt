@@ -1,5 +1,5 @@
-//! Many refused values on one serializer, which holds no more after them than after one: with each request for much at
-//! once refused, its answers are as ever.
+//! Many refused values on one serializer, which holds no more after them than after one: with each
+//! request for much at once refused, its answers are as ever.
 
 ghost use Rattle.std.specs.Prelude.{None};
 
@@ -41,7 +41,8 @@ pub fn all(rt: &(impl Print + AllocGlobal)) -> Result<(), Error> {
     Ok(())
 }
 
-// Whether a described value that has no tree is refused each time, and a described value comes right then.
+// Whether a described value that has no tree is refused each time, and a described value comes
+// right then.
 fn after_refusals<T: Serialize>(alloc: Global, value: &T) -> Result<bool, Error> {
     let mut serializer = Serializer::new(alloc);
     for _ in 0..100_000u32 {

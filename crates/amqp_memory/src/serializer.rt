@@ -1,4 +1,5 @@
-//! The calls of the serializer that makes an untyped value, one at a time, with what they must answer.
+//! The calls of the serializer that makes an untyped value, one at a time, with what they must
+//! answer.
 
 use amqp_data::{Error, Symbol, SymbolRef, markers};
 use amqp_ser::{

@@ -19,7 +19,8 @@ ghost use Rattle.amqp_restore.specs.Stands.{StandsAs, StandAs, FieldsStandAs};
 /// # Memory
 /// Takes none.
 pub fn lists_return()
-    ensures { (ps : List (Option Tree)) (us : Trees) → StandAs ps us → StandsAs (whole kind.List ps) (list us) }
+    ensures { (ps : List (Option Tree)) (us : Trees) → StandAs ps us →
+        StandsAs (whole kind.List ps) (list us) }
 {}
 
 /// The image of an array is the array of its elements' images.
@@ -27,7 +28,8 @@ pub fn lists_return()
 /// # Memory
 /// Takes none.
 pub fn arrays_return()
-    ensures { (ps : List (Option Tree)) (us : Trees) → StandAs ps us → StandsAs (marked mark.Array (whole kind.List ps)) (array us) }
+    ensures { (ps : List (Option Tree)) (us : Trees) → StandAs ps us →
+        StandsAs (marked mark.Array (whole kind.List ps)) (array us) }
 {}
 
 /// The image of a transparent vector is the list of its elements' images.
@@ -35,7 +37,8 @@ pub fn arrays_return()
 /// # Memory
 /// Takes none.
 pub fn transparent_vectors_return()
-    ensures { (ps : List (Option Tree)) (us : Trees) → StandAs ps us → StandsAs (marked mark.Transparent (whole kind.List ps)) (list us) }
+    ensures { (ps : List (Option Tree)) (us : Trees) → StandAs ps us →
+        StandsAs (marked mark.Transparent (whole kind.List ps)) (list us) }
 {}
 
 /// The image of a described value is the image of the value, after the same descriptor.
@@ -43,37 +46,44 @@ pub fn transparent_vectors_return()
 /// # Memory
 /// Takes none.
 pub fn described_return()
-    ensures { (d : Descriptor) (p : Option Tree) (u : Tree) → StandsAs p u → StandsAs (as_described (Some d) p) (described d u) }
+    ensures { (d : Descriptor) (p : Option Tree) (u : Tree) → StandsAs p u →
+        StandsAs (as_described (Some d) p) (described d u) }
 {}
 
-/// The image of a variant is the map from its index to the image of what it has: one value, or a list of fields.
+/// The image of a variant is the map from its index to the image of what it has: one value, or a
+/// list of fields.
 ///
 /// # Memory
 /// Takes none.
 pub fn variants_return()
-    ensures value { (index : ℕ) (p : Option Tree) (u : Tree) → StandsAs p u → StandsAs (whole (kind.NewtypeVariant index) (p ∷ [])) (variant_map index u) }
-    ensures fields { (index : ℕ) (ps : List (Option Tree)) (us : Trees) → StandAs ps us → StandsAs (whole (kind.Variant index) ps) (variant_map index (list us)) }
+    ensures value { (index : ℕ) (p : Option Tree) (u : Tree) → StandsAs p u →
+        StandsAs (whole (kind.NewtypeVariant index) (p ∷ [])) (variant_map index u) }
+    ensures fields { (index : ℕ) (ps : List (Option Tree)) (us : Trees) → StandAs ps us →
+        StandsAs (whole (kind.Variant index) ps) (variant_map index (list us)) }
 {}
 
-/// The image of a list that is written without the absent fields at its end is the list of the images of those before.
+/// The image of a list that is written without the absent fields at its end is the list of the
+/// images of those before.
 ///
 /// # Memory
 /// Takes none.
 pub fn short_lists_return()
-    ensures whole { (ps : List (Option Tree)) (fs : List (Bool × Tree)) → StandAs ps (trees_of (up_to_last fs)) →
-        StandsAs (whole kind.List ps) (short_list fs) }
-    ensures field { (b : Bool) (p : Option Tree) (ps : List (Option Tree)) (t : Tree) (ts : List Tree) →
-        StandsAs p t → StandAs ps (trees_of ts) →
+    ensures whole { (ps : List (Option Tree)) (fs : List (Bool × Tree)) →
+        StandAs ps (trees_of (up_to_last fs)) → StandsAs (whole kind.List ps) (short_list fs) }
+    ensures field { (b : Bool) (p : Option Tree) (ps : List (Option Tree)) (t : Tree)
+        (ts : List Tree) → StandsAs p t → StandAs ps (trees_of ts) →
         StandAs (if b then p ∷ ps else []) (trees_of (if b then t ∷ ts else [])) }
 {}
 
-/// The image of a map from names to fields is the map from the names to the images of the fields that are there.
+/// The image of a map from names to fields is the map from the names to the images of the fields
+/// that are there.
 ///
 /// # Memory
 /// Takes none.
 pub fn named_maps_return()
     ensures whole { (ps : List (Option Tree)) (ns : List (List ℕ)) (fs : List (Bool × Tree)) →
-        distinct_names ns ≡ true → FieldsStandAs ps ns fs → StandsAs (whole kind.Map ps) (short_map ns fs) }
+        distinct_names ns ≡ true → FieldsStandAs ps ns fs →
+        StandsAs (whole kind.Map ps) (short_map ns fs) }
     ensures none { FieldsStandAs [] [] [] }
     ensures must { (n : List ℕ) (p : Option Tree) (ps : List (Option Tree)) (t : Tree)
         (ns : List (List ℕ)) (fs : List (Bool × Tree)) → StandsAs p t → FieldsStandAs ps ns fs →

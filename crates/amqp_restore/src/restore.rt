@@ -14,8 +14,8 @@ use std::alloc::Global;
 /// A type that is read from what it is written as.
 ///
 /// # Implementer notes
-/// The call does nothing: its clause ties what is read to what is written. Call in it that of each part's type, and
-/// the laws of `laws` for lists and described values.
+/// The call does nothing: its clause ties what is read to what is written. Call in it that of each
+/// part's type, and the laws of `laws` for lists and described values.
 pub trait Restore: Serialize + Deserialize {
     /// A restorable value has a tree, and the tree's image is what stands for the value.
     ///
@@ -35,7 +35,8 @@ pub trait Restore: Serialize + Deserialize {
 /// # Memory
 /// Takes `alloc`.
 pub fn restored<T: Restore>(alloc: Global, value: &T) -> Result<T, Error>
-    ensures { T.restorable value.now → MatchResult result (λ y. T.same y value.now) (λ e. e ≡ OutOfMemory) }
+    ensures { T.restorable value.now →
+        MatchResult result (λ y. T.same y value.now) (λ e. e ≡ OutOfMemory) }
 {
     T::returns();
     match to_value(alloc, value) {

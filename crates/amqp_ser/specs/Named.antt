@@ -31,6 +31,6 @@ key_of keys.Strings n = string_key n
 key_of keys.Symbols n = symbol_key n
 
 -- the parts of a map: key and tree, in turn, of each field that is there
-abbrev pub entries_of : (List ℕ → Option Tree) → List (List ℕ × (Bool × Option Tree)) → List (Option Tree)
-entries_of key [] = []
-entries_of key (f ∷ fs) = if f.1.0 then key f.0 ∷ f.1.1 ∷ entries_of key fs else entries_of key fs
+abbrev pub named_parts : (List ℕ → Option Tree) → List (List ℕ × (Bool × Option Tree)) → List (Option Tree)
+named_parts key [] = []
+named_parts key (f ∷ fs) = if f.1.0 then key f.0 ∷ f.1.1 ∷ named_parts key fs else named_parts key fs

@@ -22,7 +22,7 @@ use Rattle.amqp_ser.specs.Tree.{Tree, scalar, null, bool, ubyte, ushort, uint, u
 use Rattle.amqp_ser.specs.Composites.{as_described}
 use Rattle.amqp_ser.specs.Compounds.{parts_of, whole}
 use Rattle.amqp_ser.specs.Carried.{array_of, optional}
-use Rattle.amqp_ser.specs.Named.{entries_of, string_key, symbol_key, up_to_last}
+use Rattle.amqp_ser.specs.Named.{named_parts, string_key, symbol_key, up_to_last}
 use Rattle.amqp_ser.specs.declared.kind.Kind.TheVariants as kind
 
 -- the list of these parts, and the map of these named parts
@@ -63,10 +63,10 @@ abbrev pub short_list_of : List (Bool × Option Tree) → Option Tree
 short_list_of parts = whole kind.List (up_to_last parts)
 
 abbrev pub short_map_of : List (List ℕ × (Bool × Option Tree)) → Option Tree
-short_map_of fields = whole kind.Map (entries_of string_key fields)
+short_map_of fields = whole kind.Map (named_parts string_key fields)
 
 abbrev pub short_symbol_map_of : List (List ℕ × (Bool × Option Tree)) → Option Tree
-short_symbol_map_of fields = whole kind.Map (entries_of symbol_key fields)
+short_symbol_map_of fields = whole kind.Map (named_parts symbol_key fields)
 
 -- the short list after a descriptor, as the standard's composites are written
 abbrev pub short_composite : Descriptor → List (Bool × Option Tree) → Option Tree

@@ -3,7 +3,7 @@
 ghost use Rattle.std.specs.Prelude.{◌≡◌, List, Option, true};
 ghost use Rattle.amqp_ser.specs.Tree.{Tree};
 ghost use Rattle.amqp_ser.specs.Compounds.{complete, whole};
-ghost use Rattle.amqp_ser.specs.Named.{entries_of, key_of, string_key, symbol_key, up_to_last, values_of};
+ghost use Rattle.amqp_ser.specs.Named.{named_parts, key_of, string_key, symbol_key, up_to_last, values_of};
 ghost use Rattle.amqp_ser.specs.declared.kind.Kind.TheVariants as kind;
 
 use crate::fields::{Fields, Keys};
@@ -35,7 +35,7 @@ fn serialize_entries<S: Serializer, F: Fields>(
     fields: &F,
 ) -> Result<S::Ok, S::Error>
     ensures { S.permits serializer.old
-        (whole kind.Map (entries_of (key_of keys) (F.named fields.now))) result serializer.new }
+        (whole kind.Map (named_parts (key_of keys) (F.named fields.now))) result serializer.new }
 {
     let mut held = serializer.begin(Kind::Map);
     fields.feed_named(&mut *serializer, &mut held, keys)?;
@@ -92,7 +92,7 @@ impl<F: Fields> Serialize for VariantOf<F> {
 pub struct MapOf<F>(pub F);
 
 impl<F: Fields> Serialize for MapOf<F> {
-    ghost tree = { λ m. whole kind.Map (entries_of string_key (F.named m.0)) };
+    ghost tree = { λ m. whole kind.Map (named_parts string_key (F.named m.0)) };
 
     #[inline(always)]
     fn serialize<S: Serializer>(&self, serializer: &mut S) -> Result<S::Ok, S::Error> {
@@ -111,7 +111,7 @@ impl<F: Fields> Serialize for MapOf<F> {
 pub struct SymbolMapOf<F>(pub F);
 
 impl<F: Fields> Serialize for SymbolMapOf<F> {
-    ghost tree = { λ m. whole kind.Map (entries_of symbol_key (F.named m.0)) };
+    ghost tree = { λ m. whole kind.Map (named_parts symbol_key (F.named m.0)) };
 
     #[inline(always)]
     fn serialize<S: Serializer>(&self, serializer: &mut S) -> Result<S::Ok, S::Error> {

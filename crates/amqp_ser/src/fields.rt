@@ -4,7 +4,7 @@ ghost use Rattle.std.specs.Prelude.{◌≡◌, ◌∷◌, [], ℕ, List, Option,
 ghost use Rattle.amqp_ser.specs.Carried.{optional};
 ghost use Rattle.amqp_ser.specs.Tree.{Tree};
 ghost use Rattle.amqp_ser.specs.Feeding.{Feeds, FeedsAll};
-ghost use Rattle.amqp_ser.specs.Named.{any_there, entries_of, key_of, up_to_last, values_of};
+ghost use Rattle.amqp_ser.specs.Named.{any_there, named_parts, key_of, up_to_last, values_of};
 ghost use Rattle.amqp_ser.specs.declared.kind.Kind.{Kind};
 
 use crate::compound::feed::feed_part;
@@ -70,7 +70,7 @@ pub trait Fields {
         held: &mut S::Open,
         keys: Keys,
     ) -> Result<(), S::Error>
-        ensures { FeedsAll S.permits S.has (entries_of (key_of keys) (named self.now))
+        ensures { FeedsAll S.permits S.has (named_parts (key_of keys) (named self.now))
             serializer.old held.old result serializer.new held.new };
 }
 
@@ -102,7 +102,7 @@ fn feed_value<S: Serializer, V: Serialize, R: Fields>(
     rest: &R,
 ) -> Result<(), S::Error>
     ensures { FeedsAll S.permits S.has
-        (V.tree value.now ∷ entries_of (key_of keys) (R.named rest.now)) serializer.old held.old
+        (V.tree value.now ∷ named_parts (key_of keys) (R.named rest.now)) serializer.old held.old
         result serializer.new held.new }
 {
     feed_part(&mut *serializer, &mut *held, value)?;

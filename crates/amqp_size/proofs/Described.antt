@@ -1,7 +1,7 @@
 -- A descriptor, and the value after it.
 use Rattle.std.proofs.Common.{◌≡◌, ℕ, ◌+◌, ◌<◌, Option, Some, None, Bool, true, false, ◌&&◌, Result, Ok, Err, length, refl, ap, sym, ◌∙◌, subst, arith, length-append, is_some}
-use Rattle.amqp_size.specs.declared.refusal.Refusal.{Refusal}
-use Rattle.amqp_size.specs.declared.refusal.Refusal.TheVariants as error
+use Rattle.amqp_size.specs.declared.walk_error.WalkError.{WalkError}
+use Rattle.amqp_size.specs.declared.walk_error.WalkError.TheVariants as error
 use Rattle.amqp_ser.specs.Tree.{Scalar, null, bool, ubyte, ushort, uint, ulong, byte, short, int, long, float, double, decimal32, decimal64, decimal128, char, timestamp, uuid, binary, string, symbol, Descriptor, name, code, Tree, scalar, list, array, map, described, variant, lazy, transparent}
 use Rattle.amqp_ser.specs.Limits.{is_length}
 use Rattle.amqp_ser.specs.Scalars.{scalar_form}
@@ -77,7 +77,7 @@ length-described x t n e = simp length-append (omega arith)
 
 value_step : (p : Position) (k : ℕ) (b : BasePosition) (x : Descriptor) → without_prefix p ≡ base_position b → ((t : Tree) → within_limits_at (position.Value k b) t ≡ within_limits_at p (described x t)) → ((t : Tree) → suits (position.Value k b) t ≡ suits p (described x t)) →
     ((t : Tree) → suits p (described x t) ≡ true → extent (position.Value k b) t ≡ extent p (described x t)) → ((t : Tree) → next p (described x t) ≡ base_position b) →
-    (t : Option Tree) (r : Result ℕ Refusal) (after : Pending) → at_position (position.Value k b) t r after → at_position p (as_described (Some x) t) r after
+    (t : Option Tree) (r : Result ℕ WalkError) (after : Pending) → at_position (position.Value k b) t r after → at_position p (as_described (Some x) t) r after
 value_step p k b x same limit fitting len then None (Ok n) after h = absurd h
 value_step p k b x same limit fitting len then None (Err e) after h = (h.0, h.1 ∙ ap pending.Plain (sym same))
 value_step p k b x same limit fitting len then (Some t) (Ok n) after h =
@@ -137,12 +137,12 @@ some_pending : (u v : Pending) → Some u ≡ Some v → v ≡ u
 some_pending u v q = cc
 
 -- an answer under the position that is meant, and one where nothing is
-answered : (u v : Pending) (t : Option Tree) (r : Result ℕ Refusal) (after : Pending) → v ≡ u → at_position (position_of v) (meant v t) r after → at_position (position_of u) (meant u t) r after
+answered : (u v : Pending) (t : Option Tree) (r : Result ℕ WalkError) (after : Pending) → v ≡ u → at_position (position_of v) (meant v t) r after → at_position (position_of u) (meant u t) r after
 answered u v t r after q h = subst (λ w. at_position (position_of w) (meant w t) r after) q h
 
 -- what is answered on a value is an answer on the described one
 pub described_step : (u v : Pending) (n : ℕ) (x : Descriptor) → described_pending u n ≡ Some v → n ≡ length (descriptor_form x) → descriptor_fits x ≡ true →
-    (t : Option Tree) (r : Result ℕ Refusal) (after : Pending) → at_position (position_of v) (meant v t) r after → at_position (position_of u) (meant u (as_described (Some x) t)) r after
+    (t : Option Tree) (r : Result ℕ WalkError) (after : Pending) → at_position (position_of v) (meant v t) r after → at_position (position_of u) (meant u (as_described (Some x) t)) r after
 described_step (pending.Plain position.Root) v n x s e f t r after h =
     value_step position.Root (n + 1) base.Root x refl (λ t. limit_here x n e f t) (λ t. refl) (λ t q. sym (length-described x t n e)) (λ t. refl) t r after
     (answered (pending.Plain (position.Value (n + 1) base.Root)) v t r after (some_pending _ v s) h)
@@ -192,15 +192,15 @@ past_after k b x n e h t =
     let len = length-described x t n e in
     left_false (is_length (k + length (encoding (described x t)))) (within_limits (described x t)) (le_false (k + length (encoding (described x t))) 18446744073709551615 (omega arith))
 
-too_long : (p : Position) (x : Descriptor) → ((t : Tree) → within_limits_at p (described x t) ≡ false) → (t : Option Tree) (e : Refusal) → e ≡ error.TooLong → at_position p (as_described (Some x) t) (Err e) (pending.Plain (without_prefix p))
+too_long : (p : Position) (x : Descriptor) → ((t : Tree) → within_limits_at p (described x t) ≡ false) → (t : Option Tree) (e : WalkError) → e ≡ error.TooLong → at_position p (as_described (Some x) t) (Err e) (pending.Plain (without_prefix p))
 too_long p x h None e q = (subst refuses_none (sym q) tt, refl)
 too_long p x h (Some t) e q = (subst (λ y. refused p (described x t) y) (sym q) (h t), refl)
 
-pub no_nested : (x : Descriptor) (t : Option Tree) (e : Refusal) → e ≡ error.InvalidValue → at_position position.Descriptor (as_described (Some x) t) (Err e) (pending.Plain position.Descriptor)
+pub no_nested : (x : Descriptor) (t : Option Tree) (e : WalkError) → e ≡ error.InvalidValue → at_position position.Descriptor (as_described (Some x) t) (Err e) (pending.Plain position.Descriptor)
 no_nested x None e q = (subst refuses_none (sym q) tt, refl)
 no_nested x (Some t) e q = (subst (λ y. refused position.Descriptor (described x t) y) (sym q) (right_false (uniform_arrays t) false refl), refl)
 
-pub described_refusal : (u : Pending) (n : ℕ) (x : Descriptor) (e : Refusal) → undescribed u n e → n ≡ length (descriptor_form x) → (t : Option Tree) → at_position (position_of u) (meant u (as_described (Some x) t)) (Err e) (pending.Plain (without_prefix (position_of u)))
+pub described_refusal : (u : Pending) (n : ℕ) (x : Descriptor) (e : WalkError) → undescribed u n e → n ≡ length (descriptor_form x) → (t : Option Tree) → at_position (position_of u) (meant u (as_described (Some x) t)) (Err e) (pending.Plain (without_prefix (position_of u)))
 described_refusal (pending.Plain position.Root) n x e h l t = too_long position.Root x (past_here x n l h.1) t e h.0
 described_refusal (pending.Plain position.Inside) n x e h l t = too_long position.Inside x (past_here x n l h.1) t e h.0
 described_refusal (pending.Plain position.First) n x e h l t = too_long position.First x (past_here x n l h.1) t e h.0

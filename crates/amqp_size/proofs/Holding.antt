@@ -1,7 +1,7 @@
 -- Open compounds of every shape.
 use Rattle.std.proofs.Common.{◌≡◌, ℕ, ◌+◌, ◌<◌, ◌≤◌, List, [], ◌∷◌, ◌++◌, Option, Some, None, true, false, Result, Ok, Err, MatchResult, IfOk, IfErr, refl, ap, sym, ◌∙◌, subst, if◌then◌else◌, inl, inr}
-use Rattle.amqp_size.specs.declared.refusal.Refusal.{Refusal}
-use Rattle.amqp_size.specs.declared.refusal.Refusal.TheVariants as error
+use Rattle.amqp_size.specs.declared.walk_error.WalkError.{WalkError}
+use Rattle.amqp_size.specs.declared.walk_error.WalkError.TheVariants as error
 use Rattle.amqp_ser.specs.Tree.{Tree}
 use Rattle.amqp_ser.specs.Compounds.{whole}
 use Rattle.amqp_ser.specs.declared.kind.Kind.{Kind}
@@ -66,7 +66,7 @@ map_of start held ps (inr (inl h)) = absurd (no_maps.0 h.kind_is)
 map_of start held ps (inr (inr h)) = absurd (no_maps.1 h.kind_is)
 
 -- a refused part
-pub refused_any : (start : SizeSerializer) (kind : Kind) (held : OpenCompound) (ps : List (Option Tree)) → Holding start kind held ps → (p : Option Tree) (e : Refusal) (after : Pending) →
+pub refused_any : (start : SizeSerializer) (kind : Kind) (held : OpenCompound) (ps : List (Option Tree)) → Holding start kind held ps → (p : Option Tree) (e : WalkError) (after : Pending) →
     at_position (position_of held.inner) (meant held.inner p) (Err e) after → (others : List (Option Tree)) →
     at_position (position_of start.pending) (meant start.pending (whole kind (ps ++ (p ∷ others)))) (Err e) (pending.Plain (without_prefix held.position))
 refused_any start kind held ps (inl h) p e after r others =
@@ -76,7 +76,7 @@ refused_any start kind held ps (inr (inl h)) p e after r others =
 refused_any start kind held ps (inr (inr h)) p e after r others = refused_single start kind held ps h p e after r others
 
 -- what is known of a part's counting
-pub record Taking (held new : OpenCompound) (size : ℕ) (after : Pending) (res : Result (Unit {0}) Refusal) : Type 0 where
+pub record Taking (held new : OpenCompound) (size : ℕ) (after : Pending) (res : Result (Unit {0}) WalkError) : Type 0 where
   pub position : new.position ≡ held.position
   pub shape : new.shape ≡ held.shape
   pub few : held.count ≤ 4294967295 → new.count ≤ 4294967295
@@ -94,7 +94,7 @@ pub record Taking (held new : OpenCompound) (size : ℕ) (after : Pending) (res 
       (λ e. (e ≡ error.InvalidValue) × (1 ≤ held.count))
 
 taken_joined : (start : SizeSerializer) (kind : Kind) (held new : OpenCompound) (ps : List (Option Tree)) → HoldsTransparent start kind held ps → (p : Option Tree) (size : ℕ) (after : Pending) → at_position Root p (Ok size) after →
-    (res : Result (Unit {0}) Refusal) → Taking held new size after res →
+    (res : Result (Unit {0}) WalkError) → Taking held new size after res →
     MatchResult res (λ _. Holding start kind new (ps ++ (p ∷ [])))
     (λ e. (others : List (Option Tree)) → at_position (position_of start.pending) (meant start.pending (whole kind (ps ++ (p ∷ others)))) (Err e) (pending.Plain (without_prefix held.position)))
 taken_joined start kind held new ps h None size after r res k = absurd r
@@ -103,11 +103,11 @@ taken_joined start kind held new ps h (Some t) size after r (Ok u) k =
     inr (inl (taken_transparent start kind held new ps h t size after r k.position k.shape m.0 m.1))
 taken_joined start kind held new ps h (Some t) size after r (Err e) k = λ others.
     let m = k.transparent h.shape in
-    subst (λ (x : Refusal). at_position (position_of start.pending) (meant start.pending (whole kind (ps ++ (Some t ∷ others)))) (Err x) (pending.Plain (without_prefix held.position))) (sym m.0)
+    subst (λ (x : WalkError). at_position (position_of start.pending) (meant start.pending (whole kind (ps ++ (Some t ∷ others)))) (Err x) (pending.Plain (without_prefix held.position))) (sym m.0)
     (over_transparent start kind held ps h t size r.len m.1 others)
 
 taken_one : (start : SizeSerializer) (kind : Kind) (held new : OpenCompound) (ps : List (Option Tree)) → HoldsSingle start kind held ps → (p : Option Tree) (size : ℕ) (after : Pending) → at_position (position_of held.inner) (meant held.inner p) (Ok size) after →
-    (res : Result (Unit {0}) Refusal) → Taking held new size after res →
+    (res : Result (Unit {0}) WalkError) → Taking held new size after res →
     MatchResult res (λ _. Holding start kind new (ps ++ (p ∷ [])))
     (λ e. (others : List (Option Tree)) → at_position (position_of start.pending) (meant start.pending (whole kind (ps ++ (p ∷ others)))) (Err e) (pending.Plain (without_prefix held.position)))
 taken_one start kind held new ps h p size after r (Ok u) k =
@@ -115,10 +115,10 @@ taken_one start kind held new ps h p size after r (Ok u) k =
     inr (inr (first_single start kind held new ps h p size after r m.0 m.1.0 m.1.1.0 m.1.1.1 k.position k.shape))
 taken_one start kind held new ps h p size after r (Err e) k = λ others.
     let m = k.single h.shape in
-    subst (λ (x : Refusal). at_position (position_of start.pending) (meant start.pending (whole kind (ps ++ (p ∷ others)))) (Err x) (pending.Plain (without_prefix held.position))) (sym m.0)
+    subst (λ (x : WalkError). at_position (position_of start.pending) (meant start.pending (whole kind (ps ++ (p ∷ others)))) (Err x) (pending.Plain (without_prefix held.position))) (sym m.0)
     (second_single start kind held ps h m.1 p others)
 
-gathers : (start : SizeSerializer) (kind : Kind) (held new : OpenCompound) (ps : List (Option Tree)) (p : Option Tree) (res : Result (Unit {0}) Refusal) →
+gathers : (start : SizeSerializer) (kind : Kind) (held new : OpenCompound) (ps : List (Option Tree)) (p : Option Tree) (res : Result (Unit {0}) WalkError) →
     MatchResult res (λ _. HoldsGathered start kind new (ps ++ (p ∷ [])))
     (λ e. (others : List (Option Tree)) → at_position (position_of start.pending) (meant start.pending (whole kind (ps ++ (p ∷ others)))) (Err e) (pending.Plain (without_prefix held.position))) →
     MatchResult res (λ _. Holding start kind new (ps ++ (p ∷ [])))
@@ -128,7 +128,7 @@ gathers start kind held new ps p (Err e) m = m
 
 -- a part that was counted
 pub taken_any : (start : SizeSerializer) (kind : Kind) (held new : OpenCompound) (ps : List (Option Tree)) → Holding start kind held ps → (p : Option Tree) (size : ℕ) (after : Pending) →
-    at_position (position_of held.inner) (meant held.inner p) (Ok size) after → (res : Result (Unit {0}) Refusal) → Taking held new size after res →
+    at_position (position_of held.inner) (meant held.inner p) (Ok size) after → (res : Result (Unit {0}) WalkError) → Taking held new size after res →
     MatchResult res (λ _. Holding start kind new (ps ++ (p ∷ [])))
     (λ e. (others : List (Option Tree)) → at_position (position_of start.pending) (meant start.pending (whole kind (ps ++ (p ∷ others)))) (Err e) (pending.Plain (without_prefix held.position)))
 taken_any start kind held new ps (inl h) p size after r res k =

@@ -1,7 +1,7 @@
 -- One part more.
 use Rattle.std.proofs.Common.{◌≡◌, ℕ, ◌+◌, ◌≤◌, List, [], ◌∷◌, ◌++◌, Option, Some, None, Bool, true, false, not, ◌&&◌, Result, Ok, Err, MatchResult, IfOk, IfErr, length, refl, ap, sym, ◌∙◌, subst, arith, nat_le, if◌then◌else◌, is_some}
-use Rattle.amqp_size.specs.declared.refusal.Refusal.{Refusal}
-use Rattle.amqp_size.specs.declared.refusal.Refusal.TheVariants as error
+use Rattle.amqp_size.specs.declared.walk_error.WalkError.{WalkError}
+use Rattle.amqp_size.specs.declared.walk_error.WalkError.TheVariants as error
 use Rattle.amqp_ser.specs.Tree.{Tree, Trees, no_trees, more}
 use Rattle.amqp_ser.specs.Encoding.{constructor}
 use Rattle.amqp_ser.specs.Writable.{same_constructor, each_constructor, uniform_arrays, uniform_arrays_each, within_limits, within_limits_each, inside, inside_each}
@@ -127,7 +127,7 @@ taken_part start kind held new ps h t size after k a b d e few f was small =
 -- what is known after a part was counted, or passed a limit
 pub end_taken : (start : SizeSerializer) (kind : Kind) (held new : OpenCompound) (ps : List (Option Tree)) (h : HoldsGathered start kind held ps) (p : Option Tree) (size : ℕ) (after : Pending) →
     at_position (inner_of (is_array held.shape) h.ts) p (Ok size) after → new.position ≡ held.position → new.shape ≡ held.shape → (held.count ≤ 4294967295 → new.count ≤ 4294967295) → new.sum ≤ limit_of new.shape →
-    (res : Result (Unit {0}) Refusal) → IfOk res (λ _. new.before_last ≡ held.sum) → IfErr res (λ _. new ≡ held) →
+    (res : Result (Unit {0}) WalkError) → IfOk res (λ _. new.before_last ≡ held.sum) → IfErr res (λ _. new ≡ held) →
     MatchResult res (λ _. (new.sum ≡ size + opens_in (is_array held.shape) held.inner after + held.sum) × ((new.count ≡ if is_array held.shape then held.count + 1 else held.count) × (new.inner ≡ if is_array held.shape then after else held.inner)))
     (λ e. (e ≡ error.TooLong) × passes_limit (is_array held.shape) held.count (size + opens_in (is_array held.shape) held.inner after + held.sum)) →
     MatchResult res (λ _. HoldsGathered start kind new (ps ++ (p ∷ [])))
@@ -136,7 +136,7 @@ end_taken start kind held new ps h None size after r a b few small res was same 
 end_taken start kind held new ps h (Some t) size after r a b few small (Ok u) was same m =
     taken_part start kind held new ps h t size after r a b m.0 m.1.0 (few (is_le held.count 4294967295 h.fed.few)) m.1.1 was small
 end_taken start kind held new ps h (Some t) size after r a b few small (Err e) was same m = λ others.
-    subst (λ (x : Refusal). at_position (position_of start.pending) (meant start.pending (whole kind (ps ++ (Some t ∷ others)))) (Err x) (pending.Plain (without_prefix held.position))) (sym m.0)
+    subst (λ (x : WalkError). at_position (position_of start.pending) (meant start.pending (whole kind (ps ++ (Some t ∷ others)))) (Err x) (pending.Plain (without_prefix held.position))) (sym m.0)
     (over_part start kind held ps h t (subst (λ n. passes_limit (is_array held.shape) held.count n) (added start kind held ps h t size after r) m.1) others)
 
 no_array : (u : Pending) → is_array (shape_of u kinds.Map) ≡ false

@@ -1,7 +1,7 @@
 -- What positions ask of a tree, and what a refusal there means.
 use Rattle.std.proofs.Common.{◌≡◌, ℕ, ◌+◌, Option, Some, None, Bool, true, false, Err, length, refl, ◌∙◌, is_some}
-use Rattle.amqp_size.specs.declared.refusal.Refusal.{Refusal}
-use Rattle.amqp_size.specs.declared.refusal.Refusal.TheVariants as error
+use Rattle.amqp_size.specs.declared.walk_error.WalkError.{WalkError}
+use Rattle.amqp_size.specs.declared.walk_error.WalkError.TheVariants as error
 use Rattle.amqp_ser.specs.Tree.{Tree, Trees, scalar, list, array, map, described, variant, lazy, transparent, no_trees, more}
 use Rattle.amqp_ser.specs.Limits.{is_length}
 use Rattle.amqp_ser.specs.Encoding.{encoding, constructor}
@@ -72,13 +72,13 @@ meant_none (pending.Transparent p) = refl
 meant_none (pending.Scalar m p) = refl
 meant_none (pending.Nothing p) = refl
 
-pub refused-none : (p : Position) (t : Tree) (e : Refusal) → refused p t e → refuses_none e
+pub refused-none : (p : Position) (t : Tree) (e : WalkError) → refused p t e → refuses_none e
 refused-none p t error.TooLong h = tt
 refused-none p t error.InvalidValue h = tt
 refused-none p t e h = absurd h
 
 -- any refusal is one of no tree, and leaves the serializer at rest
-pub refusal : (p : Position) (o : Option Tree) (e : Refusal) (after : Pending) → at_position p o (Err e) after → refuses_none e × (after ≡ pending.Plain (without_prefix p))
+pub refusal : (p : Position) (o : Option Tree) (e : WalkError) (after : Pending) → at_position p o (Err e) after → refuses_none e × (after ≡ pending.Plain (without_prefix p))
 refusal p None e after h = h
 refusal p (Some t) e after h = (refused-none p t e h.0, h.1)
 

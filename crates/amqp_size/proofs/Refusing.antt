@@ -1,7 +1,7 @@
 -- A part that is refused, and one that passes a limit.
 use Rattle.std.proofs.Common.{◌≡◌, ℕ, ◌+◌, List, ◌∷◌, ◌++◌, Option, Some, None, Bool, true, false, ◌&&◌, Err, length, refl, ap, sym, ◌∙◌, subst, arith, ◌⊎◌, inl, inr, is_some}
-use Rattle.amqp_size.specs.declared.refusal.Refusal.{Refusal}
-use Rattle.amqp_size.specs.declared.refusal.Refusal.TheVariants as error
+use Rattle.amqp_size.specs.declared.walk_error.WalkError.{WalkError}
+use Rattle.amqp_size.specs.declared.walk_error.WalkError.TheVariants as error
 use Rattle.amqp_ser.specs.Tree.{Tree, Trees, no_trees, more, count}
 use Rattle.amqp_ser.specs.Limits.{fits, is_count}
 use Rattle.amqp_ser.specs.Encoding.{constructor}
@@ -46,7 +46,7 @@ not_suited true (more v ts) t us h s =
     ]
 
 -- a bad part makes bad parts
-pub part_bad : (arr : Bool) (ts : Trees) (t : Tree) (us : Trees) (e : Refusal) → one_in arr ts ≡ true → refused (inner_of arr ts) t e → bad_in arr (join ts (more t us)) e
+pub part_bad : (arr : Bool) (ts : Trees) (t : Tree) (us : Trees) (e : WalkError) → one_in arr ts ≡ true → refused (inner_of arr ts) t e → bad_in arr (join ts (more t us)) e
 part_bad arr ts t us error.TooLong o h =
     let w : within_limits_each (join ts (more t us)) ≡ false = within_limits-join ts (more t us) ∙ right_false (within_limits_each ts) (within_limits t && within_limits_each us) (left_false (within_limits t) (within_limits_each us) (sym (within_inner arr ts t) ∙ h)) in
     right_false (fits (length (content arr (join ts (more t us))))) _ (right_false (is_count (counts arr (join ts (more t us)))) _ w)
@@ -74,7 +74,7 @@ over_bad arr ts t us n o m h = elim h [
 ]
 
 -- a refused part
-pub refused_part : (start : SizeSerializer) (kind : Kind) (held : OpenCompound) (ps : List (Option Tree)) (h : HoldsGathered start kind held ps) (p : Option Tree) (e : Refusal) (after : Pending) →
+pub refused_part : (start : SizeSerializer) (kind : Kind) (held : OpenCompound) (ps : List (Option Tree)) (h : HoldsGathered start kind held ps) (p : Option Tree) (e : WalkError) (after : Pending) →
     at_position (inner_of (is_array held.shape) h.ts) p (Err e) after → (others : List (Option Tree)) →
     at_position (position_of start.pending) (meant start.pending (whole kind (ps ++ (p ∷ others)))) (Err e) (pending.Plain (without_prefix held.position))
 refused_part start kind held ps h None e after r others = with_rest start kind held ps h None e r.0 (λ t us q. absurd (none-some t q)) others

@@ -1,7 +1,7 @@
 -- A serializer at the root.
 use Rattle.std.proofs.Common.{◌≡◌, ℕ, Option, Some, None, ◌&&◌, Result, Ok, Err, subst}
-use Rattle.amqp_size.specs.declared.refusal.Refusal.{Refusal}
-use Rattle.amqp_size.specs.declared.refusal.Refusal.TheVariants as refusal
+use Rattle.amqp_size.specs.declared.walk_error.WalkError.{WalkError}
+use Rattle.amqp_size.specs.declared.walk_error.WalkError.TheVariants as walk_error
 use Rattle.amqp_ser.specs.Tree.{Tree}
 use Rattle.amqp_ser.specs.Writable.{uniform_arrays, within_limits, placed}
 use Rattle.amqp_ser.specs.SizeAndBytes.{IsSizeOf}
@@ -14,23 +14,23 @@ use Rattle.amqp_size.specs.WholePending.{Pending}
 use Rattle.amqp_size.specs.WholePending.{Plain}
 use Rattle.amqp_size.specs.declared.serializer.SizeSerializer.{SizeSerializer}
 
-root_size : (o : Option Tree) (r : Result ℕ Refusal) (after : Pending) → at_position Root o r after → IsSizeOf o (told r) × (after ≡ Plain Root)
+root_size : (o : Option Tree) (r : Result ℕ WalkError) (after : Pending) → at_position Root o r after → IsSizeOf o (told r) × (after ≡ Plain Root)
 root_size None (Ok n) after h = absurd h
-root_size None (Err refusal.TooLong) after h = h
-root_size None (Err refusal.InvalidValue) after h = h
+root_size None (Err walk_error.TooLong) after h = h
+root_size None (Err walk_error.InvalidValue) after h = h
 root_size None (Err e) after h = absurd h.0
 root_size (Some t) (Ok n) after h = ((both (within_limits t) (uniform_arrays t && placed t) h.within_limits_it (both (uniform_arrays t) (placed t) h.uniform_arrays_it h.suited), h.len), h.position)
-root_size (Some t) (Err refusal.TooLong) after h = h
-root_size (Some t) (Err refusal.InvalidValue) after h = h
+root_size (Some t) (Err walk_error.TooLong) after h = h
+root_size (Some t) (Err walk_error.InvalidValue) after h = h
 root_size (Some t) (Err e) after h = absurd h.0
 
-pub at_root : (s : SizeSerializer) (o : Option Tree) (r : Result ℕ Refusal) (after : SizeSerializer) → s.pending ≡ Plain Root → size_permits s o r after → at_position Root o r after.pending
+pub at_root : (s : SizeSerializer) (o : Option Tree) (r : Result ℕ WalkError) (after : SizeSerializer) → s.pending ≡ Plain Root → size_permits s o r after → at_position Root o r after.pending
 at_root s o r after q h = subst (λ u. at_position (position_of u) (meant u o) r after.pending) q h
 
 -- its answer is the length of the bytes
-pub is_size : (s : SizeSerializer) (o : Option Tree) (r : Result ℕ Refusal) (after : SizeSerializer) → s.pending ≡ Plain Root → size_permits s o r after → IsSizeOf o (told r)
+pub is_size : (s : SizeSerializer) (o : Option Tree) (r : Result ℕ WalkError) (after : SizeSerializer) → s.pending ≡ Plain Root → size_permits s o r after → IsSizeOf o (told r)
 is_size s o r after q h = (root_size o r after.pending (at_root s o r after q h)).0
 
 -- it is fresh afterwards
-pub fresh : (s : SizeSerializer) (o : Option Tree) (r : Result ℕ Refusal) (after : SizeSerializer) → s.pending ≡ Plain Root → size_permits s o r after → after.pending ≡ Plain Root
+pub fresh : (s : SizeSerializer) (o : Option Tree) (r : Result ℕ WalkError) (after : SizeSerializer) → s.pending ≡ Plain Root → size_permits s o r after → after.pending ≡ Plain Root
 fresh s o r after q h = (root_size o r after.pending (at_root s o r after q h)).1

@@ -1,6 +1,6 @@
 -- Where a value was counted, the position is after no descriptor: no number stands beside it.
 use Rattle.std.proofs.Common.{◌≡◌, ℕ, ◌+◌, ◌<◌, Option, Some, None, Bool, true, false, Ok, refl, ap, ◌∙◌}
-use Rattle.amqp_size.specs.declared.refusal.Refusal.TheVariants as error
+use Rattle.amqp_size.specs.declared.walk_error.WalkError.TheVariants as error
 use Rattle.amqp_ser.specs.Tree.{Tree}
 use Rattle.amqp_ser.specs.Encoding.{constructor}
 use Rattle.amqp_size.specs.Position.{base_position, element, next, described_position, prefix_len_of}

@@ -1,7 +1,7 @@
 -- An open single compound.
 use Rattle.std.proofs.Common.{◌≡◌, ℕ, ◌≤◌, List, [], ◌∷◌, ◌++◌, Option, Some, None, Ok, Err, refl, ap, sym, ◌∙◌, subst, arith}
-use Rattle.amqp_size.specs.declared.refusal.Refusal.{Refusal}
-use Rattle.amqp_size.specs.declared.refusal.Refusal.TheVariants as error
+use Rattle.amqp_size.specs.declared.walk_error.WalkError.{WalkError}
+use Rattle.amqp_size.specs.declared.walk_error.WalkError.TheVariants as error
 use Rattle.amqp_ser.specs.Tree.{Tree, Trees}
 use Rattle.amqp_ser.specs.Compounds.{all_trees, prepend, as_kind, whole}
 use Rattle.amqp_size.specs.Refused.{refuses_none}
@@ -53,14 +53,14 @@ unfolding whole
 whole_two p q ps = two p q (all_trees ps)
 
 -- the refusal of no tree
-no_whole : (start : SizeSerializer) (held : OpenCompound) (kind : Kind) (qs : List (Option Tree)) (e : Refusal) → without_prefix held.position ≡ without_prefix (position_of start.pending) → kind ≡ kinds.Single → whole kinds.Single qs ≡ None → refuses_none e →
+no_whole : (start : SizeSerializer) (held : OpenCompound) (kind : Kind) (qs : List (Option Tree)) (e : WalkError) → without_prefix held.position ≡ without_prefix (position_of start.pending) → kind ≡ kinds.Single → whole kinds.Single qs ≡ None → refuses_none e →
     at_position (position_of start.pending) (meant start.pending (whole kind qs)) (Err e) (pending.Plain (without_prefix held.position))
 no_whole start held kind qs e a k q r =
     stands_none start.pending (position_of start.pending) (whole kind qs) (Err e) (pending.Plain (without_prefix held.position)) refl
     (ap (λ k. meant start.pending (whole k qs)) k ∙ ap (meant start.pending) q ∙ meant_none start.pending) (r, ap pending.Plain a)
 
 -- a refused value
-pub refused_single : (start : SizeSerializer) (kind : Kind) (held : OpenCompound) (ps : List (Option Tree)) → HoldsSingle start kind held ps → (p : Option Tree) (e : Refusal) (after : Pending) →
+pub refused_single : (start : SizeSerializer) (kind : Kind) (held : OpenCompound) (ps : List (Option Tree)) → HoldsSingle start kind held ps → (p : Option Tree) (e : WalkError) (after : Pending) →
     at_position (position_of held.inner) (meant held.inner p) (Err e) after → (others : List (Option Tree)) →
     at_position (position_of start.pending) (meant start.pending (whole kind (ps ++ (p ∷ others)))) (Err e) (pending.Plain (without_prefix held.position))
 refused_single start kind held [] h p e after r [] =

@@ -1,8 +1,8 @@
 -- Parts that spoil every whole that they are in.
 use Rattle.std.proofs.Common.{◌≡◌, ℕ, ◌+◌, ◌<◌, List, [], ◌∷◌, ◌++◌, Option, Some, None, Bool, true, false, not, ◌&&◌, Err, length, refl, ap, sym, ◌∙◌, subst, arith, length-append, inl, inr}
 use Rattle.std.proofs.lemmas.Bool.{not-true, not-false}
-use Rattle.amqp_size.specs.declared.refusal.Refusal.{Refusal}
-use Rattle.amqp_size.specs.declared.refusal.Refusal.TheVariants as error
+use Rattle.amqp_size.specs.declared.walk_error.WalkError.{WalkError}
+use Rattle.amqp_size.specs.declared.walk_error.WalkError.TheVariants as error
 use Rattle.amqp_ser.specs.Tree.{uint, Tree, Trees, list, array, map, variant, no_trees, more}
 use Rattle.amqp_ser.specs.Limits.{fits, is_count}
 use Rattle.amqp_ser.specs.Scalars.{scalar_form}
@@ -27,7 +27,7 @@ use Rattle.amqp_size.proofs.Positions.{long_at, not_inside, meant_none}
 use Rattle.amqp_size.proofs.Whole.{stands_none, refused_shape}
 
 -- parts of which the whole is refused with this error
-abbrev pub bad_in : Bool → Trees → Refusal → Type 0
+abbrev pub bad_in : Bool → Trees → WalkError → Type 0
 bad_in arr ws error.TooLong = (fits (length (content arr ws)) && (is_count (counts arr ws) && within_limits_each ws)) ≡ false
 bad_in arr ws error.InvalidValue = (one_in arr ws && (uniform_arrays_each ws && inside_each ws)) ≡ false
 bad_in arr ws e = ⊥
@@ -45,7 +45,7 @@ odd_none (more k no_trees) h = refl
 odd_none (more k (more v ts)) h = let e = odd_none ts (not-true (even ts) (not-false (not (even ts)) h)) in rw e refl
 
 -- the refusal of no map, whatever the error
-none_map : (p : Position) (ws : Trees) (e : Refusal) → refuses_none e → even ws ≡ false → at_position p (as_map (in_pairs ws)) (Err e) (pending.Plain (without_prefix p))
+none_map : (p : Position) (ws : Trees) (e : WalkError) → refuses_none e → even ws ≡ false → at_position p (as_map (in_pairs ws)) (Err e) (pending.Plain (without_prefix p))
 none_map p ws e r q = subst (λ o. at_position p (as_map o) (Err e) (pending.Plain (without_prefix p))) (sym (odd_none ws q)) (r, refl)
 
 long_map : (p : Position) (ws : Trees) → bad_in false ws error.TooLong → (b : Bool) → even ws ≡ b → at_position p (as_map (in_pairs ws)) (Err error.TooLong) (pending.Plain (without_prefix p))
@@ -93,44 +93,44 @@ bad_only p i (more t no_trees) h = (bad_one p i t h, refl)
 bad_only p i (more t (more v ts)) h = (tt, refl)
 
 -- the refusal of no tree, by a shape that its marker does not take
-none_bad : (u : Pending) (o : Option Tree) (e : Refusal) → refuses_none e → meant u o ≡ None → at_position (position_of u) (meant u o) (Err e) (pending.Plain (without_prefix (position_of u)))
+none_bad : (u : Pending) (o : Option Tree) (e : WalkError) → refuses_none e → meant u o ≡ None → at_position (position_of u) (meant u o) (Err e) (pending.Plain (without_prefix (position_of u)))
 none_bad u o e r h = stands_none u (position_of u) o (Err e) (pending.Plain (without_prefix (position_of u))) refl h (r, refl)
 
-bad_none : (arr : Bool) (ws : Trees) (e : Refusal) → bad_in arr ws e → refuses_none e
+bad_none : (arr : Bool) (ws : Trees) (e : WalkError) → bad_in arr ws e → refuses_none e
 bad_none arr ws error.TooLong h = tt
 bad_none arr ws error.InvalidValue h = tt
 bad_none arr ws e h = absurd h
 
-shapeless : (arr : Bool) (u : Pending) (k : Kind) (ws : Trees) (e : Refusal) → bad_in arr ws e → shape_of u k ≡ shape.Refused → at_position (position_of u) (meant u (as_kind k (Some ws))) (Err e) (pending.Plain (without_prefix (position_of u)))
+shapeless : (arr : Bool) (u : Pending) (k : Kind) (ws : Trees) (e : WalkError) → bad_in arr ws e → shape_of u k ≡ shape.Refused → at_position (position_of u) (meant u (as_kind k (Some ws))) (Err e) (pending.Plain (without_prefix (position_of u)))
 shapeless arr u k ws e b h = none_bad u (as_kind k (Some ws)) e (bad_none arr ws e b) (refused_shape u k (Some ws) h)
 
-spoiled_list : (p : Position) (ws : Trees) (e : Refusal) → bad_in false ws e → at_position p (Some (list ws)) (Err e) (pending.Plain (without_prefix p))
+spoiled_list : (p : Position) (ws : Trees) (e : WalkError) → bad_in false ws e → at_position p (Some (list ws)) (Err e) (pending.Plain (without_prefix p))
 spoiled_list p ws error.TooLong h = (long_at p (list ws) h, refl)
 spoiled_list p ws error.InvalidValue h = (spoiled p (list ws) refl h, refl)
 spoiled_list p ws e h = absurd h
 
-spoiled_array : (p : Position) (ws : Trees) (e : Refusal) → bad_in true ws e → at_position p (Some (array ws)) (Err e) (pending.Plain (without_prefix p))
+spoiled_array : (p : Position) (ws : Trees) (e : WalkError) → bad_in true ws e → at_position p (Some (array ws)) (Err e) (pending.Plain (without_prefix p))
 spoiled_array p ws error.TooLong h = (long_at p (array ws) h, refl)
 spoiled_array p ws error.InvalidValue h = (spoiled p (array ws) refl (and_assoc (one_constructor ws) (uniform_arrays_each ws) (inside_each ws) ∙ h), refl)
 spoiled_array p ws e h = absurd h
 
-spoiled_map : (p : Position) (ws : Trees) (e : Refusal) → bad_in false ws e → at_position p (as_map (in_pairs ws)) (Err e) (pending.Plain (without_prefix p))
+spoiled_map : (p : Position) (ws : Trees) (e : WalkError) → bad_in false ws e → at_position p (as_map (in_pairs ws)) (Err e) (pending.Plain (without_prefix p))
 spoiled_map p ws error.TooLong h = long_map p ws h (even ws) refl
 spoiled_map p ws error.InvalidValue h = bad_map p ws h (even ws) refl
 spoiled_map p ws e h = absurd h
 
-spoiled_fields : (p : Position) (i : ℕ) (ws : Trees) (e : Refusal) → bad_in false ws e → at_position p (Some (variant i (list ws))) (Err e) (pending.Plain (without_prefix p))
+spoiled_fields : (p : Position) (i : ℕ) (ws : Trees) (e : WalkError) → bad_in false ws e → at_position p (Some (variant i (list ws))) (Err e) (pending.Plain (without_prefix p))
 spoiled_fields p i ws error.TooLong h = (long_at p (variant i (list ws)) (right_false (fits (length (scalar_form (uint i) ++ encoding (list ws)))) (within_limits (list ws)) h), refl)
 spoiled_fields p i ws error.InvalidValue h = (spoiled p (variant i (list ws)) refl h, refl)
 spoiled_fields p i ws e h = absurd h
 
-spoiled_only : (p : Position) (i : ℕ) (ws : Trees) (e : Refusal) → bad_in false ws e → at_position p (as_variant i (only ws)) (Err e) (pending.Plain (without_prefix p))
+spoiled_only : (p : Position) (i : ℕ) (ws : Trees) (e : WalkError) → bad_in false ws e → at_position p (as_variant i (only ws)) (Err e) (pending.Plain (without_prefix p))
 spoiled_only p i ws error.TooLong h = long_only p i ws h
 spoiled_only p i ws error.InvalidValue h = bad_only p i ws h
 spoiled_only p i ws e h = absurd h
 
 -- a whole of spoiled parts
-spoiled_whole : (u : Pending) (k : Kind) (ws : Trees) (e : Refusal) → is_gathered (shape_of u k) ≡ true → bad_in (is_array (shape_of u k)) ws e → at_position (position_of u) (meant u (as_kind k (Some ws))) (Err e) (pending.Plain (without_prefix (position_of u)))
+spoiled_whole : (u : Pending) (k : Kind) (ws : Trees) (e : WalkError) → is_gathered (shape_of u k) ≡ true → bad_in (is_array (shape_of u k)) ws e → at_position (position_of u) (meant u (as_kind k (Some ws))) (Err e) (pending.Plain (without_prefix (position_of u)))
 spoiled_whole u kinds.Single ws e g h = cc
 spoiled_whole (pending.Plain p) kinds.List ws e g h = spoiled_list p ws e h
 spoiled_whole (pending.Plain p) kinds.Map ws e g h = spoiled_map p ws e h
@@ -154,14 +154,14 @@ spoiled_whole (pending.Nothing p) (kinds.Variant i) ws e g h = shapeless false (
 spoiled_whole (pending.Nothing p) (kinds.NewtypeVariant i) ws e g h = shapeless false (pending.Nothing p) (kinds.NewtypeVariant i) ws e h refl
 
 -- a whole that one part spoils
-pub spoiled_rest : (u : Pending) (k : Kind) (ts : Trees) (e : Refusal) → is_gathered (shape_of u k) ≡ true → refuses_none e → (p : Option Tree) (o : Option Trees) → ((t : Tree) (us : Trees) → p ≡ Some t → bad_in (is_array (shape_of u k)) (join ts (more t us)) e) →
+pub spoiled_rest : (u : Pending) (k : Kind) (ts : Trees) (e : WalkError) → is_gathered (shape_of u k) ≡ true → refuses_none e → (p : Option Tree) (o : Option Trees) → ((t : Tree) (us : Trees) → p ≡ Some t → bad_in (is_array (shape_of u k)) (join ts (more t us)) e) →
     at_position (position_of u) (meant u (as_kind k (joined (Some ts) (prepend p o)))) (Err e) (pending.Plain (without_prefix (position_of u)))
 spoiled_rest u k ts e g r None o bad = none_bad u (as_kind k None) e r (ap (meant u) (kind_none k) ∙ meant_none u)
 spoiled_rest u k ts e g r (Some t) None bad = none_bad u (as_kind k None) e r (ap (meant u) (kind_none k) ∙ meant_none u)
 spoiled_rest u k ts e g r (Some t) (Some us) bad = spoiled_whole u k (join ts (more t us)) e g (bad t us refl)
 
 -- where the next part spoils every whole
-pub with_rest : (start : SizeSerializer) (kind : Kind) (held : OpenCompound) (ps : List (Option Tree)) (h : HoldsGathered start kind held ps) (p : Option Tree) (e : Refusal) → refuses_none e →
+pub with_rest : (start : SizeSerializer) (kind : Kind) (held : OpenCompound) (ps : List (Option Tree)) (h : HoldsGathered start kind held ps) (p : Option Tree) (e : WalkError) → refuses_none e →
     ((t : Tree) (us : Trees) → p ≡ Some t → bad_in (is_array held.shape) (join h.ts (more t us)) e) → (others : List (Option Tree)) →
     at_position (position_of start.pending) (meant start.pending (whole kind (ps ++ (p ∷ others)))) (Err e) (pending.Plain (without_prefix held.position))
 unfolding whole

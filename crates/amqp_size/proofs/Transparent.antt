@@ -1,7 +1,7 @@
 -- An open transparent vector.
 use Rattle.std.proofs.Common.{◌≡◌, ℕ, ◌+◌, ◌<◌, List, [], ◌∷◌, ◌++◌, Option, Some, None, true, false, ◌&&◌, Err, length, refl, ap, sym, ◌∙◌, subst, arith, length-append, ◌⊎◌, inl, inr}
-use Rattle.amqp_size.specs.declared.refusal.Refusal.{Refusal}
-use Rattle.amqp_size.specs.declared.refusal.Refusal.TheVariants as error
+use Rattle.amqp_size.specs.declared.walk_error.WalkError.{WalkError}
+use Rattle.amqp_size.specs.declared.walk_error.WalkError.TheVariants as error
 use Rattle.amqp_ser.specs.Tree.{Tree, Trees, transparent, no_trees, more}
 use Rattle.amqp_ser.specs.Limits.{is_length}
 use Rattle.amqp_ser.specs.Encoding.{encoding, encoding_each}
@@ -91,12 +91,12 @@ root_alone Descriptor ts = inr refl
 root_alone (Value n b) ts = inr (right_false (takes_described b) false refl)
 
 -- elements of which the whole is refused with this error
-abbrev pub bad_each : Trees → Refusal → Type 0
+abbrev pub bad_each : Trees → WalkError → Type 0
 bad_each ws error.TooLong = (is_length (length (encoding_each ws)) && within_limits_each ws) ≡ false
 bad_each ws error.InvalidValue = (uniform_arrays_each ws && placed_each ws) ≡ false
 bad_each ws e = ⊥
 
-pub spoiled_transparent : (p : Position) (ws : Trees) (e : Refusal) → bad_each ws e → at_position p (Some (transparent ws)) (Err e) (pending.Plain (without_prefix p))
+pub spoiled_transparent : (p : Position) (ws : Trees) (e : WalkError) → bad_each ws e → at_position p (Some (transparent ws)) (Err e) (pending.Plain (without_prefix p))
 spoiled_transparent p ws error.TooLong h = (long_at p (transparent ws) h, refl)
 spoiled_transparent p ws error.InvalidValue h = elim (root_alone p ws) [
   | inl q ↦ (subst (λ x. (uniform_arrays_each ws && suits x (transparent ws)) ≡ false) (sym q) h, refl)
@@ -104,7 +104,7 @@ spoiled_transparent p ws error.InvalidValue h = elim (root_alone p ws) [
 ]
 spoiled_transparent p ws e h = absurd h
 
-go : (start : SizeSerializer) (kind : Kind) (held : OpenCompound) (ps : List (Option Tree)) → HoldsTransparent start kind held ps → (qs : List (Option Tree)) (o : Option Trees) → all_trees qs ≡ o → (e : Refusal) → refuses_none e → ((ws : Trees) → o ≡ Some ws → bad_each ws e) →
+go : (start : SizeSerializer) (kind : Kind) (held : OpenCompound) (ps : List (Option Tree)) → HoldsTransparent start kind held ps → (qs : List (Option Tree)) (o : Option Trees) → all_trees qs ≡ o → (e : WalkError) → refuses_none e → ((ws : Trees) → o ≡ Some ws → bad_each ws e) →
     at_position (position_of start.pending) (meant start.pending (whole kind qs)) (Err e) (pending.Plain (without_prefix (position_of start.pending)))
 unfolding whole
 go start kind held ps h qs None q e r bad =
@@ -120,7 +120,7 @@ after ts (Some t) None ws q = cc
 after ts (Some t) (Some us) ws q = (t, (us, (refl, cc)))
 
 -- where the next element spoils every whole
-spoils : (start : SizeSerializer) (kind : Kind) (held : OpenCompound) (ps : List (Option Tree)) (h : HoldsTransparent start kind held ps) (p : Option Tree) (e : Refusal) → refuses_none e → ((t : Tree) (us : Trees) → p ≡ Some t → bad_each (join h.ts (more t us)) e) →
+spoils : (start : SizeSerializer) (kind : Kind) (held : OpenCompound) (ps : List (Option Tree)) (h : HoldsTransparent start kind held ps) (p : Option Tree) (e : WalkError) → refuses_none e → ((t : Tree) (us : Trees) → p ≡ Some t → bad_each (join h.ts (more t us)) e) →
     (others : List (Option Tree)) → at_position (position_of start.pending) (meant start.pending (whole kind (ps ++ (p ∷ others)))) (Err e) (pending.Plain (without_prefix held.position))
 spoils start kind held ps h p e r bad others =
     let trees : all_trees (ps ++ (p ∷ others)) ≡ joined (Some h.ts) (prepend p (all_trees others)) = all_trees-append ps (p ∷ others) ∙ ap (λ o. joined o (prepend p (all_trees others))) h.trees in
@@ -128,7 +128,7 @@ spoils start kind held ps h p e r bad others =
     (go start kind held ps h (ps ++ (p ∷ others)) (joined (Some h.ts) (prepend p (all_trees others))) trees e r
     (λ ws q. let a = after h.ts p (all_trees others) ws q in subst (λ x. bad_each x e) (sym a.1.1.1) (bad a.0 a.1.0 a.1.1.0)))
 
-pub part_bad : (ts : Trees) (t : Tree) (us : Trees) (e : Refusal) → refused Root t e → bad_each (join ts (more t us)) e
+pub part_bad : (ts : Trees) (t : Tree) (us : Trees) (e : WalkError) → refused Root t e → bad_each (join ts (more t us)) e
 part_bad ts t us error.TooLong h = right_false (is_length (length (encoding_each (join ts (more t us))))) (within_limits_each (join ts (more t us)))
     (within_limits-join ts (more t us) ∙ right_false (within_limits_each ts) (within_limits t && within_limits_each us) (left_false (within_limits t) (within_limits_each us) h))
 part_bad ts t us error.InvalidValue h = elim (one_false (uniform_arrays t) (placed t) h) [
@@ -140,7 +140,7 @@ part_bad ts t us e h = absurd h
 some_same : (t v : Tree) → Some t ≡ Some v → t ≡ v
 some_same t v q = cc
 
-pub refused_transparent : (start : SizeSerializer) (kind : Kind) (held : OpenCompound) (ps : List (Option Tree)) → HoldsTransparent start kind held ps → (p : Option Tree) (e : Refusal) (after : Pending) → at_position Root p (Err e) after →
+pub refused_transparent : (start : SizeSerializer) (kind : Kind) (held : OpenCompound) (ps : List (Option Tree)) → HoldsTransparent start kind held ps → (p : Option Tree) (e : WalkError) (after : Pending) → at_position Root p (Err e) after →
     (others : List (Option Tree)) → at_position (position_of start.pending) (meant start.pending (whole kind (ps ++ (p ∷ others)))) (Err e) (pending.Plain (without_prefix held.position))
 refused_transparent start kind held ps h None e after r others = spoils start kind held ps h None e r.0 (λ t us q. cc) others
 refused_transparent start kind held ps h (Some t) e after r others =

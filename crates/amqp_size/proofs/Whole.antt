@@ -1,6 +1,6 @@
 -- The tree of a compound that has ended.
 use Rattle.std.proofs.Common.{◌≡◌, ℕ, ◌+◌, ◌*◌, List, ◌++◌, Option, Some, None, true, false, Result, length, refl, ap, sym, ◌∙◌, subst, arith}
-use Rattle.amqp_size.specs.declared.refusal.Refusal.{Refusal}
+use Rattle.amqp_size.specs.declared.walk_error.WalkError.{WalkError}
 use Rattle.amqp_ser.specs.Tree.{uint, Tree, Trees, Pairs, list, map, variant, count, pair_count}
 use Rattle.amqp_ser.specs.Limits.{fits}
 use Rattle.amqp_ser.specs.Scalars.{scalar_form}
@@ -27,10 +27,10 @@ use Rattle.amqp_size.specs.declared.open_compound.OpenCompound.{OpenCompound}
 use Rattle.amqp_size.proofs.Lengths.{length-counted, length-list_form, length-variant}
 
 -- an answer on the tree that is meant
-pub stands : (u : Pending) (q : Position) (o : Option Tree) (x : Tree) (r : Result ℕ Refusal) (after : Pending) → position_of u ≡ q → meant u o ≡ Some x → at_position q (Some x) r after → at_position (position_of u) (meant u o) r after
+pub stands : (u : Pending) (q : Position) (o : Option Tree) (x : Tree) (r : Result ℕ WalkError) (after : Pending) → position_of u ≡ q → meant u o ≡ Some x → at_position q (Some x) r after → at_position (position_of u) (meant u o) r after
 stands u q o x r after a b h = subst (λ w. at_position w (meant u o) r after) (sym a) (subst (λ w. at_position q w r after) (sym b) h)
 
-pub stands_none : (u : Pending) (q : Position) (o : Option Tree) (r : Result ℕ Refusal) (after : Pending) → position_of u ≡ q → meant u o ≡ None → at_position q None r after → at_position (position_of u) (meant u o) r after
+pub stands_none : (u : Pending) (q : Position) (o : Option Tree) (r : Result ℕ WalkError) (after : Pending) → position_of u ≡ q → meant u o ≡ None → at_position q None r after → at_position (position_of u) (meant u o) r after
 stands_none u q o r after a b h = subst (λ w. at_position w (meant u o) r after) (sym a) (subst (λ w. at_position q w r after) (sym b) h)
 
 pub map_shape : (u : Pending) (k : Kind) → shape_of u k ≡ shape.Map → (u ≡ pending.Plain (position_of u)) × (k ≡ kinds.Map)

@@ -1,7 +1,7 @@
 -- A part counted in a compound.
 use Rattle.std.specs.Prelude.{◌≡◌, ℕ, ◌+◌, Bool, true, ◌⊎◌, ◌<◌, ◌≤◌}
-use Rattle.amqp_size.specs.declared.refusal.Refusal.{Refusal}
-use Rattle.amqp_size.specs.declared.refusal.Refusal.TheVariants as error
+use Rattle.amqp_size.specs.declared.walk_error.WalkError.{WalkError}
+use Rattle.amqp_size.specs.declared.walk_error.WalkError.TheVariants as error
 use Rattle.amqp_size.specs.Position.{prefix_len_of}
 use Rattle.amqp_size.specs.WholePosition.{Position}
 use Rattle.amqp_size.specs.WholePosition.{First, Element, Descriptor}
@@ -23,7 +23,7 @@ abbrev pub passes_limit : Bool → ℕ → ℕ → Type 0
 passes_limit array count sum = (4294967291 < sum) ⊎ ((array ≡ true) × (4294967295 ≤ count))
 
 -- why no value may come after a descriptor of this length
-abbrev pub undescribed : Pending → ℕ → Refusal → Type 0
+abbrev pub undescribed : Pending → ℕ → WalkError → Type 0
 undescribed (pending.Plain Descriptor) n e = e ≡ error.InvalidValue
 undescribed (pending.Plain p) n e = (e ≡ error.TooLong) × (18446744073709551615 < prefix_len_of p + (n + 1))
 undescribed u n e = ⊥

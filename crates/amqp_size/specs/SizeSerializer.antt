@@ -1,7 +1,7 @@
 -- What the size serializer may answer, and what an open compound was fed.
 use Rattle.std.specs.Prelude.{◌≡◌, ℕ, List, [], ◌∷◌, ◌++◌, ◌⊎◌, Option, Some, None, Bool, true, false, ◌&&◌, Result, Ok, Err, length}
-use Rattle.amqp_size.specs.declared.refusal.Refusal.{Refusal}
-use Rattle.amqp_size.specs.declared.refusal.Refusal.TheVariants as error
+use Rattle.amqp_size.specs.declared.walk_error.WalkError.{WalkError}
+use Rattle.amqp_size.specs.declared.walk_error.WalkError.TheVariants as error
 use Rattle.amqp_ser.specs.Tree.{Tree, Trees, no_trees, more, count}
 use Rattle.amqp_ser.specs.Limits.{fits, is_count}
 use Rattle.amqp_ser.specs.Encoding.{encoding_each, payload_each, array_constructor, constructor}
@@ -29,18 +29,18 @@ pub record Counted (p : Position) (t : Tree) (n : ℕ) (after : Pending) : Type 
   pub position : after ≡ Plain (next p t)
 
 -- too long only where a limit is passed, invalid only for another cause
-abbrev pub refused : Position → Tree → Refusal → Type 0
+abbrev pub refused : Position → Tree → WalkError → Type 0
 refused p t error.TooLong = within_limits_at p t ≡ false
 refused p t error.InvalidValue = (uniform_arrays t && suits p t) ≡ false
 refused p t e = ⊥
 
-abbrev pub at_position : Position → Option Tree → Result ℕ Refusal → Pending → Type 0
+abbrev pub at_position : Position → Option Tree → Result ℕ WalkError → Pending → Type 0
 at_position p None (Ok n) after = ⊥
 at_position p None (Err e) after = refuses_none e × (after ≡ Plain (without_prefix p))
 at_position p (Some t) (Ok n) after = Counted p t n after
 at_position p (Some t) (Err e) after = refused p t e × (after ≡ Plain (without_prefix p))
 
-abbrev pub size_permits : SizeSerializer → Option Tree → Result ℕ Refusal → SizeSerializer → Type 0
+abbrev pub size_permits : SizeSerializer → Option Tree → Result ℕ WalkError → SizeSerializer → Type 0
 size_permits s t r after = at_position (position_of s.pending) (meant s.pending t) r after.pending
 
 -- the bytes of the parts, in an array or not

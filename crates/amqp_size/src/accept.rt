@@ -11,38 +11,38 @@ ghost use Rattle.amqp_size.specs.Position.{position_of, without_prefix, takes_de
 
 use crate::pending::Pending;
 use crate::position::{BasePosition, Position};
-use crate::refusal::Refusal;
 use crate::serializer::SizeSerializer;
+use crate::walk_error::WalkError;
 use crate::width::{LONGEST, map_width, text_width, uint_width};
 use amqp_data::EncodingCodes;
 
 /// The answer on a descriptor with this constructor and length: only a ulong or a symbol is one.
-fn descriptor(code: u8, ordinary: usize) -> Result<usize, Refusal>
+fn descriptor(code: u8, ordinary: usize) -> Result<usize, WalkError>
     ensures { (t : Tree) → constructor t ≡ Some code → MatchResult result
         (λ n. (is_some (descriptor_of (Some t)) ≡ true) × (n ≡ ordinary))
-        (λ e. (is_some (descriptor_of (Some t)) ≡ false) × (e ≡ Refusal.InvalidValue)) }
+        (λ e. (is_some (descriptor_of (Some t)) ≡ false) × (e ≡ WalkError.InvalidValue)) }
 {
     if code == EncodingCodes::Ulong as u8 || code == EncodingCodes::Sym32 as u8 {
         Ok(ordinary)
     } else {
-        Err(Refusal::InvalidValue)
+        Err(WalkError::InvalidValue)
     }
 }
 
 /// The answer on the value after descriptors, with them.
-fn described(prefix_len: usize, base: BasePosition, ordinary: usize) -> Result<usize, Refusal>
+fn described(prefix_len: usize, base: BasePosition, ordinary: usize) -> Result<usize, WalkError>
     ensures { MatchResult result
         (λ n. (takes_described base ≡ true)
         × ((is_length (prefix_len + ordinary) ≡ true) × (n ≡ prefix_len + ordinary)))
-        (λ e. ((e ≡ Refusal.TooLong) × (is_length (prefix_len + ordinary) ≡ false))
-        ⊎ ((e ≡ Refusal.InvalidValue) × (takes_described base ≡ false))) }
+        (λ e. ((e ≡ WalkError.TooLong) × (is_length (prefix_len + ordinary) ≡ false))
+        ⊎ ((e ≡ WalkError.InvalidValue) × (takes_described base ≡ false))) }
 {
     if !base.takes_described() {
-        return Err(Refusal::InvalidValue);
+        return Err(WalkError::InvalidValue);
     }
     match prefix_len.checked_add(ordinary) {
         Some(whole) => Ok(whole),
-        None => Err(Refusal::TooLong),
+        None => Err(WalkError::TooLong),
     }
 }
 
@@ -73,7 +73,7 @@ impl SizeSerializer {
         code: u8,
         ordinary: usize,
         wide: usize,
-    ) -> Result<usize, Refusal>
+    ) -> Result<usize, WalkError>
         ensures { self.old.pending ≡ Plain (without_prefix (position_at position prefix_len)) →
             (t : Tree) →
             constructor t ≡ Some code → within_limits t ≡ true → uniform_arrays t ≡ true →
@@ -94,7 +94,7 @@ impl SizeSerializer {
                 if c == code {
                     Ok(wide)
                 } else {
-                    Err(Refusal::InvalidValue)
+                    Err(WalkError::InvalidValue)
                 }
             }
             Position::Descriptor => descriptor(code, ordinary),
@@ -110,7 +110,7 @@ impl SizeSerializer {
         prefix_len: usize,
         code: u8,
         n: usize,
-    ) -> Result<usize, Refusal>
+    ) -> Result<usize, WalkError>
         ensures { self.old.pending ≡ Plain (without_prefix (position_at position prefix_len)) →
             (t : Tree) →
             constructor t ≡ Some code → uniform_arrays t ≡ true → inside t ≡ true →
@@ -124,7 +124,7 @@ impl SizeSerializer {
             return self.accept(position, prefix_len, code, text_width(n), n + 4);
         }
         if n > LONGEST {
-            return Err(Refusal::TooLong);
+            return Err(WalkError::TooLong);
         }
         self.accept(position, prefix_len, code, text_width(n), n + 4)
     }
@@ -137,7 +137,7 @@ impl SizeSerializer {
         position: Position,
         prefix_len: usize,
         len: usize,
-    ) -> Result<usize, Refusal>
+    ) -> Result<usize, WalkError>
         ensures { self.old.pending ≡ Plain (without_prefix (position_at position prefix_len)) →
             (bytes : List ℕ) → length bytes ≡ len →
             at_position (position_at position prefix_len) (Some (lazy bytes)) result
@@ -146,7 +146,7 @@ impl SizeSerializer {
         match position {
             Position::Root | Position::Inside => Ok(len),
             Position::Value(base) => described(prefix_len, base, len),
-            _ => Err(Refusal::InvalidValue),
+            _ => Err(WalkError::InvalidValue),
         }
     }
 
@@ -158,7 +158,7 @@ impl SizeSerializer {
         prefix_len: usize,
         index: u32,
         size: usize,
-    ) -> Result<usize, Refusal>
+    ) -> Result<usize, WalkError>
         ensures { self.old.pending ≡ Plain (without_prefix (position_at position prefix_len)) →
             (t v : Tree) →
             constructor t ≡ Some 0xd1 → uniform_arrays t ≡ true → inside t ≡ true →
@@ -171,7 +171,7 @@ impl SizeSerializer {
     {
         let first = uint_width(index);
         if size > LONGEST - first {
-            return Err(Refusal::TooLong);
+            return Err(WalkError::TooLong);
         }
         let body = first + size;
         self.accept(
@@ -191,7 +191,7 @@ impl SizeSerializer {
         position: Position,
         prefix_len: usize,
         sum: usize,
-    ) -> Result<usize, Refusal>
+    ) -> Result<usize, WalkError>
         ensures { self.old.pending ≡ Plain (without_prefix (position_at position prefix_len)) →
             (ts : Trees) →
             within_limits_each ts ≡ true → uniform_arrays_each ts ≡ true → placed_each ts ≡ true →
@@ -201,7 +201,7 @@ impl SizeSerializer {
     {
         match position {
             Position::Root => Ok(sum),
-            _ => Err(Refusal::InvalidValue),
+            _ => Err(WalkError::InvalidValue),
         }
     }
 }

@@ -11,10 +11,10 @@ mod form;
 mod open_compound;
 mod pending;
 mod position;
-mod refusal;
 mod scalar_mark;
 mod serializer;
 mod shape;
+mod walk_error;
 pub mod width;
 
 pub use compounds::{
@@ -25,7 +25,7 @@ pub use form::Form;
 pub use open_compound::OpenCompound;
 pub use pending::Pending;
 pub use position::{BasePosition, Position};
-pub use refusal::Refusal;
 pub use scalar_mark::ScalarMark;
 pub use serializer::{SizeSerializer, serialized_size};
 pub use shape::Shape;
+pub use walk_error::WalkError;

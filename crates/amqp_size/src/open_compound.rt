@@ -5,8 +5,8 @@ ghost use Rattle.amqp_size.specs.Position.{limit_of};
 
 use crate::pending::Pending;
 use crate::position::Position;
-use crate::refusal::Refusal;
 use crate::shape::Shape;
+use crate::walk_error::WalkError;
 use crate::width::{LONGEST, MOST};
 use std::marker::Model;
 
@@ -143,7 +143,7 @@ impl OpenCompound {
 
     /// Counts a part of this size, after which the serializer stands there.
     #[inline(always)]
-    pub(crate) fn add_part(&mut self, size: usize, after: Pending) -> Result<(), Refusal>
+    pub(crate) fn add_part(&mut self, size: usize, after: Pending) -> Result<(), WalkError>
         ensures gathered { is_gathered self.old.shape ≡ true → MatchResult result
             (λ _.
             (self.new.sum ≡ size + opens_in (is_array self.old.shape) self.old.inner
@@ -152,19 +152,19 @@ impl OpenCompound {
             else self.old.count)
             × (self.new.inner ≡ if is_array self.old.shape then pending_at after self.old.prefix_len
             else self.old.inner)))
-            (λ e. (e ≡ Refusal.TooLong)
+            (λ e. (e ≡ WalkError.TooLong)
             × passes_limit (is_array self.old.shape) self.old.count
             (size + opens_in (is_array self.old.shape) self.old.inner
             (pending_at after self.old.prefix_len)
             + self.old.sum)) }
         ensures transparent { self.old.shape ≡ Shape.Transparent → MatchResult result
             (λ _. (self.new.sum ≡ size + self.old.sum) × (self.new.inner ≡ self.old.inner))
-            (λ e. (e ≡ Refusal.TooLong) × (18446744073709551615 < size + self.old.sum)) }
+            (λ e. (e ≡ WalkError.TooLong) × (18446744073709551615 < size + self.old.sum)) }
         ensures single { self.old.shape ≡ Shape.Single → MatchResult result
             (λ _. (self.old.count ≡ 0)
             × ((self.new.count ≡ 1)
             × ((self.new.sum ≡ size) × (self.new.inner ≡ pending_at after self.old.prefix_len))))
-            (λ e. (e ≡ Refusal.InvalidValue) × (1 ≤ self.old.count)) }
+            (λ e. (e ≡ WalkError.InvalidValue) × (1 ≤ self.old.count)) }
         ensures before_last { is_gathered self.old.shape ≡ true →
             IfOk result (λ _. self.new.before_last ≡ self.old.sum) }
         ensures kept { IfErr result (λ _. self.new ≡ self.old) }
@@ -183,12 +183,13 @@ impl OpenCompound {
 
     /// Counts bytes, and a part that stands where the last one did.
     #[inline(always)]
-    fn add(&mut self, size: usize, limit: usize) -> Result<(), Refusal>
+    fn add(&mut self, size: usize, limit: usize) -> Result<(), WalkError>
         requires enough { self.old.sum ≤ limit }
         requires allowed { limit ≤ limit_of self.old.shape }
         ensures kept { MatchResult result
             (λ _. (self.new.sum ≡ size + self.old.sum) × (self.new.before_last ≡ self.old.sum))
-            (λ e. (self.new ≡ self.old) × ((e ≡ Refusal.TooLong) × (limit < size + self.old.sum))) }
+            (λ e. (self.new ≡ self.old)
+            × ((e ≡ WalkError.TooLong) × (limit < size + self.old.sum))) }
         ensures position { self.new.position ≡ self.old.position }
         ensures shape { self.new.shape ≡ self.old.shape }
         ensures small { self.new.sum ≤ limit_of self.new.shape }
@@ -196,7 +197,7 @@ impl OpenCompound {
         ensures count { self.new.count ≡ self.old.count }
     {
         if size > limit - self.sum {
-            return Err(Refusal::TooLong);
+            return Err(WalkError::TooLong);
         }
         self.before_last = self.sum;
         self.sum += size;
@@ -205,7 +206,7 @@ impl OpenCompound {
 
     /// Counts an element of an array, and the constructor before the first.
     #[inline(always)]
-    fn add_element(&mut self, size: usize, after: Pending) -> Result<(), Refusal>
+    fn add_element(&mut self, size: usize, after: Pending) -> Result<(), WalkError>
         requires { self.old.shape ≡ Shape.Array }
         ensures kept { MatchResult result
             (λ _.
@@ -215,7 +216,7 @@ impl OpenCompound {
             × ((self.new.count ≡ self.old.count + 1)
             × (self.new.inner ≡ pending_at after self.old.prefix_len)))
             (λ e. (self.new ≡ self.old)
-            × ((e ≡ Refusal.TooLong)
+            × ((e ≡ WalkError.TooLong)
             × passes_limit true self.old.count
             (size + opens_in true self.old.inner (pending_at after self.old.prefix_len) +
             self.old.sum))) }
@@ -232,10 +233,10 @@ impl OpenCompound {
         };
         let most = LONGEST - self.sum;
         if size > most || opened > most - size {
-            return Err(Refusal::TooLong);
+            return Err(WalkError::TooLong);
         }
         if self.count >= MOST {
-            return Err(Refusal::TooLong);
+            return Err(WalkError::TooLong);
         }
         self.count += 1;
         self.before_last = self.sum;
@@ -246,19 +247,19 @@ impl OpenCompound {
 
     /// Keeps the one value of a single compound, and what comes after it.
     #[inline(always)]
-    fn add_single(&mut self, size: usize, after: Pending) -> Result<(), Refusal>
+    fn add_single(&mut self, size: usize, after: Pending) -> Result<(), WalkError>
         requires { self.old.shape ≡ Shape.Single }
         ensures kept { MatchResult result
             (λ _. (self.old.count ≡ 0)
             × ((self.new.count ≡ 1)
             × ((self.new.sum ≡ size) × (self.new.inner ≡ pending_at after self.old.prefix_len))))
-            (λ e. (self.new ≡ self.old) × ((e ≡ Refusal.InvalidValue) × (1 ≤ self.old.count))) }
+            (λ e. (self.new ≡ self.old) × ((e ≡ WalkError.InvalidValue) × (1 ≤ self.old.count))) }
         ensures position { self.new.position ≡ self.old.position }
         ensures shape { self.new.shape ≡ self.old.shape }
         ensures small { self.new.sum ≤ limit_of self.new.shape }
     {
         if self.count > 0 {
-            return Err(Refusal::InvalidValue);
+            return Err(WalkError::InvalidValue);
         }
         self.count = 1;
         self.sum = size;
@@ -268,7 +269,7 @@ impl OpenCompound {
 
     /// Counts a descriptor of this size before the value of a single compound.
     #[inline(always)]
-    pub(crate) fn describe(&mut self, size: usize) -> Result<(), Refusal>
+    pub(crate) fn describe(&mut self, size: usize) -> Result<(), WalkError>
         ensures kept { MatchResult result
             (λ _. described_pending self.old.inner size ≡ Some self.new.inner)
             (λ e. (self.new ≡ self.old) × undescribed self.old.inner size e) }
@@ -287,7 +288,7 @@ impl OpenCompound {
         };
         let prefix_len = position.prefix_len(self.prefix_len);
         if size >= usize::MAX - prefix_len {
-            return Err(Refusal::TooLong);
+            return Err(WalkError::TooLong);
         }
         self.prefix_len = prefix_len + (size + 1);
         self.inner = Pending::Plain(inner);

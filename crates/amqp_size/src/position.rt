@@ -4,7 +4,7 @@ ghost use Rattle.std.specs.Prelude.{◌≡◌, ◌+◌, ℕ, Some, MatchResult};
 ghost use Rattle.amqp_size.specs.State.{position_at};
 ghost use Rattle.amqp_size.specs.Position.{without_prefix, base_position, takes_described, element_constructor, described_position, prefix_len_of};
 
-use crate::refusal::Refusal;
+use crate::walk_error::WalkError;
 
 /// Where a described value stands.
 #[derive(Clone, Copy, Debug)]
@@ -74,19 +74,19 @@ impl Position {
 
     /// The position after a descriptor.
     #[inline(always)]
-    pub(crate) fn described(self) -> Result<Position, Refusal>
+    pub(crate) fn described(self) -> Result<Position, WalkError>
         ensures { MatchResult result
             (λ p. (h n : ℕ) →
             described_position (position_at self h) n
             ≡ Some (position_at p (prefix_len_of (position_at self h) + (n + 1))))
-            (λ e. (self ≡ Position.Descriptor) × (e ≡ Refusal.InvalidValue)) }
+            (λ e. (self ≡ Position.Descriptor) × (e ≡ WalkError.InvalidValue)) }
     {
         match self {
             Position::Root => Ok(Position::Value(BasePosition::Root)),
             Position::Inside => Ok(Position::Value(BasePosition::Inside)),
             Position::First => Ok(Position::Value(BasePosition::First)),
             Position::Element(code) => Ok(Position::Value(BasePosition::Element(code))),
-            Position::Descriptor => Err(Refusal::InvalidValue),
+            Position::Descriptor => Err(WalkError::InvalidValue),
             Position::Value(base) => Ok(Position::Value(base)),
         }
     }

@@ -11,9 +11,9 @@ use crate::form::Form;
 use crate::open_compound::OpenCompound;
 use crate::pending::Pending;
 use crate::position::Position;
-use crate::refusal::Refusal;
 use crate::scalar_mark::ScalarMark;
 use crate::shape::Shape;
+use crate::walk_error::WalkError;
 use crate::width::{array_width, list_width, map_width};
 use amqp_data::{EncodingCodes, Error};
 use amqp_frame::is_frame;
@@ -23,7 +23,7 @@ use std::marker::Model;
 /// Counts the bytes of values; it is fresh after each call, refused ones too.
 ///
 /// # Errors
-/// Its calls refuse by [`Refusal`], of one byte, which `?` turns into `Error`; never as out of
+/// Its calls refuse by [`WalkError`], of one byte, which `?` turns into `Error`; never as out of
 /// memory.
 ///
 /// # Example
@@ -73,7 +73,7 @@ impl Default for SizeSerializer {
 }
 
 impl Serializer for SizeSerializer {
-    ghost use Rattle.amqp_size.specs.declared.refusal.Refusal.TheVariants.{InvalidValue};
+    ghost use Rattle.amqp_size.specs.declared.walk_error.WalkError.TheVariants.{InvalidValue};
     ghost use Rattle.amqp_size.specs.Position.{position_of, meant, without_prefix, described_pending};
     ghost use Rattle.amqp_size.specs.SizeSerializer.{size_permits, size_has, size_awaits, size_awaits_descriptor, no_count_on_none};
     ghost use Rattle.amqp_ser.specs.Compounds.{whole, complete};
@@ -84,7 +84,7 @@ impl Serializer for SizeSerializer {
 
     type Ok = usize;
 
-    type Error = Refusal;
+    type Error = WalkError;
 
     type Open = OpenCompound;
 
@@ -101,7 +101,7 @@ impl Serializer for SizeSerializer {
     ghost refuses_none = { no_count_on_none };
 
     #[inline(always)]
-    fn serialize_fixed(&mut self, fixed: Fixed) -> Result<usize, Refusal>
+    fn serialize_fixed(&mut self, fixed: Fixed) -> Result<usize, WalkError>
         ensures answered { size_permits self.old (Some (scalar (fixed_scalar fixed))) result
             self.new }
         ensures no_tree { meant self.old.pending (Some (scalar (fixed_scalar fixed))) ≡ None →
@@ -130,14 +130,14 @@ impl Serializer for SizeSerializer {
                     9,
                     8,
                 ),
-                _ => Err(Refusal::InvalidValue),
+                _ => Err(WalkError::InvalidValue),
             },
-            _ => Err(Refusal::InvalidValue),
+            _ => Err(WalkError::InvalidValue),
         }
     }
 
     #[inline(always)]
-    fn serialize_null(&mut self) -> Result<usize, Refusal>
+    fn serialize_null(&mut self) -> Result<usize, WalkError>
         ensures answered { size_permits self.old (Some (scalar null)) result self.new }
         ensures no_tree { meant self.old.pending (Some (scalar null)) ≡ None →
             result ≡ Err InvalidValue }
@@ -153,12 +153,12 @@ impl Serializer for SizeSerializer {
                 1,
                 0,
             ),
-            _ => Err(Refusal::InvalidValue),
+            _ => Err(WalkError::InvalidValue),
         }
     }
 
     #[inline(always)]
-    fn serialize_str(&mut self, v: &str) -> Result<usize, Refusal>
+    fn serialize_str(&mut self, v: &str) -> Result<usize, WalkError>
         ensures answered { size_permits self.old (Some (scalar (string v.now))) result self.new }
         ensures no_tree { meant self.old.pending (Some (scalar (string v.now))) ≡ None →
             result ≡ Err InvalidValue }
@@ -179,12 +179,12 @@ impl Serializer for SizeSerializer {
                 EncodingCodes::Sym32 as u8,
                 v.len(),
             ),
-            _ => Err(Refusal::InvalidValue),
+            _ => Err(WalkError::InvalidValue),
         }
     }
 
     #[inline(always)]
-    fn serialize_bytes(&mut self, v: &[u8]) -> Result<usize, Refusal>
+    fn serialize_bytes(&mut self, v: &[u8]) -> Result<usize, WalkError>
         ensures answered { size_permits self.old (Some (scalar (binary v.now))) result self.new }
         ensures no_tree { meant self.old.pending (Some (scalar (binary v.now))) ≡ None →
             result ≡ Err InvalidValue }
@@ -232,13 +232,13 @@ impl Serializer for SizeSerializer {
                 prefix_len,
                 v.len(),
             ),
-            _ => Err(Refusal::InvalidValue),
+            _ => Err(WalkError::InvalidValue),
         }
     }
 
     #[inline(always)]
     fn mark(&mut self, mark: Mark)
-        ensures step { (t : Option Tree) (r : Result ℕ Refusal) (after : SizeSerializer) →
+        ensures step { (t : Option Tree) (r : Result ℕ WalkError) (after : SizeSerializer) →
             size_permits self.new t r after → size_permits self.old (marked mark t) r after }
         ensures meant { (t : Option Tree) →
             meant self.new.pending t ≡ meant self.old.pending (marked mark t) }
@@ -266,7 +266,7 @@ impl Serializer for SizeSerializer {
             size_has start kind self.old held.old ps → size_awaits start kind self.new held.new ps }
         ensures single { (start : SizeSerializer) →
             size_has start Kind.Single self.old held.old [] →
-            (t : Option Tree) (r : Result ℕ Refusal) (after : SizeSerializer) →
+            (t : Option Tree) (r : Result ℕ WalkError) (after : SizeSerializer) →
             size_permits self.new t r after → size_permits start t r after }
         ensures pending { self.new.pending ≡ held.old.inner }
         ensures kept { held.new ≡ held.old }
@@ -279,8 +279,8 @@ impl Serializer for SizeSerializer {
     fn end_part(
         &mut self,
         held: &mut OpenCompound,
-        part: Result<usize, Refusal>,
-    ) -> Result<(), Refusal>
+        part: Result<usize, WalkError>,
+    ) -> Result<(), WalkError>
         ensures step { (start : SizeSerializer) (kind : Kind) (before : SizeSerializer)
             (ps : List (Option Tree)) (p : Option Tree) →
             size_awaits start kind before held.old ps → size_permits before p part self.old →
@@ -315,14 +315,14 @@ impl Serializer for SizeSerializer {
     fn end_descriptor(
         &mut self,
         held: &mut OpenCompound,
-        part: Result<usize, Refusal>,
-    ) -> Result<(), Refusal>
+        part: Result<usize, WalkError>,
+    ) -> Result<(), WalkError>
         ensures step { (start before : SizeSerializer) (d : Option Tree) →
             size_awaits_descriptor start before held.old → size_permits before d part self.old →
             MatchResult result
             (λ _. (mid : SizeSerializer)
             × (size_has mid Kind.Single self.new held.new []
-            × ((t : Option Tree) (r : Result ℕ Refusal) (after : SizeSerializer) →
+            × ((t : Option Tree) (r : Result ℕ WalkError) (after : SizeSerializer) →
             size_permits mid t r after →
             size_permits start (as_described (descriptor_of d) t) r after)))
             (λ e. size_has start Kind.Single self.new held.new [] × ((t : Option Tree) →
@@ -349,13 +349,13 @@ impl Serializer for SizeSerializer {
     }
 
     #[inline(always)]
-    fn misuse(&mut self, _held: &mut OpenCompound) -> Refusal {
-        Refusal::InvalidValue
+    fn misuse(&mut self, _held: &mut OpenCompound) -> WalkError {
+        WalkError::InvalidValue
     }
 
     #[tactic(auto, unfolding(amqp_ser::specs::Compounds::whole))]
     #[inline(always)]
-    fn end(&mut self, held: OpenCompound) -> Result<usize, Refusal>
+    fn end(&mut self, held: OpenCompound) -> Result<usize, WalkError>
         ensures answered { (start : SizeSerializer) (kind : Kind) (ps : List (Option Tree)) →
             size_has start kind self.old held ps → complete kind ps ≡ true →
             size_permits start (whole kind ps) result self.new }
@@ -397,7 +397,7 @@ impl Serializer for SizeSerializer {
                 self.prefix_len = prefix_len;
                 Ok(sum)
             }
-            Shape::Refused => Err(Refusal::InvalidValue),
+            Shape::Refused => Err(WalkError::InvalidValue),
         }
     }
 }

@@ -10,7 +10,7 @@ use amqp_data::markers::SYMBOL;
 use amqp_data::{Array, Error, TransparentVec};
 use amqp_ser::{Kind, Mark, Serialize, Serializer};
 use amqp_size::width::{array_len, list_len, map_len, text_len};
-use amqp_size::{Refusal, SizeSerializer, serialized_size};
+use amqp_size::{SizeSerializer, WalkError, serialized_size};
 use std::test::Fail;
 
 #[test]
@@ -152,7 +152,7 @@ fn compounds_pass_over_what_they_refuse(rt: HostRuntime) {
     assert_eq!(rt; mixed_array(&mut serializer), Ok(12));
     assert_eq!(rt; interrupted_list(&mut serializer), Ok(7));
     assert_eq!(rt; two_keys(&mut serializer), Ok(8));
-    assert_eq!(rt; key_alone(&mut serializer), Err(Refusal::InvalidValue));
+    assert_eq!(rt; key_alone(&mut serializer), Err(WalkError::InvalidValue));
     assert_eq!(rt; serializer.serialize_str("b"), Ok(3), "fresh afterwards");
 }
 
@@ -208,7 +208,7 @@ fn second_value_of_a_single_compound(rt: HostRuntime) {
     let second = serializer.serialize_u64(2);
     assert_eq!(rt;
         serializer.end_part(&mut held, second),
-        Err(Refusal::InvalidValue)
+        Err(WalkError::InvalidValue)
     );
     assert_eq!(rt; serializer.end(held), Ok(2), "the first value alone");
     assert_eq!(rt; serializer.serialize_str("b"), Ok(3), "fresh afterwards");
@@ -222,7 +222,7 @@ fn descriptor_after_a_string(rt: HostRuntime) {
     let text = serializer.serialize_str("a");
     assert_eq!(rt;
         serializer.end_descriptor(&mut held, text),
-        Err(Refusal::InvalidValue)
+        Err(WalkError::InvalidValue)
     );
     serializer.begin_descriptor(&mut held);
     let code = serializer.serialize_u64(0x24);
@@ -236,7 +236,7 @@ fn descriptor_after_a_string(rt: HostRuntime) {
 }
 
 /// The length of the second value, by a serializer that has counted, or refused, the first.
-fn counted_after<A: Serialize, B: Serialize>(first: &A, second: &B) -> Result<usize, Refusal>
+fn counted_after<A: Serialize, B: Serialize>(first: &A, second: &B) -> Result<usize, WalkError>
     ensures { IsSizeOf (B.tree second.now) (told result) }
 {
     let mut serializer = SizeSerializer::default();

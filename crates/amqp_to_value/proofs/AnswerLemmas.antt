@@ -8,7 +8,7 @@ use Rattle.amqp_ser.specs.declared.kind.Kind.TheVariants as kinds
 use Rattle.amqp_ser.specs.declared.mark.Mark.TheVariants as mark
 use Rattle.amqp_value.specs.TreeOf.{tree_of}
 use Rattle.amqp_value.specs.declared.value.Value.{Value}
-use Rattle.amqp_to_value.specs.PendingDescriptors.{DescriptorsState, described_in, described_by, standing}
+use Rattle.amqp_to_value.specs.PendingDescriptors.{DescriptorsState, under_descriptors, described_by, standing}
 use Rattle.amqp_to_value.specs.ValueSerializer.{IsSaved, IsFresh, IsKept, Leaves, described_none, meant_by, meant_none, value_permits}
 use Rattle.amqp_to_value.specs.ImageOf.{refuses, StandsFor}
 use Rattle.amqp_to_value.specs.PendingMark.{meant}
@@ -20,9 +20,9 @@ use Rattle.amqp_to_value.proofs.LazyLemmas.{spoils}
 -- a value in all that it stood in
 pub finished : (start after : Serializer) (t : Option Tree) (v w : Value) (others ds : List Descriptor) → others ≡ start.descriptors.kept → ds ≡ standing start.descriptors
     → after.pending ≡ pending.Mark mark.Other → after.descriptors.kept ≡ others → after.descriptors.next ≡ false → length (others ++ ds) ≤ after.descriptors.room
-    → tree_of w ≡ described_in ds (tree_of v) → StandsFor v (meant start.pending t) → value_permits start t (Ok w) after
+    → tree_of w ≡ under_descriptors ds (tree_of v) → StandsFor v (meant start.pending t) → value_permits start t (Ok w) after
 finished start after t v w others ds e f fresh is none room d s = (
-  stands_in (standing start.descriptors) (meant start.pending t) v w (d ∙ ap (λ x. described_in x (tree_of v)) f) s,
+  stands_in (standing start.descriptors) (meant start.pending t) v w (d ∙ ap (λ x. under_descriptors x (tree_of v)) f) s,
   (((fresh, none), is ∙ e), subst (λ n. n ≤ after.descriptors.room) (λ i. length (e i ++ f i)) room),
 )
 

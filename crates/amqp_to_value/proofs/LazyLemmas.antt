@@ -14,7 +14,7 @@ use Rattle.amqp_ser.specs.declared.mark.Mark.TheVariants as mark
 use Rattle.amqp_ser.proofs.Joins.{join, joined, all_trees-append, kind_none}
 use Rattle.amqp_to_value.specs.ImageOf.{IsFault, refuses}
 use Rattle.amqp_to_value.specs.Opened.{Opened, AreOpened, HasOpenedPairs, IsUnreadable}
-use Rattle.amqp_to_value.specs.PendingDescriptors.{described_in}
+use Rattle.amqp_to_value.specs.PendingDescriptors.{under_descriptors}
 use Rattle.amqp_to_value.specs.PendingMark.{as_descriptor, meant}
 use Rattle.amqp_to_value.specs.declared.pending_mark.PendingMark.{PendingMark}
 use Rattle.amqp_to_value.specs.declared.pending_mark.PendingMark.TheVariants as pending
@@ -53,7 +53,7 @@ read_refused error.OutOfMemory t u o r = refl
 read_refused e t u o r = absurd (r.1 u o)
 
 -- after descriptors
-pub unreadable_in : (ds : List Descriptor) (t : Tree) → IsUnreadable t → IsUnreadable (described_in ds t)
+pub unreadable_in : (ds : List Descriptor) (t : Tree) → IsUnreadable t → IsUnreadable (under_descriptors ds t)
 unreadable_in [] t h = h
 unreadable_in (d ∷ ds) t h = λ u o. unreadable_in ds t h o.0 o.2
 

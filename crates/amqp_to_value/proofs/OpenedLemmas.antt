@@ -8,7 +8,7 @@ use Rattle.amqp_value.specs.declared.value.Value.{Value}
 use Rattle.amqp_to_value.specs.HeldImages.{then, compound_tree, IsOpenedImage}
 use Rattle.amqp_to_value.specs.ImageOf.{IsImageOf}
 use Rattle.amqp_to_value.specs.Opened.{Opened, AreOpened, HasOpenedPairs}
-use Rattle.amqp_to_value.specs.PendingDescriptors.{described_in}
+use Rattle.amqp_to_value.specs.PendingDescriptors.{under_descriptors}
 use Rattle.amqp_to_value.specs.declared.parts.Parts.{Parts}
 use Rattle.amqp_to_value.specs.declared.parts.Parts.TheVariants as held
 
@@ -99,12 +99,12 @@ opened_answer (Some t) (Some u) (Err error.InvalidValue) h g = absurd g
 opened_answer o q (Err e) h g = absurd g
 
 -- after descriptors
-pub opened_in : (ds : List Descriptor) (t u : Tree) → Opened t u → Opened (described_in ds t) (described_in ds u)
+pub opened_in : (ds : List Descriptor) (t u : Tree) → Opened t u → Opened (under_descriptors ds t) (under_descriptors ds u)
 opened_in [] t u o = o
-opened_in (d ∷ ds) t u o = (described_in ds u, refl, opened_in ds t u o)
+opened_in (d ∷ ds) t u o = (under_descriptors ds u, refl, opened_in ds t u o)
 
 -- and back
-pub opened_inside : (ds : List Descriptor) (t u : Tree) → Opened (described_in ds t) u → (w : Tree) × (u ≡ described_in ds w) × Opened t w
+pub opened_inside : (ds : List Descriptor) (t u : Tree) → Opened (under_descriptors ds t) u → (w : Tree) × (u ≡ under_descriptors ds w) × Opened t w
 opened_inside [] t u o = (u, refl, o)
 opened_inside (d ∷ ds) t u o =
     let r = opened_inside ds t o.0 o.2 in

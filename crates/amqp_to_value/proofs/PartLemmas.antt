@@ -9,7 +9,7 @@ use Rattle.amqp_ser.specs.declared.mark.Mark.TheVariants as mark
 use Rattle.amqp_value.specs.Image.{image}
 use Rattle.amqp_value.specs.TreeOf.{tree_of}
 use Rattle.amqp_value.specs.declared.value.Value.{Value}
-use Rattle.amqp_to_value.specs.PendingDescriptors.{described_in, described_by, standing}
+use Rattle.amqp_to_value.specs.PendingDescriptors.{under_descriptors, described_by, standing}
 use Rattle.amqp_to_value.specs.ValueSerializer.{HasParts, IsSaved, IsFresh, IsReady, Leaves, meant_by, value_permits}
 use Rattle.amqp_to_value.specs.ImageOf.{refuses, StandsFor}
 use Rattle.amqp_to_value.specs.Opened.{Opened}
@@ -68,7 +68,7 @@ pub record Stood (start after : Serializer) (p : Option Tree) (v : Value) : Type
   pub others : after.descriptors.kept ≡ start.descriptors.kept
   pub none : after.descriptors.next ≡ false
   pub room : length (start.descriptors.kept ++ (standing start.descriptors)) ≤ after.descriptors.room
-  pub within : tree_of v ≡ described_in (standing start.descriptors) (image read)
+  pub within : tree_of v ≡ under_descriptors (standing start.descriptors) (image read)
   pub means : meant start.pending p ≡ Some tree
 
 pub stands : (start before after : Serializer) (u : PendingMark) (p : Option Tree) (v : Value) → IsReady start before (body.Single u None) → value_permits before p (Ok v) after → Stood start after p v

@@ -11,7 +11,7 @@ use Rattle.amqp_value.specs.TreeOf.{tree_of, tree_step}
 use Rattle.amqp_value.specs.declared.value.Value.{Value, the_lemmas, out-Value, roll-Value, roll-out-Value, map-Value, fold-roll-Value}
 use Rattle.amqp_value.specs.declared.value.Value.TheOpen.{Value-F}
 use Rattle.amqp_value.specs.declared.value.Value.TheVariants.{Described as DescribedValue}
-use Rattle.amqp_to_value.specs.PendingDescriptors.{DescriptorsState, descriptors_of, described_in, described_by, standing}
+use Rattle.amqp_to_value.specs.PendingDescriptors.{DescriptorsState, descriptors_of, under_descriptors, described_by, standing}
 use Rattle.amqp_to_value.specs.ImageOf.{refuses, StandsFor}
 use Rattle.amqp_to_value.specs.Opened.{Opened}
 use Rattle.amqp_to_value.specs.ValueSerializer.{described_none}
@@ -33,28 +33,28 @@ pub standing_none : (p : DescriptorsState) → p.next ≡ false → standing p �
 standing_none p is = ap (λ b. if b then p.later else []) is
 
 -- one descriptor more, the innermost
-pub described_in-last : (ds : List Descriptor) (d : Descriptor) (t : Tree) → described_in (ds ++ (d ∷ [])) t ≡ described_in ds (described d t)
+pub described_in-last : (ds : List Descriptor) (d : Descriptor) (t : Tree) → under_descriptors (ds ++ (d ∷ [])) t ≡ under_descriptors ds (described d t)
 described_in-last [] d t = refl
 described_in-last (e ∷ ds) d t = ap (described e) (described_in-last ds d t)
 
-image-described_in : (ds : List Descriptor) (t : Tree) → image (described_in ds t) ≡ described_in ds (image t)
+image-described_in : (ds : List Descriptor) (t : Tree) → image (under_descriptors ds t) ≡ under_descriptors ds (image t)
 image-described_in [] t = refl
 image-described_in (d ∷ ds) t = ap (described d) (image-described_in ds t)
 
-described_by-Some : (ds : List Descriptor) (t : Tree) → described_by ds (Some t) ≡ Some (described_in ds t)
+described_by-Some : (ds : List Descriptor) (t : Tree) → described_by ds (Some t) ≡ Some (under_descriptors ds t)
 described_by-Some [] t = refl
 described_by-Some (d ∷ ds) t = rw (described_by-Some ds t) refl
 
 -- a value in what it stands in
-pub stands_in : (ds : List Descriptor) (o : Option Tree) (v w : Value) → tree_of w ≡ described_in ds (tree_of v) → StandsFor v o → StandsFor w (described_by ds o)
+pub stands_in : (ds : List Descriptor) (o : Option Tree) (v w : Value) → tree_of w ≡ under_descriptors ds (tree_of v) → StandsFor v o → StandsFor w (described_by ds o)
 stands_in ds None v w is s = absurd s
 stands_in ds (Some t) v w is s =
     subst (StandsFor w) (sym (described_by-Some ds t))
-    (described_in ds s.0, opened_in ds t s.0 s.1, is ∙ ap (described_in ds) s.2 ∙ sym (image-described_in ds s.0))
+    (under_descriptors ds s.0, opened_in ds t s.0 s.1, is ∙ ap (under_descriptors ds) s.2 ∙ sym (image-described_in ds s.0))
 
 -- and back
 pub stood : (ds : List Descriptor) (o : Option Tree) (v : Value) → StandsFor v (described_by ds o)
-    → (t : Tree) × (u : Tree) × (o ≡ Some t) × Opened t u × (tree_of v ≡ described_in ds (image u))
+    → (t : Tree) × (u : Tree) × (o ≡ Some t) × Opened t u × (tree_of v ≡ under_descriptors ds (image u))
 stood ds None v s = absurd (subst (StandsFor v) (described_none ds) s)
 stood ds (Some t) v s =
     let h = subst (StandsFor v) (described_by-Some ds t) s in
@@ -100,8 +100,8 @@ module _ (bs : List (Box (Described Value) Global)) (b : Box (Described Value) G
   descriptors_of-prefix : descriptors_of (drop first (bs ++ (b ∷ []))) ≡ descriptors_of (drop first bs) ++ (descriptor_content b.value.descriptor ∷ [])
   descriptors_of-prefix = ap descriptors_of (drop-append-le first bs (b ∷ []) le) ∙ map-append _ (drop first bs) (b ∷ [])
 
-  pub described-prefix : (t : Tree) → described_in (descriptors_of (drop first (bs ++ (b ∷ [])))) t ≡ described_in (descriptors_of (drop first bs)) (described (descriptor_content b.value.descriptor) t)
-  described-prefix t = ap (λ ds. described_in ds t) descriptors_of-prefix ∙ described_in-last (descriptors_of (drop first bs)) (descriptor_content b.value.descriptor) t
+  pub described-prefix : (t : Tree) → under_descriptors (descriptors_of (drop first (bs ++ (b ∷ [])))) t ≡ under_descriptors (descriptors_of (drop first bs)) (described (descriptor_content b.value.descriptor) t)
+  described-prefix t = ap (λ ds. under_descriptors ds t) descriptors_of-prefix ∙ described_in-last (descriptors_of (drop first bs)) (descriptor_content b.value.descriptor) t
 
 tree_of-Described : (b : Box (Described Value) Global) → tree_of (DescribedValue b) ≡ described (descriptor_content b.value.descriptor) (tree_of b.value.value)
 tree_of-Described b = search (rules, the_lemmas)
@@ -109,15 +109,15 @@ tree_of-Described b = search (rules, the_lemmas)
 -- a value that is put into the last of them
 pub wrapped : (prefix all initial : List (Box (Described Value) Global)) (b w : Box (Described Value) Global) (first : ℕ) (v : Value) (whole : Tree) → all ≡ prefix ++ (b ∷ []) → first < length all
     → w.value.descriptor ≡ b.value.descriptor → w.value.value ≡ v
-    → (take first all ≡ take first initial) × (described_in (descriptors_of (drop first all)) (tree_of v) ≡ whole)
-    → (take first prefix ≡ take first initial) × (described_in (descriptors_of (drop first prefix)) (tree_of (DescribedValue w)) ≡ whole)
+    → (take first all ≡ take first initial) × (under_descriptors (descriptors_of (drop first all)) (tree_of v) ≡ whole)
+    → (take first prefix ≡ take first initial) × (under_descriptors (descriptors_of (drop first prefix)) (tree_of (DescribedValue w)) ≡ whole)
 wrapped prefix all initial b w first v whole is lt same inner h =
     let count : length all ≡ length prefix + 1 = ap length is ∙ length-append prefix (b ∷ []) in
     let le : first ≤ length prefix = omega arith in (
       sym (take-prefix prefix b first le) ∙ ap (take first) (sym is) ∙ h.0,
-      ap (described_in (descriptors_of (drop first prefix))) (tree_of-Described w ∙ (λ i. described (descriptor_content (same i)) (tree_of (inner i))))
+      ap (under_descriptors (descriptors_of (drop first prefix))) (tree_of-Described w ∙ (λ i. described (descriptor_content (same i)) (tree_of (inner i))))
           ∙ sym (described-prefix prefix b first le (tree_of v))
-          ∙ ap (λ bs. described_in (descriptors_of (drop first bs)) (tree_of v)) (sym is)
+          ∙ ap (λ bs. under_descriptors (descriptors_of (drop first bs)) (tree_of v)) (sym is)
           ∙ h.1,
     )
 
@@ -155,11 +155,11 @@ not_described v none d t is =
 -- one descriptor of the rest is put last
 pub unwrapped : (rest : List Descriptor) (old new : List (Box (Described Value) Global)) (b w : Box (Described Value) Global) (v : Value) (all : List Descriptor) (t : Tree) (at count len len' cap cap' : ℕ)
     → length rest + at ≡ count → at < count → len + length rest ≤ cap → len' ≡ len + 1 → cap ≤ cap'
-    → descriptors_of old ++ rest ≡ all → new ≡ old ++ (w ∷ []) → w.value.descriptor ≡ b.value.descriptor → v ≡ b.value.value → tree_of (DescribedValue b) ≡ described_in rest t
-    → (x : List Descriptor) × (length x + (at + 1) ≡ count) × (len' + length x ≤ cap') × (descriptors_of new ++ x ≡ all) × (tree_of v ≡ described_in x t)
+    → descriptors_of old ++ rest ≡ all → new ≡ old ++ (w ∷ []) → w.value.descriptor ≡ b.value.descriptor → v ≡ b.value.value → tree_of (DescribedValue b) ≡ under_descriptors rest t
+    → (x : List Descriptor) × (length x + (at + 1) ≡ count) × (len' + length x ≤ cap') × (descriptors_of new ++ x ≡ all) × (tree_of v ≡ under_descriptors x t)
 unwrapped [] old new b w v all t at count len len' cap cap' n lt room grows more sum put same inner is = absurd (omega arith)
 unwrapped (d ∷ rest) old new b w v all t at count len len' cap cap' n lt room grows more sum put same inner is =
-    let p = peeled b d (described_in rest t) is in (
+    let p = peeled b d (under_descriptors rest t) is in (
       rest,
       omega arith,
       omega arith,
@@ -169,6 +169,6 @@ unwrapped (d ∷ rest) old new b w v all t at count len len' cap cap' n lt room 
     )
 
 -- the rest is not empty before the last
-pub more_rest : (rest : List Descriptor) (at count : ℕ) (t : Tree) → length rest + at ≡ count → at < count → (d : Descriptor) × (u : Tree) × (described_in rest t ≡ described d u)
+pub more_rest : (rest : List Descriptor) (at count : ℕ) (t : Tree) → length rest + at ≡ count → at < count → (d : Descriptor) × (u : Tree) × (under_descriptors rest t ≡ described d u)
 more_rest [] at count t n lt = absurd (omega arith)
-more_rest (d ∷ rest) at count t n lt = (d, described_in rest t, refl)
+more_rest (d ∷ rest) at count t n lt = (d, under_descriptors rest t, refl)

@@ -1,4 +1,4 @@
--- Contracts of public items rest on all of these, but for `descriptors_of` and `described_in` in PendingDescriptors, and `feed` and
+-- Contracts of public items rest on all of these, but for `descriptors_of` and `under_descriptors` in PendingDescriptors, and `feed` and
 -- `TakesPairs`, `refuses_opened` and `IsOpenedImage` in HeldImages, which private clauses alone cite. HasLazy is cited by laws.
 pub mod PendingDescriptors
 pub mod HasLazy

@@ -13,9 +13,9 @@ abbrev pub descriptors_of : List (Box (Described Value) Global) → List Descrip
 descriptors_of = map (λ b. descriptor_content b.value.descriptor)
 
 -- the tree after these descriptors, the outermost first
-abbrev pub described_in : List Descriptor → Tree → Tree
-described_in [] t = t
-described_in (d ∷ ds) t = described d (described_in ds t)
+abbrev pub under_descriptors : List Descriptor → Tree → Tree
+under_descriptors [] t = t
+under_descriptors (d ∷ ds) t = described d (under_descriptors ds t)
 
 -- the same of a tree or none
 abbrev pub described_by : List Descriptor → Option Tree → Option Tree

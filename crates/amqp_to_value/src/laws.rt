@@ -1,6 +1,7 @@
 //! What a value keeps of the tree that it stands for, and what a tree with lazy parts is read as.
 //!
-//! A law is a function that does nothing: its clause is the law. A caller's proof learns it by a call.
+//! A law is a function that does nothing: its clause is the law. A caller's proof learns it by a
+//! call.
 
 ghost use Rattle.std.specs.Prelude.{◌≡◌, List, ℕ, Some, false, true};
 ghost use Rattle.amqp_decode.specs.Spells.{Spells};
@@ -27,7 +28,8 @@ pub fn trees_without_lazy_parts_are_read_as_themselves()
     ensures alone { (t u : Tree) → has_lazy t ≡ false → Opened t u → u ≡ t }
 {}
 
-/// A value that stands for a tree in which nothing lazy stands is its image, and the other way round.
+/// A value that stands for a tree in which nothing lazy stands is its image, and the other way
+/// round.
 ///
 /// # Memory
 /// Takes none.
@@ -89,7 +91,8 @@ pub fn sound_values_come_back_equal()
         ⟦<Value as PartialEq>⟧.eq b a ≡ true }
 {}
 
-/// A value that stands for a scalar is equal to each value of that scalar, as the one that `From` gives.
+/// A value that stands for a scalar is equal to each value of that scalar, as the one that `From`
+/// gives.
 ///
 /// # Memory
 /// Takes none.

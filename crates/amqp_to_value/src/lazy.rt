@@ -24,8 +24,8 @@ pub fn lazy_value(alloc: Global, bytes: &[u8]) -> Result<Value, Error>
     }
 }
 
-// The refusal of bytes that were not read: what was wrong with them where they are one encoded value, and otherwise
-// invalid; out of memory stays what it is.
+// The refusal of bytes that were not read: what was wrong with them where they are one encoded
+// value, and otherwise invalid; out of memory stays what it is.
 fn refusal(e: Error, bytes: &[u8]) -> Error
     ensures memory { e ≡ Error.OutOfMemory → result ≡ Error.OutOfMemory }
     ensures code { e ≡ Error.InvalidFormatCode → is_frame bytes.now ≡ true → result ≡ e }

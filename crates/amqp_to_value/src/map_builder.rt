@@ -32,7 +32,8 @@ impl MapBuilder {
     /// Takes a key, or the value of the pending key.
     ///
     /// # Errors
-    /// `AllocError` where memory for the pair is refused: the part is dropped, and the key still pending.
+    /// `AllocError` where memory for the pair is refused: the part is dropped, and the key still
+    /// pending.
     #[inline(never)]
     pub fn add_part(&mut self, part: Value) -> Result<(), AllocError>
         ensures { MatchResult result
@@ -66,8 +67,8 @@ impl MapBuilder {
     /// The map of the pairs, none where a key is pending.
     ///
     /// # Errors
-    /// `InvalidValue` where a key is pending, `OutOfMemory` where memory for the places of keys that do not
-    /// ascend is refused.
+    /// `InvalidValue` where a key is pending, `OutOfMemory` where memory for the places of keys
+    /// that do not ascend is refused.
     #[inline(never)]
     pub fn into_value(self, alloc: Global) -> Result<Value, Error>
         ensures { (ts : Trees) → held_pairs self ≡ fed_onto ts no_pairs →

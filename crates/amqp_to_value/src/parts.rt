@@ -64,7 +64,8 @@ impl Parts {
     /// Takes one part more.
     ///
     /// # Errors
-    /// `AllocError` where memory for the part is refused: it is dropped, and the parts are as they were.
+    /// `AllocError` where memory for the part is refused: it is dropped, and the parts are as they
+    /// were.
     #[inline(always)]
     pub fn add_part(&mut self, part: Value) -> Result<(), AllocError>
         ensures makes { (o : Option Trees) → compound_tree self.new o ≡ compound_tree self.old o }

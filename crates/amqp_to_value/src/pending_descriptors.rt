@@ -4,7 +4,7 @@ ghost use Rattle.std.specs.Prelude.{◌≡◌, ℕ, ◌+◌, ◌≤◌, ◌++◌
 ghost use Rattle.amqp_ser.specs.Carried.{descriptor_content};
 ghost use Rattle.amqp_ser.specs.Tree.{Descriptor as Content, Tree};
 ghost use Rattle.amqp_value.specs.TreeOf.{tree_of};
-ghost use Rattle.amqp_to_value.specs.PendingDescriptors.{DescriptorsState, saved_of, descriptors_of, described_in, standing};
+ghost use Rattle.amqp_to_value.specs.PendingDescriptors.{DescriptorsState, saved_of, descriptors_of, under_descriptors, standing};
 
 use amqp_data::{Described, Descriptor, Error};
 use amqp_value::Value;
@@ -12,9 +12,9 @@ use std::alloc::Global;
 use std::marker::Model;
 use std::mem;
 
-/// Described values without their values, of which null keeps the room, the outermost first: those that open compounds
-/// keep, and then those that the next value stands in. Where it stands in none, what is left there is needed no more
-/// once the next compound is opened.
+/// Described values without their values, of which null keeps the room, the outermost first: those
+/// that open compounds keep, and then those that the next value stands in. Where it stands in none,
+/// what is left there is needed no more once the next compound is opened.
 #[derive(Drop)]
 pub struct PendingDescriptors {
     stack: Vec<Box<Described<Value>>>,
@@ -153,7 +153,7 @@ impl PendingDescriptors {
         ensures kept { self.new.kept ≡ self.old.kept }
         ensures none { self.new.next ≡ false }
         ensures room { length (self.old.kept ++ standing self.old) ≤ self.new.room }
-        ensures described { tree_of result ≡ described_in (standing self.old) (tree_of value) }
+        ensures described { tree_of result ≡ under_descriptors (standing self.old) (tree_of value) }
     {
         if !self.next {
             return value;
@@ -180,7 +180,7 @@ impl PendingDescriptors {
     pub fn unwrap(&mut self, saved: Saved, value: Value) -> Result<Value, Error>
         ensures { (others own : List Content) (t : Tree) → self.old.kept ≡ others →
             self.old.next ≡ false → saved ≡ saved_of others own →
-            length (others ++ own) ≤ self.old.room → tree_of value ≡ described_in own t →
+            length (others ++ own) ≤ self.old.room → tree_of value ≡ under_descriptors own t →
             MatchResult result
             (λ v. (tree_of v ≡ t) × (self.new.kept ≡ others) × (self.new.later ≡ own)
             × (self.new.next ≡ false)) (λ _. ⊥) }
@@ -200,8 +200,8 @@ impl PendingDescriptors {
 fn wrap_from(stack: &mut Vec<Box<Described<Value>>>, first: usize, value: Value) -> Value
     ensures used { stack.new.items ≡ take first stack.old.items }
     ensures room { vec_capacity stack.new ≡ vec_capacity stack.old }
-    ensures described { tree_of result ≡ described_in (descriptors_of (drop first stack.old.items))
-        (tree_of value) }
+    ensures described { tree_of result
+        ≡ under_descriptors (descriptors_of (drop first stack.old.items)) (tree_of value) }
 {
     let mut value = value;
     while first < stack.len() {
@@ -222,7 +222,8 @@ fn unwrap_from(
     value: Value,
 ) -> Result<Value, Error>
     ensures { (ds : List Content) (t : Tree) → count ≡ length ds →
-        vec_len stack.old + count ≤ vec_capacity stack.old → tree_of value ≡ described_in ds t →
+        vec_len stack.old + count ≤ vec_capacity stack.old →
+        tree_of value ≡ under_descriptors ds t →
         MatchResult result
         (λ v. (tree_of v ≡ t)
         × (descriptors_of stack.new.items ≡ descriptors_of stack.old.items ++ ds))

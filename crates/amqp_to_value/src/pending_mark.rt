@@ -33,7 +33,8 @@ impl PendingMark {
         }
     }
 
-    /// The same with a descriptor, inside: no marker is satisfied by a described value, and it is no descriptor.
+    /// The same with a descriptor, inside: no marker is satisfied by a described value, and it is
+    /// no descriptor.
     #[inline(always)]
     pub fn with_descriptor(self) -> PendingMark
         ensures { (d : Descriptor) (t : Option Tree) →

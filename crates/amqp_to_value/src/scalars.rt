@@ -50,7 +50,8 @@ pub fn fixed_value(fixed: Fixed) -> Value
 /// `InvalidValue` where the marker does not take it.
 ///
 /// # Example
-/// Of the long 13 under `Mark::Timestamp`: `Value::Timestamp` of 13 milliseconds. Of `true`: `InvalidValue`.
+/// Of the long 13 under `Mark::Timestamp`: `Value::Timestamp` of 13 milliseconds. Of `true`:
+/// `InvalidValue`.
 #[inline(always)]
 pub fn marked_fixed(pending: PendingMark, fixed: Fixed) -> Result<Value, Error>
     ensures { IsOpenedImage (meant pending (Some (scalar (fixed_scalar fixed)))) result }
@@ -68,7 +69,8 @@ pub fn marked_fixed(pending: PendingMark, fixed: Fixed) -> Result<Value, Error>
 /// The value of a text under a marker.
 ///
 /// # Errors
-/// `InvalidValue` where the marker does not take it, `OutOfMemory` where memory for the copy is refused.
+/// `InvalidValue` where the marker does not take it, `OutOfMemory` where memory for the copy is
+/// refused.
 ///
 /// # Example
 /// Of `a` under `Mark::Symbol`: `Value::Symbol` of it; under `Mark::Other`: `Value::String`.
@@ -86,8 +88,8 @@ pub fn marked_text(alloc: Global, pending: PendingMark, text: &str) -> Result<Va
 /// The value of a binary under a marker.
 ///
 /// # Errors
-/// `InvalidValue` where the marker does not take it, or takes another length, and under `Mark::Lazy`; `OutOfMemory`
-/// where memory for the copy is refused.
+/// `InvalidValue` where the marker does not take it, or takes another length, and under
+/// `Mark::Lazy`; `OutOfMemory` where memory for the copy is refused.
 ///
 /// # Example
 /// Of 4 bytes under `Mark::Decimal32`: `Value::Decimal32` of them. Of 5: `InvalidValue`.

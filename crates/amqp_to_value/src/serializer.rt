@@ -23,11 +23,12 @@ use std::mem;
 
 /// Makes untyped values; it is fresh after each call, refused ones too.
 ///
-/// A binary under the marker `LAZY_VALUE` is the value that its bytes spell, which are one encoded value.
+/// A binary under the marker `LAZY_VALUE` is the value that its bytes spell, which are one encoded
+/// value.
 ///
 /// # Memory
-/// Between calls it keeps nothing, but for the descriptors of one refused value: they are let go when the next compound
-/// is opened, or with the serializer.
+/// Between calls it keeps nothing, but for the descriptors of one refused value: they are let go
+/// when the next compound is opened, or with the serializer.
 #[derive(Drop)]
 pub struct Serializer {
     alloc: Global,

@@ -1,4 +1,5 @@
-//! The tests of `amqp_to_value`. They stand beside it, since a crate with tests is proved once more for them.
+//! The tests of `amqp_to_value`. They stand beside it, since a crate with tests is proved once more
+//! for them.
 #![tactic(auto)]
 
 #[cfg(test)]

@@ -1,4 +1,5 @@
-//! What no clause says: that calls succeed, which values they give, and that running out of memory changes no answer.
+//! What no clause says: that calls succeed, which values they give, and that running out of memory
+//! changes no answer.
 
 mod again;
 mod feeding;

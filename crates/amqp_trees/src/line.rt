@@ -15,8 +15,8 @@ use std::alloc::Global;
 
 /// The tree's text, its size, its bytes, the length of the first encoded value in them, what
 /// `to_lazy_value` holds and `decode_value` answers, its image's text and bytes, and what
-/// `from_value` makes of that. A sign of equality stands for what equals the bytes or the image, and
-/// the text of a refusal in angle brackets for that.
+/// `from_value` makes of that. A sign of equality stands for what equals the bytes or the image,
+/// and the text of a refusal in angle brackets for that.
 pub fn line(alloc: Global, grown: &Grown) -> Result<String, Error> {
     let mut line = String::new(alloc);
     line.push_str(&grown.text)?;

@@ -77,8 +77,8 @@ module _ {K X : Type 0} (key_gives : Value → Result K Value → Type 0) (value
     MapGives v r = MatchOption (map_in v) (r ≡ Err (Unfit v)) (λ map. PairsGive (entries_of map) r)
 
 -- the pairs inserted in turn: a present key keeps its place and takes the value, and a new key goes last
-abbrev pub inserted : {K X : Type 0} → (K → K → Bool) → List (K × X) → List (K × X)
-inserted eq es = fold (λ done e. insert_pair eq done e.0 e.1) [] es
+abbrev pub inserted_in_order : {K X : Type 0} → (K → K → Bool) → List (K × X) → List (K × X)
+inserted_in_order eq es = fold (λ done e. insert_pair eq done e.0 e.1) [] es
 
 -- the same in a sorted map, where each key has its place
 abbrev pub inserted_sorted : {K X : Type 0} → (K → K → Ordering) → List (K × X) → List (K × X)
@@ -91,4 +91,4 @@ PairConverts key_converts value_converts e p = key_converts e.0 p.0 × value_con
 -- the map has the pairs that these turn into, inserted in turn
 abbrev pub IsMapOf : {K X : Type 0} → (Value → Value → Bool) → (K → Value → Type 0) → (X → Value → Type 0) → List (K × X) → OrderedMap Value Value → Type 0
 IsMapOf eq key_converts value_converts es map =
-    (ps : List (Value × Value)) × AllZip (PairConverts key_converts value_converts) es ps × (entries_of map ≡ inserted eq ps)
+    (ps : List (Value × Value)) × AllZip (PairConverts key_converts value_converts) es ps × (entries_of map ≡ inserted_in_order eq ps)

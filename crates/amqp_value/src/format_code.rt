@@ -8,8 +8,9 @@ use crate::Value;
 use amqp_data::EncodingCodes;
 
 impl Value {
-    /// The code of the value's kind: the constructor that it has as an array's element, which is the widest one of
-    /// its kind. A described value has none there, and its code is the `00` that it begins with.
+    /// The code of the value's kind: the constructor that it has as an array's element, which is
+    /// the widest one of its kind. A described value has none there, and its code is the `00` that
+    /// it begins with.
     ///
     /// # Example
     /// Of a `Bool`: `56`. Of a `List`: `d0`. Of a `Described`: `00`.

@@ -1,5 +1,5 @@
-//! Laws of trees, of equality and order, of conversions and of images. Each function does nothing: its contract is
-//! the law.
+//! Laws of trees, of equality and order, of conversions and of images. Each function does nothing:
+//! its contract is the law.
 
 ghost use Rattle.std.specs.Prelude.{◌≡◌, [], ℕ, ℤ, Bool, Box, List, Some, String, Vec, true};
 ghost use Rattle.std.specs.Global.{Global};
@@ -121,8 +121,8 @@ pub fn image_of_a_plain_tree()
     ensures { (t : Tree) → IsPlain t → image t ≡ read_as_map t }
 {}
 
-/// A variant is written as its map: the bytes, the constructor, and each cause for which a tree is refused are those
-/// of the tree whose variants are read as maps.
+/// A variant is written as its map: the bytes, the constructor, and each cause for which a tree is
+/// refused are those of the tree whose variants are read as maps.
 ///
 /// # Memory
 /// Takes none.
@@ -147,7 +147,8 @@ pub fn image_is_written_as_the_same_bytes()
     ensures places { (t : Tree) → IsPlain t → placed (image t) ≡ placed t }
 {}
 
-/// A sound value is its own image: its maps have distinct keys, at every depth. It is also plain, and no other value is.
+/// A sound value is its own image: its maps have distinct keys, at every depth. It is also plain,
+/// and no other value is.
 ///
 /// # Memory
 /// Takes none.
@@ -179,7 +180,8 @@ pub fn sound_parts_make_a_sound_value()
     ensures array { (a : Array Value) → AreSound (array_items a) → IsSound (Value.Array a) }
 {}
 
-/// Entries of sound keys and values stay sound as one more is inserted, and are sound where their keys are distinct.
+/// Entries of sound keys and values stay sound as one more is inserted, and are sound where their
+/// keys are distinct.
 ///
 /// # Memory
 /// Takes none.

@@ -1,7 +1,8 @@
 //! The untyped value of AMQP data.
 //!
-//! A `Value` stands for the data tree of its contents, and its text is for logs and diagnostics. Equality, order and
-//! hash go by contents. `laws` says how the image of a tree, which a value serializer answers with, is written.
+//! A `Value` stands for the data tree of its contents, and its text is for logs and diagnostics.
+//! Equality, order and hash go by contents. `laws` says how the image of a tree, which a value
+//! serializer answers with, is written.
 #![tactic(auto)]
 
 mod escape;

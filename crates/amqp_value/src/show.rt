@@ -12,12 +12,13 @@ use amqp_data::{Descriptor, write_hexadecimal};
 use std::fmt;
 use std::fmt::{Display, Formatter, Write};
 
-/// Numbers stand in decimal; binaries, decimals and the bits of floats as `0x[..]`, two digits a byte; symbols behind a
-/// colon. Strings stand in `"` and characters in `'`, with escapes. Lists and arrays stand in brackets, maps in braces,
-/// and a described value behind its name or code.
+/// Numbers stand in decimal; binaries, decimals and the bits of floats as `0x[..]`, two digits a
+/// byte; symbols behind a colon. Strings stand in `"` and characters in `'`, with escapes. Lists
+/// and arrays stand in brackets, maps in braces, and a described value behind its name or code.
 ///
 /// # Example
-/// The list of the string `a`, the symbol `k` and the code 131 before null is `["a", :k, 0x83 -> null]`.
+/// The list of the string `a`, the symbol `k` and the code 131 before null is `["a", :k, 0x83 ->
+/// null]`.
 impl Display for Value {
     ghost output = { λ v. Some (text_of (tree_of v)) };
 

@@ -1,6 +1,7 @@
 //! Types out of the values that stand for them.
 //!
-//! A scalar is handed out, or the value comes back as it was. A container converts its parts one by one.
+//! A scalar is handed out, or the value comes back as it was. A container converts its parts one by
+//! one.
 
 ghost use Rattle.std.specs.Prelude.{◌≡◌};
 ghost use Rattle.amqp_value.specs.declared.try_from.ConvertFault.TheVariants.{Memory};
@@ -19,8 +20,8 @@ use std::alloc::{AllocError, AllocFailed};
 /// As a `Vec<u8>`, the ubyte 1: `Unfit(Ubyte(1))`. The list of the ubyte 1 and null: `Unfit(Null)`.
 #[derive(Debug, PartialEq, Eq, Drop)]
 pub enum ConvertFault {
-    /// The value, where it is of another kind than the container's; else the first part that does not fit, in order,
-    /// a key before its value. What stood around the part is dropped.
+    /// The value, where it is of another kind than the container's; else the first part that does
+    /// not fit, in order, a key before its value. What stood around the part is dropped.
     Unfit(Value),
     /// A growth of memory was refused, once the first part fitted. The whole value is dropped.
     Memory,

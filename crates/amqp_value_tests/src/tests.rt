@@ -1,4 +1,5 @@
-//! What no clause says: the texts of worked values, the sequence of the variants, and each call once.
+//! What no clause says: the texts of worked values, the sequence of the variants, and each call
+//! once.
 
 mod conversions;
 mod order;

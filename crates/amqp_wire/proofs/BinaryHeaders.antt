@@ -11,7 +11,7 @@ use Rattle.amqp_size.specs.WholePosition.{Position}
 use Rattle.amqp_size.specs.WholePending.{Pending}
 use Rattle.amqp_size.specs.WholePending as pending
 use Rattle.amqp_size.specs.declared.scalar_mark.ScalarMark.TheVariants as scalar_mark
-use Rattle.amqp_size.specs.declared.refusal.Refusal.{Refusal}
+use Rattle.amqp_size.specs.declared.walk_error.WalkError.{WalkError}
 use Rattle.amqp_wire.specs.Dense.{dense}
 use Rattle.amqp_wire.specs.Measurer.{listed, measurer_permits}
 use Rattle.amqp_wire.specs.TreeHeaders.{headers_of}
@@ -44,7 +44,7 @@ listed_binary (pending.Scalar scalar_mark.Lazy q) bs hs p n after h =
     listed_if (is_frame bs) (lazy bs) hs p n after refl (λ e. le_true 1 (length bs) (some_byte_passes bs e)) h
 listed_binary (pending.Nothing q) bs hs p n after h = absurd h
 
-pub counted_binary : (s after : Measurer) (bs : List ℕ) (r : Result ℕ Refusal)
+pub counted_binary : (s after : Measurer) (bs : List ℕ) (r : Result ℕ WalkError)
     → after.table.headers.items ≡ s.table.headers.items → size_permits s.size (Some (scalar (binary bs))) r after.size
     → measurer_permits s (Some (scalar (binary bs))) r after
 counted_binary s after bs (Ok n) same h =

@@ -1,8 +1,8 @@
 -- The bytes of a described value: its code and its descriptor before it.
 use Rattle.std.proofs.Common.{◌≡◌, ◌+◌, ◌≤◌, [], ◌∷◌, ◌++◌, Option, Some, None, true, false, ◌&&◌, Result, Ok, Err, is_some, length, refl, ap, sym, ◌∙◌, subst, arith, append_assoc, length-append, drop}
 use Rattle.std.specs.Vec.{vec_capacity}
-use Rattle.amqp_size.specs.declared.refusal.Refusal.{Refusal}
-use Rattle.amqp_size.specs.declared.refusal.Refusal.TheVariants as error
+use Rattle.amqp_size.specs.declared.walk_error.WalkError.{WalkError}
+use Rattle.amqp_size.specs.declared.walk_error.WalkError.TheVariants as error
 use Rattle.amqp_ser.specs.Tree.{Tree, Descriptor, scalar, list, array, map, described, variant, lazy, transparent}
 use Rattle.amqp_ser.specs.Limits.{is_length}
 use Rattle.amqp_ser.specs.Encoding.{encoding, descriptor_form}
@@ -25,7 +25,7 @@ use Rattle.amqp_wire.specs.Positions.{after_descriptor}
 use Rattle.amqp_wire.specs.Writer.{Kept, FitsOutput, Written, takes, wrote, writes_tree, accepts, writer_permits, writer_has, WrittenSingle, stands_at, AwaitsDescriptor}
 use Rattle.amqp_wire.specs.declared.output.Output.{Output}
 use Rattle.amqp_wire.specs.declared.writer.Writer.{Writer}
-use Rattle.amqp_wire.specs.declared.writing.Writing.{Writing}
+use Rattle.amqp_wire.specs.declared.writer_compound.WriterCompound.{WriterCompound}
 use Rattle.amqp_wire.proofs.SingleWritten.{alone_open}
 use Rattle.amqp_wire.proofs.DescribedTable.{descriptor_entries}
 use Rattle.amqp_wire.proofs.CountWithinBytes.{no_false}
@@ -120,7 +120,7 @@ described_writes (pending.Scalar m p) w start mid after x o e k f h = nothing_wr
 described_writes (pending.Nothing p) w start mid after x o e k f h = tt
 
 described_permits : (start mid : Writer) (x : Descriptor) → after_descriptor start.pending ≡ Some mid.pending → Kept start.output mid.output → stands_headed (position_of start.pending) start.output mid.output x →
-    (o : Option Tree) (r : Result (Unit {0}) Refusal) (after : Writer) → writer_permits mid o r after → writer_permits start (as_described (Some x) o) r after
+    (o : Option Tree) (r : Result (Unit {0}) WalkError) (after : Writer) → writer_permits mid o r after → writer_permits start (as_described (Some x) o) r after
 described_permits start mid x e k f o (Ok u) after p =
     (kept-more start.output mid.output after.output k p.0, (described_accepts start.pending mid.pending x e o (Ok u) after.pending p.1.0, described_writes start.pending mid.pending start.output mid.output after.output x o e k f p.1.1))
 described_permits start mid x e k f o (Err v) after p =
@@ -158,9 +158,9 @@ one_taken (Some t) after None q h = absurd (no_false (sym (ap is_some q) ∙ h.s
 one_taken (Some t) after (Some x) q h = (x, (refl, (t, refl)))
 
 -- the value to come is described
-pub value_described : (start before now : Writer) (held new : Writing) (d : Option Tree) (part : Result (Unit {0}) Refusal) → AwaitsDescriptor start before held → writer_permits before d part now → part ≡ Ok tt →
+pub value_described : (start before now : Writer) (held new : WriterCompound) (d : Option Tree) (part : Result (Unit {0}) WalkError) → AwaitsDescriptor start before held → writer_permits before d part now → part ≡ Ok tt →
     after_descriptor held.inner ≡ Some new.inner → new.position ≡ held.position → new.shape ≡ held.shape →
-    (mid : Writer) × (writer_has mid kinds.Single (record { pending = pending.Plain (without_prefix held.position); output = now.output }) new [] × ((t : Option Tree) (r : Result (Unit {0}) Refusal) (after : Writer) → writer_permits mid t r after → writer_permits start (as_described (descriptor_of d) t) r after))
+    (mid : Writer) × (writer_has mid kinds.Single (record { pending = pending.Plain (without_prefix held.position); output = now.output }) new [] × ((t : Option Tree) (r : Result (Unit {0}) WalkError) (after : Writer) → writer_permits mid t r after → writer_permits start (as_described (descriptor_of d) t) r after))
 value_described start before now held new d part w p e to same is =
     let mid : Writer = record { pending = new.inner; output = now.output } in
     let there : after_descriptor start.pending ≡ Some new.inner = ap after_descriptor (sym w.inner) ∙ to in
@@ -182,21 +182,21 @@ value_described start before now held new d part w p e to same is =
     )
 
 -- a refused descriptor: the refusal is one of the described value
-refused_pending : (start before : Writer) (held : Writing) (d : Option Tree) (e : Refusal) (after : Pending) → AwaitsDescriptor start before held → at_position position.Descriptor d (Err e) after → (o : Option Descriptor) → descriptor_of d ≡ o → (t : Option Tree) →
+refused_pending : (start before : Writer) (held : WriterCompound) (d : Option Tree) (e : WalkError) (after : Pending) → AwaitsDescriptor start before held → at_position position.Descriptor d (Err e) after → (o : Option Descriptor) → descriptor_of d ≡ o → (t : Option Tree) →
     at_position (position_of start.pending) (meant start.pending (as_described o t)) (Err e) (pending.Plain (without_prefix (position_of start.pending)))
 refused_pending start before held d e after w h None q t =
     subst (λ x. at_position (position_of start.pending) x (Err e) (pending.Plain (without_prefix (position_of start.pending)))) (sym (meant_none start.pending)) ((refusal position.Descriptor d e after h).0, refl)
 refused_pending start before held None e after w h (Some y) q t = absurd (no_some y q)
 refused_pending start before held (Some x) e after w h (Some y) q t = descriptor_refused start.pending y x e q h.0 t
 
-pub described_refused : (start before : Writer) (cut : Output) (held : Writing) (d : Option Tree) (part : Result (Unit {0}) Refusal) (e : Refusal) (after : Pending) → AwaitsDescriptor start before held → part ≡ Err e → accepts (position_of before.pending) (meant before.pending d) part after → Kept start.output cut →
+pub described_refused : (start before : Writer) (cut : Output) (held : WriterCompound) (d : Option Tree) (part : Result (Unit {0}) WalkError) (e : WalkError) (after : Pending) → AwaitsDescriptor start before held → part ≡ Err e → accepts (position_of before.pending) (meant before.pending d) part after → Kept start.output cut →
     (t : Option Tree) → writer_permits start (as_described (descriptor_of d) t) (Err e) (record { pending = pending.Plain (without_prefix held.position); output = cut })
 described_refused start before cut held d part e after w is h k t =
     let here = subst (λ u. at_position (position_of u) (meant u d) (Err e) after) w.at (subst (λ r. accepts (position_of before.pending) (meant before.pending d) r after) is h) in
     (k, (subst (λ q. at_position (position_of start.pending) (meant start.pending (as_described (descriptor_of d) t)) (Err e) (pending.Plain q)) (sym w.position) (refused_pending start before held d e after w here (descriptor_of d) refl t), tt))
 
 -- a described value is no descriptor
-pub nested_refused : (start before : Writer) (cut : Output) (held : Writing) (d : Option Tree) (part : Result (Unit {0}) Refusal) (after : Pending) (e : Refusal) → AwaitsDescriptor start before held → part ≡ Ok tt → accepts (position_of before.pending) (meant before.pending d) part after → held.inner ≡ pending.Plain position.Descriptor → e ≡ error.InvalidValue → Kept start.output cut →
+pub nested_refused : (start before : Writer) (cut : Output) (held : WriterCompound) (d : Option Tree) (part : Result (Unit {0}) WalkError) (after : Pending) (e : WalkError) → AwaitsDescriptor start before held → part ≡ Ok tt → accepts (position_of before.pending) (meant before.pending d) part after → held.inner ≡ pending.Plain position.Descriptor → e ≡ error.InvalidValue → Kept start.output cut →
     (t : Option Tree) → writer_permits start (as_described (descriptor_of d) t) (Err e) (record { pending = pending.Plain (without_prefix held.position); output = cut })
 nested_refused start before cut held d part after e w is h at q k t =
     let here = subst (λ u. takes (position_of u) (meant u d) after) w.at (subst (λ r. accepts (position_of before.pending) (meant before.pending d) r after) is h) in
@@ -212,7 +212,7 @@ nested_refused start before cut held d part after e w is h at q k t =
     )
 
 -- a compound with no part yet is ready for a descriptor
-pub ready : (start s : Writer) (held new : Writing) → WrittenSingle start s.output held [] → new.position ≡ held.position → new.inner ≡ held.inner → new.shape ≡ held.shape → stands_at new s.output → (after : Writer) → Kept s.output after.output → after.pending ≡ pending.Plain position.Descriptor →
+pub ready : (start s : Writer) (held new : WriterCompound) → WrittenSingle start s.output held [] → new.position ≡ held.position → new.inner ≡ held.inner → new.shape ≡ held.shape → stands_at new s.output → (after : Writer) → Kept s.output after.output → after.pending ≡ pending.Plain position.Descriptor →
     (length s.output.out.items + 1 ≤ vec_capacity s.output.out → (after.output.out.items ≡ s.output.out.items ++ (0x00 ∷ [])) × (after.output.taken ≡ s.output.taken)) → AwaitsDescriptor start after new
 ready start s held new h same inner is at after k d f =
     let n = h.none refl in

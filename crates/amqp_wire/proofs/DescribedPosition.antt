@@ -1,7 +1,7 @@
 -- Where the value after a descriptor stands: what is answered there is an answer on the described value.
 use Rattle.std.proofs.Common.{◌≡◌, ℕ, ◌+◌, ◌<◌, inl, inr, Option, Some, None, true, false, ◌&&◌, Result, Ok, Err, length, is_some, refl, ap, sym, ◌∙◌, subst, arith}
-use Rattle.amqp_size.specs.declared.refusal.Refusal.{Refusal}
-use Rattle.amqp_size.specs.declared.refusal.Refusal.TheVariants as error
+use Rattle.amqp_size.specs.declared.walk_error.WalkError.{WalkError}
+use Rattle.amqp_size.specs.declared.walk_error.WalkError.TheVariants as error
 use Rattle.amqp_ser.specs.Tree.{Tree, Descriptor, described}
 use Rattle.amqp_ser.specs.Composites.{as_described, descriptor_of}
 use Rattle.amqp_ser.specs.Encoding.{encoding, descriptor_form}
@@ -90,19 +90,19 @@ behind_without_prefix (pending.Transparent p) w e = ap (λ v. without_prefix (po
 behind_without_prefix (pending.Scalar m p) w e = ap (λ v. without_prefix (position_of v)) (sym (some_pending _ w e))
 behind_without_prefix (pending.Nothing p) w e = ap (λ v. without_prefix (position_of v)) (sym (some_pending _ w e))
 
-value_refused : (p q : Position) (x : Descriptor) (t : Tree) (e : Refusal) → Behind p q → refused q t e → refused p (described x t) e
+value_refused : (p q : Position) (x : Descriptor) (t : Tree) (e : WalkError) → Behind p q → refused q t e → refused p (described x t) e
 value_refused p q x t error.TooLong b h = b.long x t h
 value_refused p q x t error.InvalidValue b h = ap (λ s. uniform_arrays t && s) (sym (b.suits_is x t)) ∙ h
 value_refused p q x t e b h = absurd h
 
-value_accepts : (p q : Position) (x : Descriptor) (t : Option Tree) (r : Result (Unit {0}) Refusal) (after : Pending) → Behind p q → accepts q t r after → accepts p (as_described (Some x) t) r after
+value_accepts : (p q : Position) (x : Descriptor) (t : Option Tree) (r : Result (Unit {0}) WalkError) (after : Pending) → Behind p q → accepts q t r after → accepts p (as_described (Some x) t) r after
 value_accepts p q x None (Ok u) after b h = h
 value_accepts p q x (Some t) (Ok u) after b h = record { uniform_arrays_it = h.uniform_arrays_it; suited = sym (b.suits_is x t) ∙ h.suited; position = h.position ∙ ap pending.Plain (b.next_is x t) }
 value_accepts p q x None (Err e) after b h = (h.0, h.1 ∙ ap pending.Plain b.without_prefix_is)
 value_accepts p q x (Some t) (Err e) after b h = (value_refused p q x t e b h.0, h.1 ∙ ap pending.Plain b.without_prefix_is)
 
 -- what is answered on a value is an answer on the described one, whatever is written
-pub described_accepts : (u w : Pending) (x : Descriptor) → after_descriptor u ≡ Some w → (t : Option Tree) (r : Result (Unit {0}) Refusal) (after : Pending) → accepts (position_of w) (meant w t) r after → accepts (position_of u) (meant u (as_described (Some x) t)) r after
+pub described_accepts : (u w : Pending) (x : Descriptor) → after_descriptor u ≡ Some w → (t : Option Tree) (r : Result (Unit {0}) WalkError) (after : Pending) → accepts (position_of w) (meant w t) r after → accepts (position_of u) (meant u (as_described (Some x) t)) r after
 described_accepts (pending.Plain p) w x e t r after h =
     let q = plain_behind p w e in
     value_accepts p q.0 x t r after (behind p q.0 q.1.0) (subst (λ v. accepts (position_of v) (meant v t) r after) (sym q.1.1) h)
@@ -115,7 +115,7 @@ described_accepts (pending.Scalar m p) w x e t r after h =
 described_accepts (pending.Nothing p) w x e t r after h = subst (λ v. accepts (position_of v) (meant v t) r after) (sym (some_pending (pending.Nothing p) w e)) h
 
 -- a described value with a refused descriptor
-refused_behind : (p : Position) (y : Descriptor) (d v : Tree) (e : Refusal) → descriptor_of (Some d) ≡ Some y → refused position.Descriptor d e → refused p (described y v) e
+refused_behind : (p : Position) (y : Descriptor) (d v : Tree) (e : WalkError) → descriptor_of (Some d) ≡ Some y → refused position.Descriptor d e → refused p (described y v) e
 refused_behind p y d v error.TooLong q h =
     long_at p (described y v) (right_false (is_length (length (encoding (described y v)))) (descriptor_fits y && within_limits v) (left_false (descriptor_fits y) (within_limits v) (sym (of_tree d y q).0 ∙ h)))
 refused_behind p y d v error.InvalidValue q h =
@@ -123,14 +123,14 @@ refused_behind p y d v error.InvalidValue q h =
     absurd (no_false (sym h ∙ is))
 refused_behind p y d v e q h = absurd h
 
-plain_refused : (p : Position) (y : Descriptor) (d : Tree) (e : Refusal) → descriptor_of (Some d) ≡ Some y → refused position.Descriptor d e → (t : Option Tree) → at_position p (as_described (Some y) t) (Err e) (pending.Plain (without_prefix p))
+plain_refused : (p : Position) (y : Descriptor) (d : Tree) (e : WalkError) → descriptor_of (Some d) ≡ Some y → refused position.Descriptor d e → (t : Option Tree) → at_position p (as_described (Some y) t) (Err e) (pending.Plain (without_prefix p))
 plain_refused p y d e q h None = (refused-none position.Descriptor d e h, refl)
 plain_refused p y d e q h (Some v) = (refused_behind p y d v e q h, refl)
 
-none_refused : (p : Position) (o : Option Tree) (e : Refusal) → o ≡ None → refuses_none e → at_position p o (Err e) (pending.Plain (without_prefix p))
+none_refused : (p : Position) (o : Option Tree) (e : WalkError) → o ≡ None → refuses_none e → at_position p o (Err e) (pending.Plain (without_prefix p))
 none_refused p o e q r = subst (λ x. at_position p x (Err e) (pending.Plain (without_prefix p))) (sym q) (r, refl)
 
-pub descriptor_refused : (u : Pending) (y : Descriptor) (d : Tree) (e : Refusal) → descriptor_of (Some d) ≡ Some y → refused position.Descriptor d e → (t : Option Tree) → at_position (position_of u) (meant u (as_described (Some y) t)) (Err e) (pending.Plain (without_prefix (position_of u)))
+pub descriptor_refused : (u : Pending) (y : Descriptor) (d : Tree) (e : WalkError) → descriptor_of (Some d) ≡ Some y → refused position.Descriptor d e → (t : Option Tree) → at_position (position_of u) (meant u (as_described (Some y) t)) (Err e) (pending.Plain (without_prefix (position_of u)))
 descriptor_refused (pending.Plain p) y d e q h t = plain_refused p y d e q h t
 descriptor_refused (pending.Array p) y d e q h t = none_refused p _ e (no_array_described y t) (refused-none position.Descriptor d e h)
 descriptor_refused (pending.Transparent p) y d e q h t = none_refused p _ e (no_transparent_described y t) (refused-none position.Descriptor d e h)

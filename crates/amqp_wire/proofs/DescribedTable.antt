@@ -1,8 +1,8 @@
 -- A descriptor takes no slot in the table, and neither does the described value itself.
 use Rattle.std.proofs.Common.{◌≡◌, ℕ, ◌+◌, inl, inr, List, [], ◌++◌, Option, Some, None, true, Result, Ok, Err, is_some, refl, ap, sym, ◌∙◌, subst, append-nil}
 use Rattle.std.specs.Prelude.{IfErr, IfOk}
-use Rattle.amqp_size.specs.declared.refusal.Refusal.{Refusal}
-use Rattle.amqp_size.specs.declared.refusal.Refusal.TheVariants.{OutOfMemory}
+use Rattle.amqp_size.specs.declared.walk_error.WalkError.{WalkError}
+use Rattle.amqp_size.specs.declared.walk_error.WalkError.TheVariants.{OutOfMemory}
 use Rattle.amqp_ser.specs.Tree.{Tree, Descriptor, scalar, list, array, map, described, variant, lazy, transparent}
 use Rattle.amqp_ser.specs.Composites.{as_described, descriptor_of}
 use Rattle.amqp_ser.specs.declared.kind.Kind.TheVariants as kinds
@@ -71,11 +71,11 @@ described_listed (pending.Scalar m p) v n x t l after b a e k h = absurd (none_l
 described_listed (pending.Nothing p) v n x t l after b a e k h = absurd (none_listed v p t b a e h)
 
 -- the value to come is described
-pub described_value : (start before self after : Measurer) (held new : Measuring) (d : Option Tree) (part : Result ℕ Refusal) (res : Result (Unit {0}) Refusal) (u : Unit {0}) (X : Refusal → Type 0) →
+pub described_value : (start before self after : Measurer) (held new : Measuring) (d : Option Tree) (part : Result ℕ WalkError) (res : Result (Unit {0}) WalkError) (u : Unit {0}) (X : WalkError → Type 0) →
     HoldsSingle start.size kinds.Single held.size [] → before.size.pending ≡ pending.Plain position.Descriptor → before.table.headers.items ≡ start.table.headers.items → counts_tree before d part self → after.table ≡ self.table →
     IfErr part (λ e. (res ≡ Err e) × X e) → res ≡ Ok u → IfOk part (λ n. described_pending held.size.inner n ≡ Some new.size.inner) →
-    (size_permits before.size d part self.size → (mid : SizeSerializer) × (size_has mid kinds.Single after.size new.size [] × ((t : Option Tree) (r : Result ℕ Refusal) (a : SizeSerializer) → size_permits mid t r a → size_permits start.size (as_described (descriptor_of d) t) r a))) →
-    (mid : Measurer) × (measurer_has mid kinds.Single after new [] × ((t : Option Tree) (r : Result ℕ Refusal) (a : Measurer) → measurer_permits mid t r a → measurer_permits start (as_described (descriptor_of d) t) r a))
+    (size_permits before.size d part self.size → (mid : SizeSerializer) × (size_has mid kinds.Single after.size new.size [] × ((t : Option Tree) (r : Result ℕ WalkError) (a : SizeSerializer) → size_permits mid t r a → size_permits start.size (as_described (descriptor_of d) t) r a))) →
+    (mid : Measurer) × (measurer_has mid kinds.Single after new [] × ((t : Option Tree) (r : Result ℕ WalkError) (a : Measurer) → measurer_permits mid t r a → measurer_permits start (as_described (descriptor_of d) t) r a))
 described_value start before self after held new d (Err e) res u X h at same l table k q m f = let no : Err e ≡ Ok u = sym k.0 ∙ q in cc
 described_value start before self after held new d (Ok n) res u X h at same l table k q m f =
     let c = counted_alone d n self.size.pending before.table.headers.items self.table.headers.items
@@ -88,8 +88,8 @@ described_value start before self after held new d (Ok n) res u X h at same l ta
     (mid, ((s.1.0, lone_open mid after.table.headers.items (ap (λ v. v.headers.items) table)), λ t r a p. lift c.0.0 c.0.1 s.0 e table_is t (s.1.1 t) r a p))
   where
     lift : (x : Descriptor) → descriptor_of d ≡ Some x → (mid : SizeSerializer) → described_pending start.size.pending n ≡ Some mid.pending → self.table.headers.items ≡ start.table.headers.items →
-        (t : Option Tree) → ((r : Result ℕ Refusal) (a : SizeSerializer) → size_permits mid t r a → size_permits start.size (as_described (descriptor_of d) t) r a) →
-        (r : Result ℕ Refusal) (a : Measurer) → measurer_permits (record { size = mid; table = self.table }) t r a → measurer_permits start (as_described (descriptor_of d) t) r a
+        (t : Option Tree) → ((r : Result ℕ WalkError) (a : SizeSerializer) → size_permits mid t r a → size_permits start.size (as_described (descriptor_of d) t) r a) →
+        (r : Result ℕ WalkError) (a : Measurer) → measurer_permits (record { size = mid; table = self.table }) t r a → measurer_permits start (as_described (descriptor_of d) t) r a
     lift x o mid e b t g (Ok v) a p =
         let there = subst (λ y. listed (meant mid.pending t) y a.table.headers.items) b p.1.1 in (
           subst (λ y. Extends y a.table.headers.items) b p.0,
@@ -104,7 +104,7 @@ described_value start before self after held new d (Ok n) res u X h at same l ta
     )
 
 -- the refusal of a descriptor is one of the described value
-pub refusal_of_descriptor : (start before self after : Measurer) (held new : OpenCompound) (d : Option Tree) (part : Result ℕ Refusal) (res : Result (Unit {0}) Refusal) (e : Refusal) →
+pub refusal_of_descriptor : (start before self after : Measurer) (held new : OpenCompound) (d : Option Tree) (part : Result ℕ WalkError) (res : Result (Unit {0}) WalkError) (e : WalkError) →
     HoldsSingle start.size kinds.Single held [] → counts_tree before d part self →
     (size_permits before.size d part self.size → size_has start.size kinds.Single after.size new [] × ((t : Option Tree) → size_permits start.size (as_described (descriptor_of d) t) (Err e) after.size)) →
     IfErr part (λ x. (res ≡ Err x) × ((new ≡ held) × (after.size.pending ≡ pending.Plain (without_prefix held.position)))) → res ≡ Err e →

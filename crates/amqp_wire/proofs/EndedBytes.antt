@@ -1,12 +1,12 @@
 -- The bytes of a compound that has ended.
 use Rattle.std.proofs.Common.{◌≡◌, ℕ, ◌+◌, List, [], ◌∷◌, ◌++◌, Option, Some, None, true, false, Result, Ok, Err, length, refl, ap, sym, ◌∙◌, subst, arith, length-append}
-use Rattle.amqp_size.specs.declared.refusal.Refusal.{Refusal}
+use Rattle.amqp_size.specs.declared.walk_error.WalkError.{WalkError}
 use Rattle.amqp_ser.specs.Tree.{Tree, Trees, list, array, map, variant, transparent, no_trees, more}
 use Rattle.amqp_ser.specs.Compounds.{all_trees, as_kind, as_map, as_variant, only, whole, complete}
 use Rattle.amqp_ser.specs.declared.kind.Kind.{Kind}
 use Rattle.amqp_ser.specs.declared.kind.Kind.TheVariants as kinds
 use Rattle.amqp_ser.proofs.Pairing.{pairing, paired-even}
-use Rattle.amqp_size.specs.declared.refusal.Refusal.TheVariants as refusal
+use Rattle.amqp_size.specs.declared.walk_error.WalkError.TheVariants as walk_error
 use Rattle.amqp_size.specs.SizeSerializer.{at_position}
 use Rattle.amqp_size.specs.Position.{position_of, meant, without_prefix, shape_of}
 use Rattle.amqp_size.specs.WholePosition.{Position}
@@ -20,7 +20,7 @@ use Rattle.amqp_wire.specs.Positions.{is_single}
 use Rattle.amqp_wire.specs.Writer.{Kept, FitsOutput, Written, takes, wrote, accepts, writer_permits, WrittenParts, PartsFitOutput}
 use Rattle.amqp_wire.specs.declared.output.Output.{Output}
 use Rattle.amqp_wire.specs.declared.writer.Writer.{Writer}
-use Rattle.amqp_wire.specs.declared.writing.Writing.{Writing}
+use Rattle.amqp_wire.specs.declared.writer_compound.WriterCompound.{WriterCompound}
 use Rattle.amqp_wire.proofs.CompoundBytes.{Spelled, spelled}
 use Rattle.amqp_wire.proofs.CompoundHeaders.{split}
 use Rattle.amqp_wire.proofs.Positions.{ended, whole_ended}
@@ -62,7 +62,7 @@ pub record Ended (start : Writer) (kind : Kind) (s : Output) (ps : List (Option 
   pub shaped : ended (shape_of start.pending kind) t
   pub written : FitsOutput (position_of start.pending) start.output t → Written (position_of start.pending) start.output t s
 
-pub all_written : (start : Writer) (kind : Kind) (s : Output) (held : Writing) (ps : List (Option Tree)) → is_single kind ≡ false → WrittenParts start kind s held ps → complete kind ps ≡ true → (held.shape ≡ shape.Refused → ⊥) → Ended start kind s ps
+pub all_written : (start : Writer) (kind : Kind) (s : Output) (held : WriterCompound) (ps : List (Option Tree)) → is_single kind ≡ false → WrittenParts start kind s held ps → complete kind ps ≡ true → (held.shape ≡ shape.Refused → ⊥) → Ended start kind s ps
 all_written start kind s held ps single h done opened =
     let p = position_of start.pending in
     let a = in_array p in
@@ -85,7 +85,7 @@ all_written start kind s held ps single h done opened =
     }
 
 -- an answer on that tree is one on the whole
-pub concluded : (start : Writer) (kind : Kind) (s : Output) (ps : List (Option Tree)) (p : Position) (t : Tree) (r : Result (Unit {0}) Refusal) (after : Writer) → Kept start.output s → after.output ≡ s → p ≡ position_of start.pending → meant start.pending (whole kind ps) ≡ Some t →
+pub concluded : (start : Writer) (kind : Kind) (s : Output) (ps : List (Option Tree)) (p : Position) (t : Tree) (r : Result (Unit {0}) WalkError) (after : Writer) → Kept start.output s → after.output ≡ s → p ≡ position_of start.pending → meant start.pending (whole kind ps) ≡ Some t →
     accepts p (Some t) r after.pending → (FitsOutput (position_of start.pending) start.output t → Written (position_of start.pending) start.output t s) → writer_permits start (whole kind ps) r after
 concluded start kind s ps p t (Ok u) after k same q is h w = (
   subst (Kept start.output) (sym same) k,
@@ -98,11 +98,11 @@ concluded start kind s ps p t (Err e) after k same q is h w =
     (subst (Kept start.output) (sym same) k, (subst (λ o. at_position (position_of start.pending) o (Err e) after.pending) (sym is) (subst (λ x. at_position x (Some t) (Err e) after.pending) q h), tt))
 
 -- a compound that its marker does not take
-pub not_opened : (start : Writer) (kind : Kind) (s : Output) (held : Writing) (ps : List (Option Tree)) → WrittenParts start kind s held ps → held.shape ≡ shape.Refused → writer_permits start (whole kind ps) (Err refusal.InvalidValue) (record { pending = pending.Plain (without_prefix held.position); output = s })
+pub not_opened : (start : Writer) (kind : Kind) (s : Output) (held : WriterCompound) (ps : List (Option Tree)) → WrittenParts start kind s held ps → held.shape ≡ shape.Refused → writer_permits start (whole kind ps) (Err walk_error.InvalidValue) (record { pending = pending.Plain (without_prefix held.position); output = s })
 not_opened start kind s held ps h r = (
   h.kept,
   (
-    stands_none start.pending (position_of start.pending) (whole kind ps) (Err refusal.InvalidValue) (pending.Plain (without_prefix held.position)) refl
+    stands_none start.pending (position_of start.pending) (whole kind ps) (Err walk_error.InvalidValue) (pending.Plain (without_prefix held.position)) refl
         (ap (meant start.pending) (whole_of kind ps h.ts h.trees) ∙ refused_shape start.pending kind (Some h.ts) (sym h.shape ∙ r)) (tt, ap (λ p. pending.Plain (without_prefix p)) h.position),
     tt,
   ),

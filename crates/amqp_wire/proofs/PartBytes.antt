@@ -1,7 +1,7 @@
 -- The bytes after each part.
 use Rattle.std.proofs.Common.{◌≡◌, ℕ, ◌+◌, ◌≤◌, List, [], ◌∷◌, ◌++◌, Option, Some, Bool, true, false, not, ◌&&◌, Ok, Err, length, refl, ap, sym, ◌∙◌, subst, arith, append_assoc, append-nil, length-append, drop, take}
 use Rattle.std.specs.Vec.{vec_capacity}
-use Rattle.amqp_size.specs.declared.refusal.Refusal.{Refusal}
+use Rattle.amqp_size.specs.declared.walk_error.WalkError.{WalkError}
 use Rattle.amqp_ser.specs.Tree.{Tree, Trees, no_trees, more}
 use Rattle.amqp_ser.specs.Writable.{within_limits, within_limits_each}
 use Rattle.amqp_ser.specs.Compounds.{all_trees, prepend, as_kind, whole, paired}
@@ -23,7 +23,7 @@ use Rattle.amqp_wire.specs.Positions.{part_position, part_at, is_single, inner_a
 use Rattle.amqp_wire.specs.Writer.{Kept, FitsOutput, Written, Taken, writer_permits, WrittenSoFar, WrittenParts, PartsFitOutput, opens}
 use Rattle.amqp_wire.specs.declared.output.Output.{Output}
 use Rattle.amqp_wire.specs.declared.writer.Writer.{Writer}
-use Rattle.amqp_wire.specs.declared.writing.Writing.{Writing}
+use Rattle.amqp_wire.specs.declared.writer_compound.WriterCompound.{WriterCompound}
 use Rattle.amqp_wire.proofs.ListPrefixes.{extends-more, take_prefix, drop_past, same_prefix}
 use Rattle.amqp_wire.proofs.CompoundBytes.{Spelled, spelled}
 use Rattle.amqp_wire.proofs.CompoundHeaders.{split, headers_of-join}
@@ -153,7 +153,7 @@ unfolding whole
 whole_of kind ps ts h = ap (as_kind kind) h
 
 -- the refusal of a part is one of the whole
-pub part_refused : (start : Writer) (kind : Kind) (s cut : Output) (held : Writing) (ps : List (Option Tree)) (p : Option Tree) (e : Refusal) (after : Pending) → is_single kind ≡ false → (h : WrittenParts start kind s held ps) → Kept start.output cut →
+pub part_refused : (start : Writer) (kind : Kind) (s cut : Output) (held : WriterCompound) (ps : List (Option Tree)) (p : Option Tree) (e : WalkError) (after : Pending) → is_single kind ≡ false → (h : WrittenParts start kind s held ps) → Kept start.output cut →
     at_position (part_at (shape_of start.pending kind) h.ts) p (Err e) after →
     (others : List (Option Tree)) → writer_permits start (whole kind (ps ++ (p ∷ others))) (Err e) (record { pending = pending.Plain (without_prefix held.position); output = cut })
 part_refused start kind s cut held ps p e after single h k r others = (
@@ -182,7 +182,7 @@ wrote_at : (kind : Shape) (s after : Output) (ts : Trees) (t : Tree) → Written
 wrote_at kind s after ts t w = record { out = w.out ∙ ap (λ a. s.out.items ++ bytes_at a t) (same_form kind ts t).1; taken = w.taken }
 
 -- one part more
-pub part_written : (start : Writer) (kind : Kind) (s after : Output) (held new : Writing) (ps : List (Option Tree)) (t : Tree) (h : WrittenParts start kind s held ps) → Kept s after → (left : Pending) → Taken (part_at (shape_of start.pending kind) h.ts) t left → new.inner ≡ inner_after held.shape held.inner left →
+pub part_written : (start : Writer) (kind : Kind) (s after : Output) (held new : WriterCompound) (ps : List (Option Tree)) (t : Tree) (h : WrittenParts start kind s held ps) → Kept s after → (left : Pending) → Taken (part_at (shape_of start.pending kind) h.ts) t left → new.inner ≡ inner_after held.shape held.inner left →
     (FitsOutput (part_at (shape_of start.pending kind) h.ts) s t → Written (part_at (shape_of start.pending kind) h.ts) s t after) →
     new.position ≡ held.position → new.shape ≡ held.shape → new.before_last.taken ≡ s.taken → new.before_last.len ≡ length s.out.items → WrittenParts start kind after new (ps ++ (Some t ∷ []))
 part_written start kind s after held new ps t h k left w inner f position shape taken len =
@@ -212,7 +212,7 @@ part_written start kind s after held new ps t h k left w inner f position shape 
     }
 
 -- the same compound over an output that went back to where it was
-pub part_back : (start : Writer) (kind : Kind) (s cut : Output) (held new : Writing) (ps : List (Option Tree)) → WrittenParts start kind s held ps → Kept s cut → cut.out.items ≡ s.out.items → cut.taken ≡ s.taken →
+pub part_back : (start : Writer) (kind : Kind) (s cut : Output) (held new : WriterCompound) (ps : List (Option Tree)) → WrittenParts start kind s held ps → Kept s cut → cut.out.items ≡ s.out.items → cut.taken ≡ s.taken →
     new.position ≡ held.position → new.shape ≡ held.shape → new.inner ≡ held.inner → new.before_last ≡ held.before_last → WrittenParts start kind cut new ps
 part_back start kind s cut held new ps h k out at position shape inner last =
     record {
@@ -260,7 +260,7 @@ even_prefix ps p h = odd ps true h
     odd (q ∷ qs) b h = ap not (odd qs (paired qs) refl) ∙ ap not h
 
 -- the last part is given back
-pub part_undone : (start : Writer) (s cut : Output) (held : Writing) (ps : List (Option Tree)) (p : Option Tree) → WrittenParts start kinds.Map s held (ps ++ (p ∷ [])) → paired ps ≡ true →
+pub part_undone : (start : Writer) (s cut : Output) (held : WriterCompound) (ps : List (Option Tree)) (p : Option Tree) → WrittenParts start kinds.Map s held (ps ++ (p ∷ [])) → paired ps ≡ true →
     cut.table ≡ s.table → vec_capacity cut.out ≡ vec_capacity s.out → cut.taken ≡ held.before_last.taken → cut.out.items ≡ take held.before_last.len s.out.items → WrittenParts start kinds.Map cut held ps
 part_undone start s cut held ps p h even table cap taken out =
     let b = h.back (even_prefix ps p even) ps p refl in
@@ -278,7 +278,7 @@ part_undone start s cut held ps p h even table cap taken out =
     }
 
 -- a compound that was opened
-pub now_open : (start : Writer) (kind : Kind) (s : Output) (held : Writing) → is_single kind ≡ false → Kept start.output s →
+pub now_open : (start : Writer) (kind : Kind) (s : Output) (held : WriterCompound) → is_single kind ≡ false → Kept start.output s →
     ((ts : Trees) → PartsFitOutput (in_array (position_of start.pending)) (shape_of start.pending kind) start.output ts → opens (in_array (position_of start.pending)) (shape_of start.pending kind) start.output (compound_headers (shape_of start.pending kind) ts) (Ok tt) s) →
     held.position ≡ position_of start.pending → held.shape ≡ shape_of start.pending kind → held.inner ≡ inner_pending (shape_of start.pending kind) start.pending → WrittenParts start kind s held []
 now_open start kind s held single k h position shape inner =

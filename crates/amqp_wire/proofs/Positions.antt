@@ -1,6 +1,6 @@
 -- Where the parts of a compound stand, and what the whole of parts that may stand there is.
 use Rattle.std.proofs.Common.{◌≡◌, ℕ, Option, Some, None, Bool, true, false, ◌&&◌, Err, refl, ap, sym, ◌∙◌, subst}
-use Rattle.amqp_size.specs.declared.refusal.Refusal.{Refusal}
+use Rattle.amqp_size.specs.declared.walk_error.WalkError.{WalkError}
 use Rattle.amqp_ser.specs.Tree.{Tree, Trees, list, array, map, variant, transparent, no_trees, more}
 use Rattle.amqp_ser.specs.Encoding.{constructor}
 use Rattle.amqp_ser.specs.Writable.{uniform_arrays, uniform_arrays_each, inside, inside_each, placed, placed_each, one_constructor}
@@ -129,7 +129,7 @@ suited_more shape.Single ts t h a i = one_more ts t h a i
 suited_more shape.Refused ts t h a i = one_more ts t h a i
 
 -- the refusal of one part is one of the whole: of what is gathered, and of a transparent vector
-gathered_spoils : (s : Shape) (u : Pending) (k : Kind) (ts : Trees) (p : Option Tree) (e : Refusal) (after : Pending) (o : Option Trees) → shape_of u k ≡ s → is_gathered s ≡ true → inner_of (is_array s) ts ≡ part_at s ts → one_in (is_array s) ts ≡ true →
+gathered_spoils : (s : Shape) (u : Pending) (k : Kind) (ts : Trees) (p : Option Tree) (e : WalkError) (after : Pending) (o : Option Trees) → shape_of u k ≡ s → is_gathered s ≡ true → inner_of (is_array s) ts ≡ part_at s ts → one_in (is_array s) ts ≡ true →
     at_position (part_at s ts) p (Err e) after → at_position (position_of u) (meant u (as_kind k (joined (Some ts) (prepend p o)))) (Err e) (pending.Plain (without_prefix (position_of u)))
 gathered_spoils s u k ts None e after o q g i one r =
     spoiled_rest u k ts e (ap is_gathered q ∙ g) r.0 None o (λ t us n. let no : None ≡ Some t = n in cc)
@@ -142,7 +142,7 @@ gathered_spoils s u k ts (Some t) e after o q g i one r =
     bad : Shape → Tree → Trees → Type 0
     bad x v us = bad_in (is_array x) (join ts (more v us)) e
 
-transparent_spoils : (u : Pending) (k : Kind) (ts : Trees) (p : Option Tree) (e : Refusal) (after : Pending) (o : Option Trees) → shape_of u k ≡ shape.Transparent → at_position position.Root p (Err e) after →
+transparent_spoils : (u : Pending) (k : Kind) (ts : Trees) (p : Option Tree) (e : WalkError) (after : Pending) (o : Option Trees) → shape_of u k ≡ shape.Transparent → at_position position.Root p (Err e) after →
     at_position (position_of u) (meant u (as_kind k (joined (Some ts) (prepend p o)))) (Err e) (pending.Plain (without_prefix (position_of u)))
 transparent_spoils u k ts None e after o q r =
     stands_none u (position_of u) (as_kind k None) (Err e) (pending.Plain (without_prefix (position_of u))) refl (ap (meant u) (kind_none k) ∙ meant_none u) (r.0, refl)
@@ -154,7 +154,7 @@ transparent_spoils u k ts (Some t) e after (Some us) q r =
     let is : meant u (as_kind k (Some all)) ≡ Some (transparent all) = ap (λ v. meant v (as_kind k (Some all))) inv.0 ∙ ap (λ j. meant (pending.Transparent (position_of u)) (as_kind j (Some all))) inv.1 in
     stands u (position_of u) (as_kind k (Some all)) (transparent all) (Err e) (pending.Plain (without_prefix (position_of u))) refl is (spoiled_transparent (position_of u) all e (element_bad ts t us e r.0))
 
-pub part_spoils : (u : Pending) (k : Kind) (ts : Trees) (p : Option Tree) (e : Refusal) (after : Pending) (o : Option Trees) → is_single k ≡ false → suited_parts (shape_of u k) ts ≡ true →
+pub part_spoils : (u : Pending) (k : Kind) (ts : Trees) (p : Option Tree) (e : WalkError) (after : Pending) (o : Option Trees) → is_single k ≡ false → suited_parts (shape_of u k) ts ≡ true →
     at_position (part_at (shape_of u k) ts) p (Err e) after → at_position (position_of u) (meant u (as_kind k (joined (Some ts) (prepend p o)))) (Err e) (pending.Plain (without_prefix (position_of u)))
 part_spoils u k ts p e after o b = go (shape_of u k) refl
   where

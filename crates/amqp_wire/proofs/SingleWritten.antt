@@ -1,6 +1,6 @@
 -- The bytes of a single compound.
 use Rattle.std.proofs.Common.{◌≡◌, List, [], ◌∷◌, ◌++◌, Option, Some, None, true, Result, Ok, Err, length, refl, ap, sym, ◌∙◌, subst, arith, drop}
-use Rattle.amqp_size.specs.declared.refusal.Refusal.{Refusal}
+use Rattle.amqp_size.specs.declared.walk_error.WalkError.{WalkError}
 use Rattle.amqp_ser.specs.Tree.{Tree}
 use Rattle.amqp_ser.specs.Compounds.{whole, complete}
 use Rattle.amqp_ser.specs.declared.kind.Kind.TheVariants as kinds
@@ -19,7 +19,7 @@ use Rattle.amqp_wire.specs.Positions.{inner_after}
 use Rattle.amqp_wire.specs.Writer.{Kept, FitsOutput, SameOutput, takes, wrote, writes_tree, accepts, writer_permits, WrittenSingle}
 use Rattle.amqp_wire.specs.declared.output.Output.{Output}
 use Rattle.amqp_wire.specs.declared.writer.Writer.{Writer}
-use Rattle.amqp_wire.specs.declared.writing.Writing.{Writing}
+use Rattle.amqp_wire.specs.declared.writer_compound.WriterCompound.{WriterCompound}
 use Rattle.amqp_wire.proofs.CountWithinBytes.{no_false}
 use Rattle.amqp_wire.proofs.SingleTable.{not_empty, only_last}
 use Rattle.amqp_wire.proofs.PartBytes.{kept-more}
@@ -41,7 +41,7 @@ wrote_from a start s after (Some t) k e h = λ m.
     let w = h (meets_same a start s t k e m) in
     record { out = w.out ∙ ap (λ x. x ++ bytes_at (in_array a) t) e.0; taken = let n = w.taken in let q = e.1 in omega arith }
 
-pub writes_same : (a : Position) (start s after : Output) (o : Option Tree) (r : Result (Unit {0}) Refusal) → Kept start s → SameOutput start s → writes_tree a s o r after → writes_tree a start o r after
+pub writes_same : (a : Position) (start s after : Output) (o : Option Tree) (r : Result (Unit {0}) WalkError) → Kept start s → SameOutput start s → writes_tree a s o r after → writes_tree a start o r after
 writes_same a start s after o (Ok u) k e h = wrote_from a start s after o k e h
 writes_same a start s after o (Err x) k e h = h
 
@@ -49,7 +49,7 @@ wrote_same : (a : Position) (start s cut : Output) (o : Option Tree) → SameOut
 wrote_same a start s cut None e h = h
 wrote_same a start s cut (Some t) e h = λ m. let w = h m in record { out = e.0 ∙ w.out; taken = e.1 ∙ w.taken }
 
-pub alone_open : (start : Writer) (s : Output) (held : Writing) → Kept start.output s → SameOutput start.output s → without_prefix held.position ≡ without_prefix (position_of start.pending) → held.inner ≡ start.pending → held.shape ≡ shape.Single → WrittenSingle start s held []
+pub alone_open : (start : Writer) (s : Output) (held : WriterCompound) → Kept start.output s → SameOutput start.output s → without_prefix held.position ≡ without_prefix (position_of start.pending) → held.inner ≡ start.pending → held.shape ≡ shape.Single → WrittenSingle start s held []
 alone_open start s held k e position inner is =
     record {
       kept = k;
@@ -60,7 +60,7 @@ alone_open start s held k e position inner is =
     }
 
 -- one part more
-pub alone_more : (start before : Writer) (after : Output) (held new : Writing) (ps : List (Option Tree)) (p : Option Tree) → WrittenSingle start before.output held ps → before.pending ≡ held.inner → Kept before.output after →
+pub alone_more : (start before : Writer) (after : Output) (held new : WriterCompound) (ps : List (Option Tree)) (p : Option Tree) → WrittenSingle start before.output held ps → before.pending ≡ held.inner → Kept before.output after →
     (left : Pending) → takes (position_of before.pending) (meant before.pending p) left → new.inner ≡ inner_after held.shape held.inner left → wrote (position_of before.pending) before.output (meant before.pending p) after → new.position ≡ held.position → new.shape ≡ held.shape → WrittenSingle start after new (ps ++ (p ∷ []))
 alone_more start before after held new ps p h at k left t inner w position is =
     record {
@@ -78,7 +78,7 @@ alone_more start before after held new ps p h at k left t inner w position is =
     }
 
 -- the same compound over an output that went back to where it was
-pub alone_back : (start : Writer) (s cut : Output) (held new : Writing) (ps : List (Option Tree)) → WrittenSingle start s held ps → Kept s cut → SameOutput s cut → new.position ≡ held.position → new.shape ≡ held.shape → new.inner ≡ held.inner → WrittenSingle start cut new ps
+pub alone_back : (start : Writer) (s cut : Output) (held new : WriterCompound) (ps : List (Option Tree)) → WrittenSingle start s held ps → Kept s cut → SameOutput s cut → new.position ≡ held.position → new.shape ≡ held.shape → new.inner ≡ held.inner → WrittenSingle start cut new ps
 alone_back start s cut held new ps h k e position is inner =
     record {
       kept = kept-more start.output s cut h.kept k;
@@ -90,13 +90,13 @@ alone_back start s cut held new ps h k e position is inner =
           (subst (λ u. takes (position_of start.pending) (meant start.pending p) u) (sym inner) w.0, wrote_same (position_of start.pending) start.output s cut (meant start.pending p) e w.1);
     }
 
-no_whole : (start : Writer) (held : Writing) (qs : List (Option Tree)) (u : Pending) (o : Option Tree) (e : Refusal) (after : Pending) → without_prefix held.position ≡ without_prefix (position_of start.pending) → at_position (position_of u) o (Err e) after → whole kinds.Single qs ≡ None →
+no_whole : (start : Writer) (held : WriterCompound) (qs : List (Option Tree)) (u : Pending) (o : Option Tree) (e : WalkError) (after : Pending) → without_prefix held.position ≡ without_prefix (position_of start.pending) → at_position (position_of u) o (Err e) after → whole kinds.Single qs ≡ None →
     at_position (position_of start.pending) (meant start.pending (whole kinds.Single qs)) (Err e) (pending.Plain (without_prefix held.position))
 no_whole start held qs u o e after at w n =
     stands_none start.pending (position_of start.pending) (whole kinds.Single qs) (Err e) (pending.Plain (without_prefix held.position)) refl (ap (meant start.pending) n ∙ meant_none start.pending)
     ((refusal (position_of u) o e after w).0, ap pending.Plain at)
 
-refused_whole : (start before : Writer) (held : Writing) (ps : List (Option Tree)) (p : Option Tree) (e : Refusal) (after : Pending) → WrittenSingle start before.output held ps → before.pending ≡ held.inner →
+refused_whole : (start before : Writer) (held : WriterCompound) (ps : List (Option Tree)) (p : Option Tree) (e : WalkError) (after : Pending) → WrittenSingle start before.output held ps → before.pending ≡ held.inner →
     at_position (position_of before.pending) (meant before.pending p) (Err e) after → (others : List (Option Tree)) →
     at_position (position_of start.pending) (meant start.pending (whole kinds.Single (ps ++ (p ∷ others)))) (Err e) (pending.Plain (without_prefix held.position))
 refused_whole start before held [] p e after h at w [] =
@@ -109,19 +109,19 @@ refused_whole start before held (v ∷ []) p e after h at w others = no_whole st
 refused_whole start before held (v ∷ (u ∷ ps)) p e after h at w others = no_whole start held (v ∷ (u ∷ (ps ++ (p ∷ others)))) before.pending (meant before.pending p) e after h.position w (whole_two v u (ps ++ (p ∷ others)))
 
 -- the refusal of a part is one of the whole
-pub alone_refused : (start before : Writer) (cut : Output) (held : Writing) (ps : List (Option Tree)) (p : Option Tree) (e : Refusal) (after : Pending) → WrittenSingle start before.output held ps → before.pending ≡ held.inner → Kept start.output cut →
+pub alone_refused : (start before : Writer) (cut : Output) (held : WriterCompound) (ps : List (Option Tree)) (p : Option Tree) (e : WalkError) (after : Pending) → WrittenSingle start before.output held ps → before.pending ≡ held.inner → Kept start.output cut →
     at_position (position_of before.pending) (meant before.pending p) (Err e) after → (others : List (Option Tree)) → writer_permits start (whole kinds.Single (ps ++ (p ∷ others))) (Err e) (record { pending = pending.Plain (without_prefix held.position); output = cut })
 alone_refused start before cut held ps p e after h at k w others = (k, (refused_whole start before held ps p e after h at w others, tt))
 
 -- the whole is its one part
-pub alone_written : (start : Writer) (s : Output) (held : Writing) (ps : List (Option Tree)) → WrittenSingle start s held ps → complete kinds.Single ps ≡ true → writer_permits start (whole kinds.Single ps) (Ok tt) (record { pending = held.inner; output = s })
+pub alone_written : (start : Writer) (s : Output) (held : WriterCompound) (ps : List (Option Tree)) → WrittenSingle start s held ps → complete kinds.Single ps ≡ true → writer_permits start (whole kinds.Single ps) (Ok tt) (record { pending = held.inner; output = s })
 alone_written start s held [] h done = absurd (no_false done)
 alone_written start s held (p ∷ []) h done =
     (h.kept, subst (λ o. takes (position_of start.pending) (meant start.pending o) held.inner × wrote (position_of start.pending) start.output (meant start.pending o) s) (sym (whole_single p)) (h.one p refl))
 alone_written start s held (p ∷ (q ∷ ps)) h done = absurd (no_false done)
 
 -- what is answered where the compound was opened is answered there
-pub same_permits : (start : Writer) (s : Output) (held : Writing) (o : Option Tree) (r : Result (Unit {0}) Refusal) (after : Writer) → WrittenSingle start s held [] → writer_permits (record { pending = held.inner; output = s }) o r after → writer_permits start o r after
+pub same_permits : (start : Writer) (s : Output) (held : WriterCompound) (o : Option Tree) (r : Result (Unit {0}) WalkError) (after : Writer) → WrittenSingle start s held [] → writer_permits (record { pending = held.inner; output = s }) o r after → writer_permits start o r after
 same_permits start s held o r after h p =
     let n = h.none refl in (
       kept-more start.output s after.output h.kept p.0,

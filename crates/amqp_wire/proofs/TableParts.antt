@@ -1,8 +1,8 @@
 -- The table after each part.
 use Rattle.std.proofs.Common.{◌≡◌, ℕ, ◌+◌, ◌-◌, ◌≤◌, inl, inr, List, [], ◌∷◌, ◌++◌, Option, Some, None, true, false, Result, Ok, Err, length, refl, ap, sym, ◌∙◌, subst, arith, append_assoc, append-nil, length-append, take}
 use Rattle.std.specs.Prelude.{IfErr}
-use Rattle.amqp_size.specs.declared.refusal.Refusal.{Refusal}
-use Rattle.amqp_size.specs.declared.refusal.Refusal.TheVariants.{OutOfMemory}
+use Rattle.amqp_size.specs.declared.walk_error.WalkError.{WalkError}
+use Rattle.amqp_size.specs.declared.walk_error.WalkError.TheVariants.{OutOfMemory}
 use Rattle.amqp_ser.specs.Tree.{Tree, Trees, no_trees, more, count}
 use Rattle.amqp_ser.specs.Compounds.{all_trees, as_kind, whole, paired}
 use Rattle.amqp_ser.specs.declared.kind.Kind.{Kind}
@@ -184,13 +184,13 @@ all_listed start kind table after held ps n m len c single h k miss a b d f p =
     ∙ fills_are (headers_from sh (header n m c)) q.0 start.table.headers.items (headers_of_each ts) held.at (made_positions sh (header n m c) ∙ sym q.1.0) k.at
     ∙ ap (λ w. start.table.headers.items ++ (w ++ headers_of_each ts)) right)
 
-pub record Took (before self : Measurer) (held : Measuring) (p : Option Tree) (answer : Result ℕ Refusal) : Type 0 where
+pub record Took (before self : Measurer) (held : Measuring) (p : Option Tree) (answer : Result ℕ WalkError) : Type 0 where
   pub present : held.missed ≡ false
   pub permits : size_permits before.size p answer self.size
   pub part : listed (meant before.size.pending p) before.table.headers.items self.table.headers.items
 
 -- a part that was taken was answered
-pub took : (before self : Measurer) (held : Measuring) (p : Option Tree) (part answer : Result ℕ Refusal) (res : Result (Unit {0}) Refusal) (u : Unit {0}) (X : Refusal → Type 0) →
+pub took : (before self : Measurer) (held : Measuring) (p : Option Tree) (part answer : Result ℕ WalkError) (res : Result (Unit {0}) WalkError) (u : Unit {0}) (X : WalkError → Type 0) →
     answered held part answer → counts_tree before p part self → res ≡ Ok u → IfErr answer (λ e. (res ≡ Err e) × X e) → Took before self held p answer
 took before self held p part (Ok n) res u X a l q k =
     let l2 = subst (λ x. counts_tree before p x self) a.0 l in
@@ -198,7 +198,7 @@ took before self held p part (Ok n) res u X a l q k =
 took before self held p part (Err e) res u X a l q k = let no : Err e ≡ Ok u = sym k.0 ∙ q in cc
 
 -- the refusal of a part is one of the whole
-pub refusal_of_part : (start before self after : Measurer) (kind : Kind) (held new : Measuring) (ps : List (Option Tree)) (p : Option Tree) (part answer : Result ℕ Refusal) (res : Result (Unit {0}) Refusal) (e : Refusal) →
+pub refusal_of_part : (start before self after : Measurer) (kind : Kind) (held new : Measuring) (ps : List (Option Tree)) (p : Option Tree) (part answer : Result ℕ WalkError) (res : Result (Unit {0}) WalkError) (e : WalkError) →
     Holding start.size kind held.size ps → answered held part answer → counts_tree before p part self →
     (size_permits before.size p answer self.size → size_has start.size kind after.size new.size ps × ((rest : List (Option Tree)) → size_permits start.size (whole kind (ps ++ (p ∷ rest))) (Err e) after.size)) →
     IfErr answer (λ x. (res ≡ Err x) × ((new.size ≡ held.size) × (after.size.pending ≡ Plain (without_prefix held.size.position)))) → res ≡ Err e →

@@ -1,6 +1,6 @@
 -- The table of a compound of each kind, step by step.
 use Rattle.std.proofs.Common.{◌≡◌, ℕ, ◌+◌, ◌≤◌, inl, inr, List, [], ◌∷◌, ◌++◌, Option, Bool, true, false, Result, Ok, Err, length, refl, ap, sym, ◌∙◌, subst, append-nil}
-use Rattle.amqp_size.specs.declared.refusal.Refusal.{Refusal}
+use Rattle.amqp_size.specs.declared.walk_error.WalkError.{WalkError}
 use Rattle.amqp_ser.specs.Tree.{Tree, no_trees, count}
 use Rattle.amqp_ser.specs.Compounds.{whole, complete}
 use Rattle.amqp_ser.specs.declared.kind.Kind.{Kind}
@@ -102,7 +102,7 @@ whole_tabled false start kind table after held ps n m len c k h t miss done a b 
     all_listed start kind table after held ps n m len c k h t miss a b d f p
 
 -- the same answers where the serializer stands at the same position over the same table
-pub permits_same : (start s : Measurer) (o : Option Tree) (r : Result ℕ Refusal) (after : Measurer) → s.size.pending ≡ start.size.pending → s.table.headers.items ≡ start.table.headers.items → measurer_permits s o r after → measurer_permits start o r after
+pub permits_same : (start s : Measurer) (o : Option Tree) (r : Result ℕ WalkError) (after : Measurer) → s.size.pending ≡ start.size.pending → s.table.headers.items ≡ start.table.headers.items → measurer_permits s o r after → measurer_permits start o r after
 permits_same start s o (Ok n) after e f h = (
   subst (λ x. Extends x after.table.headers.items) f h.0,
   (

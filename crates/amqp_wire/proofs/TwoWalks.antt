@@ -10,8 +10,8 @@ use Rattle.amqp_size.specs.Position.{position_of, meant}
 use Rattle.amqp_size.specs.SizeSerializer.{at_position}
 use Rattle.amqp_size.specs.WholePosition.{Root}
 use Rattle.amqp_size.specs.WholePending.{Pending, Plain}
-use Rattle.amqp_size.specs.declared.refusal.Refusal.{Refusal}
-use Rattle.amqp_size.specs.declared.refusal.Refusal.TheVariants as refusal
+use Rattle.amqp_size.specs.declared.walk_error.WalkError.{WalkError}
+use Rattle.amqp_size.specs.declared.walk_error.WalkError.TheVariants as walk_error
 use Rattle.amqp_wire.specs.TreeHeaders.{headers_of}
 use Rattle.amqp_wire.specs.Measurer.{listed, measurer_permits}
 use Rattle.amqp_wire.specs.Writer.{Kept, FitsOutput, Written, wrote, writes_tree, accepts, writer_permits}
@@ -41,10 +41,10 @@ meets t n u hs s h l r = record {
 listed_root : (measurer : Measurer) (o : Option Tree) (hs : List Header) → measurer.size.pending ≡ Plain Root → measurer.table.headers.items ≡ [] → listed (meant measurer.size.pending o) measurer.table.headers.items hs → listed o [] hs
 listed_root measurer o hs p e l = subst (λ u. listed (meant u o) [] hs) p (subst (λ b. listed (meant measurer.size.pending o) b hs) e l)
 
-accepts_root : (w : Writer) (o : Option Tree) (r : Result (Unit {0}) Refusal) (after : Pending) → w.pending ≡ Plain Root → accepts (position_of w.pending) (meant w.pending o) r after → accepts Root o r after
+accepts_root : (w : Writer) (o : Option Tree) (r : Result (Unit {0}) WalkError) (after : Pending) → w.pending ≡ Plain Root → accepts (position_of w.pending) (meant w.pending o) r after → accepts Root o r after
 accepts_root w o r after p h = subst (λ u. accepts (position_of u) (meant u o) r after) p h
 
-writes_root : (w : Writer) (o : Option Tree) (r : Result (Unit {0}) Refusal) (after : Output) → w.pending ≡ Plain Root → writes_tree (position_of w.pending) w.output (meant w.pending o) r after → writes_tree Root w.output o r after
+writes_root : (w : Writer) (o : Option Tree) (r : Result (Unit {0}) WalkError) (after : Output) → w.pending ≡ Plain Root → writes_tree (position_of w.pending) w.output (meant w.pending o) r after → writes_tree Root w.output o r after
 writes_root w o r after p h = subst (λ u. writes_tree (position_of u) w.output (meant u o) r after) p h
 
 go_well : (o : Option Tree) (n : ℕ) (u : Pending) (hs : List Header) (s after : Output) → at_position Root o (Ok n) u → listed o [] hs → Ready s n hs → wrote Root s o after → AreBytesOf o (Ok after.out.items)
@@ -53,12 +53,12 @@ go_well (Some t) n u hs s after h l r w =
     let written : Written Root s t after = w (meets t n u hs s h l r) in
     (both (within_limits t) (uniform_arrays t && placed t) h.within_limits_it (both (uniform_arrays t) (placed t) h.uniform_arrays_it h.suited), written.out ∙ ap (λ b. b ++ encoding t) r.out)
 
-no_refusal : (t : Tree) (n : ℕ) (u v : Pending) (e : Refusal) → at_position Root (Some t) (Ok n) u → at_position Root (Some t) (Err e) v → ⊥
-no_refusal t n u v refusal.TooLong h w = no_false (sym w.0 ∙ h.within_limits_it)
-no_refusal t n u v refusal.InvalidValue h w = no_false (sym w.0 ∙ both (uniform_arrays t) (placed t) h.uniform_arrays_it h.suited)
-no_refusal t n u v refusal.OutOfMemory h w = absurd w.0
+no_refusal : (t : Tree) (n : ℕ) (u v : Pending) (e : WalkError) → at_position Root (Some t) (Ok n) u → at_position Root (Some t) (Err e) v → ⊥
+no_refusal t n u v walk_error.TooLong h w = no_false (sym w.0 ∙ h.within_limits_it)
+no_refusal t n u v walk_error.InvalidValue h w = no_false (sym w.0 ∙ both (uniform_arrays t) (placed t) h.uniform_arrays_it h.suited)
+no_refusal t n u v walk_error.OutOfMemory h w = absurd w.0
 
-go_wrong : (o : Option Tree) (n : ℕ) (u v : Pending) (e : Refusal) → at_position Root o (Ok n) u → at_position Root o (Err e) v → ⊥
+go_wrong : (o : Option Tree) (n : ℕ) (u v : Pending) (e : WalkError) → at_position Root o (Ok n) u → at_position Root o (Err e) v → ⊥
 go_wrong None n u v e h w = absurd h
 go_wrong (Some t) n u v e h w = no_refusal t n u v e h w
 
@@ -81,7 +81,7 @@ walked measurer counted o n start done x p e h q t k b room w =
     (listed_root measurer o counted.table.headers.items p e h.1.1) (record { table = t; taken = k; out = b; room = room }) (writes_root start o (Ok x) done.output q w.1.1)
 
 -- the second walk refuses nothing
-pub never_refused : (measurer counted : Measurer) (o : Option Tree) (n : ℕ) (start done : Writer) (x : Refusal) → measurer.size.pending ≡ Plain Root → measurer_permits measurer o (Ok n) counted → start.pending ≡ Plain Root → writer_permits start o (Err x) done → ⊥
+pub never_refused : (measurer counted : Measurer) (o : Option Tree) (n : ℕ) (start done : Writer) (x : WalkError) → measurer.size.pending ≡ Plain Root → measurer_permits measurer o (Ok n) counted → start.pending ≡ Plain Root → writer_permits start o (Err x) done → ⊥
 never_refused measurer counted o n start done x p h q w =
     go_wrong o n counted.size.pending done.pending x (at_root measurer.size o (Ok n) counted.size p h.1.0) (accepts_root start o (Err x) done.pending q w.1.0)
 
@@ -94,6 +94,6 @@ never_short measurer counted o n start done x p e h q t k b room w =
     (listed_root measurer o counted.table.headers.items p e h.1.1) (record { table = t; taken = k; out = b; room = room }) w.0 (writes_root start o (Ok x) done.output q w.1.1)
 
 -- what the first walk answered, where no growth was refused
-pub kept_answer : (refused : Bool) (r a : Result ℕ Refusal) (n : ℕ) → (refused ≡ true → r ≡ Err refusal.OutOfMemory) → (refused ≡ false → r ≡ a) → r ≡ Ok n → a ≡ Ok n
+pub kept_answer : (refused : Bool) (r a : Result ℕ WalkError) (n : ℕ) → (refused ≡ true → r ≡ Err walk_error.OutOfMemory) → (refused ≡ false → r ≡ a) → r ≡ Ok n → a ≡ Ok n
 kept_answer true r a n m u q = let e = m refl in cc
 kept_answer false r a n m u q = sym (u refl) ∙ q

@@ -1,7 +1,7 @@
 -- What the first walk may answer: a tree's length, with its headers at the end of the table.
 use Rattle.std.specs.Prelude.{◌≡◌, ℕ, ◌+◌, ◌≤◌, ◌⊎◌, List, [], ◌∷◌, ◌++◌, Option, Some, None, Bool, true, false, Result, Ok, Err, length, slice_set}
-use Rattle.amqp_size.specs.declared.refusal.Refusal.{Refusal}
-use Rattle.amqp_size.specs.declared.refusal.Refusal.TheVariants.{OutOfMemory}
+use Rattle.amqp_size.specs.declared.walk_error.WalkError.{WalkError}
+use Rattle.amqp_size.specs.declared.walk_error.WalkError.TheVariants.{OutOfMemory}
 use Rattle.amqp_ser.specs.Tree.{Tree, Trees, count}
 use Rattle.amqp_ser.specs.Compounds.{all_trees, paired}
 use Rattle.amqp_ser.specs.declared.kind.Kind.{Kind}
@@ -33,11 +33,11 @@ listed None b a = ⊥
 listed (Some t) b a = (a ≡ b ++ headers_of t) × (dense t ≡ true)
 
 -- out of memory is no answer on the tree
-abbrev pub counts_tree : Measurer → Option Tree → Result ℕ Refusal → Measurer → Type 0
+abbrev pub counts_tree : Measurer → Option Tree → Result ℕ WalkError → Measurer → Type 0
 counts_tree s o (Ok n) after = size_permits s.size o (Ok n) after.size × listed (meant s.size.pending o) s.table.headers.items after.table.headers.items
 counts_tree s o (Err e) after = ((e ≡ OutOfMemory) × (after.size.pending ≡ Plain (without_prefix (position_of s.size.pending)))) ⊎ size_permits s.size o (Err e) after.size
 
-abbrev pub measurer_permits : Measurer → Option Tree → Result ℕ Refusal → Measurer → Type 0
+abbrev pub measurer_permits : Measurer → Option Tree → Result ℕ WalkError → Measurer → Type 0
 measurer_permits s o r after = Extends s.table.headers.items after.table.headers.items × counts_tree s o r after
 
 -- the table has the slots of a compound, and the headers of its parts
@@ -82,7 +82,7 @@ abbrev pub measurer_awaits_descriptor : Measurer → Measurer → Measuring → 
 measurer_awaits_descriptor start s held = (size_awaits_descriptor start.size s.size held.size × (s.table.headers.items ≡ start.table.headers.items)) × (held.before_current ≡ length s.table.headers.items)
 
 -- a part's answer, or the refusal of the compound's slot
-abbrev pub answered : Measuring → Result ℕ Refusal → Result ℕ Refusal → Type 0
+abbrev pub answered : Measuring → Result ℕ WalkError → Result ℕ WalkError → Type 0
 answered held part (Ok n) = (part ≡ Ok n) × (held.missed ≡ false)
 answered held part (Err e) = (e ≡ OutOfMemory) ⊎ (part ≡ Err e)
 

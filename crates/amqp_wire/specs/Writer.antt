@@ -1,7 +1,7 @@
 -- What the second walk may answer: where the table and the room are a tree's, its bytes.
 use Rattle.std.specs.Prelude.{◌≡◌, ℕ, ◌+◌, ◌<◌, ◌≤◌, List, [], ◌∷◌, ◌++◌, Option, Some, None, Bool, true, false, Result, Ok, Err, length, drop}
 use Rattle.std.specs.Vec.{vec_capacity}
-use Rattle.amqp_size.specs.declared.refusal.Refusal.{Refusal}
+use Rattle.amqp_size.specs.declared.walk_error.WalkError.{WalkError}
 use Rattle.amqp_ser.specs.Tree.{Tree, Trees}
 use Rattle.amqp_ser.specs.Writable.{uniform_arrays, within_limits, within_limits_each}
 use Rattle.amqp_ser.specs.Compounds.{all_trees, paired}
@@ -22,7 +22,7 @@ use Rattle.amqp_wire.specs.Positions.{part_position, part_at, suited_parts, is_s
 use Rattle.amqp_wire.specs.declared.header.Header.{Header}
 use Rattle.amqp_wire.specs.declared.output.Output.{Output}
 use Rattle.amqp_wire.specs.declared.writer.Writer.{Writer}
-use Rattle.amqp_wire.specs.declared.writing.Writing.{Writing}
+use Rattle.amqp_wire.specs.declared.writer_compound.WriterCompound.{WriterCompound}
 
 -- it goes on from there
 abbrev pub Extends : {X : Type 0} → List X → List X → Type 0
@@ -35,7 +35,7 @@ pub record Kept (s after : Output) : Type 0 where
   pub grown : Extends s.out.items after.out.items
 
 -- these bytes are written, or there was no room
-abbrev pub puts : Output → List ℕ → Result (Unit {0}) Refusal → Output → Type 0
+abbrev pub puts : Output → List ℕ → Result (Unit {0}) WalkError → Output → Type 0
 puts s bytes (Ok u) after = after.out.items ≡ s.out.items ++ bytes
 puts s bytes (Err e) after = vec_capacity s.out < length s.out.items + length bytes
 
@@ -45,11 +45,11 @@ nexts s None after = length s.table.items ≤ s.taken
 nexts s (Some h) after = (drop s.taken s.table.items ≡ h ∷ drop after.taken after.table.items) × (after.taken ≡ s.taken + 1)
 
 -- so many headers were taken and these bytes written, or there was no room
-abbrev pub leads : Output → ℕ → List ℕ → Result (Unit {0}) Refusal → Output → Type 0
+abbrev pub leads : Output → ℕ → List ℕ → Result (Unit {0}) WalkError → Output → Type 0
 leads s n bytes (Ok u) after = (after.out.items ≡ s.out.items ++ bytes) × (after.taken ≡ s.taken + n)
 leads s n bytes (Err e) after = vec_capacity s.out < length s.out.items + length bytes
 
-abbrev pub opens : Bool → Shape → Output → List Header → Result (Unit {0}) Refusal → Output → Type 0
+abbrev pub opens : Bool → Shape → Output → List Header → Result (Unit {0}) WalkError → Output → Type 0
 opens a shape s hs r after = leads s (length hs) (opening a shape hs) r after
 
 -- the table and the room are this tree's
@@ -75,7 +75,7 @@ takes p None after = ⊥
 takes p (Some t) after = Taken p t after
 
 -- whatever the table and the room are, the first walk's answer, but for limits that its lengths pass
-abbrev pub accepts : Position → Option Tree → Result (Unit {0}) Refusal → Pending → Type 0
+abbrev pub accepts : Position → Option Tree → Result (Unit {0}) WalkError → Pending → Type 0
 accepts p o (Ok u) after = takes p o after
 accepts p o (Err e) after = at_position p o (Err e) after
 
@@ -84,11 +84,11 @@ wrote p s None after = Unit {0}
 wrote p s (Some t) after = FitsOutput p s t → Written p s t after
 
 -- where the table and the room are the tree's, its bytes
-abbrev pub writes_tree : Position → Output → Option Tree → Result (Unit {0}) Refusal → Output → Type 0
+abbrev pub writes_tree : Position → Output → Option Tree → Result (Unit {0}) WalkError → Output → Type 0
 writes_tree p s o (Ok u) after = wrote p s o after
 writes_tree p s o (Err e) after = Unit {0}
 
-abbrev pub writer_permits : Writer → Option Tree → Result (Unit {0}) Refusal → Writer → Type 0
+abbrev pub writer_permits : Writer → Option Tree → Result (Unit {0}) WalkError → Writer → Type 0
 writer_permits s o r after = Kept s.output after.output × (accepts (position_of s.pending) (meant s.pending o) r after.pending × writes_tree (position_of s.pending) s.output (meant s.pending o) r after.output)
 
 -- the table and the room are those of a compound of these parts
@@ -109,7 +109,7 @@ abbrev pub meets_parts : Writer → Kind → Output → Trees → Type 0
 meets_parts start kind s ts = (us : Trees) → PartsFitOutput (in_array (position_of start.pending)) (shape_of start.pending kind) start.output (join ts us) → WrittenSoFar (in_array (position_of start.pending)) (shape_of start.pending kind) start.output s ts us
 
 -- where the output stood before the last part
-pub record OutputBeforeLast (start : Writer) (kind : Kind) (s : Output) (held : Writing) (qs : List (Option Tree)) : Type 0 where
+pub record OutputBeforeLast (start : Writer) (kind : Kind) (s : Output) (held : WriterCompound) (qs : List (Option Tree)) : Type 0 where
   pub old : Output
   pub since : Kept start.output old
   pub until : Kept old s
@@ -120,7 +120,7 @@ pub record OutputBeforeLast (start : Writer) (kind : Kind) (s : Output) (held : 
   pub suited : suited_parts (shape_of start.pending kind) ts ≡ true
   pub met : meets_parts start kind old ts
 
-pub record WrittenParts (start : Writer) (kind : Kind) (s : Output) (held : Writing) (ps : List (Option Tree)) : Type 0 where
+pub record WrittenParts (start : Writer) (kind : Kind) (s : Output) (held : WriterCompound) (ps : List (Option Tree)) : Type 0 where
   pub ts : Trees
   pub trees : all_trees ps ≡ Some ts
   pub kept : Kept start.output s
@@ -136,25 +136,25 @@ abbrev pub SameOutput : Output → Output → Type 0
 SameOutput s after = (after.out.items ≡ s.out.items) × (after.taken ≡ s.taken)
 
 -- a single compound writes its part alone, where it was opened
-pub record WrittenSingle (start : Writer) (s : Output) (held : Writing) (ps : List (Option Tree)) : Type 0 where
+pub record WrittenSingle (start : Writer) (s : Output) (held : WriterCompound) (ps : List (Option Tree)) : Type 0 where
   pub kept : Kept start.output s
   pub position : without_prefix held.position ≡ without_prefix (position_of start.pending)
   pub shape : held.shape ≡ Single
   pub none : ps ≡ [] → (held.inner ≡ start.pending) × SameOutput start.output s
   pub one : (p : Option Tree) → ps ≡ p ∷ [] → takes (position_of start.pending) (meant start.pending p) held.inner × wrote (position_of start.pending) start.output (meant start.pending p) s
 
-abbrev pub written_as : Bool → Writer → Kind → Output → Writing → List (Option Tree) → Type 0
+abbrev pub written_as : Bool → Writer → Kind → Output → WriterCompound → List (Option Tree) → Type 0
 written_as true start kind s held ps = WrittenSingle start s held ps
 written_as false start kind s held ps = WrittenParts start kind s held ps
 
-abbrev pub writer_has : Writer → Kind → Writer → Writing → List (Option Tree) → Type 0
+abbrev pub writer_has : Writer → Kind → Writer → WriterCompound → List (Option Tree) → Type 0
 writer_has start kind s held ps = written_as (is_single kind) start kind s.output held ps × (s.pending ≡ Plain (without_prefix held.position))
 
 -- where the output stands, which is gone back to where the part is refused
-abbrev pub stands_at : Writing → Output → Type 0
+abbrev pub stands_at : WriterCompound → Output → Type 0
 stands_at held s = (held.before_current.taken ≡ s.taken) × (held.before_current.len ≡ length s.out.items)
 
-abbrev pub writer_awaits : Writer → Kind → Writer → Writing → List (Option Tree) → Type 0
+abbrev pub writer_awaits : Writer → Kind → Writer → WriterCompound → List (Option Tree) → Type 0
 writer_awaits start kind s held ps = (written_as (is_single kind) start kind s.output held ps × (s.pending ≡ held.inner)) × stands_at held s.output
 
 -- the code of described values is written, where there is room for one
@@ -162,7 +162,7 @@ abbrev pub headed : Writer → Output → Type 0
 headed start s = length start.output.out.items + 1 ≤ vec_capacity start.output.out →
     (s.out.items ≡ start.output.out.items ++ (0x00 ∷ [])) × (s.taken ≡ start.output.taken)
 
-pub record AwaitsDescriptor (start s : Writer) (held : Writing) : Type 0 where
+pub record AwaitsDescriptor (start s : Writer) (held : WriterCompound) : Type 0 where
   pub kept : Kept start.output s.output
   pub position : without_prefix held.position ≡ without_prefix (position_of start.pending)
   pub shape : held.shape ≡ Single

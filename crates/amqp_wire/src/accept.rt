@@ -11,7 +11,7 @@ ghost use Rattle.amqp_wire.specs.Writer.{accepts};
 
 use crate::position::accepted;
 use crate::writer::Writer;
-use amqp_size::{Pending, Position, Refusal};
+use amqp_size::{Pending, Position, WalkError};
 
 impl Writer {
     /// Comes to rest where it stands: markers and descriptors are behind it.
@@ -38,7 +38,7 @@ impl Writer {
 
     /// Whether a tree with this constructor is taken there, by a writer at rest.
     #[inline(always)]
-    pub(crate) fn accept(&mut self, position: Position, code: u8) -> Result<(), Refusal>
+    pub(crate) fn accept(&mut self, position: Position, code: u8) -> Result<(), WalkError>
         ensures output { self.new.output ≡ self.old.output }
         ensures accepted { self.old.pending ≡ Plain (without_prefix (position_at position 0)) →
             (t : Tree) → constructor t ≡ Some code → uniform_arrays t ≡ true → inside t ≡ true →
@@ -51,7 +51,7 @@ impl Writer {
                 if base.takes_described() {
                     Ok(())
                 } else {
-                    Err(Refusal::InvalidValue)
+                    Err(WalkError::InvalidValue)
                 }
             }
             position => self.accept_elsewhere(position, code),
@@ -60,7 +60,7 @@ impl Writer {
 
     /// The same in an array or at a descriptor's position.
     #[inline(never)]
-    fn accept_elsewhere(&mut self, position: Position, code: u8) -> Result<(), Refusal>
+    fn accept_elsewhere(&mut self, position: Position, code: u8) -> Result<(), WalkError>
         ensures output { self.new.output ≡ self.old.output }
         ensures accepted { self.old.pending ≡ Plain (without_prefix (position_at position 0)) →
             (t : Tree) → constructor t ≡ Some code → uniform_arrays t ≡ true → inside t ≡ true →
@@ -78,7 +78,7 @@ impl Writer {
 
     /// Whether transparent trees are taken there: at the root alone.
     #[inline(always)]
-    pub(crate) fn accept_transparent(&mut self, position: Position) -> Result<(), Refusal>
+    pub(crate) fn accept_transparent(&mut self, position: Position) -> Result<(), WalkError>
         ensures output { self.new.output ≡ self.old.output }
         ensures accepted { self.old.pending ≡ Plain (without_prefix (position_at position 0)) →
             (ts : Trees) → uniform_arrays_each ts ≡ true → placed_each ts ≡ true →
@@ -86,7 +86,7 @@ impl Writer {
     {
         match position {
             Position::Root => Ok(()),
-            _ => Err(Refusal::InvalidValue),
+            _ => Err(WalkError::InvalidValue),
         }
     }
 }

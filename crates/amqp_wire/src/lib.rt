@@ -19,7 +19,7 @@ mod table;
 mod tests;
 mod two_walks;
 mod writer;
-mod writing;
+mod writer_compound;
 
 pub use lazy_value::to_lazy_value;
 pub use two_walks::to_vec;

@@ -7,7 +7,7 @@ use crate::header::Header;
 use crate::table::Table;
 use amqp_ser::{Fixed, Kind, Mark, Serializer};
 use amqp_size::width::LONGEST;
-use amqp_size::{OpenCompound, Refusal, SizeSerializer};
+use amqp_size::{OpenCompound, SizeSerializer, WalkError};
 use std::alloc::Global;
 
 /// Counts the bytes of values, and lists the headers of their compounds.
@@ -85,18 +85,18 @@ impl Measuring {
 
     /// The answer on a part, or the refusal of the compound's slot.
     #[inline(always)]
-    fn answer(&self, part: Result<usize, Refusal>) -> Result<usize, Refusal>
+    fn answer(&self, part: Result<usize, WalkError>) -> Result<usize, WalkError>
         ensures { answered self.now part result }
     {
         if self.missed {
-            return Err(Refusal::OutOfMemory);
+            return Err(WalkError::OutOfMemory);
         }
         part
     }
 }
 
 impl Serializer for Measurer {
-    ghost use Rattle.amqp_size.specs.declared.refusal.Refusal.TheVariants.{InvalidValue, TooLong};
+    ghost use Rattle.amqp_size.specs.declared.walk_error.WalkError.TheVariants.{InvalidValue, TooLong};
     ghost use Rattle.amqp_wire.specs.Measurer.{measurer_permits, measurer_has, measurer_awaits, measurer_awaits_descriptor, no_length_of_none};
     ghost use Rattle.amqp_ser.specs.Compounds.{whole, complete};
     ghost use Rattle.amqp_ser.specs.Fixed.{fixed_scalar};
@@ -107,7 +107,7 @@ impl Serializer for Measurer {
 
     type Ok = usize;
 
-    type Error = Refusal;
+    type Error = WalkError;
 
     type Open = Measuring;
 
@@ -124,7 +124,7 @@ impl Serializer for Measurer {
     ghost refuses_none = { no_length_of_none };
 
     #[inline(always)]
-    fn serialize_fixed(&mut self, fixed: Fixed) -> Result<usize, Refusal>
+    fn serialize_fixed(&mut self, fixed: Fixed) -> Result<usize, WalkError>
         ensures answered { measurer_permits self.old (Some (scalar (fixed_scalar fixed))) result
             self.new }
         ensures no_tree { meant self.old.size.pending (Some (scalar (fixed_scalar fixed))) ≡ None →
@@ -134,7 +134,7 @@ impl Serializer for Measurer {
     }
 
     #[inline(always)]
-    fn serialize_null(&mut self) -> Result<usize, Refusal>
+    fn serialize_null(&mut self) -> Result<usize, WalkError>
         ensures answered { measurer_permits self.old (Some (scalar null)) result self.new }
         ensures no_tree { meant self.old.size.pending (Some (scalar null)) ≡ None →
             result ≡ Err InvalidValue }
@@ -143,7 +143,7 @@ impl Serializer for Measurer {
     }
 
     #[inline(always)]
-    fn serialize_str(&mut self, v: &str) -> Result<usize, Refusal>
+    fn serialize_str(&mut self, v: &str) -> Result<usize, WalkError>
         ensures answered { measurer_permits self.old (Some (scalar (string v.now))) result
             self.new }
         ensures no_tree { meant self.old.size.pending (Some (scalar (string v.now))) ≡ None →
@@ -153,7 +153,7 @@ impl Serializer for Measurer {
     }
 
     #[inline(always)]
-    fn serialize_bytes(&mut self, v: &[u8]) -> Result<usize, Refusal>
+    fn serialize_bytes(&mut self, v: &[u8]) -> Result<usize, WalkError>
         ensures answered { measurer_permits self.old (Some (scalar (binary v.now))) result
             self.new }
         ensures no_tree { meant self.old.size.pending (Some (scalar (binary v.now))) ≡ None →
@@ -204,8 +204,8 @@ impl Serializer for Measurer {
     fn end_part(
         &mut self,
         held: &mut Measuring,
-        part: Result<usize, Refusal>,
-    ) -> Result<(), Refusal>
+        part: Result<usize, WalkError>,
+    ) -> Result<(), WalkError>
         ensures step { (start : Measurer) (kind : Kind) (before : Measurer)
             (ps : List (Option Tree))
             (p : Option Tree) → measurer_awaits start kind before held.old ps →
@@ -240,15 +240,15 @@ impl Serializer for Measurer {
     fn end_descriptor(
         &mut self,
         held: &mut Measuring,
-        part: Result<usize, Refusal>,
-    ) -> Result<(), Refusal>
+        part: Result<usize, WalkError>,
+    ) -> Result<(), WalkError>
         ensures step { (start before : Measurer) (d : Option Tree) →
             measurer_awaits_descriptor start before held.old →
             measurer_permits before d part self.old →
             MatchResult result
             (λ _. (mid : Measurer)
             × (measurer_has mid Kind.Single self.new held.new []
-            × ((t : Option Tree) (r : Result ℕ Refusal) (after : Measurer) →
+            × ((t : Option Tree) (r : Result ℕ WalkError) (after : Measurer) →
             measurer_permits mid t r after →
             measurer_permits start (as_described (descriptor_of d) t) r after)))
             (λ e. measurer_has start Kind.Single self.new held.new [] × ((t : Option Tree) →
@@ -276,12 +276,12 @@ impl Serializer for Measurer {
     }
 
     #[inline(always)]
-    fn misuse(&mut self, held: &mut Measuring) -> Refusal {
+    fn misuse(&mut self, held: &mut Measuring) -> WalkError {
         self.size.misuse(&mut held.size)
     }
 
     #[inline(always)]
-    fn end(&mut self, held: Measuring) -> Result<usize, Refusal>
+    fn end(&mut self, held: Measuring) -> Result<usize, WalkError>
         ensures answered { (start : Measurer) (kind : Kind) (ps : List (Option Tree)) →
             measurer_has start kind self.old held ps → complete kind ps ≡ true →
             measurer_permits start (whole kind ps) result self.new }
@@ -298,7 +298,7 @@ impl Serializer for Measurer {
             parts,
         } = held;
         if missed {
-            return Err(Refusal::OutOfMemory);
+            return Err(WalkError::OutOfMemory);
         }
         let shape = size.shape();
         // An array's first element left its constructor in the place of `self.size`, where

@@ -8,7 +8,7 @@ use crate::header::Header;
 use crate::output::Output;
 use amqp_data::EncodingCodes;
 use amqp_ser::Fixed;
-use amqp_size::{Refusal, Shape};
+use amqp_size::{Shape, WalkError};
 
 /// The codes of a header.
 #[derive(Clone, Copy, Debug)]
@@ -31,7 +31,7 @@ impl Output {
 
     /// Writes a size and a count, in one byte each where both have room there.
     #[inline(always)]
-    fn put_counted(&mut self, short: u8, long: u8, len: u32, count: u32) -> Result<(), Refusal>
+    fn put_counted(&mut self, short: u8, long: u8, len: u32, count: u32) -> Result<(), WalkError>
         ensures kept { Kept self.old self.new }
         ensures taken { self.new.taken ≡ self.old.taken }
         ensures written { len ≤ 4294967291 →
@@ -52,7 +52,7 @@ impl Output {
         header_kind: HeaderKind,
         len: u32,
         count: u32,
-    ) -> Result<(), Refusal>
+    ) -> Result<(), WalkError>
         ensures kept { Kept self.old self.new }
         ensures taken { self.new.taken ≡ self.old.taken }
         ensures written { len ≤ 4294967291 →
@@ -93,7 +93,7 @@ impl Output {
         header_kind: HeaderKind,
         len: u32,
         count: u32,
-    ) -> Result<(), Refusal>
+    ) -> Result<(), WalkError>
         ensures kept { Kept self.old self.new }
         ensures taken { self.new.taken ≡ self.old.taken }
         ensures written { len ≤ 4294967291 →
@@ -115,7 +115,7 @@ impl Output {
         &mut self,
         in_array: bool,
         header_kind: HeaderKind,
-    ) -> Result<Option<u8>, Refusal>
+    ) -> Result<Option<u8>, WalkError>
         ensures kept { Kept self.old self.new }
         ensures written { (h : Header) (rest : List Header) →
             drop self.old.taken self.old.table.items ≡ h ∷ rest → small h →
@@ -128,7 +128,7 @@ impl Output {
             (header_bytes in_array header_kind h)) }
     {
         match self.next() {
-            None => Err(Refusal::InvalidValue),
+            None => Err(WalkError::InvalidValue),
             Some(header) => {
                 self.put_header(in_array, header_kind, header.len, header.count)?;
                 Ok(header.constructor)
@@ -138,7 +138,7 @@ impl Output {
 
     /// Opens a list or a map.
     #[inline(always)]
-    fn open_plain(&mut self, in_array: bool, header_kind: HeaderKind) -> Result<(), Refusal>
+    fn open_plain(&mut self, in_array: bool, header_kind: HeaderKind) -> Result<(), WalkError>
         ensures kept { Kept self.old self.new }
         ensures opened { (h : Header) (rest : List Header) →
             drop self.old.taken self.old.table.items ≡ h ∷ rest → small h →
@@ -151,7 +151,7 @@ impl Output {
     }
 
     /// Opens a variant of one value.
-    fn open_newtype_variant(&mut self, in_array: bool, index: u32) -> Result<(), Refusal>
+    fn open_newtype_variant(&mut self, in_array: bool, index: u32) -> Result<(), WalkError>
         ensures kept { Kept self.old self.new }
         ensures opened { (h : Header) (rest : List Header) →
             drop self.old.taken self.old.table.items ≡ h ∷ rest → small h →
@@ -166,7 +166,7 @@ impl Output {
     }
 
     /// Opens a variant of fields.
-    fn open_variant(&mut self, in_array: bool, index: u32) -> Result<(), Refusal>
+    fn open_variant(&mut self, in_array: bool, index: u32) -> Result<(), WalkError>
         ensures kept { Kept self.old self.new }
         ensures opened { (h g : Header) (rest : List Header) →
             drop self.old.taken self.old.table.items ≡ h ∷ (g ∷ rest) → small h → small g →
@@ -183,7 +183,7 @@ impl Output {
 
     /// Opens an array.
     #[inline(always)]
-    fn open_array(&mut self, in_array: bool) -> Result<(), Refusal>
+    fn open_array(&mut self, in_array: bool) -> Result<(), WalkError>
         ensures kept { Kept self.old self.new }
         ensures opened { (h : Header) (rest : List Header) →
             drop self.old.taken self.old.table.items ≡ h ∷ rest → small h →
@@ -204,14 +204,14 @@ impl Output {
     /// `InvalidValue` for a shape that has no header of its own or is refused, and where no header
     /// is left; `TooLong` where there is no room for it.
     #[inline(never)]
-    pub fn open(&mut self, in_array: bool, shape: Shape) -> Result<(), Refusal>
+    pub fn open(&mut self, in_array: bool, shape: Shape) -> Result<(), WalkError>
         ensures kept { Kept self.old self.new }
         ensures opened { (ts : Trees) → PartsFitOutput in_array shape self.old ts →
             opens in_array shape self.old (compound_headers shape ts) result self.new }
         ensures none { shape ≡ Shape.Refused → is_err result ≡ true }
     {
         match shape {
-            Shape::Refused | Shape::Single => Err(Refusal::InvalidValue),
+            Shape::Refused | Shape::Single => Err(WalkError::InvalidValue),
             Shape::Transparent => Ok(()),
             Shape::List => self.open_plain(in_array, HeaderKind::List),
             Shape::Map => self.open_plain(in_array, HeaderKind::Map),

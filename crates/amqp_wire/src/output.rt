@@ -6,7 +6,7 @@ ghost use Rattle.std.specs.Vec.{vec_capacity};
 use crate::header::Header;
 use amqp_data::EncodingCodes;
 use amqp_ser::Fixed;
-use amqp_size::{Form, Refusal};
+use amqp_size::{Form, WalkError};
 
 /// How far an output has come.
 #[derive(Clone, Copy, Debug)]
@@ -121,18 +121,18 @@ impl Output {
     /// # Errors
     /// `TooLong` where there is no room for them.
     #[inline(always)]
-    pub fn put(&mut self, bytes: &[u8]) -> Result<(), Refusal>
+    pub fn put(&mut self, bytes: &[u8]) -> Result<(), WalkError>
         ensures kept { Kept self.old self.new }
         ensures taken { self.new.taken ≡ self.old.taken }
         ensures written { puts self.old bytes.now result self.new }
-        ensures full { IfErr result (λ e. e ≡ Refusal.TooLong) }
+        ensures full { IfErr result (λ e. e ≡ WalkError.TooLong) }
     {
         if bytes.len() > self.out.capacity() - self.out.len() {
-            return Err(Refusal::TooLong);
+            return Err(WalkError::TooLong);
         }
         match self.out.extend_from_slice(bytes) {
             Ok(()) => Ok(()),
-            Err(_) => Err(Refusal::TooLong),
+            Err(_) => Err(WalkError::TooLong),
         }
     }
 
@@ -141,14 +141,14 @@ impl Output {
     /// # Errors
     /// `TooLong` where there is no room for them.
     #[inline(always)]
-    pub fn put_few(&mut self, bytes: &[u8]) -> Result<(), Refusal>
+    pub fn put_few(&mut self, bytes: &[u8]) -> Result<(), WalkError>
         ensures kept { Kept self.old self.new }
         ensures taken { self.new.taken ≡ self.old.taken }
         ensures written { puts self.old bytes.now result self.new }
-        ensures full { IfErr result (λ e. e ≡ Refusal.TooLong) }
+        ensures full { IfErr result (λ e. e ≡ WalkError.TooLong) }
     {
         if bytes.len() > self.out.capacity() - self.out.len() {
-            return Err(Refusal::TooLong);
+            return Err(WalkError::TooLong);
         }
         for byte in bytes {
             self.out.push_reserved(*byte);
@@ -158,12 +158,12 @@ impl Output {
 
     /// Writes a form by itself.
     #[inline(always)]
-    fn put_form(&mut self, form: Form) -> Result<(), Refusal>
+    fn put_form(&mut self, form: Form) -> Result<(), WalkError>
         requires { form.width ≤ 8 }
         ensures kept { Kept self.old self.new }
         ensures taken { self.new.taken ≡ self.old.taken }
         ensures written { puts self.old (form_bytes form) result self.new }
-        ensures full { IfErr result (λ e. e ≡ Refusal.TooLong) }
+        ensures full { IfErr result (λ e. e ≡ WalkError.TooLong) }
     {
         let [a, b, c, d, e, f, g, h] = form.bits.to_be_bytes();
         match form.width {
@@ -181,12 +181,12 @@ impl Output {
 
     /// Writes the bytes after a form's code.
     #[inline(always)]
-    fn put_payload(&mut self, form: Form) -> Result<(), Refusal>
+    fn put_payload(&mut self, form: Form) -> Result<(), WalkError>
         requires { form.width ≤ 8 }
         ensures kept { Kept self.old self.new }
         ensures taken { self.new.taken ≡ self.old.taken }
         ensures written { puts self.old (form_payload form) result self.new }
-        ensures full { IfErr result (λ e. e ≡ Refusal.TooLong) }
+        ensures full { IfErr result (λ e. e ≡ WalkError.TooLong) }
     {
         let [a, b, c, d, e, f, g, h] = form.bits.to_be_bytes();
         match form.width {
@@ -201,12 +201,12 @@ impl Output {
 
     /// Writes the bytes after a form's code, whatever its width.
     #[inline(never)]
-    fn put_bits(&mut self, form: Form) -> Result<(), Refusal>
+    fn put_bits(&mut self, form: Form) -> Result<(), WalkError>
         requires { form.width ≤ 8 }
         ensures kept { Kept self.old self.new }
         ensures taken { self.new.taken ≡ self.old.taken }
         ensures written { puts self.old (form_payload form) result self.new }
-        ensures full { IfErr result (λ e. e ≡ Refusal.TooLong) }
+        ensures full { IfErr result (λ e. e ≡ WalkError.TooLong) }
     {
         let bytes = form.bits.to_be_bytes();
         self.put(&bytes[8 - form.width..])
@@ -220,13 +220,13 @@ impl Output {
     /// # Example
     /// `Fixed::Uint(0)` is `43`, and in an array `00000000`.
     #[inline(always)]
-    pub fn put_fixed(&mut self, in_array: bool, fixed: Fixed) -> Result<(), Refusal>
+    pub fn put_fixed(&mut self, in_array: bool, fixed: Fixed) -> Result<(), WalkError>
         ensures kept { Kept self.old self.new }
         ensures taken { self.new.taken ≡ self.old.taken }
         ensures written { puts self.old
             (pick in_array (scalar_form (fixed_scalar fixed)) (scalar_payload (fixed_scalar fixed)))
             result self.new }
-        ensures full { IfErr result (λ e. e ≡ Refusal.TooLong) }
+        ensures full { IfErr result (λ e. e ≡ WalkError.TooLong) }
     {
         if in_array {
             self.put_payload(Form::in_array(fixed))
@@ -238,12 +238,12 @@ impl Output {
     /// Writes the length of a text or a binary, with the code of a length of one byte or that of
     /// four.
     #[inline(always)]
-    fn put_length(&mut self, in_array: bool, short: u8, long: u8, n: usize) -> Result<(), Refusal>
+    fn put_length(&mut self, in_array: bool, short: u8, long: u8, n: usize) -> Result<(), WalkError>
         requires { n ≤ 4294967291 }
         ensures kept { Kept self.old self.new }
         ensures taken { self.new.taken ≡ self.old.taken }
         ensures written { puts self.old (text_header in_array short long n) result self.new }
-        ensures full { IfErr result (λ e. e ≡ Refusal.TooLong) }
+        ensures full { IfErr result (λ e. e ≡ WalkError.TooLong) }
     {
         let [a, b, c, d] = (n as u32).to_be_bytes();
         if in_array {
@@ -264,11 +264,11 @@ impl Output {
     /// # Example
     /// `40`, and in an array no byte.
     #[inline(always)]
-    pub fn put_null(&mut self, in_array: bool) -> Result<(), Refusal>
+    pub fn put_null(&mut self, in_array: bool) -> Result<(), WalkError>
         ensures kept { Kept self.old self.new }
         ensures taken { self.new.taken ≡ self.old.taken }
         ensures written { puts self.old (pick in_array (0x40 ∷ []) []) result self.new }
-        ensures full { IfErr result (λ e. e ≡ Refusal.TooLong) }
+        ensures full { IfErr result (λ e. e ≡ WalkError.TooLong) }
     {
         if in_array {
             return Ok(());
@@ -290,12 +290,12 @@ impl Output {
         short: u8,
         long: u8,
         bytes: &[u8],
-    ) -> Result<(), Refusal>
+    ) -> Result<(), WalkError>
         requires { length bytes.now ≤ 4294967291 }
         ensures kept { Kept self.old self.new }
         ensures taken { self.new.taken ≡ self.old.taken }
         ensures written { puts self.old (text_at in_array short long bytes.now) result self.new }
-        ensures full { IfErr result (λ e. e ≡ Refusal.TooLong) }
+        ensures full { IfErr result (λ e. e ≡ WalkError.TooLong) }
     {
         self.put_length(in_array, short, long, bytes.len())?;
         self.put(bytes)
@@ -309,12 +309,12 @@ impl Output {
     /// # Example
     /// The code `74` and 01, 02, 03, 04 are `7401020304`, and in an array `01020304`.
     #[inline(always)]
-    pub fn put_exact(&mut self, in_array: bool, code: u8, bytes: &[u8]) -> Result<(), Refusal>
+    pub fn put_exact(&mut self, in_array: bool, code: u8, bytes: &[u8]) -> Result<(), WalkError>
         ensures kept { Kept self.old self.new }
         ensures taken { self.new.taken ≡ self.old.taken }
         ensures written { puts self.old (pick in_array (code ∷ bytes.now) bytes.now) result
             self.new }
-        ensures full { IfErr result (λ e. e ≡ Refusal.TooLong) }
+        ensures full { IfErr result (λ e. e ≡ WalkError.TooLong) }
     {
         if !in_array {
             self.put_few(&[code])?;

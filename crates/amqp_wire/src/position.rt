@@ -13,7 +13,7 @@ ghost use Rattle.amqp_size.specs.WholePending.{Plain};
 ghost use Rattle.amqp_size.specs.WholePosition.{Descriptor};
 
 use amqp_data::EncodingCodes;
-use amqp_size::{BasePosition, Pending, Position, Refusal, Shape};
+use amqp_size::{BasePosition, Pending, Position, Shape, WalkError};
 
 /// Whether an array's element stands there.
 #[inline(always)]
@@ -29,7 +29,7 @@ pub fn in_array(position: Position) -> bool
 /// `InvalidValue` where an array has another constructor, for a descriptor that is no ulong and no
 /// symbol, and for a described value as an array's element.
 #[inline(always)]
-pub fn accepted(position: Position, code: u8) -> Result<Pending, Refusal>
+pub fn accepted(position: Position, code: u8) -> Result<Pending, WalkError>
     ensures { (t : Tree) → constructor t ≡ Some code → uniform_arrays t ≡ true → inside t ≡ true →
         placed t ≡ true →
         MatchResult result
@@ -43,21 +43,21 @@ pub fn accepted(position: Position, code: u8) -> Result<Pending, Refusal>
             if c == code {
                 Ok(Pending::Plain(Position::Element(code)))
             } else {
-                Err(Refusal::InvalidValue)
+                Err(WalkError::InvalidValue)
             }
         }
         Position::Descriptor => {
             if code == EncodingCodes::Ulong as u8 || code == EncodingCodes::Sym32 as u8 {
                 Ok(Pending::Plain(position))
             } else {
-                Err(Refusal::InvalidValue)
+                Err(WalkError::InvalidValue)
             }
         }
         Position::Value(base) => {
             if base.takes_described() {
                 Ok(Pending::Plain(base.position()))
             } else {
-                Err(Refusal::InvalidValue)
+                Err(WalkError::InvalidValue)
             }
         }
     }
@@ -69,10 +69,10 @@ pub fn accepted(position: Position, code: u8) -> Result<Pending, Refusal>
 /// # Errors
 /// `InvalidValue` where a descriptor is to stand.
 #[inline(always)]
-pub fn described(pending: Pending) -> Result<Pending, Refusal>
+pub fn described(pending: Pending) -> Result<Pending, WalkError>
     ensures { MatchResult result
         (λ inner. after_descriptor (pending_at pending 0) ≡ Some (pending_at inner 0))
-        (λ e. (pending_at pending 0 ≡ Plain Descriptor) × (e ≡ Refusal.InvalidValue)) }
+        (λ e. (pending_at pending 0 ≡ Plain Descriptor) × (e ≡ WalkError.InvalidValue)) }
 {
     match pending {
         Pending::Plain(position) => match position {
@@ -83,7 +83,7 @@ pub fn described(pending: Pending) -> Result<Pending, Refusal>
                 code,
             )))),
             Position::Value(_) => Ok(pending),
-            Position::Descriptor => Err(Refusal::InvalidValue),
+            Position::Descriptor => Err(WalkError::InvalidValue),
         },
         pending => Ok(Pending::Nothing(pending.position())),
     }

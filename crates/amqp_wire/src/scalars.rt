@@ -20,12 +20,12 @@ use crate::writer::Writer;
 use amqp_data::EncodingCodes;
 use amqp_ser::Fixed;
 use amqp_size::width::LONGEST;
-use amqp_size::{Form, Position, Refusal, Shape};
+use amqp_size::{Form, Position, Shape, WalkError};
 
 impl Writer {
     /// Goes on where the table or the room fell short: what is written is not kept then.
     #[inline(always)]
-    fn written(&mut self, put: Result<(), Refusal>)
+    fn written(&mut self, put: Result<(), WalkError>)
         ensures kept { Kept self.old.output self.new.output }
         ensures pending { self.new.pending ≡ self.old.pending }
         ensures whole { is_err put ≡ false → self.new.output ≡ self.old.output }
@@ -37,7 +37,7 @@ impl Writer {
 
     /// Writes a value of fixed width.
     #[inline(always)]
-    pub(crate) fn fixed(&mut self, position: Position, fixed: Fixed) -> Result<(), Refusal>
+    pub(crate) fn fixed(&mut self, position: Position, fixed: Fixed) -> Result<(), WalkError>
         ensures kept { Kept self.old.output self.new.output }
         ensures accepted { self.old.pending ≡ Plain (without_prefix (position_at position 0)) →
             accepts (position_at position 0) (Some (scalar (fixed_scalar fixed))) result
@@ -58,7 +58,7 @@ impl Writer {
 
     /// Writes null.
     #[inline(always)]
-    pub(crate) fn null(&mut self, position: Position) -> Result<(), Refusal>
+    pub(crate) fn null(&mut self, position: Position) -> Result<(), WalkError>
         ensures kept { Kept self.old.output self.new.output }
         ensures accepted { self.old.pending ≡ Plain (without_prefix (position_at position 0)) →
             accepts (position_at position 0) (Some (scalar null)) result self.new.pending }
@@ -84,7 +84,7 @@ impl Writer {
         short: u8,
         long: u8,
         bytes: &[u8],
-    ) -> Result<(), Refusal>
+    ) -> Result<(), WalkError>
         ensures kept { Kept self.old.output self.new.output }
         ensures accepted { self.old.pending ≡ Plain (without_prefix (position_at position 0)) →
             (s : Scalar) → scalar_code s ≡ long →
@@ -96,7 +96,7 @@ impl Writer {
             self.new.output }
     {
         if bytes.len() > LONGEST {
-            return Err(Refusal::TooLong);
+            return Err(WalkError::TooLong);
         }
         match accepted(position, long) {
             Ok(after) => {
@@ -116,7 +116,7 @@ impl Writer {
         position: Position,
         code: u8,
         bytes: &[u8],
-    ) -> Result<(), Refusal>
+    ) -> Result<(), WalkError>
         ensures kept { Kept self.old.output self.new.output }
         ensures accepted { self.old.pending ≡ Plain (without_prefix (position_at position 0)) →
             (s : Scalar) → scalar_code s ≡ code →
@@ -139,7 +139,7 @@ impl Writer {
 
     /// Writes an encoded value as it is.
     #[inline(never)]
-    pub(crate) fn lazy(&mut self, position: Position, bytes: &[u8]) -> Result<(), Refusal>
+    pub(crate) fn lazy(&mut self, position: Position, bytes: &[u8]) -> Result<(), WalkError>
         ensures kept { Kept self.old.output self.new.output }
         ensures accepted { self.old.pending ≡ Plain (without_prefix (position_at position 0)) →
             accepts (position_at position 0) (Some (lazy bytes.now)) result self.new.pending }
@@ -149,7 +149,7 @@ impl Writer {
         match position {
             Position::Root | Position::Inside => {}
             Position::Value(base) if base.takes_described() => {}
-            _ => return Err(Refusal::InvalidValue),
+            _ => return Err(WalkError::InvalidValue),
         }
         let put = self.output.put(bytes);
         self.written(put);

@@ -8,7 +8,7 @@ use crate::measurer::Measurer;
 use crate::writer::Writer;
 use amqp_data::Error;
 use amqp_ser::Serialize;
-use amqp_size::Refusal;
+use amqp_size::WalkError;
 use std::alloc::Global;
 
 /// The value's bytes, exactly where its tree can be written.
@@ -46,12 +46,12 @@ pub fn to_vec<T: Serialize>(alloc: Global, value: &T) -> Result<Vec<u8>, Error>
 // The first walk's answer, but out of memory where a growth of the table was refused, whatever came
 // of that later.
 #[inline(always)]
-fn unless_refused(measurer: &Measurer, answer: Result<usize, Refusal>) -> Result<usize, Refusal>
-    ensures marked { measurer.now.table.refused ≡ true → result ≡ Err Refusal.OutOfMemory }
+fn unless_refused(measurer: &Measurer, answer: Result<usize, WalkError>) -> Result<usize, WalkError>
+    ensures marked { measurer.now.table.refused ≡ true → result ≡ Err WalkError.OutOfMemory }
     ensures unmarked { measurer.now.table.refused ≡ false → result ≡ answer }
 {
     if measurer.is_refused() {
-        return Err(Refusal::OutOfMemory);
+        return Err(WalkError::OutOfMemory);
     }
     answer
 }

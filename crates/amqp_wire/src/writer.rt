@@ -10,11 +10,11 @@ ghost use Rattle.amqp_ser.specs.Tree.{Tree};
 use crate::header::Header;
 use crate::output::{Checkpoint, Output};
 use crate::position::{described, inner_after};
-use crate::writing::Writing;
+use crate::writer_compound::WriterCompound;
 use amqp_data::EncodingCodes;
 use amqp_frame::is_frame;
 use amqp_ser::{Fixed, Kind, Mark, Serializer};
-use amqp_size::{Pending, Position, Refusal, ScalarMark, Shape};
+use amqp_size::{Pending, Position, ScalarMark, Shape, WalkError};
 use std::marker::Model;
 
 /// Writes values into room that stands ready, with the headers of a table.
@@ -73,7 +73,7 @@ impl Writer {
 }
 
 impl Serializer for Writer {
-    ghost use Rattle.amqp_size.specs.declared.refusal.Refusal.TheVariants.{InvalidValue};
+    ghost use Rattle.amqp_size.specs.declared.walk_error.WalkError.TheVariants.{InvalidValue};
     ghost use Rattle.amqp_wire.specs.Writer.{writer_permits, writer_has, writer_awaits, AwaitsDescriptor, nothing_of_none};
     ghost use Rattle.amqp_ser.specs.Compounds.{whole};
     ghost use Rattle.amqp_ser.specs.Composites.{as_described, descriptor_of};
@@ -81,9 +81,9 @@ impl Serializer for Writer {
 
     type Ok = ();
 
-    type Error = Refusal;
+    type Error = WalkError;
 
-    type Open = Writing;
+    type Open = WriterCompound;
 
     ghost permits = { writer_permits };
 
@@ -98,7 +98,7 @@ impl Serializer for Writer {
     ghost refuses_none = { nothing_of_none };
 
     #[inline(always)]
-    fn serialize_fixed(&mut self, fixed: Fixed) -> Result<(), Refusal> {
+    fn serialize_fixed(&mut self, fixed: Fixed) -> Result<(), WalkError> {
         let pending = self.pending;
         self.reset();
         match pending {
@@ -109,24 +109,24 @@ impl Serializer for Writer {
                     EncodingCodes::Timestamp as u8,
                     &v.to_be_bytes(),
                 ),
-                _ => Err(Refusal::InvalidValue),
+                _ => Err(WalkError::InvalidValue),
             },
-            _ => Err(Refusal::InvalidValue),
+            _ => Err(WalkError::InvalidValue),
         }
     }
 
     #[inline(always)]
-    fn serialize_null(&mut self) -> Result<(), Refusal> {
+    fn serialize_null(&mut self) -> Result<(), WalkError> {
         let pending = self.pending;
         self.reset();
         match pending {
             Pending::Plain(position) => self.null(position),
-            _ => Err(Refusal::InvalidValue),
+            _ => Err(WalkError::InvalidValue),
         }
     }
 
     #[inline(always)]
-    fn serialize_str(&mut self, v: &str) -> Result<(), Refusal> {
+    fn serialize_str(&mut self, v: &str) -> Result<(), WalkError> {
         let pending = self.pending;
         self.reset();
         match pending {
@@ -142,12 +142,12 @@ impl Serializer for Writer {
                 EncodingCodes::Sym32 as u8,
                 v.as_bytes(),
             ),
-            _ => Err(Refusal::InvalidValue),
+            _ => Err(WalkError::InvalidValue),
         }
     }
 
     #[inline(always)]
-    fn serialize_bytes(&mut self, v: &[u8]) -> Result<(), Refusal> {
+    fn serialize_bytes(&mut self, v: &[u8]) -> Result<(), WalkError> {
         let pending = self.pending;
         self.reset();
         match pending {
@@ -179,7 +179,7 @@ impl Serializer for Writer {
             ),
             // The same test as in the first walk: `accepts` is asked of this one too, call by call.
             Pending::Scalar(position, ScalarMark::Lazy) if is_frame(v) => self.lazy(position, v),
-            _ => Err(Refusal::InvalidValue),
+            _ => Err(WalkError::InvalidValue),
         }
     }
 
@@ -189,13 +189,13 @@ impl Serializer for Writer {
     }
 
     #[inline(always)]
-    fn begin(&mut self, kind: Kind) -> Writing {
+    fn begin(&mut self, kind: Kind) -> WriterCompound {
         let pending = self.pending;
         let position = pending.position();
         self.reset();
         if let Kind::Single = kind {
             let checkpoint = self.output.checkpoint();
-            return Writing {
+            return WriterCompound {
                 position,
                 shape: Shape::Single,
                 inner: pending,
@@ -206,7 +206,7 @@ impl Serializer for Writer {
         let shape = pending.shape(kind);
         self.open(position, shape);
         let checkpoint = self.output.checkpoint();
-        Writing {
+        WriterCompound {
             position,
             shape,
             inner: pending.inner(shape),
@@ -216,9 +216,9 @@ impl Serializer for Writer {
     }
 
     #[inline(always)]
-    fn vacant(&self) -> Writing {
+    fn vacant(&self) -> WriterCompound {
         let checkpoint = Checkpoint { taken: 0, len: 0 };
-        Writing {
+        WriterCompound {
             position: Position::Root,
             shape: Shape::Refused,
             inner: Pending::Plain(Position::Root),
@@ -228,13 +228,17 @@ impl Serializer for Writer {
     }
 
     #[inline(always)]
-    fn begin_part(&mut self, held: &mut Writing) {
+    fn begin_part(&mut self, held: &mut WriterCompound) {
         held.before_current = self.output.checkpoint();
         self.pending = held.inner;
     }
 
     #[inline(always)]
-    fn end_part(&mut self, held: &mut Writing, part: Result<(), Refusal>) -> Result<(), Refusal>
+    fn end_part(
+        &mut self,
+        held: &mut WriterCompound,
+        part: Result<(), WalkError>,
+    ) -> Result<(), WalkError>
         ensures step { (start : Writer) (kind : Kind) (before : Writer) (ps : List (Option Tree))
             (p : Option Tree) → writer_awaits start kind before held.old ps →
             writer_permits before p part self.old →
@@ -260,7 +264,7 @@ impl Serializer for Writer {
     }
 
     #[inline(always)]
-    fn begin_descriptor(&mut self, held: &mut Writing) {
+    fn begin_descriptor(&mut self, held: &mut WriterCompound) {
         held.before_current = self.output.checkpoint();
         self.pending = Pending::Plain(Position::Descriptor);
         self.put_described();
@@ -269,15 +273,15 @@ impl Serializer for Writer {
     #[inline(always)]
     fn end_descriptor(
         &mut self,
-        held: &mut Writing,
-        part: Result<(), Refusal>,
-    ) -> Result<(), Refusal>
+        held: &mut WriterCompound,
+        part: Result<(), WalkError>,
+    ) -> Result<(), WalkError>
         ensures step { (start before : Writer) (d : Option Tree) →
             AwaitsDescriptor start before held.old → writer_permits before d part self.old →
             MatchResult result
             (λ _. (mid : Writer)
             × (writer_has mid Kind.Single self.new held.new []
-            × ((t : Option Tree) (r : Result (Unit {0}) Refusal) (after : Writer) →
+            × ((t : Option Tree) (r : Result (Unit {0}) WalkError) (after : Writer) →
             writer_permits mid t r after →
             writer_permits start (as_described (descriptor_of d) t) r after)))
             (λ e. writer_has start Kind.Single self.new held.new [] × ((t : Option Tree) →
@@ -307,17 +311,17 @@ impl Serializer for Writer {
     }
 
     #[inline(always)]
-    fn undo_part(&mut self, held: &mut Writing) {
+    fn undo_part(&mut self, held: &mut WriterCompound) {
         self.output.restore(held.before_last);
     }
 
     #[inline(always)]
-    fn misuse(&mut self, _held: &mut Writing) -> Refusal {
-        Refusal::InvalidValue
+    fn misuse(&mut self, _held: &mut WriterCompound) -> WalkError {
+        WalkError::InvalidValue
     }
 
     #[inline(always)]
-    fn end(&mut self, held: Writing) -> Result<(), Refusal> {
+    fn end(&mut self, held: WriterCompound) -> Result<(), WalkError> {
         match held.shape {
             Shape::List => self.accept(held.position, EncodingCodes::List32 as u8),
             Shape::Map => self.accept(held.position, EncodingCodes::Map32 as u8),
@@ -329,7 +333,7 @@ impl Serializer for Writer {
                 self.pending = held.inner;
                 Ok(())
             }
-            Shape::Refused => Err(Refusal::InvalidValue),
+            Shape::Refused => Err(WalkError::InvalidValue),
         }
     }
 }

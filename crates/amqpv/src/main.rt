@@ -1,5 +1,5 @@
-//! Prints what standard input holds as AMQP data: the length, the bytes and the text of the list of its
-//! lines, or with the argument `cut` a line for each encoded value.
+//! Prints what standard input holds as AMQP data: the length, the bytes and the text of the list of
+//! its lines, or with the argument `cut` a line for each encoded value.
 #![tactic(auto)]
 
 use serde_amqp::read::IoReader;

@@ -1,5 +1,5 @@
-//! Composites of other forms: a symbol as descriptor, no descriptor, maps of names, variants, names and types that are
-//! known later.
+//! Composites of other forms: a symbol as descriptor, no descriptor, maps of names, variants, names
+//! and types that are known later.
 
 ghost use Rattle.std.specs.Prelude.{◌∷◌, [], Some, codes, string_bytes};
 ghost use Rattle.amqp_ser.specs.Tree.{code, name, scalar, symbol};
@@ -41,7 +41,8 @@ impl Serialize for Plain {
     }
 }
 
-/// A map whose keys are symbols, as a connection's properties have them; what is absent is left out.
+/// A map whose keys are symbols, as a connection's properties have them; what is absent is left
+/// out.
 #[derive(Drop)]
 pub struct Configured {
     pub product: String,

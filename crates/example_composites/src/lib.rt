@@ -1,8 +1,10 @@
-//! AMQP's own composites, field by field as the standard has them, each proved by its contract alone.
+//! AMQP's own composites, field by field as the standard has them, each proved by its contract
+//! alone.
 //!
-//! The performatives of links and sessions, the ends of a link, the states of a delivery and the sections of a message
-//! (AMQP 1.0 part 2, section 2.7, and part 3, sections 3.2, 3.4 and 3.5). A field that may be absent is an `Option`: it
-//! is left out at the end of its list, and is null before a later field. `forms` has composites of other forms.
+//! The performatives of links and sessions, the ends of a link, the states of a delivery and the
+//! sections of a message (AMQP 1.0 part 2, section 2.7, and part 3, sections 3.2, 3.4 and 3.5). A
+//! field that may be absent is an `Option`: it is left out at the end of its list, and is null
+//! before a later field. `forms` has composites of other forms.
 #![tactic(auto)]
 
 mod delivery;

@@ -16,8 +16,8 @@ use crate::values::{DeliveryTag, FieldMap, Handle, Multiple, SequenceNumber};
 use amqp_data::{OrderedMap, Symbol};
 use amqp_ser::{ListOf, Serialize, Serializer, fields};
 
-/// Attaches a link (AMQP 1.0 part 2, section 2.7.3). Its target is that of part 3; a coordinator of transactions is no
-/// part of this example.
+/// Attaches a link (AMQP 1.0 part 2, section 2.7.3). Its target is that of part 3; a coordinator of
+/// transactions is no part of this example.
 #[derive(Drop)]
 pub struct Attach {
     pub name: String,

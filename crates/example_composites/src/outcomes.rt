@@ -6,7 +6,8 @@ use crate::values::FieldMap;
 use amqp_data::Symbol;
 use amqp_ser::{ListOf, Serialize, Serializer, fields};
 
-/// What went wrong, as an end, a close, a detach or a rejection tells it (AMQP 1.0 part 2, section 2.8.14).
+/// What went wrong, as an end, a close, a detach or a rejection tells it (AMQP 1.0 part 2, section
+/// 2.8.14).
 #[derive(Drop)]
 pub struct ErrorReport {
     pub condition: Symbol,

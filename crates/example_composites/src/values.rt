@@ -1,4 +1,5 @@
-//! Fields that take one of several types, maps of values, and the names that the standard gives to common types.
+//! Fields that take one of several types, maps of values, and the names that the standard gives to
+//! common types.
 
 ghost use Rattle.example_composites.specs.Values.{of_address, of_annotation_key, of_message_id, of_multiple, of_simple};
 
@@ -114,7 +115,8 @@ impl Serialize for AnnotationKey {
     }
 }
 
-/// The value of an application property: of any type but a list, a map or an array (AMQP 1.0 part 3, section 3.2.5).
+/// The value of an application property: of any type but a list, a map or an array (AMQP 1.0 part
+/// 3, section 3.2.5).
 #[derive(Drop)]
 pub enum SimpleValue {
     /// No value.

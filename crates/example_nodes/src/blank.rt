@@ -81,7 +81,8 @@ impl Serializer for Blank {
         ensures step { (start before : Blank) (d : Option Tree) → Unit {0} → Refuses part →
             MatchResult result
             (λ _. (mid : Blank) × (Unit {0} ×
-            ((t : Option Tree) (r : Result (Unit {0}) Error) (after : Blank) → Refuses r → Refuses r)))
+            ((t : Option Tree) (r : Result (Unit {0}) Error) (after : Blank) →
+            Refuses r → Refuses r)))
             (λ e. Unit {0} × ((t : Option Tree) → Refuses (Err e))) }
         ensures refused { IfErr part (λ _. IsErr result) }
         ensures other_kinds { (start before : Blank) (d : Option Tree) → Unit {0} → Refuses part →

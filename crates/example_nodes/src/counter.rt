@@ -116,7 +116,8 @@ impl Serializer for NodeCounter {
         self.count_one(self.pending.takes_bytes(v))
     }
 
-    /// A marked tree has as many nodes as the tree that it was, but not every tree can be marked so.
+    /// A marked tree has as many nodes as the tree that it was, but not every tree can be marked
+    /// so.
     fn mark(&mut self, mark: Mark) {
         self.pending = self.pending.with(mark);
     }
@@ -215,8 +216,8 @@ impl Serializer for NodeCounter {
 /// How many nodes the value's tree has.
 ///
 /// # Errors
-/// Of a value with a tree: `TooLong`, where it has 2^64 nodes or more. A value without one is refused, as `InvalidValue`
-/// or `TooLong`.
+/// Of a value with a tree: `TooLong`, where it has 2^64 nodes or more. A value without one is
+/// refused, as `InvalidValue` or `TooLong`.
 ///
 /// # Memory
 /// Takes none.

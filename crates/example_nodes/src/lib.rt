@@ -1,5 +1,5 @@
-//! A serializer and a type as a user of the crates would write them: `NodeCounter` counts the nodes of any value's
-//! tree, and `Reading` has three fields.
+//! A serializer and a type as a user of the crates would write them: `NodeCounter` counts the nodes
+//! of any value's tree, and `Reading` has three fields.
 //!
 //! Both stand on the public contracts of `amqp_ser` alone.
 #![tactic(auto)]

@@ -78,7 +78,8 @@ impl PendingMark {
         }
     }
 
-    /// Whether a compound of this kind may stand here; what a single one stands for is asked of its one value.
+    /// Whether a compound of this kind may stand here; what a single one stands for is asked of its
+    /// one value.
     pub fn takes(self, kind: Kind) -> bool
         ensures { result ≡ fits self kind }
     {

@@ -1,5 +1,5 @@
-//! What is turned into an untyped value and read back is the same: the types that claim it, and those that a map's
-//! keys may have.
+//! What is turned into an untyped value and read back is the same: the types that claim it, and
+//! those that a map's keys may have.
 
 use crate::composites::{Calibration, Limits, Span, Title};
 use crate::day::{Day, Rain};

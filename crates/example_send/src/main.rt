@@ -1,4 +1,5 @@
-//! Sends a message, and receives it: it is sized, written, kept as an untyped value, cut back and read.
+//! Sends a message, and receives it: it is sized, written, kept as an untyped value, cut back and
+//! read.
 #![tactic(auto)]
 
 mod message;

@@ -15,8 +15,8 @@ use std::alloc::Global;
 
 /// Prints a line for each encoded value of the input, as it is taken, up to the input's end.
 ///
-/// The line is the value's length in decimal, a space, its bytes in lower-case hexadecimal, and 0A. At
-/// the input's end it flushes.
+/// The line is the value's length in decimal, a space, its bytes in lower-case hexadecimal, and 0A.
+/// At the input's end it flushes.
 ///
 /// Public names say frame for an encoded value, as the crate `serde_amqp` does. A frame of the
 /// transport, with its header of eight bytes (AMQP 1.0 part 2, section 2.3), is another thing.
@@ -28,9 +28,10 @@ use std::alloc::Global;
 /// # Errors
 ///
 /// [`Error::InvalidFormatCode`] where a refused code stands where a value was to begin, and
-/// [`Error::UnexpectedEof`] where the input ends inside a value; the lines of the values before were put
-/// then. [`Error::Io`] where a read or a write failed, and [`Error::OutOfMemory`]; a prefix of the lines
-/// was put then. [`Error::TooLong`] where another byte follows `u64::MAX` values, whose lines were put.
+/// [`Error::UnexpectedEof`] where the input ends inside a value; the lines of the values before
+/// were put then. [`Error::Io`] where a read or a write failed, and [`Error::OutOfMemory`]; a
+/// prefix of the lines was put then. [`Error::TooLong`] where another byte follows `u64::MAX`
+/// values, whose lines were put.
 ///
 /// # Memory
 ///

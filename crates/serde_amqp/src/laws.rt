@@ -25,8 +25,9 @@ pub fn text_is_its_lines()
     ensures { (s : List ℕ) → AreLines s (lines_of s) }
 {}
 
-/// The lazy value of a tree's bytes stands for the tree's image: where the tree can be written, is at most 256 deep and
-/// has nothing lazy or transparent in it, such a lazy value has that image, and it is refused as out of memory alone.
+/// The lazy value of a tree's bytes stands for the tree's image: where the tree can be written, is
+/// at most 256 deep and has nothing lazy or transparent in it, such a lazy value has that image,
+/// and it is refused as out of memory alone.
 ///
 /// # Memory
 ///

@@ -24,9 +24,10 @@ use std::str;
 
 /// Prints the length, the bytes and the text of the list of the input's lines.
 ///
-/// The lines are the parts before each 0A, and a last part without 0A where it is not empty; 0D is kept.
-/// All input is read. Then it prints `size ` and the length in decimal, `bytes ` and the bytes in
-/// lower-case hexadecimal, and `text ` and the text of the list, each with 0A after it, and flushes.
+/// The lines are the parts before each 0A, and a last part without 0A where it is not empty; 0D is
+/// kept. All input is read. Then it prints `size ` and the length in decimal, `bytes ` and the
+/// bytes in lower-case hexadecimal, and `text ` and the text of the list, each with 0A after it,
+/// and flushes.
 ///
 /// # Encoding
 ///
@@ -34,9 +35,9 @@ use std::str;
 ///
 /// # Errors
 ///
-/// [`Error::InvalidValue`] where the input is not UTF-8, and [`Error::TooLong`] where the list of its lines
-/// is past a limit; nothing was put then. [`Error::Io`] where a read or a write failed, and
-/// [`Error::OutOfMemory`]; a prefix of the three lines was put then.
+/// [`Error::InvalidValue`] where the input is not UTF-8, and [`Error::TooLong`] where the list of
+/// its lines is past a limit; nothing was put then. [`Error::Io`] where a read or a write failed,
+/// and [`Error::OutOfMemory`]; a prefix of the three lines was put then.
 ///
 /// # Memory
 ///
@@ -44,7 +45,8 @@ use std::str;
 ///
 /// # Example
 ///
-/// For the lines `a` and `bc` it prints `size 10`, `bytes c00802a10161a1026263` and `text ["a", "bc"]`.
+/// For the lines `a` and `bc` it prints `size 10`, `bytes c00802a10161a1026263` and `text ["a",
+/// "bc"]`.
 pub fn run_lines<R: Read, W: Write>(
     alloc: Global,
     reader: &mut R,

@@ -1,4 +1,5 @@
-//! What can be serialized, into what, and a value's bytes; and what a serializer of one's own is written with.
+//! What can be serialized, into what, and a value's bytes; and what a serializer of one's own is
+//! written with.
 //!
 //! The macro `fields!` stands in `amqp_ser` alone: a crate does not hand on the macros of another.
 

@@ -1,4 +1,5 @@
-//! The length of a value's bytes, counted without memory, the serializer behind it, and the lengths of headers.
+//! The length of a value's bytes, counted without memory, the serializer behind it, and the lengths
+//! of headers.
 
 pub use amqp_size::{
     MapSerializer, Refusal, SeqSerializer, SizeSerializer, StructSerializer,

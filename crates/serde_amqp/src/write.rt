@@ -9,9 +9,10 @@ use amqp_data::Error;
 
 /// Takes bytes one after another, and counts its failures.
 ///
-/// For implementers: `written` is the bytes taken so far, where the writer can tell them, and `failures` a
-/// `u64` that no call lowers. A call answers [`Error::Io`] only where it raised that count or found it at
-/// its last value, and at its last value always. So a writer whose count never rises never fails.
+/// For implementers: `written` is the bytes taken so far, where the writer can tell them, and
+/// `failures` a `u64` that no call lowers. A call answers [`Error::Io`] only where it raised that
+/// count or found it at its last value, and at its last value always. So a writer whose count never
+/// rises never fails.
 pub trait Write {
     /// The bytes taken, where the writer tells them.
     ghost written: { Self → Option (List ℕ) };
@@ -19,8 +20,8 @@ pub trait Write {
     /// How many writes failed.
     ghost failures: { Self → ℕ };
 
-    /// What a call makes of the count, where the writer says more than the clauses do: from whether it
-    /// answered [`Error::Io`], the count before and the count after.
+    /// What a call makes of the count, where the writer says more than the clauses do: from whether
+    /// it answered [`Error::Io`], the count before and the count after.
     ghost counts: { Bool → ℕ → ℕ → Type 0 } = { λ _ _ _. Unit {0} };
 
     /// Nothing that was taken is held back, where the writer can tell.
@@ -30,8 +31,8 @@ pub trait Write {
     ///
     /// # Errors
     ///
-    /// [`Error::OutOfMemory`] where the writer keeps them, and [`Error::Io`] where a write failed; a
-    /// prefix of the bytes was taken then.
+    /// [`Error::OutOfMemory`] where the writer keeps them, and [`Error::Io`] where a write failed;
+    /// a prefix of the bytes was taken then.
     ///
     /// # Memory
     ///

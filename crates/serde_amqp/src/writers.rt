@@ -72,8 +72,8 @@ impl Write for VecWriter {
 
 /// The bytes go to a `std` writer.
 ///
-/// Each failed write counts one failure, and so does one that takes no bytes; no write is tried again. A
-/// call that does not fail counts none.
+/// Each failed write counts one failure, and so does one that takes no bytes; no write is tried
+/// again. A call that does not fail counts none.
 #[derive(Drop)]
 pub struct IoWriter<W> {
     inner: W,

@@ -59,15 +59,16 @@ pub trait MapAccess: Sized + Drop {
         ensures owed { owed self.new ≡ None }
         ensures kept { left self.new ≡ left self.old };
 
-    /// Reads the next key by a seed; `None` after the last. Its value is owed then. A refused key takes its value with
-    /// it, and no value is owed.
+    /// Reads the next key by a seed; `None` after the last. Its value is owed then. A refused key
+    /// takes its value with it, and no value is owed.
     ///
     /// # Errors
-    /// Invalid while a value is owed, and nothing changes; as the seed otherwise, and only where the key is not read.
+    /// Invalid while a value is owed, and nothing changes; as the seed otherwise, and only where
+    /// the key is not read.
     ///
     /// # Example
-    /// Of the pair of the uint 1 and the ubyte 2, by `Of(PhantomData::<u32>)`: `Some(1)`. Again, before the value:
-    /// invalid.
+    /// Of the pair of the uint 1 and the ubyte 2, by `Of(PhantomData::<u32>)`: `Some(1)`. Again,
+    /// before the value: invalid.
     final fn next_key_seed<K: Seed>(
         &mut self,
         alloc: Global,
@@ -119,13 +120,16 @@ pub trait MapAccess: Sized + Drop {
         }
     }
 
-    /// Reads the next key and its value by seeds; `None` after the last. A refused pair is taken whole.
+    /// Reads the next key and its value by seeds; `None` after the last. A refused pair is taken
+    /// whole.
     ///
     /// # Errors
-    /// Invalid while a value is owed, and nothing changes; as the seeds otherwise, and only where the pair is not read.
+    /// Invalid while a value is owed, and nothing changes; as the seeds otherwise, and only where
+    /// the pair is not read.
     ///
     /// # Example
-    /// Of the pair of the uint 3 and the ubyte 4, by the seeds of `u32` and `u8`: `Some((3, 4))`, then `None`.
+    /// Of the pair of the uint 3 and the ubyte 4, by the seeds of `u32` and `u8`: `Some((3, 4))`,
+    /// then `None`.
     final fn next_entry_seed<K: Seed, V: Seed>(
         &mut self,
         alloc: Global,
@@ -158,7 +162,8 @@ pub trait MapAccess: Sized + Drop {
     /// Invalid while a value is owed; as the type otherwise.
     ///
     /// # Example
-    /// Of the pair of the uint 1 and the ubyte 2, as a `u32`: `Some(1)`. Again, before the value: invalid.
+    /// Of the pair of the uint 1 and the ubyte 2, as a `u32`: `Some(1)`. Again, before the value:
+    /// invalid.
     final fn next_key<K: Deserialize>(&mut self, alloc: Global) -> Result<Option<K>, Self::Error>
         ensures read { ReadsKey Self.Error.is_memory K.reads
             (owed self.old) (left self.old) (owed self.new) (left self.new) result }

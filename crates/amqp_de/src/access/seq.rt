@@ -37,7 +37,8 @@ pub trait SeqAccess: Sized + Drop {
     /// As the seed, and only where the element is not read.
     ///
     /// # Example
-    /// Of the string `a` and the ubyte 2, by `Of(PhantomData::<u8>)`: invalid, then `Some(2)`, then `None`.
+    /// Of the string `a` and the ubyte 2, by `Of(PhantomData::<u8>)`: invalid, then `Some(2)`, then
+    /// `None`.
     final fn next_element_seed<S: Seed>(
         &mut self,
         alloc: Global,

@@ -120,8 +120,8 @@ pub trait VariantAccess: Sized + Drop {
     /// Reads the value of a variant by a seed.
     ///
     /// # Errors
-    /// The message `Expecting a value` where nothing comes with the index; as the seed otherwise. Only where nothing
-    /// is read.
+    /// The message `Expecting a value` where nothing comes with the index; as the seed otherwise.
+    /// Only where nothing is read.
     ///
     /// # Example
     /// Of the ulong 13, by `Of(PhantomData::<u64>)`: 13. Of nothing: the message.
@@ -161,8 +161,8 @@ pub trait VariantAccess: Sized + Drop {
     /// Deserializes a tuple variant: shows the visitor the list of its fields.
     ///
     /// # Errors
-    /// The message `Expecting Value::List` where nothing comes with the index; invalid where it is no list; as the
-    /// visitor otherwise.
+    /// The message `Expecting Value::List` where nothing comes with the index; invalid where it is
+    /// no list; as the visitor otherwise.
     ///
     /// # Example
     /// Of the list of the ubytes 1 and 2: `visit_seq` of these two.
@@ -197,7 +197,7 @@ pub trait VariantAccess: Sized + Drop {
 
 /// The variant that a deserializer opened.
 #[derive(Drop)]
-pub struct VariantOf<D: Deserializer> {
+pub struct EnumAccessOf<D: Deserializer> {
     index: D,
     content: ContentOf<D>,
 }
@@ -208,20 +208,20 @@ pub struct ContentOf<D: Deserializer> {
     item: Option<D>,
 }
 
-impl<D: Deserializer> VariantOf<D> {
+impl<D: Deserializer> EnumAccessOf<D> {
     /// The variant of this index, with what comes with it.
-    pub fn new(index: D, item: Option<D>) -> VariantOf<D>
-        ensures index { ⟦<VariantOf<D> as EnumAccess>⟧.index result ≡ D.value index }
-        ensures content { ⟦<VariantOf<D> as EnumAccess>⟧.content result ≡ value_of D.value item }
+    pub fn new(index: D, item: Option<D>) -> EnumAccessOf<D>
+        ensures index { ⟦<EnumAccessOf<D> as EnumAccess>⟧.index result ≡ D.value index }
+        ensures content { ⟦<EnumAccessOf<D> as EnumAccess>⟧.content result ≡ value_of D.value item }
     {
-        VariantOf::<D> {
+        EnumAccessOf::<D> {
             index,
             content: ContentOf::<D> { item },
         }
     }
 }
 
-impl<D: Deserializer> EnumAccess for VariantOf<D> {
+impl<D: Deserializer> EnumAccess for EnumAccessOf<D> {
     type Error = D::Error;
 
     type Item = D;
@@ -233,7 +233,7 @@ impl<D: Deserializer> EnumAccess for VariantOf<D> {
     ghost content = { λ v. value_of D.value v.content.item };
 
     fn split(self) -> (D, ContentOf<D>) {
-        let VariantOf { index, content } = self;
+        let EnumAccessOf { index, content } = self;
         (index, content)
     }
 }

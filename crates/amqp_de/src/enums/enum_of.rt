@@ -77,7 +77,8 @@ fn read_keyed<D: Deserializer, V: Variants>(
     }
 }
 
-/// One of the variants: its index alone, a list of the index and the value, or a map from the one to the other.
+/// One of the variants: its index alone, a list of the index and the value, or a map from the one
+/// to the other.
 #[derive(Drop)]
 pub struct EnumOf<V>(pub V);
 

@@ -46,7 +46,8 @@ pub trait Variants: Sized + Drop {
     /// Reads the variant of this index.
     ///
     /// # Errors
-    /// Invalid for an index past the last; what the variant's value is refused with; a message where it is missing.
+    /// Invalid for an index past the last; what the variant's value is refused with; a message
+    /// where it is missing.
     ///
     /// # Example
     /// Of three variants the index 3 is invalid.

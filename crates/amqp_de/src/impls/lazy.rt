@@ -12,7 +12,8 @@ use std::alloc::Global;
 
 /// Any value, as the bytes that it is written as.
 ///
-/// None is restorable: its image is the value inside it, which may have been written in another form.
+/// None is restorable: its image is the value inside it, which may have been written in another
+/// form.
 ///
 /// # Errors
 /// Invalid or too long where the value cannot be written; out of memory.

@@ -2,7 +2,7 @@
 
 use super::ordered_map;
 use amqp_data::Error;
-use amqp_de::VariantOf;
+use amqp_de::EnumAccessOf;
 use amqp_de::de::{EnumAccess as _, MapAccess as _, SeqAccess as _, VariantAccess as _};
 use amqp_from_value::{Deserializer, MapAccess, SeqAccess, VariantAccess};
 use amqp_value::Value;
@@ -94,7 +94,7 @@ fn content(alloc: Global, item: Option<Value>) -> Result<VariantAccess, Fail> {
         None => None,
     };
     let index = Deserializer::new(alloc, Value::Uint(1));
-    let (_index, content) = VariantOf::new(index, item).variant::<u32>(alloc)?;
+    let (_index, content) = EnumAccessOf::new(index, item).variant::<u32>(alloc)?;
     Ok(content)
 }
 

@@ -7,7 +7,7 @@ ghost use Rattle.amqp_de.specs.Reads.{Always};
 
 use super::{array, list};
 use amqp_data::{Described, Descriptor, Error, OrderedMap, Symbol};
-use amqp_de::VariantOf;
+use amqp_de::EnumAccessOf;
 use amqp_de::de::{
     self, Deserialize, Deserializer as _, EnumAccess, MapAccess, Plain, Refusal, SeqAccess,
     VariantAccess, Visit, Visitor,
@@ -251,7 +251,7 @@ fn each_call_has_its_visit(rt: HostRuntime) -> Result<(), Fail> {
 fn a_variant_of_fields_is_a_list(rt: HostRuntime) -> Result<(), Fail> {
     let alloc = rt.alloc();
     let index = Deserializer::new(alloc, Value::Uint(1));
-    let (_index, content) = VariantOf::new(index, None).variant::<u32>(alloc)?;
+    let (_index, content) = EnumAccessOf::new(index, None).variant::<u32>(alloc)?;
     assert!(rt;
         matches!(
             content.tuple_variant(PointVisitor { alloc }),
@@ -261,7 +261,7 @@ fn a_variant_of_fields_is_a_list(rt: HostRuntime) -> Result<(), Fail> {
     let fields = list(alloc, [Value::Uint(1), Value::Uint(2)])?;
     let index = Deserializer::new(alloc, Value::Uint(1));
     let item = Some(Deserializer::new(alloc, fields));
-    let (_index, content) = VariantOf::new(index, item).variant::<u32>(alloc)?;
+    let (_index, content) = EnumAccessOf::new(index, item).variant::<u32>(alloc)?;
     assert_eq!(rt;
         content.struct_variant(PointVisitor { alloc }),
         Ok(Point { x: 1, y: 2 })

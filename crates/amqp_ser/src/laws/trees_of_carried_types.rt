@@ -162,7 +162,7 @@ pub fn trees_of_fields<F: Fields>()
         ≡ option_map (λ ts. tree.variant v.0 (tree.list ts))
         (all_trees (up_to_last (values_of (F.named v.1)))) }
     ensures strings { (m : MapOf F) → ⟦<MapOf<F> as Serialize>⟧.tree m
-        ≡ whole Map (fields.entries_of string_key (F.named m.0)) }
+        ≡ whole Map (fields.named_parts string_key (F.named m.0)) }
     ensures symbols { (m : SymbolMapOf F) → ⟦<SymbolMapOf<F> as Serialize>⟧.tree m
-        ≡ whole Map (fields.entries_of symbol_key (F.named m.0)) }
+        ≡ whole Map (fields.named_parts symbol_key (F.named m.0)) }
 {}

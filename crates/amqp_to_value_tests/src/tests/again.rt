@@ -1,4 +1,5 @@
-// A value that is given to `to_value` again comes back: proved with no induction of the caller's own.
+// A value that is given to `to_value` again comes back: proved with no induction of the caller's
+// own.
 
 ghost use Rattle.std.specs.Prelude.{◌≡◌, IfOk, true};
 ghost use Rattle.amqp_value.specs.TreeOf.{tree_of};

@@ -19,7 +19,8 @@ fn feed_map<S: amqp_ser::Serializer>(
     map.end()
 }
 
-// Feeds a value without a key, and twice a key while one is pending. Answers with the map and whether all was refused.
+// Feeds a value without a key, and twice a key while one is pending. Answers with the map and
+// whether all was refused.
 fn misuse_map<S: amqp_ser::Serializer>(serializer: &mut S) -> Result<(S::Ok, bool), S::Error> {
     let mut map = serializer.serialize_map(None)?;
     let value = map.serialize_value(&9u8).is_err();
@@ -54,7 +55,8 @@ fn feed_described<S: amqp_ser::Serializer>(serializer: &mut S) -> Result<(S::Ok,
     Ok((fields.end()?, descriptor && again && second))
 }
 
-// A single compound in the place of a described value takes its one value, and refuses a second; then the value comes.
+// A single compound in the place of a described value takes its one value, and refuses a second;
+// then the value comes.
 fn refuse_late<S: amqp_ser::Serializer>(serializer: &mut S) -> Result<S::Ok, S::Error> {
     let mut outer = serializer.begin(Kind::Single);
     serializer.begin_descriptor(&mut outer);

@@ -10,8 +10,8 @@ use crate::Value;
 use amqp_data::{ByteBuf, Dec32, Dec64, Dec128, F32Bits, F64Bits, Symbol, Timestamp, Uuid};
 use amqp_ser::Serialize;
 
-/// `TryFrom` after `From` gives the scalar back, and the value between them has the scalar's tree, as the one that
-/// `to_value` gives has.
+/// `TryFrom` after `From` gives the scalar back, and the value between them has the scalar's tree,
+/// as the one that `to_value` gives has.
 ///
 /// # Memory
 /// Takes none.
@@ -58,8 +58,8 @@ pub fn scalars_come_back()
         ⟦<Symbol as TryFrom<Value>>⟧.try_from_gives }
 {}
 
-/// The elements of an array that is written, and their images, all have one format code, and it is the array's
-/// constructor.
+/// The elements of an array that is written, and their images, all have one format code, and it is
+/// the array's constructor.
 ///
 /// # Memory
 /// Takes none.

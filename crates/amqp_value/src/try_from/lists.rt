@@ -10,13 +10,15 @@ use amqp_data::Array;
 /// Takes a `List`, and gives all its items, converted in order.
 ///
 /// # Errors
-/// `Unfit` of a value of another kind, or of the first item that does not fit; `Memory`, once an item fits.
+/// `Unfit` of a value of another kind, or of the first item that does not fit; `Memory`, once an
+/// item fits.
 ///
 /// # Memory
 /// Takes the list's own allocator, once, and nothing where there are no items.
 ///
 /// # Example
-/// The list of the ubytes 1 and 2, as a `Vec<u8>`: 1 and 2. The list of the ubyte 1 and null: `Unfit(Null)`.
+/// The list of the ubytes 1 and 2, as a `Vec<u8>`: 1 and 2. The list of the ubyte 1 and null:
+/// `Unfit(Null)`.
 impl<T: TryFrom<Value, Error = Value> + Drop> TryFrom<Value> for Vec<T> {
     type Error = ConvertFault;
 
@@ -33,13 +35,15 @@ impl<T: TryFrom<Value, Error = Value> + Drop> TryFrom<Value> for Vec<T> {
 /// Takes an `Array`, and gives all its elements, converted in order.
 ///
 /// # Errors
-/// `Unfit` of a value of another kind, or of the first element that does not fit; `Memory`, once an element fits.
+/// `Unfit` of a value of another kind, or of the first element that does not fit; `Memory`, once an
+/// element fits.
 ///
 /// # Memory
 /// Takes the array's own allocator, once, and nothing where there are no elements.
 ///
 /// # Example
-/// The array of the ubytes 1 and 2, as an `Array<u8>`: 1 and 2. The list of them: `Unfit` of that list.
+/// The array of the ubytes 1 and 2, as an `Array<u8>`: 1 and 2. The list of them: `Unfit` of that
+/// list.
 impl<T: TryFrom<Value, Error = Value> + Drop> TryFrom<Value> for Array<T> {
     type Error = ConvertFault;
 

@@ -1,11 +1,11 @@
-//! Maps of four types out of maps. Keys that are converted to equal keys are inserted in their order: the last one's
-//! value stands.
+//! Maps of four types out of maps. Keys that are converted to equal keys are inserted in their
+//! order: the last one's value stands.
 
 ghost use Rattle.std.specs.Prelude.{◌≡◌, []};
 ghost use Rattle.std.specs.HashMap.{IsFromIterResult};
 ghost use Rattle.indexmap.specs.IndexMap.{insert_all};
 ghost use Rattle.amqp_data.specs.Pairs.{entries_of};
-ghost use Rattle.amqp_value.specs.Converts.{MapGives, inserted, inserted_sorted};
+ghost use Rattle.amqp_value.specs.Converts.{MapGives, inserted_in_order, inserted_sorted};
 
 use super::ConvertFault;
 use super::pairs::convert_pairs;
@@ -18,14 +18,15 @@ use std::hash::Hash;
 /// Takes a `Map`, and inserts its pairs in turn, each key converted before its value.
 ///
 /// # Errors
-/// `Unfit` of a value of another kind, or of the first key or value that does not fit; `Memory`, once a pair fits.
+/// `Unfit` of a value of another kind, or of the first key or value that does not fit; `Memory`,
+/// once a pair fits.
 ///
 /// # Memory
 /// Takes the map's own allocator, as the pairs grow.
 ///
 /// # Example
-/// The map from the ubyte 1 to `true`, as an `OrderedMap<u8, bool>`: 1 to `true`. As an `OrderedMap<u8, u8>`:
-/// `Unfit(Bool(true))`.
+/// The map from the ubyte 1 to `true`, as an `OrderedMap<u8, bool>`: 1 to `true`. As an
+/// `OrderedMap<u8, u8>`: `Unfit(Bool(true))`.
 impl<K, V> TryFrom<Value> for OrderedMap<K, V>
 where
     K: TryFrom<Value, Error = Value> + Hash + Eq + Drop,
@@ -34,7 +35,7 @@ where
     type Error = ConvertFault;
 
     ghost try_from_gives = { MapGives K.try_from_gives V.try_from_gives
-        (λ done map. entries_of map ≡ inserted K.eq done) };
+        (λ done map. entries_of map ≡ inserted_in_order K.eq done) };
 
     fn try_from(value: Value) -> Result<OrderedMap<K, V>, ConvertFault> {
         match value {
@@ -47,7 +48,8 @@ where
 /// Takes a `Map`, and inserts its pairs in turn, each key converted before its value.
 ///
 /// # Errors
-/// `Unfit` of a value of another kind, or of the first key or value that does not fit; `Memory`, once a pair fits.
+/// `Unfit` of a value of another kind, or of the first key or value that does not fit; `Memory`,
+/// once a pair fits.
 ///
 /// # Memory
 /// Takes the map's own allocator, as the pairs grow.
@@ -76,7 +78,8 @@ where
 /// Takes a `Map`, and inserts its pairs in turn, each key converted before its value.
 ///
 /// # Errors
-/// `Unfit` of a value of another kind, or of the first key or value that does not fit; `Memory`, once a pair fits.
+/// `Unfit` of a value of another kind, or of the first key or value that does not fit; `Memory`,
+/// once a pair fits.
 ///
 /// # Memory
 /// Takes the map's own allocator, as the pairs grow. The hash has a fixed seed.
@@ -105,7 +108,8 @@ where
 /// Takes a `Map`, and inserts its pairs in turn, each key converted before its value.
 ///
 /// # Errors
-/// `Unfit` of a value of another kind, or of the first key or value that does not fit; `Memory`, once a pair fits.
+/// `Unfit` of a value of another kind, or of the first key or value that does not fit; `Memory`,
+/// once a pair fits.
 ///
 /// # Memory
 /// Takes the map's own allocator, as the pairs grow. The hash has a fixed seed.

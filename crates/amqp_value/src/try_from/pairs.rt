@@ -4,7 +4,7 @@ ghost use Rattle.std.specs.Prelude.{◌≡◌, List, [], ◌∷◌, ◌++◌, Is
 ghost use Rattle.std.specs.HashMap.{IsFromIterResult};
 ghost use Rattle.indexmap.specs.IndexMap.{insert_all};
 ghost use Rattle.amqp_data.specs.Pairs.{entries_of};
-ghost use Rattle.amqp_value.specs.Converts.{PairGives, PairsGive, inserted, inserted_sorted};
+ghost use Rattle.amqp_value.specs.Converts.{PairGives, PairsGive, inserted_in_order, inserted_sorted};
 
 use super::ConvertFault;
 use crate::Value;
@@ -30,7 +30,7 @@ pub(super) trait Inserts<K, V>: Sized + Drop {
 }
 
 impl<K: Hash + Eq + Drop, V: Drop> Inserts<K, V> for OrderedMap<K, V> {
-    ghost holds = { λ done map. entries_of map ≡ inserted K.eq done };
+    ghost holds = { λ done map. entries_of map ≡ inserted_in_order K.eq done };
 
     fn empty(alloc: Global) -> OrderedMap<K, V> {
         OrderedMap::new(alloc)

@@ -5,7 +5,7 @@ use crate::measurer::Measurer;
 use crate::writer::Writer;
 use amqp_data::Error;
 use amqp_ser::{Fixed, Kind, Mark, Serializer};
-use amqp_size::{Refusal, SizeSerializer};
+use amqp_size::{SizeSerializer, WalkError};
 use std::alloc::Global;
 
 /// How the parts of a compound are found: by numbers that follow one another from a seed.

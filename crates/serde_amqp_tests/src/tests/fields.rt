@@ -1,4 +1,5 @@
-//! Fields of a struct, and what a serializer and a type of one's own are written with, by the names that are handed out.
+//! Fields of a struct, and what a serializer and a type of one's own are written with, by the names
+//! that are handed out.
 
 use super::rows::row;
 use amqp_data::{OrderedMap, Symbol};

@@ -1,4 +1,5 @@
-//! Lazy values that are read: `to_value` gives the value that the bytes spell, or tells why they spell none.
+//! Lazy values that are read: `to_value` gives the value that the bytes spell, or tells why they
+//! spell none.
 
 use super::lazy_values::lazy;
 use serde_amqp::described::Described;

@@ -1,4 +1,5 @@
-//! Lazy values: written as they are wherever a value may stand but in arrays, and read wherever they stand.
+//! Lazy values: written as they are wherever a value may stand but in arrays, and read wherever
+//! they stand.
 
 use super::marked::{After, Newtype};
 use super::rows::{decoded, refused, row};

@@ -1,5 +1,5 @@
-//! Each marker over each kind that it does not take, and each kind that is no descriptor before a value: no tree,
-//! whatever the place.
+//! Each marker over each kind that it does not take, and each kind that is no descriptor before a
+//! value: no tree, whatever the place.
 
 ghost use Rattle.std.specs.Prelude.{Some};
 ghost use Rattle.amqp_ser.specs.Composites.{as_described, descriptor_of};
@@ -47,7 +47,8 @@ impl<D: Serialize> Serialize for After<'_, D> {
     }
 }
 
-// A value of each kind, in the order of `Value`; the binary is of no marker's length, and is no encoded value.
+// A value of each kind, in the order of `Value`; the binary is of no marker's length, and is no
+// encoded value.
 fn values(a: Global) -> Result<Vec<Value>, Fail> {
     let described = Described {
         descriptor: Descriptor::from(1u64),

@@ -1,7 +1,7 @@
 //! Runs to be made with each growth of memory refused in turn.
 //!
-//! `rt try --test --fail-alloc N` refuses the growth of number N. A run then answers out of memory, and
-//! what it printed is a prefix of its output; where no growth of it was refused, it succeeds.
+//! `rt try --test --fail-alloc N` refuses the growth of number N. A run then answers out of memory,
+//! and what it printed is a prefix of its output; where no growth of it was refused, it succeeds.
 
 use serde_amqp::read::SliceReader;
 use serde_amqp::{Error, VecWriter, run_cut, run_lines};

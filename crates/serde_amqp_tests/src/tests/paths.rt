@@ -1,4 +1,5 @@
-//! Each item that is handed out, by its path: an alias of another module would have another type or another answer.
+//! Each item that is handed out, by its path: an alias of another module would have another type or
+//! another answer.
 
 ghost use Rattle.std.specs.Prelude.{ℕ, List};
 ghost use Rattle.serde_amqp.specs.Lines.{AreLines, lines_of};
@@ -174,7 +175,8 @@ fn compounds_that_count(rt: HostRuntime) -> Result<(), Fail> {
     Ok(())
 }
 
-// What is opened, by the type of its compound. The prover's borrow check does not cover a value of these types.
+// What is opened, by the type of its compound. The prover's borrow check does not cover a value of
+// these types.
 trait Opened {
     fn name() -> &'static str;
 }

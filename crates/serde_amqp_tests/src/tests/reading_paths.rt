@@ -29,7 +29,7 @@ fn types_and_accessors(rt: HostRuntime) -> Result<(), Fail> {
     assert_eq!(rt; elements.next_element::<u32>(a), Ok(Some(1)));
     let mut entries = value::de::MapAccess::new(a, serde_amqp::primitives::OrderedMap::new(a));
     assert_eq!(rt; entries.next_entry::<u32, u32>(a), Ok(None));
-    let index = de::VariantOf::<value::de::Deserializer>::new(uint(a), Some(uint(a)));
+    let index = de::EnumAccessOf::<value::de::Deserializer>::new(uint(a), Some(uint(a)));
     let (index, content) = index.variant::<u32>(a)?;
     let content: value::de::VariantAccess = content;
     let content: de::ContentOf<value::de::Deserializer> = content;

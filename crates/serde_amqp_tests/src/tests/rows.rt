@@ -1,4 +1,5 @@
-//! Worked rows: a value's length, bytes and image, by the encoding tables (AMQP 1.0 part 1, section 1.6).
+//! Worked rows: a value's length, bytes and image, by the encoding tables (AMQP 1.0 part 1, section
+//! 1.6).
 
 use amqp_data::{
     ByteBuf, Dec32, Dec64, Dec128, F32Bits, F64Bits, Symbol, SymbolRef, Timestamp, Uuid,

@@ -1,4 +1,5 @@
-//! A reader of one byte a call and a writer of few, which fail at a call of choice; and a writer that holds bytes back.
+//! A reader of one byte a call and a writer of few, which fail at a call of choice; and a writer
+//! that holds bytes back.
 
 ghost use Rattle.std.specs.Prelude.{Some};
 
@@ -89,7 +90,8 @@ impl io::Write for Sip<'_> {
     }
 }
 
-/// Holds all bytes back until it is flushed; counts the flushes, and fails at each where it is made so.
+/// Holds all bytes back until it is flushed; counts the flushes, and fails at each where it is made
+/// so.
 #[derive(Drop)]
 pub struct Held<'a> {
     held: Vec<u8>,

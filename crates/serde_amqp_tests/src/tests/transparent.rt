@@ -1,4 +1,5 @@
-//! Transparent vectors: elements one after another, at the root alone; and the enums that have names of their own.
+//! Transparent vectors: elements one after another, at the root alone; and the enums that have
+//! names of their own.
 
 ghost use Rattle.std.specs.Prelude.{None, Some};
 ghost use Rattle.amqp_ser.specs.Tree.{scalar, ubyte};

@@ -4,7 +4,7 @@ ghost use Rattle.std.specs.Prelude.{◌≡◌, ◌++◌, ◌∷◌, [], ℕ, Err
 ghost use Rattle.amqp_ser.specs.Tree.{Tree};
 
 use amqp_ser::{Fixed, Kind, Mark, Serialize, Serializer};
-use amqp_size::{OpenCompound, Refusal, Shape, SizeSerializer};
+use amqp_size::{OpenCompound, Shape, SizeSerializer, WalkError};
 use std::alloc::Global;
 
 /// Notes each call, and counts below.
@@ -37,14 +37,14 @@ impl Calls {
 
 impl Serializer for Calls {
     ghost use Rattle.amqp_size.specs.SizeSerializer.{size_permits, size_has, size_awaits, size_awaits_descriptor, no_count_on_none};
-    ghost use Rattle.amqp_size.specs.declared.refusal.Refusal.TheVariants.{InvalidValue};
+    ghost use Rattle.amqp_size.specs.declared.walk_error.WalkError.TheVariants.{InvalidValue};
     ghost use Rattle.amqp_ser.specs.Compounds.{whole};
     ghost use Rattle.amqp_ser.specs.Composites.{as_described, descriptor_of};
     ghost use Rattle.amqp_ser.specs.declared.kind.Kind.{Kind};
 
     type Ok = usize;
 
-    type Error = Refusal;
+    type Error = WalkError;
 
     type Open = OpenCompound;
 
@@ -60,7 +60,7 @@ impl Serializer for Calls {
 
     ghost refuses_none = { λ before n after. no_count_on_none before.inner n after.inner };
 
-    fn serialize_fixed(&mut self, fixed: Fixed) -> Result<usize, Refusal> {
+    fn serialize_fixed(&mut self, fixed: Fixed) -> Result<usize, WalkError> {
         self.note(match fixed {
             Fixed::Null => "null",
             Fixed::Bool(_) => "bool",
@@ -79,17 +79,17 @@ impl Serializer for Calls {
         self.inner.serialize_fixed(fixed)
     }
 
-    fn serialize_null(&mut self) -> Result<usize, Refusal> {
+    fn serialize_null(&mut self) -> Result<usize, WalkError> {
         self.note("null");
         self.inner.serialize_null()
     }
 
-    fn serialize_str(&mut self, v: &str) -> Result<usize, Refusal> {
+    fn serialize_str(&mut self, v: &str) -> Result<usize, WalkError> {
         self.note(v);
         self.inner.serialize_str(v)
     }
 
-    fn serialize_bytes(&mut self, v: &[u8]) -> Result<usize, Refusal> {
+    fn serialize_bytes(&mut self, v: &[u8]) -> Result<usize, WalkError> {
         self.note("binary");
         self.inner.serialize_bytes(v)
     }
@@ -133,8 +133,8 @@ impl Serializer for Calls {
     fn end_part(
         &mut self,
         held: &mut OpenCompound,
-        part: Result<usize, Refusal>,
-    ) -> Result<(), Refusal>
+        part: Result<usize, WalkError>,
+    ) -> Result<(), WalkError>
         ensures step { (start : Calls) (kind : Kind) (before : Calls) (ps : List (Option Tree))
             (p : Option Tree) →
             size_awaits start.inner kind before.inner held.old ps →
@@ -158,15 +158,15 @@ impl Serializer for Calls {
     fn end_descriptor(
         &mut self,
         held: &mut OpenCompound,
-        part: Result<usize, Refusal>,
-    ) -> Result<(), Refusal>
+        part: Result<usize, WalkError>,
+    ) -> Result<(), WalkError>
         ensures step { (start before : Calls) (d : Option Tree) →
             size_awaits_descriptor start.inner before.inner held.old →
             size_permits before.inner d part self.old.inner →
             MatchResult result
             (λ _. (mid : Calls)
             × (size_has mid.inner Kind.Single self.new.inner held.new []
-            × ((t : Option Tree) (r : Result ℕ Refusal) (after : Calls) →
+            × ((t : Option Tree) (r : Result ℕ WalkError) (after : Calls) →
             size_permits mid.inner t r after.inner →
             size_permits start.inner (as_described (descriptor_of d) t) r after.inner)))
             (λ e. size_has start.inner Kind.Single self.new.inner held.new [] × ((t : Option Tree) →
@@ -185,12 +185,12 @@ impl Serializer for Calls {
         self.inner.undo_part(held);
     }
 
-    fn misuse(&mut self, held: &mut OpenCompound) -> Refusal {
+    fn misuse(&mut self, held: &mut OpenCompound) -> WalkError {
         self.note(" misuse,");
         self.inner.misuse(held)
     }
 
-    fn end(&mut self, held: OpenCompound) -> Result<usize, Refusal> {
+    fn end(&mut self, held: OpenCompound) -> Result<usize, WalkError> {
         self.note(match held.shape() {
             Shape::Map => " }",
             _ => " ]",

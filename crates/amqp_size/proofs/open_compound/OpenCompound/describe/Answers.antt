@@ -1,5 +1,5 @@
 use Rattle.std.proofs.Common.{◌≡◌, refl, sym, ap, ◌∙◌, subst, arith}
-use Rattle.amqp_size.specs.declared.refusal.Refusal.TheVariants as error
+use Rattle.amqp_size.specs.declared.walk_error.WalkError.TheVariants as error
 use Rattle.amqp_size.specs.State.{position_at, pending_at}
 use Rattle.amqp_size.specs.AddPart.{undescribed}
 use Rattle.amqp_size.specs.WholePending.{Plain}

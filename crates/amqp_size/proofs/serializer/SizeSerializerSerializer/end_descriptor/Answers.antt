@@ -1,5 +1,5 @@
 use Rattle.std.proofs.Common.{◌≡◌, ℕ, [], Option, Some, true, Result, Ok, Err, MatchResult, length, sym, refl, ap, ◌∙◌, subst, inr}
-use Rattle.amqp_size.specs.declared.refusal.Refusal.{Refusal}
+use Rattle.amqp_size.specs.declared.walk_error.WalkError.{WalkError}
 use Rattle.amqp_ser.specs.Tree.{Tree, Descriptor}
 use Rattle.amqp_ser.specs.Encoding.{descriptor_form}
 use Rattle.amqp_ser.specs.Writable.{descriptor_fits}
@@ -16,11 +16,11 @@ use Rattle.amqp_size.proofs.Described.{counted_descriptor, described_step, descr
 use Rattle.amqp_size.proofs.serializer.SizeSerializerSerializer.end_descriptor.Goals as goal
 
 -- what is known after a descriptor was counted, or passed the limit
-known : (start now : SizeSerializer) (held new : OpenCompound) (n : ℕ) (x : Descriptor) (d : Option Tree) (res : Result (Unit {0}) Refusal) → HoldsSingle start kinds.Single held [] → now.pending ≡ Plain (without_prefix held.position) →
+known : (start now : SizeSerializer) (held new : OpenCompound) (n : ℕ) (x : Descriptor) (d : Option Tree) (res : Result (Unit {0}) WalkError) → HoldsSingle start kinds.Single held [] → now.pending ≡ Plain (without_prefix held.position) →
     descriptor_of d ≡ Some x → n ≡ length (descriptor_form x) → descriptor_fits x ≡ true → without_prefix new.position ≡ without_prefix held.position → new.shape ≡ held.shape → new.count ≡ held.count →
     MatchResult res (λ _. described_pending held.inner n ≡ Some new.inner) (λ e. (new ≡ held) × undescribed held.inner n e) →
     MatchResult res
-    (λ _. (mid : SizeSerializer) × (size_has mid kinds.Single now new [] × ((t : Option Tree) (r : Result ℕ Refusal) (after : SizeSerializer) → size_permits mid t r after → size_permits start (as_described (descriptor_of d) t) r after)))
+    (λ _. (mid : SizeSerializer) × (size_has mid kinds.Single now new [] × ((t : Option Tree) (r : Result ℕ WalkError) (after : SizeSerializer) → size_permits mid t r after → size_permits start (as_described (descriptor_of d) t) r after)))
     (λ e. size_has start kinds.Single now new [] × ((t : Option Tree) → size_permits start (as_described (descriptor_of d) t) (Err e) now))
 known start now held new n x d (Ok u) h here o len fits a b c m =
     let s : described_pending start.pending n ≡ Some new.inner = sym (ap (λ w. described_pending w n) h.parts.1) ∙ m in

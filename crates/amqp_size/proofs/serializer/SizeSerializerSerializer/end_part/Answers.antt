@@ -1,5 +1,5 @@
 use Rattle.std.proofs.Common.{◌≡◌, ◌∷◌, ◌++◌, [], List, Option, Ok, Err, Result, MatchResult, IfErr, sym, refl, ap, ◌∙◌, subst, rules}
-use Rattle.amqp_size.specs.declared.refusal.Refusal.{Refusal}
+use Rattle.amqp_size.specs.declared.walk_error.WalkError.{WalkError}
 use Rattle.amqp_ser.specs.Tree.{Tree}
 use Rattle.amqp_ser.specs.Compounds.{whole}
 use Rattle.amqp_ser.specs.declared.kind.Kind.{Kind}
@@ -15,7 +15,7 @@ use Rattle.amqp_size.proofs.Holding.{Taking, refused_any, taken_any}
 use Rattle.amqp_size.proofs.serializer.SizeSerializerSerializer.end_part.Goals as goal
 
 -- what holds after a part, from what was proved of it
-known : (start : SizeSerializer) (kind : Kind) (held new : OpenCompound) (ps : List (Option Tree)) (p : Option Tree) (res : Result (Unit {0}) Refusal) (position : Pending) → Holding start kind held ps →
+known : (start : SizeSerializer) (kind : Kind) (held new : OpenCompound) (ps : List (Option Tree)) (p : Option Tree) (res : Result (Unit {0}) WalkError) (position : Pending) → Holding start kind held ps →
     position ≡ Plain (without_prefix held.position) → new.position ≡ held.position → IfErr res (λ _. new ≡ held) →
     MatchResult res (λ _. Holding start kind new (ps ++ (p ∷ [])))
     (λ e. (others : List (Option Tree)) → at_position (position_of start.pending) (meant start.pending (whole kind (ps ++ (p ∷ others)))) (Err e) (Plain (without_prefix held.position))) →

@@ -12,7 +12,7 @@ use Rattle.amqp_wire.specs.Positions.{is_single}
 use Rattle.amqp_wire.specs.Writer.{Kept, PartsFitOutput, opens, written_as}
 use Rattle.amqp_wire.specs.declared.output.Output.{Output}
 use Rattle.amqp_wire.specs.declared.writer.Writer.{Writer}
-use Rattle.amqp_wire.specs.declared.writing.Writing.{Writing}
+use Rattle.amqp_wire.specs.declared.writer_compound.WriterCompound.{WriterCompound}
 use Rattle.amqp_wire.proofs.HeldKinds.{other_kind}
 use Rattle.amqp_wire.proofs.PartBytes.{now_open}
 use Rattle.amqp_wire.proofs.WrittenSteps.{opens_alone, opens_other}
@@ -22,7 +22,7 @@ pub returns-in-Single : goal.returns-in-Single
 returns-in-Single c =
     let start : Writer = c.args.self.now in
     let at : position_at c.position-position.result 0 ≡ position_of start.pending = c.position-position.ensures 0 ∙ ap (λ (w : Writer). position_of w.pending) c.self.view_is in
-    let held : Writing = record { position = position_at c.position-position.result 0; shape = shape.Single; inner = pending_at c.self.inside.pending 0; before_current = c.checkpoint-checkpoint.result; before_last = c.checkpoint-checkpoint.result } in
+    let held : WriterCompound = record { position = position_at c.position-position.result 0; shape = shape.Single; inner = pending_at c.self.inside.pending 0; before_current = c.checkpoint-checkpoint.result; before_last = c.checkpoint-checkpoint.result } in
     let e = c.reset.ensures in (
       subst (λ o. written_as (is_single c.args.kind) start c.args.kind o held []) (sym e.output) (opens_alone start c.args.kind held c.in-Single.is at (ap (λ (w : Writer). w.pending) c.self.view_is) refl),
       e.pending ∙ ap (λ p. Plain (without_prefix p)) (sym at),
@@ -37,7 +37,7 @@ returns c =
     let at : position_at c.position-position.result 0 ≡ position_of start.pending = c.position-position.ensures 0 ∙ ap (λ (w : Writer). position_of w.pending) c.self.view_is in
     let is : c.shape-shape.result ≡ shape_of start.pending kind = c.shape-shape.ensures 0 ∙ ap (λ (w : Writer). shape_of w.pending kind) c.self.view_is in
     let inner = c.inner.ensures 0 ∙ ap (λ s. inner_pending s (pending_at c.self.inside.pending 0)) is ∙ ap (λ (w : Writer). inner_pending (shape_of start.pending kind) w.pending) c.self.view_is in
-    let held : Writing = record { position = position_at c.position-position.result 0; shape = c.shape-shape.result; inner = pending_at c.inner.result 0; before_current = c.checkpoint-checkpoint-2.result; before_last = c.checkpoint-checkpoint-2.result } in
+    let held : WriterCompound = record { position = position_at c.position-position.result 0; shape = c.shape-shape.result; inner = pending_at c.inner.result 0; before_current = c.checkpoint-checkpoint-2.result; before_last = c.checkpoint-checkpoint-2.result } in
     let opened = subst (λ (o : Output). (ts : Trees) → PartsFitOutput (in_array (position_of start.pending)) (shape_of start.pending kind) o ts → opens (in_array (position_of start.pending)) (shape_of start.pending kind) o (compound_headers (shape_of start.pending kind) ts) (Ok tt) out) e.output
     (subst (λ (h : Shape). (ts : Trees) → PartsFitOutput (in_array (position_of start.pending)) h c.reset.new.self.output ts → opens (in_array (position_of start.pending)) h c.reset.new.self.output (compound_headers h ts) (Ok tt) out) is
     (subst (λ (p : Position). (ts : Trees) → PartsFitOutput (in_array p) c.shape-shape.result c.reset.new.self.output ts → opens (in_array p) c.shape-shape.result c.reset.new.self.output (compound_headers c.shape-shape.result ts) (Ok tt) out) at c.open.ensures.opened)) in

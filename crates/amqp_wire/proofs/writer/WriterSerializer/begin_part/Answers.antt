@@ -1,7 +1,7 @@
 use Rattle.std.proofs.Common.{refl}
 use Rattle.amqp_wire.specs.Positions.{is_single}
-use Rattle.amqp_wire.specs.declared.writing.Writing.{Writing}
-use Rattle.amqp_wire.specs.contracts.writing.Writing.{the_view as part_of}
+use Rattle.amqp_wire.specs.declared.writer_compound.WriterCompound.{WriterCompound}
+use Rattle.amqp_wire.specs.contracts.writer_compound.WriterCompound.{the_view as part_of}
 use Rattle.amqp_wire.proofs.SingleWritten.{same_permits}
 use Rattle.amqp_wire.proofs.PartBytes.{kept-refl}
 use Rattle.amqp_wire.proofs.WrittenSteps.{back}
@@ -10,8 +10,8 @@ use Rattle.amqp_wire.proofs.writer.WriterSerializer.begin_part.Goals as goal
 pub returns-clause-ready : goal.returns-clause-ready
 returns-clause-ready c = rw (← c.self.view_is, ← c.held.view_is) (λ start kind ps h.
     let s = c.self.inside.output in
-    let old : Writing = (part_of c.held.inside) in
-    let new : Writing = record { position = old.position; shape = old.shape; inner = old.inner; before_current = c.checkpoint-held-inside.result; before_last = old.before_last } in
+    let old : WriterCompound = (part_of c.held.inside) in
+    let new : WriterCompound = record { position = old.position; shape = old.shape; inner = old.inner; before_current = c.checkpoint-held-inside.result; before_last = old.before_last } in
     ((back (is_single kind) start kind s s old new ps h.0 (kept-refl s) (refl, refl) refl refl refl refl, refl), (c.checkpoint-held-inside.ensures.taken, c.checkpoint-held-inside.ensures.len)))
 
 pub returns-clause-single : goal.returns-clause-single

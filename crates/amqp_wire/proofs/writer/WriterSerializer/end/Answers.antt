@@ -2,8 +2,8 @@ use Rattle.std.proofs.Common.{◌≡◌, List, Option, Some, Result, Ok, Err, tr
 use Rattle.amqp_ser.specs.Compounds.{whole, complete}
 use Rattle.amqp_ser.specs.Tree.{Tree}
 use Rattle.amqp_ser.specs.declared.kind.Kind.{Kind}
-use Rattle.amqp_size.specs.declared.refusal.Refusal.{Refusal}
-use Rattle.amqp_size.specs.declared.refusal.Refusal.TheVariants.{InvalidValue}
+use Rattle.amqp_size.specs.declared.walk_error.WalkError.{WalkError}
+use Rattle.amqp_size.specs.declared.walk_error.WalkError.TheVariants.{InvalidValue}
 use Rattle.amqp_size.specs.declared.shape.Shape.{Shape}
 use Rattle.amqp_size.specs.declared.shape.Shape.TheVariants as shape
 use Rattle.amqp_size.specs.SizeSerializer.{at_position}
@@ -12,8 +12,8 @@ use Rattle.amqp_wire.specs.Positions.{is_single}
 use Rattle.amqp_wire.specs.Writer.{accepts, writer_permits, written_as}
 use Rattle.amqp_wire.specs.declared.output.Output.{Output}
 use Rattle.amqp_wire.specs.declared.writer.Writer.{Writer}
-use Rattle.amqp_wire.specs.declared.writing.Writing.{Writing}
-use Rattle.amqp_wire.specs.contracts.writing.Writing.{the_view as part_of}
+use Rattle.amqp_wire.specs.declared.writer_compound.WriterCompound.{WriterCompound}
+use Rattle.amqp_wire.specs.contracts.writer_compound.WriterCompound.{the_view as part_of}
 use Rattle.amqp_wire.proofs.SingleWritten.{alone_written}
 use Rattle.amqp_wire.proofs.EndedBytes.{all_written, concluded, not_opened}
 use Rattle.amqp_wire.proofs.Positions.{ended}
@@ -21,7 +21,7 @@ use Rattle.amqp_wire.proofs.WrittenSteps.{gathered_one, single_one}
 use Rattle.amqp_wire.proofs.writer.WriterSerializer.end.Goals as goal
 
 -- a compound that was opened, and is no single value: the answer on its tree is one on the whole
-compound_ended : (sh : Shape) (start : Writer) (kind : Kind) (s : Output) (held : Writing) (ps : List (Option Tree)) (r : Result (Unit {0}) Refusal) (after : Writer) → held.shape ≡ sh → (sh ≡ shape.Single → ⊥) → (sh ≡ shape.Refused → ⊥)
+compound_ended : (sh : Shape) (start : Writer) (kind : Kind) (s : Output) (held : WriterCompound) (ps : List (Option Tree)) (r : Result (Unit {0}) WalkError) (after : Writer) → held.shape ≡ sh → (sh ≡ shape.Single → ⊥) → (sh ≡ shape.Refused → ⊥)
     → written_as (is_single kind) start kind s held ps → complete kind ps ≡ true → after.output ≡ s → ((t : Tree) → ended sh t → accepts held.position (Some t) r after.pending) → writer_permits start (whole kind ps) r after
 compound_ended sh start kind s held ps r after is several opened h done same answer =
     let g = gathered_one (is_single kind) start kind s held ps refl h (λ q. several (sym is ∙ q)) in
@@ -62,14 +62,14 @@ returns-in-Transparent c = rw (← c.held.view_is) (λ start kind ps h done.
 
 pub returns-in-Single : goal.returns-in-Single
 returns-in-Single c = rw (← c.self.view_is, ← c.held.view_is) (λ start kind ps h done.
-    let held : Writing = (part_of c.held.inside) in
+    let held : WriterCompound = (part_of c.held.inside) in
     let b = single_one (is_single kind) start kind c.self.inside.output held ps refl h.0 c.in-Single.is in
     subst (λ k. writer_permits start (whole k ps) (Ok tt) (record { pending = held.inner; output = c.self.inside.output })) (sym b.0)
     (alone_written start c.self.inside.output held ps b.1 (subst (λ k. complete k ps ≡ true) b.0 done)))
 
 pub returns-in-Refused : goal.returns-in-Refused
 returns-in-Refused c = rw (← c.held.view_is) (λ start kind ps h done.
-    let held : Writing = (part_of c.held.inside) in
+    let held : WriterCompound = (part_of c.held.inside) in
     let g = gathered_one (is_single kind) start kind c.args.self.now.output held ps refl h.0 (λ q. let no = sym c.in-Refused.is ∙ q in cc) in
     let n = not_opened start kind c.args.self.now.output held ps g.1 c.in-Refused.is in
     (n.0, (subst (λ u. at_position (position_of start.pending) (meant start.pending (whole kind ps)) (Err InvalidValue) u) (sym h.1) n.1.0, tt)))

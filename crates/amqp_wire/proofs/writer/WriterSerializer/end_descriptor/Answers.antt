@@ -3,9 +3,9 @@ use Rattle.amqp_ser.specs.Composites.{as_described, descriptor_of}
 use Rattle.amqp_size.specs.WholePending.{Plain}
 use Rattle.amqp_wire.specs.Writer.{writer_permits}
 use Rattle.amqp_wire.specs.declared.output.Output.{Output}
-use Rattle.amqp_wire.specs.declared.writing.Writing.{Writing}
+use Rattle.amqp_wire.specs.declared.writer_compound.WriterCompound.{WriterCompound}
 use Rattle.amqp_wire.specs.contracts.writer.Writer.{the_view as stance}
-use Rattle.amqp_wire.specs.contracts.writing.Writing.{the_view as part_of}
+use Rattle.amqp_wire.specs.contracts.writer_compound.WriterCompound.{the_view as part_of}
 use Rattle.amqp_size.specs.State.{pending_at}
 use Rattle.amqp_wire.proofs.SingleWritten.{alone_open}
 use Rattle.amqp_wire.proofs.DescribedBytes.{value_described, described_refused, nested_refused}
@@ -14,14 +14,14 @@ use Rattle.amqp_wire.proofs.writer.WriterSerializer.end_descriptor.Goals as goal
 
 pub returns-in-Ok-described-clause-step : goal.returns-in-Ok-described-clause-step
 returns-in-Ok-described-clause-step c = rw (← c.self.view_is, ← c.held.view_is) (λ start before d w r.
-    let held : Writing = (part_of c.held.inside) in
-    let new : Writing = record { position = held.position; shape = held.shape; inner = pending_at c.in-Ok-described.inner 0; before_current = held.before_current; before_last = held.before_last } in
+    let held : WriterCompound = (part_of c.held.inside) in
+    let new : WriterCompound = record { position = held.position; shape = held.shape; inner = pending_at c.in-Ok-described.inner 0; before_current = held.before_current; before_last = held.before_last } in
     let v = value_described start before (stance c.self.inside) held new d c.args.part w r c.in-Ok.is c.in-Ok-described.ensures refl refl in
     (v.0, ((v.1.0.0, ap Plain (c.without_prefix.ensures 0 0)), v.1.1)))
 
 pub returns-in-Err-described-clause-step : goal.returns-in-Err-described-clause-step
 returns-in-Err-described-clause-step c = rw (← c.self.view_is, ← c.held.view_is) (λ start before d w r.
-    let held : Writing = (part_of c.held.inside) in
+    let held : WriterCompound = (part_of c.held.inside) in
     let out : Output = c.restore.new.self in
     let n = c.restore.ensures in
     let at = c.without_prefix.ensures 0 0 in
@@ -34,7 +34,7 @@ returns-in-Err-described-clause-step c = rw (← c.self.view_is, ← c.held.view
 
 pub returns-in-Err-clause-step : goal.returns-in-Err-clause-step
 returns-in-Err-clause-step c = rw (← c.self.view_is, ← c.held.view_is) (λ start before d w r.
-    let held : Writing = (part_of c.held.inside) in
+    let held : WriterCompound = (part_of c.held.inside) in
     let out : Output = c.restore-in-Err.new.self in
     let n = c.restore-in-Err.ensures in
     let at = c.without_prefix.ensures 0 0 in

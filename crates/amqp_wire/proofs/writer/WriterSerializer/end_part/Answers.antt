@@ -5,22 +5,22 @@ use Rattle.amqp_size.specs.WholePending.{Plain}
 use Rattle.amqp_wire.specs.Positions.{is_single}
 use Rattle.amqp_wire.specs.Writer.{writer_permits}
 use Rattle.amqp_wire.specs.declared.output.Output.{Output}
-use Rattle.amqp_wire.specs.declared.writing.Writing.{Writing}
+use Rattle.amqp_wire.specs.declared.writer_compound.WriterCompound.{WriterCompound}
 use Rattle.amqp_wire.specs.contracts.writer.Writer.{the_view as stance}
-use Rattle.amqp_wire.specs.contracts.writing.Writing.{the_view as part_of}
+use Rattle.amqp_wire.specs.contracts.writer_compound.WriterCompound.{the_view as part_of}
 use Rattle.amqp_wire.proofs.PartBytes.{kept_back, kept-more}
 use Rattle.amqp_wire.proofs.WrittenSteps.{part_more, part_no, back, kept_since}
 use Rattle.amqp_wire.proofs.writer.WriterSerializer.end_part.Goals as goal
 
 pub returns-in-Ok-clause-step : goal.returns-in-Ok-clause-step
 returns-in-Ok-clause-step c = rw (← c.self.view_is, ← c.held.view_is) (λ start kind before ps p w r.
-    let held : Writing = (part_of c.held.inside) in
-    let new : Writing = record { position = held.position; shape = held.shape; inner = pending_at c.inner_after-held-inside.result 0; before_current = held.before_current; before_last = held.before_current } in
+    let held : WriterCompound = (part_of c.held.inside) in
+    let new : WriterCompound = record { position = held.position; shape = held.shape; inner = pending_at c.inner_after-held-inside.result 0; before_current = held.before_current; before_last = held.before_current } in
     (part_more (is_single kind) start kind before c.self.inside.output held new ps p c.args.part refl c.in-Ok.is w.0.0 w.0.1 r.0 (stance c.self.inside).pending r.1.0 c.inner_after-held-inside.ensures r.1.1 refl refl w.1.0 w.1.1, ap Plain (c.without_prefix.ensures 0 0)))
 
 pub returns-in-Err-clause-step : goal.returns-in-Err-clause-step
 returns-in-Err-clause-step c = rw (← c.self.view_is, ← c.held.view_is) (λ start kind before ps p w r.
-    let held : Writing = (part_of c.held.inside) in
+    let held : WriterCompound = (part_of c.held.inside) in
     let out : Output = c.restore.new.self in
     let n = c.restore.ensures in
     let b = kept_back before.output c.self.inside.output out held.before_current.len r.0 n.table n.capacity w.1.1 n.out in

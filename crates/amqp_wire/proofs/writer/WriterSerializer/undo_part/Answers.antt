@@ -1,5 +1,5 @@
 use Rattle.amqp_wire.specs.declared.output.Output.{Output}
-use Rattle.amqp_wire.specs.contracts.writing.Writing.{the_view as part_of}
+use Rattle.amqp_wire.specs.contracts.writer_compound.WriterCompound.{the_view as part_of}
 use Rattle.amqp_wire.proofs.PartBytes.{part_undone}
 use Rattle.amqp_wire.proofs.writer.WriterSerializer.undo_part.Goals as goal
 

@@ -1,4 +1,4 @@
-//! The refusals of walks over values.
+//! Why a walk over a value refuses it.
 
 ghost use Rattle.std.specs.Prelude.{◌≡◌};
 ghost use Rattle.amqp_size.specs.Refused.{error_of};
@@ -8,7 +8,7 @@ use amqp_data::Error;
 /// Why a walk over a value refuses it: one byte, so that an answer is not as large as an error with
 /// a text.
 #[derive(Clone, Copy, Debug, PartialEq, Eq)]
-pub enum Refusal {
+pub enum WalkError {
     /// A growth of memory was refused.
     OutOfMemory,
     /// A length or a count is past its limit.
@@ -18,15 +18,15 @@ pub enum Refusal {
     InvalidValue,
 }
 
-impl From<Refusal> for Error {
-    ghost from_gives = { λ refusal e. e ≡ error_of refusal };
+impl From<WalkError> for Error {
+    ghost from_gives = { λ error e. e ≡ error_of error };
 
     #[inline(always)]
-    fn from(refusal: Refusal) -> Error {
-        match refusal {
-            Refusal::OutOfMemory => Error::OutOfMemory,
-            Refusal::TooLong => Error::TooLong,
-            Refusal::InvalidValue => Error::InvalidValue,
+    fn from(error: WalkError) -> Error {
+        match error {
+            WalkError::OutOfMemory => Error::OutOfMemory,
+            WalkError::TooLong => Error::TooLong,
+            WalkError::InvalidValue => Error::InvalidValue,
         }
     }
 }

@@ -6,7 +6,7 @@ use std::marker::Model;
 
 /// A compound whose parts are still written.
 #[derive(Drop)]
-pub struct Writing {
+pub struct WriterCompound {
     pub(crate) position: Position,
     pub(crate) shape: Shape,
     /// Where the next part stands; of a single compound that was fed, what comes after it.
@@ -17,7 +17,7 @@ pub struct Writing {
     pub(crate) before_last: Checkpoint,
 }
 
-impl Model for Writing {
+impl Model for WriterCompound {
     ghost use Rattle.amqp_size.specs.State.{position_at, pending_at};
     ghost use Rattle.amqp_wire.specs.State.{WritingState};
 

@@ -1,5 +1,5 @@
 use Rattle.amqp_decode.proofs.DescriptorLemmas.{other-value}
-use Rattle.amqp_decode.proofs.scalar.descriptor_of.Goals as goal
+use Rattle.amqp_decode.proofs.scalar.into_descriptor.Goals as goal
 
 pub returns : goal.returns
 returns c = record { ok = tt; err = other-value c.args.value c.in_default.not-Ulong c.in_default.not-Symbol }
