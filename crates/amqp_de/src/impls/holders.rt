@@ -18,6 +18,7 @@ impl<T: Deserialize> Deserialize for Option<T> {
 
     ghost same = { SameOption T.same };
 
+    #[inline(always)]
     fn deserialize<D: Deserializer>(alloc: Global, deserializer: D) -> Result<Option<T>, D::Error> {
         if deserializer.is_null() {
             return Ok(None);

@@ -36,6 +36,7 @@ impl Deserialize for String {
 
     ghost same = { λ x y. string_bytes x ≡ string_bytes y };
 
+    #[inline(always)]
     fn deserialize<D: Deserializer>(_alloc: Global, deserializer: D) -> Result<String, D::Error> {
         match deserializer.open() {
             Content::String(value) => Ok(value),
