@@ -85,6 +85,8 @@ pub fn read<T: Record, D: Deserializer, S: Seed<Value = T::Parts>>(
         S.restorable S.same D.Error.is_memory (D.value deserializer) result }
     ensures short { RestoresParts T.parts (λ v. S.short (T.parts v))
         S.restorable S.same D.Error.is_memory (D.value deserializer) result }
+    ensures named { S.is_named seed → RestoresParts T.parts (λ v. S.by_name seed (T.parts v))
+        S.restorable S.same D.Error.is_memory (D.value deserializer) result }
 {
     match seed.read(alloc, deserializer) {
         Ok(parts) => Ok(parts),
