@@ -120,6 +120,10 @@ pub fn read_described<T: Record, D: Deserializer, K: Describes, S: Seed<Value = 
         D.value deserializer ≡ described d (S.short (T.parts v)) → S.restorable (T.parts v) →
         d ≡ K.wanted descriptor.now →
         MatchResult result (λ y. S.same y (T.parts v)) D.Error.is_memory }
+    ensures named { S.is_named seed → (v : T) → (d : AnyDescriptor) →
+        D.value deserializer ≡ described d (S.by_name seed (T.parts v)) →
+        S.restorable (T.parts v) → d ≡ K.wanted descriptor.now →
+        MatchResult result (λ y. S.same y (T.parts v)) D.Error.is_memory }
 {
     match deserializer.open() {
         Content::Described(found, value) => {
