@@ -85,6 +85,8 @@ pub fn read<T: Record, D: Deserializer, S: Seed<Value = T::Parts>>(
         S.restorable S.same D.Error.is_memory (D.value deserializer) result }
     ensures short { RestoresParts T.parts (λ v. S.short (T.parts v))
         S.restorable S.same D.Error.is_memory (D.value deserializer) result }
+    ensures named { S.is_named seed → RestoresParts T.parts (λ v. S.by_name seed (T.parts v))
+        S.restorable S.same D.Error.is_memory (D.value deserializer) result }
 {
     match seed.read(alloc, deserializer) {
         Ok(parts) => Ok(parts),
@@ -118,6 +120,10 @@ pub fn read_described<T: Record, D: Deserializer, K: Describes, S: Seed<Value = 
     ensures short { (v : T) → (d : AnyDescriptor) →
         D.value deserializer ≡ described d (S.short (T.parts v)) → S.restorable (T.parts v) →
         d ≡ K.wanted descriptor.now →
+        MatchResult result (λ y. S.same y (T.parts v)) D.Error.is_memory }
+    ensures named { S.is_named seed → (v : T) → (d : AnyDescriptor) →
+        D.value deserializer ≡ described d (S.by_name seed (T.parts v)) →
+        S.restorable (T.parts v) → d ≡ K.wanted descriptor.now →
         MatchResult result (λ y. S.same y (T.parts v)) D.Error.is_memory }
 {
     match deserializer.open() {
