@@ -16,7 +16,7 @@ use std::alloc::Global;
 #[inline(never)]
 pub fn lazy_value(alloc: Global, bytes: &[u8]) -> Result<Value, Error>
     ensures image { IsImageOf (of_frame bytes.now) result }
-    ensures whole { is_frame bytes.now ≡ false → IsOpenedImage None result }
+    ensures not_frame { is_frame bytes.now ≡ false → IsOpenedImage None result }
 {
     match decode_value(alloc, bytes) {
         Ok(value) => Ok(value),
@@ -30,9 +30,9 @@ fn refusal(e: Error, bytes: &[u8]) -> Error
     ensures memory { e ≡ Error.OutOfMemory → result ≡ Error.OutOfMemory }
     ensures code { e ≡ Error.InvalidFormatCode → is_frame bytes.now ≡ true → result ≡ e }
     ensures end { e ≡ Error.UnexpectedEof → is_frame bytes.now ≡ true → result ≡ e }
-    ensures other { ¬ (e ≡ Error.OutOfMemory) → is_frame bytes.now ≡ false →
+    ensures not_frame { ¬ (e ≡ Error.OutOfMemory) → is_frame bytes.now ≡ false →
         result ≡ Error.InvalidValue }
-    ensures others { ¬ (e ≡ Error.OutOfMemory) → ¬ (e ≡ Error.InvalidFormatCode) →
+    ensures other_errors { ¬ (e ≡ Error.OutOfMemory) → ¬ (e ≡ Error.InvalidFormatCode) →
         ¬ (e ≡ Error.UnexpectedEof) → result ≡ Error.InvalidValue }
     ensures fault { ¬ (e ≡ Error.OutOfMemory) → IsFault result }
 {

@@ -96,7 +96,7 @@ pub fn marked_text(alloc: Global, pending: PendingMark, text: &str) -> Result<Va
 #[inline(never)]
 pub fn marked_bytes(alloc: Global, pending: PendingMark, bytes: &[u8]) -> Result<Value, Error>
     ensures image { IsImageOf (meant pending (Some (scalar (binary bytes.now)))) result }
-    ensures other { ¬ (pending ≡ PendingMark.Mark Mark.Lazy) →
+    ensures not_lazy { ¬ (pending ≡ PendingMark.Mark Mark.Lazy) →
         IsOpenedImage (meant pending (Some (scalar (binary bytes.now)))) result }
 {
     match pending {

@@ -7,7 +7,7 @@ use Rattle.amqp_to_value.proofs.lazy.lazy_value.Goals as goal
 pub returns-in-Ok-clause-image : goal.returns-in-Ok-clause-image
 returns-in-Ok-clause-image c = lazy_read c.in-Ok.value c.args.bytes.now c.in-Ok.ensures.ok
 
-pub returns-in-Ok-clause-whole : goal.returns-in-Ok-clause-whole
-returns-in-Ok-clause-whole c cut =
+pub returns-in-Ok-clause-not_frame : goal.returns-in-Ok-clause-not_frame
+returns-in-Ok-clause-not_frame c cut =
     subst (λ b. StandsFor c.in-Ok.value (if b then Some (lazy c.args.bytes.now) else None)) cut
     (lazy_read c.in-Ok.value c.args.bytes.now c.in-Ok.ensures.ok)
