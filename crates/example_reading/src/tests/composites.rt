@@ -89,6 +89,9 @@ fn calibrations_are_read_from_a_map_and_from_a_list(rt: HostRuntime) -> Result<(
     assert!(rt; is_invalid::<Calibration>(alloc, coded(alloc, 0x15, map(alloc, entries)?)?));
     let fields = list(alloc, [Value::Int(-3)])?;
     assert!(rt; is_invalid::<Calibration>(alloc, coded(alloc, 0x14, fields)?));
+    let bare = map(alloc, [(string(alloc, "offset")?, Value::Int(-3))])?;
+    assert!(rt; is_invalid::<Calibration>(alloc, bare));
+    assert!(rt; is_invalid::<Calibration>(alloc, coded(alloc, 0x15, Value::Int(-3))?));
     Ok(())
 }
 
