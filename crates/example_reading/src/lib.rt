@@ -5,6 +5,7 @@ mod composites;
 mod day;
 mod gust;
 mod position;
+mod region;
 mod restored;
 mod sky;
 #[cfg(test)]
@@ -14,4 +15,5 @@ pub use composites::{Calibration, Limits, Span, Title};
 pub use day::{Day, Rain};
 pub use gust::Gust;
 pub use position::Position;
+pub use region::Region;
 pub use sky::Sky;

@@ -5,9 +5,11 @@ use crate::composites::{Calibration, Limits, Span, Title};
 use crate::day::{Day, Rain};
 use crate::gust::Gust;
 use crate::position::Position;
+use crate::region::Region;
 use crate::sky::Sky;
 use amqp_data::Symbol;
 use amqp_restore::{MapKey, Restore, laws};
+use amqp_value::Value;
 use std::collections::BTreeMap;
 
 impl Restore for Position {
@@ -74,6 +76,13 @@ impl Restore for Rain {
     fn returns() {
         laws::lists_return();
         laws::described_return();
+    }
+}
+
+impl Restore for Region {
+    fn returns() {
+        laws::lists_return();
+        <Vec<Value> as Restore>::returns();
     }
 }
 
