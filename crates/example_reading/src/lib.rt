@@ -4,6 +4,7 @@
 mod composites;
 mod day;
 mod gust;
+mod maps;
 mod position;
 mod region;
 mod restored;
@@ -11,9 +12,10 @@ mod sky;
 #[cfg(test)]
 mod tests;
 
-pub use composites::{Calibration, Limits, Span, Title};
+pub use composites::{Limits, Span, Title};
 pub use day::{Day, Rain};
 pub use gust::Gust;
+pub use maps::{Calibration, Contact};
 pub use position::Position;
 pub use region::Region;
 pub use sky::Sky;

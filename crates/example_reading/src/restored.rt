@@ -1,9 +1,10 @@
 //! What is turned into an untyped value and read back is the same: the types that claim it, and those that a map's
 //! keys may have.
 
-use crate::composites::{Calibration, Limits, Span, Title};
+use crate::composites::{Limits, Span, Title};
 use crate::day::{Day, Rain};
 use crate::gust::Gust;
+use crate::maps::{Calibration, Contact};
 use crate::position::Position;
 use crate::region::Region;
 use crate::sky::Sky;
@@ -45,6 +46,13 @@ impl Restore for Calibration {
         laws::named_maps_return();
         laws::described_return();
         <Option<u32> as Restore>::returns();
+        <Option<String> as Restore>::returns();
+    }
+}
+
+impl Restore for Contact {
+    fn returns() {
+        laws::named_maps_return();
         <Option<String> as Restore>::returns();
     }
 }
