@@ -2,7 +2,7 @@
 
 use amqp_data::Symbol;
 use amqp_de::de::{Deserialize, Deserializer};
-use amqp_de::{NamedOf, Of, Record, named, read_described, read_described_map};
+use amqp_de::{NamedOf, Of, Record, named, read_described};
 use amqp_ser::{Serialize, Serializer};
 use std::alloc::Global;
 use std::marker::PhantomData;
@@ -172,88 +172,6 @@ impl Deserialize for Limits {
             lowest,
             highest,
             unit,
-        })
-    }
-}
-
-/// How a thermometer's readings are put right: a described map, without what is absent.
-#[derive(Debug, PartialEq, Drop)]
-pub struct Calibration {
-    pub offset: i32,
-    pub divisor: Option<u32>,
-    pub remark: Option<String>,
-}
-
-impl Serialize for Calibration {
-    ghost use Rattle.std.specs.Prelude.{Some, [], ◌∷◌, codes};
-    ghost use Rattle.amqp_ser.specs.Composites.{as_described};
-    ghost use Rattle.amqp_ser.specs.Tree.{code};
-    ghost use Rattle.amqp_ser.specs.Words.{short_map_of, must, may, of_i32, of_string, of_u32};
-
-    ghost tree = { λ c. as_described (Some (code 0x15)) (short_map_of (
-        (codes "offset", must (of_i32 c.offset)) ∷ (codes "divisor", may of_u32 c.divisor)
-        ∷ (codes "remark", may of_string c.remark) ∷ [])) };
-
-    fn serialize<S: Serializer>(&self, serializer: &mut S) -> Result<S::Ok, S::Error> {
-        serializer.serialize_described(
-            &0x15u64,
-            &amqp_ser::MapOf(amqp_ser::fields! {
-                "offset": &self.offset,
-                "divisor"?: &self.divisor,
-                "remark"?: &self.remark,
-            }),
-        )
-    }
-}
-
-impl Record for Calibration {
-    type Parts = (i32, (Option<u32>, (Option<String>, ())));
-
-    ghost parts = { λ c. (c.offset, (c.divisor, (c.remark, tt))) };
-}
-
-impl Deserialize for Calibration {
-    ghost use Rattle.std.specs.Prelude.{◌≡◌, [], ◌∷◌, codes};
-    ghost use Rattle.amqp_ser.specs.Tree.{code, described, int, scalar};
-    ghost use Rattle.amqp_de.specs.Fields.{OnDescribed, OnNamed, must, may, end};
-    ghost use Rattle.amqp_de.specs.Present.{short_map, required, optional};
-
-    ghost reads = { λ t c. OnDescribed (code 0x15) (OnNamed (
-        must (codes "offset") ⟦<i32 as Deserialize>⟧.reads c.offset (
-        may (codes "divisor") ⟦<u32 as Deserialize>⟧.reads c.divisor (
-        may (codes "remark") ⟦<String as Deserialize>⟧.reads c.remark end)))) t };
-
-    ghost image = { λ c. described (code 0x15) (short_map
-        (codes "offset" ∷ codes "divisor" ∷ codes "remark" ∷ []) (
-        required (scalar (int c.offset)) ∷ optional ⟦<u32 as Deserialize>⟧.image c.divisor
-        ∷ optional ⟦<String as Deserialize>⟧.image c.remark ∷ [])) };
-
-    ghost restorable = { λ c. ⟦<Option<u32> as Deserialize>⟧.restorable c.divisor
-        × ⟦<Option<String> as Deserialize>⟧.restorable c.remark };
-
-    ghost same = { λ c d. (c.offset ≡ d.offset)
-        × ⟦<Option<u32> as Deserialize>⟧.same c.divisor d.divisor
-        × ⟦<Option<String> as Deserialize>⟧.same c.remark d.remark };
-
-    fn deserialize<D: Deserializer>(
-        alloc: Global,
-        deserializer: D,
-    ) -> Result<Calibration, D::Error> {
-        let amqp_de::fields! { offset, divisor, remark } = read_described_map::<
-            Calibration,
-            D,
-            _,
-            _,
-        >(
-            alloc,
-            deserializer,
-            &0x15u64,
-            named! { "offset", "divisor"?, "remark"? },
-        )?;
-        Ok(Calibration {
-            offset,
-            divisor,
-            remark,
         })
     }
 }

@@ -4,14 +4,18 @@
 mod composites;
 mod day;
 mod gust;
+mod maps;
 mod position;
+mod region;
 mod restored;
 mod sky;
 #[cfg(test)]
 mod tests;
 
-pub use composites::{Calibration, Limits, Span, Title};
+pub use composites::{Limits, Span, Title};
 pub use day::{Day, Rain};
 pub use gust::Gust;
+pub use maps::{Calibration, Contact};
 pub use position::Position;
+pub use region::Region;
 pub use sky::Sky;

@@ -1,13 +1,16 @@
 //! What is turned into an untyped value and read back is the same: the types that claim it, and
 //! those that a map's keys may have.
 
-use crate::composites::{Calibration, Limits, Span, Title};
+use crate::composites::{Limits, Span, Title};
 use crate::day::{Day, Rain};
 use crate::gust::Gust;
+use crate::maps::{Calibration, Contact};
 use crate::position::Position;
+use crate::region::Region;
 use crate::sky::Sky;
 use amqp_data::Symbol;
 use amqp_restore::{MapKey, Restore, laws};
+use amqp_value::Value;
 use std::collections::BTreeMap;
 
 impl Restore for Position {
@@ -47,6 +50,13 @@ impl Restore for Calibration {
     }
 }
 
+impl Restore for Contact {
+    fn returns() {
+        laws::named_maps_return();
+        <Option<String> as Restore>::returns();
+    }
+}
+
 impl Restore for Gust {
     fn returns() {
         laws::short_lists_return();
@@ -74,6 +84,13 @@ impl Restore for Rain {
     fn returns() {
         laws::lists_return();
         laws::described_return();
+    }
+}
+
+impl Restore for Region {
+    fn returns() {
+        laws::lists_return();
+        <Vec<Value> as Restore>::returns();
     }
 }
 

@@ -3,6 +3,7 @@
 mod composites;
 mod days;
 mod fields;
+mod regions;
 mod variants;
 
 use amqp_data::{Described, Descriptor, Error, OrderedMap, Symbol};

@@ -1,7 +1,7 @@
 //! Composites, from lists and maps, after their descriptors and others.
 
 use super::{coded, is_invalid, list, map, named, stands_for, string, text};
-use crate::{Calibration, Gust, Limits, Span, Title};
+use crate::{Calibration, Contact, Gust, Limits, Span, Title};
 use amqp_data::Symbol;
 use amqp_from_value::from_value;
 use amqp_restore::restored;
@@ -92,6 +92,28 @@ fn calibrations_are_read_from_a_map_and_from_a_list(rt: HostRuntime) -> Result<(
     let bare = map(alloc, [(string(alloc, "offset")?, Value::Int(-3))])?;
     assert!(rt; is_invalid::<Calibration>(alloc, bare));
     assert!(rt; is_invalid::<Calibration>(alloc, coded(alloc, 0x15, Value::Int(-3))?));
+    Ok(())
+}
+
+#[test]
+fn contacts_come_back_as_maps(rt: HostRuntime) -> Result<(), Fail> {
+    let alloc = rt.alloc();
+    let contact = |telephone| Ok::<_, Fail>(Contact {
+        name: text(alloc, "Ada")?,
+        telephone,
+    });
+    let alone = contact(None)?;
+    let entries = [(string(alloc, "name")?, string(alloc, "Ada")?)];
+    assert!(rt; stands_for(alloc, map(alloc, entries)?, &alone)?);
+    let known = contact(Some(text(alloc, "3912")?))?;
+    assert_eq!(rt; restored(alloc, &known)?, known);
+    let entries = [
+        (string(alloc, "telephone")?, string(alloc, "3912")?),
+        (string(alloc, "name")?, string(alloc, "Ada")?),
+    ];
+    let read: Contact = from_value(alloc, map(alloc, entries)?)?;
+    assert_eq!(rt; read, known);
+    assert!(rt; is_invalid::<Contact>(alloc, map(alloc, [])?));
     Ok(())
 }
 

@@ -1,0 +1,144 @@
+//! Types that are written as a map of their fields, without what is absent: one after a descriptor, and one by itself.
+
+use amqp_de::de::{Deserialize, Deserializer};
+use amqp_de::{Record, named, read_described_map, read_map};
+use amqp_ser::{Serialize, Serializer};
+use std::alloc::Global;
+
+/// How a thermometer's readings are put right: a described map, without what is absent.
+#[derive(Debug, PartialEq, Drop)]
+pub struct Calibration {
+    pub offset: i32,
+    pub divisor: Option<u32>,
+    pub remark: Option<String>,
+}
+
+impl Serialize for Calibration {
+    ghost use Rattle.std.specs.Prelude.{Some, [], ◌∷◌, codes};
+    ghost use Rattle.amqp_ser.specs.Composites.{as_described};
+    ghost use Rattle.amqp_ser.specs.Tree.{code};
+    ghost use Rattle.amqp_ser.specs.Words.{short_map_of, must, may, of_i32, of_string, of_u32};
+
+    ghost tree = { λ c. as_described (Some (code 0x15)) (short_map_of (
+        (codes "offset", must (of_i32 c.offset)) ∷ (codes "divisor", may of_u32 c.divisor)
+        ∷ (codes "remark", may of_string c.remark) ∷ [])) };
+
+    fn serialize<S: Serializer>(&self, serializer: &mut S) -> Result<S::Ok, S::Error> {
+        serializer.serialize_described(
+            &0x15u64,
+            &amqp_ser::MapOf(amqp_ser::fields! {
+                "offset": &self.offset,
+                "divisor"?: &self.divisor,
+                "remark"?: &self.remark,
+            }),
+        )
+    }
+}
+
+impl Record for Calibration {
+    type Parts = (i32, (Option<u32>, (Option<String>, ())));
+
+    ghost parts = { λ c. (c.offset, (c.divisor, (c.remark, tt))) };
+}
+
+impl Deserialize for Calibration {
+    ghost use Rattle.std.specs.Prelude.{◌≡◌, [], ◌∷◌, codes};
+    ghost use Rattle.amqp_ser.specs.Tree.{code, described, int, scalar};
+    ghost use Rattle.amqp_de.specs.Fields.{OnDescribed, OnNamed, must, may, end};
+    ghost use Rattle.amqp_de.specs.Present.{short_map, required, optional};
+
+    ghost reads = { λ t c. OnDescribed (code 0x15) (OnNamed (
+        must (codes "offset") ⟦<i32 as Deserialize>⟧.reads c.offset (
+        may (codes "divisor") ⟦<u32 as Deserialize>⟧.reads c.divisor (
+        may (codes "remark") ⟦<String as Deserialize>⟧.reads c.remark end)))) t };
+
+    ghost image = { λ c. described (code 0x15) (short_map
+        (codes "offset" ∷ codes "divisor" ∷ codes "remark" ∷ []) (
+        required (scalar (int c.offset)) ∷ optional ⟦<u32 as Deserialize>⟧.image c.divisor
+        ∷ optional ⟦<String as Deserialize>⟧.image c.remark ∷ [])) };
+
+    ghost restorable = { λ c. ⟦<Option<u32> as Deserialize>⟧.restorable c.divisor
+        × ⟦<Option<String> as Deserialize>⟧.restorable c.remark };
+
+    ghost same = { λ c d. (c.offset ≡ d.offset)
+        × ⟦<Option<u32> as Deserialize>⟧.same c.divisor d.divisor
+        × ⟦<Option<String> as Deserialize>⟧.same c.remark d.remark };
+
+    fn deserialize<D: Deserializer>(
+        alloc: Global,
+        deserializer: D,
+    ) -> Result<Calibration, D::Error> {
+        let amqp_de::fields! { offset, divisor, remark } = read_described_map::<
+            Calibration,
+            D,
+            _,
+            _,
+        >(
+            alloc,
+            deserializer,
+            &0x15u64,
+            named! { "offset", "divisor"?, "remark"? },
+        )?;
+        Ok(Calibration {
+            offset,
+            divisor,
+            remark,
+        })
+    }
+}
+
+/// Whom to call about a station: a map.
+#[derive(Debug, PartialEq, Drop)]
+pub struct Contact {
+    pub name: String,
+    pub telephone: Option<String>,
+}
+
+impl Serialize for Contact {
+    ghost use Rattle.std.specs.Prelude.{[], ◌∷◌, codes};
+    ghost use Rattle.amqp_ser.specs.Words.{short_map_of, must, may, of_string};
+
+    ghost tree = { λ c. short_map_of ((codes "name", must (of_string c.name))
+        ∷ (codes "telephone", may of_string c.telephone) ∷ []) };
+
+    fn serialize<S: Serializer>(&self, serializer: &mut S) -> Result<S::Ok, S::Error> {
+        amqp_ser::MapOf(
+            amqp_ser::fields! { "name": &self.name, "telephone"?: &self.telephone },
+        ).serialize(serializer)
+    }
+}
+
+impl Record for Contact {
+    type Parts = (String, (Option<String>, ()));
+
+    ghost parts = { λ c. (c.name, (c.telephone, tt)) };
+}
+
+impl Deserialize for Contact {
+    ghost use Rattle.std.specs.Prelude.{◌≡◌, [], ◌∷◌, codes, string_bytes};
+    ghost use Rattle.amqp_ser.specs.Tree.{scalar, string};
+    ghost use Rattle.amqp_de.specs.Fields.{OnNamed, must, may, end};
+    ghost use Rattle.amqp_de.specs.Present.{short_map, required, optional};
+
+    ghost reads = { λ t c. OnNamed (
+        must (codes "name") ⟦<String as Deserialize>⟧.reads c.name (
+        may (codes "telephone") ⟦<String as Deserialize>⟧.reads c.telephone end)) t };
+
+    ghost image = { λ c. short_map (codes "name" ∷ codes "telephone" ∷ []) (
+        required (scalar (string (string_bytes c.name)))
+        ∷ optional ⟦<String as Deserialize>⟧.image c.telephone ∷ []) };
+
+    ghost restorable = { λ c. ⟦<Option<String> as Deserialize>⟧.restorable c.telephone };
+
+    ghost same = { λ c d. (string_bytes c.name ≡ string_bytes d.name)
+        × ⟦<Option<String> as Deserialize>⟧.same c.telephone d.telephone };
+
+    fn deserialize<D: Deserializer>(alloc: Global, deserializer: D) -> Result<Contact, D::Error> {
+        let amqp_de::fields! { name, telephone } = read_map::<Contact, D, _>(
+            alloc,
+            deserializer,
+            named! { "name", "telephone"? },
+        )?;
+        Ok(Contact { name, telephone })
+    }
+}

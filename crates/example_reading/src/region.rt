@@ -1,0 +1,92 @@
+//! A type that holds others of its own kind: they stay untyped until they are asked for.
+
+ghost use Rattle.std.specs.Prelude.{◌≡◌};
+ghost use Rattle.amqp_data.specs.declared.error.Error.TheVariants.{OutOfMemory};
+ghost use Rattle.amqp_value.specs.TreeOf.{tree_of};
+ghost use Rattle.amqp_value.specs.declared.value.Value.TheVariants as value;
+ghost use Rattle.amqp_de.specs.Answers.{Answers, Restores};
+
+use amqp_data::Error;
+use amqp_de::de::{Deserialize, Deserializer};
+use amqp_de::{Record, named, read};
+use amqp_from_value::from_value;
+use amqp_ser::{Serialize, Serializer};
+use amqp_value::Value;
+use std::alloc::Global;
+
+/// A region, and the regions in it.
+#[derive(Debug, PartialEq, Drop)]
+pub struct Region {
+    /// Its number.
+    pub number: u32,
+    /// The regions in it, each as its value.
+    pub inner: Vec<Value>,
+}
+
+impl Region {
+    /// The regions in it.
+    ///
+    /// # Errors
+    /// `OutOfMemory`; `InvalidValue` where a value in it is no region.
+    ///
+    /// # Memory
+    /// Takes `alloc`.
+    ///
+    /// # Example
+    /// Of the region `[1, [[2, []]]]`: the region `[2, []]`.
+    pub fn regions(self, alloc: Global) -> Result<Vec<Region>, Error>
+        ensures read { Answers (λ e. e ≡ OutOfMemory)
+            (⟦<Vec<Region> as Deserialize>⟧.reads (tree_of (value.List self.inner))) result }
+        ensures law { Restores ⟦<Vec<Region> as Deserialize>⟧.image
+            ⟦<Vec<Region> as Deserialize>⟧.restorable ⟦<Vec<Region> as Deserialize>⟧.same
+            (λ e. e ≡ OutOfMemory) (tree_of (value.List self.inner)) result }
+    {
+        from_value::<Vec<Region>>(alloc, Value::List(self.inner))
+    }
+}
+
+impl Serialize for Region {
+    ghost use Rattle.std.specs.Prelude.{[], ◌∷◌};
+    ghost use Rattle.amqp_ser.specs.Words.{list_of, of_u32};
+
+    ghost tree = { λ r. list_of (of_u32 r.number ∷ ⟦<Vec<Value> as Serialize>⟧.tree r.inner ∷ []) };
+
+    fn serialize<S: Serializer>(&self, serializer: &mut S) -> Result<S::Ok, S::Error> {
+        amqp_ser::ListOf(
+            amqp_ser::fields! { "number": &self.number, "inner": &self.inner },
+        ).serialize(serializer)
+    }
+}
+
+impl Record for Region {
+    type Parts = (u32, (Vec<Value>, ()));
+
+    ghost parts = { λ r. (r.number, (r.inner, tt)) };
+}
+
+impl Deserialize for Region {
+    ghost use Rattle.std.specs.Prelude.{◌≡◌, [], ◌∷◌, codes};
+    ghost use Rattle.amqp_ser.specs.Tree.{scalar, uint, list, trees_of};
+    ghost use Rattle.amqp_de.specs.Fields.{OnFields, must, end};
+
+    ghost reads = { λ t r. OnFields (
+        must (codes "number") ⟦<u32 as Deserialize>⟧.reads r.number (
+        must (codes "inner") ⟦<Vec<Value> as Deserialize>⟧.reads r.inner end)) t };
+
+    ghost image = { λ r. list (trees_of (scalar (uint r.number)
+        ∷ ⟦<Vec<Value> as Deserialize>⟧.image r.inner ∷ [])) };
+
+    ghost restorable = { λ r. ⟦<Vec<Value> as Deserialize>⟧.restorable r.inner };
+
+    ghost same = { λ r s. (r.number ≡ s.number)
+        × ⟦<Vec<Value> as Deserialize>⟧.same r.inner s.inner };
+
+    fn deserialize<D: Deserializer>(alloc: Global, deserializer: D) -> Result<Region, D::Error> {
+        let amqp_de::fields! { number, inner } = read::<Region, D, _>(
+            alloc,
+            deserializer,
+            amqp_de::ListOf(named! { "number", "inner" }),
+        )?;
+        Ok(Region { number, inner })
+    }
+}
