@@ -2,7 +2,6 @@
 //! of headers.
 
 pub use amqp_size::{
-    MapSerializer, Refusal, SeqSerializer, SizeSerializer, StructSerializer,
-    StructVariantSerializer, TupleSerializer, TupleStructSerializer, VariantSerializer,
-    serialized_size, width,
+    MapSerializer, SeqSerializer, SizeSerializer, StructSerializer, StructVariantSerializer,
+    TupleSerializer, TupleStructSerializer, VariantSerializer, WalkError, serialized_size, width,
 };

@@ -8,7 +8,7 @@ use serde_amqp::ser::{
     Field, Fields, Fixed, Keys, Kind, ListOf, MapOf, OptionalField, SerializeTuple, Serializer,
     SymbolMapOf, VariantOf,
 };
-use serde_amqp::size_ser::{Refusal, SizeSerializer};
+use serde_amqp::size_ser::{SizeSerializer, WalkError};
 use std::alloc::Global;
 use std::test::Fail;
 
@@ -91,7 +91,7 @@ fn fields_are_lists_maps_and_variants(rt: HostRuntime) -> Result<(), Fail> {
     row(&rt, a, "a variant", &variant, bytes, &Value::Map(pairs))
 }
 
-fn length_of_tuple(parts: SerializeTuple<'_, SizeSerializer>) -> Result<usize, Refusal> {
+fn length_of_tuple(parts: SerializeTuple<'_, SizeSerializer>) -> Result<usize, WalkError> {
     parts.end()
 }
 

@@ -123,35 +123,35 @@ fn days_and_laws(rt: HostRuntime) {
 
 // Each alias of the size module ends with a length.
 
-fn length_of_list(parts: size_ser::SeqSerializer<'_>) -> Result<usize, size_ser::Refusal> {
+fn length_of_list(parts: size_ser::SeqSerializer<'_>) -> Result<usize, size_ser::WalkError> {
     parts.end()
 }
 
-fn length_of_tuple(parts: size_ser::TupleSerializer<'_>) -> Result<usize, size_ser::Refusal> {
+fn length_of_tuple(parts: size_ser::TupleSerializer<'_>) -> Result<usize, size_ser::WalkError> {
     parts.end()
 }
 
-fn length_of_map(parts: size_ser::MapSerializer<'_>) -> Result<usize, size_ser::Refusal> {
+fn length_of_map(parts: size_ser::MapSerializer<'_>) -> Result<usize, size_ser::WalkError> {
     parts.end()
 }
 
 fn length_of_tuple_struct(
     parts: size_ser::TupleStructSerializer<'_>,
-) -> Result<usize, size_ser::Refusal> {
+) -> Result<usize, size_ser::WalkError> {
     parts.end()
 }
 
-fn length_of_struct(parts: size_ser::StructSerializer<'_>) -> Result<usize, size_ser::Refusal> {
+fn length_of_struct(parts: size_ser::StructSerializer<'_>) -> Result<usize, size_ser::WalkError> {
     parts.end()
 }
 
-fn length_of_variant(parts: size_ser::VariantSerializer<'_>) -> Result<usize, size_ser::Refusal> {
+fn length_of_variant(parts: size_ser::VariantSerializer<'_>) -> Result<usize, size_ser::WalkError> {
     parts.end()
 }
 
 fn length_of_struct_variant(
     parts: size_ser::StructVariantSerializer<'_>,
-) -> Result<usize, size_ser::Refusal> {
+) -> Result<usize, size_ser::WalkError> {
     parts.end()
 }
 
