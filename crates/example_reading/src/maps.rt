@@ -1,4 +1,5 @@
-//! Types that are written as a map of their fields, without what is absent: one after a descriptor, and one by itself.
+//! Types that are written as a map of their fields, without what is absent: one after a descriptor,
+//! and one by itself.
 
 use amqp_de::de::{Deserialize, Deserializer};
 use amqp_de::{Record, named, read_described_map, read_map};
