@@ -4,6 +4,7 @@ ghost use Rattle.std.specs.Prelude.{◌≡◌, ◌≤◌};
 
 use crate::attach::{Attach, DescribedAttach};
 use crate::chain::Chain;
+use crate::chain_read::repeat_chain;
 use crate::fed::{FedDescribedFields, FedFields};
 use crate::inputs::{blob, ints, lines, numbered, numbers, rows};
 use crate::repeat::{repeat, repeat_typed};
@@ -14,17 +15,7 @@ use amqp_ser::Serialize;
 use std::alloc::Global;
 
 /// The answer on what could be built; 0 where it could not.
-fn answer<T: Serialize + Drop>(alloc: Global, built: Result<T, Error>, op: u32, times: u64) -> u64
-    ensures { 6 ≤ op → result ≡ 0 }
-{
-    match built {
-        Ok(value) => repeat(alloc, &value, op, times),
-        Err(_) => 0,
-    }
-}
-
-/// The answer on what could be built of a type that is read too.
-fn answer_typed<T: Serialize + Deserialize + Drop>(
+fn answer<T: Serialize + Deserialize + Drop>(
     alloc: Global,
     built: Result<T, Error>,
     op: u32,
@@ -38,15 +29,25 @@ fn answer_typed<T: Serialize + Deserialize + Drop>(
     }
 }
 
+/// The answer on a chain of 256 lists.
+fn chained(alloc: Global, op: u32, times: u64) -> u64
+    ensures { 7 ≤ op → result ≡ 0 }
+{
+    match Chain::of_links(alloc, 255) {
+        Ok(chain) => repeat_chain(alloc, &chain, op, times),
+        Err(_) => 0,
+    }
+}
+
 /// The answer on the fields in one of three other forms.
 fn attached(alloc: Global, form: u32, op: u32, times: u64) -> u64
-    ensures { 6 ≤ op → result ≡ 0 }
+    ensures { 7 ≤ op → result ≡ 0 }
 {
     let Ok(attach) = Attach::example(alloc) else {
         return 0;
     };
     match form {
-        7 => repeat(alloc, &DescribedAttach(attach), op, times),
+        7 => repeat_typed(alloc, &DescribedAttach(attach), op, times),
         8 => repeat(alloc, &FedFields(attach), op, times),
         _ => repeat(alloc, &FedDescribedFields(attach), op, times),
     }
@@ -64,9 +65,9 @@ pub extern "C" fn amqp_bench(alloc: Global, work: u32, op: u32, data: &[u8], tim
     ensures operations { 7 ≤ op → result ≡ 0 }
 {
     match work {
-        0 => answer_typed(alloc, lines(alloc, data), op, times),
-        1 => answer_typed(alloc, numbers(alloc, data), op, times),
-        2..=4 => answer_typed(alloc, decode_value(alloc, data), op, times),
+        0 => answer(alloc, lines(alloc, data), op, times),
+        1 => answer(alloc, numbers(alloc, data), op, times),
+        2..=4 => answer(alloc, decode_value(alloc, data), op, times),
         _ => 0,
     }
 }
@@ -81,13 +82,13 @@ pub extern "C" fn amqp_shape(alloc: Global, shape: u32, op: u32, times: u64) -> 
     ensures operations { 7 ≤ op → result ≡ 0 }
 {
     match shape {
-        0 => answer_typed(alloc, Attach::example(alloc), op, times),
-        1 => answer_typed(alloc, ints(alloc, 0, 1000), op, times),
-        2 => answer_typed(alloc, rows(alloc, 1000), op, times),
-        3 => answer(alloc, Chain::of_links(alloc, 255), op, times),
-        4 => answer_typed(alloc, blob(alloc, 65536), op, times),
-        5 => answer_typed(alloc, numbered(alloc, 1000), op, times),
-        6 => answer_typed(alloc, numbered(alloc, 10000), op, times),
+        0 => answer(alloc, Attach::example(alloc), op, times),
+        1 => answer(alloc, ints(alloc, 0, 1000), op, times),
+        2 => answer(alloc, rows(alloc, 1000), op, times),
+        3 => chained(alloc, op, times),
+        4 => answer(alloc, blob(alloc, 65536), op, times),
+        5 => answer(alloc, numbered(alloc, 1000), op, times),
+        6 => answer(alloc, numbered(alloc, 10000), op, times),
         7..=9 => attached(alloc, shape, op, times),
         _ => 0,
     }

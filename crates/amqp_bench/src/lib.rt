@@ -7,6 +7,8 @@
 mod attach;
 mod attach_read;
 mod chain;
+mod chain_read;
+mod described_read;
 mod exports;
 mod fed;
 mod hash;

@@ -72,11 +72,13 @@ fn types_are_read_out_of_untyped_values(rt: HostRuntime) {
         (0, 3),
         (1, 3),
         (2, 3),
-        (3, 0),
+        (3, 3),
         (4, 3),
         (5, 3),
         (6, 3),
-        (7, 0),
+        (7, 3),
+        (8, 0),
+        (9, 0),
     ] {
         assert_eq!(rt; amqp_shape(rt.alloc(), shape, 6, 3), reads, "shape {shape}");
     }
