@@ -17,7 +17,7 @@ use crate::width::{LONGEST, map_width, text_width, uint_width};
 use amqp_data::EncodingCodes;
 
 /// The answer on a descriptor with this constructor and length: only a ulong or a symbol is one.
-fn descriptor(code: u8, ordinary: usize) -> Result<usize, WalkError>
+fn descriptor_len(code: u8, ordinary: usize) -> Result<usize, WalkError>
     ensures { (t : Tree) → constructor t ≡ Some code → MatchResult result
         (λ n. (is_some (descriptor_of (Some t)) ≡ true) × (n ≡ ordinary))
         (λ e. (is_some (descriptor_of (Some t)) ≡ false) × (e ≡ WalkError.InvalidValue)) }
@@ -30,7 +30,7 @@ fn descriptor(code: u8, ordinary: usize) -> Result<usize, WalkError>
 }
 
 /// The answer on the value after descriptors, with them.
-fn described(prefix_len: usize, base: BasePosition, ordinary: usize) -> Result<usize, WalkError>
+fn described_len(prefix_len: usize, base: BasePosition, ordinary: usize) -> Result<usize, WalkError>
     ensures { MatchResult result
         (λ n. (takes_described base ≡ true)
         × ((is_length (prefix_len + ordinary) ≡ true) × (n ≡ prefix_len + ordinary)))
@@ -97,8 +97,8 @@ impl SizeSerializer {
                     Err(WalkError::InvalidValue)
                 }
             }
-            Position::Descriptor => descriptor(code, ordinary),
-            Position::Value(base) => described(prefix_len, base, ordinary),
+            Position::Descriptor => descriptor_len(code, ordinary),
+            Position::Value(base) => described_len(prefix_len, base, ordinary),
         }
     }
 
@@ -145,7 +145,7 @@ impl SizeSerializer {
     {
         match position {
             Position::Root | Position::Inside => Ok(len),
-            Position::Value(base) => described(prefix_len, base, len),
+            Position::Value(base) => described_len(prefix_len, base, len),
             _ => Err(WalkError::InvalidValue),
         }
     }

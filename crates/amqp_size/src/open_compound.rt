@@ -282,7 +282,7 @@ impl OpenCompound {
             self.inner = Pending::Nothing(self.inner.position());
             return Ok(());
         };
-        let inner = match position.described() {
+        let inner = match position.after_descriptor() {
             Ok(inner) => inner,
             Err(e) => return Err(e),
         };

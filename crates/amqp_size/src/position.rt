@@ -74,7 +74,7 @@ impl Position {
 
     /// The position after a descriptor.
     #[inline(always)]
-    pub(crate) fn described(self) -> Result<Position, WalkError>
+    pub(crate) fn after_descriptor(self) -> Result<Position, WalkError>
         ensures { MatchResult result
             (λ p. (h n : ℕ) →
             described_position (position_at self h) n

@@ -9,7 +9,7 @@ ghost use Rattle.amqp_size.specs.State.{position_at};
 ghost use Rattle.amqp_size.specs.WholePending.{Plain};
 ghost use Rattle.amqp_wire.specs.Writer.{accepts};
 
-use crate::position::accepted;
+use crate::position::pending_after;
 use crate::writer::Writer;
 use amqp_size::{Pending, Position, WalkError};
 
@@ -67,7 +67,7 @@ impl Writer {
             placed t ≡ true →
             accepts (position_at position 0) (Some t) result self.new.pending }
     {
-        match accepted(position, code) {
+        match pending_after(position, code) {
             Ok(after) => {
                 self.pending = after;
                 Ok(())

@@ -29,7 +29,7 @@ pub fn in_array(position: Position) -> bool
 /// `InvalidValue` where an array has another constructor, for a descriptor that is no ulong and no
 /// symbol, and for a described value as an array's element.
 #[inline(always)]
-pub fn accepted(position: Position, code: u8) -> Result<Pending, WalkError>
+pub fn pending_after(position: Position, code: u8) -> Result<Pending, WalkError>
     ensures { (t : Tree) → constructor t ≡ Some code → uniform_arrays t ≡ true → inside t ≡ true →
         placed t ≡ true →
         MatchResult result
@@ -69,7 +69,7 @@ pub fn accepted(position: Position, code: u8) -> Result<Pending, WalkError>
 /// # Errors
 /// `InvalidValue` where a descriptor is to stand.
 #[inline(always)]
-pub fn described(pending: Pending) -> Result<Pending, WalkError>
+pub fn after_descriptor(pending: Pending) -> Result<Pending, WalkError>
     ensures { MatchResult result
         (λ inner. after_descriptor (pending_at pending 0) ≡ Some (pending_at inner 0))
         (λ e. (pending_at pending 0 ≡ Plain Descriptor) × (e ≡ WalkError.InvalidValue)) }

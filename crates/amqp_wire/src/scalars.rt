@@ -15,7 +15,7 @@ ghost use Rattle.amqp_wire.specs.HeaderBytes.{in_array, pick, bytes_at};
 ghost use Rattle.amqp_wire.specs.TreeHeaders.{compound_headers};
 ghost use Rattle.amqp_wire.specs.Writer.{Kept, accepts, writes_tree, opens, PartsFitOutput};
 
-use crate::position::{accepted, in_array};
+use crate::position::{in_array, pending_after};
 use crate::writer::Writer;
 use amqp_data::EncodingCodes;
 use amqp_ser::Fixed;
@@ -45,7 +45,7 @@ impl Writer {
         ensures written { writes_tree (position_at position 0) self.old.output
             (Some (scalar (fixed_scalar fixed))) result self.new.output }
     {
-        match accepted(position, Form::in_array(fixed).code) {
+        match pending_after(position, Form::in_array(fixed).code) {
             Ok(after) => {
                 let put = self.output.put_fixed(in_array(position), fixed);
                 self.written(put);
@@ -65,7 +65,7 @@ impl Writer {
         ensures written { writes_tree (position_at position 0) self.old.output (Some (scalar null))
             result self.new.output }
     {
-        match accepted(position, EncodingCodes::Null as u8) {
+        match pending_after(position, EncodingCodes::Null as u8) {
             Ok(after) => {
                 let put = self.output.put_null(in_array(position));
                 self.written(put);
@@ -98,7 +98,7 @@ impl Writer {
         if bytes.len() > LONGEST {
             return Err(WalkError::TooLong);
         }
-        match accepted(position, long) {
+        match pending_after(position, long) {
             Ok(after) => {
                 let put = self.output.put_text(in_array(position), short, long, bytes);
                 self.written(put);
@@ -126,7 +126,7 @@ impl Writer {
             writes_tree (position_at position 0) self.old.output (Some (scalar s)) result
             self.new.output }
     {
-        match accepted(position, code) {
+        match pending_after(position, code) {
             Ok(after) => {
                 let put = self.output.put_exact(in_array(position), code, bytes);
                 self.written(put);

@@ -9,7 +9,7 @@ ghost use Rattle.amqp_ser.specs.Tree.{Tree};
 
 use crate::header::Header;
 use crate::output::{Checkpoint, Output};
-use crate::position::{described, inner_after};
+use crate::position::{after_descriptor, inner_after};
 use crate::writer_compound::WriterCompound;
 use amqp_data::EncodingCodes;
 use amqp_frame::is_frame;
@@ -293,7 +293,7 @@ impl Serializer for Writer {
     {
         self.pending = Pending::Plain(held.position.without_prefix());
         match part {
-            Ok(()) => match described(held.inner) {
+            Ok(()) => match after_descriptor(held.inner) {
                 Ok(inner) => {
                     held.inner = inner;
                     Ok(())
