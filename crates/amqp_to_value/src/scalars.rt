@@ -1,6 +1,6 @@
 //! The values of scalars.
 
-ghost use Rattle.std.specs.Prelude.{◌≡◌, Some, None, MatchResult};
+ghost use Rattle.std.specs.Prelude.{◌≡◌, Some, None, IfErr, MatchResult};
 ghost use Rattle.amqp_ser.specs.Carried.{descriptor_content};
 ghost use Rattle.amqp_ser.specs.Composites.{descriptor_of};
 ghost use Rattle.amqp_ser.specs.Tree.{scalar, binary, string};
@@ -54,7 +54,8 @@ pub fn fixed_value(fixed: Fixed) -> Value
 /// `InvalidValue`.
 #[inline(always)]
 pub fn marked_fixed(pending: PendingMark, fixed: Fixed) -> Result<Value, Error>
-    ensures { IsOpenedImage (meant pending (Some (scalar (fixed_scalar fixed)))) result }
+    ensures image { IsOpenedImage (meant pending (Some (scalar (fixed_scalar fixed)))) result }
+    ensures invalid { IfErr result (λ e. e ≡ Error.InvalidValue) }
 {
     match (pending, fixed) {
         (PendingMark::Mark(Mark::Other), fixed) => Ok(fixed_value(fixed)),

@@ -10,4 +10,4 @@ use Rattle.amqp_to_value.proofs.serializer.SerializerSerializer.serialize_fixed.
 pub returns : goal.returns
 returns c =
     c.finish.ensures c.args.self.now _ (ap (λ a. a.kept) c.take_pending-pending.ensures.descriptors) (ap standing c.take_pending-pending.ensures.descriptors) c.take_pending-pending.ensures.none
-    (subst (λ u. IsImageOf (meant u (Some (scalar (fixed_scalar c.args.fixed)))) c.marked_fixed.result) c.take_pending-pending.ensures.pending (fixed_answer c.take_pending-pending.result c.args.fixed c.marked_fixed.result c.marked_fixed.ensures))
+    (subst (λ u. IsImageOf (meant u (Some (scalar (fixed_scalar c.args.fixed)))) c.marked_fixed.result) c.take_pending-pending.ensures.pending (fixed_answer c.take_pending-pending.result c.args.fixed c.marked_fixed.result c.marked_fixed.ensures.image))
