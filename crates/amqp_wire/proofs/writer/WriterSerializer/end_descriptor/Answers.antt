@@ -12,24 +12,24 @@ use Rattle.amqp_wire.proofs.DescribedBytes.{value_described, described_refused, 
 use Rattle.amqp_wire.proofs.PartBytes.{kept_back, kept-more}
 use Rattle.amqp_wire.proofs.writer.WriterSerializer.end_descriptor.Goals as goal
 
-pub returns-in-Ok-described-clause-step : goal.returns-in-Ok-described-clause-step
-returns-in-Ok-described-clause-step c = rw (← c.self.view_is, ← c.held.view_is) (λ start before d w r.
+pub returns-in-Ok-after_descriptor-clause-step : goal.returns-in-Ok-after_descriptor-clause-step
+returns-in-Ok-after_descriptor-clause-step c = rw (← c.self.view_is, ← c.held.view_is) (λ start before d w r.
     let held : WriterCompound = (part_of c.held.inside) in
-    let new : WriterCompound = record { position = held.position; shape = held.shape; inner = pending_at c.in-Ok-described.inner 0; before_current = held.before_current; before_last = held.before_last } in
-    let v = value_described start before (stance c.self.inside) held new d c.args.part w r c.in-Ok.is c.in-Ok-described.ensures refl refl in
+    let new : WriterCompound = record { position = held.position; shape = held.shape; inner = pending_at c.in-Ok-after_descriptor.inner 0; before_current = held.before_current; before_last = held.before_last } in
+    let v = value_described start before (stance c.self.inside) held new d c.args.part w r c.in-Ok.is c.in-Ok-after_descriptor.ensures refl refl in
     (v.0, ((v.1.0.0, ap Plain (c.without_prefix.ensures 0 0)), v.1.1)))
 
-pub returns-in-Err-described-clause-step : goal.returns-in-Err-described-clause-step
-returns-in-Err-described-clause-step c = rw (← c.self.view_is, ← c.held.view_is) (λ start before d w r.
+pub returns-in-Err-after_descriptor-clause-step : goal.returns-in-Err-after_descriptor-clause-step
+returns-in-Err-after_descriptor-clause-step c = rw (← c.self.view_is, ← c.held.view_is) (λ start before d w r.
     let held : WriterCompound = (part_of c.held.inside) in
     let out : Output = c.restore.new.self in
     let n = c.restore.ensures in
     let at = c.without_prefix.ensures 0 0 in
-    let why = c.in-Err-described.ensures in
+    let why = c.in-Err-after_descriptor.ensures in
     let b = kept_back start.output c.self.inside.output out held.before_current.len (kept-more start.output before.output c.self.inside.output w.kept r.0) n.table n.capacity w.stands.1 n.out in (
       (alone_open start out held b.1 (b.0, n.taken ∙ w.stands.0) w.position w.inner w.shape, ap Plain at),
-      λ t. subst (λ q. writer_permits start (as_described (descriptor_of d) t) (Err c.in-Err-described.e) (record { pending = Plain q; output = out })) (sym at)
-          (nested_refused start before out held d c.args.part (stance c.self.inside).pending c.in-Err-described.e w c.in-Ok.is r.1.0 why.0 why.1 b.1 t),
+      λ t. subst (λ q. writer_permits start (as_described (descriptor_of d) t) (Err c.in-Err-after_descriptor.e) (record { pending = Plain q; output = out })) (sym at)
+          (nested_refused start before out held d c.args.part (stance c.self.inside).pending c.in-Err-after_descriptor.e w c.in-Ok.is r.1.0 why.0 why.1 b.1 t),
     ))
 
 pub returns-in-Err-clause-step : goal.returns-in-Err-clause-step
