@@ -29,12 +29,14 @@ impl Deserialize for DescribedAttach {
         alloc: Global,
         deserializer: D,
     ) -> Result<DescribedAttach, D::Error> {
-        let attach = read_described::<DescribedAttach, D, _, _>(
+        match read_described::<DescribedAttach, D, _, _>(
             alloc,
             deserializer,
             &0x12u64,
             Of(PhantomData),
-        )?;
-        Ok(DescribedAttach(attach))
+        ) {
+            Ok(attach) => Ok(DescribedAttach(attach)),
+            Err(error) => Err(error),
+        }
     }
 }
