@@ -125,8 +125,6 @@ impl Deserialize for Attach {
         × ⟦<Option<String> as Deserialize>⟧.same a.desired b.desired
         × ⟦<Option<u32> as Deserialize>⟧.same a.properties b.properties };
 
-    // Two shapes read it: each has its own, as where a program reads a type at one place.
-    #[inline(always)]
     fn deserialize<D: Deserializer>(alloc: Global, deserializer: D) -> Result<Attach, D::Error> {
         let (name, rest) = read::<Attach, D, _>(
             alloc,
