@@ -11,18 +11,31 @@ use amqp_value::Value;
 
 // The codes of these scalars.
 const NULL: u8 = EncodingCodes::Null as u8;
+
 const TRUE: u8 = EncodingCodes::BooleanTrue as u8;
+
 const FALSE: u8 = EncodingCodes::BooleanFalse as u8;
+
 const UINT_0: u8 = EncodingCodes::Uint0 as u8;
+
 const ULONG_0: u8 = EncodingCodes::Ulong0 as u8;
+
 const UBYTE: u8 = EncodingCodes::Ubyte as u8;
+
 const SMALL_UINT: u8 = EncodingCodes::SmallUint as u8;
+
 const SMALL_ULONG: u8 = EncodingCodes::SmallUlong as u8;
+
 const SMALL_INT: u8 = EncodingCodes::SmallInt as u8;
+
 const SMALL_LONG: u8 = EncodingCodes::SmallLong as u8;
+
 const UINT: u8 = EncodingCodes::Uint as u8;
+
 const INT: u8 = EncodingCodes::Int as u8;
+
 const ULONG: u8 = EncodingCodes::Ulong as u8;
+
 const LONG: u8 = EncodingCodes::Long as u8;
 
 /// The scalar of the code whose payload comes first, and the bytes after it, where it is null, a

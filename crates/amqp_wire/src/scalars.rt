@@ -86,7 +86,9 @@ impl Writer {
         }
         match pending_after(position, long) {
             Ok(after) => {
-                let put = self.output.put_text(is_element(position), short, long, bytes);
+                let put = self
+                    .output
+                    .put_text(is_element(position), short, long, bytes);
                 self.spoil_unless_put(put);
                 self.pending = after;
                 Ok(())
