@@ -6,31 +6,31 @@ use Rattle.amqp_ser.specs.Tree.{Tree, scalar, string, list, map, trees_of}
 use Rattle.amqp_value.specs.TreeOf.{pairs_of}
 use Rattle.amqp_de.proofs.Lists.{same_trees, same_pairs}
 use Rattle.amqp_de.specs.Fields.{value_at, without}
-use Rattle.amqp_de.specs.Present.{optional, any_there, all_images, up_to_last, those_there, has_name, distinct_names, IsCut}
+use Rattle.amqp_de.specs.Present.{optional, any_there, all_images, up_to_last, those_there, has_name, distinct_names, EndsEarly}
 use Rattle.amqp_de.specs.Reads.{image_option, SameOption}
 
 -- the list in full is cut nowhere
-all_there : (fs : List (Bool × Tree)) → IsCut fs (all_images fs)
+all_there : (fs : List (Bool × Tree)) → EndsEarly fs (all_images fs)
 all_there [] = refl
 all_there (f ∷ fs) = (refl, all_there fs)
 
-cut_by : (b : Bool) (f : Bool × Tree) (fs : List (Bool × Tree)) → (f.0 || any_there fs) ≡ b → IsCut fs (up_to_last fs) →
-    IsCut (f ∷ fs) (if b then f.1 ∷ up_to_last fs else [])
+cut_by : (b : Bool) (f : Bool × Tree) (fs : List (Bool × Tree)) → (f.0 || any_there fs) ≡ b → EndsEarly fs (up_to_last fs) →
+    EndsEarly (f ∷ fs) (if b then f.1 ∷ up_to_last fs else [])
 cut_by true f fs e k = (refl, k)
 cut_by false f fs e k = e
 
-some_there : (fs : List (Bool × Tree)) → IsCut fs (up_to_last fs)
+some_there : (fs : List (Bool × Tree)) → EndsEarly fs (up_to_last fs)
 some_there [] = refl
 some_there (f ∷ fs) = cut_by (f.0 || any_there fs) f fs refl (some_there fs)
 
 -- the elements of a list that stands for the fields in full, and of one without the absent fields at its end
-pub full : (fs : List (Bool × Tree)) (ts : List Tree) (t : Tree) → list (trees_of ts) ≡ t → t ≡ list (trees_of (all_images fs)) → IsCut fs ts
+pub full : (fs : List (Bool × Tree)) (ts : List Tree) (t : Tree) → list (trees_of ts) ≡ t → t ≡ list (trees_of (all_images fs)) → EndsEarly fs ts
 full fs ts t e f = let same : trees_of ts ≡ trees_of (all_images fs) = cc in
-    subst (λ (us : List Tree). IsCut fs us) (sym (same_trees ts (all_images fs) same)) (all_there fs)
+    subst (λ (us : List Tree). EndsEarly fs us) (sym (same_trees ts (all_images fs) same)) (all_there fs)
 
-pub cut : (fs : List (Bool × Tree)) (ts : List Tree) (t : Tree) → list (trees_of ts) ≡ t → t ≡ list (trees_of (up_to_last fs)) → IsCut fs ts
+pub cut : (fs : List (Bool × Tree)) (ts : List Tree) (t : Tree) → list (trees_of ts) ≡ t → t ≡ list (trees_of (up_to_last fs)) → EndsEarly fs ts
 cut fs ts t e f = let same : trees_of ts ≡ trees_of (up_to_last fs) = cc in
-    subst (λ (us : List Tree). IsCut fs us) (sym (same_trees ts (up_to_last fs) same)) (some_there fs)
+    subst (λ (us : List Tree). EndsEarly fs us) (sym (same_trees ts (up_to_last fs) same)) (some_there fs)
 
 -- the entries of a map that stands for the fields that are there
 pub entries : (ns : List (List ℕ)) (fs : List (Bool × Tree)) (es : List (Tree × Tree)) (t : Tree) → map (pairs_of es) ≡ t →

@@ -27,10 +27,10 @@ up_to_last [] = []
 up_to_last (f ∷ fs) = if f.0 || any_there fs then f.1 ∷ up_to_last fs else []
 
 -- the images of the fields, some absent ones at the end aside
-abbrev pub IsCut : List (Bool × Tree) → List Tree → Type 0
-IsCut fs [] = any_there fs ≡ false
-IsCut [] (t ∷ ts) = ⊥
-IsCut (f ∷ fs) (t ∷ ts) = (t ≡ f.1) × IsCut fs ts
+abbrev pub EndsEarly : List (Bool × Tree) → List Tree → Type 0
+EndsEarly fs [] = any_there fs ≡ false
+EndsEarly [] (t ∷ ts) = ⊥
+EndsEarly (f ∷ fs) (t ∷ ts) = (t ≡ f.1) × EndsEarly fs ts
 
 -- the entries of a map: name and image of each field that is there
 abbrev pub those_there : List (List ℕ) → List (Bool × Tree) → List (Tree × Tree)

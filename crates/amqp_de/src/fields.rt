@@ -4,7 +4,7 @@ ghost use Rattle.std.specs.Prelude.{◌≡◌, ℕ, List, [], ◌∷◌, Bool, t
 ghost use Rattle.amqp_ser.specs.Tree.{Tree};
 ghost use Rattle.amqp_de.specs.Answers.{Answers};
 ghost use Rattle.amqp_de.specs.Fields.{FieldSource, by_position, by_name, must, may, end};
-ghost use Rattle.amqp_de.specs.Present.{IsCut, required, optional, those_there, distinct_names};
+ghost use Rattle.amqp_de.specs.Present.{EndsEarly, required, optional, those_there, distinct_names};
 ghost use Rattle.amqp_de.specs.Reads.{Always, RestorableOption, SameOption};
 
 use crate::de::{Deserialize, Deserializer, Refusal};
@@ -49,7 +49,7 @@ pub trait Fields: Sized + Drop {
     ) -> Result<Self::Values, D::Error>
         ensures read { Answers D.Error.is_memory
             (λ x. reads self.now x (by_position (D.items elements.old))) result }
-        ensures law { (x : Self.Values) → restorable x → IsCut (images x) (D.items elements.old) →
+        ensures law { (x : Self.Values) → restorable x → EndsEarly (images x) (D.items elements.old) →
             MatchResult result (λ y. same y x) D.Error.is_memory };
 
     /// Reads the fields from the entries of a map, by their names. Entries left over are ignored.

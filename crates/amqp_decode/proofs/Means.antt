@@ -13,7 +13,7 @@ use Rattle.amqp_ser.specs.Tree.{Scalar, Descriptor, Tree, Pairs, trees_of, no_pa
 use Rattle.amqp_value.specs.Image.{insert_tree}
 use Rattle.amqp_value.proofs.SameLemmas.{numbers}
 use Rattle.amqp_decode.specs.Codes.{is_primitive, primitive_of, shape_of_code}
-use Rattle.amqp_decode.specs.Scalars.{next, scalar_in, scalar_tree}
+use Rattle.amqp_decode.specs.Scalars.{and_then, scalar_in, scalar_tree}
 use Rattle.amqp_decode.specs.Spells.{IsNumber, IsPayload, IsCounted, IsDescriptor, descriptor_scalar, Spells, SpellsContent, SpellsElements, SpellsItems, SpellsEntries}
 use Rattle.amqp_decode.specs.Parsed.{FrameReader, ContentReader, cut, number_at, sized_at, content_at, counted_in, tree_descriptor, parsed_descriptor, descriptor_at, gather, insert, all, parse_list, parse_map, items_in, parse_array, payload_in, with_rest, content_in, content_of, parse_described, frame_in, parse, parse_content}
 use Rattle.amqp_decode.specs.declared.payload_shape.Count.{Count}
@@ -37,19 +37,19 @@ pick P true x y hit miss = hit refl
 pick P false x y hit miss = miss refl
 
 module _ {A B : Type 0} (S : List ℕ → A → Type 0) (T : List ℕ → B → Type 0) where
-  pub says-next : (s : List ℕ) (o : Option (A × List ℕ)) (f : A × List ℕ → Option (B × List ℕ)) → Says S s o
-      → ((r : A × List ℕ) (a : List ℕ) → s ≡ a ++ r.1 → S a r.0 → Says T s (f r)) → Says T s (next o f)
-  says-next s None f h k = tt
-  says-next s (Some r) f h k = k r h.0 h.1 h.2
+  pub says-and_then : (s : List ℕ) (o : Option (A × List ℕ)) (f : A × List ℕ → Option (B × List ℕ)) → Says S s o
+      → ((r : A × List ℕ) (a : List ℕ) → s ≡ a ++ r.1 → S a r.0 → Says T s (f r)) → Says T s (and_then o f)
+  says-and_then s None f h k = tt
+  says-and_then s (Some r) f h k = k r h.0 h.1 h.2
 
 -- a first step that is a test
-pub next-says : {A B : Type 0} (P : Option B → Type 0) (o : Option A) (f : A → Option B) → P None → ((a : A) → o ≡ Some a → P (f a)) → P (next o f)
-next-says P None f none some = none
-next-says P (Some a) f none some = some a refl
+pub and_then-says : {A B : Type 0} (P : Option B → Type 0) (o : Option A) (f : A → Option B) → P None → ((a : A) → o ≡ Some a → P (f a)) → P (and_then o f)
+and_then-says P None f none some = none
+and_then-says P (Some a) f none some = some a refl
 
-pub found-next : {A : Type 0} (P : A → Type 0) (o : Option A) → IfFound P o → (a : A) → o ≡ Some a → P a
-found-next P None h a e = absurd cc
-found-next P (Some x) h a e =
+pub found-and_then : {A : Type 0} (P : A → Type 0) (o : Option A) → IfFound P o → (a : A) → o ≡ Some a → P a
+found-and_then P None h a e = absurd cc
+found-and_then P (Some x) h a e =
     let same : x ≡ a = cc in
     subst P same h
 
@@ -91,7 +91,7 @@ number-says : (wide : Bool) (s : List ℕ) → Says (IsDigits wide) s (number_at
 number-says false [] = tt
 number-says false (b ∷ s) = (b ∷ [], refl, refl)
 number-says true s =
-    says-next (Exact 4) (IsDigits true) s (cut 4 s) (λ p. Some (from_be_bytes w32 p.0, p.1)) (cut-says 4 s)
+    says-and_then (Exact 4) (IsDigits true) s (cut 4 s) (λ p. Some (from_be_bytes w32 p.0, p.1)) (cut-says 4 s)
     (λ p a e h. (p.0, (e ∙ ap (λ z. z ++ p.1) h.0), is_number p.0 h.1))
 
 abbrev IsSized : Bool → List ℕ → List ℕ → Type 0
@@ -100,7 +100,7 @@ IsSized wide a body = (size : List ℕ) × (a ≡ size ++ body) × IsDigits wide
 sized-says : (wide : Bool) (s : List ℕ) → Says (IsSized wide) s (sized_at wide s)
 unfolding sized_at
 sized-says wide s =
-    says-next (IsDigits wide) (IsSized wide) s (number_at wide s) (λ n. cut n.0 n.1) (number-says wide s)
+    says-and_then (IsDigits wide) (IsSized wide) s (number_at wide s) (λ n. cut n.0 n.1) (number-says wide s)
     (λ n a e digits. says-under (Exact n.0) (IsSized wide) s a n.1 (cut n.0 n.1) e (cut-says n.0 n.1)
     (λ b x h. (a, ap (λ z. a ++ z) h.0, subst (IsDigits wide a) (sym h.1) digits)))
 
@@ -137,7 +137,7 @@ counted-says OneByte (b ∷ s) p e =
     subst (λ z. IsCounted OneByte (b ∷ s) z.0 z.1) same (IsCounted.in_one_byte b s)
 counted-says FourBytes s p e = number-counts s p.0 p.1 (number_at true s) (number-says true s) e
 
-descriptor-from : (o : Option Scalar) (d : Descriptor) → next (next o scalar_tree) tree_descriptor ≡ Some d → o ≡ Some (descriptor_scalar d)
+descriptor-from : (o : Option Scalar) (d : Descriptor) → and_then (and_then o scalar_tree) tree_descriptor ≡ Some d → o ≡ Some (descriptor_scalar d)
 descriptor-from None d e = absurd cc
 descriptor-from (Some (tree.ulong n)) d e =
     let same : tree.code n ≡ d = cc in
@@ -174,11 +174,11 @@ pub descriptor-says : (s : List ℕ) → Says IsDescriptor s (descriptor_at s)
 unfolding descriptor_at
 descriptor-says [] = tt
 descriptor-says (byte ∷ s) =
-    next-says (Says IsDescriptor (byte ∷ s)) (primitive_of byte) (λ code. next (content_at (category (code_of code)) s) (parsed_descriptor code)) tt
+    and_then-says (Says IsDescriptor (byte ∷ s)) (primitive_of byte) (λ code. and_then (content_at (category (code_of code)) s) (parsed_descriptor code)) tt
     (λ c is. let named = primitive-says byte c is in
     under-code IsDescriptor byte c s _ named.0
-    (says-next (IsPayload (category (code_of c))) (λ b d. IsDescriptor (code_of c ∷ b) d) s (content_at (category (code_of c)) s) (parsed_descriptor c) (payload-says (category (code_of c)) s)
-    (λ p a e h. next-says (Says (λ b d. IsDescriptor (code_of c ∷ b) d) s) (next (next (scalar_in c p.0) scalar_tree) tree_descriptor) (λ d. Some (d, p.1)) tt
+    (says-and_then (IsPayload (category (code_of c))) (λ b d. IsDescriptor (code_of c ∷ b) d) s (content_at (category (code_of c)) s) (parsed_descriptor c) (payload-says (category (code_of c)) s)
+    (λ p a e h. and_then-says (Says (λ b d. IsDescriptor (code_of c ∷ b) d) s) (and_then (and_then (scalar_in c p.0) scalar_tree) tree_descriptor) (λ d. Some (d, p.1)) tt
     (λ d found. (a, e, IsDescriptor.spelled c a p.0 d named.1 h (descriptor-from (scalar_in c p.0) d found))))))
 
 -- so many of what f reads, one after another
@@ -190,11 +190,11 @@ module _ (f : FrameReader) (S : List ℕ → Tree → Type 0) (E : ℕ → List 
   gather-says : (n : ℕ) (s : List ℕ) (done : List Tree) → Says (Gathers n done) s (gather f n s done)
   gather-says zero s done = ([], refl, ([], sym (append-nil done), nil))
   gather-says (suc n) s done =
-      says-next S (Gathers (suc n) done) s (f s) (λ r. gather f n r.1 (done ++ r.0 ∷ [])) (sound s)
+      says-and_then S (Gathers (suc n) done) s (f s) (λ r. gather f n r.1 (done ++ r.0 ∷ [])) (sound s)
       (λ r a e h. says-under (Gathers n (done ++ r.0 ∷ [])) (Gathers (suc n) done) s a r.1 (gather f n r.1 (done ++ r.0 ∷ [])) e (gather-says n r.1 (done ++ r.0 ∷ []))
       (λ b us w. (r.0 ∷ w.0, w.1 ∙ append_assoc done (r.0 ∷ []) w.0, more n a b r.0 w.0 h w.2)))
 
-  fills : (n : ℕ) (body : List ℕ) (o : Option (List Tree × List ℕ)) → Says (Gathers n []) body o → (ts : List Tree) → next o all ≡ Some ts → E n body ts
+  fills : (n : ℕ) (body : List ℕ) (o : Option (List Tree × List ℕ)) → Says (Gathers n []) body o → (ts : List Tree) → and_then o all ≡ Some ts → E n body ts
   fills n body None h ts found = absurd cc
   fills n body (Some (us, [])) h ts found =
       let whole : body ≡ h.0 = h.1 ∙ append-nil h.0 in
@@ -203,7 +203,7 @@ module _ (f : FrameReader) (S : List ℕ → Tree → Type 0) (E : ℕ → List 
   fills n body (Some (us, x ∷ xs)) h ts found = absurd cc
 
   -- they fill the body
-  pub gathered-says : (n : ℕ) (body : List ℕ) (ts : List Tree) → next (gather f n body []) all ≡ Some ts → E n body ts
+  pub gathered-says : (n : ℕ) (body : List ℕ) (ts : List Tree) → and_then (gather f n body []) all ≡ Some ts → E n body ts
   gathered-says n body ts found = fills n body (gather f n body []) (gather-says n body []) ts found
 
 module _ (d : ℕ) (f : FrameReader) (sound : (s : List ℕ) → Says (Spells d) s (f s)) where
@@ -215,20 +215,20 @@ module _ (d : ℕ) (f : FrameReader) (sound : (s : List ℕ) → Says (Spells d)
   AfterKey done n k b ps = (v : Tree) × (prefix back : List ℕ) × (b ≡ prefix ++ back) × Spells d prefix v × SpellsEntries d n back (insert_tree done k v) ps
 
   value-says : (n : ℕ) → ((s : List ℕ) (done : Pairs) → Says (Inserts n done) s (insert f n s done)) → (s : List ℕ) (done : Pairs) (k : Tree)
-      → Says (AfterKey done n k) s (next (f s) (λ v. insert f n v.1 (insert_tree done k v.0)))
+      → Says (AfterKey done n k) s (and_then (f s) (λ v. insert f n v.1 (insert_tree done k v.0)))
   value-says n rest s done k =
-      says-next (Spells d) (AfterKey done n k) s (f s) (λ v. insert f n v.1 (insert_tree done k v.0)) (sound s)
+      says-and_then (Spells d) (AfterKey done n k) s (f s) (λ v. insert f n v.1 (insert_tree done k v.0)) (sound s)
       (λ v a e sv. says-under (Inserts n (insert_tree done k v.0)) (AfterKey done n k) s a v.1 (insert f n v.1 (insert_tree done k v.0)) e (rest v.1 (insert_tree done k v.0))
       (λ b ps w. (v.0, a, b, refl, sv, w)))
 
   insert-says : (n : ℕ) (s : List ℕ) (done : Pairs) → Says (Inserts n done) s (insert f n s done)
   insert-says zero s done = ([], refl, SpellsEntries.no_entry d done)
   insert-says (suc n) s done =
-      says-next (Spells d) (Inserts (suc n) done) s (f s) (λ k. next (f k.1) (λ v. insert f n v.1 (insert_tree done k.0 v.0))) (sound s)
-      (λ k a e sk. says-under (AfterKey done n k.0) (Inserts (suc n) done) s a k.1 (next (f k.1) (λ v. insert f n v.1 (insert_tree done k.0 v.0))) e (value-says n (insert-says n) k.1 done k.0)
+      says-and_then (Spells d) (Inserts (suc n) done) s (f s) (λ k. and_then (f k.1) (λ v. insert f n v.1 (insert_tree done k.0 v.0))) (sound s)
+      (λ k a e sk. says-under (AfterKey done n k.0) (Inserts (suc n) done) s a k.1 (and_then (f k.1) (λ v. insert f n v.1 (insert_tree done k.0 v.0))) e (value-says n (insert-says n) k.1 done k.0)
       (λ b ps w. subst (λ z. SpellsEntries d (suc n) (a ++ z) done ps) (sym w.3) (SpellsEntries.entry d n a w.1 w.2 k.0 w.0 done ps sk w.4 w.5)))
 
-  fills-map : (n : ℕ) (body : List ℕ) (o : Option (Pairs × List ℕ)) → Says (Inserts n no_pairs) body o → (ps : Pairs) → next o all ≡ Some ps → SpellsEntries d n body no_pairs ps
+  fills-map : (n : ℕ) (body : List ℕ) (o : Option (Pairs × List ℕ)) → Says (Inserts n no_pairs) body o → (ps : Pairs) → and_then o all ≡ Some ps → SpellsEntries d n body no_pairs ps
   fills-map n body None h ps found = absurd cc
   fills-map n body (Some (qs, [])) h ps found =
       let whole : body ≡ h.0 = h.1 ∙ append-nil h.0 in
@@ -237,7 +237,7 @@ module _ (d : ℕ) (f : FrameReader) (sound : (s : List ℕ) → Says (Spells d)
   fills-map n body (Some (qs, x ∷ xs)) h ps found = absurd cc
 
   -- they fill the body
-  pub inserted-says : (n : ℕ) (body : List ℕ) (ps : Pairs) → next (insert f n body no_pairs) all ≡ Some ps → SpellsEntries d n body no_pairs ps
+  pub inserted-says : (n : ℕ) (body : List ℕ) (ps : Pairs) → and_then (insert f n body no_pairs) all ≡ Some ps → SpellsEntries d n body no_pairs ps
   inserted-says n body ps found = fills-map n body (insert f n body no_pairs) (insert-says n body no_pairs) ps found
 
 module _ (d : ℕ) (f : FrameReader) (h : ContentReader) (frames : (s : List ℕ) → Says (Spells d) s (f s)) (contents : (c : EncodingCodes) (s : List ℕ) → IfFound (SpellsContent d c s) (h c s)) where
@@ -247,39 +247,39 @@ module _ (d : ℕ) (f : FrameReader) (h : ContentReader) (frames : (s : List ℕ
 
   item-says : (c : EncodingCodes) (s : List ℕ) → Says (IsItem c) s (payload_in h c s)
   item-says c s =
-      says-next (IsPayload (category (code_of c))) (IsItem c) s (content_at (category (code_of c)) s) (λ p. next (h c p.0) (with_rest p.1)) (payload-says (category (code_of c)) s)
-      (λ p a e is. next-says (Says (IsItem c) s) (h c p.0) (with_rest p.1) tt
-      (λ t found. (a, e, (p.0, is, found-next (SpellsContent d c p.0) (h c p.0) (contents c p.0) t found))))
+      says-and_then (IsPayload (category (code_of c))) (IsItem c) s (content_at (category (code_of c)) s) (λ p. and_then (h c p.0) (with_rest p.1)) (payload-says (category (code_of c)) s)
+      (λ p a e is. and_then-says (Says (IsItem c) s) (h c p.0) (with_rest p.1) tt
+      (λ t found. (a, e, (p.0, is, found-and_then (SpellsContent d c p.0) (h c p.0) (contents c p.0) t found))))
 
-  items-say : (c : EncodingCodes) (n : ℕ) (items : List ℕ) (ts : List Tree) → next (gather (payload_in h c) n items []) all ≡ Some ts → SpellsItems d c n items ts
+  items-say : (c : EncodingCodes) (n : ℕ) (items : List ℕ) (ts : List Tree) → and_then (gather (payload_in h c) n items []) all ≡ Some ts → SpellsItems d c n items ts
   items-say c = gathered-says (payload_in h c) (IsItem c) (SpellsItems d c) (SpellsItems.no_item d c)
       (λ n a b t ts w rest. SpellsItems.item d c n a w.0 b t ts w.1 w.2 rest) (item-says c)
 
   module _ (c : EncodingCodes) (s : List ℕ) where
     list-says : (count : Count) (p : ℕ × List ℕ) → shape_of_code c ≡ shape.List count → IsCounted count s p.0 p.1 → IfFound (SpellsContent (suc d) c s) (parse_list f p)
     list-says count p is counts =
-        next-says (IfFound (SpellsContent (suc d) c s)) (next (gather f p.0 p.1 []) all) (λ ts. Some (tree.list (trees_of ts))) tt
+        and_then-says (IfFound (SpellsContent (suc d) c s)) (and_then (gather f p.0 p.1 []) all) (λ ts. Some (tree.list (trees_of ts))) tt
         (λ ts found. SpellsContent.a_list d c count s p.0 p.1 ts is counts
         (gathered-says f (Spells d) (SpellsElements d) (SpellsElements.no_element d) (SpellsElements.element d) frames p.0 p.1 ts found))
 
     map-says : (count : Count) (p : ℕ × List ℕ) → shape_of_code c ≡ shape.Map count → IsCounted count s p.0 p.1 → IfFound (SpellsContent (suc d) c s) (parse_map f p)
     map-says count p is counts =
-        pick (IfFound (SpellsContent (suc d) c s)) (p.0 % 2 == 0) (next (next (insert f (p.0 / 2) p.1 no_pairs) all) (λ ps. Some (tree.map ps))) None
-        (λ even. next-says (IfFound (SpellsContent (suc d) c s)) (next (insert f (p.0 / 2) p.1 no_pairs) all) (λ ps. Some (tree.map ps)) tt
+        pick (IfFound (SpellsContent (suc d) c s)) (p.0 % 2 == 0) (and_then (and_then (insert f (p.0 / 2) p.1 no_pairs) all) (λ ps. Some (tree.map ps))) None
+        (λ even. and_then-says (IfFound (SpellsContent (suc d) c s)) (and_then (insert f (p.0 / 2) p.1 no_pairs) all) (λ ps. Some (tree.map ps)) tt
         (λ ps found. let two : p.0 ≡ 2 * (p.0 / 2) = omega (arith, numbers (p.0 % 2) 0 even) in
         SpellsContent.a_map d c count s (p.0 / 2) p.1 ps is (subst (λ z. IsCounted count s z p.1) two counts) (inserted-says d f frames (p.0 / 2) p.1 ps found)))
         (λ _. tt)
 
     under-constructor : (count : Count) (n byte : ℕ) (items : List ℕ) → shape_of_code c ≡ shape.Array count → IsCounted count s n (byte ∷ items)
-        → IfFound (λ ts. SpellsContent (suc d) c s (tree.array (trees_of ts))) (next (primitive_of byte) (λ code. next (gather (payload_in h code) n items []) all))
+        → IfFound (λ ts. SpellsContent (suc d) c s (tree.array (trees_of ts))) (and_then (primitive_of byte) (λ code. and_then (gather (payload_in h code) n items []) all))
     under-constructor count n byte items is counts =
-        next-says (IfFound (λ ts. SpellsContent (suc d) c s (tree.array (trees_of ts)))) (primitive_of byte) (λ code. next (gather (payload_in h code) n items []) all) tt
+        and_then-says (IfFound (λ ts. SpellsContent (suc d) c s (tree.array (trees_of ts)))) (primitive_of byte) (λ code. and_then (gather (payload_in h code) n items []) all) tt
         (λ code found. let named = primitive-says byte code found in
         let begins = subst (λ z. IsCounted count s n (z ∷ items)) (sym named.0) counts in
-        as_array code begins named.1 (next (gather (payload_in h code) n items []) all) refl)
+        as_array code begins named.1 (and_then (gather (payload_in h code) n items []) all) refl)
       where
         as_array : (code : EncodingCodes) → IsCounted count s n (code_of code ∷ items) → IsTrue (is_primitive code)
-            → (o : Option (List Tree)) → next (gather (payload_in h code) n items []) all ≡ o → IfFound (λ ts. SpellsContent (suc d) c s (tree.array (trees_of ts))) o
+            → (o : Option (List Tree)) → and_then (gather (payload_in h code) n items []) all ≡ o → IfFound (λ ts. SpellsContent (suc d) c s (tree.array (trees_of ts))) o
         as_array code begins ok None e = tt
         as_array code begins ok (Some ts) e = SpellsContent.an_array d c count s n code items ts is begins ok (items-say code n items ts e)
 
@@ -291,39 +291,39 @@ module _ (d : ℕ) (f : FrameReader) (h : ContentReader) (frames : (s : List ℕ
 
     array-says : (count : Count) (p : ℕ × List ℕ) → shape_of_code c ≡ shape.Array count → IsCounted count s p.0 p.1 → IfFound (SpellsContent (suc d) c s) (parse_array h p)
     array-says count p is counts =
-        next-says (IfFound (SpellsContent (suc d) c s)) (items_in h p.0 p.1) (λ ts. Some (tree.array (trees_of ts))) tt
-        (λ ts found. found-next (λ us. SpellsContent (suc d) c s (tree.array (trees_of us))) (items_in h p.0 p.1) (array-items count p.0 p.1 is counts) ts found)
+        and_then-says (IfFound (SpellsContent (suc d) c s)) (items_in h p.0 p.1) (λ ts. Some (tree.array (trees_of ts))) tt
+        (λ ts found. found-and_then (λ us. SpellsContent (suc d) c s (tree.array (trees_of us))) (items_in h p.0 p.1) (array-items count p.0 p.1 is counts) ts found)
 
     by_shape : (k : PayloadShape) → shape_of_code c ≡ k → IfFound (SpellsContent (suc d) c s) (content_in f h k c s)
     by_shape shape.Described is = tt
-    by_shape shape.Scalar is = next-says (IfFound (SpellsContent (suc d) c s)) (scalar_in c s) scalar_tree tt (λ k found. SpellsContent.a_scalar d c s k is found)
-    by_shape (shape.List count) is = next-says (IfFound (SpellsContent (suc d) c s)) (counted_in count s) (parse_list f) tt (λ p found. list-says count p is (counted-says count s p found))
-    by_shape (shape.Map count) is = next-says (IfFound (SpellsContent (suc d) c s)) (counted_in count s) (parse_map f) tt (λ p found. map-says count p is (counted-says count s p found))
-    by_shape (shape.Array count) is = next-says (IfFound (SpellsContent (suc d) c s)) (counted_in count s) (parse_array h) tt (λ p found. array-says count p is (counted-says count s p found))
+    by_shape shape.Scalar is = and_then-says (IfFound (SpellsContent (suc d) c s)) (scalar_in c s) scalar_tree tt (λ k found. SpellsContent.a_scalar d c s k is found)
+    by_shape (shape.List count) is = and_then-says (IfFound (SpellsContent (suc d) c s)) (counted_in count s) (parse_list f) tt (λ p found. list-says count p is (counted-says count s p found))
+    by_shape (shape.Map count) is = and_then-says (IfFound (SpellsContent (suc d) c s)) (counted_in count s) (parse_map f) tt (λ p found. map-says count p is (counted-says count s p found))
+    by_shape (shape.Array count) is = and_then-says (IfFound (SpellsContent (suc d) c s)) (counted_in count s) (parse_array h) tt (λ p found. array-says count p is (counted-says count s p found))
 
     pub content-says : IfFound (SpellsContent (suc d) c s) (content_of f h c s)
     content-says = by_shape (shape_of_code c) refl
 
-  described-says : (s : List ℕ) → Says (λ b t. Spells (suc d) (0 ∷ b) t) s (next (descriptor_at s) (parse_described f))
+  described-says : (s : List ℕ) → Says (λ b t. Spells (suc d) (0 ∷ b) t) s (and_then (descriptor_at s) (parse_described f))
   described-says s =
-      says-next IsDescriptor (λ b t. Spells (suc d) (0 ∷ b) t) s (descriptor_at s) (parse_described f) (descriptor-says s)
+      says-and_then IsDescriptor (λ b t. Spells (suc d) (0 ∷ b) t) s (descriptor_at s) (parse_described f) (descriptor-says s)
       (λ l a e is. says-under (λ b t. (u : Tree) × (t ≡ tree.described l.0 u) × Spells d b u) (λ b t. Spells (suc d) (0 ∷ b) t) s a l.1 (parse_described f l) e
-      (says-next (Spells d) (λ b t. (u : Tree) × (t ≡ tree.described l.0 u) × Spells d b u) l.1 (f l.1) (λ r. Some (tree.described l.0 r.0, r.1)) (frames l.1)
+      (says-and_then (Spells d) (λ b t. (u : Tree) × (t ≡ tree.described l.0 u) × Spells d b u) l.1 (f l.1) (λ r. Some (tree.described l.0 r.0, r.1)) (frames l.1)
       (λ r b eb sp. (b, eb, (r.0, refl, sp))))
       (λ b t w. subst (λ z. Spells (suc d) (0 ∷ (a ++ b)) z) (sym w.1) (Spells.described d a b l.0 w.0 is w.2)))
 
   primitive-frame : (c : EncodingCodes) (s : List ℕ) → IsTrue (is_primitive c) → Says (λ b t. Spells (suc d) (code_of c ∷ b) t) s (payload_in (content_of f h) c s)
   primitive-frame c s ok =
-      says-next (IsPayload (category (code_of c))) (λ b t. Spells (suc d) (code_of c ∷ b) t) s (content_at (category (code_of c)) s) (λ p. next (content_of f h c p.0) (with_rest p.1)) (payload-says (category (code_of c)) s)
-      (λ p a e is. next-says (Says (λ b t. Spells (suc d) (code_of c ∷ b) t) s) (content_of f h c p.0) (with_rest p.1) tt
-      (λ t found. (a, e, Spells.primitive (suc d) c a p.0 t ok is (found-next (SpellsContent (suc d) c p.0) (content_of f h c p.0) (content-says c p.0) t found))))
+      says-and_then (IsPayload (category (code_of c))) (λ b t. Spells (suc d) (code_of c ∷ b) t) s (content_at (category (code_of c)) s) (λ p. and_then (content_of f h c p.0) (with_rest p.1)) (payload-says (category (code_of c)) s)
+      (λ p a e is. and_then-says (Says (λ b t. Spells (suc d) (code_of c ∷ b) t) s) (content_of f h c p.0) (with_rest p.1) tt
+      (λ t found. (a, e, Spells.primitive (suc d) c a p.0 t ok is (found-and_then (SpellsContent (suc d) c p.0) (content_of f h c p.0) (content-says c p.0) t found))))
 
   pub frame-says : (s : List ℕ) → Says (Spells (suc d)) s (frame_in f h s)
   frame-says [] = tt
   frame-says (byte ∷ s) =
-      pick (Says (Spells (suc d)) (byte ∷ s)) (byte == 0) (next (descriptor_at s) (parse_described f)) (next (primitive_of byte) (λ code. payload_in (content_of f h) code s))
-      (λ e. subst (λ k. Says (Spells (suc d)) (k ∷ s) (next (descriptor_at s) (parse_described f))) (sym (numbers byte 0 e)) (optionally_described (Spells (suc d)) 0 s _ (described-says s)))
-      (λ _. next-says (Says (Spells (suc d)) (byte ∷ s)) (primitive_of byte) (λ code. payload_in (content_of f h) code s) tt
+      pick (Says (Spells (suc d)) (byte ∷ s)) (byte == 0) (and_then (descriptor_at s) (parse_described f)) (and_then (primitive_of byte) (λ code. payload_in (content_of f h) code s))
+      (λ e. subst (λ k. Says (Spells (suc d)) (k ∷ s) (and_then (descriptor_at s) (parse_described f))) (sym (numbers byte 0 e)) (optionally_described (Spells (suc d)) 0 s _ (described-says s)))
+      (λ _. and_then-says (Says (Spells (suc d)) (byte ∷ s)) (primitive_of byte) (λ code. payload_in (content_of f h) code s) tt
       (λ c is. let named = primitive-says byte c is in
       under-code (Spells (suc d)) byte c s _ named.0 (primitive-frame c s named.1)))
 

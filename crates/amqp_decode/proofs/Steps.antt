@@ -13,7 +13,7 @@ use Rattle.amqp_value.specs.Image.{insert_tree}
 use Rattle.amqp_value.specs.TreeOf.{tree_of}
 use Rattle.amqp_value.specs.declared.value.Value.{Value}
 use Rattle.amqp_decode.specs.Codes.{primitive_of}
-use Rattle.amqp_decode.specs.Scalars.{next}
+use Rattle.amqp_decode.specs.Scalars.{and_then}
 use Rattle.amqp_decode.specs.Parsed.{FrameReader, ContentReader, gather, insert, all, parse_list, parse_map, parse_array, content_at, with_rest, payload_in, content_of, frame_in, parse, parse_content}
 use Rattle.amqp_decode.proofs.CodeLemmas.{named}
 
@@ -51,7 +51,7 @@ unfolding parse_content
 item-zero (suc d) c s e = absurd (omega arith)
 item-zero zero c s e = by_content (content_at (category (code_of c)) s)
   where
-    by_content : (o : Option (List ℕ × List ℕ)) → next o (λ p. next (parse_content 0 c p.0) (with_rest p.1)) ≡ None
+    by_content : (o : Option (List ℕ × List ℕ)) → and_then o (λ p. and_then (parse_content 0 c p.0) (with_rest p.1)) ≡ None
     by_content None = refl
     by_content (Some p) = refl
 
@@ -98,8 +98,8 @@ module _ (f : FrameReader) where
   none-more : (m : ℕ) (s : List ℕ) (done : List Tree) → f s ≡ None → gather f (suc m) s done ≡ None
   none-more m s done e = rw e refl
 
-  gather-next : (n i : ℕ) (s rest : List ℕ) (t : Tree) (done : List Tree) → i < n → f s ≡ Some (t, rest) → gather f (n - (i + 1)) rest (done ++ t ∷ []) ≡ gather f (n - i) s done
-  gather-next n i s rest t done lt e =
+  gather-and_then : (n i : ℕ) (s rest : List ℕ) (t : Tree) (done : List Tree) → i < n → f s ≡ Some (t, rest) → gather f (n - (i + 1)) rest (done ++ t ∷ []) ≡ gather f (n - i) s done
+  gather-and_then n i s rest t done lt e =
       let same : n - i ≡ suc (n - (i + 1)) = omega arith in
       sym (ap (λ m. gather f m s done) same ∙ one-more (n - (i + 1)) s rest t done e)
 
@@ -108,9 +108,9 @@ module _ (f : FrameReader) where
       let same : n - i ≡ suc (n - (i + 1)) = omega arith in
       ap (λ m. gather f m s done) same ∙ none-more (n - (i + 1)) s done e
 
-  pub values-next : (n i : ℕ) (s rest : List ℕ) (v : Value) (vs : List Value) → i < n → f s ≡ Some (tree_of v, rest)
+  pub values-and_then : (n i : ℕ) (s rest : List ℕ) (v : Value) (vs : List Value) → i < n → f s ≡ Some (tree_of v, rest)
       → gather f (n - (i + 1)) rest (map tree_of (vs ++ v ∷ [])) ≡ gather f (n - i) s (map tree_of vs)
-  values-next n i s rest v vs lt e = ap (gather f (n - (i + 1)) rest) (trees-push vs v) ∙ gather-next n i s rest (tree_of v) (map tree_of vs) lt e
+  values-and_then n i s rest v vs lt e = ap (gather f (n - (i + 1)) rest) (trees-push vs v) ∙ gather-and_then n i s rest (tree_of v) (map tree_of vs) lt e
 
   -- an element that is not read leaves no list
   pub list-none : (n i : ℕ) (s body : List ℕ) (done : List Tree) → i < n → gather f (n - i) s done ≡ gather f n body [] → f s ≡ None → parse_list f (n, body) ≡ None
@@ -127,9 +127,9 @@ module _ (f : FrameReader) where
   value-none : (m : ℕ) (s mid : List ℕ) (k : Tree) (done : Pairs) → f s ≡ Some (k, mid) → f mid ≡ None → insert f (suc m) s done ≡ None
   value-none m s mid k done ek ev = rw (ek, ev) refl
 
-  pub insert-next : (n i : ℕ) (s mid rest : List ℕ) (k v : Tree) (done : Pairs) → i < n → f s ≡ Some (k, mid) → f mid ≡ Some (v, rest)
+  pub insert-and_then : (n i : ℕ) (s mid rest : List ℕ) (k v : Tree) (done : Pairs) → i < n → f s ≡ Some (k, mid) → f mid ≡ Some (v, rest)
       → insert f (n - (i + 1)) rest (insert_tree done k v) ≡ insert f (n - i) s done
-  insert-next n i s mid rest k v done lt ek ev =
+  insert-and_then n i s mid rest k v done lt ek ev =
       let same : n - i ≡ suc (n - (i + 1)) = omega arith in
       sym (ap (λ m. insert f m s done) same ∙ entry-more (n - (i + 1)) s mid rest k v done ek ev)
 
@@ -147,7 +147,7 @@ module _ (f : FrameReader) where
   pub map-none : (n : ℕ) (body : List ℕ) → insert f (n / 2) body no_pairs ≡ None → parse_map f (n, body) ≡ None
   map-none n body e = by_parity (n % 2 == 0)
     where
-      by_parity : (b : Bool) → (if b then next (next (insert f (n / 2) body no_pairs) all) (λ ps. Some (tree.map ps)) else None) ≡ None
+      by_parity : (b : Bool) → (if b then and_then (and_then (insert f (n / 2) body no_pairs) all) (λ ps. Some (tree.map ps)) else None) ≡ None
       by_parity true = rw e refl
       by_parity false = refl
 

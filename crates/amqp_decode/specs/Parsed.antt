@@ -10,7 +10,7 @@ use Rattle.amqp_ser.specs.Tree as tree
 use Rattle.amqp_ser.specs.Tree.{Scalar, Descriptor, Tree, Pairs, trees_of, no_pairs}
 use Rattle.amqp_value.specs.Image.{insert_tree}
 use Rattle.amqp_decode.specs.Codes.{primitive_of, shape_of_code}
-use Rattle.amqp_decode.specs.Scalars.{next, scalar_in, scalar_tree}
+use Rattle.amqp_decode.specs.Scalars.{and_then, scalar_in, scalar_tree}
 use Rattle.amqp_decode.specs.declared.payload_shape.Count.{Count}
 use Rattle.amqp_decode.specs.declared.payload_shape.Count.TheVariants.{Absent, OneByte, FourBytes}
 use Rattle.amqp_decode.specs.declared.payload_shape.PayloadShape.{PayloadShape}
@@ -28,11 +28,11 @@ head (b ∷ s) = Some (b, s)
 -- the number in the first four bytes, or in the first, and the rest
 abbrev pub number_at : Bool → List ℕ → Option (ℕ × List ℕ)
 number_at false s = head s
-number_at true s = next (cut 4 s) (λ p. Some (from_be_bytes w32 p.0, p.1))
+number_at true s = and_then (cut 4 s) (λ p. Some (from_be_bytes w32 p.0, p.1))
 
 -- as many bytes as the number before them says, and the rest
 unfoldable pub sized_at : Bool → List ℕ → Option (List ℕ × List ℕ)
-sized_at wide s = next (number_at wide s) (λ n. cut n.0 n.1)
+sized_at wide s = and_then (number_at wide s) (λ n. cut n.0 n.1)
 
 -- the content of the payload, which comes first, and the rest
 abbrev pub content_at : Category → List ℕ → Option (List ℕ × List ℕ)
@@ -54,11 +54,11 @@ tree_descriptor _ = None
 
 -- the descriptor, which comes first, and the rest
 abbrev pub parsed_descriptor : EncodingCodes → List ℕ × List ℕ → Option (Descriptor × List ℕ)
-parsed_descriptor code p = next (next (next (scalar_in code p.0) scalar_tree) tree_descriptor) (λ d. Some (d, p.1))
+parsed_descriptor code p = and_then (and_then (and_then (scalar_in code p.0) scalar_tree) tree_descriptor) (λ d. Some (d, p.1))
 
 unfoldable pub descriptor_at : List ℕ → Option (Descriptor × List ℕ)
 descriptor_at [] = None
-descriptor_at (byte ∷ s) = next (primitive_of byte) (λ code. next (content_at (category (code_of code)) s) (parsed_descriptor code))
+descriptor_at (byte ∷ s) = and_then (primitive_of byte) (λ code. and_then (content_at (category (code_of code)) s) (parsed_descriptor code))
 
 -- how an encoded value is read, and the content of a code's payload
 abbrev pub FrameReader : Type 0
@@ -72,17 +72,17 @@ abbrev pub with_rest : List ℕ → Tree → Option (Tree × List ℕ)
 with_rest rest t = Some (t, rest)
 
 abbrev pub payload_in : ContentReader → EncodingCodes → FrameReader
-payload_in h code s = next (content_at (category (code_of code)) s) (λ p. next (h code p.0) (with_rest p.1))
+payload_in h code s = and_then (content_at (category (code_of code)) s) (λ p. and_then (h code p.0) (with_rest p.1))
 
 -- so many of them, after those that are there
 abbrev pub gather : FrameReader → ℕ → List ℕ → List Tree → Option (List Tree × List ℕ)
 gather f zero s done = Some (done, s)
-gather f (suc n) s done = next (f s) (λ r. gather f n r.1 (done ++ r.0 ∷ []))
+gather f (suc n) s done = and_then (f s) (λ r. gather f n r.1 (done ++ r.0 ∷ []))
 
 -- so many keys and values in turn
 abbrev pub insert : FrameReader → ℕ → List ℕ → Pairs → Option (Pairs × List ℕ)
 insert f zero s done = Some (done, s)
-insert f (suc n) s done = next (f s) (λ k. next (f k.1) (λ v. insert f n v.1 (insert_tree done k.0 v.0)))
+insert f (suc n) s done = and_then (f s) (λ k. and_then (f k.1) (λ v. insert f n v.1 (insert_tree done k.0 v.0)))
 
 -- nothing may be left
 abbrev pub all : {A : Type 0} → A × List ℕ → Option A
@@ -90,39 +90,39 @@ all (a, []) = Some a
 all (a, b ∷ s) = None
 
 abbrev pub parse_list : FrameReader → ℕ × List ℕ → Option Tree
-parse_list f p = next (next (gather f p.0 p.1 []) all) (λ ts. Some (tree.list (trees_of ts)))
+parse_list f p = and_then (and_then (gather f p.0 p.1 []) all) (λ ts. Some (tree.list (trees_of ts)))
 
 abbrev pub parse_map : FrameReader → ℕ × List ℕ → Option Tree
-parse_map f p = if p.0 % 2 == 0 then next (next (insert f (p.0 / 2) p.1 no_pairs) all) (λ ps. Some (tree.map ps)) else None
+parse_map f p = if p.0 % 2 == 0 then and_then (and_then (insert f (p.0 / 2) p.1 no_pairs) all) (λ ps. Some (tree.map ps)) else None
 
 -- payloads of the constructor, which comes first
 abbrev pub items_in : ContentReader → ℕ → List ℕ → Option (List Tree)
 items_in h zero [] = Some []
 items_in h (suc n) [] = None
-items_in h n (c ∷ s) = next (primitive_of c) (λ code. next (gather (payload_in h code) n s []) all)
+items_in h n (c ∷ s) = and_then (primitive_of c) (λ code. and_then (gather (payload_in h code) n s []) all)
 
 abbrev pub parse_array : ContentReader → ℕ × List ℕ → Option Tree
-parse_array h p = next (items_in h p.0 p.1) (λ ts. Some (tree.array (trees_of ts)))
+parse_array h p = and_then (items_in h p.0 p.1) (λ ts. Some (tree.array (trees_of ts)))
 
 -- a content, with f for the encoded values in it and h for the items
 abbrev pub content_in : FrameReader → ContentReader → PayloadShape → ContentReader
 content_in f h shape.Described code s = None
-content_in f h shape.Scalar code s = next (scalar_in code s) scalar_tree
-content_in f h (shape.List count) code s = next (counted_in count s) (parse_list f)
-content_in f h (shape.Map count) code s = next (counted_in count s) (parse_map f)
-content_in f h (shape.Array count) code s = next (counted_in count s) (parse_array h)
+content_in f h shape.Scalar code s = and_then (scalar_in code s) scalar_tree
+content_in f h (shape.List count) code s = and_then (counted_in count s) (parse_list f)
+content_in f h (shape.Map count) code s = and_then (counted_in count s) (parse_map f)
+content_in f h (shape.Array count) code s = and_then (counted_in count s) (parse_array h)
 
 abbrev pub content_of : FrameReader → ContentReader → ContentReader
 content_of f h code s = content_in f h (shape_of_code code) code s
 
 abbrev pub parse_described : FrameReader → Descriptor × List ℕ → Option (Tree × List ℕ)
-parse_described f d = next (f d.1) (λ r. Some (tree.described d.0 r.0, r.1))
+parse_described f d = and_then (f d.1) (λ r. Some (tree.described d.0 r.0, r.1))
 
 -- the first encoded value
 abbrev pub frame_in : FrameReader → ContentReader → FrameReader
 frame_in f h [] = None
 frame_in f h (byte ∷ s) =
-    if byte == 0 then next (descriptor_at s) (parse_described f) else next (primitive_of byte) (λ code. payload_in (content_of f h) code s)
+    if byte == 0 then and_then (descriptor_at s) (parse_described f) else and_then (primitive_of byte) (λ code. payload_in (content_of f h) code s)
 
 unfoldable mutual
   -- the first encoded value, at most so deep

@@ -7,9 +7,9 @@ use Rattle.amqp_data.specs.declared.format_code.EncodingCodes.TheVariants as cod
 use Rattle.amqp_ser.specs.Tree.{Tree, scalar, Scalar, null, bool, ubyte, ushort, uint, ulong, byte, short, int, long, float, double, decimal32, decimal64, decimal128, char, timestamp, uuid, binary, string, symbol}
 
 -- the second step where there was a first
-abbrev pub next : {A B : Type 0} → Option A → (A → Option B) → Option B
-next None f = None
-next (Some a) f = f a
+abbrev pub and_then : {A B : Type 0} → Option A → (A → Option B) → Option B
+and_then None f = None
+and_then (Some a) f = f a
 
 -- a scalar of what was read
 abbrev pub scalar_from : {A : Type 0} → (A → Scalar) → Option A → Option Scalar
@@ -53,13 +53,13 @@ scalar_in code.SmallUint bs = scalar_from uint (single bs)
 scalar_in code.SmallUlong bs = scalar_from ulong (single bs)
 scalar_in code.SmallInt bs = scalar_from (λ b. int (cast_signed w8 b)) (single bs)
 scalar_in code.SmallLong bs = scalar_from (λ b. long (cast_signed w8 b)) (single bs)
-scalar_in code.Boolean bs = next (single bs) truth
+scalar_in code.Boolean bs = and_then (single bs) truth
 scalar_in code.Ushort bs = scalar_from (λ b. ushort (from_be_bytes w16 b)) (exact 2 bs)
 scalar_in code.Short bs = scalar_from (λ b. short (cast_signed w16 (from_be_bytes w16 b))) (exact 2 bs)
 scalar_in code.Uint bs = scalar_from (λ b. uint (from_be_bytes w32 b)) (exact 4 bs)
 scalar_in code.Int bs = scalar_from (λ b. int (cast_signed w32 (from_be_bytes w32 b))) (exact 4 bs)
 scalar_in code.Float bs = scalar_from (λ b. float (from_be_bytes w32 b)) (exact 4 bs)
-scalar_in code.Char bs = next (exact 4 bs) (λ b. character (from_be_bytes w32 b))
+scalar_in code.Char bs = and_then (exact 4 bs) (λ b. character (from_be_bytes w32 b))
 scalar_in code.Decimal32 bs = scalar_from decimal32 (exact 4 bs)
 scalar_in code.Ulong bs = scalar_from (λ b. ulong (from_be_bytes w64 b)) (exact 8 bs)
 scalar_in code.Long bs = scalar_from (λ b. long (cast_signed w64 (from_be_bytes w64 b))) (exact 8 bs)

@@ -6,7 +6,37 @@ ghost use Rattle.amqp_decode.specs.Parsed.{FrameReader, ContentReader, frame_in}
 ghost use Rattle.amqp_decode.specs.Parsed.{cut};
 ghost use Rattle.amqp_decode.specs.Scalars.{exact};
 
+use amqp_data::EncodingCodes;
 use amqp_value::Value;
+
+// The codes of these scalars.
+const NULL: u8 = EncodingCodes::Null as u8;
+
+const TRUE: u8 = EncodingCodes::BooleanTrue as u8;
+
+const FALSE: u8 = EncodingCodes::BooleanFalse as u8;
+
+const UINT_0: u8 = EncodingCodes::Uint0 as u8;
+
+const ULONG_0: u8 = EncodingCodes::Ulong0 as u8;
+
+const UBYTE: u8 = EncodingCodes::Ubyte as u8;
+
+const SMALL_UINT: u8 = EncodingCodes::SmallUint as u8;
+
+const SMALL_ULONG: u8 = EncodingCodes::SmallUlong as u8;
+
+const SMALL_INT: u8 = EncodingCodes::SmallInt as u8;
+
+const SMALL_LONG: u8 = EncodingCodes::SmallLong as u8;
+
+const UINT: u8 = EncodingCodes::Uint as u8;
+
+const INT: u8 = EncodingCodes::Int as u8;
+
+const ULONG: u8 = EncodingCodes::Ulong as u8;
+
+const LONG: u8 = EncodingCodes::Long as u8;
 
 /// The scalar of the code whose payload comes first, and the bytes after it, where it is null, a
 /// truth value by its code alone, or a whole number of 8, 32 or 64 bits, but for the byte.
@@ -17,28 +47,28 @@ pub fn read_fixed(code: u8, bytes: &[u8]) -> Option<(Value, &[u8])>
     ensures primitive { IfSome result (λ r. ¬ (code ≡ 0)) }
 {
     match code {
-        0x40 => Some((Value::Null, bytes)),
-        0x41 => Some((Value::Bool(true), bytes)),
-        0x42 => Some((Value::Bool(false), bytes)),
-        0x43 => Some((Value::Uint(0), bytes)),
-        0x44 => Some((Value::Ulong(0), bytes)),
-        0x50 => {
+        NULL => Some((Value::Null, bytes)),
+        TRUE => Some((Value::Bool(true), bytes)),
+        FALSE => Some((Value::Bool(false), bytes)),
+        UINT_0 => Some((Value::Uint(0), bytes)),
+        ULONG_0 => Some((Value::Ulong(0), bytes)),
+        UBYTE => {
             let (byte, rest) = bytes.split_first()?;
             Some((Value::Ubyte(*byte), rest))
         }
-        0x52 => {
+        SMALL_UINT => {
             let (byte, rest) = bytes.split_first()?;
             Some((Value::Uint(u32::from(*byte)), rest))
         }
-        0x53 => {
+        SMALL_ULONG => {
             let (byte, rest) = bytes.split_first()?;
             Some((Value::Ulong(u64::from(*byte)), rest))
         }
-        0x54 => {
+        SMALL_INT => {
             let (byte, rest) = bytes.split_first()?;
             Some((Value::Int(i32::from(byte.cast_signed())), rest))
         }
-        0x55 => {
+        SMALL_LONG => {
             let (byte, rest) = bytes.split_first()?;
             Some((Value::Long(i64::from(byte.cast_signed())), rest))
         }
@@ -54,19 +84,19 @@ fn read_wide(code: u8, bytes: &[u8]) -> Option<(Value, &[u8])>
     ensures primitive { IfSome result (λ r. ¬ (code ≡ 0)) }
 {
     match code {
-        0x70 => {
+        UINT => {
             let (number, rest) = split_fixed(bytes)?;
             Some((Value::Uint(u32::from_be_bytes(number)), rest))
         }
-        0x71 => {
+        INT => {
             let (number, rest) = split_fixed(bytes)?;
             Some((Value::Int(i32::from_be_bytes(number)), rest))
         }
-        0x80 => {
+        ULONG => {
             let (number, rest) = split_fixed(bytes)?;
             Some((Value::Ulong(u64::from_be_bytes(number)), rest))
         }
-        0x81 => {
+        LONG => {
             let (number, rest) = split_fixed(bytes)?;
             Some((Value::Long(i64::from_be_bytes(number)), rest))
         }

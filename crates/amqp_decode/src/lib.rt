@@ -5,10 +5,10 @@
 //! both directions: with the value that the bytes spell, or with a refusal where they spell none.
 #![tactic(auto)]
 
-mod cut;
 mod decode;
 mod fixed;
 pub mod laws;
+mod payload;
 mod payload_shape;
 mod read;
 mod scalar;

@@ -5,8 +5,8 @@ ghost use Rattle.amqp_data.specs.declared.error.Error.TheVariants.{OutOfMemory};
 ghost use Rattle.amqp_value.specs.TreeOf.{tree_of};
 ghost use Rattle.amqp_decode.specs.Parsed.{parse, parse_content, payload_in, content_of, frame_in, parse_list, parse_map, parse_array};
 
-use crate::cut::{read_count, read_payload};
 use crate::fixed::read_fixed;
+use crate::payload::{read_count, read_payload};
 use crate::payload_shape::{PayloadShape, has_no_payload, payload_shape, primitive_code};
 use crate::scalar::{read_descriptor, read_scalar};
 use crate::stack::take_from;

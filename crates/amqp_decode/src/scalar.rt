@@ -6,10 +6,10 @@ ghost use Rattle.amqp_data.specs.declared.error.Error.TheVariants.{OutOfMemory};
 ghost use Rattle.amqp_ser.specs.Carried.{descriptor_content};
 ghost use Rattle.amqp_ser.specs.Tree.{scalar};
 ghost use Rattle.amqp_value.specs.TreeOf.{tree_of};
-ghost use Rattle.amqp_decode.specs.Scalars.{next, single, exact, truth, character, scalar_in, scalar_tree};
+ghost use Rattle.amqp_decode.specs.Scalars.{and_then, single, exact, truth, character, scalar_in, scalar_tree};
 ghost use Rattle.amqp_decode.specs.Parsed.{tree_descriptor, descriptor_at};
 
-use crate::cut::read_payload;
+use crate::payload::read_payload;
 use crate::payload_shape::primitive_code;
 use amqp_data::{
     ByteBuf, Dec32, Dec64, Dec128, Descriptor, EncodingCodes, Error, F32Bits, F64Bits, Symbol,
@@ -67,7 +67,7 @@ fn binary_of(alloc: Global, content: &[u8]) -> Result<Vec<u8>, Error>
 // The truth value that the byte is.
 #[inline(always)]
 fn truth_of(byte: u8) -> Result<Value, Error>
-    ensures ok { IfOk result (λ v. next (truth byte) scalar_tree ≡ Some (tree_of v)) }
+    ensures ok { IfOk result (λ v. and_then (truth byte) scalar_tree ≡ Some (tree_of v)) }
     ensures err { IfErr result (λ e. truth byte ≡ None) }
 {
     match byte {
@@ -80,7 +80,7 @@ fn truth_of(byte: u8) -> Result<Value, Error>
 // The character of the number.
 #[inline(always)]
 fn character_of(number: u32) -> Result<Value, Error>
-    ensures ok { IfOk result (λ v. next (character number) scalar_tree ≡ Some (tree_of v)) }
+    ensures ok { IfOk result (λ v. and_then (character number) scalar_tree ≡ Some (tree_of v)) }
     ensures err { IfErr result (λ e. character number ≡ None) }
 {
     match char::from_u32(number) {
@@ -98,7 +98,7 @@ fn character_of(number: u32) -> Result<Value, Error>
 #[inline(always)]
 pub fn read_scalar(alloc: Global, code: EncodingCodes, content: &[u8]) -> Result<Value, Error>
     ensures ok { IfOk result (λ v.
-        next (scalar_in code content.now) scalar_tree ≡ Some (tree_of v)) }
+        and_then (scalar_in code content.now) scalar_tree ≡ Some (tree_of v)) }
     ensures err { IfErr result (λ e. ¬ (e ≡ OutOfMemory) → scalar_in code content.now ≡ None) }
 {
     match code {

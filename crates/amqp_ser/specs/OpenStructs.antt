@@ -47,7 +47,7 @@ module _ {S H O E : Type 0} where
 
   -- the descriptor is still to come
   abbrev pub lacks_descriptor : SerializeTupleStruct S O E H → Bool
-  lacks_descriptor fields = fields.awaits
+  lacks_descriptor fields = fields.wants_descriptor
 
   -- the tuple struct has a field, or is a list that stands open from the start
   abbrev pub is_open : SerializeTupleStruct S O E H → Bool
@@ -55,7 +55,7 @@ module _ {S H O E : Type 0} where
 
   -- a second field of one that has one alone
   abbrev pub is_full : SerializeTupleStruct S O E H → Bool
-  is_full fields = not fields.awaits && is_misplaced (single_or_list fields.single) true fields.opened false
+  is_full fields = not fields.wants_descriptor && is_misplaced (single_or_list fields.single) true fields.opened false
 
 module _ {S H O E : Type 0} (permits : S → Option Tree → Result O E → S → Type 0)
     (has : S → Kind → S → H → List (Option Tree) → Type 0) where

@@ -739,6 +739,8 @@ pub trait Serializer {
             (λ fields. (struct_reference fields).ghost_name ≡ self.entry.ghost_name) }
         ensures succeeds { IsOk result }
     {
+        // Of any form a struct begins as one value: a descriptor may come before its fields, so
+        // that a list or a map is opened with the first of these.
         let held = self.begin(Kind::Single);
         Ok(SerializeStruct::new(self, held, struct_form(name)))
     }

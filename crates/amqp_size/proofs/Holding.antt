@@ -8,7 +8,7 @@ use Rattle.amqp_ser.specs.declared.kind.Kind.{Kind}
 use Rattle.amqp_ser.specs.declared.kind.Kind.TheVariants as kinds
 use Rattle.amqp_size.specs.Position.{position_of, meant, without_prefix, is_array, is_gathered, limit_of}
 use Rattle.amqp_size.specs.SizeSerializer.{at_position, HoldsGathered, HoldsTransparent, HoldsSingle, Holding}
-use Rattle.amqp_size.specs.AddPart.{opens_in, passes_limit}
+use Rattle.amqp_size.specs.AddPart.{constructor_len_in, passes_limit}
 use Rattle.amqp_size.specs.WholePosition.{Root}
 use Rattle.amqp_size.specs.WholePending.{Pending}
 use Rattle.amqp_size.specs.WholePending as pending
@@ -84,8 +84,8 @@ pub record Taking (held new : OpenCompound) (size : ℕ) (after : Pending) (res 
   pub kept : IfErr res (λ _. new ≡ held)
   pub before_last : is_gathered held.shape ≡ true → IfOk res (λ _. new.before_last ≡ held.sum)
   pub gathered : is_gathered held.shape ≡ true → MatchResult res
-      (λ _. (new.sum ≡ size + opens_in (is_array held.shape) held.inner after + held.sum) × ((new.count ≡ if is_array held.shape then held.count + 1 else held.count) × (new.inner ≡ if is_array held.shape then after else held.inner)))
-      (λ e. (e ≡ error.TooLong) × passes_limit (is_array held.shape) held.count (size + opens_in (is_array held.shape) held.inner after + held.sum))
+      (λ _. (new.sum ≡ size + constructor_len_in (is_array held.shape) held.inner after + held.sum) × ((new.count ≡ if is_array held.shape then held.count + 1 else held.count) × (new.inner ≡ if is_array held.shape then after else held.inner)))
+      (λ e. (e ≡ error.TooLong) × passes_limit (is_array held.shape) held.count (size + constructor_len_in (is_array held.shape) held.inner after + held.sum))
   pub transparent : held.shape ≡ shapes.Transparent → MatchResult res
       (λ _. (new.sum ≡ size + held.sum) × (new.inner ≡ held.inner))
       (λ e. (e ≡ error.TooLong) × (18446744073709551615 < size + held.sum))

@@ -7,7 +7,7 @@ use Rattle.amqp_ser.proofs.Bools.{left_true}
 use Rattle.amqp_ser.proofs.Joins.{join, encoding_each-join, payload_each-join}
 use Rattle.amqp_size.specs.Position.{element, next, form}
 use Rattle.amqp_size.specs.SizeSerializer.{content, inner_of, one_in}
-use Rattle.amqp_size.specs.AddPart.{opens}
+use Rattle.amqp_size.specs.AddPart.{constructor_len}
 use Rattle.amqp_size.specs.WholePosition.{First}
 
 -- the rest of the bytes
@@ -15,9 +15,9 @@ abbrev pub rest_of : Bool → Trees → List ℕ
 rest_of false us = encoding_each us
 rest_of true us = payload_each us
 
-code_list-opens : (o : Option ℕ) → length (code_list o) ≡ opens First (element o)
-code_list-opens None = refl
-code_list-opens (Some c) = refl
+code_list-constructor_len : (o : Option ℕ) → length (code_list o) ≡ constructor_len First (element o)
+code_list-constructor_len None = refl
+code_list-constructor_len (Some c) = refl
 
 pub some_con : (o : Option ℕ) → same_constructor o o ≡ true → (c : ℕ) × (o ≡ Some c)
 some_con None h = cc
@@ -25,13 +25,13 @@ some_con (Some c) h = (c, refl)
 
 -- the bytes of the parts, one more and others
 pub content-join : (arr : Bool) (ts : Trees) (t : Tree) (us : Trees) → one_in arr ts ≡ true →
-    length (content arr (join ts (more t us))) ≡ length (form (inner_of arr ts) t) + opens (inner_of arr ts) (next (inner_of arr ts) t) + length (content arr ts) + length (rest_of arr us)
+    length (content arr (join ts (more t us))) ≡ length (form (inner_of arr ts) t) + constructor_len (inner_of arr ts) (next (inner_of arr ts) t) + length (content arr ts) + length (rest_of arr us)
 content-join false ts t us h = simp (encoding_each-join, length-append) (omega arith)
-content-join true no_trees t us h = let e = code_list-opens (constructor t) in simp length-append (omega arith)
+content-join true no_trees t us h = let e = code_list-constructor_len (constructor t) in simp length-append (omega arith)
 content-join true (more v ts) t us h =
     let s = some_con (constructor v) (left_true (same_constructor (constructor v) (constructor v)) (each_constructor (constructor v) ts) h) in
     let e : constructor v ≡ Some s.0 = s.1 in
     let a : form (element (constructor v)) t ≡ payload t = ap (λ o. form (element o) t) e in
-    let b : opens (element (constructor v)) (next (element (constructor v)) t) ≡ 0 = ap (λ o. opens (element o) (next (element o) t)) e in
+    let b : constructor_len (element (constructor v)) (next (element (constructor v)) t) ≡ 0 = ap (λ o. constructor_len (element o) (next (element o) t)) e in
     let c = ap length a in
     simp (payload_each-join, length-append) (omega arith)

@@ -14,7 +14,7 @@ use Rattle.amqp_ser.proofs.Last.{last_off, paired-last}
 use Rattle.amqp_ser.proofs.Pairing.{even}
 use Rattle.amqp_size.specs.Position.{position_of, meant, without_prefix, limit_of, shape_of, is_array, is_gathered, element, next, suits, form}
 use Rattle.amqp_size.specs.SizeSerializer.{at_position, Counted, HoldsGathered, content, counts, one_in, inner_of}
-use Rattle.amqp_size.specs.AddPart.{opens, opens_in, passes_limit}
+use Rattle.amqp_size.specs.AddPart.{constructor_len, constructor_len_in, passes_limit}
 use Rattle.amqp_size.specs.WholePosition.{Position}
 use Rattle.amqp_size.specs.WholePending.{Pending}
 use Rattle.amqp_size.specs.WholePending as pending
@@ -62,7 +62,7 @@ more_one true (more v ts) t h s =
     both (same_constructor (constructor v) (constructor v)) (each_constructor (constructor v) (join ts (more t no_trees))) mine
     (each-join (constructor v) ts (more t no_trees) ∙ both (each_constructor (constructor v) ts) (same_constructor (constructor v) (constructor t) && true) others (both (same_constructor (constructor v) (constructor t)) true new refl))
 
-opens_same : (arr : Bool) (ts : Trees) (q : Position) → opens_in arr (pending.Plain (inner_of arr ts)) (pending.Plain q) ≡ opens (inner_of arr ts) q
+opens_same : (arr : Bool) (ts : Trees) (q : Position) → constructor_len_in arr (pending.Plain (inner_of arr ts)) (pending.Plain q) ≡ constructor_len (inner_of arr ts) q
 opens_same false ts q = refl
 opens_same true ts q = refl
 
@@ -73,14 +73,14 @@ new_inner true ts t old after h e q = q ∙ ap pending.Plain (next_inner true ts
 
 -- what is added to the sum
 added : (start : SizeSerializer) (kind : Kind) (held : OpenCompound) (ps : List (Option Tree)) (h : HoldsGathered start kind held ps) (t : Tree) (size : ℕ) (after : Pending) → Counted (inner_of (is_array held.shape) h.ts) t size after →
-    size + opens_in (is_array held.shape) held.inner after + held.sum ≡
-    length (form (inner_of (is_array held.shape) h.ts) t) + opens (inner_of (is_array held.shape) h.ts) (next (inner_of (is_array held.shape) h.ts) t) + length (content (is_array held.shape) h.ts)
+    size + constructor_len_in (is_array held.shape) held.inner after + held.sum ≡
+    length (form (inner_of (is_array held.shape) h.ts) t) + constructor_len (inner_of (is_array held.shape) h.ts) (next (inner_of (is_array held.shape) h.ts) t) + length (content (is_array held.shape) h.ts)
 added start kind held ps h t size after k =
     let arr = is_array held.shape in
     let i = inner_of arr h.ts in
     let len : size ≡ length (form i t) = k.len ∙ extent_inner arr h.ts t in
-    let opened : opens_in arr held.inner after ≡ opens i (next i t) =
-    ap (λ u. opens_in arr u after) h.fed.inner ∙ ap (λ u. opens_in arr (pending.Plain i) u) k.position ∙ opens_same arr h.ts (next i t) in
+    let opened : constructor_len_in arr held.inner after ≡ constructor_len i (next i t) =
+    ap (λ u. constructor_len_in arr u after) h.fed.inner ∙ ap (λ u. constructor_len_in arr (pending.Plain i) u) k.position ∙ opens_same arr h.ts (next i t) in
     let sum = h.fed.sum in
     omega arith
 
@@ -88,7 +88,7 @@ added start kind held ps h t size after k =
 pub taken_part : (start : SizeSerializer) (kind : Kind) (held new : OpenCompound) (ps : List (Option Tree)) (h : HoldsGathered start kind held ps) (t : Tree) (size : ℕ) (after : Pending) →
     Counted (inner_of (is_array held.shape) h.ts) t size after →
     new.position ≡ held.position → new.shape ≡ held.shape →
-    new.sum ≡ size + opens_in (is_array held.shape) held.inner after + held.sum → new.count ≡ (if is_array held.shape then held.count + 1 else held.count) → new.count ≤ 4294967295 →
+    new.sum ≡ size + constructor_len_in (is_array held.shape) held.inner after + held.sum → new.count ≡ (if is_array held.shape then held.count + 1 else held.count) → new.count ≤ 4294967295 →
     new.inner ≡ (if is_array held.shape then after else held.inner) → new.before_last ≡ held.sum → new.sum ≤ limit_of new.shape →
     HoldsGathered start kind new (ps ++ (Some t ∷ []))
 taken_part start kind held new ps h t size after k a b d e few f was small =
@@ -128,8 +128,8 @@ taken_part start kind held new ps h t size after k a b d e few f was small =
 pub end_taken : (start : SizeSerializer) (kind : Kind) (held new : OpenCompound) (ps : List (Option Tree)) (h : HoldsGathered start kind held ps) (p : Option Tree) (size : ℕ) (after : Pending) →
     at_position (inner_of (is_array held.shape) h.ts) p (Ok size) after → new.position ≡ held.position → new.shape ≡ held.shape → (held.count ≤ 4294967295 → new.count ≤ 4294967295) → new.sum ≤ limit_of new.shape →
     (res : Result (Unit {0}) WalkError) → IfOk res (λ _. new.before_last ≡ held.sum) → IfErr res (λ _. new ≡ held) →
-    MatchResult res (λ _. (new.sum ≡ size + opens_in (is_array held.shape) held.inner after + held.sum) × ((new.count ≡ if is_array held.shape then held.count + 1 else held.count) × (new.inner ≡ if is_array held.shape then after else held.inner)))
-    (λ e. (e ≡ error.TooLong) × passes_limit (is_array held.shape) held.count (size + opens_in (is_array held.shape) held.inner after + held.sum)) →
+    MatchResult res (λ _. (new.sum ≡ size + constructor_len_in (is_array held.shape) held.inner after + held.sum) × ((new.count ≡ if is_array held.shape then held.count + 1 else held.count) × (new.inner ≡ if is_array held.shape then after else held.inner)))
+    (λ e. (e ≡ error.TooLong) × passes_limit (is_array held.shape) held.count (size + constructor_len_in (is_array held.shape) held.inner after + held.sum)) →
     MatchResult res (λ _. HoldsGathered start kind new (ps ++ (p ∷ [])))
     (λ e. (others : List (Option Tree)) → at_position (position_of start.pending) (meant start.pending (whole kind (ps ++ (p ∷ others)))) (Err e) (pending.Plain (without_prefix held.position)))
 end_taken start kind held new ps h None size after r a b few small res was same m = absurd r

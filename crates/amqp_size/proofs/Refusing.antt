@@ -12,7 +12,7 @@ use Rattle.amqp_ser.proofs.Bools.{left_false, right_false, one_false, left_true,
 use Rattle.amqp_ser.proofs.Joins.{join, uniform_arrays-join, within_limits-join, inside-join, each-join, count-join}
 use Rattle.amqp_size.specs.Position.{position_of, meant, without_prefix, is_array, element, next, suits, form}
 use Rattle.amqp_size.specs.SizeSerializer.{at_position, refused, HoldsGathered, content, counts, one_in, inner_of}
-use Rattle.amqp_size.specs.AddPart.{opens, passes_limit}
+use Rattle.amqp_size.specs.AddPart.{constructor_len, passes_limit}
 use Rattle.amqp_size.specs.WholePending.{Pending}
 use Rattle.amqp_size.specs.WholePending as pending
 use Rattle.amqp_size.specs.declared.serializer.SizeSerializer.{SizeSerializer}
@@ -62,7 +62,7 @@ part_bad arr ts t us error.InvalidValue o h =
 part_bad arr ts t us e o h = absurd h
 
 pub over_bad : (arr : Bool) (ts : Trees) (t : Tree) (us : Trees) (n : ℕ) → one_in arr ts ≡ true → n ≡ counts arr ts →
-    passes_limit arr n (length (form (inner_of arr ts) t) + opens (inner_of arr ts) (next (inner_of arr ts) t) + length (content arr ts)) → bad_in arr (join ts (more t us)) error.TooLong
+    passes_limit arr n (length (form (inner_of arr ts) t) + constructor_len (inner_of arr ts) (next (inner_of arr ts) t) + length (content arr ts)) → bad_in arr (join ts (more t us)) error.TooLong
 over_bad arr ts t us n o m h = elim h [
   | inl a ↦
       let e = content-join arr ts t us o in
@@ -90,7 +90,7 @@ refused_part start kind held ps h (Some t) e after r others =
 
 -- a part that passes a limit
 pub over_part : (start : SizeSerializer) (kind : Kind) (held : OpenCompound) (ps : List (Option Tree)) (h : HoldsGathered start kind held ps) (t : Tree) →
-    passes_limit (is_array held.shape) held.count (length (form (inner_of (is_array held.shape) h.ts) t) + opens (inner_of (is_array held.shape) h.ts) (next (inner_of (is_array held.shape) h.ts) t) + length (content (is_array held.shape) h.ts)) →
+    passes_limit (is_array held.shape) held.count (length (form (inner_of (is_array held.shape) h.ts) t) + constructor_len (inner_of (is_array held.shape) h.ts) (next (inner_of (is_array held.shape) h.ts) t) + length (content (is_array held.shape) h.ts)) →
     (others : List (Option Tree)) →
     at_position (position_of start.pending) (meant start.pending (whole kind (ps ++ (Some t ∷ others)))) (Err error.TooLong) (pending.Plain (without_prefix held.position))
 over_part start kind held ps h t past others =

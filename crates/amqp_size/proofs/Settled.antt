@@ -13,7 +13,7 @@ use Rattle.amqp_size.specs.WholePending.{Pending}
 use Rattle.amqp_size.specs.WholePending as pending
 use Rattle.amqp_size.specs.declared.position.BasePosition.{BasePosition}
 use Rattle.amqp_size.specs.declared.position.BasePosition.TheVariants as base
-use Rattle.amqp_size.specs.declared.position.Position.{Position as Kept}
+use Rattle.amqp_size.specs.declared.position.Position.{Position as KeptPosition}
 use Rattle.amqp_size.specs.declared.position.Position.TheVariants as kept
 use Rattle.amqp_size.specs.declared.pending.Pending.{Pending as KeptPending}
 use Rattle.amqp_size.specs.declared.pending.Pending.TheVariants as kept_pending
@@ -44,7 +44,7 @@ next_alone (position.Element c) t = refl
 next_alone position.Descriptor t = refl
 next_alone (position.Value h b) t = stand_alone b
 
-same_position : (p : Kept) (h k : ℕ) → is_alone (position_at p h) ≡ true → position_at p k ≡ position_at p h
+same_position : (p : KeptPosition) (h k : ℕ) → is_alone (position_at p h) ≡ true → position_at p k ≡ position_at p h
 same_position kept.Root h k e = refl
 same_position kept.Inside h k e = refl
 same_position kept.First h k e = refl

@@ -9,14 +9,14 @@ use Rattle.amqp_size.specs.WholePending.{Pending}
 use Rattle.amqp_size.specs.WholePending as pending
 
 -- the constructor's byte, at the first element
-abbrev pub opens : Position → Position → ℕ
-opens First (Element c) = 1
-opens p q = 0
+abbrev pub constructor_len : Position → Position → ℕ
+constructor_len First (Element c) = 1
+constructor_len p q = 0
 
 -- the same, in an array or not, where what comes next stands there
-abbrev pub opens_in : Bool → Pending → Pending → ℕ
-opens_in true (pending.Plain p) (pending.Plain q) = opens p q
-opens_in arr u v = 0
+abbrev pub constructor_len_in : Bool → Pending → Pending → ℕ
+constructor_len_in true (pending.Plain p) (pending.Plain q) = constructor_len p q
+constructor_len_in arr u v = 0
 
 -- a limit is passed by one part more
 abbrev pub passes_limit : Bool → ℕ → ℕ → Type 0

@@ -1,6 +1,6 @@
--- Places as they are kept, in single bytes, and the number that stands beside them.
+-- Positions as they are kept, in single bytes, and the number that stands beside them.
 use Rattle.std.specs.Prelude.{ℕ}
-use Rattle.amqp_size.specs.declared.position.Position.{Position as Kept}
+use Rattle.amqp_size.specs.declared.position.Position.{Position as KeptPosition}
 use Rattle.amqp_size.specs.declared.position.Position.TheVariants as kept
 use Rattle.amqp_size.specs.declared.pending.Pending.{Pending as KeptPending}
 use Rattle.amqp_size.specs.declared.pending.Pending.TheVariants as kept_pending
@@ -9,7 +9,7 @@ use Rattle.amqp_size.specs.WholePosition.{Position, Root, Inside, First, Element
 use Rattle.amqp_size.specs.WholePending.{Pending, Plain, Array, Transparent, Scalar, Nothing}
 
 -- after this many bytes, where it stands after descriptors
-abbrev pub position_at : Kept → ℕ → Position
+abbrev pub position_at : KeptPosition → ℕ → Position
 position_at kept.Root h = Root
 position_at kept.Inside h = Inside
 position_at kept.First h = First

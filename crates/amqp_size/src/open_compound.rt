@@ -47,7 +47,7 @@ impl Model for OpenCompound {
 
 impl OpenCompound {
     ghost use Rattle.amqp_size.specs.State.{position_at, pending_at};
-    ghost use Rattle.amqp_size.specs.AddPart.{opens_in, passes_limit, undescribed};
+    ghost use Rattle.amqp_size.specs.AddPart.{constructor_len_in, passes_limit, undescribed};
     ghost use Rattle.amqp_size.specs.Position.{position_of, without_prefix, element_constructor, is_array, is_gathered, inner_pending, described_pending};
 
     /// A compound of this shape, opened there, with no part yet.
@@ -146,7 +146,7 @@ impl OpenCompound {
     pub(crate) fn add_part(&mut self, size: usize, after: Pending) -> Result<(), WalkError>
         ensures gathered { is_gathered self.old.shape ≡ true → MatchResult result
             (λ _.
-            (self.new.sum ≡ size + opens_in (is_array self.old.shape) self.old.inner
+            (self.new.sum ≡ size + constructor_len_in (is_array self.old.shape) self.old.inner
             (pending_at after self.old.prefix_len) + self.old.sum)
             × ((self.new.count ≡ if is_array self.old.shape then self.old.count + 1
             else self.old.count)
@@ -154,7 +154,7 @@ impl OpenCompound {
             else self.old.inner)))
             (λ e. (e ≡ WalkError.TooLong)
             × passes_limit (is_array self.old.shape) self.old.count
-            (size + opens_in (is_array self.old.shape) self.old.inner
+            (size + constructor_len_in (is_array self.old.shape) self.old.inner
             (pending_at after self.old.prefix_len)
             + self.old.sum)) }
         ensures transparent { self.old.shape ≡ Shape.Transparent → MatchResult result
@@ -211,14 +211,14 @@ impl OpenCompound {
         ensures kept { MatchResult result
             (λ _.
             (self.new.sum ≡ size +
-            opens_in true self.old.inner (pending_at after self.old.prefix_len)
+            constructor_len_in true self.old.inner (pending_at after self.old.prefix_len)
             + self.old.sum)
             × ((self.new.count ≡ self.old.count + 1)
             × (self.new.inner ≡ pending_at after self.old.prefix_len)))
             (λ e. (self.new ≡ self.old)
             × ((e ≡ WalkError.TooLong)
             × passes_limit true self.old.count
-            (size + opens_in true self.old.inner (pending_at after self.old.prefix_len) +
+            (size + constructor_len_in true self.old.inner (pending_at after self.old.prefix_len) +
             self.old.sum))) }
         ensures before_last { IfOk result (λ _. self.new.before_last ≡ self.old.sum) }
         ensures few { self.old.count ≤ 4294967295 → self.new.count ≤ 4294967295 }

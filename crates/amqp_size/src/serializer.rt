@@ -293,6 +293,8 @@ impl Serializer for SizeSerializer {
             (λ e. (result ≡ Err e)
             × ((held.new ≡ held.old)
             × (self.new.pending ≡ Plain (without_prefix held.old.position)))) }
+        ensures one_alone { held.old.shape ≡ Shape.Single → 1 ≤ held.old.count →
+            IfOk part (λ _. result ≡ Err InvalidValue) }
     {
         // Picks up what the part left: an array's first element its constructor, in `accept`.
         let after = self.pending;

@@ -89,9 +89,9 @@ impl OpenBody {
     }
 }
 
-/// Keeps the one value, in a call of its own: what was there is let go.
+/// Sets the one value, in a call of its own: what was there is let go.
 #[inline(never)]
-pub fn keep(first: &mut Option<Value>, value: Value)
+pub fn set_first(first: &mut Option<Value>, value: Value)
     ensures { first.new ≡ Some value }
 {
     *first = Some(value);

@@ -7,7 +7,7 @@ ghost use Rattle.amqp_to_value.specs.ValueSerializer.{IsFresh, value_permits};
 ghost use Rattle.amqp_to_value.specs.ImageOf.{IsImageOf};
 ghost use Rattle.amqp_to_value.specs.PendingMark.{meant};
 
-use crate::open_value::{OpenBody, OpenValue, keep};
+use crate::open_value::{OpenBody, OpenValue, set_first};
 use crate::parts::let_go;
 use crate::pending_descriptors::PendingDescriptors;
 use crate::pending_mark::PendingMark;
@@ -27,8 +27,8 @@ use std::mem;
 /// value.
 ///
 /// # Memory
-/// Between calls it keeps nothing, but for the descriptors of one refused value: they are let go
-/// when the next compound is opened, or with the serializer.
+/// Between calls it keeps the room that described values took, and the descriptors of one refused
+/// value: they are let go when the next compound is opened, or with the serializer.
 #[derive(Drop)]
 pub struct Serializer {
     alloc: Global,
@@ -206,7 +206,7 @@ impl amqp_ser::Serializer for Serializer {
         match &mut held.body {
             OpenBody::Single(_, first) => match first {
                 None => {
-                    keep(first, self.descriptors.unwrap(held.saved, value)?);
+                    set_first(first, self.descriptors.unwrap(held.saved, value)?);
                     Ok(())
                 }
                 Some(_) => {

@@ -20,7 +20,7 @@ use Rattle.amqp_size.specs.WholePending.{Pending}
 use Rattle.amqp_size.specs.WholePending as pending
 use Rattle.amqp_size.proofs.Whole.{refused_shape}
 use Rattle.amqp_wire.specs.TreeHeaders.{header, compound_headers, first_constructor}
-use Rattle.amqp_wire.specs.HeaderBytes.{in_array, pick, bytes_at, opening, header_bytes, whole_header, counted_header, after_opening, small_headers}
+use Rattle.amqp_wire.specs.HeaderBytes.{is_element, pick, bytes_at, opening, header_bytes, whole_header, counted_header, after_opening, small_headers}
 use Rattle.amqp_wire.specs.Dense.{count_fits, is_opaque, fit, dense, dense_at, dense_each, dense_pairs}
 use Rattle.amqp_wire.specs.Positions.{part_position, is_single}
 use Rattle.amqp_wire.specs.declared.opening.HeaderKind.{HeaderKind}
@@ -71,18 +71,18 @@ code_first : (ts : Trees) → code_list (first_constructor ts) ≡ array_constru
 code_first no_trees = refl
 code_first (more t ts) = refl
 
-spelled_list : (z : Position) (ts : Trees) → within_limits (list ts) ≡ true → dense_at z (list ts) ≡ true → Spelled (in_array z) shape.List ts (list ts)
+spelled_list : (z : Position) (ts : Trees) → within_limits (list ts) ≡ true → dense_at z (list ts) ≡ true → Spelled (is_element z) shape.List ts (list ts)
 spelled_list z ts w h =
     let body = encoding_each ts in
     let s = right_true (fit z (list ts)) (dense (list ts)) h in
     record {
-      bytes = pick_is (in_array z) header_kind.List (count ts) None (list_form (count ts) body) body (list_is (count ts) body (few_parts (count ts) body (left_true (count_fits (count ts) body) (dense_each position.Inside ts) s)));
+      bytes = pick_is (is_element z) header_kind.List (count ts) None (list_form (count ts) body) body (list_is (count ts) body (few_parts (count ts) body (left_true (count_fits (count ts) body) (dense_each position.Inside ts) s)));
       within_limits_parts = right_true (fits (length body)) (within_limits_each ts) w;
       dense_parts = right_true (count_fits (count ts) body) (dense_each position.Inside ts) s;
       small = is_le (length body) 4294967291 (left_true (fits (length body)) (within_limits_each ts) w);
     }
 
-spelled_map : (z : Position) (ts : Trees) (prs : Pairs) → in_pairs ts ≡ Some prs → within_limits (map prs) ≡ true → dense_at z (map prs) ≡ true → Spelled (in_array z) shape.Map ts (map prs)
+spelled_map : (z : Position) (ts : Trees) (prs : Pairs) → in_pairs ts ≡ Some prs → within_limits (map prs) ≡ true → dense_at z (map prs) ≡ true → Spelled (is_element z) shape.Map ts (map prs)
 spelled_map z ts prs is w h =
     let r = pairs_are ts prs is in
     let body = encoding_each ts in
@@ -92,37 +92,37 @@ spelled_map z ts prs is w h =
     let same : map_form (pair_count prs * 2) (encoding_pairs prs) ≡ map_form (count ts) body = ap (λ b. map_form (pair_count prs * 2) b) r.bytes ∙ ap (λ n. map_form n body) r.counted in
     let wides : wide (pair_count prs * 2) (encoding_pairs prs) ≡ wide (count ts) body = ap (λ b. wide (pair_count prs * 2) b) r.bytes ∙ ap (λ n. wide n body) r.counted in
     record {
-      bytes = ap (λ x. pick (in_array z) x (wide (pair_count prs * 2) (encoding_pairs prs))) same ∙ ap (λ x. pick (in_array z) (map_form (count ts) body) x) wides
-          ∙ pick_is (in_array z) header_kind.Map (count ts) None (map_form (count ts) body) body (counted_is 0xc1 0xd1 (count ts) body (few_parts (count ts) body thick));
+      bytes = ap (λ x. pick (is_element z) x (wide (pair_count prs * 2) (encoding_pairs prs))) same ∙ ap (λ x. pick (is_element z) (map_form (count ts) body) x) wides
+          ∙ pick_is (is_element z) header_kind.Map (count ts) None (map_form (count ts) body) body (counted_is 0xc1 0xd1 (count ts) body (few_parts (count ts) body thick));
       within_limits_parts = sym r.within_too ∙ right_true (fits (length (encoding_pairs prs))) (within_limits_pairs prs) w;
       dense_parts = solids;
       small = is_le (length body) 4294967291 (ap (λ b. fits (length b)) (sym r.bytes) ∙ left_true (fits (length (encoding_pairs prs))) (within_limits_pairs prs) w);
     }
 
-spelled_array : (z : Position) (ts : Trees) → within_limits (array ts) ≡ true → dense_at z (array ts) ≡ true → Spelled (in_array z) shape.Array ts (array ts)
+spelled_array : (z : Position) (ts : Trees) → within_limits (array ts) ≡ true → dense_at z (array ts) ≡ true → Spelled (is_element z) shape.Array ts (array ts)
 spelled_array z ts w s =
     let body = array_constructor ts ++ payload_each ts in
     let h = header (length body) (count ts) (first_constructor ts) in
     record {
-      bytes = pick_is (in_array z) header_kind.Array (count ts) (first_constructor ts) (array_form (count ts) body) body (array_is (count ts) body)
-          ∙ sym (append_assoc (header_bytes (in_array z) header_kind.Array h) (array_constructor ts) (payload_each ts))
-          ∙ ap (λ c. (header_bytes (in_array z) header_kind.Array h ++ c) ++ payload_each ts) (sym (code_first ts));
+      bytes = pick_is (is_element z) header_kind.Array (count ts) (first_constructor ts) (array_form (count ts) body) body (array_is (count ts) body)
+          ∙ sym (append_assoc (header_bytes (is_element z) header_kind.Array h) (array_constructor ts) (payload_each ts))
+          ∙ ap (λ c. (header_bytes (is_element z) header_kind.Array h ++ c) ++ payload_each ts) (sym (code_first ts));
       within_limits_parts = right_true (is_count (count ts)) (within_limits_each ts) (right_true (fits (length body)) (is_count (count ts) && within_limits_each ts) w);
       dense_parts = right_true (fit z (array ts)) (dense (array ts)) s;
       small = is_le (length body) 4294967291 (left_true (fits (length body)) (is_count (count ts) && within_limits_each ts) w);
     }
 
-spelled_fields : (z : Position) (i : ℕ) (ts : Trees) → within_limits (variant i (list ts)) ≡ true → dense_at z (variant i (list ts)) ≡ true → Spelled (in_array z) (shape.Variant i) ts (variant i (list ts))
+spelled_fields : (z : Position) (i : ℕ) (ts : Trees) → within_limits (variant i (list ts)) ≡ true → dense_at z (variant i (list ts)) ≡ true → Spelled (is_element z) (shape.Variant i) ts (variant i (list ts))
 spelled_fields z i ts w k =
     let s = right_true (fit z (variant i (list ts))) (dense (list ts)) k in
     let index = scalar_form (uint i) in
     let fields = encoding_each ts in
     let body = index ++ encoding (list ts) in
-    let h = header_bytes (in_array z) header_kind.Map (header (length body) 2 None) in
+    let h = header_bytes (is_element z) header_kind.Map (header (length body) 2 None) in
     let g = header_bytes false header_kind.List (header (length fields) (count ts) None) in
     let inner = right_true (fits (length body)) (within_limits (list ts)) w in
     record {
-      bytes = pick_is (in_array z) header_kind.Map 2 None (map_form 2 body) body (counted_is 0xc1 0xd1 2 body (λ e. omega arith))
+      bytes = pick_is (is_element z) header_kind.Map 2 None (map_form 2 body) body (counted_is 0xc1 0xd1 2 body (λ e. omega arith))
           ∙ ap (λ b. h ++ (index ++ b)) (list_is (count ts) fields (few_parts (count ts) fields (left_true (count_fits (count ts) fields) (dense_each position.Inside ts) s)))
           ∙ sym (append_assoc h index (g ++ fields)) ∙ sym (append_assoc (h ++ index) g fields);
       within_limits_parts = right_true (fits (length fields)) (within_limits_each ts) inner;
@@ -130,7 +130,7 @@ spelled_fields z i ts w k =
       small = (is_le (length body) 4294967291 (left_true (fits (length body)) (within_limits (list ts)) w), is_le (length fields) 4294967291 (left_true (fits (length fields)) (within_limits_each ts) inner));
     }
 
-spelled_only : (z : Position) (i : ℕ) (t : Tree) → within_limits (variant i t) ≡ true → dense_at z (variant i t) ≡ true → Spelled (in_array z) (shape.NewtypeVariant i) (more t no_trees) (variant i t)
+spelled_only : (z : Position) (i : ℕ) (t : Tree) → within_limits (variant i t) ≡ true → dense_at z (variant i t) ≡ true → Spelled (is_element z) (shape.NewtypeVariant i) (more t no_trees) (variant i t)
 spelled_only z i t w k =
     let s = right_true (fit z (variant i t)) (is_opaque t && dense t) k in
     let index = scalar_form (uint i) in
@@ -138,14 +138,14 @@ spelled_only z i t w k =
     let long = index ++ (encoding t ++ []) in
     let same : body ≡ long = ap (λ b. index ++ b) (sym (append-nil (encoding t))) in
     record {
-      bytes = pick_is (in_array z) header_kind.Map 2 None (map_form 2 body) body (counted_is 0xc1 0xd1 2 body (λ e. omega arith))
-          ∙ ap (λ b. header_bytes (in_array z) header_kind.Map (header (length b) 2 None) ++ b) same ∙ sym (append_assoc (header_bytes (in_array z) header_kind.Map (header (length long) 2 None)) index (encoding t ++ []));
+      bytes = pick_is (is_element z) header_kind.Map 2 None (map_form 2 body) body (counted_is 0xc1 0xd1 2 body (λ e. omega arith))
+          ∙ ap (λ b. header_bytes (is_element z) header_kind.Map (header (length b) 2 None) ++ b) same ∙ sym (append_assoc (header_bytes (is_element z) header_kind.Map (header (length long) 2 None)) index (encoding t ++ []));
       within_limits_parts = both (within_limits t) true (right_true (fits (length body)) (within_limits t) w) refl;
       dense_parts = both (is_opaque t && dense t) true s refl;
       small = is_le (length long) 4294967291 (ap (λ b. fits (length b)) (sym same) ∙ left_true (fits (length body)) (within_limits t) w);
     }
 
-spelled_transparent : (z : Position) (ts : Trees) → within_limits (transparent ts) ≡ true → dense_at z (transparent ts) ≡ true → Spelled (in_array z) shape.Transparent ts (transparent ts)
+spelled_transparent : (z : Position) (ts : Trees) → within_limits (transparent ts) ≡ true → dense_at z (transparent ts) ≡ true → Spelled (is_element z) shape.Transparent ts (transparent ts)
 spelled_transparent position.Root ts w s =
     record {
       bytes = refl;
@@ -159,23 +159,23 @@ spelled_transparent (position.Element c) ts w s = absurd (no_false s)
 spelled_transparent position.Descriptor ts w s = absurd (no_false s)
 spelled_transparent (position.Value n b) ts w s = absurd (no_false s)
 
-map_case : (z : Position) (ts : Trees) (t : Tree) (o : Option Pairs) → in_pairs ts ≡ o → as_map o ≡ Some t → within_limits t ≡ true → dense_at z t ≡ true → Spelled (in_array z) shape.Map ts t
+map_case : (z : Position) (ts : Trees) (t : Tree) (o : Option Pairs) → in_pairs ts ≡ o → as_map o ≡ Some t → within_limits t ≡ true → dense_at z t ≡ true → Spelled (is_element z) shape.Map ts t
 map_case z ts t None e h = cc
-map_case z ts t (Some prs) e h = let q : map prs ≡ t = cc in subst (λ x. within_limits x ≡ true → dense_at z x ≡ true → Spelled (in_array z) shape.Map ts x) q (spelled_map z ts prs e)
+map_case z ts t (Some prs) e h = let q : map prs ≡ t = cc in subst (λ x. within_limits x ≡ true → dense_at z x ≡ true → Spelled (is_element z) shape.Map ts x) q (spelled_map z ts prs e)
 
-only_case : (z : Position) (i : ℕ) (ts : Trees) (t : Tree) → as_variant i (only ts) ≡ Some t → within_limits t ≡ true → dense_at z t ≡ true → Spelled (in_array z) (shape.NewtypeVariant i) ts t
+only_case : (z : Position) (i : ℕ) (ts : Trees) (t : Tree) → as_variant i (only ts) ≡ Some t → within_limits t ≡ true → dense_at z t ≡ true → Spelled (is_element z) (shape.NewtypeVariant i) ts t
 only_case z i no_trees t h = cc
-only_case z i (more u no_trees) t h = let q : variant i u ≡ t = cc in subst (λ x. within_limits x ≡ true → dense_at z x ≡ true → Spelled (in_array z) (shape.NewtypeVariant i) (more u no_trees) x) q (spelled_only z i u)
+only_case z i (more u no_trees) t h = let q : variant i u ≡ t = cc in subst (λ x. within_limits x ≡ true → dense_at z x ≡ true → Spelled (is_element z) (shape.NewtypeVariant i) (more u no_trees) x) q (spelled_only z i u)
 only_case z i (more u (more v ts)) t h = cc
 
-pub spelled : (z : Position) (u : Pending) (k : Kind) (ts : Trees) (t : Tree) → is_single k ≡ false → meant u (as_kind k (Some ts)) ≡ Some t → within_limits t ≡ true → dense_at z t ≡ true → Spelled (in_array z) (shape_of u k) ts t
+pub spelled : (z : Position) (u : Pending) (k : Kind) (ts : Trees) (t : Tree) → is_single k ≡ false → meant u (as_kind k (Some ts)) ≡ Some t → within_limits t ≡ true → dense_at z t ≡ true → Spelled (is_element z) (shape_of u k) ts t
 spelled z u kinds.Single ts t b h = cc
-spelled z (pending.Plain p) kinds.List ts t b h = let q : list ts ≡ t = cc in subst (λ x. within_limits x ≡ true → dense_at z x ≡ true → Spelled (in_array z) shape.List ts x) q (spelled_list z ts)
+spelled z (pending.Plain p) kinds.List ts t b h = let q : list ts ≡ t = cc in subst (λ x. within_limits x ≡ true → dense_at z x ≡ true → Spelled (is_element z) shape.List ts x) q (spelled_list z ts)
 spelled z (pending.Plain p) kinds.Map ts t b h = map_case z ts t (in_pairs ts) refl h
-spelled z (pending.Plain p) (kinds.Variant i) ts t b h = let q : variant i (list ts) ≡ t = cc in subst (λ x. within_limits x ≡ true → dense_at z x ≡ true → Spelled (in_array z) (shape.Variant i) ts x) q (spelled_fields z i ts)
+spelled z (pending.Plain p) (kinds.Variant i) ts t b h = let q : variant i (list ts) ≡ t = cc in subst (λ x. within_limits x ≡ true → dense_at z x ≡ true → Spelled (is_element z) (shape.Variant i) ts x) q (spelled_fields z i ts)
 spelled z (pending.Plain p) (kinds.NewtypeVariant i) ts t b h = only_case z i ts t h
-spelled z (pending.Array p) kinds.List ts t b h = let q : array ts ≡ t = cc in subst (λ x. within_limits x ≡ true → dense_at z x ≡ true → Spelled (in_array z) shape.Array ts x) q (spelled_array z ts)
-spelled z (pending.Transparent p) kinds.List ts t b h = let q : transparent ts ≡ t = cc in subst (λ x. within_limits x ≡ true → dense_at z x ≡ true → Spelled (in_array z) shape.Transparent ts x) q (spelled_transparent z ts)
+spelled z (pending.Array p) kinds.List ts t b h = let q : array ts ≡ t = cc in subst (λ x. within_limits x ≡ true → dense_at z x ≡ true → Spelled (is_element z) shape.Array ts x) q (spelled_array z ts)
+spelled z (pending.Transparent p) kinds.List ts t b h = let q : transparent ts ≡ t = cc in subst (λ x. within_limits x ≡ true → dense_at z x ≡ true → Spelled (is_element z) shape.Transparent ts x) q (spelled_transparent z ts)
 spelled z (pending.Array p) kinds.Map ts t b h = is_not _ t (refused_shape (pending.Array p) kinds.Map (Some ts) refl) h
 spelled z (pending.Array p) (kinds.Variant i) ts t b h = is_not _ t (refused_shape (pending.Array p) (kinds.Variant i) (Some ts) refl) h
 spelled z (pending.Array p) (kinds.NewtypeVariant i) ts t b h = is_not _ t (refused_shape (pending.Array p) (kinds.NewtypeVariant i) (Some ts) refl) h

@@ -19,7 +19,7 @@ use Rattle.amqp_size.specs.WholePending as pending
 use Rattle.amqp_size.proofs.Described.{of_tree, no_nested, no_scalar_described, no_array_described, no_transparent_described}
 use Rattle.amqp_size.proofs.Positions.{meant_none, refusal}
 use Rattle.amqp_wire.specs.TreeHeaders.{headers_of}
-use Rattle.amqp_wire.specs.HeaderBytes.{in_array, bytes_at}
+use Rattle.amqp_wire.specs.HeaderBytes.{is_element, bytes_at}
 use Rattle.amqp_wire.specs.Dense.{dense_at}
 use Rattle.amqp_wire.specs.Positions.{after_descriptor}
 use Rattle.amqp_wire.specs.Writer.{Kept, FitsOutput, Written, takes, wrote, writes_tree, accepts, writer_permits, writer_has, WrittenSingle, stands_at, AwaitsDescriptor}
@@ -43,18 +43,18 @@ descriptor_dense (lazy bs) h = absurd (no_false h)
 descriptor_dense (transparent ts) h = absurd (no_false h)
 
 -- the bytes there are the tree's own
-own_bytes : (p : Position) (t : Tree) → in_array p ≡ false → bytes_at (in_array p) t ≡ encoding t
+own_bytes : (p : Position) (t : Tree) → is_element p ≡ false → bytes_at (is_element p) t ≡ encoding t
 own_bytes p t h = ap (λ a. bytes_at a t) h
 
 -- where a described value fits, there is room for its code
-described_room : (p : Position) (s : Output) (x : Descriptor) (v : Tree) → in_array p ≡ false → FitsOutput p s (described x v) → length s.out.items + 1 ≤ vec_capacity s.out
+described_room : (p : Position) (s : Output) (x : Descriptor) (v : Tree) → is_element p ≡ false → FitsOutput p s (described x v) → length s.out.items + 1 ≤ vec_capacity s.out
 described_room p s x v b m =
     let r = m.room in
-    let own : length (bytes_at (in_array p) (described x v)) ≡ length (0x00 ∷ (descriptor_form x ++ encoding v)) = ap length (own_bytes p (described x v) b) in
+    let own : length (bytes_at (is_element p) (described x v)) ≡ length (0x00 ∷ (descriptor_form x ++ encoding v)) = ap length (own_bytes p (described x v) b) in
     omega arith
 
 -- the table and the room of a described value are also its descriptor's
-descriptor_meets : (p : Position) (start before : Output) (x : Descriptor) (t v : Tree) → in_array p ≡ false → Kept start before → before.out.items ≡ start.out.items ++ (0x00 ∷ []) → before.taken ≡ start.taken → descriptor_of (Some t) ≡ Some x → FitsOutput p start (described x v) → FitsOutput position.Descriptor before t
+descriptor_meets : (p : Position) (start before : Output) (x : Descriptor) (t v : Tree) → is_element p ≡ false → Kept start before → before.out.items ≡ start.out.items ++ (0x00 ∷ []) → before.taken ≡ start.taken → descriptor_of (Some t) ≡ Some x → FitsOutput p start (described x v) → FitsOutput position.Descriptor before t
 descriptor_meets p start before x t v b k out taken o m =
     let f = of_tree t x o in
     let some : is_some (descriptor_of (Some t)) ≡ true = ap is_some o in
@@ -66,7 +66,7 @@ descriptor_meets p start before x t v b k out taken o m =
       room =
           let r = m.room in
           let c = k.capacity in
-          let own : length (bytes_at (in_array p) (described x v)) ≡ length (0x00 ∷ (descriptor_form x ++ encoding v)) = ap length (own_bytes p (described x v) b) in
+          let own : length (bytes_at (is_element p) (described x v)) ≡ length (0x00 ∷ (descriptor_form x ++ encoding v)) = ap length (own_bytes p (described x v) b) in
           let l : length before.out.items ≡ length start.out.items + 1 = ap length out ∙ length-append start.out.items (0x00 ∷ []) in
           let n : length (encoding t) ≡ length (descriptor_form x) = ap length f.1.0 in
           let w : length (descriptor_form x ++ encoding v) ≡ length (descriptor_form x) + length (encoding v) = length-append (descriptor_form x) (encoding v) in omega arith;
@@ -84,8 +84,8 @@ value_meets p q start mid x v b k out taken m =
       room =
           let r = m.room in
           let c = k.capacity in
-          let own : length (bytes_at (in_array p) (described x v)) ≡ length (0x00 ∷ (descriptor_form x ++ encoding v)) = ap length (own_bytes p (described x v) f.1) in
-          let alone : length (bytes_at (in_array q) v) ≡ length (encoding v) = ap length (own_bytes q v b.own) in
+          let own : length (bytes_at (is_element p) (described x v)) ≡ length (0x00 ∷ (descriptor_form x ++ encoding v)) = ap length (own_bytes p (described x v) f.1) in
+          let alone : length (bytes_at (is_element q) v) ≡ length (encoding v) = ap length (own_bytes q v b.own) in
           let l : length mid.out.items ≡ length start.out.items + length (0x00 ∷ descriptor_form x) = ap length out ∙ length-append start.out.items (0x00 ∷ descriptor_form x) in
           let w : length (descriptor_form x ++ encoding v) ≡ length (descriptor_form x) + length (encoding v) = length-append (descriptor_form x) (encoding v) in omega arith;
     }
@@ -102,7 +102,7 @@ described_wrote p q start mid after x (Some v) b k f h = λ m.
     let own = (b.fits x v m.dense_it).1 in
     let w = h (value_meets p q start mid x v b k s.0 s.1 m) in
     record {
-      out = w.out ∙ ap (λ c. c ++ bytes_at (in_array q) v) s.0 ∙ ap (λ c. (start.out.items ++ (0x00 ∷ descriptor_form x)) ++ c) (own_bytes q v b.own)
+      out = w.out ∙ ap (λ c. c ++ bytes_at (is_element q) v) s.0 ∙ ap (λ c. (start.out.items ++ (0x00 ∷ descriptor_form x)) ++ c) (own_bytes q v b.own)
           ∙ append_assoc start.out.items (0x00 ∷ descriptor_form x) (encoding v) ∙ ap (λ c. start.out.items ++ c) (sym (own_bytes p (described x v) own));
       taken = let n = w.taken in let q = s.1 in omega arith;
     }
@@ -127,7 +127,7 @@ described_permits start mid x e k f o (Err v) after p =
     (kept-more start.output mid.output after.output k p.0, (described_accepts start.pending mid.pending x e o (Err v) after.pending p.1.0, tt))
 
 -- what stands before the value, once the descriptor is written
-head_written : (p : Position) (start before mid : Output) (x : Descriptor) (t : Tree) → ((v : Tree) → dense_at p (described x v) ≡ true → in_array p ≡ false) → Kept start before →
+head_written : (p : Position) (start before mid : Output) (x : Descriptor) (t : Tree) → ((v : Tree) → dense_at p (described x v) ≡ true → is_element p ≡ false) → Kept start before →
     (length start.out.items + 1 ≤ vec_capacity start.out → (before.out.items ≡ start.out.items ++ (0x00 ∷ [])) × (before.taken ≡ start.taken)) → descriptor_of (Some t) ≡ Some x → (FitsOutput position.Descriptor before t → Written position.Descriptor before t mid) → stands_headed p start mid x
 head_written p start before mid x t own k header_bytes o f v m =
     let b = own v m.dense_it in
@@ -140,10 +140,10 @@ head_written p start before mid x t own k header_bytes o f v m =
       (let a = w.taken in omega arith),
     )
 
-own_there : (u w : Pending) (x : Descriptor) (v : Tree) → after_descriptor u ≡ Some w → dense_at (position_of u) (described x v) ≡ true → in_array (position_of u) ≡ false
+own_there : (u w : Pending) (x : Descriptor) (v : Tree) → after_descriptor u ≡ Some w → dense_at (position_of u) (described x v) ≡ true → is_element (position_of u) ≡ false
 own_there u w x v e = go (position_of u)
   where
-    go : (p : Position) → dense_at p (described x v) ≡ true → in_array p ≡ false
+    go : (p : Position) → dense_at p (described x v) ≡ true → is_element p ≡ false
     go position.Root h = refl
     go position.Inside h = refl
     go position.First h = absurd (no_false h)

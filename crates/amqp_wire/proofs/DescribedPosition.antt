@@ -17,7 +17,7 @@ use Rattle.amqp_size.specs.WholePending.{Pending}
 use Rattle.amqp_size.specs.WholePending as pending
 use Rattle.amqp_size.proofs.Described.{of_tree, length-described, no_scalar_described, no_array_described, no_transparent_described}
 use Rattle.amqp_size.proofs.Positions.{long_at, refused-none}
-use Rattle.amqp_wire.specs.HeaderBytes.{in_array}
+use Rattle.amqp_wire.specs.HeaderBytes.{is_element}
 use Rattle.amqp_wire.specs.Dense.{dense_at}
 use Rattle.amqp_wire.specs.Positions.{after_descriptor_at, after_descriptor}
 use Rattle.amqp_wire.specs.Writer.{accepts}
@@ -61,11 +61,11 @@ long_after n x t h = elim (one_false (is_length (n + length (encoding t))) (with
 -- what that position asks of the value
 pub record Behind (p q : Position) : Type 0 where
   pub without_prefix_is : without_prefix q ≡ without_prefix p
-  pub own : in_array q ≡ false
+  pub own : is_element q ≡ false
   pub suits_is : (x : Descriptor) (t : Tree) → suits q t ≡ suits p (described x t)
   pub next_is : (x : Descriptor) (t : Tree) → next q t ≡ next p (described x t)
   pub long : (x : Descriptor) (t : Tree) → within_limits_at q t ≡ false → within_limits_at p (described x t) ≡ false
-  pub fits : (x : Descriptor) (t : Tree) → dense_at p (described x t) ≡ true → (dense_at q t ≡ true) × (in_array p ≡ false)
+  pub fits : (x : Descriptor) (t : Tree) → dense_at p (described x t) ≡ true → (dense_at q t ≡ true) × (is_element p ≡ false)
 
 pub behind : (p q : Position) → after_descriptor_at p ≡ Some q → Behind p q
 behind position.Root q e = subst (Behind position.Root) (some_position _ q e) (record { without_prefix_is = refl; own = refl; suits_is = λ x t. refl; next_is = λ x t. refl; long = λ x t h. long_here x t h; fits = λ x t h. (h, refl) })

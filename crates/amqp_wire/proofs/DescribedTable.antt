@@ -22,7 +22,7 @@ use Rattle.amqp_wire.specs.declared.header.Header.{Header}
 use Rattle.amqp_wire.specs.Dense.{is_opaque, dense}
 use Rattle.amqp_wire.specs.Writer.{Extends}
 use Rattle.amqp_wire.specs.declared.measurer.Measurer.{Measurer}
-use Rattle.amqp_wire.specs.declared.measurer.Measuring.{Measuring}
+use Rattle.amqp_wire.specs.declared.measurer.MeasurerCompound.{MeasurerCompound}
 use Rattle.amqp_size.proofs.Described.{described_rest, some_of}
 use Rattle.amqp_wire.proofs.CountWithinBytes.{no_false}
 use Rattle.amqp_wire.proofs.HeldKinds.{held_single}
@@ -71,7 +71,7 @@ described_listed (pending.Scalar m p) v n x t l after b a e k h = absurd (none_l
 described_listed (pending.Nothing p) v n x t l after b a e k h = absurd (none_listed v p t b a e h)
 
 -- the value to come is described
-pub described_value : (start before self after : Measurer) (held new : Measuring) (d : Option Tree) (part : Result ℕ WalkError) (res : Result (Unit {0}) WalkError) (u : Unit {0}) (X : WalkError → Type 0) →
+pub described_value : (start before self after : Measurer) (held new : MeasurerCompound) (d : Option Tree) (part : Result ℕ WalkError) (res : Result (Unit {0}) WalkError) (u : Unit {0}) (X : WalkError → Type 0) →
     HoldsSingle start.size kinds.Single held.size [] → before.size.pending ≡ pending.Plain position.Descriptor → before.table.headers.items ≡ start.table.headers.items → counts_tree before d part self → after.table ≡ self.table →
     IfErr part (λ e. (res ≡ Err e) × X e) → res ≡ Ok u → IfOk part (λ n. described_pending held.size.inner n ≡ Some new.size.inner) →
     (size_permits before.size d part self.size → (mid : SizeSerializer) × (size_has mid kinds.Single after.size new.size [] × ((t : Option Tree) (r : Result ℕ WalkError) (a : SizeSerializer) → size_permits mid t r a → size_permits start.size (as_described (descriptor_of d) t) r a))) →

@@ -14,7 +14,7 @@ use Rattle.amqp_size.specs.declared.shape.Shape.TheVariants as shape
 use Rattle.amqp_size.specs.WholePending.{Pending}
 use Rattle.amqp_size.specs.WholePending as pending
 use Rattle.amqp_wire.specs.TreeHeaders.{headers_of, headers_of_each, compound_headers}
-use Rattle.amqp_wire.specs.HeaderBytes.{in_array, opening, after_opening}
+use Rattle.amqp_wire.specs.HeaderBytes.{is_element, opening, after_opening}
 use Rattle.amqp_size.proofs.Whole.{stands_none, refused_shape}
 use Rattle.amqp_wire.specs.Positions.{is_single}
 use Rattle.amqp_wire.specs.Writer.{Kept, FitsOutput, Written, takes, wrote, accepts, writer_permits, WrittenParts, PartsFitOutput}
@@ -65,7 +65,7 @@ pub record Ended (start : Writer) (kind : Kind) (s : Output) (ps : List (Option 
 pub all_written : (start : Writer) (kind : Kind) (s : Output) (held : WriterCompound) (ps : List (Option Tree)) → is_single kind ≡ false → WrittenParts start kind s held ps → complete kind ps ≡ true → (held.shape ≡ shape.Refused → ⊥) → Ended start kind s ps
 all_written start kind s held ps single h done opened =
     let p = position_of start.pending in
-    let a = in_array p in
+    let a = is_element p in
     let sh = shape_of start.pending kind in
     let t = meant_tree start.pending kind ps h.ts single h.trees done (λ e. opened (h.shape ∙ e)) in
     record {

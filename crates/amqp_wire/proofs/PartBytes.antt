@@ -17,7 +17,7 @@ use Rattle.amqp_size.specs.declared.shape.Shape.TheVariants as shape
 use Rattle.amqp_size.specs.WholePending.{Pending}
 use Rattle.amqp_size.specs.WholePending as pending
 use Rattle.amqp_wire.specs.TreeHeaders.{headers_of, headers_of_each, compound_headers}
-use Rattle.amqp_wire.specs.HeaderBytes.{in_array, bytes_at, opening, after_opening}
+use Rattle.amqp_wire.specs.HeaderBytes.{is_element, bytes_at, opening, after_opening}
 use Rattle.amqp_wire.specs.Dense.{dense, dense_at, dense_each}
 use Rattle.amqp_wire.specs.Positions.{part_position, part_at, is_single, inner_after}
 use Rattle.amqp_wire.specs.Writer.{Kept, FitsOutput, Written, Taken, writer_permits, WrittenSoFar, WrittenParts, PartsFitOutput, opens}
@@ -45,7 +45,7 @@ dense-join a no_trees us = refl
 dense-join a (more t ts) us = ap (λ b. dense_at a t && b) (dense-join a ts us) ∙ sym (and_assoc (dense_at a t) (dense_each a ts) (dense_each a us))
 
 abbrev part_of : Shape → Tree → List ℕ
-part_of s t = bytes_at (in_array (part_position s)) t
+part_of s t = bytes_at (is_element (part_position s)) t
 
 after-join : (s : Shape) (ts : Trees) (t : Tree) (us : Trees) → (s ≡ shape.Refused → ⊥) → after_opening s (join ts (more t us)) ≡ after_opening s ts ++ (part_of s t ++ after_opening s us)
 after-join shape.List ts t us n = encoding_each-join ts (more t us)
@@ -126,9 +126,9 @@ met_more a kind start s after ts t k f h us m =
       taken = let c = w.taken in let d = b.taken in omega arith;
     }
 
-pub room_of : (p : Position) (kind : Shape) (s : Output) (ts : Trees) (t : Tree) → headers_of t ≡ compound_headers kind ts ++ headers_of_each ts → Spelled (in_array p) kind ts t → FitsOutput p s t → PartsFitOutput (in_array p) kind s ts
+pub room_of : (p : Position) (kind : Shape) (s : Output) (ts : Trees) (t : Tree) → headers_of t ≡ compound_headers kind ts ++ headers_of_each ts → Spelled (is_element p) kind ts t → FitsOutput p s t → PartsFitOutput (is_element p) kind s ts
 room_of p kind s ts t e h m =
-    let a = in_array p in
+    let a = is_element p in
     let f : length (bytes_at a t) ≡ length (opening a kind (compound_headers kind ts)) + length (after_opening kind ts) = ap length h.bytes ∙ length-append (opening a kind (compound_headers kind ts)) (after_opening kind ts) in
     let r = m.room in
     record {
@@ -141,7 +141,7 @@ room_of p kind s ts t e h m =
     }
 
 -- the table and the room of the whole are those of its parts
-pub room_for : (u : Pending) (k : Kind) (s : Output) (ts : Trees) (t : Tree) → is_single k ≡ false → meant u (as_kind k (Some ts)) ≡ Some t → FitsOutput (position_of u) s t → PartsFitOutput (in_array (position_of u)) (shape_of u k) s ts
+pub room_for : (u : Pending) (k : Kind) (s : Output) (ts : Trees) (t : Tree) → is_single k ≡ false → meant u (as_kind k (Some ts)) ≡ Some t → FitsOutput (position_of u) s t → PartsFitOutput (is_element (position_of u)) (shape_of u k) s ts
 room_for u k s ts t b q m = room_of (position_of u) (shape_of u k) s ts t (split u k ts t b q) (spelled (position_of u) u k ts t b q m.within_limits_it m.dense_it) m
 
 whole_parts : (kind : Kind) (ps : List (Option Tree)) (ts : Trees) (p : Option Tree) (rest : List (Option Tree)) → all_trees ps ≡ Some ts → whole kind (ps ++ (p ∷ rest)) ≡ as_kind kind (joined (Some ts) (prepend p (all_trees rest)))
@@ -195,7 +195,7 @@ part_written start kind s after held new ps t h k left w inner f position shape 
       shape = shape ∙ h.shape;
       inner = inner ∙ ap (λ x. inner_after x held.inner left) h.shape ∙ next_stands sh h.ts t held.inner left h.suited h.inner w.position;
       suited = suited_more sh h.ts t h.suited w.uniform_arrays_it w.suited;
-      met = met_more (in_array (position_of start.pending)) sh start.output s after h.ts t h.kept (λ m. wrote_at sh s after h.ts t (f (meets_at sh s h.ts t m))) h.met;
+      met = met_more (is_element (position_of start.pending)) sh start.output s after h.ts t h.kept (λ m. wrote_at sh s after h.ts t (f (meets_at sh s h.ts t m))) h.met;
       back = λ odd qs q e.
           let same : ps ≡ qs = same_prefix ps qs (Some t) q e in
           record {
@@ -279,7 +279,7 @@ part_undone start s cut held ps p h even table cap taken out =
 
 -- a compound that was opened
 pub now_open : (start : Writer) (kind : Kind) (s : Output) (held : WriterCompound) → is_single kind ≡ false → Kept start.output s →
-    ((ts : Trees) → PartsFitOutput (in_array (position_of start.pending)) (shape_of start.pending kind) start.output ts → opens (in_array (position_of start.pending)) (shape_of start.pending kind) start.output (compound_headers (shape_of start.pending kind) ts) (Ok tt) s) →
+    ((ts : Trees) → PartsFitOutput (is_element (position_of start.pending)) (shape_of start.pending kind) start.output ts → opens (is_element (position_of start.pending)) (shape_of start.pending kind) start.output (compound_headers (shape_of start.pending kind) ts) (Ok tt) s) →
     held.position ≡ position_of start.pending → held.shape ≡ shape_of start.pending kind → held.inner ≡ inner_pending (shape_of start.pending kind) start.pending → WrittenParts start kind s held []
 now_open start kind s held single k h position shape inner =
     let sh = shape_of start.pending kind in
@@ -294,7 +294,7 @@ now_open start kind s held single k h position shape inner =
       met = λ us m.
           let w = h us m in
           let n = ap length (none_after sh) in
-          let op = opening (in_array (position_of start.pending)) sh (compound_headers sh us) in
+          let op = opening (is_element (position_of start.pending)) sh (compound_headers sh us) in
           record { out = w.0 ∙ ap (λ x. start.output.out.items ++ x) (sym (append-nil op) ∙ ap (λ x. op ++ x) (sym (none_after sh))); taken = let a = w.1 in omega arith };
       back = λ odd qs q w. let no : true ≡ false = odd in cc;
     }

@@ -24,7 +24,7 @@ use Rattle.amqp_size.proofs.Single.{single_kind}
 use Rattle.amqp_size.proofs.Transparent.{transparent_shape, placed-join, spoiled_transparent, part_bad as element_bad}
 use Rattle.amqp_size.proofs.Whole.{refused_shape, stands, stands_none}
 use Rattle.amqp_size.proofs.Positions.{meant_none, refusal}
-use Rattle.amqp_wire.specs.HeaderBytes.{in_array}
+use Rattle.amqp_wire.specs.HeaderBytes.{is_element}
 use Rattle.amqp_wire.specs.Dense.{fit}
 use Rattle.amqp_wire.specs.Positions.{part_position, part_at, suited_parts, is_single, inner_after}
 use Rattle.amqp_wire.proofs.HeldKinds.{never_single}
@@ -55,16 +55,16 @@ first_inner u k b = go (shape_of u k) (not_single u k b)
     go shape.Single n = absurd (n refl)
     go shape.Refused n = refl
 
-element_same : (o : Option ℕ) (t : Tree) → (fit (element o) t ≡ fit position.First t) × (in_array (element o) ≡ true)
+element_same : (o : Option ℕ) (t : Tree) → (fit (element o) t ≡ fit position.First t) × (is_element (element o) ≡ true)
 element_same None t = (refl, refl)
 element_same (Some c) t = (refl, refl)
 
-first_same : (ts : Trees) (t : Tree) → (fit (first_position ts) t ≡ fit position.First t) × (in_array (first_position ts) ≡ true)
+first_same : (ts : Trees) (t : Tree) → (fit (first_position ts) t ≡ fit position.First t) × (is_element (first_position ts) ≡ true)
 first_same no_trees t = (refl, refl)
 first_same (more v ts) t = element_same (constructor v) t
 
 -- the bytes of all parts of a compound have one form
-pub same_form : (s : Shape) (ts : Trees) (t : Tree) → (fit (part_at s ts) t ≡ fit (part_position s) t) × (in_array (part_at s ts) ≡ in_array (part_position s))
+pub same_form : (s : Shape) (ts : Trees) (t : Tree) → (fit (part_at s ts) t ≡ fit (part_position s) t) × (is_element (part_at s ts) ≡ is_element (part_position s))
 same_form shape.List ts t = (refl, refl)
 same_form shape.Map ts t = (refl, refl)
 same_form (shape.Variant i) ts t = (refl, refl)

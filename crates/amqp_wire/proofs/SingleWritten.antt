@@ -14,7 +14,7 @@ use Rattle.amqp_ser.proofs.Single.{whole_single}
 use Rattle.amqp_size.proofs.Single.{whole_two}
 use Rattle.amqp_size.proofs.Positions.{meant_none, refusal}
 use Rattle.amqp_size.proofs.Whole.{stands_none}
-use Rattle.amqp_wire.specs.HeaderBytes.{in_array, bytes_at}
+use Rattle.amqp_wire.specs.HeaderBytes.{is_element, bytes_at}
 use Rattle.amqp_wire.specs.Positions.{inner_after}
 use Rattle.amqp_wire.specs.Writer.{Kept, FitsOutput, SameOutput, takes, wrote, writes_tree, accepts, writer_permits, WrittenSingle}
 use Rattle.amqp_wire.specs.declared.output.Output.{Output}
@@ -39,7 +39,7 @@ wrote_from : (a : Position) (start s after : Output) (o : Option Tree) → Kept 
 wrote_from a start s after None k e h = h
 wrote_from a start s after (Some t) k e h = λ m.
     let w = h (meets_same a start s t k e m) in
-    record { out = w.out ∙ ap (λ x. x ++ bytes_at (in_array a) t) e.0; taken = let n = w.taken in let q = e.1 in omega arith }
+    record { out = w.out ∙ ap (λ x. x ++ bytes_at (is_element a) t) e.0; taken = let n = w.taken in let q = e.1 in omega arith }
 
 pub writes_same : (a : Position) (start s after : Output) (o : Option Tree) (r : Result (Unit {0}) WalkError) → Kept start s → SameOutput start s → writes_tree a s o r after → writes_tree a start o r after
 writes_same a start s after o (Ok u) k e h = wrote_from a start s after o k e h

@@ -24,7 +24,7 @@ use Rattle.amqp_wire.specs.Positions.{is_single}
 use Rattle.amqp_wire.specs.Writer.{Extends}
 use Rattle.amqp_wire.specs.declared.header.Header.{Header}
 use Rattle.amqp_wire.specs.declared.measurer.Measurer.{Measurer}
-use Rattle.amqp_wire.specs.declared.measurer.Measuring.{Measuring}
+use Rattle.amqp_wire.specs.declared.measurer.MeasurerCompound.{MeasurerCompound}
 use Rattle.amqp_wire.proofs.HeldKinds.{never_single, held_trees, held_shape}
 use Rattle.amqp_wire.proofs.ListPrefixes.{extends-more, take_prefix, same_prefix}
 use Rattle.amqp_wire.proofs.FilledHeaders.{made_positions, made_right, made_small, fills_are, dense_whole, suits_placed, within_there, few_parts}
@@ -51,7 +51,7 @@ listed_extends None b a h = absurd h
 listed_extends (Some t) b a h = (headers_of t, h.0)
 
 -- one part more
-pub part_listed : (start : Measurer) (kind : Kind) (table after : List Header) (held new : Measuring) (ps : List (Option Tree)) (p : Option Tree) (ts : Trees) → all_trees ps ≡ Some ts →
+pub part_listed : (start : Measurer) (kind : Kind) (table after : List Header) (held new : MeasurerCompound) (ps : List (Option Tree)) (p : Option Tree) (ts : Trees) → all_trees ps ≡ Some ts →
     PartsTable start kind table held ps → listed p table after → held.missed ≡ false → new.at ≡ held.at → new.before_last ≡ length table →
     (held.parts + 1 ≤ 4294967295 → new.parts ≡ held.parts + 1) → PartsTable start kind after new (ps ++ (p ∷ []))
 part_listed start kind table after held new ps None ts e h l m at last parts = absurd l
@@ -84,7 +84,7 @@ part_listed start kind table after held new ps (Some t) ts e h l m at last parts
     }
 
 -- the same compound over a table that was cut back
-pub table_back : (start : Measurer) (kind : Kind) (table cut : List Header) (held new : Measuring) (ps : List (Option Tree)) → PartsTable start kind table held ps → cut ≡ table →
+pub table_back : (start : Measurer) (kind : Kind) (table cut : List Header) (held new : MeasurerCompound) (ps : List (Option Tree)) → PartsTable start kind table held ps → cut ≡ table →
     new.at ≡ held.at → new.missed ≡ held.missed → new.before_last ≡ held.before_last → new.parts ≡ held.parts → PartsTable start kind cut new ps
 table_back start kind table cut held new ps h same at missed last parts =
     record {
@@ -112,7 +112,7 @@ prefix_trees ps (Some t) us ts a b =
     let e : Some (join us (more t no_trees)) ≡ Some ts = sym (more_trees ps t us a) ∙ b in (t, cc)
 
 -- the last part is given back
-pub table_undone : (start : Measurer) (table cut : List Header) (held new : Measuring) (ps : List (Option Tree)) (p : Option Tree) (us ts : Trees) → all_trees ps ≡ Some us → all_trees (ps ++ (p ∷ [])) ≡ Some ts →
+pub table_undone : (start : Measurer) (table cut : List Header) (held new : MeasurerCompound) (ps : List (Option Tree)) (p : Option Tree) (us ts : Trees) → all_trees ps ≡ Some us → all_trees (ps ++ (p ∷ [])) ≡ Some ts →
     PartsTable start kinds.Map table held (ps ++ (p ∷ [])) → count ts ≤ 4294967295 → paired ps ≡ true → cut ≡ take held.before_last table →
     new.at ≡ held.at → new.missed ≡ held.missed → new.parts ≡ held.parts - 1 → PartsTable start kinds.Map cut new ps
 table_undone start table cut held new ps p us ts a d h few even c at missed parts =
@@ -145,7 +145,7 @@ whole_listed start after kind ts n m len c (Some x) single w s right h f =
     (f (made_small sh ts n m c right small) ∙ ap (λ es. start.table.headers.items ++ es) (sym (split u kind ts x single w)), solids)
 
 -- what was counted makes the headers of the compound
-counted_right : (start : Measurer) (kind : Kind) (held : Measuring) (ps : List (Option Tree)) (ts : Trees) (n m : ℕ) (c : Option ℕ) → is_single kind ≡ false → Holding start.size kind held.size ps → all_trees ps ≡ Some ts → dense_each Root ts ≡ true →
+counted_right : (start : Measurer) (kind : Kind) (held : MeasurerCompound) (ps : List (Option Tree)) (ts : Trees) (n m : ℕ) (c : Option ℕ) → is_single kind ≡ false → Holding start.size kind held.size ps → all_trees ps ≡ Some ts → dense_each Root ts ≡ true →
     (held.size.sum ≤ 4294967291 → n ≡ held.size.sum) → (count ts ≤ 4294967295 → m ≡ count ts) → c ≡ element_constructor (position_of held.size.inner) → headers_from (shape_of start.size.pending kind) (header n m c) ≡ compound_headers (shape_of start.size.pending kind) ts
 counted_right start kind held ps ts n m c single h e s a b d = elim h [ inl w ↦ gathered w | inr w ↦ elim w [ inl v ↦ transparent v | inr v ↦ absurd (never_single kind v.kind_is single) ] ]
   where
@@ -164,7 +164,7 @@ counted_right start kind held ps ts n m c single h e s a b d = elim h [ inl w �
     transparent w = subst (λ x. headers_from x (header n m c) ≡ compound_headers x ts) (sym w.shaped) refl
 
 -- the headers of the compound stand in their slots
-pub all_listed : (start : Measurer) (kind : Kind) (table : List Header) (after : Measurer) (held : Measuring) (ps : List (Option Tree)) (n m len : ℕ) (c : Option ℕ) → is_single kind ≡ false → Holding start.size kind held.size ps → PartsTable start kind table held ps → held.missed ≡ false →
+pub all_listed : (start : Measurer) (kind : Kind) (table : List Header) (after : Measurer) (held : MeasurerCompound) (ps : List (Option Tree)) (n m len : ℕ) (c : Option ℕ) → is_single kind ≡ false → Holding start.size kind held.size ps → PartsTable start kind table held ps → held.missed ≡ false →
     (held.size.sum ≤ 4294967291 → n ≡ held.size.sum) → m ≡ held.parts → c ≡ element_constructor (position_of held.size.inner) →
     (headers_fit held.size.shape n → held.at + header_count held.size.shape ≤ length table → after.table.headers.items ≡ fills (headers_from held.size.shape (header n m c)) held.at table) →
     size_permits start.size (whole kind ps) (Ok len) after.size → listed (meant start.size.pending (whole kind ps)) start.table.headers.items after.table.headers.items
@@ -184,13 +184,13 @@ all_listed start kind table after held ps n m len c single h k miss a b d f p =
     ∙ fills_are (headers_from sh (header n m c)) q.0 start.table.headers.items (headers_of_each ts) held.at (made_positions sh (header n m c) ∙ sym q.1.0) k.at
     ∙ ap (λ w. start.table.headers.items ++ (w ++ headers_of_each ts)) right)
 
-pub record Took (before self : Measurer) (held : Measuring) (p : Option Tree) (answer : Result ℕ WalkError) : Type 0 where
+pub record Took (before self : Measurer) (held : MeasurerCompound) (p : Option Tree) (answer : Result ℕ WalkError) : Type 0 where
   pub present : held.missed ≡ false
   pub permits : size_permits before.size p answer self.size
   pub part : listed (meant before.size.pending p) before.table.headers.items self.table.headers.items
 
 -- a part that was taken was answered
-pub took : (before self : Measurer) (held : Measuring) (p : Option Tree) (part answer : Result ℕ WalkError) (res : Result (Unit {0}) WalkError) (u : Unit {0}) (X : WalkError → Type 0) →
+pub took : (before self : Measurer) (held : MeasurerCompound) (p : Option Tree) (part answer : Result ℕ WalkError) (res : Result (Unit {0}) WalkError) (u : Unit {0}) (X : WalkError → Type 0) →
     answered held part answer → counts_tree before p part self → res ≡ Ok u → IfErr answer (λ e. (res ≡ Err e) × X e) → Took before self held p answer
 took before self held p part (Ok n) res u X a l q k =
     let l2 = subst (λ x. counts_tree before p x self) a.0 l in
@@ -198,7 +198,7 @@ took before self held p part (Ok n) res u X a l q k =
 took before self held p part (Err e) res u X a l q k = let no : Err e ≡ Ok u = sym k.0 ∙ q in cc
 
 -- the refusal of a part is one of the whole
-pub refusal_of_part : (start before self after : Measurer) (kind : Kind) (held new : Measuring) (ps : List (Option Tree)) (p : Option Tree) (part answer : Result ℕ WalkError) (res : Result (Unit {0}) WalkError) (e : WalkError) →
+pub refusal_of_part : (start before self after : Measurer) (kind : Kind) (held new : MeasurerCompound) (ps : List (Option Tree)) (p : Option Tree) (part answer : Result ℕ WalkError) (res : Result (Unit {0}) WalkError) (e : WalkError) →
     Holding start.size kind held.size ps → answered held part answer → counts_tree before p part self →
     (size_permits before.size p answer self.size → size_has start.size kind after.size new.size ps × ((rest : List (Option Tree)) → size_permits start.size (whole kind (ps ++ (p ∷ rest))) (Err e) after.size)) →
     IfErr answer (λ x. (res ≡ Err x) × ((new.size ≡ held.size) × (after.size.pending ≡ Plain (without_prefix held.size.position)))) → res ≡ Err e →

@@ -18,7 +18,7 @@ use Rattle.amqp_wire.specs.Positions.{is_single}
 use Rattle.amqp_wire.specs.Writer.{Extends}
 use Rattle.amqp_wire.specs.declared.header.Header.{Header}
 use Rattle.amqp_wire.specs.declared.measurer.Measurer.{Measurer}
-use Rattle.amqp_wire.specs.declared.measurer.Measuring.{Measuring}
+use Rattle.amqp_wire.specs.declared.measurer.MeasurerCompound.{MeasurerCompound}
 use Rattle.amqp_wire.proofs.HeldKinds.{single_kind, held_trees, held_plain, held_shape, held_single}
 use Rattle.amqp_wire.proofs.ListPrefixes.{extends-refl}
 use Rattle.amqp_wire.proofs.TableParts.{part_listed, table_back, listed_extends, all_listed}
@@ -41,7 +41,7 @@ lone_open start table e =
       one = λ p q. let no : [] ≡ p ∷ [] = q in cc;
     }
 
-table_open : (start : Measurer) (kind : Kind) (table : List Header) (held : Measuring) → appended (header_count (shape_of start.size.pending kind)) start.table.headers.items held.missed table → held.at ≡ length start.table.headers.items → held.parts ≡ 0 → PartsTable start kind table held []
+table_open : (start : Measurer) (kind : Kind) (table : List Header) (held : MeasurerCompound) → appended (header_count (shape_of start.size.pending kind)) start.table.headers.items held.missed table → held.at ≡ length start.table.headers.items → held.parts ≡ 0 → PartsTable start kind table held []
 table_open start kind table held a at parts =
     let b = start.table.headers.items in
     record {
@@ -56,7 +56,7 @@ table_open start kind table held a at parts =
       back = λ odd qs q e. let no : true ≡ false = odd in cc;
     }
 
-pub opened : (b : Bool) (start : Measurer) (kind : Kind) (table : List Header) (held : Measuring) (s : Shape) → is_single kind ≡ b → Holding start.size kind held.size [] → s ≡ held.size.shape →
+pub opened : (b : Bool) (start : Measurer) (kind : Kind) (table : List Header) (held : MeasurerCompound) (s : Shape) → is_single kind ≡ b → Holding start.size kind held.size [] → s ≡ held.size.shape →
     appended (header_count s) start.table.headers.items held.missed table → (header_count s ≡ 0 → table ≡ start.table.headers.items) → held.at ≡ length start.table.headers.items → held.parts ≡ 0 → tabled_as b start kind table held []
 opened true start kind table held s k h e a n at parts =
     let w = held_single start.size kind held.size [] k h in
@@ -64,17 +64,17 @@ opened true start kind table held s k h e a n at parts =
 opened false start kind table held s k h e a n at parts =
     table_open start kind table held (subst (λ x. appended (header_count x) start.table.headers.items held.missed table) (e ∙ held_shape start.size kind held.size [] k h) a) at parts
 
-pub tabled_back : (b : Bool) (start : Measurer) (kind : Kind) (table cut : List Header) (held new : Measuring) (ps : List (Option Tree)) → tabled_as b start kind table held ps → cut ≡ table →
+pub tabled_back : (b : Bool) (start : Measurer) (kind : Kind) (table cut : List Header) (held new : MeasurerCompound) (ps : List (Option Tree)) → tabled_as b start kind table held ps → cut ≡ table →
     new.at ≡ held.at → new.missed ≡ held.missed → new.before_last ≡ held.before_last → new.parts ≡ held.parts → tabled_as b start kind cut new ps
 tabled_back true start kind table cut held new ps h same at missed last parts = lone_back start table cut ps h same
 tabled_back false start kind table cut held new ps h same at missed last parts = table_back start kind table cut held new ps h same at missed last parts
 
-pub tabled_extends : (b : Bool) (start : Measurer) (kind : Kind) (table : List Header) (held : Measuring) (ps : List (Option Tree)) → tabled_as b start kind table held ps → Extends start.table.headers.items table
+pub tabled_extends : (b : Bool) (start : Measurer) (kind : Kind) (table : List Header) (held : MeasurerCompound) (ps : List (Option Tree)) → tabled_as b start kind table held ps → Extends start.table.headers.items table
 tabled_extends true start kind table held ps h = h.extends
 tabled_extends false start kind table held ps h = h.extends
 
 -- one part more
-pub part_tabled : (b : Bool) (start : Measurer) (kind : Kind) (u : Pending) (table after : List Header) (held new : Measuring) (ps : List (Option Tree)) (p : Option Tree) → is_single kind ≡ b → Holding start.size kind held.size ps → u ≡ held.size.inner →
+pub part_tabled : (b : Bool) (start : Measurer) (kind : Kind) (u : Pending) (table after : List Header) (held new : MeasurerCompound) (ps : List (Option Tree)) (p : Option Tree) → is_single kind ≡ b → Holding start.size kind held.size ps → u ≡ held.size.inner →
     tabled_as b start kind table held ps → listed (meant u p) table after → held.missed ≡ false → new.at ≡ held.at → new.before_last ≡ length table → (held.parts + 1 ≤ 4294967295 → new.parts ≡ held.parts + 1) → tabled_as b start kind after new (ps ++ (p ∷ []))
 part_tabled true start kind u table after held new ps p k h e t l m at last parts =
     let w = held_single start.size kind held.size ps k h in
@@ -87,7 +87,7 @@ part_tabled false start kind u table after held new ps p k h e t l m at last par
     part_listed start kind table after held new ps p ts.0 ts.1 t (subst (λ x. listed (meant x p) table after) (e ∙ q.1) l) m at last parts
 
 -- the headers of the whole stand in their slots
-pub whole_tabled : (b : Bool) (start : Measurer) (kind : Kind) (table : List Header) (after : Measurer) (held : Measuring) (ps : List (Option Tree)) (n m len : ℕ) (c : Option ℕ) → is_single kind ≡ b → Holding start.size kind held.size ps → tabled_as b start kind table held ps → held.missed ≡ false →
+pub whole_tabled : (b : Bool) (start : Measurer) (kind : Kind) (table : List Header) (after : Measurer) (held : MeasurerCompound) (ps : List (Option Tree)) (n m len : ℕ) (c : Option ℕ) → is_single kind ≡ b → Holding start.size kind held.size ps → tabled_as b start kind table held ps → held.missed ≡ false →
     complete kind ps ≡ true → (held.size.sum ≤ 4294967291 → n ≡ held.size.sum) → m ≡ held.parts → c ≡ element_constructor (position_of held.size.inner) →
     (headers_fit held.size.shape n → held.at + header_count held.size.shape ≤ length table → after.table.headers.items ≡ fills (headers_from held.size.shape (header n m c)) held.at table) →
     (header_count held.size.shape ≡ 0 → after.table.headers.items ≡ table) →

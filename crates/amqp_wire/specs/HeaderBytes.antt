@@ -13,13 +13,13 @@ use Rattle.amqp_wire.specs.declared.header.Header.{Header}
 use Rattle.amqp_wire.specs.declared.opening.HeaderKind.{HeaderKind}
 use Rattle.amqp_wire.specs.declared.opening.HeaderKind.TheVariants as header_kind
 
-abbrev pub in_array : Position → Bool
-in_array Root = false
-in_array Inside = false
-in_array First = true
-in_array (Element c) = true
-in_array Descriptor = false
-in_array (Value h b) = false
+abbrev pub is_element : Position → Bool
+is_element Root = false
+is_element Inside = false
+is_element First = true
+is_element (Element c) = true
+is_element Descriptor = false
+is_element (Value h b) = false
 
 -- the bytes by themselves, or as an array's element after the constructor
 abbrev pub pick : Bool → List ℕ → List ℕ → List ℕ

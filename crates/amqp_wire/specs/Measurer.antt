@@ -15,7 +15,7 @@ use Rattle.amqp_wire.specs.Positions.{is_single}
 use Rattle.amqp_wire.specs.Writer.{Extends}
 use Rattle.amqp_wire.specs.declared.header.Header.{Header}
 use Rattle.amqp_wire.specs.declared.measurer.Measurer.{Measurer}
-use Rattle.amqp_wire.specs.declared.measurer.Measuring.{Measuring}
+use Rattle.amqp_wire.specs.declared.measurer.MeasurerCompound.{MeasurerCompound}
 
 -- slots at the end, or the word that a growth was refused
 abbrev pub appended : ℕ → List Header → Bool → List Header → Type 0
@@ -41,19 +41,19 @@ abbrev pub measurer_permits : Measurer → Option Tree → Result ℕ WalkError 
 measurer_permits s o r after = Extends s.table.headers.items after.table.headers.items × counts_tree s o r after
 
 -- the table has the slots of a compound, and the headers of its parts
-abbrev pub lists_parts : Measurer → Kind → Measuring → List Header → List (Option Tree) → Type 0
+abbrev pub lists_parts : Measurer → Kind → MeasurerCompound → List Header → List (Option Tree) → Type 0
 lists_parts start kind held table ps = held.missed ≡ false → (ts : Trees) → all_trees ps ≡ Some ts →
     (hs : List Header) × ((length hs ≡ header_count (shape_of start.size.pending kind)) × (table ≡ start.table.headers.items ++ (hs ++ headers_of_each ts)))
 
 -- the table before the last part
-pub record TableBeforeLast (start : Measurer) (kind : Kind) (table : List Header) (held : Measuring) (qs : List (Option Tree)) : Type 0 where
+pub record TableBeforeLast (start : Measurer) (kind : Kind) (table : List Header) (held : MeasurerCompound) (qs : List (Option Tree)) : Type 0 where
   pub old : List Header
   pub since : Extends start.table.headers.items old
   pub until : Extends old table
   pub len : held.before_last ≡ length old
   pub listed : lists_parts start kind held old qs
 
-pub record PartsTable (start : Measurer) (kind : Kind) (table : List Header) (held : Measuring) (ps : List (Option Tree)) : Type 0 where
+pub record PartsTable (start : Measurer) (kind : Kind) (table : List Header) (held : MeasurerCompound) (ps : List (Option Tree)) : Type 0 where
   pub at : held.at ≡ length start.table.headers.items
   pub extends : Extends start.table.headers.items table
   pub counted : (ts : Trees) → all_trees ps ≡ Some ts → count ts ≤ 4294967295 → held.parts ≡ count ts
@@ -67,22 +67,22 @@ pub record SingleTable (start : Measurer) (table : List Header) (ps : List (Opti
   pub none : ps ≡ [] → table ≡ start.table.headers.items
   pub one : (p : Option Tree) → ps ≡ p ∷ [] → listed (meant start.size.pending p) start.table.headers.items table
 
-abbrev pub tabled_as : Bool → Measurer → Kind → List Header → Measuring → List (Option Tree) → Type 0
+abbrev pub tabled_as : Bool → Measurer → Kind → List Header → MeasurerCompound → List (Option Tree) → Type 0
 tabled_as true start kind table held ps = SingleTable start table ps
 tabled_as false start kind table held ps = PartsTable start kind table held ps
 
-abbrev pub measurer_has : Measurer → Kind → Measurer → Measuring → List (Option Tree) → Type 0
+abbrev pub measurer_has : Measurer → Kind → Measurer → MeasurerCompound → List (Option Tree) → Type 0
 measurer_has start kind s held ps = size_has start.size kind s.size held.size ps × tabled_as (is_single kind) start kind s.table.headers.items held ps
 
-abbrev pub measurer_awaits : Measurer → Kind → Measurer → Measuring → List (Option Tree) → Type 0
+abbrev pub measurer_awaits : Measurer → Kind → Measurer → MeasurerCompound → List (Option Tree) → Type 0
 measurer_awaits start kind s held ps = (size_awaits start.size kind s.size held.size ps × tabled_as (is_single kind) start kind s.table.headers.items held ps) × (held.before_current ≡ length s.table.headers.items)
 
 -- a descriptor takes no slot
-abbrev pub measurer_awaits_descriptor : Measurer → Measurer → Measuring → Type 0
+abbrev pub measurer_awaits_descriptor : Measurer → Measurer → MeasurerCompound → Type 0
 measurer_awaits_descriptor start s held = (size_awaits_descriptor start.size s.size held.size × (s.table.headers.items ≡ start.table.headers.items)) × (held.before_current ≡ length s.table.headers.items)
 
 -- a part's answer, or the refusal of the compound's slot
-abbrev pub answered : Measuring → Result ℕ WalkError → Result ℕ WalkError → Type 0
+abbrev pub answered : MeasurerCompound → Result ℕ WalkError → Result ℕ WalkError → Type 0
 answered held part (Ok n) = (part ≡ Ok n) × (held.missed ≡ false)
 answered held part (Err e) = (e ≡ OutOfMemory) ⊎ (part ≡ Err e)
 

@@ -10,7 +10,7 @@ pub record WriterState : Type 0 where
   pub output : Output
 
 -- an open compound
-pub record WritingState : Type 0 where
+pub record WriterCompoundState : Type 0 where
   pub position : Position
   pub shape : Shape
   pub inner : Pending

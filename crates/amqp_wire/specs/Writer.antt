@@ -16,7 +16,7 @@ use Rattle.amqp_size.specs.WholePending as pending
 use Rattle.amqp_size.specs.declared.shape.Shape.{Shape}
 use Rattle.amqp_size.specs.declared.shape.Shape.TheVariants.{Single}
 use Rattle.amqp_wire.specs.TreeHeaders.{headers_of, headers_of_each, compound_headers}
-use Rattle.amqp_wire.specs.HeaderBytes.{in_array, bytes_at, opening, after_opening, small_headers}
+use Rattle.amqp_wire.specs.HeaderBytes.{is_element, bytes_at, opening, after_opening, small_headers}
 use Rattle.amqp_wire.specs.Dense.{dense_at, dense_each}
 use Rattle.amqp_wire.specs.Positions.{part_position, part_at, suited_parts, is_single}
 use Rattle.amqp_wire.specs.declared.header.Header.{Header}
@@ -58,10 +58,10 @@ pub record FitsOutput (p : Position) (s : Output) (t : Tree) : Type 0 where
   pub dense_it : dense_at p t ≡ true
   pub rest : List Header
   pub listed : drop s.taken s.table.items ≡ headers_of t ++ rest
-  pub room : length s.out.items + length (bytes_at (in_array p) t) ≤ vec_capacity s.out
+  pub room : length s.out.items + length (bytes_at (is_element p) t) ≤ vec_capacity s.out
 
 pub record Written (p : Position) (s : Output) (t : Tree) (after : Output) : Type 0 where
-  pub out : after.out.items ≡ s.out.items ++ bytes_at (in_array p) t
+  pub out : after.out.items ≡ s.out.items ++ bytes_at (is_element p) t
   pub taken : after.taken ≡ s.taken + length (headers_of t)
 
 -- a tree that may stand there was taken
@@ -106,7 +106,7 @@ pub record WrittenSoFar (a : Bool) (shape : Shape) (start s : Output) (ts us : T
   pub taken : s.taken ≡ start.taken + length (compound_headers shape (join ts us)) + length (headers_of_each ts)
 
 abbrev pub meets_parts : Writer → Kind → Output → Trees → Type 0
-meets_parts start kind s ts = (us : Trees) → PartsFitOutput (in_array (position_of start.pending)) (shape_of start.pending kind) start.output (join ts us) → WrittenSoFar (in_array (position_of start.pending)) (shape_of start.pending kind) start.output s ts us
+meets_parts start kind s ts = (us : Trees) → PartsFitOutput (is_element (position_of start.pending)) (shape_of start.pending kind) start.output (join ts us) → WrittenSoFar (is_element (position_of start.pending)) (shape_of start.pending kind) start.output s ts us
 
 -- where the output stood before the last part
 pub record OutputBeforeLast (start : Writer) (kind : Kind) (s : Output) (held : WriterCompound) (qs : List (Option Tree)) : Type 0 where

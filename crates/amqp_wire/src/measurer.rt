@@ -22,7 +22,7 @@ pub struct Measurer {
 
 /// A compound whose parts are still counted.
 #[derive(Drop)]
-pub struct Measuring {
+pub struct MeasurerCompound {
     size: OpenCompound,
     /// Where its headers stand in the table.
     at: usize,
@@ -80,7 +80,7 @@ impl Measurer {
     }
 }
 
-impl Measuring {
+impl MeasurerCompound {
     ghost use Rattle.amqp_wire.specs.Measurer.{answered};
 
     /// The answer on a part, or the refusal of the compound's slot.
@@ -109,7 +109,7 @@ impl Serializer for Measurer {
 
     type Error = WalkError;
 
-    type Open = Measuring;
+    type Open = MeasurerCompound;
 
     ghost permits = { measurer_permits };
 
@@ -168,11 +168,11 @@ impl Serializer for Measurer {
     }
 
     #[inline(always)]
-    fn begin(&mut self, kind: Kind) -> Measuring {
+    fn begin(&mut self, kind: Kind) -> MeasurerCompound {
         let at = self.table.len();
         let size = self.size.begin(kind);
         let missed = self.table.open(size.shape());
-        Measuring {
+        MeasurerCompound {
             size,
             at,
             missed,
@@ -183,8 +183,8 @@ impl Serializer for Measurer {
     }
 
     #[inline(always)]
-    fn vacant(&self) -> Measuring {
-        Measuring {
+    fn vacant(&self) -> MeasurerCompound {
+        MeasurerCompound {
             size: self.size.vacant(),
             at: 0,
             missed: true,
@@ -195,7 +195,7 @@ impl Serializer for Measurer {
     }
 
     #[inline(always)]
-    fn begin_part(&mut self, held: &mut Measuring) {
+    fn begin_part(&mut self, held: &mut MeasurerCompound) {
         held.before_current = self.table.len();
         self.size.begin_part(&mut held.size);
     }
@@ -203,7 +203,7 @@ impl Serializer for Measurer {
     #[inline(always)]
     fn end_part(
         &mut self,
-        held: &mut Measuring,
+        held: &mut MeasurerCompound,
         part: Result<usize, WalkError>,
     ) -> Result<(), WalkError>
         ensures step { (start : Measurer) (kind : Kind) (before : Measurer)
@@ -224,14 +224,14 @@ impl Serializer for Measurer {
                 Ok(())
             }
             Err(e) => {
-                self.table.cut(held.before_current);
+                self.table.truncate(held.before_current);
                 Err(e)
             }
         }
     }
 
     #[inline(always)]
-    fn begin_descriptor(&mut self, held: &mut Measuring) {
+    fn begin_descriptor(&mut self, held: &mut MeasurerCompound) {
         held.before_current = self.table.len();
         self.size.begin_descriptor(&mut held.size);
     }
@@ -239,7 +239,7 @@ impl Serializer for Measurer {
     #[inline(always)]
     fn end_descriptor(
         &mut self,
-        held: &mut Measuring,
+        held: &mut MeasurerCompound,
         part: Result<usize, WalkError>,
     ) -> Result<(), WalkError>
         ensures step { (start before : Measurer) (d : Option Tree) →
@@ -262,26 +262,26 @@ impl Serializer for Measurer {
             Ok(()) => Ok(()),
             Err(e) => {
                 let len = held.before_current;
-                self.table.cut(len);
+                self.table.truncate(len);
                 Err(e)
             }
         }
     }
 
     #[inline(always)]
-    fn undo_part(&mut self, held: &mut Measuring) {
+    fn undo_part(&mut self, held: &mut MeasurerCompound) {
         self.size.undo_part(&mut held.size);
-        self.table.cut(held.before_last);
+        self.table.truncate(held.before_last);
         held.parts = held.parts.saturating_sub(1);
     }
 
     #[inline(always)]
-    fn misuse(&mut self, held: &mut Measuring) -> WalkError {
+    fn misuse(&mut self, held: &mut MeasurerCompound) -> WalkError {
         self.size.misuse(&mut held.size)
     }
 
     #[inline(always)]
-    fn end(&mut self, held: Measuring) -> Result<usize, WalkError>
+    fn end(&mut self, held: MeasurerCompound) -> Result<usize, WalkError>
         ensures answered { (start : Measurer) (kind : Kind) (ps : List (Option Tree)) →
             measurer_has start kind self.old held ps → complete kind ps ≡ true →
             measurer_permits start (whole kind ps) result self.new }
@@ -289,7 +289,7 @@ impl Serializer for Measurer {
             measurer_has start kind self.old held ps → complete kind ps ≡ true →
             meant start.size.pending (whole kind ps) ≡ None → result ≡ Err TooLong → ⊥ }
     {
-        let Measuring {
+        let MeasurerCompound {
             size,
             at,
             missed,

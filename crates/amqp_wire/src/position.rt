@@ -2,7 +2,7 @@
 
 ghost use Rattle.std.specs.Prelude.{◌≡◌, Some, MatchResult, true};
 ghost use Rattle.amqp_size.specs.State.{position_at, pending_at};
-ghost use Rattle.amqp_wire.specs.HeaderBytes.{in_array};
+ghost use Rattle.amqp_wire.specs.HeaderBytes.{is_element};
 ghost use Rattle.amqp_wire.specs.Positions.{after_descriptor, inner_after};
 ghost use Rattle.amqp_wire.specs.Writer.{Taken};
 ghost use Rattle.amqp_size.specs.SizeSerializer.{refused};
@@ -17,8 +17,8 @@ use amqp_size::{BasePosition, Pending, Position, Shape, WalkError};
 
 /// Whether an array's element stands there.
 #[inline(always)]
-pub fn in_array(position: Position) -> bool
-    ensures { result ≡ in_array (position_at position 0) }
+pub fn is_element(position: Position) -> bool
+    ensures { result ≡ is_element (position_at position 0) }
 {
     matches!(position, Position::First | Position::Element(_))
 }

@@ -1,40 +1,26 @@
-//! The bytes of scalars, and those before the parts of a compound, where they are taken.
+//! The bytes of scalars and of lazy values, where they are taken.
 
-ghost use Rattle.std.specs.Prelude.{◌≡◌, ◌≤◌, ◌+◌, ◌++◌, ◌∷◌, [], Bool, Some, Ok, false, is_err, length};
-ghost use Rattle.std.specs.Vec.{vec_capacity};
+ghost use Rattle.std.specs.Prelude.{◌≡◌, ◌∷◌, Bool, Some, length};
 ghost use Rattle.amqp_ser.specs.Fixed.{fixed_scalar};
 ghost use Rattle.amqp_ser.specs.Limits.{fits};
 ghost use Rattle.amqp_ser.specs.Scalars.{scalar_code};
-ghost use Rattle.amqp_ser.specs.Tree.{Trees, Scalar, scalar, null, lazy};
+ghost use Rattle.amqp_ser.specs.Tree.{Scalar, scalar, null, lazy};
 ghost use Rattle.amqp_ser.specs.Writable.{within_limits};
 ghost use Rattle.amqp_size.specs.Position.{without_prefix};
 ghost use Rattle.amqp_size.specs.State.{position_at};
 ghost use Rattle.amqp_size.specs.Width.{text_at};
 ghost use Rattle.amqp_size.specs.WholePending.{Plain};
-ghost use Rattle.amqp_wire.specs.HeaderBytes.{in_array, pick, bytes_at};
-ghost use Rattle.amqp_wire.specs.TreeHeaders.{compound_headers};
-ghost use Rattle.amqp_wire.specs.Writer.{Kept, accepts, writes_tree, opens, PartsFitOutput};
+ghost use Rattle.amqp_wire.specs.HeaderBytes.{pick, bytes_at};
+ghost use Rattle.amqp_wire.specs.Writer.{Kept, accepts, writes_tree};
 
-use crate::position::{in_array, pending_after};
+use crate::position::{is_element, pending_after};
 use crate::writer::Writer;
 use amqp_data::EncodingCodes;
 use amqp_ser::Fixed;
 use amqp_size::width::LONGEST;
-use amqp_size::{Form, Position, Shape, WalkError};
+use amqp_size::{Form, Position, WalkError};
 
 impl Writer {
-    /// Goes on where the table or the room fell short: what is written is not kept then.
-    #[inline(always)]
-    fn written(&mut self, put: Result<(), WalkError>)
-        ensures kept { Kept self.old.output self.new.output }
-        ensures pending { self.new.pending ≡ self.old.pending }
-        ensures whole { is_err put ≡ false → self.new.output ≡ self.old.output }
-    {
-        if put.is_err() {
-            self.output.spoil();
-        }
-    }
-
     /// Writes a value of fixed width.
     #[inline(always)]
     pub(crate) fn fixed(&mut self, position: Position, fixed: Fixed) -> Result<(), WalkError>
@@ -47,8 +33,8 @@ impl Writer {
     {
         match pending_after(position, Form::in_array(fixed).code) {
             Ok(after) => {
-                let put = self.output.put_fixed(in_array(position), fixed);
-                self.written(put);
+                let put = self.output.put_fixed(is_element(position), fixed);
+                self.spoil_unless_put(put);
                 self.pending = after;
                 Ok(())
             }
@@ -67,8 +53,8 @@ impl Writer {
     {
         match pending_after(position, EncodingCodes::Null as u8) {
             Ok(after) => {
-                let put = self.output.put_null(in_array(position));
-                self.written(put);
+                let put = self.output.put_null(is_element(position));
+                self.spoil_unless_put(put);
                 self.pending = after;
                 Ok(())
             }
@@ -100,8 +86,10 @@ impl Writer {
         }
         match pending_after(position, long) {
             Ok(after) => {
-                let put = self.output.put_text(in_array(position), short, long, bytes);
-                self.written(put);
+                let put = self
+                    .output
+                    .put_text(is_element(position), short, long, bytes);
+                self.spoil_unless_put(put);
                 self.pending = after;
                 Ok(())
             }
@@ -128,8 +116,8 @@ impl Writer {
     {
         match pending_after(position, code) {
             Ok(after) => {
-                let put = self.output.put_exact(in_array(position), code, bytes);
-                self.written(put);
+                let put = self.output.put_exact(is_element(position), code, bytes);
+                self.spoil_unless_put(put);
                 self.pending = after;
                 Ok(())
             }
@@ -152,34 +140,7 @@ impl Writer {
             _ => return Err(WalkError::InvalidValue),
         }
         let put = self.output.put(bytes);
-        self.written(put);
+        self.spoil_unless_put(put);
         Ok(())
-    }
-
-    /// Writes what stands before a compound's parts.
-    #[inline(always)]
-    pub(crate) fn open(&mut self, position: Position, shape: Shape)
-        ensures kept { Kept self.old.output self.new.output }
-        ensures pending { self.new.pending ≡ self.old.pending }
-        ensures opened { (ts : Trees) →
-            PartsFitOutput (in_array (position_at position 0)) shape self.old.output ts →
-            opens (in_array (position_at position 0)) shape self.old.output
-            (compound_headers shape ts) (Ok tt) self.new.output }
-    {
-        let put = self.output.open(in_array(position), shape);
-        self.written(put);
-    }
-
-    /// Writes the code of described values.
-    #[inline(always)]
-    pub(crate) fn put_described(&mut self)
-        ensures kept { Kept self.old.output self.new.output }
-        ensures pending { self.new.pending ≡ self.old.pending }
-        ensures written { length self.old.output.out.items + 1 ≤ vec_capacity self.old.output.out →
-            (self.new.output.out.items ≡ self.old.output.out.items ++ (0x00 ∷ []))
-            × (self.new.output.taken ≡ self.old.output.taken) }
-    {
-        let put = self.output.put_few(&[EncodingCodes::DescribedType as u8]);
-        self.written(put);
     }
 }

@@ -72,7 +72,7 @@ impl Table {
 
     /// Keeps the first headers alone.
     #[inline(always)]
-    pub fn cut(&mut self, len: usize)
+    pub fn truncate(&mut self, len: usize)
         ensures cut { self.new.headers.items ≡ take len self.old.headers.items }
         ensures refused { self.new.refused ≡ self.old.refused }
     {

@@ -9,7 +9,7 @@ ghost use Rattle.amqp_ser.specs.Tree.{Tree};
 
 use crate::header::Header;
 use crate::output::{Checkpoint, Output};
-use crate::position::{after_descriptor, inner_after};
+use crate::position::{after_descriptor, inner_after, is_element};
 use crate::writer_compound::WriterCompound;
 use amqp_data::EncodingCodes;
 use amqp_frame::is_frame;
@@ -23,6 +23,8 @@ use std::marker::Model;
 /// Takes none.
 #[derive(Drop)]
 pub struct Writer {
+    /// Where the next value stands. An array's first element leaves its constructor here
+    /// (`pending_after`), and the array picks it up (`end_part`): no answer carries it.
     pub(crate) pending: Pending,
     pub(crate) output: Output,
 }
@@ -37,8 +39,15 @@ impl Model for Writer {
 }
 
 impl Writer {
+    ghost use Rattle.std.specs.Prelude.{◌≤◌, ◌+◌, false, is_err};
+    ghost use Rattle.std.specs.Vec.{vec_capacity};
+    ghost use Rattle.amqp_ser.specs.Tree.{Trees};
+    ghost use Rattle.amqp_size.specs.State.{position_at};
     ghost use Rattle.amqp_size.specs.WholePending.{Plain};
     ghost use Rattle.amqp_size.specs.WholePosition.{Root};
+    ghost use Rattle.amqp_wire.specs.HeaderBytes.{is_element};
+    ghost use Rattle.amqp_wire.specs.TreeHeaders.{compound_headers};
+    ghost use Rattle.amqp_wire.specs.Writer.{Kept, opens, PartsFitOutput};
 
     /// A writer at the root.
     #[inline(always)]
@@ -69,6 +78,45 @@ impl Writer {
         ensures { result ≡ nat_le self.now.output.taken (length self.now.output.table.items) }
     {
         self.output.is_whole()
+    }
+
+    /// Spoils the output where the table or the room fell short: what is written is not kept then.
+    #[inline(always)]
+    pub(crate) fn spoil_unless_put(&mut self, put: Result<(), WalkError>)
+        ensures kept { Kept self.old.output self.new.output }
+        ensures pending { self.new.pending ≡ self.old.pending }
+        ensures whole { is_err put ≡ false → self.new.output ≡ self.old.output }
+    {
+        if put.is_err() {
+            self.output.spoil();
+        }
+    }
+
+    /// Writes what stands before a compound's parts.
+    #[inline(always)]
+    pub(crate) fn open(&mut self, position: Position, shape: Shape)
+        ensures kept { Kept self.old.output self.new.output }
+        ensures pending { self.new.pending ≡ self.old.pending }
+        ensures opened { (ts : Trees) →
+            PartsFitOutput (is_element (position_at position 0)) shape self.old.output ts →
+            opens (is_element (position_at position 0)) shape self.old.output
+            (compound_headers shape ts) (Ok tt) self.new.output }
+    {
+        let put = self.output.open(is_element(position), shape);
+        self.spoil_unless_put(put);
+    }
+
+    /// Writes the code of described values.
+    #[inline(always)]
+    pub(crate) fn put_described(&mut self)
+        ensures kept { Kept self.old.output self.new.output }
+        ensures pending { self.new.pending ≡ self.old.pending }
+        ensures written { length self.old.output.out.items + 1 ≤ vec_capacity self.old.output.out →
+            (self.new.output.out.items ≡ self.old.output.out.items ++ (0x00 ∷ []))
+            × (self.new.output.taken ≡ self.old.output.taken) }
+    {
+        let put = self.output.put_few(&[EncodingCodes::DescribedType as u8]);
+        self.spoil_unless_put(put);
     }
 }
 

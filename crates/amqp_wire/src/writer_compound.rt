@@ -19,9 +19,9 @@ pub struct WriterCompound {
 
 impl Model for WriterCompound {
     ghost use Rattle.amqp_size.specs.State.{position_at, pending_at};
-    ghost use Rattle.amqp_wire.specs.State.{WritingState};
+    ghost use Rattle.amqp_wire.specs.State.{WriterCompoundState};
 
-    ghost Value = { WritingState };
+    ghost Value = { WriterCompoundState };
 
     ghost view = { λ w. record {
       position = position_at w.position 0;

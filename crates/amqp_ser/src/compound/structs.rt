@@ -149,6 +149,8 @@ impl<'a, S: Serializer> SerializeStruct<'a, S> {
             StructHas S.permits S.has start None Kind.Single self.old [] →
             descriptor_of (T.tree value.now) ≡ None → IsErr result }
     {
+        // A list's fields come a way of their own, which is built into the caller: most structs are
+        // lists. A descriptor, and the fields of a map or a single one, go by one call.
         let descriptor = is_descriptor_name(key);
         if descriptor || !matches!(self.form, StructForm::List) {
             return match feed_any(

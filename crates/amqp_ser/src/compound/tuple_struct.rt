@@ -33,7 +33,7 @@ pub struct SerializeTupleStruct<'a, S: Serializer> {
     /// There is one field alone.
     single: bool,
     /// The descriptor is still to come.
-    awaits: bool,
+    wants_descriptor: bool,
     /// A field was taken, or the list stands open from the start.
     opened: bool,
 }
@@ -47,7 +47,7 @@ impl<S: Serializer> Drop for SerializeTupleStruct<'_, S> {
             serializer: _,
             held: _,
             single: _,
-            awaits: _,
+            wants_descriptor: _,
             opened: _,
         } = self;
     }
@@ -61,21 +61,21 @@ impl<'a, S: Serializer> SerializeTupleStruct<'a, S> {
         serializer: &'a mut S,
         held: S::Open,
         single: bool,
-        awaits: bool,
+        wants_descriptor: bool,
     ) -> SerializeTupleStruct<'a, S>
         ensures same_reference { result.serializer.ghost_name ≡ serializer.entry.ghost_name }
         ensures now { result.serializer.now ≡ serializer.old }
         ensures held { result.held ≡ held }
         ensures single { result.single ≡ single }
-        ensures awaits { result.awaits ≡ awaits }
-        ensures opened { result.opened ≡ not awaits }
+        ensures wants_descriptor { result.wants_descriptor ≡ wants_descriptor }
+        ensures opened { result.opened ≡ not wants_descriptor }
     {
         SerializeTupleStruct {
             serializer,
             held,
             single,
-            awaits,
-            opened: !awaits,
+            wants_descriptor,
+            opened: !wants_descriptor,
         }
     }
 
@@ -132,9 +132,9 @@ impl<'a, S: Serializer> SerializeTupleStruct<'a, S> {
             TupleStructHas S.permits S.has start None Kind.Single self.old [] →
             descriptor_of (T.tree value.now) ≡ None → IsErr result }
     {
-        if self.awaits {
+        if self.wants_descriptor {
             feed_descriptor(&mut *self.serializer, &mut self.held, value)?;
-            self.awaits = false;
+            self.wants_descriptor = false;
             return Ok(());
         }
         if self.opened {
@@ -186,7 +186,7 @@ impl<'a, S: Serializer> SerializeTupleStruct<'a, S> {
             serializer,
             held,
             single,
-            awaits: _,
+            wants_descriptor: _,
             opened,
         } = self;
         let form = if single {

@@ -4,7 +4,7 @@ use Rattle.amqp_gather.specs.Gathered.{gathered}
 use Rattle.amqp_data.specs.FormatCode.{code_of}
 use Rattle.amqp_decode.specs.Codes.{primitive_of}
 use Rattle.amqp_decode.specs.Parsed.{parse, parse_content, payload_in, parse_list, parse_map, parse_array, insert}
-use Rattle.amqp_decode.proofs.Steps.{item-zero, item-ok, item-err, item-fixed, parse-zero, parse-at, parse-empty, values-next, insert-next, insert-no_key, insert-no_value, list-none, map-none, array-none}
+use Rattle.amqp_decode.proofs.Steps.{item-zero, item-ok, item-err, item-fixed, parse-zero, parse-at, parse-empty, values-and_then, insert-and_then, insert-no_key, insert-no_value, list-none, map-none, array-none}
 use Rattle.amqp_decode.proofs.read.+read.Goals as goal
 
 pub read_item-returns-then-depth-eq0-clause-err : goal.read_item-returns-then-depth-eq0-clause-err
@@ -52,7 +52,7 @@ read_frame_on-returns-in_default-clause-err t c =
 pub read_list-loop-preserved : goal.read_list-loop-preserved
 read_list-loop-preserved t c =
     let done = c.loop.invariant.0 in
-    let step = values-next (parse c.args.depth) c.args.count c.loop.counter c.loop.rest.now c.read_frame_on.new.bytes.now c.in_ok-item.item done c.loop-test.true c.in_ok-item.ensures.ok in
+    let step = values-and_then (parse c.args.depth) c.args.count c.loop.counter c.loop.rest.now c.read_frame_on.new.bytes.now c.in_ok-item.item done c.loop-test.true c.in_ok-item.ensures.ok in
     let pushed : c.push.new.self.items ≡ c.read_frame_on.new.stack.items ++ c.in_ok-item.item ∷ [] = search rules in (
       done ++ c.in_ok-item.item ∷ [],
       pushed ∙ ap (λ s. s ++ c.in_ok-item.item ∷ []) (c.in_ok-item.ensures.stack ∙ c.loop.invariant.1) ∙ append_assoc c.args.stack.now.items done (c.in_ok-item.item ∷ []),
@@ -67,7 +67,7 @@ read_list-returns-in_err-item-clause-err t c =
 
 pub read_map-loop-preserved : goal.read_map-loop-preserved
 read_map-loop-preserved t c =
-    let step = insert-next (parse c.args.depth) (c.args.count / 2) c.loop.counter c.loop.rest.now c.read_frame.new.bytes.now c.read_frame-in-loop.new.bytes.now (tree_of c.in_ok-key.key) (tree_of c.in_ok-value.value) (gathered c.loop.pairs) c.loop-test.true c.in_ok-key.ensures.ok c.in_ok-value.ensures.ok in
+    let step = insert-and_then (parse c.args.depth) (c.args.count / 2) c.loop.counter c.loop.rest.now c.read_frame.new.bytes.now c.read_frame-in-loop.new.bytes.now (tree_of c.in_ok-key.key) (tree_of c.in_ok-value.value) (gathered c.loop.pairs) c.loop-test.true c.in_ok-key.ensures.ok c.in_ok-value.ensures.ok in
     ap (insert (parse c.args.depth) (c.args.count / 2 - (c.loop.counter + 1)) c.read_frame-in-loop.new.bytes.now) c.in_ok-insert.ensures.ok ∙ (step ∙ c.loop.invariant)
 
 pub read_map-returns-in_err-key-clause-err : goal.read_map-returns-in_err-key-clause-err
@@ -86,7 +86,7 @@ read_map-returns-in_err-value-clause-err t c =
 
 pub read_array-loop-preserved : goal.read_array-loop-preserved
 read_array-loop-preserved t c =
-    let step = values-next (payload_in (parse_content c.args.depth) c.in_ok-code-in-Some.code) c.args.count c.loop.counter c.loop.rest.now c.read_item.new.bytes.now c.in_ok-item-in-Some.item c.loop.items.items c.loop-test.true c.in_ok-item-in-Some.ensures.ok in
+    let step = values-and_then (payload_in (parse_content c.args.depth) c.in_ok-code-in-Some.code) c.args.count c.loop.counter c.loop.rest.now c.read_item.new.bytes.now c.in_ok-item-in-Some.item c.loop.items.items c.loop-test.true c.in_ok-item-in-Some.ensures.ok in
     let pushed : c.push.new.self.items ≡ c.loop.items.items ++ c.in_ok-item-in-Some.item ∷ [] = search rules in
     rw pushed (step ∙ c.loop.invariant)
 

@@ -38,7 +38,7 @@ returns-in_ok-unwrap-in-None-clause-step c = λ start kind before ps p h r.
     c.in_ok-unwrap-in-None.field-0 ps p s.tree s.read (subst (λ b. HasParts start.pending kind b ps) is h.1) s.means s.opened answer.1.0.0.0
     (c.in_ok-unwrap-in-None.ensures start.descriptors.kept (standing start.descriptors) (image s.read) rel.0 (c.release.ensures.next ∙ s.none) h.0
     (subst (λ n. length (start.descriptors.kept ++ standing start.descriptors) ≤ n) (sym c.release.ensures.room) s.room) s.within) in
-    (h.0, subst (λ o. HasParts start.pending kind (body.Single c.in-Single.field-0 o) (ps ++ (p ∷ []))) (sym c.keep.ensures) taken.0, taken.1)
+    (h.0, subst (λ o. HasParts start.pending kind (body.Single c.in-Single.field-0 o) (ps ++ (p ∷ []))) (sym c.set_first.ensures) taken.0, taken.1)
 
 pub returns-in-Some-clause-step : goal.returns-in-Some-clause-step
 returns-in-Some-clause-step c = λ start kind before ps p h r.

@@ -1,7 +1,7 @@
 use Rattle.std.proofs.Common.{refl, ◌∙◌}
 use Rattle.amqp_ser.specs.declared.kind.Kind.TheVariants as kinds
 use Rattle.amqp_wire.specs.Positions.{is_single}
-use Rattle.amqp_wire.specs.declared.measurer.Measuring.{Measuring}
+use Rattle.amqp_wire.specs.declared.measurer.MeasurerCompound.{MeasurerCompound}
 use Rattle.amqp_wire.specs.declared.measurer.Measurer.{Measurer}
 use Rattle.amqp_wire.proofs.HeldKinds.{held_single}
 use Rattle.amqp_wire.proofs.TableSteps.{tabled_back, permits_same}
@@ -10,8 +10,8 @@ use Rattle.amqp_wire.proofs.measurer.MeasurerSerializer.begin_part.Goals as goal
 pub returns-clause-ready : goal.returns-clause-ready
 returns-clause-ready c = λ start kind ps h.
     let table = c.args.self.now.table.headers.items in
-    let old : Measuring = c.args.held.now in
-    let new : Measuring = record { size = c.begin_part.new.held; at = old.at; missed = old.missed; before_current = c.len-held.result; before_last = old.before_last; parts = old.parts } in
+    let old : MeasurerCompound = c.args.held.now in
+    let new : MeasurerCompound = record { size = c.begin_part.new.held; at = old.at; missed = old.missed; before_current = c.len-held.result; before_last = old.before_last; parts = old.parts } in
     ((c.begin_part.ensures.ready start.size kind ps h.0, tabled_back (is_single kind) start kind table table old new ps h.1 refl refl refl refl refl), c.len-held.ensures)
 
 pub returns-clause-single : goal.returns-clause-single

@@ -7,14 +7,14 @@ use Rattle.amqp_wire.specs.TreeHeaders.{header, headers_from, headers_fit, heade
 use Rattle.amqp_wire.specs.Measurer.{fills}
 use Rattle.amqp_wire.specs.Positions.{is_single}
 use Rattle.amqp_wire.specs.declared.measurer.Measurer.{Measurer}
-use Rattle.amqp_wire.specs.declared.measurer.Measuring.{Measuring}
+use Rattle.amqp_wire.specs.declared.measurer.MeasurerCompound.{MeasurerCompound}
 use Rattle.amqp_wire.proofs.TableParts.{listed_extends}
 use Rattle.amqp_wire.proofs.TableSteps.{whole_tabled}
 use Rattle.amqp_wire.proofs.measurer.MeasurerSerializer.end.Goals as goal
 
 pub returns-clause-answered : goal.returns-clause-answered
 returns-clause-answered c = λ start kind ps h done.
-    let held : Measuring = c.args.held in
+    let held : MeasurerCompound = c.args.held in
     let table = c.args.self.now.table.headers.items in
     let after : Measurer = record { size = c.end.new.self; table = c.fill.new.self } in
     let p = subst (λ r. size_permits start.size (whole kind ps) r after.size) c.in_ok-len.was (c.end.ensures.answered start.size kind ps h.0 done) in

@@ -1,7 +1,7 @@
 use Rattle.std.proofs.Common.{◌≡◌, refl, ap, ◌∙◌, take, arith}
 use Rattle.amqp_wire.specs.Positions.{is_single}
 use Rattle.amqp_wire.specs.declared.measurer.Measurer.{Measurer}
-use Rattle.amqp_wire.specs.declared.measurer.Measuring.{Measuring}
+use Rattle.amqp_wire.specs.declared.measurer.MeasurerCompound.{MeasurerCompound}
 use Rattle.amqp_wire.proofs.ListPrefixes.{take_prefix}
 use Rattle.amqp_wire.proofs.TableParts.{took, Took, refusal_of_part}
 use Rattle.amqp_wire.proofs.TableSteps.{part_tabled, tabled_back, tabled_extends}
@@ -9,8 +9,8 @@ use Rattle.amqp_wire.proofs.measurer.MeasurerSerializer.end_part.Goals as goal
 
 pub returns-in-Ok-clause-step : goal.returns-in-Ok-clause-step
 returns-in-Ok-clause-step c = λ start kind before ps p w r.
-    let old : Measuring = c.args.held.now in
-    let new : Measuring = record { size = c.end_part.new.held; at = old.at; missed = old.missed; before_current = old.before_current; before_last = old.before_current; parts = c.saturating_add-held.result } in
+    let old : MeasurerCompound = c.args.held.now in
+    let new : MeasurerCompound = record { size = c.end_part.new.held; at = old.at; missed = old.missed; before_current = old.before_current; before_last = old.before_current; parts = c.saturating_add-held.result } in
     let t : Took before c.args.self.now old p c.answer-answer.result =
     took before c.args.self.now old p c.args.part c.answer-answer.result c.end_part.result c.in-Ok.field-0 _ c.answer-answer.ensures r.1 c.in-Ok.is c.end_part.ensures.same in (
       c.in-Ok.ensures.step start.size kind before.size ps p w.0.0 t.permits,
@@ -20,11 +20,11 @@ returns-in-Ok-clause-step c = λ start kind before ps p w r.
 
 pub returns-in-Err-clause-step : goal.returns-in-Err-clause-step
 returns-in-Err-clause-step c = λ start kind before ps p w r.
-    let old : Measuring = c.args.held.now in
-    let cut : Measurer = record { size = c.end_part.new.self; table = c.cut.new.self } in
-    let new : Measuring = record { size = c.end_part.new.held; at = old.at; missed = old.missed; before_current = old.before_current; before_last = old.before_last; parts = old.parts } in
+    let old : MeasurerCompound = c.args.held.now in
+    let cut : Measurer = record { size = c.end_part.new.self; table = c.truncate.new.self } in
+    let new : MeasurerCompound = record { size = c.end_part.new.held; at = old.at; missed = old.missed; before_current = old.before_current; before_last = old.before_last; parts = old.parts } in
     let same : cut.table.headers.items ≡ before.table.headers.items =
-    c.cut.ensures.cut ∙ ap (take old.before_current) r.0.1 ∙ take_prefix before.table.headers.items r.0.0 old.before_current w.1 in
+    c.truncate.ensures.cut ∙ ap (take old.before_current) r.0.1 ∙ take_prefix before.table.headers.items r.0.0 old.before_current w.1 in
     let back = tabled_back (is_single kind) start kind before.table.headers.items cut.table.headers.items old new ps w.0.1 same refl refl refl refl in
     let refused = refusal_of_part start before c.args.self.now cut kind old new ps p c.args.part c.answer-answer.result c.end_part.result c.in-Err.e w.0.0.0 c.answer-answer.ensures r.1
     (c.in-Err.ensures.step start.size kind before.size ps p w.0.0) c.end_part.ensures.same c.in-Err.is in

@@ -1,7 +1,7 @@
 use Rattle.std.proofs.Common.{sym, subst}
 use Rattle.amqp_size.specs.State.{position_at}
 use Rattle.amqp_wire.specs.TreeHeaders.{compound_headers}
-use Rattle.amqp_wire.specs.HeaderBytes.{in_array}
+use Rattle.amqp_wire.specs.HeaderBytes.{is_element}
 use Rattle.amqp_wire.specs.Writer.{PartsFitOutput, opens}
 use Rattle.amqp_wire.proofs.OpeningBytes.{opened_well}
 use Rattle.amqp_wire.proofs.writer.Writer.open.Goals as goal
@@ -9,7 +9,7 @@ use Rattle.amqp_wire.proofs.writer.Writer.open.Goals as goal
 pub returns-clause-opened : goal.returns-clause-opened
 returns-clause-opened c = rw (← c.self.view_is) (λ ts room.
     let s = c.self.inside.output in
-    let at = c.in_array.ensures in
-    opened_well (in_array (position_at c.args.position 0)) c.args.shape s c.open-put.new.self c.written.new.self.output ts c.open-put.result room
+    let at = c.is_element.ensures in
+    opened_well (is_element (position_at c.args.position 0)) c.args.shape s c.open-put.new.self c.spoil_unless_put.new.self.output ts c.open-put.result room
     (subst (λ a. opens a c.args.shape s (compound_headers c.args.shape ts) c.open-put.result c.open-put.new.self) at (c.open-put.ensures.opened ts (subst (λ a. PartsFitOutput a c.args.shape s ts) (sym at) room)))
-    c.written.ensures.whole)
+    c.spoil_unless_put.ensures.whole)

@@ -7,7 +7,7 @@ use Rattle.amqp_size.specs.WholePending.{Plain}
 use Rattle.amqp_size.specs.declared.shape.Shape.{Shape}
 use Rattle.amqp_size.specs.declared.shape.Shape.TheVariants as shape
 use Rattle.amqp_wire.specs.TreeHeaders.{compound_headers}
-use Rattle.amqp_wire.specs.HeaderBytes.{in_array}
+use Rattle.amqp_wire.specs.HeaderBytes.{is_element}
 use Rattle.amqp_wire.specs.Positions.{is_single}
 use Rattle.amqp_wire.specs.Writer.{Kept, PartsFitOutput, opens, written_as}
 use Rattle.amqp_wire.specs.declared.output.Output.{Output}
@@ -38,9 +38,9 @@ returns c =
     let is : c.shape-shape.result ≡ shape_of start.pending kind = c.shape-shape.ensures 0 ∙ ap (λ (w : Writer). shape_of w.pending kind) c.self.view_is in
     let inner = c.inner.ensures 0 ∙ ap (λ s. inner_pending s (pending_at c.self.inside.pending 0)) is ∙ ap (λ (w : Writer). inner_pending (shape_of start.pending kind) w.pending) c.self.view_is in
     let held : WriterCompound = record { position = position_at c.position-position.result 0; shape = c.shape-shape.result; inner = pending_at c.inner.result 0; before_current = c.checkpoint-checkpoint-2.result; before_last = c.checkpoint-checkpoint-2.result } in
-    let opened = subst (λ (o : Output). (ts : Trees) → PartsFitOutput (in_array (position_of start.pending)) (shape_of start.pending kind) o ts → opens (in_array (position_of start.pending)) (shape_of start.pending kind) o (compound_headers (shape_of start.pending kind) ts) (Ok tt) out) e.output
-    (subst (λ (h : Shape). (ts : Trees) → PartsFitOutput (in_array (position_of start.pending)) h c.reset.new.self.output ts → opens (in_array (position_of start.pending)) h c.reset.new.self.output (compound_headers h ts) (Ok tt) out) is
-    (subst (λ (p : Position). (ts : Trees) → PartsFitOutput (in_array p) c.shape-shape.result c.reset.new.self.output ts → opens (in_array p) c.shape-shape.result c.reset.new.self.output (compound_headers c.shape-shape.result ts) (Ok tt) out) at c.open.ensures.opened)) in
+    let opened = subst (λ (o : Output). (ts : Trees) → PartsFitOutput (is_element (position_of start.pending)) (shape_of start.pending kind) o ts → opens (is_element (position_of start.pending)) (shape_of start.pending kind) o (compound_headers (shape_of start.pending kind) ts) (Ok tt) out) e.output
+    (subst (λ (h : Shape). (ts : Trees) → PartsFitOutput (is_element (position_of start.pending)) h c.reset.new.self.output ts → opens (is_element (position_of start.pending)) h c.reset.new.self.output (compound_headers h ts) (Ok tt) out) is
+    (subst (λ (p : Position). (ts : Trees) → PartsFitOutput (is_element p) c.shape-shape.result c.reset.new.self.output ts → opens (is_element p) c.shape-shape.result c.reset.new.self.output (compound_headers c.shape-shape.result ts) (Ok tt) out) at c.open.ensures.opened)) in
     let other = other_kind kind c.in_default.not-Single in (
       opens_other start kind out held other (now_open start kind out held other (subst (λ o. Kept o out) e.output c.open.ensures.kept) opened at is inner),
       c.open.ensures.pending ∙ e.pending ∙ ap (λ p. Plain (without_prefix p)) (sym at),
