@@ -1,6 +1,6 @@
 //! Worked rows of lists, options, tuples, arrays and maps.
 
-use super::rows::{refused, row};
+use super::rows::{own_image, refused, row};
 use amqp_data::{Array, OrderedMap};
 use amqp_ser::{Serialize, Serializer};
 use serde_amqp::{Error, Value, serialized_size, to_value, to_vec};
@@ -21,28 +21,22 @@ fn map(alloc: Global, key: Value, value: Value) -> Result<Value, Fail> {
 #[test]
 fn options_tuples_and_arrays_of_rust(rt: HostRuntime) -> Result<(), Fail> {
     let a = rt.alloc();
-    row(&rt, a, "some int", &Some(3i32), "5403", &Value::Int(3))?;
+    row(&rt, a, "some int", &Some(3i32), "5403", Value::Int(3));
     let none: Option<i32> = None;
-    row(&rt, a, "none", &none, "40", &Value::Null)?;
+    row(&rt, a, "none", &none, "40", Value::Null);
     row(
         &rt,
         a,
         "no ints",
         &[0i32; 0],
         "45",
-        &Value::List(Vec::new(a)),
-    )?;
+        Value::List(Vec::new(a)),
+    );
     let one = Value::List(vec![in a; Value::Int(1)]?);
-    row(&rt, a, "a tuple of one", &(1i32,), "c003015401", &one)?;
+    row(&rt, a, "a tuple of one", &(1i32,), "c003015401", one);
     let two = Value::List(vec![in a; Value::Int(1), Value::Bool(true)]?);
-    row(
-        &rt,
-        a,
-        "a tuple of two",
-        &(1i32, true),
-        "c00402540141",
-        &two,
-    )
+    row(&rt, a, "a tuple of two", &(1i32, true), "c00402540141", two);
+    Ok(())
 }
 
 #[test]
@@ -71,17 +65,17 @@ fn arrays_of_one_constructor(rt: HostRuntime) -> Result<(), Fail> {
         "no elements",
         &none,
         "e00100",
-        &Value::Array(Array::from(Vec::new(a))),
-    )?;
+        Value::Array(Array::from(Vec::new(a))),
+    );
     let truths = Array::from(vec![in a; true, false]?);
     let image = Value::Array(Array::from(vec![in a; Value::Bool(true), Value::Bool(false)]?));
-    row(&rt, a, "two truth values", &truths, "e00402560100", &image)?;
+    row(&rt, a, "two truth values", &truths, "e00402560100", image);
     let zero = Array::from(vec![in a; 0u32]?);
     let image = array(a, Value::Uint(0))?;
-    row(&rt, a, "the uint 0", &zero, "e006017000000000", &image)?;
+    row(&rt, a, "the uint 0", &zero, "e006017000000000", image);
     let text = Array::from(vec![in a; ""]?);
     let image = array(a, Value::String(String::new(a)))?;
-    row(&rt, a, "an empty string", &text, "e00601b100000000", &image)?;
+    row(&rt, a, "an empty string", &text, "e00601b100000000", image);
     let inner = Array::from(vec![in a; 1u8]?);
     let nested = Array::from(vec![in a; inner]?);
     let image = array(a, array(a, Value::Ubyte(1))?)?;
@@ -91,8 +85,8 @@ fn arrays_of_one_constructor(rt: HostRuntime) -> Result<(), Fail> {
         "an array of an array",
         &nested,
         "e00c01f000000006000000015001",
-        &image,
-    )?;
+        image,
+    );
     let lists = Array::from(vec![in a; Vec::new(a), vec![in a; 1u8]?]?);
     let one = Value::List(vec![in a; Value::Ubyte(1)]?);
     let image = Value::Array(Array::from(vec![in a; Value::List(Vec::new(a)), one]?));
@@ -102,8 +96,9 @@ fn arrays_of_one_constructor(rt: HostRuntime) -> Result<(), Fail> {
         "an array of lists",
         &lists,
         "e01402d0000000040000000000000006000000015001",
-        &image,
-    )
+        image,
+    );
+    Ok(())
 }
 
 #[test]
@@ -161,8 +156,8 @@ fn maps_keep_their_order(rt: HostRuntime) -> Result<(), Fail> {
         "no pairs",
         &none,
         "c10100",
-        &Value::Map(OrderedMap::new(a)),
-    )?;
+        Value::Map(OrderedMap::new(a)),
+    );
     let mut keyed = OrderedMap::new(a);
     drop(keyed.insert(Array::from(vec![in a; 1i32]?), vec![in a; 2i32]?)?);
     let two = Value::List(vec![in a; Value::Int(2)]?);
@@ -173,8 +168,8 @@ fn maps_keep_their_order(rt: HostRuntime) -> Result<(), Fail> {
         "a map from an array to a list",
         &keyed,
         "c10e02e006017100000001c003015402",
-        &image,
-    )?;
+        image,
+    );
     let mut tree = BTreeMap::new(a);
     drop(tree.insert("b", 2u8)?);
     drop(tree.insert("a", 1u8)?);
@@ -187,8 +182,9 @@ fn maps_keep_their_order(rt: HostRuntime) -> Result<(), Fail> {
         "a map in the order of its keys",
         &tree,
         "c10b04a101615001a101625002",
-        &Value::Map(sorted),
-    )
+        Value::Map(sorted),
+    );
+    Ok(())
 }
 
 #[test]
@@ -198,6 +194,7 @@ fn two_keys_of_one_image(rt: HostRuntime) -> Result<(), Fail> {
     drop(tree.insert(None, 1u8)?);
     drop(tree.insert(Some(None), 2u8)?);
     let image = map(a, Value::Null, Value::Ubyte(2))?;
-    row(&rt, a, "the map", &tree, "c10704405001405002", &image)?;
-    row(&rt, a, "its image", &image, "c10402405002", &image)
+    own_image(&rt, a, "its image", &image, "c10402405002");
+    row(&rt, a, "the map", &tree, "c10704405001405002", image);
+    Ok(())
 }

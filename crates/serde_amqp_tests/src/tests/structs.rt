@@ -47,6 +47,7 @@ fn structs_are_lists_of_their_fields(rt: HostRuntime) -> Result<(), Fail> {
         "a tuple of a struct",
         &(Outer { inner: Wrapped(3) },),
         "c00601c003015403",
-        &image,
-    )
+        image,
+    );
+    Ok(())
 }

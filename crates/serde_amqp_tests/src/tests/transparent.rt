@@ -39,14 +39,15 @@ fn elements_one_after_another(rt: HostRuntime) -> Result<(), Fail> {
     let a = rt.alloc();
     let truths = TransparentVec::from(vec![in a; true, false, true]?);
     let image = vec![in a; Value::Bool(true), Value::Bool(false), Value::Bool(true)]?;
-    row(&rt, a, "three", &truths, "414241", &Value::List(image))?;
+    row(&rt, a, "three", &truths, "414241", Value::List(image));
     let none: TransparentVec<u8> = TransparentVec::from(Vec::new(a));
-    row(&rt, a, "none", &none, "", &Value::List(Vec::new(a)))?;
+    row(&rt, a, "none", &none, "", Value::List(Vec::new(a)));
     let one = TransparentVec::from(vec![in a; true]?);
     let nested = TransparentVec::from(vec![in a; one, TransparentVec::from(Vec::new(a))]?);
     let first = Value::List(vec![in a; Value::Bool(true)]?);
     let image = Value::List(vec![in a; first, Value::List(Vec::new(a))]?);
-    row(&rt, a, "one in another", &nested, "41", &image)
+    row(&rt, a, "one in another", &nested, "41", image);
+    Ok(())
 }
 
 #[test]
@@ -64,7 +65,7 @@ fn elsewhere_they_are_refused(rt: HostRuntime) -> Result<(), Fail> {
 }
 
 #[test]
-fn enums_of_a_name(rt: HostRuntime) -> Result<(), Fail> {
+fn enums_of_a_name(rt: HostRuntime) {
     let a = rt.alloc();
     row(
         &rt,
@@ -72,9 +73,8 @@ fn enums_of_a_name(rt: HostRuntime) -> Result<(), Fail> {
         "an untagged value",
         &Untagged(5),
         "5005",
-        &Value::Ubyte(5),
-    )?;
+        Value::Ubyte(5),
+    );
     refused(&rt, a, "a tag", &Tag(5), Error::InvalidValue);
     assert!(rt; to_value(a, &Tag(5)) == Err(Error::InvalidValue));
-    Ok(())
 }
