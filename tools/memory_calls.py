@@ -105,7 +105,7 @@ def wanted():
     for crate in LIBRARIES:
         names = exported(crate)
         for path in sorted((ROOT / crate / "src").rglob("*.rt")):
-            if "tests" in path.parts or path.name == "tests.rt":
+            if "tests" in path.relative_to(ROOT).parts or path.name == "tests.rt":
                 continue
             calls |= conversions(path.read_text())
             for holder, name, signature, comment in items(path.read_text()):

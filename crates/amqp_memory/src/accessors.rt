@@ -4,7 +4,7 @@ ghost use Rattle.std.specs.Prelude.{◌≡◌};
 ghost use Rattle.amqp_de.specs.Events.{visit_of};
 ghost use Rattle.amqp_de.specs.declared.shown.Visit.TheVariants as kind;
 
-use amqp_data::{Error, OrderedMap, markers};
+use amqp_data::{ByteBuf, Error, OrderedMap, markers};
 use amqp_de::de::{
     Deserialize, Deserializer as _, EnumAccess as _, MapAccess as _, Plain, Refusal,
     SeqAccess as _, VariantAccess as _, Visit, Visitor,
@@ -115,4 +115,42 @@ fn written(alloc: Global) -> Result<bool, Error> {
         (Visit::Plain, Visit::Plain, Visit::Plain)
     );
     Ok(all && *boxed == 1)
+}
+
+/// Reads 262,144 elements one by one, and 1,024 pairs of a kibibyte each.
+///
+/// # Errors
+/// `OutOfMemory` where a request for memory is refused; any other is a wrong answer.
+pub fn large(alloc: Global) -> Result<bool, Error> {
+    Ok(many_elements(alloc)? && many_entries(alloc)?)
+}
+
+fn many_elements(alloc: Global) -> Result<bool, Error> {
+    let mut values = Vec::new(alloc);
+    for number in 0..262_144u32 {
+        values.push(Value::Uint(number))?;
+    }
+    let mut access = SeqAccess::new(alloc, values);
+    for number in 0..262_144u32 {
+        if access.next_element::<u32>(alloc)? != Some(number) {
+            return Ok(false);
+        }
+    }
+    Ok(access.next_element::<u32>(alloc)?.is_none())
+}
+
+fn many_entries(alloc: Global) -> Result<bool, Error> {
+    let mut pairs = OrderedMap::new(alloc);
+    for key in 0..1024u16 {
+        let bytes = ByteBuf::from(Vec::from_elem(alloc, 1u8, 1024)?);
+        drop(pairs.insert(Value::Ushort(key), Value::Binary(bytes))?);
+    }
+    let mut access = MapAccess::new(alloc, pairs);
+    for key in 0..1024u16 {
+        let read = access.next_entry::<u16, ByteBuf>(alloc)?;
+        if !read.is_some_and(|(k, bytes)| k == key && bytes.as_inner().len() == 1024) {
+            return Ok(false);
+        }
+    }
+    Ok(access.next_key::<u16>(alloc)?.is_none())
 }

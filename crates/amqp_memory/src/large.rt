@@ -1,14 +1,14 @@
 //! The calls that take memory, each with about a mebibyte.
 
 use crate::report::report;
-use crate::{conversions, own_types, reading};
+use crate::{accessors, conversions, own_types, reading, serializer};
 use amqp_data::{Array, ByteBuf, Error, OrderedMap, Symbol, TransparentVec};
-use amqp_decode::decode_value;
+use amqp_decode::{decode_value, decode_value_within};
 use amqp_frame::{LazyValue, SliceReader};
 use amqp_from_value::from_value;
 use amqp_to_value::{TryFromSerializable, to_value};
 use amqp_value::Value;
-use amqp_wire::to_vec;
+use amqp_wire::{to_lazy_value, to_vec};
 use serde_amqp::{VecWriter, run_cut, run_lines};
 use std::alloc::Global;
 use std::collections::BTreeMap;
@@ -32,6 +32,7 @@ pub fn all(rt: &(impl Print + AllocGlobal)) -> Result<(), Error> {
     report(rt, "large conversions", conversions::large(alloc)?);
     report(rt, "a long frame", frame(alloc)?);
     report(rt, "a long frame decoded", decoded(alloc)?);
+    report(rt, "a long frame decoded within a bound", within(alloc)?);
     report(rt, "many values read", read(alloc)?);
     report(
         rt,
@@ -39,7 +40,15 @@ pub fn all(rt: &(impl Print + AllocGlobal)) -> Result<(), Error> {
         reading::large_types(alloc)?,
     );
     report(rt, "a long lazy value", lazy(alloc)?);
+    report(rt, "a long value held as a lazy value", held(alloc)?);
     report(rt, "large values that come back", own_types::large(alloc)?);
+    report(
+        rt,
+        "large types of one's own",
+        own_types::large_composites(alloc)?,
+    );
+    report(rt, "many parts fed by hand", serializer::large(alloc)?);
+    report(rt, "many elements and entries", accessors::large(alloc)?);
     report(rt, "a long line", line(alloc)?);
     report(rt, "a run over a long frame", run_of_frame(alloc)?);
     Ok(())
@@ -126,6 +135,18 @@ fn decoded(alloc: Global) -> Result<bool, Error> {
     Ok(to_vec(alloc, &value)? == bytes)
 }
 
+// A binary of a mebibyte where no element without bytes is granted, and as many nulls as take a
+// mebibyte, where all are granted and where one less is.
+fn within(alloc: Global) -> Result<bool, Error> {
+    let bytes = long_frame(alloc)?;
+    let value = decode_value_within(alloc, &bytes, 0)?;
+    let nulls = b"\xf0\0\0\0\x05\0\0\x80\0\x40";
+    let granted = decode_value_within(alloc, nulls, 32_768)?;
+    let refused = decode_value_within(alloc, nulls, 32_767);
+    let all = matches!(&granted, Value::Array(items) if items.as_inner().len() == 32_768);
+    Ok(all && refused == Err(Error::OutOfMemory) && to_vec(alloc, &value)? == bytes)
+}
+
 // An array of numbers of a mebibyte, decoded, and read as numbers.
 fn read(alloc: Global) -> Result<bool, Error> {
     let numbers = Array::from(Vec::from_elem(alloc, 7u32, 262_144)?);
@@ -139,6 +160,12 @@ fn lazy(alloc: Global) -> Result<bool, Error> {
     let held = LazyValue::from_reader(alloc, &mut SliceReader::new(&bytes))?;
     let read: LazyValue = from_value(alloc, to_value(alloc, &held)?)?;
     Ok(read == held)
+}
+
+fn held(alloc: Global) -> Result<bool, Error> {
+    let binary = ByteBuf::from(Vec::from_elem(alloc, 1u8, MEBIBYTE)?);
+    let held = to_lazy_value(alloc, &binary)?;
+    Ok(held.as_slice() == long_frame(alloc)?.as_slice())
 }
 
 fn line(alloc: Global) -> Result<bool, Error> {

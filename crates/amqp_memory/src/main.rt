@@ -2,8 +2,8 @@
 //!
 //! It is run once for each request for memory, with that request refused: the call that asked must
 //! answer out of memory, and the program then ends with status 1. Any other answer shows, as other
-//! output or another text. The first argument names one part alone: `calls`, `lengths`, `large`, or
-//! `none`, whose calls take no memory.
+//! output or another text. The first argument names one part alone: `calls`, `lengths`, `deep`,
+//! `large`, or `none`, whose calls take no memory.
 //!
 //! Each public call that takes memory stands in this table, with the line that is printed once it
 //! was made; `tools/memory` looks for others.
@@ -53,6 +53,7 @@ mod again;
 mod calls;
 mod composites;
 mod conversions;
+mod deep;
 mod large;
 mod lazy;
 mod lengths;
@@ -97,6 +98,9 @@ fn make(rt: &(impl Print + AllocGlobal), part: &[u8]) -> Result<(), Error> {
     if part.is_empty() || part == b"lengths".as_slice() {
         lengths::all(rt)?;
         refused::all(rt)?;
+    }
+    if part.is_empty() || part == b"deep".as_slice() {
+        deep::all(rt)?;
     }
     if part.is_empty() || part == b"large".as_slice() {
         large::all(rt)?;

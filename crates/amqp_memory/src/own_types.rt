@@ -1,6 +1,7 @@
 //! Types of one's own, which are read out of untyped values: each once, with what they must answer.
 
 use crate::conversions::pairs;
+use crate::large::MEBIBYTE;
 use amqp_data::{Array, Described, Descriptor, Error, OrderedMap, Symbol, TransparentVec};
 use amqp_decode::{decode_value, decode_value_within};
 use amqp_from_value::from_value;
@@ -10,6 +11,7 @@ use amqp_value::Value;
 use example_reading::{Calibration, Day, Limits, Position, Rain, Sky, Title};
 use std::alloc::Global;
 use std::collections::BTreeMap;
+use std::str;
 
 /// Writes and reads each type once.
 ///
@@ -117,4 +119,26 @@ pub fn large(alloc: Global) -> Result<bool, Error> {
     let numbers = Vec::from_elem(alloc, 7u32, 262_144)?;
     let map = pairs(alloc)?;
     Ok(restored(alloc, &numbers)? == numbers && restored(alloc, &map)? == map)
+}
+
+/// Writes and reads types of one's own with a text of a mebibyte, and with 20,000 pairs.
+///
+/// # Errors
+/// `OutOfMemory` where a request for memory is refused; any other is a wrong answer.
+pub fn large_composites(alloc: Global) -> Result<bool, Error> {
+    let bytes = Vec::from_elem(alloc, b'a', MEBIBYTE)?;
+    let Ok(text) = str::from_utf8(&bytes) else {
+        return Ok(false);
+    };
+    let title = Title(String::from_str(alloc, text)?);
+    let mut hours = BTreeMap::new(alloc);
+    for hour in 0..20_000u32 {
+        drop(hours.insert(hour, -150)?);
+    }
+    let day = Day {
+        light: [5, 21],
+        station: Symbol::try_from_str(alloc, text)?,
+        hours,
+    };
+    Ok(restored(alloc, &title)? == title && restored(alloc, &day)? == day)
 }

@@ -1,6 +1,6 @@
 //! Worked rows of enums: from an index, a list and a map.
 
-use super::{list, map};
+use super::{list, map, string};
 use amqp_data::Error;
 use amqp_de::{EnumOf, Never, OneOf, Seed, named, variant, variants};
 use amqp_from_value::Deserializer;
@@ -32,6 +32,8 @@ fn newtype_variants(rt: HostRuntime) -> Result<(), Fail> {
     );
     let more = list(alloc, [Value::Uint(1), Value::Ulong(13), Value::Null])?;
     assert!(rt; matches!(sample(alloc, more), Ok(variant!(1, 13))));
+    let two = list(alloc, [Value::Uint(1), Value::Ulong(13)])?;
+    assert!(rt; matches!(sample(alloc, two), Ok(variant!(1, 13))));
     let entry = map(alloc, [(Value::Uint(1), Value::Ulong(13))])?;
     assert!(rt; matches!(sample(alloc, entry), Ok(variant!(1, 13))));
     Ok(())
@@ -100,6 +102,38 @@ fn variants_of_fields(rt: HostRuntime) -> Result<(), Fail> {
     let fields = list(alloc, [Value::Int(13), text])?;
     match sample(alloc, list(alloc, [Value::Uint(3), fields])?)? {
         variant!(3, (13, (text, ()))) => assert_eq!(rt; text.as_str(), "amqp"),
+        _ => panic!(rt; "no tuple variant"),
+    }
+    Ok(())
+}
+
+type Small = OneOf<(), OneOf<(i32, (String, ())), Never>>;
+
+// A unit variant and a tuple variant.
+fn small(alloc: Global, value: Value) -> Result<Small, Error> {
+    EnumOf(variants! { unit, named! { "0", "1" } }).read(alloc, Deserializer::new(alloc, value))
+}
+
+#[test]
+fn a_tuple_variant_of_two(rt: HostRuntime) -> Result<(), Fail> {
+    let alloc = rt.alloc();
+    let alone = list(alloc, [Value::Uint(1)])?;
+    assert!(rt;
+        matches!(
+            small(alloc, alone),
+            Err(Error::Message("Expecting Value::List"))
+        )
+    );
+    let other = list(alloc, [Value::Uint(1), Value::Int(5)])?;
+    assert!(rt; matches!(small(alloc, other), Err(Error::InvalidValue)));
+    let fields = list(alloc, [Value::Int(13), string(alloc, "amqp")?])?;
+    match small(alloc, list(alloc, [Value::Uint(1), fields])?)? {
+        variant!(1, (13, (text, ()))) => assert_eq!(rt; text.as_str(), "amqp"),
+        _ => panic!(rt; "no tuple variant"),
+    }
+    let fields = list(alloc, [Value::Int(13), string(alloc, "amqp")?])?;
+    match small(alloc, map(alloc, [(Value::Uint(1), fields)])?)? {
+        variant!(1, (13, (text, ()))) => assert_eq!(rt; text.as_str(), "amqp"),
         _ => panic!(rt; "no tuple variant"),
     }
     Ok(())

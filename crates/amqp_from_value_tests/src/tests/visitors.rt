@@ -1,11 +1,14 @@
 //! Types that are read by a visitor, and which visit each value comes by.
 
-ghost use Rattle.std.specs.Prelude.{◌≡◌, List, [], ◌∷◌};
-ghost use Rattle.amqp_ser.specs.Tree.{Tree, scalar, uint, list, trees_of};
-ghost use Rattle.amqp_de.specs.Events.{seq_event, visit_of, ByList};
+ghost use Rattle.std.specs.Prelude.{◌≡◌, ◌⊎◌, ℕ, List, [], ◌∷◌, Option, string_bytes};
+ghost use Rattle.amqp_data.specs.Text.{symbol_text};
+ghost use Rattle.amqp_ser.specs.Carried.{descriptor_content};
+ghost use Rattle.amqp_ser.specs.Tree.{Tree, scalar, uint, string, symbol, list, trees_of};
+ghost use Rattle.amqp_de.specs.Events.{seq_event, map_event, enum_event, described_event, visit_of, ByList};
+ghost use Rattle.amqp_de.specs.Fields.{There};
 ghost use Rattle.amqp_de.specs.Reads.{Always};
 
-use super::{array, list};
+use super::{array, list, map, string};
 use amqp_data::{Described, Descriptor, Error, OrderedMap, Symbol};
 use amqp_de::EnumAccessOf;
 use amqp_de::de::{
@@ -66,6 +69,155 @@ impl Deserialize for Point {
 
     fn deserialize<D: de::Deserializer>(alloc: Global, deserializer: D) -> Result<Point, D::Error> {
         deserializer.deserialize_seq(PointVisitor { alloc })
+    }
+}
+
+/// A light that is off, or on and so bright.
+#[derive(Debug, PartialEq, Drop)]
+enum Light {
+    Off,
+    On(u32),
+}
+
+#[derive(Drop)]
+struct LightVisitor {
+    alloc: Global,
+}
+
+impl Visitor for LightVisitor {
+    ghost use Rattle.amqp_from_value_tests.specs.declared.tests.visitors.Light.TheVariants as light;
+
+    type Value = Light;
+
+    ghost gives = { λ _ e x.
+        ((d : Option Tree) × (e ≡ enum_event (scalar (uint 0)) d) × (x ≡ light.Off))
+        ⊎ ((n : ℕ) × (d : Option Tree) × (e ≡ enum_event (scalar (uint 1)) d)
+        × There ⟦<u32 as Deserialize>⟧.reads d n × (x ≡ light.On n)) };
+
+    ghost stands = { λ _ _ _. ⊥ };
+
+    ghost same = { λ x y. x ≡ y };
+
+    fn refuses(&self, visit: Visit) -> bool {
+        !matches!(visit, Visit::Enum)
+    }
+
+    fn visit_enum<A: EnumAccess>(self, variant: A) -> Result<Light, A::Error> {
+        let (index, content) = variant.variant::<u32>(self.alloc)?;
+        match index {
+            0 => {
+                content.unit_variant()?;
+                Ok(Light::Off)
+            }
+            1 => Ok(Light::On(content.newtype_variant(self.alloc)?)),
+            _ => Err(A::Error::invalid()),
+        }
+    }
+}
+
+fn read_light(alloc: Global, value: Value) -> Result<Light, Error> {
+    Deserializer::new(alloc, value).deserialize_enum("Light", LightVisitor { alloc })
+}
+
+/// Reads the name of a variant.
+#[derive(Drop)]
+struct NameVisitor {
+    alloc: Global,
+}
+
+impl Visitor for NameVisitor {
+    type Value = Symbol;
+
+    ghost gives = { λ _ e name. (d : Option Tree)
+        × (e ≡ enum_event (scalar (symbol (symbol_text name))) d) };
+
+    ghost stands = { λ _ _ _. ⊥ };
+
+    ghost same = { λ x y. x ≡ y };
+
+    fn refuses(&self, visit: Visit) -> bool {
+        !matches!(visit, Visit::Enum)
+    }
+
+    fn visit_enum<A: EnumAccess>(self, variant: A) -> Result<Symbol, A::Error> {
+        let (name, _content) = variant.variant::<Symbol>(self.alloc)?;
+        Ok(name)
+    }
+}
+
+fn read_name(alloc: Global, value: Value) -> Result<Symbol, Error> {
+    Deserializer::new(alloc, value).deserialize_enum("Light", NameVisitor { alloc })
+}
+
+/// A field with its name, which stands in a map.
+#[derive(Debug, PartialEq, Drop)]
+struct Named {
+    name: String,
+    number: u32,
+}
+
+#[derive(Drop)]
+struct NamedVisitor {
+    alloc: Global,
+}
+
+impl Visitor for NamedVisitor {
+    type Value = Named;
+
+    ghost gives = { λ _ e x. (es : List (Tree × Tree))
+        × (e ≡ map_event
+        ((scalar (string (string_bytes x.name)), scalar (uint x.number)) ∷ es)) };
+
+    ghost stands = { λ _ _ _. ⊥ };
+
+    ghost same = { λ x y. x ≡ y };
+
+    fn refuses(&self, visit: Visit) -> bool {
+        !matches!(visit, Visit::Map)
+    }
+
+    fn visit_map<A: MapAccess>(self, mut entries: A) -> Result<Named, A::Error> {
+        let Some((name, number)) = entries.next_entry(self.alloc)? else {
+            return Err(A::Error::invalid());
+        };
+        Ok(Named { name, number })
+    }
+}
+
+/// A point after a descriptor.
+#[derive(Debug, PartialEq, Drop)]
+struct Placed {
+    descriptor: Descriptor,
+    point: Point,
+}
+
+#[derive(Drop)]
+struct PlacedVisitor {
+    alloc: Global,
+}
+
+impl Visitor for PlacedVisitor {
+    type Value = Placed;
+
+    ghost gives = { λ _ e x. (t : Tree)
+        × (e ≡ described_event (descriptor_content x.descriptor) t)
+        × ⟦<Point as Deserialize>⟧.reads t x.point };
+
+    ghost stands = { λ _ _ _. ⊥ };
+
+    ghost same = { λ x y. x ≡ y };
+
+    fn refuses(&self, visit: Visit) -> bool {
+        !matches!(visit, Visit::Described)
+    }
+
+    fn visit_described<D: de::Deserializer>(
+        self,
+        descriptor: Descriptor,
+        deserializer: D,
+    ) -> Result<Placed, D::Error> {
+        let point = Point::deserialize(self.alloc, deserializer)?;
+        Ok(Placed { descriptor, point })
     }
 }
 
@@ -146,6 +298,70 @@ fn a_point_comes_from_a_list_of_two(rt: HostRuntime) -> Result<(), Fail> {
     assert_eq!(rt;
         from_value::<Point>(alloc, Value::Null),
         Err(Error::InvalidValue)
+    );
+    Ok(())
+}
+
+#[test]
+fn a_light_comes_from_its_index_or_a_list_or_a_map(rt: HostRuntime) -> Result<(), Fail> {
+    let alloc = rt.alloc();
+    assert_eq!(rt; read_light(alloc, Value::Uint(0)), Ok(Light::Off));
+    assert_eq!(rt;
+        read_light(alloc, Value::Uint(1)),
+        Err(Error::Message("Expecting a value"))
+    );
+    assert_eq!(rt; read_light(alloc, Value::Uint(2)), Err(Error::InvalidValue));
+    let listed = list(alloc, [Value::Uint(1), Value::Uint(5)])?;
+    assert_eq!(rt; read_light(alloc, listed), Ok(Light::On(5)));
+    let keyed = map(alloc, [(Value::Uint(1), Value::Uint(5))])?;
+    assert_eq!(rt; read_light(alloc, keyed), Ok(Light::On(5)));
+    assert_eq!(rt; read_light(alloc, symbol(alloc)?), Err(Error::InvalidValue));
+    Ok(())
+}
+
+#[test]
+fn a_variant_may_be_named_by_a_symbol(rt: HostRuntime) -> Result<(), Fail> {
+    let alloc = rt.alloc();
+    assert_eq!(rt; read_name(alloc, symbol(alloc)?)?.as_inner().as_str(), "k");
+    let listed = list(alloc, [symbol(alloc)?, Value::Uint(5)])?;
+    assert_eq!(rt; read_name(alloc, listed)?.as_inner().as_str(), "k");
+    let keyed = map(alloc, [(symbol(alloc)?, Value::Uint(5))])?;
+    assert_eq!(rt; read_name(alloc, keyed)?.as_inner().as_str(), "k");
+    assert_eq!(rt; read_name(alloc, Value::Uint(0)), Err(Error::InvalidValue));
+    assert_eq!(rt;
+        read_name(alloc, string(alloc, "k")?),
+        Err(Error::InvalidValue)
+    );
+    Ok(())
+}
+
+#[test]
+fn composites_come_from_a_map_or_after_a_descriptor(rt: HostRuntime) -> Result<(), Fail> {
+    let alloc = rt.alloc();
+    let fields = map(alloc, [(string(alloc, "x")?, Value::Uint(1))])?;
+    let named = Named {
+        name: String::from_str(alloc, "x")?,
+        number: 1,
+    };
+    assert_eq!(rt;
+        Deserializer::new(alloc, fields).deserialize_map(NamedVisitor { alloc }),
+        Ok(named)
+    );
+    let described = Described {
+        descriptor: Descriptor::Code(0x13),
+        value: list(alloc, [Value::Uint(1), Value::Uint(2)])?,
+    };
+    let value = Value::Described(Box::new(alloc, described)?);
+    let placed = Placed {
+        descriptor: Descriptor::Code(0x13),
+        point: Point { x: 1, y: 2 },
+    };
+    assert_eq!(rt;
+        Deserializer::new(alloc, value).deserialize_struct(
+            "__DESCRIBED_LIST",
+            PlacedVisitor { alloc }
+        ),
+        Ok(placed)
     );
     Ok(())
 }

@@ -1,7 +1,12 @@
 //! Each item that is handed out, by its path: an alias of another module would have another type or
 //! another answer.
 
-ghost use Rattle.std.specs.Prelude.{ℕ, List};
+ghost use Rattle.std.specs.Prelude.{◌≡◌, ◌≤◌, ℕ, IfOk, List, Some};
+ghost use Rattle.amqp_decode.specs.Depth.{IsOrdinary, depth_of};
+ghost use Rattle.amqp_ser.specs.Ranged.{IsRanged};
+ghost use Rattle.amqp_ser.specs.Tree.{Tree};
+ghost use Rattle.amqp_value.specs.Image.{image};
+ghost use Rattle.amqp_value.specs.TreeOf.{tree_of};
 ghost use Rattle.serde_amqp.specs.Lines.{AreLines, lines_of};
 
 use super::rows::decoded;
@@ -11,7 +16,7 @@ use serde_amqp::ser::{
 };
 use serde_amqp::{
     Error, Value, decode, described, descriptor, extensions, format_code, laws, lazy, primitives,
-    read, ser, size_ser, value,
+    read, ser, size_ser, to_value, value,
 };
 use std::alloc::Global;
 use std::process::Abort;
@@ -112,6 +117,25 @@ fn bytes_tell_values() {
     laws::lazy_values_have_the_image_of_what_they_hold();
     laws::same_bytes_exactly_where_one_image();
     decode::laws::one_tree();
+}
+
+// What the value's bytes spell has the image of the value's tree.
+fn inside<T: Serialize>(alloc: Global, v: &T) -> Result<Value, Error>
+    ensures { IfOk result (λ w. (t : Tree) → T.tree v.now ≡ Some t → IsRanged t → IsOrdinary t →
+        depth_of t ≤ 256 → tree_of w ≡ image t) }
+{
+    let held = ser::to_lazy_value(alloc, v)?;
+    let inner = to_value(alloc, &held)?;
+    laws::lazy_values_have_the_image_of_what_they_hold();
+    Ok(inner)
+}
+
+#[test]
+fn what_a_lazy_value_holds_comes_back(rt: HostRuntime) -> Result<(), Fail> {
+    let a = rt.alloc();
+    let list = Value::List(vec![in a; Value::Ubyte(1), Value::Null]?);
+    assert!(rt; inside(a, &list)? == list);
+    Ok(())
 }
 
 #[test]

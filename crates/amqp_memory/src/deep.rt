@@ -1,0 +1,85 @@
+//! Deep and wide encoded values, as an enemy would send them: what is deeper than 256 levels is
+//! refused, and what is read takes no request for much more than its bytes, also where each request
+//! for more is refused.
+
+use crate::large::MEBIBYTE;
+use crate::report::report;
+use amqp_data::Error;
+use amqp_decode::decode_value;
+use amqp_value::Value;
+use std::alloc::{AllocError, Global};
+
+/// Makes each call once.
+///
+/// # Errors
+/// `OutOfMemory` where a request for memory is refused; any other is a wrong answer.
+pub fn all(rt: &(impl Print + AllocGlobal)) -> Result<(), Error> {
+    let alloc = rt.alloc();
+    report(rt, "a list 100,000 deep", deep_list(alloc)?);
+    report(rt, "a mebibyte within arrays", within_arrays(alloc)?);
+    report(rt, "a mebibyte of arrays", of_arrays(alloc)?);
+    Ok(())
+}
+
+fn deep_list(alloc: Global) -> Result<bool, Error> {
+    let bytes = nested_lists(alloc, 100_000)?;
+    is_invalid(decode_value(alloc, &bytes))
+}
+
+// 255 arrays around a binary are read, and 256 are not.
+fn within_arrays(alloc: Global) -> Result<bool, Error> {
+    let bytes = nested_arrays(alloc, 255)?;
+    let read = decode_value(alloc, &bytes)?;
+    let deeper = nested_arrays(alloc, 256)?;
+    Ok(read.format_code() == 0xf0 && is_invalid(decode_value(alloc, &deeper))?)
+}
+
+// 262,000 arrays of the ubyte 7, side by side.
+fn of_arrays(alloc: Global) -> Result<bool, Error> {
+    let mut bytes = vec![in alloc; 0xf0, 0, 0x0f, 0xfd, 0xc5, 0, 3, 0xff, 0x70, 0xe0]?;
+    for _ in 0..262_000u32 {
+        bytes.extend_from_slice(&[3, 1, 0x50, 7])?;
+    }
+    let read = decode_value(alloc, &bytes)?;
+    Ok(matches!(&read, Value::Array(arrays) if arrays.as_inner().len() == 262_000))
+}
+
+// Whether the answer is invalid; out of memory is passed on.
+fn is_invalid(answer: Result<Value, Error>) -> Result<bool, Error> {
+    match answer {
+        Err(Error::InvalidValue) => Ok(true),
+        Err(Error::OutOfMemory) => Err(Error::OutOfMemory),
+        _ => Ok(false),
+    }
+}
+
+// The empty list inside so many lists, each spelled with sizes of four bytes.
+fn nested_lists(alloc: Global, depth: u32) -> Result<Vec<u8>, AllocError> {
+    let mut bytes = Vec::new(alloc);
+    for outer in 0..depth {
+        let size = 5u32.wrapping_add(depth.wrapping_sub(outer).wrapping_sub(1).wrapping_mul(9));
+        bytes.push(0xd0)?;
+        bytes.extend_from_slice(&size.to_be_bytes())?;
+        bytes.extend_from_slice(&[0, 0, 0, 1])?;
+    }
+    bytes.push(0x45)?;
+    Ok(bytes)
+}
+
+// A binary of a mebibyte inside so many arrays of one element.
+fn nested_arrays(alloc: Global, depth: u32) -> Result<Vec<u8>, AllocError> {
+    let len = 1_048_576u32;
+    let mut bytes = Vec::new(alloc);
+    bytes.push(0xf0)?;
+    for outer in 1..depth {
+        let inside = depth.wrapping_sub(outer).wrapping_mul(9);
+        let size = len.wrapping_add(9).wrapping_add(inside);
+        bytes.extend_from_slice(&size.to_be_bytes())?;
+        bytes.extend_from_slice(&[0, 0, 0, 1, 0xf0])?;
+    }
+    bytes.extend_from_slice(&len.wrapping_add(9).to_be_bytes())?;
+    bytes.extend_from_slice(&[0, 0, 0, 1, 0xb0])?;
+    bytes.extend_from_slice(&len.to_be_bytes())?;
+    bytes.extend_from_slice(&Vec::from_elem(alloc, 1, MEBIBYTE)?)?;
+    Ok(bytes)
+}
