@@ -1,10 +1,9 @@
 //! Types that are read by a visitor, and which visit each value comes by.
 
-ghost use Rattle.std.specs.Prelude.{◌≡◌, ◌⊎◌, ℕ, List, [], ◌∷◌, Option, string_bytes};
+ghost use Rattle.std.specs.Prelude.{◌≡◌, ◌⊎◌, ℕ, List, [], ◌∷◌, Option};
 ghost use Rattle.amqp_data.specs.Text.{symbol_text};
-ghost use Rattle.amqp_ser.specs.Carried.{descriptor_content};
-ghost use Rattle.amqp_ser.specs.Tree.{Tree, scalar, uint, string, symbol, list, trees_of};
-ghost use Rattle.amqp_de.specs.Events.{seq_event, map_event, enum_event, described_event, visit_of, ByList};
+ghost use Rattle.amqp_ser.specs.Tree.{Tree, scalar, uint, symbol, list, trees_of};
+ghost use Rattle.amqp_de.specs.Events.{seq_event, enum_event, visit_of, ByList};
 ghost use Rattle.amqp_de.specs.Fields.{There};
 ghost use Rattle.amqp_de.specs.Reads.{Always};
 
@@ -149,78 +148,6 @@ fn read_name(alloc: Global, value: Value) -> Result<Symbol, Error> {
     Deserializer::new(alloc, value).deserialize_enum("Light", NameVisitor { alloc })
 }
 
-/// A field with its name, which stands in a map.
-#[derive(Debug, PartialEq, Drop)]
-struct Named {
-    name: String,
-    number: u32,
-}
-
-#[derive(Drop)]
-struct NamedVisitor {
-    alloc: Global,
-}
-
-impl Visitor for NamedVisitor {
-    type Value = Named;
-
-    ghost gives = { λ _ e x. (es : List (Tree × Tree))
-        × (e ≡ map_event
-        ((scalar (string (string_bytes x.name)), scalar (uint x.number)) ∷ es)) };
-
-    ghost stands = { λ _ _ _. ⊥ };
-
-    ghost same = { λ x y. x ≡ y };
-
-    fn refuses(&self, visit: Visit) -> bool {
-        !matches!(visit, Visit::Map)
-    }
-
-    fn visit_map<A: MapAccess>(self, mut entries: A) -> Result<Named, A::Error> {
-        let Some((name, number)) = entries.next_entry(self.alloc)? else {
-            return Err(A::Error::invalid());
-        };
-        Ok(Named { name, number })
-    }
-}
-
-/// A point after a descriptor.
-#[derive(Debug, PartialEq, Drop)]
-struct Placed {
-    descriptor: Descriptor,
-    point: Point,
-}
-
-#[derive(Drop)]
-struct PlacedVisitor {
-    alloc: Global,
-}
-
-impl Visitor for PlacedVisitor {
-    type Value = Placed;
-
-    ghost gives = { λ _ e x. (t : Tree)
-        × (e ≡ described_event (descriptor_content x.descriptor) t)
-        × ⟦<Point as Deserialize>⟧.reads t x.point };
-
-    ghost stands = { λ _ _ _. ⊥ };
-
-    ghost same = { λ x y. x ≡ y };
-
-    fn refuses(&self, visit: Visit) -> bool {
-        !matches!(visit, Visit::Described)
-    }
-
-    fn visit_described<D: de::Deserializer>(
-        self,
-        descriptor: Descriptor,
-        deserializer: D,
-    ) -> Result<Placed, D::Error> {
-        let point = Point::deserialize(self.alloc, deserializer)?;
-        Ok(Placed { descriptor, point })
-    }
-}
-
 /// Tells which visit it is shown a value by.
 #[derive(Drop)]
 struct Which;
@@ -331,37 +258,6 @@ fn a_variant_may_be_named_by_a_symbol(rt: HostRuntime) -> Result<(), Fail> {
     assert_eq!(rt;
         read_name(alloc, string(alloc, "k")?),
         Err(Error::InvalidValue)
-    );
-    Ok(())
-}
-
-#[test]
-fn composites_come_from_a_map_or_after_a_descriptor(rt: HostRuntime) -> Result<(), Fail> {
-    let alloc = rt.alloc();
-    let fields = map(alloc, [(string(alloc, "x")?, Value::Uint(1))])?;
-    let named = Named {
-        name: String::from_str(alloc, "x")?,
-        number: 1,
-    };
-    assert_eq!(rt;
-        Deserializer::new(alloc, fields).deserialize_map(NamedVisitor { alloc }),
-        Ok(named)
-    );
-    let described = Described {
-        descriptor: Descriptor::Code(0x13),
-        value: list(alloc, [Value::Uint(1), Value::Uint(2)])?,
-    };
-    let value = Value::Described(Box::new(alloc, described)?);
-    let placed = Placed {
-        descriptor: Descriptor::Code(0x13),
-        point: Point { x: 1, y: 2 },
-    };
-    assert_eq!(rt;
-        Deserializer::new(alloc, value).deserialize_struct(
-            "__DESCRIBED_LIST",
-            PlacedVisitor { alloc }
-        ),
-        Ok(placed)
     );
     Ok(())
 }
