@@ -7,7 +7,9 @@ ghost use Rattle.amqp_de.specs.Fields.{FieldSource, by_position, by_name, must, 
 ghost use Rattle.amqp_de.specs.Present.{EndsEarly, required, optional, those_there, distinct_names};
 ghost use Rattle.amqp_de.specs.Reads.{Always, RestorableOption, SameOption};
 
-use crate::de::{Deserialize, Deserializer, Refusal};
+use crate::deserialize::Deserialize;
+use crate::deserializer::Deserializer;
+use crate::refusal::Refusal;
 use std::alloc::Global;
 use std::marker::PhantomData;
 

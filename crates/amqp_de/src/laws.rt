@@ -8,7 +8,7 @@ ghost use Rattle.std.specs.declared.cmp.Ordering.TheVariants.{Equal};
 ghost use Rattle.amqp_data.specs.Pairs as pairs;
 ghost use Rattle.amqp_de.specs.Maps.{AreDistinct, Ascend};
 
-use crate::de::Deserialize;
+use crate::deserialize::Deserialize;
 use amqp_data::{ByteBuf, Symbol, Uuid};
 
 /// Distinct keys are distinct by their contents, where keys of the same contents are equal: of an

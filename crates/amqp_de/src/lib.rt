@@ -2,6 +2,7 @@
 #![tactic(auto)]
 
 mod access;
+mod composite;
 mod content;
 pub mod de;
 mod deserialize;
@@ -21,6 +22,7 @@ mod unwritable;
 mod visitor;
 
 pub use access::{ContentOf, ElementsOf, EntriesOf, EnumAccessOf};
+pub use composite::read_composite;
 pub use enums::{DataOr, EnumOf, Never, OneOf, UnitOr, Variants};
 pub use fields::{Fields, May, Must};
 pub use record::{Describes, Record, read, read_described};

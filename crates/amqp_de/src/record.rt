@@ -7,7 +7,9 @@ ghost use Rattle.amqp_ser.specs.Tree.{Descriptor, Descriptor as AnyDescriptor, c
 ghost use Rattle.amqp_de.specs.Answers.{PartsOf, RestoresParts};
 ghost use Rattle.amqp_de.specs.Fields.{OnDescribed};
 
-use crate::de::{Content, Deserializer, Refusal};
+use crate::content::Content;
+use crate::deserializer::Deserializer;
+use crate::refusal::Refusal;
 use crate::seed::Seed;
 use amqp_data::{Descriptor, SymbolRef};
 use std::alloc::Global;

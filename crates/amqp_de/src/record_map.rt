@@ -6,9 +6,11 @@ ghost use Rattle.amqp_de.specs.Answers.{PartsOf};
 ghost use Rattle.amqp_de.specs.Fields.{OnDescribed, OnNamed};
 ghost use Rattle.amqp_de.specs.Present.{short_map, distinct_names};
 
-use crate::de::{Content, Deserializer, Refusal};
+use crate::content::Content;
+use crate::deserializer::Deserializer;
 use crate::fields::Fields;
 use crate::record::{Describes, Record};
+use crate::refusal::Refusal;
 use crate::seed::{NamedOf, Seed};
 use std::alloc::Global;
 

@@ -6,8 +6,11 @@ ghost use Rattle.amqp_de.specs.Answers.{Answers, Restores};
 ghost use Rattle.amqp_de.specs.Fields.{OnFields, OnNamed};
 ghost use Rattle.amqp_de.specs.Present.{all_images, short_list, short_map, distinct_names};
 
-use crate::de::{Content, Deserialize, Deserializer, Refusal};
+use crate::content::Content;
+use crate::deserialize::Deserialize;
+use crate::deserializer::Deserializer;
 use crate::fields::Fields;
+use crate::refusal::Refusal;
 use std::alloc::Global;
 use std::marker::PhantomData;
 

@@ -2,7 +2,7 @@
 
 ghost use Rattle.std.specs.Prelude.{◌⊎◌, IsTrue};
 
-use crate::de::Refusal;
+use crate::refusal::Refusal;
 use amqp_data::{ByteBuf, F32Bits, F64Bits};
 
 /// The visits of a visitor, by what they show.

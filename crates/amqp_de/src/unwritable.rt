@@ -3,7 +3,7 @@
 ghost use Rattle.std.specs.Prelude.{◌≡◌, ◌↔◌};
 ghost use Rattle.amqp_data.specs.declared.error.Error.TheVariants.{OutOfMemory};
 
-use crate::de::Refusal;
+use crate::refusal::Refusal;
 use amqp_data::Error;
 
 /// What a call that writes refused with.

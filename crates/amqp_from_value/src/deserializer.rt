@@ -1,12 +1,12 @@
 //! The deserializer of a `Value`.
 
-ghost use Rattle.std.specs.Prelude.{◌≡◌, map, position};
+ghost use Rattle.std.specs.Prelude.{◌≡◌, map};
 ghost use Rattle.amqp_data.specs.declared.error.Error.TheVariants.{OutOfMemory};
 ghost use Rattle.amqp_data.specs.Pairs.{entries_of};
 ghost use Rattle.amqp_value.specs.TreeOf.{tree_of};
 ghost use Rattle.amqp_de.specs.Answers.{Answers, Restores};
-ghost use Rattle.amqp_de.specs.Fields.{is_name};
 
+use crate::key_of_name::find;
 use amqp_data::{Error, OrderedMap};
 use amqp_de::de::{self, Content, Deserialize};
 use amqp_value::Value;
@@ -202,23 +202,6 @@ impl de::Deserializer for Deserializer {
             None => None,
         }
     }
-}
-
-/// Whether the key is the string of this name.
-fn is_name(key: &Value, name: &str) -> bool
-    ensures { result ≡ is_name name.now (tree_of key.now) }
-{
-    match key {
-        Value::String(text) => text.as_str() == name,
-        _ => false,
-    }
-}
-
-/// The place of the first key that is the string of this name.
-fn find(pairs: &VecDeque<(Value, Value)>, name: &str) -> Option<usize>
-    ensures { result ≡ position (λ e. is_name name.now (tree_of e.0)) pairs.now.items }
-{
-    pairs.iter().position(|pair| is_name(&pair.0, name))
 }
 
 /// Reads a `T` out of the value.

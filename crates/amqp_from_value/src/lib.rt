@@ -6,6 +6,7 @@
 
 mod access;
 mod deserializer;
+mod key_of_name;
 
 pub use access::{MapAccess, SeqAccess, VariantAccess};
 pub use deserializer::{Deserializer, Elements, Entries, from_value};

@@ -22,7 +22,7 @@
 //! | decoded values, types of one's own | `decode_value`, `decode_value_within` |
 //! | images, decoded values | `Gathered::new`, `Gathered::into_value` |
 //! | types out of values, lazy values | `from_value`, `Deserializer::new` |
-//! | types of one's own | `restored`, `read`, `read_described`, `Of::read`, `ListOf::read`, `NamedOf::read` |
+//! | types of one's own | `restored`, `read`, `read_composite`, `read_described`, `Of::read`, `ListOf::read`, `NamedOf::read` |
 //! | the same | `read_map`, `read_described_map` |
 //! | the same | `Fields::read_elements`, `Must::read_elements`, `May::read_elements`, `Elements::new` |
 //! | the same | `Fields::read_entries`, `Must::read_entries`, `May::read_entries`, `Entries::new`, `Seed::read` |

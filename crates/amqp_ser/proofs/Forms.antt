@@ -47,15 +47,15 @@ array_IsForm n content = if_form (is_short (length content) && nat_le n 255) _ _
 same : {A : Type 0} {a b : A} → Some a ≡ Some b → a ≡ b
 same h = cc
 
-pub con_IsForm : (t : Tree) (c : ℕ) → constructor t ≡ Some c → IsForm c (payload t) (encoding t)
-con_IsForm (scalar s) c h = subst (λ k. IsForm k (scalar_payload s) (scalar_form s)) (same h) (scalar_IsForm s)
-con_IsForm (list ts) c h = subst (λ k. IsForm k (payload (list ts)) (encoding (list ts))) (same h) (list_IsForm (count ts) (encoding_each ts))
-con_IsForm (array ts) c h = subst (λ k. IsForm k (payload (array ts)) (encoding (array ts))) (same h) (array_IsForm (count ts) (array_constructor ts ++ payload_each ts))
-con_IsForm (map ps) c h = subst (λ k. IsForm k (payload (map ps)) (encoding (map ps))) (same h) (counted_IsForm 0xc1 0xd1 (pair_count ps * 2) (encoding_pairs ps))
-con_IsForm (described d t) c h = cc
-con_IsForm (variant i t) c h = subst (λ k. IsForm k (payload (variant i t)) (encoding (variant i t))) (same h) (counted_IsForm 0xc1 0xd1 2 (scalar_form (uint i) ++ encoding t))
-con_IsForm (lazy bs) c h = cc
-con_IsForm (transparent ts) c h = cc
+pub tree_IsForm : (t : Tree) (c : ℕ) → constructor t ≡ Some c → IsForm c (payload t) (encoding t)
+tree_IsForm (scalar s) c h = subst (λ k. IsForm k (scalar_payload s) (scalar_form s)) (same h) (scalar_IsForm s)
+tree_IsForm (list ts) c h = subst (λ k. IsForm k (payload (list ts)) (encoding (list ts))) (same h) (list_IsForm (count ts) (encoding_each ts))
+tree_IsForm (array ts) c h = subst (λ k. IsForm k (payload (array ts)) (encoding (array ts))) (same h) (array_IsForm (count ts) (array_constructor ts ++ payload_each ts))
+tree_IsForm (map ps) c h = subst (λ k. IsForm k (payload (map ps)) (encoding (map ps))) (same h) (counted_IsForm 0xc1 0xd1 (pair_count ps * 2) (encoding_pairs ps))
+tree_IsForm (described d t) c h = cc
+tree_IsForm (variant i t) c h = subst (λ k. IsForm k (payload (variant i t)) (encoding (variant i t))) (same h) (counted_IsForm 0xc1 0xd1 2 (scalar_form (uint i) ++ encoding t))
+tree_IsForm (lazy bs) c h = cc
+tree_IsForm (transparent ts) c h = cc
 
 pub one_form : (s : Scalar) → has_one_form s ≡ true → scalar_form s ≡ scalar_code s ∷ scalar_payload s
 one_form null h = refl

@@ -1,7 +1,6 @@
 //! The fields of a struct, handed over together.
 
-ghost use Rattle.std.specs.Prelude.{◌≡◌, ◌∷◌, [], ℕ, List, Option, Bool, true, is_some};
-ghost use Rattle.amqp_ser.specs.Carried.{optional};
+ghost use Rattle.std.specs.Prelude.{◌≡◌, ◌∷◌, [], ℕ, List, Option, Bool, true};
 ghost use Rattle.amqp_ser.specs.Tree.{Tree};
 ghost use Rattle.amqp_ser.specs.Feeding.{Feeds, FeedsAll};
 ghost use Rattle.amqp_ser.specs.Named.{any_there, named_parts, key_of, up_to_last, values_of};
@@ -76,7 +75,7 @@ pub trait Fields {
 
 /// Feeds a compound a field's name.
 #[inline(always)]
-fn feed_key<S: Serializer>(
+pub(crate) fn feed_key<S: Serializer>(
     serializer: &mut S,
     held: &mut S::Open,
     keys: Keys,
@@ -94,7 +93,7 @@ fn feed_key<S: Serializer>(
 
 /// Feeds a compound a value, and then each further field's name and the field.
 #[inline(always)]
-fn feed_value<S: Serializer, V: Serialize, R: Fields>(
+pub(crate) fn feed_value<S: Serializer, V: Serialize, R: Fields>(
     serializer: &mut S,
     held: &mut S::Open,
     keys: Keys,
@@ -174,55 +173,5 @@ impl<V: Serialize, R: Fields> Fields for Field<'_, V, R> {
     ) -> Result<(), S::Error> {
         feed_key(&mut *serializer, &mut *held, keys, self.name)?;
         feed_value(serializer, held, keys, &self.value, &self.rest)
-    }
-}
-
-/// A field that may be absent, and those after it.
-///
-/// # Example
-/// In `fields! { "x"?: &x, "y": true }` an `x` that is `None` is `40` in a list and nothing in a
-/// map; `Some(1u8)` is `5001` and, in a map from strings, `a101785001`.
-#[derive(Drop)]
-pub struct OptionalField<'a, V, R> {
-    /// The field's name.
-    pub name: &'a str,
-    /// The field.
-    pub value: &'a Option<V>,
-    /// The fields after it; `()` for none.
-    pub rest: R,
-}
-
-impl<V: Serialize, R: Fields> Fields for OptionalField<'_, V, R> {
-    ghost named = { λ f. (f.name.now, (is_some f.value.now, optional V.tree f.value.now))
-        ∷ R.named f.rest };
-
-    #[inline(always)]
-    fn any_there(&self) -> bool {
-        self.value.is_some() || self.rest.any_there()
-    }
-
-    #[inline(always)]
-    fn feed<S: Serializer>(&self, serializer: &mut S, held: &mut S::Open) -> Result<(), S::Error> {
-        if !self.any_there() {
-            return Ok(());
-        }
-        feed_part(&mut *serializer, &mut *held, self.value)?;
-        self.rest.feed(serializer, held)
-    }
-
-    #[inline(always)]
-    fn feed_named<S: Serializer>(
-        &self,
-        serializer: &mut S,
-        held: &mut S::Open,
-        keys: Keys,
-    ) -> Result<(), S::Error> {
-        match self.value {
-            None => self.rest.feed_named(serializer, held, keys),
-            Some(value) => {
-                feed_key(&mut *serializer, &mut *held, keys, self.name)?;
-                feed_value(serializer, held, keys, value, &self.rest)
-            }
-        }
     }
 }

@@ -15,6 +15,7 @@ mod kind;
 pub mod laws;
 mod mark;
 mod names;
+mod optional_field;
 mod serialize;
 mod serializer;
 mod struct_form;
@@ -24,10 +25,11 @@ pub use compound::{
     SerializeMap, SerializeSeq, SerializeStruct, SerializeStructVariant, SerializeTuple,
     SerializeTupleStruct, SerializeTupleVariant,
 };
-pub use fields::{Field, Fields, Keys, OptionalField};
+pub use fields::{Field, Fields, Keys};
 pub use fixed::Fixed;
 pub use kind::Kind;
 pub use mark::{Mark, mark_named};
+pub use optional_field::OptionalField;
 pub use serialize::Serialize;
 pub use serializer::Serializer;
 pub use struct_form::StructForm;

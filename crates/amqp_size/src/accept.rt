@@ -1,50 +1,21 @@
 //! The answers on trees, by where they stand.
 
-ghost use Rattle.std.specs.Prelude.{◌≡◌, ◌+◌, ◌&&◌, ◌⊎◌, ℕ, List, Some, Err, MatchResult, is_some, true, false, length};
+ghost use Rattle.std.specs.Prelude.{◌≡◌, ◌+◌, ◌&&◌, ℕ, List, Some, Err, true, length};
 ghost use Rattle.amqp_ser.specs.Tree.{Tree, Trees, lazy, transparent};
-ghost use Rattle.amqp_ser.specs.Limits.{fits, is_length};
-ghost use Rattle.amqp_ser.specs.Composites.{descriptor_of};
+ghost use Rattle.amqp_ser.specs.Limits.{fits};
 ghost use Rattle.amqp_ser.specs.Encoding.{encoding, encoding_each, payload, constructor};
 ghost use Rattle.amqp_ser.specs.Writable.{uniform_arrays, uniform_arrays_each, within_limits, within_limits_each, inside, placed, placed_each};
 ghost use Rattle.amqp_size.specs.Width.{uint_width, text_width, map_width};
-ghost use Rattle.amqp_size.specs.Position.{position_of, without_prefix, takes_described};
+ghost use Rattle.amqp_size.specs.Position.{position_of, without_prefix};
 
+use crate::descriptor::{described_len, descriptor_len};
+use crate::limits::LONGEST;
 use crate::pending::Pending;
-use crate::position::{BasePosition, Position};
+use crate::position::Position;
 use crate::serializer::SizeSerializer;
 use crate::walk_error::WalkError;
-use crate::width::{LONGEST, map_width, text_width, uint_width};
+use crate::width::{map_width, text_width, uint_width};
 use amqp_data::EncodingCodes;
-
-/// The answer on a descriptor with this constructor and length: only a ulong or a symbol is one.
-fn descriptor_len(code: u8, ordinary: usize) -> Result<usize, WalkError>
-    ensures { (t : Tree) → constructor t ≡ Some code → MatchResult result
-        (λ n. (is_some (descriptor_of (Some t)) ≡ true) × (n ≡ ordinary))
-        (λ e. (is_some (descriptor_of (Some t)) ≡ false) × (e ≡ WalkError.InvalidValue)) }
-{
-    if code == EncodingCodes::Ulong as u8 || code == EncodingCodes::Sym32 as u8 {
-        Ok(ordinary)
-    } else {
-        Err(WalkError::InvalidValue)
-    }
-}
-
-/// The answer on the value after descriptors, with them.
-fn described_len(prefix_len: usize, base: BasePosition, ordinary: usize) -> Result<usize, WalkError>
-    ensures { MatchResult result
-        (λ n. (takes_described base ≡ true)
-        × ((is_length (prefix_len + ordinary) ≡ true) × (n ≡ prefix_len + ordinary)))
-        (λ e. ((e ≡ WalkError.TooLong) × (is_length (prefix_len + ordinary) ≡ false))
-        ⊎ ((e ≡ WalkError.InvalidValue) × (takes_described base ≡ false))) }
-{
-    if !base.takes_described() {
-        return Err(WalkError::InvalidValue);
-    }
-    match prefix_len.checked_add(ordinary) {
-        Some(whole) => Ok(whole),
-        None => Err(WalkError::TooLong),
-    }
-}
 
 impl SizeSerializer {
     ghost use Rattle.amqp_size.specs.WholePending.{Plain};

@@ -7,7 +7,9 @@
 
 mod accept;
 mod compounds;
+mod descriptor;
 mod form;
+mod limits;
 mod open_compound;
 mod pending;
 mod position;

@@ -3,11 +3,11 @@
 ghost use Rattle.std.specs.Prelude.{◌≡◌, ◌<◌, ◌+◌, ◌≤◌, ℕ, Some, true, false, MatchResult, IfOk, IfErr, if◌then◌else◌};
 ghost use Rattle.amqp_size.specs.Position.{limit_of};
 
+use crate::limits::{LONGEST, MOST};
 use crate::pending::Pending;
 use crate::position::Position;
 use crate::shape::Shape;
 use crate::walk_error::WalkError;
-use crate::width::{LONGEST, MOST};
 use std::marker::Model;
 
 /// A compound whose parts are still counted: how many bytes they have, and where the next one

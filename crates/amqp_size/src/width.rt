@@ -6,13 +6,9 @@ ghost use Rattle.std.specs.Prelude.{◌≡◌, ◌≤◌, ◌&&◌, ℕ, List, l
 ghost use Rattle.amqp_ser.specs.Limits.{fits, is_count};
 ghost use Rattle.amqp_size.specs.Width.{uint_width, text_width, map_width, list_width, array_width, text_at, list_at, map_at, array_at};
 
+use crate::limits::within_limit;
+pub use crate::limits::{LONGEST, MOST};
 use amqp_data::Error;
-
-/// The longest text, binary, list body, map body and array content, in bytes: 2^32 - 5.
-pub const LONGEST: usize = 4294967291;
-
-/// The most elements of an array: 2^32 - 1.
-pub const MOST: usize = 4294967295;
 
 /// The length of a uint by itself.
 pub fn uint_width(n: u32) -> usize
@@ -61,17 +57,6 @@ pub(crate) fn array_width(n: usize, count: usize) -> usize
     } else {
         n + 9
     }
-}
-
-/// A length that is within the limit of texts and bodies.
-fn within_limit(n: usize) -> Result<usize, Error>
-    ensures { MatchResult result (λ same. (fits n ≡ true) × (same ≡ n))
-        (λ e. (fits n ≡ false) × (e ≡ Error.TooLong)) }
-{
-    if n > LONGEST {
-        return Err(Error::TooLong);
-    }
-    Ok(n)
 }
 
 /// The length of a text, a symbol or a binary of this many bytes: the whole form, or the payload in

@@ -44,13 +44,13 @@ made_positions shape.Transparent h = refl
 made_positions shape.Single h = refl
 made_positions shape.Refused h = refl
 
-con_element : (o : Option ℕ) → element_constructor (element o) ≡ o
-con_element None = refl
-con_element (Some c) = refl
+constructor_of_element : (o : Option ℕ) → element_constructor (element o) ≡ o
+constructor_of_element None = refl
+constructor_of_element (Some c) = refl
 
-con_first : (ts : Trees) → element_constructor (first_position ts) ≡ first_constructor ts
-con_first no_trees = refl
-con_first (more t ts) = con_element (constructor t)
+constructor_of_first : (ts : Trees) → element_constructor (first_position ts) ≡ first_constructor ts
+constructor_of_first no_trees = refl
+constructor_of_first (more t ts) = constructor_of_element (constructor t)
 
 -- what was counted makes the headers
 pub made_right : (s : Shape) (ts : Trees) (n m : ℕ) (c : Option ℕ) → n ≡ length (content (is_array s) ts) → m ≡ count ts → c ≡ element_constructor (inner_of (is_array s) ts) → headers_from s (header n m c) ≡ compound_headers s ts
@@ -66,7 +66,7 @@ made_right (shape.NewtypeVariant i) ts n m c a b d =
     let l : uint_width i + n ≡ length (scalar_form (uint i) ++ encoding_each ts) = simp length-append (omega arith) in
     ap (λ x. header x 2 None ∷ []) l
 made_right shape.Array ts n m c a b d =
-    ap (λ x. header x m c ∷ []) a ∙ ap (λ x. header (length (content true ts)) x c ∷ []) b ∙ ap (λ x. header (length (content true ts)) (count ts) x ∷ []) (d ∙ con_first ts)
+    ap (λ x. header x m c ∷ []) a ∙ ap (λ x. header (length (content true ts)) x c ∷ []) b ∙ ap (λ x. header (length (content true ts)) (count ts) x ∷ []) (d ∙ constructor_of_first ts)
 made_right shape.Transparent ts n m c a b d = refl
 made_right shape.Single ts n m c a b d = refl
 made_right shape.Refused ts n m c a b d = refl

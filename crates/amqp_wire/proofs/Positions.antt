@@ -170,7 +170,7 @@ part_spoils u k ts p e after o b = go (shape_of u k) refl
 
 -- what such a compound is: its constructor, and that it may stand inside others
 pub record Whole (code : ℕ) (t : Tree) : Type 0 where
-  pub con_is : constructor t ≡ Some code
+  pub constructor_is : constructor t ≡ Some code
   pub uniform_arrays_it : uniform_arrays t ≡ true
   pub inside_it : inside t ≡ true
   pub placed_it : placed t ≡ true
@@ -190,7 +190,7 @@ ended_map ts t true q e h =
     let r = pairing ts q in
     let same : map r.pairs ≡ t = let w : Some (map r.pairs) ≡ Some t = sym (ap as_map r.are) ∙ e in cc in
     subst (Whole 0xd1) same (record {
-      con_is = refl;
+      constructor_is = refl;
       uniform_arrays_it = r.alike_too ∙ left_true (uniform_arrays_each ts) (inside_each ts) h;
       inside_it = r.inside_too ∙ right_true (uniform_arrays_each ts) (inside_each ts) h;
       placed_it = r.inside_too ∙ right_true (uniform_arrays_each ts) (inside_each ts) h;
@@ -206,7 +206,7 @@ ended_only i (more u no_trees) t e h =
     let same : variant i u ≡ t = cc in
     let a = left_true (uniform_arrays u) true (left_true (uniform_arrays u && true) (inside u && true) h) in
     let n = left_true (inside u) true (right_true (uniform_arrays u && true) (inside u && true) h) in
-    subst (Whole 0xd1) same (record { con_is = refl; uniform_arrays_it = a; inside_it = n; placed_it = n })
+    subst (Whole 0xd1) same (record { constructor_is = refl; uniform_arrays_it = a; inside_it = n; placed_it = n })
 ended_only i (more u (more v ts)) t e h = cc
 
 some_is : (t v : Tree) → Some t ≡ Some v → t ≡ v
@@ -216,16 +216,16 @@ pub is_not : {X : Type 0} (o : Option Tree) (t : Tree) → o ≡ None → o ≡ 
 is_not o t a b = let no : None ≡ Some t = sym a ∙ b in cc
 
 plain_list : (ts : Trees) → (uniform_arrays_each ts && inside_each ts) ≡ true → Whole 0xd0 (list ts)
-plain_list ts h = record { con_is = refl; uniform_arrays_it = left_true (uniform_arrays_each ts) (inside_each ts) h; inside_it = right_true (uniform_arrays_each ts) (inside_each ts) h; placed_it = right_true (uniform_arrays_each ts) (inside_each ts) h }
+plain_list ts h = record { constructor_is = refl; uniform_arrays_it = left_true (uniform_arrays_each ts) (inside_each ts) h; inside_it = right_true (uniform_arrays_each ts) (inside_each ts) h; placed_it = right_true (uniform_arrays_each ts) (inside_each ts) h }
 
 plain_fields : (i : ℕ) (ts : Trees) → (uniform_arrays_each ts && inside_each ts) ≡ true → Whole 0xd1 (variant i (list ts))
-plain_fields i ts h = record { con_is = refl; uniform_arrays_it = left_true (uniform_arrays_each ts) (inside_each ts) h; inside_it = right_true (uniform_arrays_each ts) (inside_each ts) h; placed_it = right_true (uniform_arrays_each ts) (inside_each ts) h }
+plain_fields i ts h = record { constructor_is = refl; uniform_arrays_it = left_true (uniform_arrays_each ts) (inside_each ts) h; inside_it = right_true (uniform_arrays_each ts) (inside_each ts) h; placed_it = right_true (uniform_arrays_each ts) (inside_each ts) h }
 
 plain_array : (ts : Trees) → (one_constructor ts && (uniform_arrays_each ts && inside_each ts)) ≡ true → Whole 0xf0 (array ts)
 plain_array ts h =
     let r = right_true (one_constructor ts) (uniform_arrays_each ts && inside_each ts) h in
     let n = right_true (uniform_arrays_each ts) (inside_each ts) r in
-    record { con_is = refl; uniform_arrays_it = both (one_constructor ts) (uniform_arrays_each ts) (left_true (one_constructor ts) (uniform_arrays_each ts && inside_each ts) h) (left_true (uniform_arrays_each ts) (inside_each ts) r); inside_it = n; placed_it = n }
+    record { constructor_is = refl; uniform_arrays_it = both (one_constructor ts) (uniform_arrays_each ts) (left_true (one_constructor ts) (uniform_arrays_each ts && inside_each ts) h) (left_true (uniform_arrays_each ts) (inside_each ts) r); inside_it = n; placed_it = n }
 
 pub whole_ended : (u : Pending) (k : Kind) (ts : Trees) (t : Tree) → is_single k ≡ false → meant u (as_kind k (Some ts)) ≡ Some t → suited_parts (shape_of u k) ts ≡ true → ended (shape_of u k) t
 whole_ended u kinds.Single ts t b e = cc

@@ -9,6 +9,6 @@ pub use amqp_de::de::{
 };
 pub use amqp_de::{
     ContentOf, DataOr, Describes, ElementsOf, EntriesOf, EnumAccessOf, EnumOf, Fields, ListOf, May,
-    Must, NamedOf, Never, Of, OneOf, Record, Seed, UnitOr, Variants, laws, read, read_described,
-    read_described_map, read_map,
+    Must, NamedOf, Never, Of, OneOf, Record, Seed, UnitOr, Variants, laws, read, read_composite,
+    read_described, read_described_map, read_map,
 };

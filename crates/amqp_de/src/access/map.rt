@@ -6,7 +6,9 @@ ghost use Rattle.amqp_de.specs.Access.{ReadsKey, ReadsValue, ReadsEntry, Restore
 ghost use Rattle.amqp_de.specs.Answers.{TakesPair};
 ghost use Rattle.amqp_de.specs.Enums.{value_of};
 
-use crate::de::{Deserialize, Deserializer, Refusal};
+use crate::deserialize::Deserialize;
+use crate::deserializer::Deserializer;
+use crate::refusal::Refusal;
 use crate::seed::{Of, Seed};
 use std::alloc::Global;
 use std::marker::PhantomData;

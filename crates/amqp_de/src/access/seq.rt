@@ -5,7 +5,9 @@ ghost use Rattle.amqp_ser.specs.Tree.{Tree};
 ghost use Rattle.amqp_de.specs.Access.{ReadsNext, RestoresNext};
 ghost use Rattle.amqp_de.specs.Answers.{TakesNext};
 
-use crate::de::{Deserialize, Deserializer, Refusal};
+use crate::deserialize::Deserialize;
+use crate::deserializer::Deserializer;
+use crate::refusal::Refusal;
 use crate::seed::{Of, Seed};
 use std::alloc::Global;
 use std::marker::PhantomData;

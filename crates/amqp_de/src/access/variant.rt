@@ -8,7 +8,9 @@ ghost use Rattle.amqp_de.specs.Enums.{value_of};
 ghost use Rattle.amqp_de.specs.Events.{ByList, Returns};
 ghost use Rattle.amqp_de.specs.Fields.{There};
 
-use crate::de::{Deserialize, Deserializer, Refusal};
+use crate::deserialize::Deserialize;
+use crate::deserializer::Deserializer;
+use crate::refusal::Refusal;
 use crate::seed::{Of, Seed};
 use crate::visitor::Visitor;
 use std::alloc::Global;

@@ -6,7 +6,9 @@ ghost use Rattle.amqp_de.specs.Answers.{Answers};
 ghost use Rattle.amqp_de.specs.Enums.{OnEnum, OnListed, OnKeyed, enum_image, value_of, AtIndex, index_of_tree};
 
 use super::variants::Variants;
-use crate::de::{Content, Deserializer, Refusal};
+use crate::content::Content;
+use crate::deserializer::Deserializer;
+use crate::refusal::Refusal;
 use crate::seed::Seed;
 use std::alloc::Global;
 

@@ -6,7 +6,8 @@ ghost use Rattle.amqp_de.specs.Answers.{Answers};
 ghost use Rattle.amqp_de.specs.Enums.{unit_or, data_or, no_variant, value_of};
 ghost use Rattle.amqp_de.specs.Reads.{Always};
 
-use crate::de::{Deserializer, Refusal};
+use crate::deserializer::Deserializer;
+use crate::refusal::Refusal;
 use crate::seed::Seed;
 use std::alloc::Global;
 

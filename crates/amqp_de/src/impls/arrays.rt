@@ -6,7 +6,10 @@ ghost use Rattle.amqp_ser.specs.Tree.{list, trees_of};
 ghost use Rattle.amqp_de.specs.Answers.{Refuses};
 ghost use Rattle.amqp_de.specs.Reads.{OnList, ReadsFirst};
 
-use crate::de::{Content, Deserialize, Deserializer, Refusal};
+use crate::content::Content;
+use crate::deserialize::Deserialize;
+use crate::deserializer::Deserializer;
+use crate::refusal::Refusal;
 use std::alloc::Global;
 
 /// Reads this many elements, in order. Elements left over are ignored.

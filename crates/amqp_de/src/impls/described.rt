@@ -6,7 +6,10 @@ ghost use Rattle.amqp_ser.specs.Tree.{described};
 ghost use Rattle.amqp_de.specs.Fields.{OnDescribed};
 ghost use Rattle.amqp_de.specs.Reads.{Always, descriptor_tree};
 
-use crate::de::{Content, Deserialize, Deserializer, Refusal};
+use crate::content::Content;
+use crate::deserialize::Deserialize;
+use crate::deserializer::Deserializer;
+use crate::refusal::Refusal;
 use amqp_data::{Described, Descriptor};
 use std::alloc::Global;
 

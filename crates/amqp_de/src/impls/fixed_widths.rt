@@ -5,7 +5,10 @@ ghost use Rattle.amqp_data.specs.Fixed.{dec32_bytes, dec64_bytes, dec128_bytes, 
 ghost use Rattle.amqp_ser.specs.Tree.{scalar, float, double, decimal32, decimal64, decimal128, timestamp, uuid};
 ghost use Rattle.amqp_de.specs.Reads.{Always};
 
-use crate::de::{Content, Deserialize, Deserializer, Refusal};
+use crate::content::Content;
+use crate::deserialize::Deserialize;
+use crate::deserializer::Deserializer;
+use crate::refusal::Refusal;
 use amqp_data::{Dec32, Dec64, Dec128, F32Bits, F64Bits, Timestamp, Uuid};
 use std::alloc::Global;
 

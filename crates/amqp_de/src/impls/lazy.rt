@@ -4,7 +4,8 @@ ghost use Rattle.std.specs.Prelude.{◌≡◌};
 ghost use Rattle.amqp_ser.specs.Tree.{scalar, null};
 ghost use Rattle.amqp_de.specs.Reads.{ReadsLazy};
 
-use crate::de::{Deserialize, Deserializer};
+use crate::deserialize::Deserialize;
+use crate::deserializer::Deserializer;
 use crate::unwritable::unwritable;
 use amqp_frame::LazyValue;
 use amqp_wire::to_lazy_value;

@@ -7,7 +7,10 @@ ghost use Rattle.amqp_ser.specs.Tree.{list, array, trees_of};
 ghost use Rattle.amqp_de.specs.Answers.{Refuses};
 ghost use Rattle.amqp_de.specs.Reads.{OnList, OnArray};
 
-use crate::de::{Content, Deserialize, Deserializer, Refusal};
+use crate::content::Content;
+use crate::deserialize::Deserialize;
+use crate::deserializer::Deserializer;
+use crate::refusal::Refusal;
 use amqp_data::{Array, TransparentVec};
 use std::alloc::Global;
 

@@ -11,7 +11,10 @@ ghost use Rattle.amqp_de.specs.Answers.{Answers, Refuses};
 ghost use Rattle.amqp_de.specs.Maps.{OnMap, ReadsPair, ReadsPairs, pair_image, IsPair, SamePair};
 ghost use Rattle.amqp_de.specs.Maps.{HoldsInOrder, HoldsSorted, HoldsHashed, SameInSomeOrder, AreDistinct, Ascend};
 
-use crate::de::{Content, Deserialize, Deserializer, Refusal};
+use crate::content::Content;
+use crate::deserialize::Deserialize;
+use crate::deserializer::Deserializer;
+use crate::refusal::Refusal;
 use amqp_data::OrderedMap;
 use std::alloc::Global;
 use std::collections::{BTreeMap, HashMap};

@@ -4,7 +4,10 @@ ghost use Rattle.std.specs.Prelude.{◌≡◌};
 ghost use Rattle.amqp_ser.specs.Tree.{scalar, null, bool, ubyte, ushort, uint, ulong, byte, short, int, long, char};
 ghost use Rattle.amqp_de.specs.Reads.{Always};
 
-use crate::de::{Content, Deserialize, Deserializer, Refusal};
+use crate::content::Content;
+use crate::deserialize::Deserialize;
+use crate::deserializer::Deserializer;
+use crate::refusal::Refusal;
 use std::alloc::Global;
 
 impl Deserialize for () {

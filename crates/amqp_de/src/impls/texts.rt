@@ -6,7 +6,10 @@ ghost use Rattle.amqp_data.specs.Text.{symbol_text};
 ghost use Rattle.amqp_ser.specs.Tree.{scalar, binary, string, symbol};
 ghost use Rattle.amqp_de.specs.Reads.{Always};
 
-use crate::de::{Content, Deserialize, Deserializer, Refusal};
+use crate::content::Content;
+use crate::deserialize::Deserialize;
+use crate::deserializer::Deserializer;
+use crate::refusal::Refusal;
 use amqp_data::{ByteBuf, Symbol};
 use std::alloc::Global;
 

@@ -4,7 +4,8 @@ ghost use Rattle.std.specs.Prelude.{[], ◌∷◌};
 ghost use Rattle.amqp_ser.specs.Tree.{list, trees_of};
 ghost use Rattle.amqp_de.specs.Fields.{OnFields, must, end};
 
-use crate::de::{Deserialize, Deserializer};
+use crate::deserialize::Deserialize;
+use crate::deserializer::Deserializer;
 use crate::record::{Record, read};
 use crate::seed::ListOf;
 use crate::{fields, named};

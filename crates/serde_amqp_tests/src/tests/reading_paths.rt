@@ -182,6 +182,13 @@ fn types_of_ones_own(rt: HostRuntime) -> Result<(), Fail> {
         de::read_described::<Whole, _, _, _>(a, tagged, &1u64, of),
         Ok(1)
     );
+    let tagged = described::Described {
+        descriptor: descriptor::Descriptor::Code(1),
+        value: Value::Uint(1),
+    };
+    let tagged = value::de::Deserializer::new(a, Value::Described(Box::new(a, tagged)?));
+    let of = de::Of(PhantomData::<u32>);
+    assert_eq!(rt; de::read_composite::<Whole, _, _>(a, tagged, 1, of), Ok(1));
     let variants = de::UnitOr {
         rest: de::DataOr {
             seed: de::Of(PhantomData::<u32>),

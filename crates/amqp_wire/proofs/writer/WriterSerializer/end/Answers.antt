@@ -31,27 +31,27 @@ compound_ended sh start kind s held ps r after is several opened h done same ans
 pub returns-in-List : goal.returns-in-List
 returns-in-List c = rw (← c.held.view_is) (λ start kind ps h done.
     compound_ended shape.List start kind c.args.self.now.output (part_of c.held.inside) ps c.accept.result c.accept.new.self c.in-List.is (λ q. cc) (λ q. cc) h.0 done c.accept.ensures.output
-    (λ t f. c.accept.ensures.accepted h.1 t f.con_is f.uniform_arrays_it f.inside_it f.placed_it))
+    (λ t f. c.accept.ensures.accepted h.1 t f.constructor_is f.uniform_arrays_it f.inside_it f.placed_it))
 
 pub returns-in-Map : goal.returns-in-Map
 returns-in-Map c = rw (← c.held.view_is) (λ start kind ps h done.
     compound_ended shape.Map start kind c.args.self.now.output (part_of c.held.inside) ps c.accept-in-Map.result c.accept-in-Map.new.self c.in-Map.is (λ q. cc) (λ q. cc) h.0 done c.accept-in-Map.ensures.output
-    (λ t f. c.accept-in-Map.ensures.accepted h.1 t f.con_is f.uniform_arrays_it f.inside_it f.placed_it))
+    (λ t f. c.accept-in-Map.ensures.accepted h.1 t f.constructor_is f.uniform_arrays_it f.inside_it f.placed_it))
 
 pub returns-in-Variant : goal.returns-in-Variant
 returns-in-Variant c = rw (← c.held.view_is) (λ start kind ps h done.
     compound_ended (shape.Variant c.in-Variant.field-0) start kind c.args.self.now.output (part_of c.held.inside) ps c.accept-in-Variant.result c.accept-in-Variant.new.self c.in-Variant.is (λ q. cc) (λ q. cc) h.0 done c.accept-in-Variant.ensures.output
-    (λ t f. c.accept-in-Variant.ensures.accepted h.1 t f.con_is f.uniform_arrays_it f.inside_it f.placed_it))
+    (λ t f. c.accept-in-Variant.ensures.accepted h.1 t f.constructor_is f.uniform_arrays_it f.inside_it f.placed_it))
 
 pub returns-in-NewtypeVariant : goal.returns-in-NewtypeVariant
 returns-in-NewtypeVariant c = rw (← c.held.view_is) (λ start kind ps h done.
     compound_ended (shape.NewtypeVariant c.in-NewtypeVariant.field-0) start kind c.args.self.now.output (part_of c.held.inside) ps c.accept-in-NewtypeVariant.result c.accept-in-NewtypeVariant.new.self c.in-NewtypeVariant.is (λ q. cc) (λ q. cc) h.0 done c.accept-in-NewtypeVariant.ensures.output
-    (λ t f. c.accept-in-NewtypeVariant.ensures.accepted h.1 t f.con_is f.uniform_arrays_it f.inside_it f.placed_it))
+    (λ t f. c.accept-in-NewtypeVariant.ensures.accepted h.1 t f.constructor_is f.uniform_arrays_it f.inside_it f.placed_it))
 
 pub returns-in-Array : goal.returns-in-Array
 returns-in-Array c = rw (← c.held.view_is) (λ start kind ps h done.
     compound_ended shape.Array start kind c.args.self.now.output (part_of c.held.inside) ps c.accept-in-Array.result c.accept-in-Array.new.self c.in-Array.is (λ q. cc) (λ q. cc) h.0 done c.accept-in-Array.ensures.output
-    (λ t f. c.accept-in-Array.ensures.accepted h.1 t f.con_is f.uniform_arrays_it f.inside_it f.placed_it))
+    (λ t f. c.accept-in-Array.ensures.accepted h.1 t f.constructor_is f.uniform_arrays_it f.inside_it f.placed_it))
 
 pub returns-in-Transparent : goal.returns-in-Transparent
 returns-in-Transparent c = rw (← c.held.view_is) (λ start kind ps h done.

@@ -1,0 +1,46 @@
+//! What may be a descriptor, and where a value may stand after one.
+
+ghost use Rattle.std.specs.Prelude.{◌≡◌, ◌+◌, ◌⊎◌, Some, MatchResult, is_some, true, false};
+ghost use Rattle.amqp_ser.specs.Tree.{Tree};
+ghost use Rattle.amqp_ser.specs.Limits.{is_length};
+ghost use Rattle.amqp_ser.specs.Composites.{descriptor_of};
+ghost use Rattle.amqp_ser.specs.Encoding.{constructor};
+ghost use Rattle.amqp_size.specs.Position.{takes_described};
+
+use crate::position::BasePosition;
+use crate::walk_error::WalkError;
+use amqp_data::EncodingCodes;
+
+/// The answer on a descriptor with this constructor and length: only a ulong or a symbol is one.
+pub(crate) fn descriptor_len(code: u8, ordinary: usize) -> Result<usize, WalkError>
+    ensures { (t : Tree) → constructor t ≡ Some code → MatchResult result
+        (λ n. (is_some (descriptor_of (Some t)) ≡ true) × (n ≡ ordinary))
+        (λ e. (is_some (descriptor_of (Some t)) ≡ false) × (e ≡ WalkError.InvalidValue)) }
+{
+    if code == EncodingCodes::Ulong as u8 || code == EncodingCodes::Sym32 as u8 {
+        Ok(ordinary)
+    } else {
+        Err(WalkError::InvalidValue)
+    }
+}
+
+/// The answer on the value after descriptors, with them.
+pub(crate) fn described_len(
+    prefix_len: usize,
+    base: BasePosition,
+    ordinary: usize,
+) -> Result<usize, WalkError>
+    ensures { MatchResult result
+        (λ n. (takes_described base ≡ true)
+        × ((is_length (prefix_len + ordinary) ≡ true) × (n ≡ prefix_len + ordinary)))
+        (λ e. ((e ≡ WalkError.TooLong) × (is_length (prefix_len + ordinary) ≡ false))
+        ⊎ ((e ≡ WalkError.InvalidValue) × (takes_described base ≡ false))) }
+{
+    if !base.takes_described() {
+        return Err(WalkError::InvalidValue);
+    }
+    match prefix_len.checked_add(ordinary) {
+        Some(whole) => Ok(whole),
+        None => Err(WalkError::TooLong),
+    }
+}
