@@ -1,5 +1,4 @@
-//! The tests of `serde_amqp`. They stand beside it, since a crate with tests is proved once more
-//! for them.
+//! The tests of `serde_amqp`, in a crate of their own, since a crate with tests is proved twice.
 #![tactic(auto)]
 
 #[cfg(test)]

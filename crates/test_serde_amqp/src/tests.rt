@@ -16,6 +16,7 @@ mod marked;
 mod memory;
 mod paths;
 mod reading_paths;
+mod refused_calls;
 mod rows;
 mod scalars;
 mod streams;

@@ -150,7 +150,14 @@ fn after_a_long_name(alloc: Global) -> Option<Described<(&'static str,)>> {
 }
 
 fn lists_measure_their_own_bodies(rt: &HostRuntime) -> bool {
-    long_field(rt) && begins_of(rt, "a long name", after_a_long_name(rt.alloc()), 259, "00a3fa6e")
+    long_field(rt)
+        && begins_of(
+            rt,
+            "a long name",
+            after_a_long_name(rt.alloc()),
+            259,
+            "00a3fa6e",
+        )
 }
 
 fn section_of_a_map(alloc: Global) -> Option<Section<OrderedMap<SymbolRef<'static>, i32>>> {
@@ -225,7 +232,10 @@ fn described_elements_are_refused(rt: &HostRuntime) -> bool {
 #[test]
 fn composites_have_these_bytes_and_images(rt: HostRuntime) {
     assert!(rt; list_composites(&rt), "list composites");
-    assert!(rt; lists_measure_their_own_bodies(&rt), "lists measure their own bodies");
+    assert!(rt;
+        lists_measure_their_own_bodies(&rt),
+        "lists measure their own bodies"
+    );
     assert!(rt; basic_composites(&rt), "basic composites");
     assert!(rt; described_values_by_name_and_code(&rt), "described values");
     assert!(rt; described_elements_are_refused(&rt), "described elements");

@@ -1,5 +1,5 @@
-//! Fields of a struct, and what a serializer and a type of one's own are written with, by the names
-//! that are handed out.
+//! Fields of a struct, and the items that the author of a serializer or of a type uses, by their
+//! public names.
 
 use super::rows::{row, shows};
 use serde_amqp::ser::{
@@ -8,7 +8,7 @@ use serde_amqp::ser::{
 };
 use serde_amqp::size_ser::{SizeSerializer, WalkError};
 
-/// Fields that are handed on.
+/// Fields that pass each call on.
 #[derive(Drop)]
 struct Same<F>(F);
 
@@ -89,8 +89,12 @@ fn empty_tuple(lengths: &mut SizeSerializer) -> Result<usize, WalkError> {
 
 fn kinds_and_fixed_widths(rt: &HostRuntime) -> bool {
     let mut lengths = SizeSerializer::new();
-    shows(rt, "a ubyte", &lengths.serialize_fixed(Fixed::Ubyte(1)), "Ok(2)")
-        && shows(rt, "an empty map", &empty_map(&mut lengths), "Ok(3)")
+    shows(
+        rt,
+        "a ubyte",
+        &lengths.serialize_fixed(Fixed::Ubyte(1)),
+        "Ok(2)",
+    ) && shows(rt, "an empty map", &empty_map(&mut lengths), "Ok(3)")
         && shows(rt, "an empty tuple", &empty_tuple(&mut lengths), "Ok(1)")
 }
 

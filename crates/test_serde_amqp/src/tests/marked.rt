@@ -1,24 +1,18 @@
 //! Each marker over each kind that it does not take, and each kind that is no descriptor before a
-//! value: no tree, whatever the place.
+//! value: no tree, at the root and in a list.
 
 ghost use Rattle.std.specs.Prelude.{Some};
 ghost use Rattle.amqp_ser.specs.Composites.{as_described, descriptor_of};
 ghost use Rattle.amqp_ser.specs.Marked.{marked, mark_of};
 ghost use Rattle.amqp_ser.specs.Tree.{scalar, ubyte};
 
-use super::rows::refused;
-use serde_amqp::described::Described;
-use serde_amqp::descriptor::Descriptor;
+use super::made::{array, described, list, pairs, symbol, text};
+use super::rows::{has_no_tree, has_some_image, wrong};
+use serde_amqp::Value;
 use serde_amqp::extensions::TransparentVec;
-use serde_amqp::primitives::{
-    Array, ByteBuf, Dec32, Dec64, Dec128, F32Bits, F64Bits, OrderedMap, Symbol, Timestamp, Uuid,
-};
+use serde_amqp::primitives::{ByteBuf, Dec32, Dec64, Dec128, F32Bits, F64Bits, Timestamp, Uuid};
 use serde_amqp::ser::{Serialize, Serializer, markers};
-use serde_amqp::value::to_value;
-use serde_amqp::{Error, Value};
 use std::alloc::Global;
-use std::process::Abort;
-use std::test::Fail;
 
 /// A newtype of this name.
 #[derive(Drop)]
@@ -47,124 +41,181 @@ impl<D: Serialize> Serialize for After<'_, D> {
     }
 }
 
-// A value of each kind, in the order of `Value`; the binary is of no marker's length, and is no
-// encoded value.
-fn values(a: Global) -> Result<Vec<Value>, Fail> {
-    let described = Described {
-        descriptor: Descriptor::from(1u64),
-        value: Value::Null,
-    };
-    let mut map = OrderedMap::new(a);
-    drop(map.insert(Value::Ubyte(1), Value::Null)?);
-    let mut values = vec![in a;
-        Value::Described(Box::new(a, described)?),
-        Value::Null,
-        Value::Bool(true),
-        Value::Ubyte(1),
-        Value::Ushort(1),
-        Value::Uint(1),
-        Value::Ulong(1),
-        Value::Byte(1),
-        Value::Short(1),
-        Value::Int(1),
-        Value::Long(1),
-        Value::Float(F32Bits::from(1)),
-        Value::Double(F64Bits::from(1)),
-        Value::Decimal32(Dec32::from([1; 4])),
-        Value::Decimal64(Dec64::from([1; 8])),
-        Value::Decimal128(Dec128::from([1; 16])),
-    ]?;
-    values.push(Value::Char('a'))?;
-    values.push(Value::Timestamp(Timestamp::from_milliseconds(1)))?;
-    values.push(Value::Uuid(Uuid::from([1; 16])))?;
-    values.push(Value::Binary(ByteBuf::from(vec![in a; 0xa1, 5, b'a']?)))?;
-    values.push(Value::String(String::from_str(a, "a")?))?;
-    values.push(Value::Symbol(Symbol::try_from_str(a, "a")?))?;
-    values.push(Value::List(vec![in a; Value::Ubyte(1)]?))?;
-    values.push(Value::Map(map))?;
-    values.push(Value::Array(Array::from(vec![in a; Value::Ubyte(1)]?)))?;
-    Ok(values)
+const VALUES: u32 = 25;
+
+const ULONG: u32 = 6;
+
+const LONG: u32 = 10;
+
+const STRING: u32 = 20;
+
+const SYMBOL: u32 = 21;
+
+const LIST: u32 = 22;
+
+// A value of each kind, by its number in the order of `Value`. The length of the binary is none
+// that a marker takes, and its bytes are no encoded value.
+fn value(a: Global, number: u32) -> Option<Value> {
+    match number {
+        0 => described(a, 1, Value::Null),
+        19 => Some(Value::Binary(ByteBuf::from(list(a, [0xa1, 5, b'a'])?))),
+        STRING => Some(Value::String(text(a, b'a', 1)?)),
+        SYMBOL => Some(Value::Symbol(symbol(a, "a")?)),
+        LIST => Some(Value::List(list(a, [Value::Ubyte(1)])?)),
+        23 => Some(Value::Map(pairs(a, [(Value::Ubyte(1), Value::Null)])?)),
+        24 => Some(Value::Array(array(a, [Value::Ubyte(1)])?)),
+        _ => fixed(number),
+    }
 }
 
-// Each marker of a newtype, and where the kind that it takes stands among the values, if it does.
-const MARKERS: [(&str, Option<usize>); 10] = [
-    (markers::SYMBOL, Some(20)),
-    (markers::SYMBOL_REF, Some(20)),
-    (markers::TIMESTAMP, Some(10)),
-    (markers::UUID, None),
-    (markers::DECIMAL32, None),
-    (markers::DECIMAL64, None),
-    (markers::DECIMAL128, None),
-    (markers::ARRAY, Some(22)),
-    (markers::TRANSPARENT_VEC, Some(22)),
-    (markers::LAZY_VALUE, None),
-];
+fn fixed(number: u32) -> Option<Value> {
+    match number {
+        1 => Some(Value::Null),
+        2 => Some(Value::Bool(true)),
+        3 => Some(Value::Ubyte(1)),
+        4 => Some(Value::Ushort(1)),
+        5 => Some(Value::Uint(1)),
+        ULONG => Some(Value::Ulong(1)),
+        7 => Some(Value::Byte(1)),
+        8 => Some(Value::Short(1)),
+        9 => Some(Value::Int(1)),
+        LONG => Some(Value::Long(1)),
+        11 => Some(Value::Float(F32Bits::from(1))),
+        12 => Some(Value::Double(F64Bits::from(1))),
+        13 => Some(Value::Decimal32(Dec32::from([1; 4]))),
+        14 => Some(Value::Decimal64(Dec64::from([1; 8]))),
+        15 => Some(Value::Decimal128(Dec128::from([1; 16]))),
+        16 => Some(Value::Char('a')),
+        17 => Some(Value::Timestamp(Timestamp::from_milliseconds(1))),
+        18 => Some(Value::Uuid(Uuid::from([1; 16]))),
+        _ => None,
+    }
+}
 
-fn has_no_tree<R: Abort, T: Serialize>(rt: &R, alloc: Global, name: &str, value: &T) {
-    refused(rt, alloc, name, value, Error::InvalidValue);
+// The value under the marker has an image if the marker takes it, and otherwise no tree.
+fn marked_value<T: Serialize>(
+    rt: &HostRuntime,
+    row: &str,
+    name: &'static str,
+    value: &T,
+    taken: bool,
+) -> bool {
+    let newtype = Newtype { name, value };
+    if taken {
+        return has_some_image(rt, row, &newtype);
+    }
+    has_no_tree(rt, row, &newtype) && has_no_tree(rt, row, &(1u8, newtype))
+}
+
+fn over_value(rt: &HostRuntime, name: &'static str, number: u32, taken: bool) -> bool {
+    match (
+        value(rt.alloc(), number),
+        format!(in rt.alloc(); "{name} over value {number}"),
+    ) {
+        (Some(value), Ok(row)) => marked_value(rt, row.as_str(), name, &value, taken),
+        _ => wrong(rt, name, "no memory"),
+    }
+}
+
+fn over_a_transparent_vector(rt: &HostRuntime, name: &'static str) -> bool {
+    match list(rt.alloc(), [1u8]) {
+        Some(items) => {
+            let value = &TransparentVec::from(items);
+            has_no_tree(rt, name, &Newtype { name, value })
+        }
+        None => wrong(rt, name, "no memory"),
+    }
+}
+
+// The marker over each value takes the value of this number alone.
+fn takes(rt: &HostRuntime, name: &'static str, taken: Option<u32>) -> bool {
+    let mut holds = over_a_transparent_vector(rt, name);
+    for number in 0..VALUES {
+        holds = over_value(rt, name, number, taken == Some(number)) && holds;
+    }
+    holds
+}
+
+fn each_marker_over_each_other_kind(rt: &HostRuntime) -> bool {
+    takes(rt, markers::SYMBOL, Some(STRING))
+        && takes(rt, markers::SYMBOL_REF, Some(STRING))
+        && takes(rt, markers::TIMESTAMP, Some(LONG))
+        && takes(rt, markers::UUID, None)
+        && takes(rt, markers::DECIMAL32, None)
+        && takes(rt, markers::DECIMAL64, None)
+        && takes(rt, markers::DECIMAL128, None)
+        && takes(rt, markers::ARRAY, Some(LIST))
+        && takes(rt, markers::TRANSPARENT_VEC, Some(LIST))
+        && takes(rt, markers::LAZY_VALUE, None)
+}
+
+fn over_length(rt: &HostRuntime, name: &'static str, length: usize, taken: bool) -> bool {
+    let a = rt.alloc();
+    match (
+        Vec::from_elem(a, 1u8, length),
+        format!(in a; "{name} of {length} bytes"),
+    ) {
+        (Ok(bytes), Ok(row)) => {
+            marked_value(rt, row.as_str(), name, &ByteBuf::from(bytes), taken)
+        }
+        _ => wrong(rt, name, "no memory"),
+    }
+}
+
+const LENGTHS: [usize; 12] = [0, 3, 4, 5, 7, 8, 9, 15, 16, 17, 255, 256];
+
+// The marker over a binary takes this length alone.
+fn takes_length(rt: &HostRuntime, name: &'static str, wanted: usize) -> bool {
+    let mut holds = true;
+    for length in LENGTHS {
+        holds = over_length(rt, name, length, length == wanted) && holds;
+    }
+    holds
+}
+
+fn each_marker_over_each_other_length(rt: &HostRuntime) -> bool {
+    takes_length(rt, markers::UUID, 16)
+        && takes_length(rt, markers::DECIMAL32, 4)
+        && takes_length(rt, markers::DECIMAL64, 8)
+        && takes_length(rt, markers::DECIMAL128, 16)
+}
+
+fn after_value(rt: &HostRuntime, number: u32) -> bool {
+    match (
+        value(rt.alloc(), number),
+        format!(in rt.alloc(); "after value {number}"),
+    ) {
+        (Some(value), Ok(row)) if number == ULONG || number == SYMBOL => {
+            has_some_image(rt, row.as_str(), &After(&value))
+        }
+        (Some(value), Ok(row)) => {
+            has_no_tree(rt, row.as_str(), &After(&value))
+                && has_no_tree(rt, row.as_str(), &(1u8, After(&value)))
+        }
+        _ => wrong(rt, "after a value", "no memory"),
+    }
+}
+
+fn each_descriptor_of_another_kind(rt: &HostRuntime) -> bool {
+    let mut holds = true;
+    for number in 0..VALUES {
+        holds = after_value(rt, number) && holds;
+    }
+    holds
+}
+
+#[test]
+fn markers_and_descriptors_of_other_kinds_are_refused(rt: HostRuntime) {
     assert!(rt;
-        to_value(alloc, value) == Err(Error::InvalidValue),
-        "the image of {name}"
+        each_marker_over_each_other_kind(&rt),
+        "each marker over each other kind"
     );
-}
-
-#[test]
-fn each_marker_over_each_other_kind(rt: HostRuntime) -> Result<(), Fail> {
-    let a = rt.alloc();
-    let values = values(a)?;
-    for (name, taken) in MARKERS {
-        for (at, value) in values.iter().enumerate() {
-            let newtype = Newtype { name, value };
-            if taken == Some(at) {
-                assert!(rt; to_value(a, &newtype).is_ok(), "{name} over value {at}");
-                continue;
-            }
-            has_no_tree(&rt, a, name, &newtype);
-            has_no_tree(&rt, a, name, &(1u8, newtype));
-        }
-        let transparent = TransparentVec::from(vec![in a; 1u8]?);
-        let newtype = Newtype {
-            name,
-            value: &transparent,
-        };
-        has_no_tree(&rt, a, name, &newtype);
-    }
-    Ok(())
-}
-
-#[test]
-fn each_marker_over_each_other_length(rt: HostRuntime) -> Result<(), Fail> {
-    let a = rt.alloc();
-    let lengths = [
-        (markers::UUID, 16),
-        (markers::DECIMAL32, 4),
-        (markers::DECIMAL64, 8),
-        (markers::DECIMAL128, 16),
-    ];
-    for (name, wanted) in lengths {
-        for length in [0usize, 3, 4, 5, 7, 8, 9, 15, 16, 17, 255, 256] {
-            let value = &ByteBuf::from(Vec::from_elem(a, 1u8, length)?);
-            let newtype = Newtype { name, value };
-            if length == wanted {
-                assert!(rt; to_value(a, &newtype).is_ok(), "{name} of {length} bytes");
-            } else {
-                has_no_tree(&rt, a, name, &newtype);
-            }
-        }
-    }
-    Ok(())
-}
-
-#[test]
-fn each_descriptor_of_another_kind(rt: HostRuntime) -> Result<(), Fail> {
-    let a = rt.alloc();
-    for (at, value) in values(a)?.iter().enumerate() {
-        if matches!(value, Value::Ulong(_) | Value::Symbol(_)) {
-            assert!(rt; to_value(a, &After(value)).is_ok(), "after value {at}");
-        } else {
-            has_no_tree(&rt, a, "a descriptor", &After(value));
-            has_no_tree(&rt, a, "a descriptor", &(1u8, After(value)));
-        }
-    }
-    Ok(())
+    assert!(rt;
+        each_marker_over_each_other_length(&rt),
+        "each marker over each other length"
+    );
+    assert!(rt;
+        each_descriptor_of_another_kind(&rt),
+        "each descriptor of another kind"
+    );
 }

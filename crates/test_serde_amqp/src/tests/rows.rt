@@ -48,6 +48,11 @@ pub fn wrong(rt: &HostRuntime, name: &str, got: &str) -> bool {
     println!(rt; "{name}: got {got}").is_err() && false
 }
 
+/// The condition is met.
+pub fn holds(rt: &HostRuntime, name: &str, met: bool) -> bool {
+    met || wrong(rt, name, "false")
+}
+
 /// The text is this one.
 pub fn is_text(rt: &HostRuntime, name: &str, got: Option<String>, wanted: &str) -> bool {
     match got {
@@ -152,6 +157,14 @@ pub fn has_image<T: Serialize>(rt: &HostRuntime, name: &str, value: &T, image: &
     match to_value(rt.alloc(), value) {
         Ok(got) if got == *image => true,
         got => shows(rt, name, &got, "another image"),
+    }
+}
+
+/// The value has an image.
+pub fn has_some_image<T: Serialize>(rt: &HostRuntime, name: &str, value: &T) -> bool {
+    match to_value(rt.alloc(), value) {
+        Ok(_) => true,
+        Err(error) => shows(rt, name, &error, "an image"),
     }
 }
 

@@ -2,9 +2,7 @@
 
 use super::made::{symbol, text};
 use super::rows::{begins, begins_of, has_image, row, row_of, same_bytes, wrong};
-use amqp_data::{
-    ByteBuf, Dec32, Dec64, Dec128, F32Bits, F64Bits, SymbolRef, Timestamp, Uuid,
-};
+use amqp_data::{ByteBuf, Dec32, Dec64, Dec128, F32Bits, F64Bits, SymbolRef, Timestamp, Uuid};
 use serde_amqp::Value;
 use std::alloc::Global;
 
@@ -19,7 +17,13 @@ fn numbers_have_their_shortest_form(rt: &HostRuntime) -> bool {
         && row(rt, "uint 0", &0u32, "43", "Uint(0)")
         && row(rt, "uint 255", &255u32, "52ff", "Uint(255)")
         && row(rt, "uint 256", &256u32, "7000000100", "Uint(256)")
-        && row(rt, "the greatest uint", &u32::MAX, "70ffffffff", "Uint(4294967295)")
+        && row(
+            rt,
+            "the greatest uint",
+            &u32::MAX,
+            "70ffffffff",
+            "Uint(4294967295)",
+        )
         && row(rt, "ulong 0", &0u64, "44", "Ulong(0)")
         && row(rt, "ulong 255", &255u64, "53ff", "Ulong(255)")
         && row(rt, "ulong 256", &256u64, "800000000000000100", "Ulong(256)")
@@ -41,7 +45,13 @@ fn signed_numbers_are_in_twos_complement(rt: &HostRuntime) -> bool {
         && row(rt, "int -129", &-129i32, "71ffffff7f", "Int(-129)")
         && row(rt, "int 127", &127i32, "547f", "Int(127)")
         && row(rt, "int 128", &128i32, "7100000080", "Int(128)")
-        && row(rt, "the least int", &i32::MIN, "7180000000", "Int(-2147483648)")
+        && row(
+            rt,
+            "the least int",
+            &i32::MIN,
+            "7180000000",
+            "Int(-2147483648)",
+        )
         && row(rt, "long -1", &-1i64, "55ff", "Long(-1)")
         && row(rt, "long 128", &128i64, "810000000000000080", "Long(128)")
         && row(
@@ -155,7 +165,10 @@ fn long_texts_and_binaries(rt: &HostRuntime) -> bool {
 
 // A text of so many letters x, and its untyped value.
 fn text_and_value(alloc: Global, count: usize) -> Option<(String, Value)> {
-    Some((text(alloc, b'x', count)?, Value::String(text(alloc, b'x', count)?)))
+    Some((
+        text(alloc, b'x', count)?,
+        Value::String(text(alloc, b'x', count)?),
+    ))
 }
 
 // The text and its image have the same bytes, which are so many and begin with these.
@@ -179,8 +192,14 @@ fn texts_turn_long(rt: &HostRuntime) -> bool {
 #[test]
 fn scalars_have_these_bytes_and_images(rt: HostRuntime) {
     assert!(rt; numbers_have_their_shortest_form(&rt), "numbers");
-    assert!(rt; signed_numbers_are_in_twos_complement(&rt), "signed numbers");
-    assert!(rt; floats_characters_and_timestamps(&rt), "scalars of fixed width");
+    assert!(rt;
+        signed_numbers_are_in_twos_complement(&rt),
+        "signed numbers"
+    );
+    assert!(rt;
+        floats_characters_and_timestamps(&rt),
+        "scalars of fixed width"
+    );
     assert!(rt; decimals_and_uuids(&rt), "decimals and uuids");
     assert!(rt; texts_and_binaries(&rt), "texts and binaries");
     assert!(rt; long_texts_and_binaries(&rt), "long texts and binaries");

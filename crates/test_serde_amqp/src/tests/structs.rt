@@ -40,5 +40,13 @@ impl Serialize for Outer {
 fn structs_are_lists_of_their_fields(rt: HostRuntime) {
     let value = (Outer { inner: Wrapped(3) },);
     let bytes = "c00601c003015403";
-    assert!(rt; row(&rt, "a tuple of a struct", &value, bytes, "List([List([Int(3)])])"));
+    assert!(rt;
+        row(
+            &rt,
+            "a tuple of a struct",
+            &value,
+            bytes,
+            "List([List([Int(3)])])"
+        )
+    );
 }

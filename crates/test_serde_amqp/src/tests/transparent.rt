@@ -1,5 +1,4 @@
-//! Transparent vectors: elements one after another, at the root alone; and the enums that have
-//! names of their own.
+//! Transparent vectors, which are written at the root alone, and enums under the names of markers.
 
 ghost use Rattle.std.specs.Prelude.{None, Some};
 ghost use Rattle.amqp_ser.specs.Tree.{scalar, ubyte};
@@ -82,8 +81,11 @@ fn enums_of_a_name(rt: &HostRuntime) -> bool {
 }
 
 #[test]
-fn transparent_vectors_stand_at_the_root(rt: HostRuntime) {
-    assert!(rt; elements_one_after_another(&rt), "elements one after another");
+fn transparent_vectors_are_written_at_the_root(rt: HostRuntime) {
+    assert!(rt;
+        elements_one_after_another(&rt),
+        "elements one after another"
+    );
     assert!(rt; elsewhere_they_are_refused(&rt), "elsewhere");
     assert!(rt; enums_of_a_name(&rt), "enums of a name");
 }

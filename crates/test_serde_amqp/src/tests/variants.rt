@@ -79,22 +79,25 @@ fn variants_are_maps_of_one_pair(rt: &HostRuntime) -> bool {
         "the image of a newtype",
         one_to_thirteen(rt.alloc()),
         "c105025201530d",
-    ) && row(rt, "a newtype", &Newtype(13), "c105025201530d", ONE_TO_THIRTEEN)
-        && row(
-            rt,
-            "a tuple",
-            &Tuple(13, "amqp"),
-            "c10e025201c00902540da104616d7170",
-            "Map(OrderedMap { entries: [(Uint(1), List([Int(13), String(\"amqp\")]))] })",
-        )
-        && row(
-            rt,
-            "a struct",
-            &Struct(13, true),
-            "c1080243c00402520d41",
-            "Map(OrderedMap { entries: [(Uint(0), List([Uint(13), Bool(true)]))] })",
-        )
-        && row(rt, "a unit", &Unit, "5201", "Uint(1)")
+    ) && row(
+        rt,
+        "a newtype",
+        &Newtype(13),
+        "c105025201530d",
+        ONE_TO_THIRTEEN,
+    ) && row(
+        rt,
+        "a tuple",
+        &Tuple(13, "amqp"),
+        "c10e025201c00902540da104616d7170",
+        "Map(OrderedMap { entries: [(Uint(1), List([Int(13), String(\"amqp\")]))] })",
+    ) && row(
+        rt,
+        "a struct",
+        &Struct(13, true),
+        "c1080243c00402520d41",
+        "Map(OrderedMap { entries: [(Uint(0), List([Uint(13), Bool(true)]))] })",
+    ) && row(rt, "a unit", &Unit, "5201", "Uint(1)")
 }
 
 fn image_of_an_array(alloc: Global) -> Option<Value> {

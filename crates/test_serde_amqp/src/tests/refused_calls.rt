@@ -1,0 +1,119 @@
+//! Types whose `serialize` goes on after a refused call, or makes no tree: the refused call leaves
+//! the compound unchanged.
+
+ghost use Rattle.std.specs.Prelude.{◌≡◌, ◌∷◌, [], Some, None, IsErr};
+ghost use Rattle.amqp_ser.specs.Tree.{scalar, int, string, ubyte};
+ghost use Rattle.amqp_ser.specs.Feeding.{Feeds};
+ghost use Rattle.amqp_ser.specs.Compounds.{whole};
+ghost use Rattle.amqp_ser.specs.Marked.{marked, mark_of};
+ghost use Rattle.amqp_ser.specs.declared.kind.Kind.TheVariants as kind;
+
+use super::marked::Newtype;
+use super::rows::{has_no_tree, row};
+use serde_amqp::ser::{Kind, Serialize, Serializer, markers};
+
+/// Serializes an element; one without a tree is refused.
+fn element<S: Serializer, T: Serialize>(
+    serializer: &mut S,
+    list: &mut S::Open,
+    value: &T,
+) -> Result<(), S::Error>
+    ensures step { (kind : Kind) →
+        Feeds S.permits S.has kind (T.tree value.now) serializer.old list.old result serializer.new
+        list.new }
+    ensures refused { T.tree value.now ≡ None → IsErr result }
+{
+    serializer.begin_part(list);
+    let part = value.serialize(serializer);
+    serializer.end_part(list, part)
+}
+
+/// A list of two numbers, between which a number under the marker of a symbol is refused.
+#[derive(Drop)]
+struct RefusedElement(i32, u8, i32);
+
+impl Serialize for RefusedElement {
+    ghost tree = { λ l.
+        whole kind.List (Some (scalar (int l.0)) ∷ (Some (scalar (int l.2)) ∷ [])) };
+
+    fn serialize<S: Serializer>(&self, serializer: &mut S) -> Result<S::Ok, S::Error> {
+        let mut list = serializer.begin(Kind::List);
+        element(serializer, &mut list, &self.0)?;
+        let number = Newtype {
+            name: markers::SYMBOL,
+            value: &self.1,
+        };
+        match element(serializer, &mut list, &number) {
+            Ok(()) => unreachable!(),
+            Err(_) => {}
+        }
+        element(serializer, &mut list, &self.2)?;
+        serializer.end(list)
+    }
+}
+
+/// A map of one pair, between whose key and value a second key is refused.
+#[derive(Drop)]
+struct RefusedKey(&'static str, &'static str, u8);
+
+impl Serialize for RefusedKey {
+    ghost tree = { λ m.
+        whole kind.Map (Some (scalar (string m.0.now)) ∷ (Some (scalar (ubyte m.2)) ∷ [])) };
+
+    fn serialize<S: Serializer>(&self, serializer: &mut S) -> Result<S::Ok, S::Error> {
+        let mut map = serializer.serialize_map(None)?;
+        map.serialize_key(&self.0)?;
+        match map.serialize_key(&self.1) {
+            Ok(()) => unreachable!(),
+            Err(_) => {}
+        }
+        map.serialize_value(&self.2)?;
+        map.end()
+    }
+}
+
+/// A map that ends after a key: it has no tree.
+#[derive(Drop)]
+struct KeyAlone(&'static str);
+
+impl Serialize for KeyAlone {
+    ghost tree = { λ m. whole kind.Map (Some (scalar (string m.0.now)) ∷ []) };
+
+    fn serialize<S: Serializer>(&self, serializer: &mut S) -> Result<S::Ok, S::Error> {
+        let mut map = serializer.serialize_map(None)?;
+        map.serialize_key(&self.0)?;
+        map.end()
+    }
+}
+
+/// A basic struct that ends without a field: it has no tree.
+#[derive(Drop)]
+struct NoField;
+
+impl Serialize for NoField {
+    ghost tree = { λ _. whole kind.Single [] };
+
+    fn serialize<S: Serializer>(&self, serializer: &mut S) -> Result<S::Ok, S::Error> {
+        let fields = serializer.serialize_struct(markers::DESCRIBED_BASIC, 1)?;
+        fields.end()
+    }
+}
+
+#[test]
+fn refused_calls_leave_compounds_unchanged(rt: HostRuntime) {
+    let list = RefusedElement(1, 1, 2);
+    assert!(rt;
+        row(
+            &rt,
+            "an element",
+            &list,
+            "c0050254015402",
+            "List([Int(1), Int(2)])"
+        )
+    );
+    let map = RefusedKey("a", "b", 1);
+    let image = "Map(OrderedMap { entries: [(String(\"a\"), Ubyte(1))] })";
+    assert!(rt; row(&rt, "a second key", &map, "c10602a101615001", image));
+    assert!(rt; has_no_tree(&rt, "a map that ends after a key", &KeyAlone("a")));
+    assert!(rt; has_no_tree(&rt, "a basic struct without a field", &NoField));
+}
