@@ -19,7 +19,6 @@ mod rows;
 mod runs;
 mod streams;
 mod structs;
-mod support;
 mod transparent;
 mod value_rows;
 mod variants;

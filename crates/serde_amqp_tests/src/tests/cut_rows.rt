@@ -2,70 +2,41 @@
 
 use super::runs::{Reading, Run, each_write_fails, read_fails, row, writes};
 use super::streams::Fault;
-use serde_amqp::Error;
 use std::io::ErrorKind;
 
 fn cut(
     rt: &HostRuntime,
-    reading: Reading,
+    by: Reading,
     name: &str,
     input: &[u8],
     text: &[u8],
-    error: Option<Error>,
+    result: &str,
 ) -> bool {
-    row(rt, reading, name, Run::Cut, input, text, error)
+    row(rt, by, name, Run::Cut, input, text, result)
 }
+
+const EOF: &str = "Err(UnexpectedEof)";
+
+const CODE: &str = "Err(InvalidFormatCode)";
 
 fn encoded_values_are_cut(rt: &HostRuntime, by: Reading) -> bool {
-    cut(
-        rt,
-        by,
-        "two values",
-        b"\x50\x01\x40",
-        b"2 5001\n1 40\n",
-        None,
-    ) && cut(
-        rt,
-        by,
-        "a described value",
-        b"\x00\xa1\x01\x61\x45",
-        b"5 00a1016145\n",
-        None,
-    ) && cut(rt, by, "no value", b"", b"", None)
-}
-
-fn ends_early(rt: &HostRuntime, by: Reading, name: &str, input: &[u8], text: &[u8]) -> bool {
-    cut(rt, by, name, input, text, Some(Error::UnexpectedEof))
+    cut(rt, by, "two values", b"\x50\x01\x40", b"2 5001\n1 40\n", "Ok(())")
+        && cut(rt, by, "a composite", b"\x00\xa1\x01\x61\x45", b"5 00a1016145\n", "Ok(())")
+        && cut(rt, by, "no value", b"", b"", "Ok(())")
 }
 
 fn inputs_that_end_early_are_refused(rt: &HostRuntime, by: Reading) -> bool {
-    ends_early(rt, by, "in a string", b"\xa1\x05\x61", b"")
-        && ends_early(rt, by, "after a descriptor", b"\x00\x53\x01", b"")
-        && ends_early(
-            rt,
-            by,
-            "in a long binary",
-            b"\xb0\xff\xff\xff\xff\x61\x62\x63",
-            b"",
-        )
-        && ends_early(rt, by, "in a long list", b"\xd0\xff\xff\xff\xff\x00", b"")
-        && ends_early(
-            rt,
-            by,
-            "in a third value",
-            b"\x40\x41\xa1\x05\x61",
-            b"1 40\n1 41\n",
-        )
-}
-
-fn has_no_code(rt: &HostRuntime, by: Reading, name: &str, input: &[u8], text: &[u8]) -> bool {
-    cut(rt, by, name, input, text, Some(Error::InvalidFormatCode))
+    cut(rt, by, "in a string", b"\xa1\x05\x61", b"", EOF)
+        && cut(rt, by, "after a descriptor", b"\x00\x53\x01", b"", EOF)
+        && cut(rt, by, "in a long binary", b"\xb0\xff\xff\xff\xff\x61\x62\x63", b"", EOF)
+        && cut(rt, by, "in a long list", b"\xd0\xff\xff\xff\xff\x00", b"", EOF)
+        && cut(rt, by, "in a third value", b"\x40\x41\xa1\x05\x61", b"1 40\n1 41\n", EOF)
 }
 
 fn other_codes_are_refused(rt: &HostRuntime, by: Reading) -> bool {
-    has_no_code(rt, by, "code 10", b"\x10", b"")
-        && has_no_code(rt, by, "code 4f", b"\x4f", b"")
-        && has_no_code(rt, by, "code 10 after a value", b"\x40\x10", b"1 40\n")
+    cut(rt, by, "code 10", b"\x10", b"", CODE)
+        && cut(rt, by, "code 4f", b"\x4f", b"", CODE)
+        && cut(rt, by, "code 10 after a value", b"\x40\x10", b"1 40\n", CODE)
 }
 
 fn rows(rt: &HostRuntime, by: Reading) -> bool {
@@ -74,12 +45,11 @@ fn rows(rt: &HostRuntime, by: Reading) -> bool {
         && other_codes_are_refused(rt, by)
 }
 
-const TWO_VALUES: &[u8] = b"\x50\x01\x00\xa1\x01\x61\x45";
-
 fn each_read_fails(rt: &HostRuntime, kind: ErrorKind) -> bool {
+    let input: &[u8] = b"\x50\x01\x00\xa1\x01\x61\x45";
     for failing in 1..=7u64 {
         let text: &[u8] = if failing > 2 { b"2 5001\n" } else { b"" };
-        if !read_fails(rt, Run::Cut, TWO_VALUES, failing, kind, text) {
+        if !read_fails(rt, Run::Cut, input, failing, kind, text) {
             return false;
         }
     }
@@ -90,25 +60,21 @@ const INPUT: &[u8] = b"\x50\x01\x40";
 
 const TEXT: &[u8] = b"2 5001\n1 40\n";
 
+fn one_write_fails(rt: &HostRuntime, fault: Fault) -> bool {
+    each_write_fails(rt, Run::Cut, INPUT, fault, TEXT)
+}
+
+fn single_bytes_are_written(rt: &HostRuntime) -> bool {
+    writes(rt, Run::Cut, INPUT, 0, Fault::Fails, TEXT, "Ok(())")
+}
+
 #[test]
 fn cut_rows(rt: HostRuntime) {
     assert!(rt; rows(&rt, Reading::Slice), "of a slice");
     assert!(rt; rows(&rt, Reading::SingleBytes), "by single bytes");
-    assert!(rt;
-        each_read_fails(&rt, ErrorKind::Interrupted),
-        "a read is interrupted"
-    );
+    assert!(rt; each_read_fails(&rt, ErrorKind::Interrupted), "a read is interrupted");
     assert!(rt; each_read_fails(&rt, ErrorKind::Other), "a read fails");
-    assert!(rt;
-        each_write_fails(&rt, Run::Cut, INPUT, Fault::Fails, TEXT),
-        "a write fails"
-    );
-    assert!(rt;
-        each_write_fails(&rt, Run::Cut, INPUT, Fault::WritesNone, TEXT),
-        "a write of none"
-    );
-    assert!(rt;
-        writes(&rt, Run::Cut, INPUT, 0, Fault::Fails, TEXT, None),
-        "single bytes are written"
-    );
+    assert!(rt; one_write_fails(&rt, Fault::Fails), "a write fails");
+    assert!(rt; one_write_fails(&rt, Fault::WritesNone), "a write of no byte");
+    assert!(rt; single_bytes_are_written(&rt), "single bytes are written");
 }

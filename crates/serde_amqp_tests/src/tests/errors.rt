@@ -1,13 +1,10 @@
 //! The texts of `Error`.
 
-use super::support::wrong;
+use super::rows::is_text;
 use serde_amqp::Error;
 
 fn has_text(rt: &HostRuntime, error: &Error, text: &str) -> bool {
-    match format!(in rt.alloc(); "{error}") {
-        Ok(shown) => shown.as_str() == text || wrong(rt, text, &shown),
-        Err(_) => wrong(rt, text, &"no memory"),
-    }
+    is_text(rt, text, format!(in rt.alloc(); "{error}").ok(), text)
 }
 
 fn each_error_has_its_text(rt: &HostRuntime) -> bool {
@@ -17,11 +14,7 @@ fn each_error_has_its_text(rt: &HostRuntime) -> bool {
         && has_text(rt, &Error::InvalidFormatCode, "invalid format code")
         && has_text(rt, &Error::UnexpectedEof, "unexpected end of input")
         && has_text(rt, &Error::Io, "input or output failed")
-        && has_text(
-            rt,
-            &Error::Message("Expecting a Value"),
-            "Expecting a Value",
-        )
+        && has_text(rt, &Error::Message("Expecting a Value"), "Expecting a Value")
 }
 
 #[test]

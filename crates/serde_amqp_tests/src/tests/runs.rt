@@ -1,11 +1,12 @@
 //! The two runs of the program over one input, and over readers and writers that fail.
 
+use super::rows::{shows, wrong};
 use super::streams::{ByteReader, ByteWriter, Fault};
-use super::support::{ends, is_text, wrong_at};
 use serde_amqp::read::{IoReader, Read, SliceReader};
 use serde_amqp::{Error, IoWriter, VecWriter, Write, run_cut, run_lines};
 use std::alloc::Global;
 use std::io::ErrorKind;
+use std::str;
 
 /// A run of the program.
 #[derive(Clone, Copy)]
@@ -15,7 +16,7 @@ pub enum Run {
 }
 
 /// Runs it.
-pub fn run<R: Read, W: Write>(
+pub fn run_over<R: Read, W: Write>(
     alloc: Global,
     run: Run,
     reader: &mut R,
@@ -27,18 +28,29 @@ pub fn run<R: Read, W: Write>(
     }
 }
 
-// Whether the run over this reader prints this text, and ends with this error, if any.
+/// The printed bytes are this text.
+pub fn is_printed(rt: &HostRuntime, name: &str, got: &[u8], text: &[u8]) -> bool {
+    if got == text {
+        return true;
+    }
+    match str::from_utf8(got) {
+        Ok(got) => wrong(rt, name, got),
+        Err(_) => wrong(rt, name, "bytes that are not UTF-8"),
+    }
+}
+
+// The run over this reader prints this text and has this result.
 fn prints<R: Read>(
     rt: &HostRuntime,
     name: &str,
-    which: Run,
+    run: Run,
     reader: &mut R,
     text: &[u8],
-    error: Option<Error>,
+    result: &str,
 ) -> bool {
     let mut writer = VecWriter::new(rt.alloc());
-    let ended = run_over(rt.alloc(), which, reader, &mut writer);
-    ends(rt, name, ended, error) && is_text(rt, name, writer.as_slice(), text)
+    let got = run_over(rt.alloc(), run, reader, &mut writer);
+    shows(rt, name, &got, result) && is_printed(rt, name, writer.as_slice(), text)
 }
 
 /// How an input is read.
@@ -48,84 +60,73 @@ pub enum Reading {
     SingleBytes,
 }
 
-/// Whether the run over this input prints this text, and ends with this error, if any.
+/// The run over this input prints this text and has this result.
 pub fn row(
     rt: &HostRuntime,
     reading: Reading,
     name: &str,
-    which: Run,
+    run: Run,
     input: &[u8],
     text: &[u8],
-    error: Option<Error>,
+    result: &str,
 ) -> bool {
     match reading {
-        Reading::Slice => prints(rt, name, which, &mut SliceReader::new(input), text, error),
+        Reading::Slice => prints(rt, name, run, &mut SliceReader::new(input), text, result),
         Reading::SingleBytes => {
             let mut reader = IoReader::new(ByteReader::new(input));
-            prints(rt, name, which, &mut reader, text, error)
+            prints(rt, name, run, &mut reader, text, result)
         }
     }
 }
 
-/// Whether the run answers `Io` if this read fails, after this text.
+// Prints the number of the call that was to fail, and answers false.
+fn wrong_at(rt: &HostRuntime, call: &str, number: u64) -> bool {
+    println!(rt; "where {call} {number} fails").is_err() && false
+}
+
+/// If this read fails, the run prints this text and answers `Io`.
 pub fn read_fails(
     rt: &HostRuntime,
-    which: Run,
+    run: Run,
     input: &[u8],
     failing: u64,
     kind: ErrorKind,
     text: &[u8],
 ) -> bool {
     let mut reader = IoReader::new(ByteReader::failing(input, failing, kind));
-    prints(
-        rt,
-        "a read that fails",
-        which,
-        &mut reader,
-        text,
-        Some(Error::Io),
-    ) || wrong_at(rt, "read", failing)
+    prints(rt, "a run", run, &mut reader, text, "Err(Io)") || wrong_at(rt, "read", failing)
 }
 
-/// Whether the run over this input writes this text to a writer of single bytes, one write of which
-/// may fail, and ends with this error, if any.
+/// The run over this input prints this text to a writer, one write of which may fail, and has this
+/// result.
 pub fn writes(
     rt: &HostRuntime,
-    which: Run,
+    run: Run,
     input: &[u8],
     failing: u64,
     fault: Fault,
     text: &[u8],
-    error: Option<Error>,
+    result: &str,
 ) -> bool {
     let mut written = Vec::new(rt.alloc());
     let mut writer = IoWriter::new(ByteWriter::failing(&mut written, failing, fault));
-    let ended = run_over(rt.alloc(), which, &mut SliceReader::new(input), &mut writer);
+    let got = run_over(rt.alloc(), run, &mut SliceReader::new(input), &mut writer);
     drop(writer);
-    ends(rt, "a writer of single bytes", ended, error)
-        && is_text(rt, "a writer of single bytes", written.as_slice(), text)
+    shows(rt, "a run", &got, result) && is_printed(rt, "a run", &written, text)
 }
 
-/// Whether the run answers `Io` if the write of any one byte of its text fails, after the bytes
-/// before it.
+/// If the write of any one byte of this text fails, the run prints the bytes before it and answers
+/// `Io`.
 pub fn each_write_fails(
     rt: &HostRuntime,
-    which: Run,
+    run: Run,
     input: &[u8],
     fault: Fault,
     text: &[u8],
 ) -> bool {
     for before in 0..text.len() {
         let failing = (before as u64).saturating_add(1);
-        if !writes(
-            rt,
-            which,
-            input,
-            failing,
-            fault,
-            &text[..before],
-            Some(Error::Io),
-        ) {
+        if !writes(rt, run, input, failing, fault, &text[..before], "Err(Io)") {
             return wrong_at(rt, "write", failing);
         }
     }
