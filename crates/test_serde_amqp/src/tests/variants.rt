@@ -5,12 +5,11 @@ ghost use Rattle.amqp_ser.specs.Compounds.{whole};
 ghost use Rattle.amqp_ser.specs.Tree.{scalar, bool, int, string, uint, ulong};
 ghost use Rattle.amqp_ser.specs.declared.kind.Kind.TheVariants as kind;
 
-use super::rows::{own_image, row};
-use amqp_data::{Array, OrderedMap};
+use super::made::{array, pairs};
+use super::rows::{own_image_of, row, row_of};
 use amqp_ser::{Serialize, Serializer};
 use serde_amqp::Value;
 use std::alloc::Global;
-use std::test::Fail;
 
 /// A newtype variant, index 1.
 #[derive(Drop)]
@@ -68,49 +67,55 @@ impl Serialize for Unit {
     }
 }
 
-fn one_pair(alloc: Global, index: u32, payload: Value) -> Result<Value, Fail> {
-    let mut pairs = OrderedMap::new(alloc);
-    drop(pairs.insert(Value::Uint(index), payload)?);
-    Ok(Value::Map(pairs))
+const ONE_TO_THIRTEEN: &str = "Map(OrderedMap { entries: [(Uint(1), Ulong(13))] })";
+
+fn one_to_thirteen(alloc: Global) -> Option<Value> {
+    Some(Value::Map(pairs(alloc, [(Value::Uint(1), Value::Ulong(13))])?))
 }
 
-#[test]
-fn variants_are_maps_of_one_pair(rt: HostRuntime) -> Result<(), Fail> {
-    let a = rt.alloc();
-    let image = one_pair(a, 1, Value::Ulong(13))?;
-    own_image(&rt, a, "its image", &image, "c105025201530d");
-    row(&rt, a, "a newtype", &Newtype(13), "c105025201530d", image);
-    let text = Value::String(String::from_str(a, "amqp")?);
-    let fields = Value::List(vec![in a; Value::Int(13), text]?);
-    row(
-        &rt,
-        a,
-        "a tuple",
-        &Tuple(13, "amqp"),
-        "c10e025201c00902540da104616d7170",
-        one_pair(a, 1, fields)?,
-    );
-    let fields = Value::List(vec![in a; Value::Uint(13), Value::Bool(true)]?);
-    row(
-        &rt,
-        a,
-        "a struct",
-        &Struct(13, true),
-        "c1080243c00402520d41",
-        one_pair(a, 0, fields)?,
-    );
-    row(&rt, a, "a unit", &Unit, "5201", Value::Uint(1));
-    Ok(())
+fn variants_are_maps_of_one_pair(rt: &HostRuntime) -> bool {
+    own_image_of(
+        rt,
+        "the image of a newtype",
+        one_to_thirteen(rt.alloc()),
+        "c105025201530d",
+    ) && row(rt, "a newtype", &Newtype(13), "c105025201530d", ONE_TO_THIRTEEN)
+        && row(
+            rt,
+            "a tuple",
+            &Tuple(13, "amqp"),
+            "c10e025201c00902540da104616d7170",
+            "Map(OrderedMap { entries: [(Uint(1), List([Int(13), String(\"amqp\")]))] })",
+        )
+        && row(
+            rt,
+            "a struct",
+            &Struct(13, true),
+            "c1080243c00402520d41",
+            "Map(OrderedMap { entries: [(Uint(0), List([Uint(13), Bool(true)]))] })",
+        )
+        && row(rt, "a unit", &Unit, "5201", "Uint(1)")
 }
 
-#[test]
-fn variants_in_arrays(rt: HostRuntime) -> Result<(), Fail> {
+fn image_of_an_array(alloc: Global) -> Option<Value> {
+    Some(Value::Array(array(alloc, [one_to_thirteen(alloc)?])?))
+}
+
+fn variants_in_arrays(rt: &HostRuntime) -> bool {
     let a = rt.alloc();
-    let array = Array::from(vec![in a; Newtype(13)]?);
-    let pair = one_pair(a, 1, Value::Ulong(13))?;
-    let image = Value::Array(Array::from(vec![in a; pair]?));
     let bytes = "e00e01d100000008000000025201530d";
-    own_image(&rt, a, "its image", &image, bytes);
-    row(&rt, a, "an array of a newtype", &array, bytes, image);
-    Ok(())
+    own_image_of(rt, "the image of an array", image_of_an_array(a), bytes)
+        && row_of(
+            rt,
+            "an array of a newtype",
+            array(a, [Newtype(13)]),
+            bytes,
+            "Array(Array([Map(OrderedMap { entries: [(Uint(1), Ulong(13))] })]))",
+        )
+}
+
+#[test]
+fn variants_have_these_bytes_and_images(rt: HostRuntime) {
+    assert!(rt; variants_are_maps_of_one_pair(&rt), "variants");
+    assert!(rt; variants_in_arrays(&rt), "variants in arrays");
 }

@@ -7,10 +7,9 @@ ghost use Rattle.amqp_ser.specs.declared.kind.Kind.TheVariants.{List};
 
 use super::rows::row;
 use amqp_ser::{Serialize, Serializer};
-use serde_amqp::Value;
-use std::test::Fail;
 
 /// A newtype of no marker's name.
+#[derive(Drop)]
 struct Wrapped(i32);
 
 impl Serialize for Wrapped {
@@ -22,6 +21,7 @@ impl Serialize for Wrapped {
 }
 
 /// A struct with one field.
+#[derive(Drop)]
 struct Outer {
     inner: Wrapped,
 }
@@ -37,17 +37,8 @@ impl Serialize for Outer {
 }
 
 #[test]
-fn structs_are_lists_of_their_fields(rt: HostRuntime) -> Result<(), Fail> {
-    let a = rt.alloc();
-    let fields = Value::List(vec![in a; Value::Int(3)]?);
-    let image = Value::List(vec![in a; fields]?);
-    row(
-        &rt,
-        a,
-        "a tuple of a struct",
-        &(Outer { inner: Wrapped(3) },),
-        "c00601c003015403",
-        image,
-    );
-    Ok(())
+fn structs_are_lists_of_their_fields(rt: HostRuntime) {
+    let value = (Outer { inner: Wrapped(3) },);
+    let bytes = "c00601c003015403";
+    assert!(rt; row(&rt, "a tuple of a struct", &value, bytes, "List([List([Int(3)])])"));
 }

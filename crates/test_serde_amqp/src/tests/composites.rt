@@ -6,12 +6,12 @@ ghost use Rattle.amqp_ser.specs.Compounds.{whole};
 ghost use Rattle.amqp_ser.specs.Tree.{code, scalar, ubyte, bool};
 ghost use Rattle.amqp_ser.specs.declared.kind.Kind.TheVariants.{List};
 
-use super::rows::{own_image, refused, row};
-use amqp_data::{Array, Described, Descriptor, OrderedMap, Symbol, SymbolRef, markers};
+use super::made::{array, described, list, pairs, symbol, text};
+use super::rows::{begins, begins_of, only_imaged, own_image_of, refused_of, row, row_of, wrong};
+use amqp_data::{Described, Descriptor, OrderedMap, Symbol, SymbolRef, markers};
 use amqp_ser::{Serialize, Serializer};
-use serde_amqp::{Error, Value, serialized_size, to_value, to_vec};
+use serde_amqp::Value;
 use std::alloc::Global;
-use std::test::Fail;
 
 /// A list composite of two fields, code 0x13.
 #[derive(Drop)]
@@ -104,141 +104,129 @@ impl Serialize for Bare {
     }
 }
 
-fn described(alloc: Global, code: u64, value: Value) -> Result<Value, Fail> {
-    let described = Described {
-        descriptor: Descriptor::Code(code),
-        value,
-    };
-    Ok(Value::Described(Box::new(alloc, described)?))
+fn one_true(alloc: Global) -> Option<Value> {
+    described(alloc, 1, Value::List(list(alloc, [Value::Bool(true)])?))
 }
 
-#[test]
-fn list_composites(rt: HostRuntime) -> Result<(), Fail> {
-    let a = rt.alloc();
-    let empty = described(a, 1, Value::List(Vec::new(a)))?;
-    row(&rt, a, "no fields", &Empty, "00530145", empty);
-    let two = Value::List(vec![in a; Value::Bool(true), Value::Int(3)]?);
-    let two = described(a, 0x13, two)?;
+fn list_composites(rt: &HostRuntime) -> bool {
     row(
-        &rt,
-        a,
+        rt,
+        "no fields",
+        &Empty,
+        "00530145",
+        "Described(Described { descriptor: Code(1), value: List([]) })",
+    ) && row(
+        rt,
         "two fields",
         &Pair(Some(true), Some(3i32)),
         "005313c00402415403",
-        two,
-    );
-    let one = described(a, 1, Value::List(vec![in a; Value::Bool(true)]?))?;
-    own_image(&rt, a, "its image", &one, "005301c0020141");
-    row(&rt, a, "a tuple struct", &One(true), "005301c0020141", one);
-    Ok(())
+        "Described(Described { descriptor: Code(19), value: List([Bool(true), Int(3)]) })",
+    ) && own_image_of(
+        rt,
+        "the image of a tuple struct",
+        one_true(rt.alloc()),
+        "005301c0020141",
+    ) && row(
+        rt,
+        "a tuple struct",
+        &One(true),
+        "005301c0020141",
+        "Described(Described { descriptor: Code(1), value: List([Bool(true)]) })",
+    )
 }
 
-#[test]
-fn lists_measure_their_own_bodies(rt: HostRuntime) -> Result<(), Fail> {
-    let a = rt.alloc();
-    let text = String::from_utf8(vec![in a; b'x'; 252]?)?;
-    assert_eq!(rt; serialized_size(&One(text.as_str())), Ok(260));
-    let bytes = to_vec(a, &One(text.as_str()))?;
-    assert_eq!(rt; bytes.len(), 260);
-    assert!(rt; bytes.starts_with(&[0x00, 0x53, 0x01, 0xc0, 0xff, 0x01, 0xa1, 0xfc]));
-    let name = String::from_utf8(vec![in a; b'n'; 250]?)?;
-    let value = Described {
-        descriptor: Descriptor::from(Symbol::from(name)),
+fn long_field(rt: &HostRuntime) -> bool {
+    match text(rt.alloc(), b'x', 252) {
+        Some(text) => begins(rt, "a field", &One(text.as_str()), 260, "005301c0ff01a1fc"),
+        None => wrong(rt, "a field", "no memory"),
+    }
+}
+
+fn after_a_long_name(alloc: Global) -> Option<Described<(&'static str,)>> {
+    Some(Described {
+        descriptor: Descriptor::from(Symbol::from(text(alloc, b'n', 250)?)),
         value: ("a",),
-    };
-    assert_eq!(rt; serialized_size(&value), Ok(259));
-    assert_eq!(rt; to_vec(a, &value)?.len(), 259);
-    Ok(())
+    })
 }
 
-#[test]
-fn basic_composites(rt: HostRuntime) -> Result<(), Fail> {
-    let a = rt.alloc();
-    let mut map = OrderedMap::new(a);
-    drop(map.insert(SymbolRef::from("a"), 1i32)?);
-    drop(map.insert(SymbolRef::from("b"), 2i32)?);
-    let section = Section(map);
-    let mut pairs = OrderedMap::new(a);
-    let key = Value::Symbol(Symbol::try_from_str(a, "a")?);
-    drop(pairs.insert(key, Value::Int(1))?);
-    let key = Value::Symbol(Symbol::try_from_str(a, "b")?);
-    drop(pairs.insert(key, Value::Int(2))?);
-    let image = described(a, 1, Value::Map(pairs))?;
-    row(
-        &rt,
-        a,
+fn lists_measure_their_own_bodies(rt: &HostRuntime) -> bool {
+    long_field(rt) && begins_of(rt, "a long name", after_a_long_name(rt.alloc()), 259, "00a3fa6e")
+}
+
+fn section_of_a_map(alloc: Global) -> Option<Section<OrderedMap<SymbolRef<'static>, i32>>> {
+    let a = SymbolRef::from("a");
+    let b = SymbolRef::from("b");
+    Some(Section(pairs(alloc, [(a, 1i32), (b, 2i32)])?))
+}
+
+fn basic_composites(rt: &HostRuntime) -> bool {
+    row_of(
+        rt,
         "a section of a map",
-        &section,
+        section_of_a_map(rt.alloc()),
         "005301c10b04a301615401a301625402",
-        image,
-    );
-    row(&rt, a, "no descriptor", &Bare(7), "5007", Value::Ubyte(7));
-    let value = Section(Plain { a: 1 });
-    let image = described(a, 1, Value::List(vec![in a; Value::Ubyte(1)]?))?;
-    row(
-        &rt,
-        a,
-        "a section of a struct",
-        &value,
-        "005301c003015001",
-        image,
-    );
-    Ok(())
+        "Described(Described { descriptor: Code(1), value: Map(OrderedMap { entries: \
+         [(Symbol(Symbol(\"a\")), Int(1)), (Symbol(Symbol(\"b\")), Int(2))] }) })",
+    ) && row(rt, "no descriptor", &Bare(7), "5007", "Ubyte(7)")
+        && row(
+            rt,
+            "a section of a struct",
+            &Section(Plain { a: 1 }),
+            "005301c003015001",
+            "Described(Described { descriptor: Code(1), value: List([Ubyte(1)]) })",
+        )
 }
 
-#[test]
-fn described_values_by_name_and_code(rt: HostRuntime) -> Result<(), Fail> {
-    let a = rt.alloc();
-    let named = Described {
-        descriptor: Descriptor::from(Symbol::try_from_str(a, "a:b")?),
+fn by_name(alloc: Global) -> Option<Described<u8>> {
+    Some(Described {
+        descriptor: Descriptor::from(symbol(alloc, "a:b")?),
         value: 5u8,
-    };
-    let image = Described {
-        descriptor: Descriptor::from(Symbol::try_from_str(a, "a:b")?),
-        value: Value::Ubyte(5),
-    };
-    let image = Value::Described(Box::new(a, image)?);
-    row(&rt, a, "by name", &named, "00a303613a625005", image);
+    })
+}
+
+fn one_in_another() -> Described<Described<bool>> {
     let inner = Described {
         descriptor: Descriptor::from(1u64),
         value: true,
     };
-    let outer = Described {
+    Described {
         descriptor: Descriptor::from(256u64),
         value: inner,
-    };
-    let image = described(a, 256, described(a, 1, Value::Bool(true))?)?;
-    row(
-        &rt,
-        a,
+    }
+}
+
+fn described_values_by_name_and_code(rt: &HostRuntime) -> bool {
+    row_of(
+        rt,
+        "by name",
+        by_name(rt.alloc()),
+        "00a303613a625005",
+        "Described(Described { descriptor: Name(Symbol(\"a:b\")), value: Ubyte(5) })",
+    ) && row(
+        rt,
         "one in another",
-        &outer,
+        &one_in_another(),
         "0080000000000000010000530141",
-        image,
-    );
-    Ok(())
+        "Described(Described { descriptor: Code(256), value: \
+         Described(Described { descriptor: Code(1), value: Bool(true) }) })",
+    )
+}
+
+fn array_of_described(alloc: Global) -> Option<Value> {
+    Some(Value::Array(array(alloc, [described(alloc, 1, Value::Null)?])?))
+}
+
+fn described_elements_are_refused(rt: &HostRuntime) -> bool {
+    let a = rt.alloc();
+    refused_of(rt, "an array of a composite", array(a, [Empty]))
+        && only_imaged(rt, "an array of a described value", array_of_described(a))
 }
 
 #[test]
-fn described_elements_are_refused(rt: HostRuntime) -> Result<(), Fail> {
-    let a = rt.alloc();
-    let array = Array::from(vec![in a; Empty]?);
-    refused(
-        &rt,
-        a,
-        "an array of a composite",
-        &array,
-        Error::InvalidValue,
-    );
-    let element = described(a, 1, Value::Null)?;
-    let array = Value::Array(Array::from(vec![in a; element]?));
-    refused(
-        &rt,
-        a,
-        "an array of a described value",
-        &array,
-        Error::InvalidValue,
-    );
-    assert!(rt; to_value(a, &array)? == array, "its image is itself");
-    Ok(())
+fn composites_have_these_bytes_and_images(rt: HostRuntime) {
+    assert!(rt; list_composites(&rt), "list composites");
+    assert!(rt; lists_measure_their_own_bodies(&rt), "lists measure their own bodies");
+    assert!(rt; basic_composites(&rt), "basic composites");
+    assert!(rt; described_values_by_name_and_code(&rt), "described values");
+    assert!(rt; described_elements_are_refused(&rt), "described elements");
 }
