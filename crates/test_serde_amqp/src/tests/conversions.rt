@@ -48,7 +48,11 @@ fn fixed_widths_are_converted_to_their_images(rt: &HostRuntime) -> bool {
     scalar(rt, F32Bits::from(0x8000_0000), "Float(F32Bits(2147483648))")
         && scalar(rt, F64Bits::from(5), "Double(F64Bits(5))")
         && scalar(rt, Dec32::from([6; 4]), "Decimal32(Dec32([6, 6, 6, 6]))")
-        && scalar(rt, Dec64::from([7; 8]), "Decimal64(Dec64([7, 7, 7, 7, 7, 7, 7, 7]))")
+        && scalar(
+            rt,
+            Dec64::from([7; 8]),
+            "Decimal64(Dec64([7, 7, 7, 7, 7, 7, 7, 7]))",
+        )
         && scalar(rt, Dec128::from([8; 16]), EIGHTS)
         && scalar(rt, 'a', "Char('a')")
         && scalar(rt, Timestamp::from(-9), "Timestamp(Timestamp(-9))")
@@ -123,8 +127,17 @@ fn a_string_has_its_code_and_is_no_number(rt: &HostRuntime) -> bool {
     match Value::try_from_str(rt.alloc(), "a") {
         Ok(text) => {
             let code = u8::from(EncodingCodes::Str32);
-            shows(rt, "the code of a string", &(text.format_code() == code), "true")
-                && shows(rt, "a string as a u8", &u8::try_from(text), "Err(String(\"a\"))")
+            shows(
+                rt,
+                "the code of a string",
+                &(text.format_code() == code),
+                "true",
+            ) && shows(
+                rt,
+                "a string as a u8",
+                &u8::try_from(text),
+                "Err(String(\"a\"))",
+            )
         }
         Err(_) => wrong(rt, "a string", "no memory"),
     }
@@ -140,11 +153,17 @@ fn null_is_no_map_and_values_have_an_order(rt: &HostRuntime) -> bool {
 #[test]
 fn conversions(rt: HostRuntime) {
     assert!(rt; numbers_are_converted_to_their_images(&rt), "numbers");
-    assert!(rt; fixed_widths_are_converted_to_their_images(&rt), "fixed widths");
+    assert!(rt;
+        fixed_widths_are_converted_to_their_images(&rt),
+        "fixed widths"
+    );
     assert!(rt; texts_are_converted_to_their_images(&rt), "texts");
     assert!(rt; lists_are_converted_to_their_images(&rt), "lists");
     assert!(rt; arrays_are_converted_to_their_images(&rt), "arrays");
     assert!(rt; maps_are_converted_to_their_images(&rt), "maps");
     assert!(rt; a_string_has_its_code_and_is_no_number(&rt), "a string");
-    assert!(rt; null_is_no_map_and_values_have_an_order(&rt), "null and order");
+    assert!(rt;
+        null_is_no_map_and_values_have_an_order(&rt),
+        "null and order"
+    );
 }

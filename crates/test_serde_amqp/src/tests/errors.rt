@@ -14,7 +14,11 @@ fn each_error_has_its_text(rt: &HostRuntime) -> bool {
         && has_text(rt, &Error::InvalidFormatCode, "invalid format code")
         && has_text(rt, &Error::UnexpectedEof, "unexpected end of input")
         && has_text(rt, &Error::Io, "input or output failed")
-        && has_text(rt, &Error::Message("Expecting a Value"), "Expecting a Value")
+        && has_text(
+            rt,
+            &Error::Message("Expecting a Value"),
+            "Expecting a Value",
+        )
 }
 
 #[test]

@@ -36,9 +36,20 @@ fn fails(rt: &HostRuntime, name: &str, run: Run, input: &[u8]) -> bool {
 }
 
 fn runs_flush_what_they_print(rt: &HostRuntime) -> bool {
-    is_flushed(rt, "two values", Run::Cut, b"\x50\x01\x40", b"2 5001\n1 40\n")
-        && is_flushed(rt, "no value", Run::Cut, b"", b"")
-        && is_flushed(rt, "no line", Run::Lines, b"", b"size 1\nbytes 45\ntext []\n")
+    is_flushed(
+        rt,
+        "two values",
+        Run::Cut,
+        b"\x50\x01\x40",
+        b"2 5001\n1 40\n",
+    ) && is_flushed(rt, "no value", Run::Cut, b"", b"")
+        && is_flushed(
+            rt,
+            "no line",
+            Run::Lines,
+            b"",
+            b"size 1\nbytes 45\ntext []\n",
+        )
 }
 
 fn a_flush_that_fails_is_reported(rt: &HostRuntime) -> bool {

@@ -6,9 +6,7 @@ use super::made::{array, described, list, pairs, symbol};
 use super::rows::{has_image, imaged, imaged_of, shows, wrong};
 use serde_amqp::Value;
 use serde_amqp::lazy::{LazyValue, to_lazy_value};
-use serde_amqp::primitives::{
-    ByteBuf, Dec32, Dec64, Dec128, F32Bits, F64Bits, Timestamp, Uuid,
-};
+use serde_amqp::primitives::{ByteBuf, Dec32, Dec64, Dec128, F32Bits, F64Bits, Timestamp, Uuid};
 use serde_amqp::read::SliceReader;
 use std::alloc::Global;
 
@@ -42,8 +40,7 @@ fn compounds_are_read_if_their_parts_fill_them(rt: &HostRuntime) -> bool {
         && read(rt, "00a3016140", COMPOSITE)
 }
 
-const COMPOSITE: &str =
-    "Described(Described { descriptor: Name(Symbol(\"a\")), value: Null })";
+const COMPOSITE: &str = "Described(Described { descriptor: Name(Symbol(\"a\")), value: Null })";
 
 fn arrays_are_read_if_their_elements_fill_them(rt: &HostRuntime) -> bool {
     read(rt, "e00100", "Array(Array([]))")
@@ -65,8 +62,17 @@ fn pair(alloc: Global, first: &str, second: &str) -> Option<Vec<LazyValue>> {
 
 fn the_elements_of_a_list_are_read(rt: &HostRuntime) -> bool {
     let a = rt.alloc();
-    imaged_of(rt, "two lazy values", pair(a, "43", "5001"), "List([Uint(0), Ubyte(1)])")
-        && imaged_of(rt, "an unknown code", pair(a, "43", "46"), "InvalidFormatCode")
+    imaged_of(
+        rt,
+        "two lazy values",
+        pair(a, "43", "5001"),
+        "List([Uint(0), Ubyte(1)])",
+    ) && imaged_of(
+        rt,
+        "an unknown code",
+        pair(a, "43", "46"),
+        "InvalidFormatCode",
+    )
 }
 
 // The empty list inside so many lists, each spelled with a size of four bytes.
@@ -105,7 +111,12 @@ fn two_hundred_and_fifty_six_levels_are_read(rt: &HostRuntime) -> bool {
 }
 
 fn more_levels_are_refused(rt: &HostRuntime) -> bool {
-    imaged_of(rt, "inside 256 lists", nested_spelling(rt.alloc(), 256), "InvalidValue")
+    imaged_of(
+        rt,
+        "inside 256 lists",
+        nested_spelling(rt.alloc(), 256),
+        "InvalidValue",
+    )
 }
 
 // The value comes back from its lazy value.
@@ -177,7 +188,12 @@ fn binary(alloc: Global) -> Option<Value> {
 }
 
 fn uints(alloc: Global) -> Option<Value> {
-    let items = [Value::Uint(1), Value::Uint(2), Value::Uint(3), Value::Uint(4)];
+    let items = [
+        Value::Uint(1),
+        Value::Uint(2),
+        Value::Uint(3),
+        Value::Uint(4),
+    ];
     Some(Value::List(list(alloc, items)?))
 }
 
@@ -206,7 +222,11 @@ fn texts_and_compounds_come_back(rt: &HostRuntime) -> bool {
         && comes_back_of(rt, symbol_value(a), "Symbol(Symbol(\"amqp\"))")
         && comes_back_of(rt, uints(a), "List([Uint(1), Uint(2), Uint(3), Uint(4)])")
         && comes_back_of(rt, uints_to_bools(a), MAP)
-        && comes_back_of(rt, ints(a), "Array(Array([Int(1), Int(2), Int(3), Int(4)]))")
+        && comes_back_of(
+            rt,
+            ints(a),
+            "Array(Array([Int(1), Int(2), Int(3), Int(4)]))",
+        )
         && comes_back_of(rt, composite(a), FIELDS)
 }
 
@@ -222,10 +242,19 @@ const FIELDS: &str =
 #[test]
 fn lazy_reading(rt: HostRuntime) {
     assert!(rt; scalars_are_read_in_every_spelling(&rt), "scalars");
-    assert!(rt; compounds_are_read_if_their_parts_fill_them(&rt), "compounds");
+    assert!(rt;
+        compounds_are_read_if_their_parts_fill_them(&rt),
+        "compounds"
+    );
     assert!(rt; arrays_are_read_if_their_elements_fill_them(&rt), "arrays");
-    assert!(rt; the_elements_of_a_list_are_read(&rt), "a list of lazy values");
-    assert!(rt; two_hundred_and_fifty_six_levels_are_read(&rt), "256 levels");
+    assert!(rt;
+        the_elements_of_a_list_are_read(&rt),
+        "a list of lazy values"
+    );
+    assert!(rt;
+        two_hundred_and_fifty_six_levels_are_read(&rt),
+        "256 levels"
+    );
     assert!(rt; more_levels_are_refused(&rt), "257 levels");
     assert!(rt; unsigned_numbers_come_back(&rt), "unsigned numbers");
     assert!(rt; signed_numbers_come_back(&rt), "signed numbers");

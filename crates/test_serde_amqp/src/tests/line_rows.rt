@@ -19,7 +19,13 @@ fn lines_are_listed(rt: &HostRuntime, by: Reading) -> bool {
     lines(rt, by, "two lines", b"a\nbc\n", TWO)
         && lines(rt, by, "a last line without 0a", b"a\nbc", TWO)
         && lines(rt, by, "no line", b"", b"size 1\nbytes 45\ntext []\n")
-        && lines(rt, by, "an empty line", b"\n", b"size 5\nbytes c00301a100\ntext [\"\"]\n")
+        && lines(
+            rt,
+            by,
+            "an empty line",
+            b"\n",
+            b"size 5\nbytes c00301a100\ntext [\"\"]\n",
+        )
         && lines(rt, by, "two empty lines", b"\n\nx", THREE)
 }
 
@@ -30,7 +36,13 @@ const CONTROLS: &[u8] = b"size 8\nbytes c00601a103001b7f\ntext [\"\\0\\u{1b}\\u{
 fn texts_have_escapes(rt: &HostRuntime, by: Reading) -> bool {
     let accent: &[u8] = b"size 7\nbytes c00501a102c3a9\ntext [\"\xc3\xa9\"]\n";
     lines(rt, by, "a quote and a backslash", b"a\"b\\", QUOTE)
-        && lines(rt, by, "0d", b"a\r\n", b"size 7\nbytes c00501a102610d\ntext [\"a\\r\"]\n")
+        && lines(
+            rt,
+            by,
+            "0d",
+            b"a\r\n",
+            b"size 7\nbytes c00501a102610d\ntext [\"a\\r\"]\n",
+        )
         && lines(rt, by, "controls", b"\x00\x1b\x7f", CONTROLS)
         && lines(rt, by, "an accent", b"\xc3\xa9\n", accent)
 }
@@ -40,7 +52,15 @@ fn rows(rt: &HostRuntime, by: Reading) -> bool {
 }
 
 fn is_not_utf8(rt: &HostRuntime, name: &str, input: &[u8]) -> bool {
-    row(rt, Reading::Slice, name, Run::Lines, input, b"", "Err(InvalidValue)")
+    row(
+        rt,
+        Reading::Slice,
+        name,
+        Run::Lines,
+        input,
+        b"",
+        "Err(InvalidValue)",
+    )
 }
 
 fn what_is_not_utf8_is_refused(rt: &HostRuntime) -> bool {
@@ -56,7 +76,12 @@ fn begins(rt: &HostRuntime, name: &str, byte: u8, count: usize, text: &[u8]) -> 
         return false;
     };
     let mut writer = VecWriter::new(rt.alloc());
-    let got = run_over(rt.alloc(), Run::Lines, &mut SliceReader::new(&input), &mut writer);
+    let got = run_over(
+        rt.alloc(),
+        Run::Lines,
+        &mut SliceReader::new(&input),
+        &mut writer,
+    );
     let printed = writer.as_slice();
     let len = printed.len().min(text.len());
     shows(rt, name, &got, "Ok(())") && is_printed(rt, name, &printed[..len], text)
@@ -69,10 +94,21 @@ const LONG_STRING: &[u8] = b"size 269\nbytes d00000010800000001b1000000ff7878";
 const MANY: &[u8] = b"size 265\nbytes d00000010400000080a100a100";
 
 fn widths_are_the_shortest(rt: &HostRuntime) -> bool {
-    begins(rt, "a line of 252 bytes", b'x', 252, b"size 257\nbytes c0ff01a1fc7878")
-        && begins(rt, "a line of 254 bytes", b'x', 254, LONG_LIST)
+    begins(
+        rt,
+        "a line of 252 bytes",
+        b'x',
+        252,
+        b"size 257\nbytes c0ff01a1fc7878",
+    ) && begins(rt, "a line of 254 bytes", b'x', 254, LONG_LIST)
         && begins(rt, "a line of 255 bytes", b'x', 255, LONG_STRING)
-        && begins(rt, "127 empty lines", b'\n', 127, b"size 257\nbytes c0ff7fa100a100")
+        && begins(
+            rt,
+            "127 empty lines",
+            b'\n',
+            127,
+            b"size 257\nbytes c0ff7fa100a100",
+        )
         && begins(rt, "128 empty lines", b'\n', 128, MANY)
 }
 
@@ -95,8 +131,14 @@ fn line_rows(rt: HostRuntime) {
     assert!(rt; rows(&rt, Reading::SingleBytes), "by single bytes");
     assert!(rt; what_is_not_utf8_is_refused(&rt), "what is not UTF-8");
     assert!(rt; widths_are_the_shortest(&rt), "widths");
-    assert!(rt; each_read_fails(&rt, ErrorKind::Interrupted), "a read is interrupted");
+    assert!(rt;
+        each_read_fails(&rt, ErrorKind::Interrupted),
+        "a read is interrupted"
+    );
     assert!(rt; each_read_fails(&rt, ErrorKind::Other), "a read fails");
     assert!(rt; one_write_fails(&rt, Fault::Fails), "a write fails");
-    assert!(rt; one_write_fails(&rt, Fault::WritesNone), "a write of no byte");
+    assert!(rt;
+        one_write_fails(&rt, Fault::WritesNone),
+        "a write of no byte"
+    );
 }

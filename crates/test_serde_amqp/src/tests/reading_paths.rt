@@ -22,8 +22,12 @@ fn list(alloc: Global) -> Result<value::de::Deserializer, Error> {
 fn values_are_read(rt: &HostRuntime) -> bool {
     let a = rt.alloc();
     let inner = value::de::from_value::<u32>(a, Value::Uint(1));
-    shows(rt, "from_value", &from_value::<u32>(a, Value::Uint(1)), "Ok(1)")
-        && shows(rt, "value::de::from_value", &inner, "Ok(1)")
+    shows(
+        rt,
+        "from_value",
+        &from_value::<u32>(a, Value::Uint(1)),
+        "Ok(1)",
+    ) && shows(rt, "value::de::from_value", &inner, "Ok(1)")
         && shows(rt, "deserialize", &u32::deserialize(a, uint(a)), "Ok(1)")
         && shows(rt, "restored", &value::restored(a, &7u64), "Ok(7)")
 }
@@ -105,10 +109,22 @@ fn second_variant(alloc: Global) -> bool {
 
 fn seeds_read_parts_of_types(rt: &HostRuntime) -> bool {
     let a = rt.alloc();
-    shows(rt, "a type", &de::Of(PhantomData::<u32>).read(a, uint(a)), "Ok(1)")
-        && shows(rt, "a required field", &seeded(a, de::ListOf(required())), "Ok((1, ()))")
-        && shows(rt, "an optional field", &seeded(a, de::NamedOf(optional())), "Ok((Some(1), ()))")
-        && shows(rt, "the second variant", &second_variant(a), "true")
+    shows(
+        rt,
+        "a type",
+        &de::Of(PhantomData::<u32>).read(a, uint(a)),
+        "Ok(1)",
+    ) && shows(
+        rt,
+        "a required field",
+        &seeded(a, de::ListOf(required())),
+        "Ok((1, ()))",
+    ) && shows(
+        rt,
+        "an optional field",
+        &seeded(a, de::NamedOf(optional())),
+        "Ok((Some(1), ()))",
+    ) && shows(rt, "the second variant", &second_variant(a), "true")
 }
 
 // The first element of a list.
@@ -151,7 +167,12 @@ fn first_of_map(alloc: Global) -> Result<Option<(u32, u32)>, Error> {
 fn one_level_is_opened(rt: &HostRuntime) -> bool {
     let a = rt.alloc();
     shows(rt, "a list", &first_of_list(a), "Ok(Some(1))")
-        && shows(rt, "no list", &first_element(a, uint(a)), "Err(InvalidValue)")
+        && shows(
+            rt,
+            "no list",
+            &first_element(a, uint(a)),
+            "Err(InvalidValue)",
+        )
         && shows(rt, "an empty map", &first_of_map(a), "Ok(None)")
 }
 
@@ -212,7 +233,7 @@ fn map(alloc: Global) -> Result<Value, Error> {
     Ok(Value::Map(pairs))
 }
 
-fn count(alloc: Global) -> Result<(u32, ()), Error> {
+fn count_of_a_list(alloc: Global) -> Result<(u32, ()), Error> {
     de::read::<Count, _, _>(alloc, list(alloc)?, de::ListOf(required()))
 }
 
@@ -238,11 +259,16 @@ fn count_of_a_described_map(alloc: Global) -> Result<(u32, ()), Error> {
 
 fn records_are_read(rt: &HostRuntime) -> bool {
     let a = rt.alloc();
-    shows(rt, "read", &count(a), "Ok((1, ()))")
+    shows(rt, "read", &count_of_a_list(a), "Ok((1, ()))")
         && shows(rt, "read_described", &count_after_a_descriptor(a), "Ok(1)")
         && shows(rt, "read_composite", &count_of_a_composite(a), "Ok(1)")
         && shows(rt, "read_map", &count_of_a_map(a), "Ok((1, ()))")
-        && shows(rt, "read_described_map", &count_of_a_described_map(a), "Ok((1, ()))")
+        && shows(
+            rt,
+            "read_described_map",
+            &count_of_a_described_map(a),
+            "Ok((1, ()))",
+        )
 }
 
 fn any_value(alloc: Global) -> bool {
@@ -270,7 +296,12 @@ fn types_of_a_program_are_read(rt: &HostRuntime) -> bool {
     let is = de::Describes::is(&1u64, &descriptor::Descriptor::Code(1));
     shows(rt, "deserialize_any", &any_value(rt.alloc()), "true")
         && shows(rt, "is", &is, "true")
-        && shows(rt, "a missing value", &variant_without_its_value(rt.alloc()), "true")
+        && shows(
+            rt,
+            "a missing value",
+            &variant_without_its_value(rt.alloc()),
+            "true",
+        )
 }
 
 #[test]

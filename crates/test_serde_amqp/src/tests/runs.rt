@@ -46,11 +46,11 @@ fn prints<R: Read>(
     run: Run,
     reader: &mut R,
     text: &[u8],
-    result: &str,
+    wanted: &str,
 ) -> bool {
     let mut writer = VecWriter::new(rt.alloc());
     let got = run_over(rt.alloc(), run, reader, &mut writer);
-    shows(rt, name, &got, result) && is_printed(rt, name, writer.as_slice(), text)
+    shows(rt, name, &got, wanted) && is_printed(rt, name, writer.as_slice(), text)
 }
 
 /// How an input is read.
@@ -68,13 +68,13 @@ pub fn row(
     run: Run,
     input: &[u8],
     text: &[u8],
-    result: &str,
+    wanted: &str,
 ) -> bool {
     match reading {
-        Reading::Slice => prints(rt, name, run, &mut SliceReader::new(input), text, result),
+        Reading::Slice => prints(rt, name, run, &mut SliceReader::new(input), text, wanted),
         Reading::SingleBytes => {
             let mut reader = IoReader::new(ByteReader::new(input));
-            prints(rt, name, run, &mut reader, text, result)
+            prints(rt, name, run, &mut reader, text, wanted)
         }
     }
 }
@@ -106,13 +106,13 @@ pub fn writes(
     failing: u64,
     fault: Fault,
     text: &[u8],
-    result: &str,
+    wanted: &str,
 ) -> bool {
     let mut written = Vec::new(rt.alloc());
     let mut writer = IoWriter::new(ByteWriter::failing(&mut written, failing, fault));
     let got = run_over(rt.alloc(), run, &mut SliceReader::new(input), &mut writer);
     drop(writer);
-    shows(rt, "a run", &got, result) && is_printed(rt, "a run", &written, text)
+    shows(rt, "a run", &got, wanted) && is_printed(rt, "a run", &written, text)
 }
 
 /// If the write of any one byte of this text fails, the run prints the bytes before it and answers
