@@ -18,6 +18,7 @@ mod paths;
 mod reading_paths;
 mod refused_calls;
 mod rows;
+mod runs;
 mod scalars;
 mod streams;
 mod structs;

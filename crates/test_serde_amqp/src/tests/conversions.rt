@@ -1,95 +1,169 @@
-//! Conversions, format codes and order, by the names that are handed out.
+//! Conversions to and from untyped values, format codes and order.
 
+use super::made::{array, list, symbol};
+use super::rows::{is_value, shows, wrong};
 use serde_amqp::format_code::EncodingCodes;
 use serde_amqp::primitives::{
-    Array, ByteBuf, Dec32, Dec64, Dec128, F32Bits, F64Bits, OrderedMap, Symbol, Timestamp, Uuid,
+    ByteBuf, Dec32, Dec64, Dec128, F32Bits, F64Bits, OrderedMap, Timestamp, Uuid,
 };
 use serde_amqp::ser::Serialize;
-use serde_amqp::value::{ConvertFault, Value, to_value};
+use serde_amqp::value::{Value, to_value};
 use std::alloc::Global;
 use std::collections::BTreeMap;
-use std::process::Abort;
-use std::test::Fail;
 
-// The value of the content and its untyped value are equal.
-fn are_one<R, T>(rt: &R, alloc: Global, content: T) -> Result<(), Fail>
+// The image of the scalar is this value, and so is its conversion.
+fn scalar<T>(rt: &HostRuntime, scalar: T, value: &str) -> bool
 where
-    R: Abort,
     T: Serialize + Into<Value> + Drop,
 {
-    let image = to_value(alloc, &content)?;
-    let value: Value = content.into();
-    assert_eq!(rt; image, value);
-    Ok(())
+    is_value(rt, value, to_value(rt.alloc(), &scalar), value)
+        && shows(rt, value, &scalar.into(), value)
 }
 
-#[test]
-fn a_scalar_and_its_untyped_value_are_one(rt: HostRuntime) -> Result<(), Fail> {
-    let alloc = rt.alloc();
-    assert_eq!(rt; Value::from(7u32), Value::Uint(7));
-    assert_eq!(rt; to_value(alloc, &7u32)?, Value::Uint(7));
-    let symbol = Symbol::try_from_str(alloc, "a")?;
-    let expected = Value::Symbol(Symbol::try_from_str(alloc, "a")?);
-    assert_eq!(rt; to_value(alloc, &symbol)?, expected);
-    assert_eq!(rt; Value::from(symbol), expected);
-    Ok(())
+// Like `scalar`, of a scalar for which memory was allocated.
+fn scalar_of<T>(rt: &HostRuntime, content: Option<T>, value: &str) -> bool
+where
+    T: Serialize + Into<Value> + Drop,
+{
+    match content {
+        Some(content) => scalar(rt, content, value),
+        None => wrong(rt, value, "no memory"),
+    }
 }
 
-#[test]
-fn every_scalar_and_its_untyped_value_are_one(rt: HostRuntime) -> Result<(), Fail> {
-    let alloc = rt.alloc();
-    are_one(&rt, alloc, true)?;
-    are_one(&rt, alloc, 1u8)?;
-    are_one(&rt, alloc, 2u16)?;
-    are_one(&rt, alloc, 3u32)?;
-    are_one(&rt, alloc, 4u64)?;
-    are_one(&rt, alloc, -1i8)?;
-    are_one(&rt, alloc, -2i16)?;
-    are_one(&rt, alloc, -3i32)?;
-    are_one(&rt, alloc, -4i64)?;
-    are_one(&rt, alloc, F32Bits::from(0x8000_0000))?;
-    are_one(&rt, alloc, F64Bits::from(5))?;
-    are_one(&rt, alloc, Dec32::from([6; 4]))?;
-    are_one(&rt, alloc, Dec64::from([7; 8]))?;
-    are_one(&rt, alloc, Dec128::from([8; 16]))?;
-    are_one(&rt, alloc, 'a')?;
-    are_one(&rt, alloc, Timestamp::from(-9))?;
-    are_one(&rt, alloc, Uuid::from([10; 16]))?;
-    are_one(&rt, alloc, ByteBuf::from([11].to_vec(alloc)?))?;
-    are_one(&rt, alloc, String::from_str(alloc, "a")?)?;
-    are_one(&rt, alloc, Symbol::try_from_str(alloc, "a")?)
+fn numbers_are_converted_to_their_images(rt: &HostRuntime) -> bool {
+    scalar(rt, true, "Bool(true)")
+        && scalar(rt, 1u8, "Ubyte(1)")
+        && scalar(rt, 2u16, "Ushort(2)")
+        && scalar(rt, 3u32, "Uint(3)")
+        && scalar(rt, 7u32, "Uint(7)")
+        && scalar(rt, 4u64, "Ulong(4)")
+        && scalar(rt, -1i8, "Byte(-1)")
+        && scalar(rt, -2i16, "Short(-2)")
+        && scalar(rt, -3i32, "Int(-3)")
+        && scalar(rt, -4i64, "Long(-4)")
 }
 
-#[test]
-fn a_container_and_its_untyped_value_are_one(rt: HostRuntime) -> Result<(), Fail> {
-    let alloc = rt.alloc();
-    let items = vec![in alloc; 1u8, 2u8]?;
-    let list = Value::List(vec![in alloc; Value::Ubyte(1), Value::Ubyte(2)]?);
-    assert_eq!(rt; to_value(alloc, &items)?, list);
-    assert_eq!(rt; Value::try_from_vec(alloc, items)?, list);
-    let array = Array::from(vec![in alloc; 1u8, 2u8]?);
-    let elements = vec![in alloc; Value::Ubyte(1), Value::Ubyte(2)]?;
-    let expected = Value::Array(Array::from(elements));
-    assert_eq!(rt; to_value(alloc, &array)?, expected);
-    assert_eq!(rt; Value::try_from_array(alloc, array)?, expected);
+fn fixed_widths_are_converted_to_their_images(rt: &HostRuntime) -> bool {
+    scalar(rt, F32Bits::from(0x8000_0000), "Float(F32Bits(2147483648))")
+        && scalar(rt, F64Bits::from(5), "Double(F64Bits(5))")
+        && scalar(rt, Dec32::from([6; 4]), "Decimal32(Dec32([6, 6, 6, 6]))")
+        && scalar(
+            rt,
+            Dec64::from([7; 8]),
+            "Decimal64(Dec64([7, 7, 7, 7, 7, 7, 7, 7]))",
+        )
+        && scalar(rt, Dec128::from([8; 16]), EIGHTS)
+        && scalar(rt, 'a', "Char('a')")
+        && scalar(rt, Timestamp::from(-9), "Timestamp(Timestamp(-9))")
+        && scalar(rt, Uuid::from([10; 16]), TENS)
+}
+
+const EIGHTS: &str = "Decimal128(Dec128([8, 8, 8, 8, 8, 8, 8, 8, 8, 8, 8, 8, 8, 8, 8, 8]))";
+
+const TENS: &str = "Uuid(Uuid([10, 10, 10, 10, 10, 10, 10, 10, 10, 10, 10, 10, 10, 10, 10, 10]))";
+
+fn binary(alloc: Global) -> Option<ByteBuf> {
+    Some(ByteBuf::from(list(alloc, [11u8])?))
+}
+
+fn string(alloc: Global) -> Option<String> {
+    String::from_str(alloc, "a").ok()
+}
+
+fn texts_are_converted_to_their_images(rt: &HostRuntime) -> bool {
+    let a = rt.alloc();
+    scalar_of(rt, binary(a), "Binary(ByteBuf([11]))")
+        && scalar_of(rt, string(a), "String(\"a\")")
+        && scalar_of(rt, symbol(a, "a"), "Symbol(Symbol(\"a\"))")
+}
+
+fn lists_are_converted_to_their_images(rt: &HostRuntime) -> bool {
+    let a = rt.alloc();
+    match list(a, [1u8, 2u8]) {
+        Some(items) => {
+            is_value(rt, "the image of a vector", to_value(a, &items), LIST)
+                && is_value(rt, "a vector", Value::try_from_vec(a, items), LIST)
+        }
+        None => wrong(rt, "a vector", "no memory"),
+    }
+}
+
+const LIST: &str = "List([Ubyte(1), Ubyte(2)])";
+
+fn arrays_are_converted_to_their_images(rt: &HostRuntime) -> bool {
+    let a = rt.alloc();
+    match array(a, [1u8, 2u8]) {
+        Some(items) => {
+            is_value(rt, "the image of an array", to_value(a, &items), ARRAY)
+                && is_value(rt, "an array", Value::try_from_array(a, items), ARRAY)
+        }
+        None => wrong(rt, "an array", "no memory"),
+    }
+}
+
+const ARRAY: &str = "Array(Array([Ubyte(1), Ubyte(2)]))";
+
+fn one_pair(alloc: Global) -> Option<BTreeMap<u8, bool>> {
     let mut map = BTreeMap::new(alloc);
-    let _ = map.insert(1u8, true)?;
-    let mut pairs = OrderedMap::new(alloc);
-    drop(pairs.insert(Value::Ubyte(1), Value::Bool(true))?);
-    let expected = Value::Map(pairs);
-    assert_eq!(rt; to_value(alloc, &map)?, expected);
-    assert_eq!(rt; Value::try_from_btree_map(alloc, map)?, expected);
-    Ok(())
+    let _ = map.insert(1u8, true).ok()?;
+    Some(map)
+}
+
+fn maps_are_converted_to_their_images(rt: &HostRuntime) -> bool {
+    let a = rt.alloc();
+    match one_pair(a) {
+        Some(map) => {
+            is_value(rt, "the image of a map", to_value(a, &map), MAP)
+                && is_value(rt, "a map", Value::try_from_btree_map(a, map), MAP)
+        }
+        None => wrong(rt, "a map", "no memory"),
+    }
+}
+
+const MAP: &str = "Map(OrderedMap { entries: [(Ubyte(1), Bool(true))] })";
+
+fn a_string_has_its_code_and_is_no_number(rt: &HostRuntime) -> bool {
+    match Value::try_from_str(rt.alloc(), "a") {
+        Ok(text) => {
+            let code = u8::from(EncodingCodes::Str32);
+            shows(
+                rt,
+                "the code of a string",
+                &(text.format_code() == code),
+                "true",
+            ) && shows(
+                rt,
+                "a string as a u8",
+                &u8::try_from(text),
+                "Err(String(\"a\"))",
+            )
+        }
+        Err(_) => wrong(rt, "a string", "no memory"),
+    }
+}
+
+fn null_is_no_map_and_values_have_an_order(rt: &HostRuntime) -> bool {
+    let map = OrderedMap::<u8, u8>::try_from(Value::Null);
+    let less = Value::from(-1i64) < Value::from(0i64);
+    shows(rt, "null as a map", &map, "Err(Unfit(Null))")
+        && shows(rt, "-1 is less than 0", &less, "true")
 }
 
 #[test]
-fn what_does_not_fit_comes_back(rt: HostRuntime) -> Result<(), Fail> {
-    let alloc = rt.alloc();
-    let text = Value::try_from_str(alloc, "a")?;
-    assert_eq!(rt; text.format_code(), u8::from(EncodingCodes::Str32));
-    assert_eq!(rt; u8::try_from(text), Err(Value::try_from_str(alloc, "a")?));
-    let map = OrderedMap::<u8, u8>::try_from(Value::Null);
-    assert_eq!(rt; map, Err(ConvertFault::Unfit(Value::Null)));
-    assert!(rt; Value::from(-1i64) < Value::from(0i64));
-    Ok(())
+fn conversions(rt: HostRuntime) {
+    assert!(rt; numbers_are_converted_to_their_images(&rt), "numbers");
+    assert!(rt;
+        fixed_widths_are_converted_to_their_images(&rt),
+        "fixed widths"
+    );
+    assert!(rt; texts_are_converted_to_their_images(&rt), "texts");
+    assert!(rt; lists_are_converted_to_their_images(&rt), "lists");
+    assert!(rt; arrays_are_converted_to_their_images(&rt), "arrays");
+    assert!(rt; maps_are_converted_to_their_images(&rt), "maps");
+    assert!(rt; a_string_has_its_code_and_is_no_number(&rt), "a string");
+    assert!(rt;
+        null_is_no_map_and_values_have_an_order(&rt),
+        "null and order"
+    );
 }

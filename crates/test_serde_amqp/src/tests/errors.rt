@@ -1,22 +1,27 @@
 //! The texts of `Error`.
 
+use super::rows::is_text;
 use serde_amqp::Error;
-use std::test::Fail;
+
+fn has_text(rt: &HostRuntime, error: &Error, text: &str) -> bool {
+    is_text(rt, text, format!(in rt.alloc(); "{error}").ok(), text)
+}
+
+fn each_error_has_its_text(rt: &HostRuntime) -> bool {
+    has_text(rt, &Error::OutOfMemory, "out of memory")
+        && has_text(rt, &Error::TooLong, "too long")
+        && has_text(rt, &Error::InvalidValue, "invalid value")
+        && has_text(rt, &Error::InvalidFormatCode, "invalid format code")
+        && has_text(rt, &Error::UnexpectedEof, "unexpected end of input")
+        && has_text(rt, &Error::Io, "input or output failed")
+        && has_text(
+            rt,
+            &Error::Message("Expecting a Value"),
+            "Expecting a Value",
+        )
+}
 
 #[test]
-fn each_error_has_its_text(rt: HostRuntime) -> Result<(), Fail> {
-    let rows = [
-        (Error::OutOfMemory, "out of memory"),
-        (Error::TooLong, "too long"),
-        (Error::InvalidValue, "invalid value"),
-        (Error::InvalidFormatCode, "invalid format code"),
-        (Error::UnexpectedEof, "unexpected end of input"),
-        (Error::Io, "input or output failed"),
-        (Error::Message("Expecting a Value"), "Expecting a Value"),
-    ];
-    for (error, text) in &rows {
-        let shown = format!(in rt.alloc(); "{error}")?;
-        assert_eq!(rt; shown.as_str(), *text);
-    }
-    Ok(())
+fn errors(rt: HostRuntime) {
+    assert!(rt; each_error_has_its_text(&rt), "texts");
 }

@@ -1,54 +1,65 @@
-//! What the two runs do with a writer that holds bytes back until it is flushed.
+//! The two runs over a writer with a buffer.
 
-use super::streams::Held;
+use super::rows::shows;
+use super::runs::{Run, is_printed, run_over};
+use super::streams::FlushedWriter;
 use serde_amqp::read::SliceReader;
-use serde_amqp::{Error, IoWriter, Write, run_cut, run_lines};
-use std::alloc::Global;
+use serde_amqp::{IoWriter, Write};
 
-// One of the two runs, on its input.
-fn run<W: Write>(alloc: Global, cut: bool, input: &[u8], writer: &mut W) -> Result<(), Error> {
-    let mut reader = SliceReader::new(input);
-    if cut {
-        run_cut(alloc, &mut reader, writer)
-    } else {
-        run_lines(alloc, &mut reader, writer)
-    }
+// All of this text is written in the end.
+fn is_flushed(rt: &HostRuntime, name: &str, run: Run, input: &[u8], text: &[u8]) -> bool {
+    let a = rt.alloc();
+    let mut written = Vec::new(a);
+    let mut flushes = 0;
+    let buffer = Vec::new(a);
+    let mut writer = IoWriter::new(FlushedWriter::new(buffer, &mut written, &mut flushes, false));
+    let got = run_over(a, run, &mut SliceReader::new(input), &mut writer);
+    drop(writer);
+    shows(rt, name, &got, "Ok(())")
+        && is_printed(rt, name, &written, text)
+        && shows(rt, name, &(flushes > 0), "true")
 }
 
-// A run, its input and its output.
-const ROWS: [(bool, &[u8], &[u8]); 3] = [
-    (true, b"\x50\x01\x40", b"2 5001\n1 40\n"),
-    (true, b"", b""),
-    (false, b"", b"size 1\nbytes 45\ntext []\n"),
-];
+// The run, and a flush after it, answer that the flush failed.
+fn fails(rt: &HostRuntime, name: &str, run: Run, input: &[u8]) -> bool {
+    let a = rt.alloc();
+    let mut written = Vec::new(a);
+    let mut flushes = 0;
+    let buffer = Vec::new(a);
+    let mut writer = IoWriter::new(FlushedWriter::new(buffer, &mut written, &mut flushes, true));
+    let got = run_over(a, run, &mut SliceReader::new(input), &mut writer);
+    let again = writer.flush();
+    drop(writer);
+    shows(rt, name, &got, "Err(Io)")
+        && shows(rt, name, &again, "Err(Io)")
+        && shows(rt, name, &flushes, "2")
+}
 
-#[test]
-fn runs_pass_on_all_that_they_put(rt: HostRuntime) {
-    let alloc = rt.alloc();
-    for (row, (cut, input, output)) in ROWS.iter().enumerate() {
-        let mut passed = Vec::new(alloc);
-        let mut calls = 0;
-        let mut writer = IoWriter::new(Held::new(Vec::new(alloc), &mut passed, &mut calls));
-        let answer = run(alloc, *cut, input, &mut writer);
-        drop(writer);
-        assert_eq!(rt; answer, Ok(()), "row {row}");
-        assert_eq!(rt; passed.as_slice(), *output, "row {row}");
-        assert!(rt; calls > 0, "row {row}");
-    }
+fn runs_flush_what_they_print(rt: &HostRuntime) -> bool {
+    is_flushed(
+        rt,
+        "two values",
+        Run::Cut,
+        b"\x50\x01\x40",
+        b"2 5001\n1 40\n",
+    ) && is_flushed(rt, "no value", Run::Cut, b"", b"")
+        && is_flushed(
+            rt,
+            "no line",
+            Run::Lines,
+            b"",
+            b"size 1\nbytes 45\ntext []\n",
+        )
+}
+
+fn a_flush_that_fails_is_reported(rt: &HostRuntime) -> bool {
+    fails(rt, "two values", Run::Cut, b"\x50\x01\x40")
+        && fails(rt, "no value", Run::Cut, b"")
+        && fails(rt, "no line", Run::Lines, b"")
 }
 
 #[test]
-fn a_flush_that_fails_is_told(rt: HostRuntime) {
-    let alloc = rt.alloc();
-    for (row, (cut, input, _)) in ROWS.iter().enumerate() {
-        let mut passed = Vec::new(alloc);
-        let mut calls = 0;
-        let mut writer = IoWriter::new(Held::failing(Vec::new(alloc), &mut passed, &mut calls));
-        let answer = run(alloc, *cut, input, &mut writer);
-        let again = writer.flush();
-        drop(writer);
-        assert_eq!(rt; answer, Err(Error::Io), "row {row}");
-        assert_eq!(rt; again, Err(Error::Io), "row {row}");
-        assert_eq!(rt; calls, 2, "row {row}");
-    }
+fn flushes(rt: HostRuntime) {
+    assert!(rt; runs_flush_what_they_print(&rt), "flushes");
+    assert!(rt; a_flush_that_fails_is_reported(&rt), "flushes that fail");
 }

@@ -2,217 +2,262 @@
 //! spell none.
 
 use super::lazy_values::lazy;
-use serde_amqp::described::Described;
-use serde_amqp::descriptor::Descriptor;
+use super::made::{array, described, list, pairs, symbol};
+use super::rows::{has_image, imaged, imaged_of, shows, wrong};
+use serde_amqp::Value;
 use serde_amqp::lazy::{LazyValue, to_lazy_value};
-use serde_amqp::primitives::{
-    Array, ByteBuf, Dec32, Dec64, Dec128, F32Bits, F64Bits, OrderedMap, Symbol, Timestamp, Uuid,
-};
+use serde_amqp::primitives::{ByteBuf, Dec32, Dec64, Dec128, F32Bits, F64Bits, Timestamp, Uuid};
 use serde_amqp::read::SliceReader;
-use serde_amqp::{Error, Value, to_value};
-use std::alloc::{AllocError, Global};
-use std::process::Abort;
-use std::test::Fail;
+use std::alloc::Global;
 
-// Each of these spells the value.
-fn read<R: Abort>(rt: &R, alloc: Global, value: &Value, spellings: &[&str]) -> Result<(), Fail> {
-    for spelling in spellings {
-        let held = lazy(alloc, *spelling)?;
-        assert!(rt;
-            to_value(alloc, &held)? == *value,
-            "the value of {spelling}"
-        );
-    }
-    Ok(())
+// The bytes spell this value, or are refused with this error.
+fn read(rt: &HostRuntime, bytes: &str, value: &str) -> bool {
+    imaged_of(rt, bytes, lazy(rt.alloc(), bytes), value)
 }
 
-// Each of these is refused with the error.
-fn unread<R: Abort>(rt: &R, alloc: Global, error: Error, spellings: &[&str]) -> Result<(), Fail> {
-    for spelling in spellings {
-        let held = lazy(alloc, *spelling)?;
-        let refuses = match to_value(alloc, &held) {
-            Ok(_) => false,
-            Err(e) => e == error,
-        };
-        assert!(rt; refuses, "the refusal of {spelling}");
-    }
-    Ok(())
+fn scalars_are_read_in_every_spelling(rt: &HostRuntime) -> bool {
+    read(rt, "43", "Uint(0)")
+        && read(rt, "5200", "Uint(0)")
+        && read(rt, "7000000000", "Uint(0)")
+        && read(rt, "5601", "Bool(true)")
+        && read(rt, "5602", "InvalidValue")
+        && read(rt, "730000d800", "InvalidValue")
+        && read(rt, "a101ff", "InvalidValue")
+        && read(rt, "46", "InvalidFormatCode")
 }
 
-fn list<const N: usize>(alloc: Global, items: [Value; N]) -> Result<Value, Fail> {
-    Ok(Value::List(Vec::from_array(alloc, items)?))
+fn compounds_are_read_if_their_parts_fill_them(rt: &HostRuntime) -> bool {
+    read(rt, "c0020150", "UnexpectedEof")
+        && read(rt, "c003025001", "UnexpectedEof")
+        && read(rt, "c00401500140", "InvalidValue")
+        && read(rt, "c1020140", "InvalidValue")
+        && read(
+            rt,
+            "c10704405001405002",
+            "Map(OrderedMap { entries: [(Null, Ubyte(2))] })",
+        )
+        && read(rt, "00405001", "InvalidValue")
+        && read(rt, "00a3016140", COMPOSITE)
 }
 
-fn array<const N: usize>(alloc: Global, items: [Value; N]) -> Result<Value, Fail> {
-    Ok(Value::Array(Array::from(Vec::from_array(alloc, items)?)))
+const COMPOSITE: &str = "Described(Described { descriptor: Name(Symbol(\"a\")), value: Null })";
+
+fn arrays_are_read_if_their_elements_fill_them(rt: &HostRuntime) -> bool {
+    read(rt, "e00100", "Array(Array([]))")
+        && read(rt, "e0020050", "Array(Array([]))")
+        && read(rt, "e003005001", "InvalidValue")
+        && read(rt, "e0020100", "InvalidValue")
+        && read(rt, "e004025401ff", "Array(Array([Int(1), Int(-1)]))")
+        && read(rt, "e0020245", "Array(Array([List([]), List([])]))")
+        && read(
+            rt,
+            "e0020341",
+            "Array(Array([Bool(true), Bool(true), Bool(true)]))",
+        )
 }
 
-fn map<const N: usize>(alloc: Global, pairs: [(Value, Value); N]) -> Result<Value, Fail> {
-    let mut map = OrderedMap::new(alloc);
-    for (key, value) in Vec::from_array(alloc, pairs)? {
-        drop(map.insert(key, value)?);
-    }
-    Ok(Value::Map(map))
+fn pair(alloc: Global, first: &str, second: &str) -> Option<Vec<LazyValue>> {
+    list(alloc, [lazy(alloc, first)?, lazy(alloc, second)?])
 }
 
-fn described(alloc: Global, descriptor: Descriptor, value: Value) -> Result<Value, Fail> {
-    Ok(Value::Described(Box::new(alloc, Described { descriptor, value })?))
-}
-
-#[test]
-fn scalars_are_read_in_every_spelling(rt: HostRuntime) -> Result<(), Fail> {
+fn the_elements_of_a_list_are_read(rt: &HostRuntime) -> bool {
     let a = rt.alloc();
-    read(&rt, a, &Value::Uint(0), &["43", "5200", "7000000000"])?;
-    read(&rt, a, &Value::Bool(true), &["5601"])?;
-    unread(
-        &rt,
-        a,
-        Error::InvalidValue,
-        &["5602", "730000d800", "a101ff"],
-    )?;
-    unread(&rt, a, Error::InvalidFormatCode, &["46"])
-}
-
-#[test]
-fn compounds_are_read_where_their_parts_fill_them(rt: HostRuntime) -> Result<(), Fail> {
-    let a = rt.alloc();
-    unread(&rt, a, Error::UnexpectedEof, &["c0020150", "c003025001"])?;
-    unread(&rt, a, Error::InvalidValue, &["c00401500140", "c1020140"])?;
-    let pair = map(a, [(Value::Null, Value::Ubyte(2))])?;
-    read(&rt, a, &pair, &["c10704405001405002"])?;
-    read(&rt, a, &array(a, [])?, &["e00100", "e0020050"])?;
-    unread(&rt, a, Error::InvalidValue, &["e003005001", "e0020100"])?;
-    let ints = array(a, [Value::Int(1), Value::Int(-1)])?;
-    read(&rt, a, &ints, &["e004025401ff"])?;
-    let lists = array(a, [list(a, [])?, list(a, [])?])?;
-    read(&rt, a, &lists, &["e0020245"])?;
-    let truths = array(a, [Value::Bool(true), Value::Bool(true), Value::Bool(true)])?;
-    read(&rt, a, &truths, &["e0020341"])?;
-    let name = Descriptor::Name(Symbol::try_from_str(a, "a")?);
-    read(&rt, a, &described(a, name, Value::Null)?, &["00a3016140"])?;
-    unread(&rt, a, Error::InvalidValue, &["00405001"])
-}
-
-#[test]
-fn the_elements_of_a_list_are_read(rt: HostRuntime) -> Result<(), Fail> {
-    let a = rt.alloc();
-    let held = vec![in a; lazy(a, "43")?, lazy(a, "5001")?]?;
-    let both = list(a, [Value::Uint(0), Value::Ubyte(1)])?;
-    assert!(rt; to_value(a, &held)? == both);
-    let unknown = vec![in a; lazy(a, "43")?, lazy(a, "46")?]?;
-    assert!(rt; to_value(a, &unknown) == Err(Error::InvalidFormatCode));
-    Ok(())
+    imaged_of(
+        rt,
+        "two lazy values",
+        pair(a, "43", "5001"),
+        "List([Uint(0), Ubyte(1)])",
+    ) && imaged_of(
+        rt,
+        "an unknown code",
+        pair(a, "43", "46"),
+        "InvalidFormatCode",
+    )
 }
 
 // The empty list inside so many lists, each spelled with a size of four bytes.
-fn nested(alloc: Global, depth: u32) -> Result<Vec<u8>, AllocError> {
+fn nested_bytes(alloc: Global, depth: u32) -> Option<Vec<u8>> {
     let mut bytes = Vec::new(alloc);
     for outer in 0..depth {
         let size = 5u32.wrapping_add(depth.wrapping_sub(outer).wrapping_sub(1).wrapping_mul(9));
-        bytes.push(0xd0)?;
-        bytes.extend_from_slice(&size.to_be_bytes())?;
-        bytes.extend_from_slice(&[0, 0, 0, 1])?;
+        bytes.push(0xd0).ok()?;
+        bytes.extend_from_slice(&size.to_be_bytes()).ok()?;
+        bytes.extend_from_slice(&[0, 0, 0, 1]).ok()?;
     }
-    bytes.push(0x45)?;
-    Ok(bytes)
+    bytes.push(0x45).ok()?;
+    Some(bytes)
 }
 
-#[test]
-fn two_hundred_and_fifty_six_levels_are_read(rt: HostRuntime) -> Result<(), Fail> {
+fn nested_spelling(alloc: Global, depth: u32) -> Option<LazyValue> {
+    let bytes = nested_bytes(alloc, depth)?;
+    LazyValue::from_reader(alloc, &mut SliceReader::new(&bytes)).ok()
+}
+
+fn nested_lists(alloc: Global, depth: u32) -> Option<Value> {
+    let mut value = Value::List(Vec::new(alloc));
+    for _ in 0..depth {
+        value = Value::List(list(alloc, [value])?);
+    }
+    Some(value)
+}
+
+fn two_hundred_and_fifty_six_levels_are_read(rt: &HostRuntime) -> bool {
     let a = rt.alloc();
-    let bytes = nested(a, 255)?;
-    let held = LazyValue::from_reader(a, &mut SliceReader::new(&bytes))?;
-    let mut value = Value::List(Vec::new(a));
-    for _ in 0..255u32 {
-        value = list(a, [value])?;
+    let name = "inside 255 lists";
+    match (nested_spelling(a, 255), nested_lists(a, 255)) {
+        (Some(spelling), Some(value)) => has_image(rt, name, &spelling, &value),
+        _ => wrong(rt, name, "no memory"),
     }
-    assert!(rt; to_value(a, &held)? == value, "inside 255 lists");
-    let bytes = nested(a, 256)?;
-    let held = LazyValue::from_reader(a, &mut SliceReader::new(&bytes))?;
-    assert!(rt;
-        to_value(a, &held) == Err(Error::InvalidValue),
-        "inside 256 lists"
-    );
-    Ok(())
 }
 
-// Each of these comes back from the value of its lazy value.
-fn come_back<R: Abort>(rt: &R, alloc: Global, values: &[Value]) -> Result<(), Fail> {
-    for value in values {
-        let held = to_lazy_value(alloc, value)?;
-        let found = to_value(alloc, &held)?;
-        assert!(rt; found == *value, "the value of {value}");
-    }
-    Ok(())
+fn more_levels_are_refused(rt: &HostRuntime) -> bool {
+    imaged_of(
+        rt,
+        "inside 256 lists",
+        nested_spelling(rt.alloc(), 256),
+        "InvalidValue",
+    )
 }
 
-#[test]
-fn numbers_come_back(rt: HostRuntime) -> Result<(), Fail> {
-    let values = [
-        Value::Null,
-        Value::Bool(true),
-        Value::Bool(false),
-        Value::Ubyte(13),
-        Value::Ushort(1313),
-        Value::Uint(0),
-        Value::Uint(255),
-        Value::Uint(u32::MAX),
-        Value::Ulong(0),
-        Value::Ulong(255),
-        Value::Ulong(u64::MAX),
-        Value::Byte(13),
-        Value::Short(1313),
-        Value::Int(0),
-        Value::Int(255),
-        Value::Int(i32::MAX),
-        Value::Long(0),
-        Value::Long(255),
-        Value::Long(i64::MAX),
-        Value::Float(F32Bits::from(0x3fc0_0000)),
-        Value::Double(F64Bits::from(0x3ff8_0000_0000_0000)),
-        Value::Char('a'),
-        Value::Timestamp(Timestamp::from_milliseconds(13)),
+// The value comes back from its lazy value.
+fn comes_back(rt: &HostRuntime, value: Value, text: &str) -> bool {
+    match to_lazy_value(rt.alloc(), &value) {
+        Ok(lazy) => imaged(rt, text, &lazy, text),
+        Err(error) => shows(rt, text, &error, text),
+    }
+}
+
+// Like `comes_back`, of a value for which memory was allocated.
+fn comes_back_of(rt: &HostRuntime, value: Option<Value>, text: &str) -> bool {
+    match value {
+        Some(value) => comes_back(rt, value, text),
+        None => wrong(rt, text, "no memory"),
+    }
+}
+
+fn unsigned_numbers_come_back(rt: &HostRuntime) -> bool {
+    comes_back(rt, Value::Null, "Null")
+        && comes_back(rt, Value::Bool(true), "Bool(true)")
+        && comes_back(rt, Value::Bool(false), "Bool(false)")
+        && comes_back(rt, Value::Ubyte(13), "Ubyte(13)")
+        && comes_back(rt, Value::Ushort(1313), "Ushort(1313)")
+        && comes_back(rt, Value::Uint(0), "Uint(0)")
+        && comes_back(rt, Value::Uint(255), "Uint(255)")
+        && comes_back(rt, Value::Uint(u32::MAX), "Uint(4294967295)")
+        && comes_back(rt, Value::Ulong(0), "Ulong(0)")
+        && comes_back(rt, Value::Ulong(255), "Ulong(255)")
+        && comes_back(rt, Value::Ulong(u64::MAX), "Ulong(18446744073709551615)")
+}
+
+fn signed_numbers_come_back(rt: &HostRuntime) -> bool {
+    comes_back(rt, Value::Byte(13), "Byte(13)")
+        && comes_back(rt, Value::Short(1313), "Short(1313)")
+        && comes_back(rt, Value::Int(0), "Int(0)")
+        && comes_back(rt, Value::Int(255), "Int(255)")
+        && comes_back(rt, Value::Int(i32::MAX), "Int(2147483647)")
+        && comes_back(rt, Value::Long(0), "Long(0)")
+        && comes_back(rt, Value::Long(255), "Long(255)")
+        && comes_back(rt, Value::Long(i64::MAX), "Long(9223372036854775807)")
+}
+
+fn fixed_widths_come_back(rt: &HostRuntime) -> bool {
+    let float = Value::Float(F32Bits::from(0x3fc0_0000));
+    let double = Value::Double(F64Bits::from(0x3ff8_0000_0000_0000));
+    let timestamp = Value::Timestamp(Timestamp::from_milliseconds(13));
+    let decimal = Value::Decimal32(Dec32::from([1, 2, 3, 4]));
+    let decimal64 = Value::Decimal64(Dec64::from([1, 2, 3, 4, 5, 6, 7, 8]));
+    comes_back(rt, float, "Float(F32Bits(1069547520))")
+        && comes_back(rt, double, "Double(F64Bits(4609434218613702656))")
+        && comes_back(rt, Value::Char('a'), "Char('a')")
+        && comes_back(rt, timestamp, "Timestamp(Timestamp(13))")
+        && comes_back(rt, decimal, "Decimal32(Dec32([1, 2, 3, 4]))")
+        && comes_back(rt, decimal64, "Decimal64(Dec64([1, 2, 3, 4, 5, 6, 7, 8]))")
+        && comes_back(rt, Value::Decimal128(Dec128::from(SIXTEEN)), DECIMAL128)
+        && comes_back(rt, Value::Uuid(Uuid::from(SIXTEEN)), UUID)
+}
+
+const SIXTEEN: [u8; 16] = [1, 2, 3, 4, 5, 6, 7, 8, 9, 10, 11, 12, 13, 14, 15, 16];
+
+const DECIMAL128: &str =
+    "Decimal128(Dec128([1, 2, 3, 4, 5, 6, 7, 8, 9, 10, 11, 12, 13, 14, 15, 16]))";
+
+const UUID: &str = "Uuid(Uuid([1, 2, 3, 4, 5, 6, 7, 8, 9, 10, 11, 12, 13, 14, 15, 16]))";
+
+fn binary(alloc: Global) -> Option<Value> {
+    Some(Value::Binary(ByteBuf::from(list(alloc, [1u8, 2, 3, 4])?)))
+}
+
+fn uints(alloc: Global) -> Option<Value> {
+    let items = [
+        Value::Uint(1),
+        Value::Uint(2),
+        Value::Uint(3),
+        Value::Uint(4),
     ];
-    come_back(&rt, rt.alloc(), &values)
+    Some(Value::List(list(alloc, items)?))
 }
 
-#[test]
-fn bytes_texts_and_compounds_come_back(rt: HostRuntime) -> Result<(), Fail> {
+fn uints_to_bools(alloc: Global) -> Option<Value> {
+    let items = [
+        (Value::Uint(13), Value::Bool(true)),
+        (Value::Uint(45), Value::Bool(false)),
+    ];
+    Some(Value::Map(pairs(alloc, items)?))
+}
+
+fn ints(alloc: Global) -> Option<Value> {
+    let items = [Value::Int(1), Value::Int(2), Value::Int(3), Value::Int(4)];
+    Some(Value::Array(array(alloc, items)?))
+}
+
+fn composite(alloc: Global) -> Option<Value> {
+    let fields = list(alloc, [Value::Bool(true), Value::Int(9)])?;
+    described(alloc, 0x13, Value::List(fields))
+}
+
+fn texts_and_compounds_come_back(rt: &HostRuntime) -> bool {
     let a = rt.alloc();
-    let sixteen = [1u8, 2, 3, 4, 5, 6, 7, 8, 9, 10, 11, 12, 13, 14, 15, 16];
-    let values = vec![in a;
-        Value::Decimal32(Dec32::from([1, 2, 3, 4])),
-        Value::Decimal64(Dec64::from([1, 2, 3, 4, 5, 6, 7, 8])),
-        Value::Decimal128(Dec128::from(sixteen)),
-        Value::Uuid(Uuid::from(sixteen)),
-        Value::Binary(ByteBuf::from(vec![in a; 1u8, 2, 3, 4]?)),
-        Value::String(String::from_str(a, "amqp")?),
-        Value::Symbol(Symbol::try_from_str(a, "amqp")?),
-        list(
-            a,
-            [
-                Value::Uint(1),
-                Value::Uint(2),
-                Value::Uint(3),
-                Value::Uint(4)
-            ]
-        )?,
-        map(
-            a,
-            [
-                (Value::Uint(13), Value::Bool(true)),
-                (Value::Uint(45), Value::Bool(false))
-            ]
-        )?,
-        array(
-            a,
-            [Value::Int(1), Value::Int(2), Value::Int(3), Value::Int(4)]
-        )?,
-        described(
-            a,
-            Descriptor::from(0x13u64),
-            list(a, [Value::Bool(true), Value::Int(9)])?
-        )?,
-    ]?;
-    come_back(&rt, a, &values)
+    comes_back_of(rt, binary(a), "Binary(ByteBuf([1, 2, 3, 4]))")
+        && comes_back_of(rt, Value::try_from_str(a, "amqp").ok(), "String(\"amqp\")")
+        && comes_back_of(rt, symbol_value(a), "Symbol(Symbol(\"amqp\"))")
+        && comes_back_of(rt, uints(a), "List([Uint(1), Uint(2), Uint(3), Uint(4)])")
+        && comes_back_of(rt, uints_to_bools(a), MAP)
+        && comes_back_of(
+            rt,
+            ints(a),
+            "Array(Array([Int(1), Int(2), Int(3), Int(4)]))",
+        )
+        && comes_back_of(rt, composite(a), FIELDS)
+}
+
+fn symbol_value(alloc: Global) -> Option<Value> {
+    Some(Value::Symbol(symbol(alloc, "amqp")?))
+}
+
+const MAP: &str = "Map(OrderedMap { entries: [(Uint(13), Bool(true)), (Uint(45), Bool(false))] })";
+
+const FIELDS: &str =
+    "Described(Described { descriptor: Code(19), value: List([Bool(true), Int(9)]) })";
+
+#[test]
+fn lazy_reading(rt: HostRuntime) {
+    assert!(rt; scalars_are_read_in_every_spelling(&rt), "scalars");
+    assert!(rt;
+        compounds_are_read_if_their_parts_fill_them(&rt),
+        "compounds"
+    );
+    assert!(rt; arrays_are_read_if_their_elements_fill_them(&rt), "arrays");
+    assert!(rt;
+        the_elements_of_a_list_are_read(&rt),
+        "a list of lazy values"
+    );
+    assert!(rt;
+        two_hundred_and_fifty_six_levels_are_read(&rt),
+        "256 levels"
+    );
+    assert!(rt; more_levels_are_refused(&rt), "257 levels");
+    assert!(rt; unsigned_numbers_come_back(&rt), "unsigned numbers");
+    assert!(rt; signed_numbers_come_back(&rt), "signed numbers");
+    assert!(rt; fixed_widths_come_back(&rt), "fixed widths");
+    assert!(rt; texts_and_compounds_come_back(&rt), "texts and compounds");
 }

@@ -1,251 +1,309 @@
-//! Lazy values: written as they are wherever a value may stand but in arrays, and read wherever
-//! they stand.
+//! Lazy values: written as they are wherever a value may be but in arrays, and read wherever they
+//! are.
 
+use super::made::{array, list, pairs, text};
 use super::marked::{After, Newtype};
-use super::rows::{decoded, has, refused, row};
-use amqp_data::{
-    Array, ByteBuf, Described, Descriptor, OrderedMap, Symbol, Timestamp, TransparentVec, markers,
+use super::rows::{
+    decoded, has_no_tree, hexadecimal, imaged, imaged_of, is_bytes, is_length, is_text, refused,
+    refused_of, row, row_of, same_bytes, shows, wrong,
 };
+use super::runs::{self, Reading, Run};
+use amqp_data::{Array, ByteBuf, Described, Descriptor, Timestamp, TransparentVec, markers};
 use amqp_frame::{LazyValue, SliceReader};
 use amqp_ser::{Serialize, VariantOf, fields};
 use serde_amqp::lazy::to_lazy_value;
-use serde_amqp::{Error, Value, VecWriter, run_cut, serialized_size, to_value, to_vec};
+use serde_amqp::{Error, serialized_size, to_vec};
 use std::alloc::Global;
-use std::process::Abort;
-use std::test::Fail;
 
-/// The lazy value of these bytes.
-pub fn lazy(alloc: Global, hexadecimal: &str) -> Result<LazyValue, Fail> {
+/// The lazy value of these bytes; `None` if out of memory.
+pub fn lazy(alloc: Global, hexadecimal: &str) -> Option<LazyValue> {
     let bytes = decoded(alloc, hexadecimal)?;
-    Ok(LazyValue::from_reader(alloc, &mut SliceReader::new(&bytes))?)
-}
-
-fn described(alloc: Global, descriptor: Descriptor, value: Value) -> Result<Value, Fail> {
-    Ok(Value::Described(Box::new(alloc, Described { descriptor, value })?))
-}
-
-fn has_no_value<R: Abort, T: Serialize>(rt: &R, alloc: Global, name: &str, value: &T) {
-    assert!(rt;
-        to_value(alloc, value) == Err(Error::InvalidValue),
-        "the value of {name}"
-    );
-}
-
-// The lazy value of the value holds these bytes.
-fn held<R: Abort, T: Serialize>(
-    rt: &R,
-    alloc: Global,
-    value: &T,
-    hexadecimal: &str,
-) -> Result<LazyValue, Fail> {
-    let lazy = to_lazy_value(alloc, value)?;
-    assert!(rt;
-        lazy.as_slice() == decoded(alloc, hexadecimal)?.as_slice(),
-        "{hexadecimal}"
-    );
-    Ok(lazy)
+    LazyValue::from_reader(alloc, &mut SliceReader::new(&bytes)).ok()
 }
 
 const HELLO: &str = "a10d48656c6c6f2c20576f726c6421";
 
-#[test]
-fn a_value_is_held_as_its_bytes(rt: HostRuntime) -> Result<(), Fail> {
-    let a = rt.alloc();
-    let hello = held(&rt, a, &"Hello, World!", HELLO)?;
-    let text = Value::String(String::from_str(a, "Hello, World!")?);
-    row(&rt, a, "a lazy string", &hello, HELLO, text);
-    held(&rt, a, &hello, HELLO)?;
-    held(&rt, a, &(), "40")?;
-    let composite = Described {
+// The lazy value of the value has these bytes; it has their length, these bytes and this image.
+fn held<T: Serialize>(rt: &HostRuntime, name: &str, value: &T, bytes: &str, image: &str) -> bool {
+    match to_lazy_value(rt.alloc(), value) {
+        Ok(lazy) => {
+            is_text(rt, name, hexadecimal(rt.alloc(), lazy.as_slice()), bytes)
+                && row(rt, name, &lazy, bytes, image)
+        }
+        Err(error) => shows(rt, name, &error, bytes),
+    }
+}
+
+fn text_is_held(rt: &HostRuntime) -> bool {
+    let image = "String(\"Hello, World!\")";
+    held(rt, "a string", &"Hello, World!", HELLO, image)
+        && match lazy(rt.alloc(), HELLO) {
+            Some(hello) => held(rt, "a lazy string", &hello, HELLO, image),
+            None => wrong(rt, "a lazy string", "no memory"),
+        }
+        && held(rt, "null", &(), "40", "Null")
+}
+
+fn described_timestamps(alloc: Global) -> Option<Described<Vec<Timestamp>>> {
+    Some(Described {
         descriptor: Descriptor::from(0x73u64),
-        value: vec![in a; Timestamp::from_milliseconds(12345)]?,
-    };
-    let bytes = "005373c00a01830000000000003039";
-    let lazy_composite = held(&rt, a, &composite, bytes)?;
-    assert_eq!(rt; serialized_size(&lazy_composite), Ok(15));
-    assert_eq!(rt; serialized_size(&composite), Ok(15));
-    let fields = Value::List(vec![in a; Value::Timestamp(Timestamp::from_milliseconds(12345))]?);
-    let image = described(a, Descriptor::from(0x73u64), fields)?;
-    row(&rt, a, "a lazy composite", &lazy_composite, bytes, image);
-    Ok(())
+        value: list(alloc, [Timestamp::from_milliseconds(12345)])?,
+    })
 }
 
-#[test]
-fn a_list_of_lazy_values_is_that_of_their_values(rt: HostRuntime) -> Result<(), Fail> {
-    let a = rt.alloc();
-    let hello = &lazy(a, HELLO)?;
-    let list = [hello, hello, hello];
-    assert_eq!(rt; serialized_size(&list), Ok(48));
-    assert!(rt; to_vec(a, &list)? == to_vec(a, &["Hello, World!"; 3])?);
-    Ok(())
+fn a_composite_is_held(rt: &HostRuntime) -> bool {
+    match described_timestamps(rt.alloc()) {
+        Some(composite) => {
+            is_length(rt, "a composite", serialized_size(&composite), 15)
+                && held(
+                    rt,
+                    "a composite",
+                    &composite,
+                    "005373c00a01830000000000003039",
+                    "Described(Described { descriptor: Code(115), value: List([Timestamp(Timestamp(12345))]) })",
+                )
+        }
+        None => wrong(rt, "a composite", "no memory"),
+    }
 }
 
-#[test]
-fn lazy_values_stand_in_each_place(rt: HostRuntime) -> Result<(), Fail> {
+fn a_list_of_lazy_values_is_that_of_their_values(rt: &HostRuntime) -> bool {
+    match lazy(rt.alloc(), HELLO) {
+        Some(hello) => {
+            let list = [&hello, &hello, &hello];
+            is_length(rt, "a list", serialized_size(&list), 48)
+                && same_bytes(rt, "a list", &list, &["Hello, World!"; 3])
+        }
+        None => wrong(rt, "a list", "no memory"),
+    }
+}
+
+// The value after this code.
+fn after<T>(code: u64, value: T) -> Described<T> {
+    Described {
+        descriptor: Descriptor::Code(code),
+        value,
+    }
+}
+
+const AFTER: &str = "Described(Described { descriptor: Code(1), value: Null })";
+
+const AFTER_TWO: &str =
+    "Described(Described { descriptor: Code(2), value: Described(Described { descriptor: Code(1), value: Null }) })";
+
+const AFTER_IN_LIST: &str = "List([Described(Described { descriptor: Code(1), value: Null })])";
+
+fn values_after_descriptors(rt: &HostRuntime, null: &LazyValue) -> bool {
     let a = rt.alloc();
-    let null = &lazy(a, "40")?;
-    let yes = &lazy(a, "41")?;
-    let mut map = OrderedMap::new(a);
-    drop(map.insert(null, yes)?);
-    let mut pairs = OrderedMap::new(a);
-    drop(pairs.insert(Value::Null, Value::Bool(true))?);
-    row(
-        &rt,
-        a,
-        "a key and a value",
-        &map,
-        "c103024041",
-        Value::Map(pairs),
-    );
-    let once = Described {
-        descriptor: Descriptor::from(1u64),
-        value: null,
-    };
-    let image = described(a, Descriptor::from(1u64), Value::Null)?;
-    row(&rt, a, "after a descriptor", &once, "00530140", image);
-    let twice = Described {
-        descriptor: Descriptor::from(2u64),
-        value: &once,
-    };
-    let inner = described(a, Descriptor::from(1u64), Value::Null)?;
-    let image = described(a, Descriptor::from(2u64), inner)?;
-    row(&rt, a, "after two", &twice, "00530200530140", image);
+    let list = list(a, [after(1, null)]);
+    row(rt, "after a descriptor", &after(1, null), "00530140", AFTER)
+        && row(
+            rt,
+            "after two",
+            &after(2, after(1, null)),
+            "00530200530140",
+            AFTER_TWO,
+        )
+        && row_of(
+            rt,
+            "described, in a list",
+            list,
+            "c0050100530140",
+            AFTER_IN_LIST,
+        )
+}
+
+fn values_in_compounds(rt: &HostRuntime, null: &LazyValue, yes: &LazyValue) -> bool {
+    let a = rt.alloc();
+    let map = pairs(a, [(null, yes)]);
+    let bare = transparent(a, [null, yes]);
     let variant = VariantOf(1, fields! { "it": null });
-    let mut payload = OrderedMap::new(a);
-    let fields = Value::List(vec![in a; Value::Null]?);
-    drop(payload.insert(Value::Uint(1), fields)?);
-    let image = Value::Map(payload);
-    row(
-        &rt,
-        a,
+    row_of(
+        rt,
+        "a key and a value",
+        map,
+        "c103024041",
+        "Map(OrderedMap { entries: [(Null, Bool(true))] })",
+    ) && row(
+        rt,
         "in a variant",
         &variant,
         "c107025201c0020140",
-        image,
-    );
-    let bare = TransparentVec::from(vec![in a; null, yes]?);
-    let image = Value::List(vec![in a; Value::Null, Value::Bool(true)]?);
-    row(&rt, a, "one after another", &bare, "4041", image);
-    Ok(())
+        "Map(OrderedMap { entries: [(Uint(1), List([Null]))] })",
+    ) && row_of(
+        rt,
+        "one after another",
+        bare,
+        "4041",
+        "List([Null, Bool(true)])",
+    )
 }
 
-#[test]
-fn described_lazy_values_stand_in_lists(rt: HostRuntime) -> Result<(), Fail> {
+fn lazy_values_are_no_elements_of_arrays(rt: &HostRuntime, null: &LazyValue) -> bool {
     let a = rt.alloc();
-    let null = &lazy(a, "40")?;
-    let once = Described {
-        descriptor: Descriptor::from(1u64),
-        value: null,
-    };
-    let list = vec![in a; once]?;
-    let image = described(a, Descriptor::from(1u64), Value::Null)?;
-    let image = Value::List(vec![in a; image]?);
-    row(
-        &rt,
-        a,
-        "described, in a list",
-        &list,
-        "c0050100530140",
-        image,
-    );
-    Ok(())
+    refused_of(rt, "an array", array(a, [null]))
+        && imaged_of(rt, "an array", array(a, [null]), "Array(Array([Null]))")
+        && refused_of(rt, "an array in a list", array_in_a_list(a, null))
+        && refused_of(rt, "a described element", array(a, [after(1, null)]))
 }
 
-#[test]
-fn lazy_values_are_no_elements_and_no_descriptors(rt: HostRuntime) -> Result<(), Fail> {
-    let a = rt.alloc();
-    let null = &lazy(a, "40")?;
-    let array = Array::from(vec![in a; null]?);
-    refused(&rt, a, "an array", &array, Error::InvalidValue);
-    let image = Value::Array(Array::from(vec![in a; Value::Null]?));
-    assert!(rt; to_value(a, &array)? == image, "the value of an array");
-    let nested = vec![in a; Array::from(vec![in a; null, null]?)]?;
-    refused(&rt, a, "an array in a list", &nested, Error::InvalidValue);
-    let ulong = &lazy(a, "44")?;
-    refused(&rt, a, "a descriptor", &After(ulong), Error::InvalidValue);
-    has_no_value(&rt, a, "a descriptor", &After(ulong));
-    let once = Described {
-        descriptor: Descriptor::from(1u64),
-        value: null,
-    };
-    let array = Array::from(vec![in a; once]?);
-    refused(&rt, a, "a described element", &array, Error::InvalidValue);
-    Ok(())
+fn array_in_a_list(alloc: Global, null: &LazyValue) -> Option<Vec<Array<&LazyValue>>> {
+    list(alloc, [array(alloc, [null, null])?])
 }
 
-#[test]
-fn the_marker_takes_one_whole_encoded_value(rt: HostRuntime) -> Result<(), Fail> {
-    let a = rt.alloc();
-    let name = markers::LAZY_VALUE;
-    let name_a = Descriptor::Name(Symbol::try_from_str(a, "a")?);
-    let composite = described(a, name_a, Value::List(Vec::new(a)))?;
-    let text = Value::String(String::from_str(a, "Hello, World!")?);
-    let rows = [
-        ("40", Value::Null),
-        ("00a3016145", composite),
-        (HELLO, text),
-    ];
-    for (hexadecimal, image) in &rows {
-        let value = &ByteBuf::from(decoded(a, *hexadecimal)?);
-        let newtype = Newtype { name, value };
-        has(&rt, a, *hexadecimal, &newtype, *hexadecimal, image);
+fn lazy_values_are_no_descriptors(rt: &HostRuntime) -> bool {
+    match lazy(rt.alloc(), "44") {
+        Some(ulong) => has_no_tree(rt, "a descriptor", &After(&ulong)),
+        None => wrong(rt, "a descriptor", "no memory"),
     }
-    // One encoded value whose descriptor is a string is written, and spells nothing.
-    let value = &ByteBuf::from(decoded(a, "00a1016145")?);
-    let newtype = Newtype { name, value };
-    assert!(rt; to_vec(a, &newtype)? == decoded(a, "00a1016145")?);
-    has_no_value(&rt, a, "a string before a value", &newtype);
-    for hexadecimal in ["a10561", "4040", "4010", "10", "005301", ""] {
-        let value = &ByteBuf::from(decoded(a, hexadecimal)?);
-        let newtype = Newtype { name, value };
-        refused(&rt, a, hexadecimal, &newtype, Error::InvalidValue);
-        has_no_value(&rt, a, hexadecimal, &newtype);
+}
+
+fn newtype<T: Serialize>(value: &T) -> Newtype<'_, T> {
+    Newtype {
+        name: markers::LAZY_VALUE,
+        value,
     }
-    let text = &String::from_str(a, "@")?;
-    let newtype = Newtype { name, value: text };
-    refused(&rt, a, "a string", &newtype, Error::InvalidValue);
-    has_no_value(&rt, a, "a string", &newtype);
-    let value = &lazy(a, "40")?;
-    let newtype = Newtype { name, value };
-    refused(&rt, a, "a lazy value", &newtype, Error::InvalidValue);
-    Ok(())
+}
+
+fn encoded(alloc: Global, bytes: &str) -> Option<ByteBuf> {
+    Some(ByteBuf::from(decoded(alloc, bytes)?))
+}
+
+// The bytes after the marker are one encoded value of this image.
+fn taken(rt: &HostRuntime, bytes: &str, image: &str) -> bool {
+    match encoded(rt.alloc(), bytes) {
+        Some(value) => row(rt, bytes, &newtype(&value), bytes, image),
+        None => wrong(rt, bytes, "no memory"),
+    }
+}
+
+// The bytes after the marker are not one encoded value.
+fn not_taken(rt: &HostRuntime, bytes: &str) -> bool {
+    match encoded(rt.alloc(), bytes) {
+        Some(value) => has_no_tree(rt, bytes, &newtype(&value)),
+        None => wrong(rt, bytes, "no memory"),
+    }
+}
+
+// One encoded value whose descriptor is a string is written, and has no image.
+fn written_without_an_image(rt: &HostRuntime, bytes: &str) -> bool {
+    match encoded(rt.alloc(), bytes) {
+        Some(value) => {
+            is_bytes(rt, bytes, to_vec(rt.alloc(), &newtype(&value)), bytes)
+                && imaged(rt, bytes, &newtype(&value), "InvalidValue")
+        }
+        None => wrong(rt, bytes, "no memory"),
+    }
+}
+
+fn the_marker_takes_one_encoded_value(rt: &HostRuntime) -> bool {
+    taken(rt, "40", "Null")
+        && taken(
+            rt,
+            "00a3016145",
+            "Described(Described { descriptor: Name(Symbol(\"a\")), value: List([]) })",
+        )
+        && taken(rt, HELLO, "String(\"Hello, World!\")")
+        && written_without_an_image(rt, "00a1016145")
+        && not_taken(rt, "a10561")
+        && not_taken(rt, "4040")
+        && not_taken(rt, "4010")
+        && not_taken(rt, "10")
+        && not_taken(rt, "005301")
+        && not_taken(rt, "")
+}
+
+fn the_marker_takes_binaries_alone(rt: &HostRuntime, null: &LazyValue) -> bool {
+    match text(rt.alloc(), b'@', 1) {
+        Some(at) => {
+            has_no_tree(rt, "a string", &newtype(&at))
+                && refused(rt, "a lazy value", &newtype(null))
+        }
+        None => wrong(rt, "a string", "no memory"),
+    }
+}
+
+fn is_not_held<T: Serialize + Drop>(rt: &HostRuntime, name: &str, value: Option<T>) -> bool {
+    match value {
+        Some(value) => shows(
+            rt,
+            name,
+            &to_lazy_value(rt.alloc(), &value),
+            "Err(InvalidValue)",
+        ),
+        None => wrong(rt, name, "no memory"),
+    }
+}
+
+fn transparent<T: Drop, const N: usize>(alloc: Global, items: [T; N]) -> Option<TransparentVec<T>> {
+    Some(TransparentVec::from(list(alloc, items)?))
+}
+
+fn a_transparent_vector_of_just_one_is_held(rt: &HostRuntime) -> bool {
+    let a = rt.alloc();
+    is_not_held(rt, "of none", transparent(a, [true; 0]))
+        && match transparent(a, [true]) {
+            Some(one) => held(rt, "of one", &one, "41", "Bool(true)"),
+            None => wrong(rt, "of one", "no memory"),
+        }
+        && is_not_held(rt, "of two", transparent(a, [true, false]))
+}
+
+fn an_array_is_not_held(rt: &HostRuntime) -> bool {
+    match lazy(rt.alloc(), "40") {
+        Some(null) => is_not_held(rt, "an array", array(rt.alloc(), [null])),
+        None => wrong(rt, "an array", "no memory"),
+    }
+}
+
+fn written(alloc: Global) -> Result<Vec<u8>, Error> {
+    let Some(hello) = lazy(alloc, HELLO) else {
+        return Err(Error::OutOfMemory);
+    };
+    let mut bytes = to_vec(alloc, &hello)?;
+    bytes.extend_from_slice(&to_vec(alloc, &("a", 1u32))?)?;
+    let units = Array::from(Vec::from_array(alloc, [(), ()])?);
+    bytes.extend_from_slice(&to_vec(alloc, &units)?)?;
+    Ok(bytes)
+}
+
+const LINES: &[u8] = b"15 a10d48656c6c6f2c20576f726c6421\n8 c00602a101615201\n4 e0020240\n";
+
+fn written_values_are_cut(rt: &HostRuntime) -> bool {
+    let name = "written values";
+    match written(rt.alloc()) {
+        Ok(bytes) => runs::row(rt, Reading::Slice, name, Run::Cut, &bytes, LINES, "Ok(())"),
+        Err(error) => shows(rt, name, &error, "bytes"),
+    }
+}
+
+fn lazy_values_in_each_place(rt: &HostRuntime) -> bool {
+    match (lazy(rt.alloc(), "40"), lazy(rt.alloc(), "41")) {
+        (Some(null), Some(yes)) => {
+            values_after_descriptors(rt, &null)
+                && values_in_compounds(rt, &null, &yes)
+                && lazy_values_are_no_elements_of_arrays(rt, &null)
+                && the_marker_takes_binaries_alone(rt, &null)
+        }
+        _ => wrong(rt, "lazy values", "no memory"),
+    }
 }
 
 #[test]
-fn a_transparent_vector_of_just_one_is_held(rt: HostRuntime) -> Result<(), Fail> {
-    let a = rt.alloc();
-    let none: TransparentVec<bool> = TransparentVec::from(Vec::new(a));
+fn lazy_values(rt: HostRuntime) {
+    assert!(rt; text_is_held(&rt), "texts");
+    assert!(rt; a_composite_is_held(&rt), "a composite");
     assert!(rt;
-        to_lazy_value(a, &none) == Err(Error::InvalidValue),
-        "of none"
+        a_list_of_lazy_values_is_that_of_their_values(&rt),
+        "a list"
     );
-    let one = TransparentVec::from(vec![in a; true]?);
-    held(&rt, a, &one, "41")?;
-    let two = TransparentVec::from(vec![in a; true, false]?);
+    assert!(rt; lazy_values_in_each_place(&rt), "each place");
+    assert!(rt; lazy_values_are_no_descriptors(&rt), "descriptors");
+    assert!(rt; the_marker_takes_one_encoded_value(&rt), "the marker");
     assert!(rt;
-        to_lazy_value(a, &two) == Err(Error::InvalidValue),
-        "of two"
+        a_transparent_vector_of_just_one_is_held(&rt),
+        "transparent vectors"
     );
-    Ok(())
-}
-
-#[test]
-fn what_cannot_be_written_is_not_held(rt: HostRuntime) -> Result<(), Fail> {
-    let a = rt.alloc();
-    let array = Array::from(vec![in a; lazy(a, "40")?]?);
-    assert!(rt; to_lazy_value(a, &array) == Err(Error::InvalidValue));
-    Ok(())
-}
-
-#[test]
-fn written_values_are_cut_back(rt: HostRuntime) -> Result<(), Fail> {
-    let a = rt.alloc();
-    let mut bytes = to_vec(a, &lazy(a, HELLO)?)?;
-    bytes.extend_from_slice(&to_vec(a, &("a", 1u32))?)?;
-    bytes.extend_from_slice(&to_vec(a, &Array::from(vec![in a; (), ()]?))?)?;
-    let mut writer = VecWriter::new(a);
-    run_cut(a, &mut SliceReader::new(&bytes), &mut writer)?;
-    let text: &[u8] = b"15 a10d48656c6c6f2c20576f726c6421\n8 c00602a101615201\n4 e0020240\n";
-    assert_eq!(rt; writer.into_inner().as_slice(), text);
-    Ok(())
+    assert!(rt; an_array_is_not_held(&rt), "an array");
+    assert!(rt; written_values_are_cut(&rt), "written values");
 }

@@ -1,131 +1,144 @@
 //! Rows of `run_lines`.
 
-use super::streams::{Drip, Fault, Sip};
-use serde_amqp::read::{IoReader, Read, SliceReader};
-use serde_amqp::{Error, IoWriter, VecWriter, run_lines};
-use std::alloc::Global;
+use super::rows::shows;
+use super::runs::{Reading, Run, each_write_fails, is_printed, read_fails, row, run_over};
+use super::streams::Fault;
+use serde_amqp::VecWriter;
+use serde_amqp::read::SliceReader;
 use std::io::ErrorKind;
-use std::test::Fail;
 
-// The answer on an input, and what was printed.
-fn lines<R: Read>(alloc: Global, reader: &mut R) -> (Result<(), Error>, Vec<u8>) {
-    let mut writer = VecWriter::new(alloc);
-    let answer = run_lines(alloc, reader, &mut writer);
-    (answer, writer.into_inner())
+fn lines(rt: &HostRuntime, by: Reading, name: &str, input: &[u8], text: &[u8]) -> bool {
+    row(rt, by, name, Run::Lines, input, text, "Ok(())")
 }
 
-// Inputs, and what is printed.
-const ROWS: [(&[u8], &[u8]); 9] = [
-    (
-        b"a\nbc\n",
-        b"size 10\nbytes c00802a10161a1026263\ntext [\"a\", \"bc\"]\n",
-    ),
-    (
-        b"a\nbc",
-        b"size 10\nbytes c00802a10161a1026263\ntext [\"a\", \"bc\"]\n",
-    ),
-    (b"", b"size 1\nbytes 45\ntext []\n"),
-    (b"\n", b"size 5\nbytes c00301a100\ntext [\"\"]\n"),
-    (
-        b"\n\nx",
-        b"size 10\nbytes c00803a100a100a10178\ntext [\"\", \"\", \"x\"]\n",
-    ),
-    (
-        b"a\"b\\",
-        b"size 9\nbytes c00701a1046122625c\ntext [\"a\\\"b\\\\\"]\n",
-    ),
-    (b"a\r\n", b"size 7\nbytes c00501a102610d\ntext [\"a\\r\"]\n"),
-    (
-        b"\x00\x1b\x7f",
-        b"size 8\nbytes c00601a103001b7f\ntext [\"\\0\\u{1b}\\u{7f}\"]\n",
-    ),
-    (
-        b"\xc3\xa9\n",
-        b"size 7\nbytes c00501a102c3a9\ntext [\"\xc3\xa9\"]\n",
-    ),
-];
+const TWO: &[u8] = b"size 10\nbytes c00802a10161a1026263\ntext [\"a\", \"bc\"]\n";
 
-#[test]
-fn lines_of_a_slice(rt: HostRuntime) {
-    for (row, (bytes, text)) in ROWS.iter().enumerate() {
-        let (answer, put) = lines(rt.alloc(), &mut SliceReader::new(bytes));
-        assert_eq!(rt; answer, Ok(()), "row {row}");
-        assert_eq!(rt; put.as_slice(), *text, "row {row}");
-    }
+const THREE: &[u8] = b"size 10\nbytes c00803a100a100a10178\ntext [\"\", \"\", \"x\"]\n";
+
+fn lines_are_listed(rt: &HostRuntime, by: Reading) -> bool {
+    lines(rt, by, "two lines", b"a\nbc\n", TWO)
+        && lines(rt, by, "a last line without 0a", b"a\nbc", TWO)
+        && lines(rt, by, "no line", b"", b"size 1\nbytes 45\ntext []\n")
+        && lines(
+            rt,
+            by,
+            "an empty line",
+            b"\n",
+            b"size 5\nbytes c00301a100\ntext [\"\"]\n",
+        )
+        && lines(rt, by, "two empty lines", b"\n\nx", THREE)
 }
 
-#[test]
-fn lines_by_single_bytes(rt: HostRuntime) {
-    for (row, (bytes, text)) in ROWS.iter().enumerate() {
-        let (answer, put) = lines(rt.alloc(), &mut IoReader::new(Drip::new(bytes)));
-        assert_eq!(rt; answer, Ok(()), "row {row}");
-        assert_eq!(rt; put.as_slice(), *text, "row {row}");
-    }
+const QUOTE: &[u8] = b"size 9\nbytes c00701a1046122625c\ntext [\"a\\\"b\\\\\"]\n";
+
+const CONTROLS: &[u8] = b"size 8\nbytes c00601a103001b7f\ntext [\"\\0\\u{1b}\\u{7f}\"]\n";
+
+fn texts_have_escapes(rt: &HostRuntime, by: Reading) -> bool {
+    let accent: &[u8] = b"size 7\nbytes c00501a102c3a9\ntext [\"\xc3\xa9\"]\n";
+    lines(rt, by, "a quote and a backslash", b"a\"b\\", QUOTE)
+        && lines(
+            rt,
+            by,
+            "0d",
+            b"a\r\n",
+            b"size 7\nbytes c00501a102610d\ntext [\"a\\r\"]\n",
+        )
+        && lines(rt, by, "controls", b"\x00\x1b\x7f", CONTROLS)
+        && lines(rt, by, "an accent", b"\xc3\xa9\n", accent)
 }
 
-#[test]
-fn what_is_not_utf8_is_refused(rt: HostRuntime) {
-    for bytes in [b"\xff".as_slice(), b"a\n\xff", b"a\xc3\n", b"\xed\xa0\x80"] {
-        let (answer, put) = lines(rt.alloc(), &mut SliceReader::new(bytes));
-        assert_eq!(rt; answer, Err(Error::InvalidValue));
-        assert_eq!(rt; put.len(), 0);
-    }
+fn rows(rt: &HostRuntime, by: Reading) -> bool {
+    lines_are_listed(rt, by) && texts_have_escapes(rt, by)
 }
 
-#[test]
-fn widths_turn_long(rt: HostRuntime) -> Result<(), Fail> {
-    let alloc = rt.alloc();
-    let rows: [(u8, usize, &[u8]); 5] = [
-        // One line of so many bytes.
-        (b'x', 252, b"size 257\nbytes c0ff01a1fc7878"),
-        (b'x', 254, b"size 265\nbytes d00000010400000001a1fe7878"),
-        (
-            b'x',
-            255,
-            b"size 269\nbytes d00000010800000001b1000000ff7878",
-        ),
-        // So many empty lines.
-        (b'\n', 127, b"size 257\nbytes c0ff7fa100a100"),
-        (b'\n', 128, b"size 265\nbytes d00000010400000080a100a100"),
-    ];
-    for (byte, count, prefix) in rows {
-        let input = vec![in alloc; byte; count]?;
-        let (answer, put) = lines(alloc, &mut SliceReader::new(&input));
-        assert_eq!(rt; answer, Ok(()), "{count} bytes {byte}");
-        assert_eq!(rt;
-            put.get(..prefix.len()),
-            Some(prefix),
-            "{count} bytes {byte}"
-        );
-    }
-    Ok(())
+fn is_not_utf8(rt: &HostRuntime, name: &str, input: &[u8]) -> bool {
+    row(
+        rt,
+        Reading::Slice,
+        name,
+        Run::Lines,
+        input,
+        b"",
+        "Err(InvalidValue)",
+    )
 }
 
-#[test]
-fn each_read_fails(rt: HostRuntime) {
-    for kind in [ErrorKind::Interrupted, ErrorKind::Other] {
-        for failing in 1..=6u64 {
-            let mut reader = IoReader::new(Drip::failing(b"a\nbc\n", failing, kind));
-            let (answer, put) = lines(rt.alloc(), &mut reader);
-            assert_eq!(rt; answer, Err(Error::Io), "read {failing}");
-            assert_eq!(rt; put.len(), 0, "read {failing}");
+fn what_is_not_utf8_is_refused(rt: &HostRuntime) -> bool {
+    is_not_utf8(rt, "ff", b"\xff")
+        && is_not_utf8(rt, "ff in a second line", b"a\n\xff")
+        && is_not_utf8(rt, "c3 before 0a", b"a\xc3\n")
+        && is_not_utf8(rt, "a surrogate", b"\xed\xa0\x80")
+}
+
+// What is printed of so many of this byte begins with this text.
+fn begins(rt: &HostRuntime, name: &str, byte: u8, count: usize, text: &[u8]) -> bool {
+    let Ok(input) = Vec::from_elem(rt.alloc(), byte, count) else {
+        return false;
+    };
+    let mut writer = VecWriter::new(rt.alloc());
+    let got = run_over(
+        rt.alloc(),
+        Run::Lines,
+        &mut SliceReader::new(&input),
+        &mut writer,
+    );
+    let printed = writer.as_slice();
+    let len = printed.len().min(text.len());
+    shows(rt, name, &got, "Ok(())") && is_printed(rt, name, &printed[..len], text)
+}
+
+const LONG_LIST: &[u8] = b"size 265\nbytes d00000010400000001a1fe7878";
+
+const LONG_STRING: &[u8] = b"size 269\nbytes d00000010800000001b1000000ff7878";
+
+const MANY: &[u8] = b"size 265\nbytes d00000010400000080a100a100";
+
+fn widths_are_the_shortest(rt: &HostRuntime) -> bool {
+    begins(
+        rt,
+        "a line of 252 bytes",
+        b'x',
+        252,
+        b"size 257\nbytes c0ff01a1fc7878",
+    ) && begins(rt, "a line of 254 bytes", b'x', 254, LONG_LIST)
+        && begins(rt, "a line of 255 bytes", b'x', 255, LONG_STRING)
+        && begins(
+            rt,
+            "127 empty lines",
+            b'\n',
+            127,
+            b"size 257\nbytes c0ff7fa100a100",
+        )
+        && begins(rt, "128 empty lines", b'\n', 128, MANY)
+}
+
+fn each_read_fails(rt: &HostRuntime, kind: ErrorKind) -> bool {
+    for failing in 1..=6u64 {
+        if !read_fails(rt, Run::Lines, b"a\nbc\n", failing, kind, b"") {
+            return false;
         }
     }
+    true
+}
+
+fn one_write_fails(rt: &HostRuntime, fault: Fault) -> bool {
+    each_write_fails(rt, Run::Lines, b"", fault, b"size 1\nbytes 45\ntext []\n")
 }
 
 #[test]
-fn each_write_fails(rt: HostRuntime) {
-    let alloc = rt.alloc();
-    let text: &[u8] = b"size 1\nbytes 45\ntext []\n";
-    for fault in [Fault::Fails, Fault::TakesNone] {
-        for failing in 1..=24u64 {
-            let mut taken = Vec::new(alloc);
-            let mut writer = IoWriter::new(Sip::failing(&mut taken, failing, fault));
-            let answer = run_lines(alloc, &mut SliceReader::new(b""), &mut writer);
-            drop(writer);
-            assert_eq!(rt; answer, Err(Error::Io), "write {failing}");
-            let end = failing as usize - 1;
-            assert_eq!(rt; Some(taken.as_slice()), text.get(..end), "write {failing}");
-        }
-    }
+fn line_rows(rt: HostRuntime) {
+    assert!(rt; rows(&rt, Reading::Slice), "of a slice");
+    assert!(rt; rows(&rt, Reading::SingleBytes), "by single bytes");
+    assert!(rt; what_is_not_utf8_is_refused(&rt), "what is not UTF-8");
+    assert!(rt; widths_are_the_shortest(&rt), "widths");
+    assert!(rt;
+        each_read_fails(&rt, ErrorKind::Interrupted),
+        "a read is interrupted"
+    );
+    assert!(rt; each_read_fails(&rt, ErrorKind::Other), "a read fails");
+    assert!(rt; one_write_fails(&rt, Fault::Fails), "a write fails");
+    assert!(rt;
+        one_write_fails(&rt, Fault::WritesNone),
+        "a write of no byte"
+    );
 }

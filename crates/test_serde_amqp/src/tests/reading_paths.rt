@@ -1,74 +1,130 @@
-//! Each item of reading that is handed out, by its path.
+//! Each public item of reading, by its path.
 
+use super::rows::shows;
 use serde_amqp::de::{
     Deserialize as _, Deserializer as _, EnumAccess as _, MapAccess as _, Seed as _,
     SeqAccess as _, VariantAccess as _,
 };
+use serde_amqp::primitives::OrderedMap;
 use serde_amqp::{Error, Value, de, described, descriptor, from_value, value};
 use std::alloc::Global;
 use std::marker::PhantomData;
-use std::test::Fail;
 
 fn uint(alloc: Global) -> value::de::Deserializer {
     value::de::Deserializer::new(alloc, Value::Uint(1))
 }
 
-fn list(alloc: Global) -> Result<value::de::Deserializer, Fail> {
+fn list(alloc: Global) -> Result<value::de::Deserializer, Error> {
     let items = vec![in alloc; Value::Uint(1)]?;
     Ok(value::de::Deserializer::new(alloc, Value::List(items)))
 }
 
-#[test]
-fn types_and_accessors(rt: HostRuntime) -> Result<(), Fail> {
+fn values_are_read(rt: &HostRuntime) -> bool {
     let a = rt.alloc();
-    assert_eq!(rt; from_value::<u32>(a, Value::Uint(1)), Ok(1));
-    assert_eq!(rt; value::de::from_value::<u32>(a, Value::Uint(1)), Ok(1));
-    assert_eq!(rt; u32::deserialize(a, uint(a)), Ok(1));
-    assert_eq!(rt; value::restored(a, &7u64), Ok(7));
-    let mut elements = value::de::SeqAccess::new(a, vec![in a; Value::Uint(1)]?);
-    assert_eq!(rt; elements.next_element::<u32>(a), Ok(Some(1)));
-    let mut entries = value::de::MapAccess::new(a, serde_amqp::primitives::OrderedMap::new(a));
-    assert_eq!(rt; entries.next_entry::<u32, u32>(a), Ok(None));
-    let index = de::EnumAccessOf::<value::de::Deserializer>::new(uint(a), Some(uint(a)));
-    let (index, content) = index.variant::<u32>(a)?;
-    let content: value::de::VariantAccess = content;
-    let content: de::ContentOf<value::de::Deserializer> = content;
-    assert_eq!(rt; (index, content.newtype_variant::<u32>(a)?), (1, 1));
-    Ok(())
+    let inner = value::de::from_value::<u32>(a, Value::Uint(1));
+    shows(
+        rt,
+        "from_value",
+        &from_value::<u32>(a, Value::Uint(1)),
+        "Ok(1)",
+    ) && shows(rt, "value::de::from_value", &inner, "Ok(1)")
+        && shows(rt, "deserialize", &u32::deserialize(a, uint(a)), "Ok(1)")
+        && shows(rt, "restored", &value::restored(a, &7u64), "Ok(7)")
 }
 
-// What a type claims that comes back.
+fn first_of_elements(alloc: Global) -> Result<Option<u32>, Error> {
+    let mut elements = value::de::SeqAccess::new(alloc, vec![in alloc; Value::Uint(1)]?);
+    elements.next_element(alloc)
+}
+
+fn first_of_entries(alloc: Global) -> Result<Option<(u32, u32)>, Error> {
+    let mut entries = value::de::MapAccess::new(alloc, OrderedMap::new(alloc));
+    entries.next_entry(alloc)
+}
+
+fn index_and_content(alloc: Global) -> Result<(u32, u32), Error> {
+    let access = de::EnumAccessOf::<value::de::Deserializer>::new(uint(alloc), Some(uint(alloc)));
+    let (index, content) = access.variant::<u32>(alloc)?;
+    let content: value::de::VariantAccess = content;
+    let content: de::ContentOf<value::de::Deserializer> = content;
+    Ok((index, content.newtype_variant::<u32>(alloc)?))
+}
+
+fn parts_are_read_by_accessors(rt: &HostRuntime) -> bool {
+    let a = rt.alloc();
+    shows(rt, "an element", &first_of_elements(a), "Ok(Some(1))")
+        && shows(rt, "no entry", &first_of_entries(a), "Ok(None)")
+        && shows(rt, "a variant", &index_and_content(a), "Ok((1, 1))")
+}
+
+// Calls what a type promises of the values that come back.
 fn comes_back<T: value::Restore>() {
     T::returns();
 }
 
-#[test]
-fn parts_of_types(rt: HostRuntime) -> Result<(), Fail> {
-    let a = rt.alloc();
+// Calls what a type promises of its values as keys.
+fn keys_are_distinct<K: value::MapKey>() {
+    K::images_tell_contents();
+}
+
+fn laws_are_called() -> bool {
     comes_back::<Option<u32>>();
-    assert_eq!(rt; de::Of(PhantomData::<u32>).read(a, uint(a)), Ok(1));
-    let must = de::Must {
+    keys_are_distinct::<u32>();
+    de::laws::keys_of_the_same_contents_are_equal();
+    true
+}
+
+// The required field `x`.
+fn required() -> de::Must<u32, ()> {
+    de::Must {
         name: "x",
-        of: PhantomData::<u32>,
+        of: PhantomData,
         rest: (),
-    };
-    assert_eq!(rt; de::ListOf(must).read(a, list(a)?), Ok((1, ())));
-    let may = de::May {
+    }
+}
+
+// The optional field `x`.
+fn optional() -> de::May<u32, ()> {
+    de::May {
         name: "x",
-        of: PhantomData::<u32>,
+        of: PhantomData,
         rest: (),
-    };
-    assert_eq!(rt; de::NamedOf(may).read(a, list(a)?), Ok((Some(1), ())));
+    }
+}
+
+fn seeded<S: de::Seed>(alloc: Global, seed: S) -> Result<S::Value, Error> {
+    seed.read(alloc, list(alloc)?)
+}
+
+// The second of two variants without a value.
+fn second_variant(alloc: Global) -> bool {
     let variants = de::UnitOr {
         rest: de::UnitOr { rest: () },
     };
-    assert!(rt;
-        matches!(
-            de::EnumOf(variants).read(a, uint(a)),
-            Ok(de::OneOf::Other(de::OneOf::This(())))
-        )
-    );
-    Ok(())
+    matches!(
+        de::EnumOf(variants).read(alloc, uint(alloc)),
+        Ok(de::OneOf::Other(de::OneOf::This(())))
+    )
+}
+
+fn seeds_read_parts_of_types(rt: &HostRuntime) -> bool {
+    let a = rt.alloc();
+    shows(
+        rt,
+        "a type",
+        &de::Of(PhantomData::<u32>).read(a, uint(a)),
+        "Ok(1)",
+    ) && shows(
+        rt,
+        "a required field",
+        &seeded(a, de::ListOf(required())),
+        "Ok((1, ()))",
+    ) && shows(
+        rt,
+        "an optional field",
+        &seeded(a, de::NamedOf(optional())),
+        "Ok((Some(1), ()))",
+    ) && shows(rt, "the second variant", &second_variant(a), "true")
 }
 
 // The first element of a list.
@@ -99,18 +155,28 @@ fn first_entry<D: de::Deserializer>(
     }
 }
 
-#[test]
-fn one_level(rt: HostRuntime) -> Result<(), Fail> {
-    let a = rt.alloc();
-    assert_eq!(rt; first_element(a, list(a)?), Ok(Some(1)));
-    assert_eq!(rt; first_element(a, uint(a)), Err(Error::InvalidValue));
-    let map = Value::Map(serde_amqp::primitives::OrderedMap::new(a));
-    let map = value::de::Deserializer::new(a, map);
-    assert_eq!(rt; first_entry(a, map), Ok(None));
-    Ok(())
+fn first_of_list(alloc: Global) -> Result<Option<u32>, Error> {
+    first_element(alloc, list(alloc)?)
 }
 
-/// Gives back a value without parts.
+fn first_of_map(alloc: Global) -> Result<Option<(u32, u32)>, Error> {
+    let map = Value::Map(OrderedMap::new(alloc));
+    first_entry(alloc, value::de::Deserializer::new(alloc, map))
+}
+
+fn one_level_is_opened(rt: &HostRuntime) -> bool {
+    let a = rt.alloc();
+    shows(rt, "a list", &first_of_list(a), "Ok(Some(1))")
+        && shows(
+            rt,
+            "no list",
+            &first_element(a, uint(a)),
+            "Err(InvalidValue)",
+        )
+        && shows(rt, "an empty map", &first_of_map(a), "Ok(None)")
+}
+
+/// Returns a value without parts.
 #[derive(Drop)]
 struct Shown;
 
@@ -150,9 +216,63 @@ impl de::Record for Whole {
     ghost parts = { λ w. w.0 };
 }
 
-// Reads a list of fields.
-fn parts<F: de::Fields<Values = (u32, ())>>(alloc: Global, fields: F) -> Result<(u32, ()), Fail> {
-    Ok(de::read::<Count, _, _>(alloc, list(alloc)?, de::ListOf(fields))?)
+// The value after the code 1.
+fn described(alloc: Global, value: Value) -> Result<value::de::Deserializer, Error> {
+    let described = described::Described {
+        descriptor: descriptor::Descriptor::Code(1),
+        value,
+    };
+    let value = Value::Described(Box::new(alloc, described)?);
+    Ok(value::de::Deserializer::new(alloc, value))
+}
+
+// The map from the string `x` to the uint 1.
+fn map(alloc: Global) -> Result<Value, Error> {
+    let mut pairs = OrderedMap::new(alloc);
+    drop(pairs.insert(Value::String(String::from_str(alloc, "x")?), Value::Uint(1))?);
+    Ok(Value::Map(pairs))
+}
+
+fn count_of_a_list(alloc: Global) -> Result<(u32, ()), Error> {
+    de::read::<Count, _, _>(alloc, list(alloc)?, de::ListOf(required()))
+}
+
+fn count_after_a_descriptor(alloc: Global) -> Result<u32, Error> {
+    let of = de::Of(PhantomData::<u32>);
+    de::read_described::<Whole, _, _, _>(alloc, described(alloc, Value::Uint(1))?, &1u64, of)
+}
+
+fn count_of_a_composite(alloc: Global) -> Result<u32, Error> {
+    let of = de::Of(PhantomData::<u32>);
+    de::read_composite::<Whole, _, _>(alloc, described(alloc, Value::Uint(1))?, 1, of)
+}
+
+fn count_of_a_map(alloc: Global) -> Result<(u32, ()), Error> {
+    let map = value::de::Deserializer::new(alloc, map(alloc)?);
+    de::read_map::<Count, _, _>(alloc, map, required())
+}
+
+fn count_of_a_described_map(alloc: Global) -> Result<(u32, ()), Error> {
+    let map = described(alloc, map(alloc)?)?;
+    de::read_described_map::<Count, _, _, _>(alloc, map, &1u64, required())
+}
+
+fn records_are_read(rt: &HostRuntime) -> bool {
+    let a = rt.alloc();
+    shows(rt, "read", &count_of_a_list(a), "Ok((1, ()))")
+        && shows(rt, "read_described", &count_after_a_descriptor(a), "Ok(1)")
+        && shows(rt, "read_composite", &count_of_a_composite(a), "Ok(1)")
+        && shows(rt, "read_map", &count_of_a_map(a), "Ok((1, ()))")
+        && shows(
+            rt,
+            "read_described_map",
+            &count_of_a_described_map(a),
+            "Ok((1, ()))",
+        )
+}
+
+fn any_value(alloc: Global) -> bool {
+    matches!(uint(alloc).deserialize_any(Shown), Ok(de::Plain::U32(1)))
 }
 
 // Reads a variant.
@@ -160,35 +280,7 @@ fn variant<V: de::Variants>(alloc: Global, variants: V) -> Result<V::Value, Erro
     de::EnumOf(variants).read(alloc, uint(alloc))
 }
 
-#[test]
-fn types_of_ones_own(rt: HostRuntime) -> Result<(), Fail> {
-    let a = rt.alloc();
-    assert!(rt; matches!(uint(a).deserialize_any(Shown)?, de::Plain::U32(1)));
-    let must = de::Must {
-        name: "x",
-        of: PhantomData::<u32>,
-        rest: (),
-    };
-    assert_eq!(rt; parts(a, must)?, (1, ()));
-    let code = descriptor::Descriptor::Code(1);
-    assert!(rt; de::Describes::is(&1u64, &code));
-    let tagged = described::Described {
-        descriptor: code,
-        value: Value::Uint(1),
-    };
-    let tagged = value::de::Deserializer::new(a, Value::Described(Box::new(a, tagged)?));
-    let of = de::Of(PhantomData::<u32>);
-    assert_eq!(rt;
-        de::read_described::<Whole, _, _, _>(a, tagged, &1u64, of),
-        Ok(1)
-    );
-    let tagged = described::Described {
-        descriptor: descriptor::Descriptor::Code(1),
-        value: Value::Uint(1),
-    };
-    let tagged = value::de::Deserializer::new(a, Value::Described(Box::new(a, tagged)?));
-    let of = de::Of(PhantomData::<u32>);
-    assert_eq!(rt; de::read_composite::<Whole, _, _>(a, tagged, 1, of), Ok(1));
+fn variant_without_its_value(alloc: Global) -> bool {
     let variants = de::UnitOr {
         rest: de::DataOr {
             seed: de::Of(PhantomData::<u32>),
@@ -196,51 +288,29 @@ fn types_of_ones_own(rt: HostRuntime) -> Result<(), Fail> {
             rest: (),
         },
     };
-    let answer: Result<de::OneOf<(), de::OneOf<u32, de::Never>>, Error> = variant(a, variants);
-    assert!(rt; matches!(answer, Err(Error::Message("Expecting a value"))));
-    Ok(())
+    let answer: Result<de::OneOf<(), de::OneOf<u32, de::Never>>, Error> = variant(alloc, variants);
+    matches!(answer, Err(Error::Message("Expecting a value")))
 }
 
-// A field by its name.
-fn field() -> de::Must<u32, ()> {
-    de::Must {
-        name: "x",
-        of: PhantomData,
-        rest: (),
-    }
-}
-
-// The map from the string `x` to the uint 1.
-fn map(alloc: Global) -> Result<Value, Fail> {
-    let mut pairs = serde_amqp::primitives::OrderedMap::new(alloc);
-    pairs.insert(Value::String(String::from_str(alloc, "x")?), Value::Uint(1))?;
-    Ok(Value::Map(pairs))
+fn types_of_a_program_are_read(rt: &HostRuntime) -> bool {
+    let is = de::Describes::is(&1u64, &descriptor::Descriptor::Code(1));
+    shows(rt, "deserialize_any", &any_value(rt.alloc()), "true")
+        && shows(rt, "is", &is, "true")
+        && shows(
+            rt,
+            "a missing value",
+            &variant_without_its_value(rt.alloc()),
+            "true",
+        )
 }
 
 #[test]
-fn maps_of_fields(rt: HostRuntime) -> Result<(), Fail> {
-    let a = rt.alloc();
-    let plain = value::de::Deserializer::new(a, map(a)?);
-    assert_eq!(rt; de::read_map::<Count, _, _>(a, plain, field()), Ok((1, ())));
-    let tagged = described::Described {
-        descriptor: descriptor::Descriptor::Code(1),
-        value: map(a)?,
-    };
-    let tagged = value::de::Deserializer::new(a, Value::Described(Box::new(a, tagged)?));
-    assert_eq!(rt;
-        de::read_described_map::<Count, _, _, _>(a, tagged, &1u64, field()),
-        Ok((1, ()))
-    );
-    Ok(())
-}
-
-// What a type claims of its values as keys.
-fn keys_are_told<K: value::MapKey>() {
-    K::images_tell_contents();
-}
-
-#[test]
-fn keys(_rt: HostRuntime) {
-    keys_are_told::<u32>();
-    de::laws::keys_of_the_same_contents_are_equal();
+fn reading_paths(rt: HostRuntime) {
+    assert!(rt; values_are_read(&rt), "values");
+    assert!(rt; parts_are_read_by_accessors(&rt), "accessors");
+    assert!(rt; seeds_read_parts_of_types(&rt), "seeds");
+    assert!(rt; one_level_is_opened(&rt), "one level");
+    assert!(rt; records_are_read(&rt), "records");
+    assert!(rt; types_of_a_program_are_read(&rt), "types of a program");
+    assert!(rt; laws_are_called(), "laws");
 }

@@ -1,26 +1,25 @@
-//! A reader of one byte a call and a writer of few, which fail at a call of choice; and a writer
-//! that holds bytes back.
+//! Readers and writers of one byte a call, one call of which fails; and a writer with a buffer.
 
 ghost use Rattle.std.specs.Prelude.{Some};
 
 use std::io::{self, ErrorKind};
 
-/// Gives one byte a call; the call of this number fails, counted from 1.
+/// Reads one byte a call; the call of this number fails, counted from 1.
 #[derive(Drop)]
-pub struct Drip<'a> {
+pub struct ByteReader<'a> {
     rest: &'a [u8],
     calls: u64,
     failing: u64,
     kind: ErrorKind,
 }
 
-impl<'a> Drip<'a> {
-    pub fn new(rest: &'a [u8]) -> Drip<'a> {
-        Drip::failing(rest, 0, ErrorKind::Other)
+impl<'a> ByteReader<'a> {
+    pub fn new(rest: &'a [u8]) -> ByteReader<'a> {
+        ByteReader::failing(rest, 0, ErrorKind::Other)
     }
 
-    pub fn failing(rest: &'a [u8], failing: u64, kind: ErrorKind) -> Drip<'a> {
-        Drip {
+    pub fn failing(rest: &'a [u8], failing: u64, kind: ErrorKind) -> ByteReader<'a> {
+        ByteReader {
             rest,
             calls: 0,
             failing,
@@ -29,7 +28,7 @@ impl<'a> Drip<'a> {
     }
 }
 
-impl io::Read for Drip<'_> {
+impl io::Read for ByteReader<'_> {
     ghost remaining = { λ r. Some r.rest.now };
 
     fn read(&mut self, buf: &mut [u8]) -> io::Result<usize> {
@@ -46,22 +45,22 @@ impl io::Read for Drip<'_> {
 #[derive(Clone, Copy)]
 pub enum Fault {
     Fails,
-    TakesNone,
+    WritesNone,
 }
 
-/// Takes one byte a call; the call of this number fails, counted from 1.
+/// Writes one byte a call; the call of this number fails, counted from 1.
 #[derive(Drop)]
-pub struct Sip<'a> {
-    taken: &'a mut Vec<u8>,
+pub struct ByteWriter<'a> {
+    written: &'a mut Vec<u8>,
     calls: u64,
     failing: u64,
     fault: Fault,
 }
 
-impl<'a> Sip<'a> {
-    pub fn failing(taken: &'a mut Vec<u8>, failing: u64, fault: Fault) -> Sip<'a> {
-        Sip {
-            taken,
+impl<'a> ByteWriter<'a> {
+    pub fn failing(written: &'a mut Vec<u8>, failing: u64, fault: Fault) -> ByteWriter<'a> {
+        ByteWriter {
+            written,
             calls: 0,
             failing,
             fault,
@@ -69,19 +68,19 @@ impl<'a> Sip<'a> {
     }
 }
 
-impl io::Write for Sip<'_> {
-    ghost contents = { λ w. Some w.taken.now.items };
+impl io::Write for ByteWriter<'_> {
+    ghost contents = { λ w. Some w.written.now.items };
 
     fn write(&mut self, buf: &[u8]) -> io::Result<usize> {
         self.calls = self.calls.saturating_add(1);
         if self.calls == self.failing {
             return match self.fault {
                 Fault::Fails => Err(io::Error::from(ErrorKind::Other)),
-                Fault::TakesNone => Ok(0),
+                Fault::WritesNone => Ok(0),
             };
         }
         let len = buf.len().min(1);
-        self.taken.extend_from_slice(&buf[..len])?;
+        self.written.extend_from_slice(&buf[..len])?;
         Ok(len)
     }
 
@@ -90,49 +89,45 @@ impl io::Write for Sip<'_> {
     }
 }
 
-/// Holds all bytes back until it is flushed; counts the flushes, and fails at each where it is made
-/// so.
+/// Writes all bytes on a flush, and none before; counts the flushes, each of which fails if it is
+/// made so.
 #[derive(Drop)]
-pub struct Held<'a> {
-    held: Vec<u8>,
-    passed: &'a mut Vec<u8>,
-    calls: &'a mut u64,
+pub struct FlushedWriter<'a> {
+    buffer: Vec<u8>,
+    written: &'a mut Vec<u8>,
+    flushes: &'a mut u64,
     fails: bool,
 }
 
-impl<'a> Held<'a> {
-    pub fn new(held: Vec<u8>, passed: &'a mut Vec<u8>, calls: &'a mut u64) -> Held<'a> {
-        Held {
-            held,
-            passed,
-            calls,
-            fails: false,
-        }
-    }
-
-    pub fn failing(held: Vec<u8>, passed: &'a mut Vec<u8>, calls: &'a mut u64) -> Held<'a> {
-        Held {
-            held,
-            passed,
-            calls,
-            fails: true,
+impl<'a> FlushedWriter<'a> {
+    pub fn new(
+        buffer: Vec<u8>,
+        written: &'a mut Vec<u8>,
+        flushes: &'a mut u64,
+        fails: bool,
+    ) -> FlushedWriter<'a> {
+        FlushedWriter {
+            buffer,
+            written,
+            flushes,
+            fails,
         }
     }
 }
 
-impl io::Write for Held<'_> {
+impl io::Write for FlushedWriter<'_> {
     fn write(&mut self, buf: &[u8]) -> io::Result<usize> {
-        self.held.extend_from_slice(buf)?;
+        self.buffer.extend_from_slice(buf)?;
         Ok(buf.len())
     }
 
     fn flush(&mut self) -> io::Result<()> {
-        *self.calls = self.calls.saturating_add(1);
+        *self.flushes = self.flushes.saturating_add(1);
         if self.fails {
             return Err(io::Error::from(ErrorKind::Other));
         }
-        self.passed.extend_from_slice(&self.held)?;
-        self.held.clear();
+        self.written.extend_from_slice(&self.buffer)?;
+        self.buffer.clear();
         Ok(())
     }
 }
