@@ -1,0 +1,71 @@
+//! Bytes in hexadecimal, with repetition.
+//!
+//! Parts are joined by `+`. `HEX` is bytes. `HEX*COUNT` is these bytes so many times. `CODE^COUNT`
+//! is so many compounds around all that follows it: each is the code, a size and the count 1, both
+//! of four bytes, and the next one. `-` is no bytes.
+
+use amqp_data::Error;
+use std::alloc::Global;
+
+/// The bytes that the word tells.
+pub fn bytes_of(alloc: Global, word: &str) -> Result<Vec<u8>, Error> {
+    let mut bytes = Vec::new(alloc);
+    if word == "-" {
+        return Ok(bytes);
+    }
+    let parts: Vec<&str> = word.split('+').collect(alloc)?;
+    for part in parts.iter().rev() {
+        bytes = followed(alloc, part, &bytes)?;
+    }
+    Ok(bytes)
+}
+
+/// The number that the word tells.
+pub fn number_of(word: &str) -> Result<u32, Error> {
+    word.parse().map_err(|_| Error::Message("no number"))
+}
+
+// The bytes of one part, followed by the rest.
+fn followed(alloc: Global, part: &str, rest: &[u8]) -> Result<Vec<u8>, Error> {
+    let mut bytes = if let Some((digits, count)) = part.split_once('*') {
+        repeated(alloc, &digits_of(alloc, digits)?, number_of(count)?)?
+    } else if let Some((code, depth)) = part.split_once('^') {
+        opened(
+            alloc,
+            &digits_of(alloc, code)?,
+            number_of(depth)?,
+            rest.len(),
+        )?
+    } else {
+        digits_of(alloc, part)?
+    };
+    bytes.extend_from_slice(rest)?;
+    Ok(bytes)
+}
+
+fn digits_of(alloc: Global, digits: &str) -> Result<Vec<u8>, Error> {
+    hex::decode(alloc, digits).map_err(|_| Error::Message("no hexadecimal"))
+}
+
+fn repeated(alloc: Global, piece: &[u8], count: u32) -> Result<Vec<u8>, Error> {
+    let mut bytes = Vec::new(alloc);
+    for _ in 0..count {
+        bytes.extend_from_slice(piece)?;
+    }
+    Ok(bytes)
+}
+
+// What is before the bytes inside so many compounds of one element.
+fn opened(alloc: Global, code: &[u8], depth: u32, inside: usize) -> Result<Vec<u8>, Error> {
+    let mut bytes = Vec::new(alloc);
+    for outer in 0..depth {
+        let inner = depth.wrapping_sub(outer).wrapping_sub(1);
+        let size = (inside as u32)
+            .wrapping_add(4)
+            .wrapping_add(inner.wrapping_mul(9));
+        bytes.extend_from_slice(code)?;
+        bytes.extend_from_slice(&size.to_be_bytes())?;
+        bytes.extend_from_slice(&[0, 0, 0, 1])?;
+    }
+    Ok(bytes)
+}
