@@ -1,10 +1,12 @@
 //! Calls on encoded values that look at no payload.
 
+use crate::row::refusal;
 use amqp_data::Error;
 use amqp_decode::decode_value;
 use amqp_frame::{LazyValue, Read, SliceReader, frame_len, is_frame};
 use std::alloc::Global;
 
+/// The length of the encoded value that the bytes begin with, and whether it is all of them.
 pub fn frame(alloc: Global, bytes: &[u8]) -> Result<String, Error> {
     let whole = is_frame(bytes);
     match frame_len(bytes) {
@@ -13,6 +15,7 @@ pub fn frame(alloc: Global, bytes: &[u8]) -> Result<String, Error> {
     }
 }
 
+/// What `LazyValue::from_reader` answers, call by call, until no byte is left.
 pub fn cut(alloc: Global, bytes: &[u8]) -> Result<String, Error> {
     let mut reader = SliceReader::new(bytes);
     let mut text = next(alloc, &mut reader)?;
@@ -30,7 +33,7 @@ pub fn cut(alloc: Global, bytes: &[u8]) -> Result<String, Error> {
 fn next(alloc: Global, reader: &mut SliceReader<'_>) -> Result<String, Error> {
     match LazyValue::from_reader(alloc, reader) {
         Ok(value) => Ok(hex::encode(alloc, value.as_slice())?),
-        Err(error) => crate::row::refusal(alloc, &error),
+        Err(error) => refusal(alloc, &error),
     }
 }
 

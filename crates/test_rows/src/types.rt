@@ -42,12 +42,13 @@ const SCALARS: [&str; 21] = [
     "Symbol",
 ];
 
+/// The value as a type: `TYPE BYTES`.
 pub fn read(alloc: Global, arguments: &str) -> Result<String, Error> {
     let (name, bytes) = two_words(arguments)?;
     by_name(alloc, name, &bytes_of(alloc, bytes)?)
 }
 
-/// The names of the scalar types that read the value.
+/// The names of the scalar types that read the value, or `none`.
 pub fn readers(alloc: Global, bytes: &[u8]) -> Result<String, Error> {
     let mut names = String::new(alloc);
     for name in &SCALARS {

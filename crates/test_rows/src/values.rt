@@ -8,10 +8,12 @@ use amqp_wire::to_vec;
 use std::alloc::Global;
 use std::cmp::Ordering;
 
+/// The bytes that the decoded value is written as, and its text.
 pub fn decode(alloc: Global, bytes: &[u8]) -> Result<String, Error> {
     shown(alloc, &decode_value(alloc, bytes)?)
 }
 
+/// Like `decode`, within a limit of elements that have no bytes: `LIMIT BYTES`.
 pub fn decode_within(alloc: Global, arguments: &str) -> Result<String, Error> {
     let (limit, bytes) = two_words(arguments)?;
     let bytes = bytes_of(alloc, bytes)?;
@@ -21,11 +23,13 @@ pub fn decode_within(alloc: Global, arguments: &str) -> Result<String, Error> {
     )
 }
 
+/// The format code of the value, in hexadecimal.
 pub fn code(alloc: Global, bytes: &[u8]) -> Result<String, Error> {
     let code = decode_value(alloc, bytes)?.format_code();
     Ok(format!(in alloc; "{code:02x}")?)
 }
 
+/// How many elements the list or the array has, or how many pairs the map.
 pub fn count(alloc: Global, bytes: &[u8]) -> Result<String, Error> {
     let count = match &decode_value(alloc, bytes)? {
         Value::List(items) => items.len(),
@@ -36,6 +40,7 @@ pub fn count(alloc: Global, bytes: &[u8]) -> Result<String, Error> {
     Ok(format!(in alloc; "{count}")?)
 }
 
+/// How many lists are around the empty one.
 pub fn depth(alloc: Global, bytes: &[u8]) -> Result<String, Error> {
     let value = decode_value(alloc, bytes)?;
     match depth_of(&value) {
@@ -44,6 +49,7 @@ pub fn depth(alloc: Global, bytes: &[u8]) -> Result<String, Error> {
     }
 }
 
+/// The order of two values by `cmp`, and which of `<`, `=` and `>` are true of them.
 pub fn compare(alloc: Global, arguments: &str) -> Result<String, Error> {
     let (first, second) = two_words(arguments)?;
     let first = decode_value(alloc, &bytes_of(alloc, first)?)?;
