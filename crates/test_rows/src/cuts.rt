@@ -1,5 +1,6 @@
 //! Calls on encoded values that look at no payload.
 
+use crate::notation::word_of;
 use crate::row::refusal;
 use amqp_data::Error;
 use amqp_decode::decode_value;
@@ -32,7 +33,7 @@ pub fn cut(alloc: Global, bytes: &[u8]) -> Result<String, Error> {
 // The next encoded value, or why there is none.
 fn next(alloc: Global, reader: &mut SliceReader<'_>) -> Result<String, Error> {
     match LazyValue::from_reader(alloc, reader) {
-        Ok(value) => Ok(hex::encode(alloc, value.as_slice())?),
+        Ok(value) => word_of(alloc, value.as_slice()),
         Err(error) => refusal(alloc, &error),
     }
 }

@@ -1,13 +1,14 @@
 //! Bytes in hexadecimal, with repetition.
 //!
-//! Parts are joined by `+`. `HEX` is bytes. `HEX*COUNT` is these bytes so many times. `CODE^COUNT`
-//! is so many compounds around all that follows it: each is the code, a size and the count 1, both
-//! of four bytes, and the next one. `-` is no bytes.
+//! A word is parts joined by `+`. `HEX` denotes bytes, and `HEX*COUNT` so many times these bytes.
+//! `CODE^COUNT` denotes so many compounds of one element, one inside another, around all that
+//! follows: each has the code, a size and a count of four bytes each, and the element. `-` denotes
+//! no bytes.
 
 use amqp_data::Error;
 use std::alloc::Global;
 
-/// The bytes that the word tells.
+/// The bytes that the word denotes.
 pub fn bytes_of(alloc: Global, word: &str) -> Result<Vec<u8>, Error> {
     let mut bytes = Vec::new(alloc);
     if word == "-" {
@@ -20,7 +21,15 @@ pub fn bytes_of(alloc: Global, word: &str) -> Result<Vec<u8>, Error> {
     Ok(bytes)
 }
 
-/// The number that the word tells.
+/// The word that denotes the bytes.
+pub fn word_of(alloc: Global, bytes: &[u8]) -> Result<String, Error> {
+    if bytes.is_empty() {
+        return Ok(String::from_str(alloc, "-")?);
+    }
+    Ok(hex::encode(alloc, bytes)?)
+}
+
+/// The number that the word denotes, in decimal.
 pub fn number_of(word: &str) -> Result<u32, Error> {
     word.parse().map_err(|_| Error::Message("no number"))
 }
@@ -57,12 +66,11 @@ fn repeated(alloc: Global, piece: &[u8], count: u32) -> Result<Vec<u8>, Error> {
 
 // What is before the bytes inside so many compounds of one element.
 fn opened(alloc: Global, code: &[u8], depth: u32, inside: usize) -> Result<Vec<u8>, Error> {
+    let inside = u32::try_from(inside).map_err(|_| Error::TooLong)?;
     let mut bytes = Vec::new(alloc);
     for outer in 0..depth {
         let inner = depth.wrapping_sub(outer).wrapping_sub(1);
-        let size = (inside as u32)
-            .wrapping_add(4)
-            .wrapping_add(inner.wrapping_mul(9));
+        let size = inside.wrapping_add(4).wrapping_add(inner.wrapping_mul(9));
         bytes.extend_from_slice(code)?;
         bytes.extend_from_slice(&size.to_be_bytes())?;
         bytes.extend_from_slice(&[0, 0, 0, 1])?;

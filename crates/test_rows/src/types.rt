@@ -1,6 +1,6 @@
 //! Values read as a type, by the type's name.
 
-use crate::notation::bytes_of;
+use crate::notation::{bytes_of, word_of};
 use crate::values::two_words;
 use amqp_data::{
     Array, ByteBuf, Dec32, Dec64, Dec128, Described, Error, F32Bits, F64Bits, OrderedMap, Symbol,
@@ -72,13 +72,26 @@ fn by_name(alloc: Global, name: &str, bytes: &[u8]) -> Result<String, Error> {
     }
 }
 
-// The value as this type: its size, its bytes and the text of its image.
+// The value as this type: its size, its bytes and its image.
 fn read_as<T: Serialize + Deserialize>(alloc: Global, value: Value) -> Result<String, Error> {
     let read: T = from_value(alloc, value)?;
     let size = serialized_size(&read)?;
-    let bytes = hex::encode(alloc, to_vec(alloc, &read)?)?;
+    let bytes = to_vec(alloc, &read)?;
     let image = to_value(alloc, &read)?;
-    Ok(format!(in alloc; "{size} {bytes} {image}")?)
+    written(alloc, size, &bytes, &image)
+}
+
+// The size, the bytes, and the image's bytes and text; `same` in place of equal bytes.
+fn written(alloc: Global, size: usize, bytes: &[u8], image: &Value) -> Result<String, Error> {
+    let mut text = format!(in alloc; "{size} {}", word_of(alloc, bytes)?)?;
+    let image_bytes = to_vec(alloc, image)?;
+    if image_bytes.as_slice() == bytes {
+        text.push_str(" same ")?;
+    } else {
+        text.push_str(&format!(in alloc; " {} ", word_of(alloc, &image_bytes)?)?)?;
+    }
+    text.push_str(&format!(in alloc; "{image}")?)?;
+    Ok(text)
 }
 
 fn scalar(alloc: Global, name: &str, value: Value) -> Result<String, Error> {

@@ -1,6 +1,6 @@
 //! Calls on decoded values.
 
-use crate::notation::{bytes_of, number_of};
+use crate::notation::{bytes_of, number_of, word_of};
 use amqp_data::Error;
 use amqp_decode::{decode_value, decode_value_within};
 use amqp_value::Value;
@@ -74,7 +74,7 @@ pub fn two_words(arguments: &str) -> Result<(&str, &str), Error> {
 
 // The bytes that the value is written as, and its text.
 fn shown(alloc: Global, value: &Value) -> Result<String, Error> {
-    let bytes = hex::encode(alloc, to_vec(alloc, value)?)?;
+    let bytes = word_of(alloc, &to_vec(alloc, value)?)?;
     let text = format!(in alloc; "{value}")?;
     if value.to_string(alloc)? != text {
         return Err(Error::Message("another text"));
