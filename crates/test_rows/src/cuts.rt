@@ -1,0 +1,61 @@
+//! Calls on encoded values that look at no payload.
+
+use crate::notation::word_of;
+use crate::row::refusal;
+use amqp_data::Error;
+use amqp_decode::decode_value;
+use amqp_frame::{LazyValue, Read, SliceReader, frame_len, is_frame};
+use std::alloc::Global;
+
+/// The length of the encoded value that the bytes begin with, and whether it is all of them.
+pub fn frame(alloc: Global, bytes: &[u8]) -> Result<String, Error> {
+    let whole = is_frame(bytes);
+    match frame_len(bytes) {
+        Some(len) => Ok(format!(in alloc; "{len} {whole}")?),
+        None => Ok(format!(in alloc; "none {whole}")?),
+    }
+}
+
+/// What `LazyValue::from_reader` answers, call by call, until no byte is left.
+pub fn cut(alloc: Global, bytes: &[u8]) -> Result<String, Error> {
+    let mut reader = SliceReader::new(bytes);
+    let mut text = next(alloc, &mut reader)?;
+    for _ in 0..bytes.len() {
+        if reader.peek()?.is_none() {
+            break;
+        }
+        text.push_str(" ")?;
+        text.push_str(&next(alloc, &mut reader)?)?;
+    }
+    Ok(text)
+}
+
+// The next encoded value, or why there is none.
+fn next(alloc: Global, reader: &mut SliceReader<'_>) -> Result<String, Error> {
+    match LazyValue::from_reader(alloc, reader) {
+        Ok(value) => word_of(alloc, value.as_slice()),
+        Err(error) => refusal(alloc, &error),
+    }
+}
+
+/// How many proper prefixes the bytes have, and to how many of them `decode_value` and
+/// `LazyValue::from_reader` answer that the input ends too early, and `frame_len` none.
+pub fn prefixes(alloc: Global, bytes: &[u8]) -> Result<String, Error> {
+    let [mut decoded, mut cut, mut framed] = [0u64; 3];
+    for end in 0..bytes.len() {
+        let prefix = bytes.get(..end).unwrap_or(bytes);
+        if matches!(&decode_value(alloc, prefix), Err(Error::UnexpectedEof)) {
+            decoded = decoded.saturating_add(1);
+        }
+        let mut reader = SliceReader::new(prefix);
+        let read = LazyValue::from_reader(alloc, &mut reader);
+        if matches!(&read, Err(Error::UnexpectedEof)) {
+            cut = cut.saturating_add(1);
+        }
+        if frame_len(prefix).is_none() && !is_frame(prefix) {
+            framed = framed.saturating_add(1);
+        }
+    }
+    let all = bytes.len();
+    Ok(format!(in alloc; "{all}: decode {decoded}, cut {cut}, frame {framed}")?)
+}

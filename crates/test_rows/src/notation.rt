@@ -1,0 +1,79 @@
+//! Bytes in hexadecimal, with repetition.
+//!
+//! A word is parts joined by `+`. `HEX` denotes bytes, and `HEX*COUNT` so many times these bytes.
+//! `CODE^COUNT` denotes so many compounds of one element, one inside another, around all that
+//! follows: each has the code, a size and a count of four bytes each, and the element. `-` denotes
+//! no bytes.
+
+use amqp_data::Error;
+use std::alloc::Global;
+
+/// The bytes that the word denotes.
+pub fn bytes_of(alloc: Global, word: &str) -> Result<Vec<u8>, Error> {
+    let mut bytes = Vec::new(alloc);
+    if word == "-" {
+        return Ok(bytes);
+    }
+    let parts: Vec<&str> = word.split('+').collect(alloc)?;
+    for part in parts.iter().rev() {
+        bytes = followed(alloc, part, &bytes)?;
+    }
+    Ok(bytes)
+}
+
+/// The word that denotes the bytes.
+pub fn word_of(alloc: Global, bytes: &[u8]) -> Result<String, Error> {
+    if bytes.is_empty() {
+        return Ok(String::from_str(alloc, "-")?);
+    }
+    Ok(hex::encode(alloc, bytes)?)
+}
+
+/// The number that the word denotes, in decimal.
+pub fn number_of(word: &str) -> Result<u32, Error> {
+    word.parse().map_err(|_| Error::Message("no number"))
+}
+
+// The bytes of one part, followed by the rest.
+fn followed(alloc: Global, part: &str, rest: &[u8]) -> Result<Vec<u8>, Error> {
+    let mut bytes = if let Some((digits, count)) = part.split_once('*') {
+        repeated(alloc, &digits_of(alloc, digits)?, number_of(count)?)?
+    } else if let Some((code, depth)) = part.split_once('^') {
+        opened(
+            alloc,
+            &digits_of(alloc, code)?,
+            number_of(depth)?,
+            rest.len(),
+        )?
+    } else {
+        digits_of(alloc, part)?
+    };
+    bytes.extend_from_slice(rest)?;
+    Ok(bytes)
+}
+
+fn digits_of(alloc: Global, digits: &str) -> Result<Vec<u8>, Error> {
+    hex::decode(alloc, digits).map_err(|_| Error::Message("no hexadecimal"))
+}
+
+fn repeated(alloc: Global, piece: &[u8], count: u32) -> Result<Vec<u8>, Error> {
+    let mut bytes = Vec::new(alloc);
+    for _ in 0..count {
+        bytes.extend_from_slice(piece)?;
+    }
+    Ok(bytes)
+}
+
+// What is before the bytes inside so many compounds of one element.
+fn opened(alloc: Global, code: &[u8], depth: u32, inside: usize) -> Result<Vec<u8>, Error> {
+    let inside = u32::try_from(inside).map_err(|_| Error::TooLong)?;
+    let mut bytes = Vec::new(alloc);
+    for outer in 0..depth {
+        let inner = depth.wrapping_sub(outer).wrapping_sub(1);
+        let size = inside.wrapping_add(4).wrapping_add(inner.wrapping_mul(9));
+        bytes.extend_from_slice(code)?;
+        bytes.extend_from_slice(&size.to_be_bytes())?;
+        bytes.extend_from_slice(&[0, 0, 0, 1])?;
+    }
+    Ok(bytes)
+}

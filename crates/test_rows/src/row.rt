@@ -1,0 +1,38 @@
+//! A row's call.
+
+use crate::{cuts, notation, types, values};
+use amqp_data::Error;
+use std::alloc::Global;
+
+/// What the row's call answers.
+pub fn answer(alloc: Global, line: &str) -> Result<String, Error> {
+    let Some((call, arguments)) = line.split_once(' ') else {
+        return Err(Error::Message("no arguments"));
+    };
+    match call {
+        "decode_within" => values::decode_within(alloc, arguments),
+        "compare" => values::compare(alloc, arguments),
+        "read" => types::read(alloc, arguments),
+        _ => of_bytes(alloc, call, &notation::bytes_of(alloc, arguments)?),
+    }
+}
+
+// The answer of a call whose one argument is bytes.
+fn of_bytes(alloc: Global, call: &str, bytes: &[u8]) -> Result<String, Error> {
+    match call {
+        "decode" => values::decode(alloc, bytes),
+        "code" => values::code(alloc, bytes),
+        "count" => values::count(alloc, bytes),
+        "depth" => values::depth(alloc, bytes),
+        "frame" => cuts::frame(alloc, bytes),
+        "cut" => cuts::cut(alloc, bytes),
+        "prefixes" => cuts::prefixes(alloc, bytes),
+        "readers" => types::readers(alloc, bytes),
+        _ => Err(Error::Message("no such call")),
+    }
+}
+
+/// The error in angle brackets.
+pub fn refusal(alloc: Global, error: &Error) -> Result<String, Error> {
+    Ok(format!(in alloc; "<{error}>")?)
+}

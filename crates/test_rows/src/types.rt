@@ -1,0 +1,144 @@
+//! Values read as a type, by the type's name.
+
+use crate::notation::{bytes_of, word_of};
+use crate::values::two_words;
+use amqp_data::{
+    Array, ByteBuf, Dec32, Dec64, Dec128, Described, Error, F32Bits, F64Bits, OrderedMap, Symbol,
+    Timestamp, TransparentVec, Uuid,
+};
+use amqp_de::de::Deserialize;
+use amqp_decode::decode_value;
+use amqp_from_value::from_value;
+use amqp_ser::Serialize;
+use amqp_size::serialized_size;
+use amqp_to_value::to_value;
+use amqp_value::Value;
+use amqp_wire::to_vec;
+use std::alloc::Global;
+use std::collections::BTreeMap;
+
+// The types whose values are scalars.
+const SCALARS: [&str; 21] = [
+    "()",
+    "bool",
+    "u8",
+    "u16",
+    "u32",
+    "u64",
+    "i8",
+    "i16",
+    "i32",
+    "i64",
+    "F32Bits",
+    "F64Bits",
+    "Dec32",
+    "Dec64",
+    "Dec128",
+    "char",
+    "Timestamp",
+    "Uuid",
+    "ByteBuf",
+    "String",
+    "Symbol",
+];
+
+/// The value as a type: `TYPE BYTES`.
+pub fn read(alloc: Global, arguments: &str) -> Result<String, Error> {
+    let (name, bytes) = two_words(arguments)?;
+    by_name(alloc, name, &bytes_of(alloc, bytes)?)
+}
+
+/// The names of the scalar types that read the value, or `none`.
+pub fn readers(alloc: Global, bytes: &[u8]) -> Result<String, Error> {
+    let mut names = String::new(alloc);
+    for name in &SCALARS {
+        if by_name(alloc, *name, bytes).is_ok() {
+            names.push_str(if names.is_empty() { "" } else { " " })?;
+            names.push_str(*name)?;
+        }
+    }
+    if names.is_empty() {
+        names.push_str("none")?;
+    }
+    Ok(names)
+}
+
+fn by_name(alloc: Global, name: &str, bytes: &[u8]) -> Result<String, Error> {
+    let value = decode_value(alloc, bytes)?;
+    if SCALARS.contains(&name) {
+        scalar(alloc, name, value)
+    } else {
+        compound(alloc, name, value)
+    }
+}
+
+// The value as this type: its size, its bytes and its image.
+fn read_as<T: Serialize + Deserialize>(alloc: Global, value: Value) -> Result<String, Error> {
+    let read: T = from_value(alloc, value)?;
+    let size = serialized_size(&read)?;
+    let bytes = to_vec(alloc, &read)?;
+    let image = to_value(alloc, &read)?;
+    written(alloc, size, &bytes, &image)
+}
+
+// The size, the bytes, and the image's bytes and text; `same` in place of equal bytes.
+fn written(alloc: Global, size: usize, bytes: &[u8], image: &Value) -> Result<String, Error> {
+    let mut text = format!(in alloc; "{size} {}", word_of(alloc, bytes)?)?;
+    let image_bytes = to_vec(alloc, image)?;
+    if image_bytes.as_slice() == bytes {
+        text.push_str(" same ")?;
+    } else {
+        text.push_str(&format!(in alloc; " {} ", word_of(alloc, &image_bytes)?)?)?;
+    }
+    text.push_str(&format!(in alloc; "{image}")?)?;
+    Ok(text)
+}
+
+fn scalar(alloc: Global, name: &str, value: Value) -> Result<String, Error> {
+    match name {
+        "()" => read_as::<()>(alloc, value),
+        "bool" => read_as::<bool>(alloc, value),
+        "u8" => read_as::<u8>(alloc, value),
+        "u16" => read_as::<u16>(alloc, value),
+        "u32" => read_as::<u32>(alloc, value),
+        "u64" => read_as::<u64>(alloc, value),
+        "i8" => read_as::<i8>(alloc, value),
+        "i16" => read_as::<i16>(alloc, value),
+        "i32" => read_as::<i32>(alloc, value),
+        "i64" => read_as::<i64>(alloc, value),
+        "char" => read_as::<char>(alloc, value),
+        "String" => read_as::<String>(alloc, value),
+        _ => data(alloc, name, value),
+    }
+}
+
+fn data(alloc: Global, name: &str, value: Value) -> Result<String, Error> {
+    match name {
+        "F32Bits" => read_as::<F32Bits>(alloc, value),
+        "F64Bits" => read_as::<F64Bits>(alloc, value),
+        "Dec32" => read_as::<Dec32>(alloc, value),
+        "Dec64" => read_as::<Dec64>(alloc, value),
+        "Dec128" => read_as::<Dec128>(alloc, value),
+        "Timestamp" => read_as::<Timestamp>(alloc, value),
+        "Uuid" => read_as::<Uuid>(alloc, value),
+        "ByteBuf" => read_as::<ByteBuf>(alloc, value),
+        "Symbol" => read_as::<Symbol>(alloc, value),
+        _ => Err(Error::Message("no such type")),
+    }
+}
+
+fn compound(alloc: Global, name: &str, value: Value) -> Result<String, Error> {
+    match name {
+        "Option<i32>" => read_as::<Option<i32>>(alloc, value),
+        "Option<Option<u32>>" => read_as::<Option<Option<u32>>>(alloc, value),
+        "(i32,bool)" => read_as::<(i32, bool)>(alloc, value),
+        "Vec<u8>" => read_as::<Vec<u8>>(alloc, value),
+        "Array<u32>" => read_as::<Array<u32>>(alloc, value),
+        "Array<Array<u8>>" => read_as::<Array<Array<u8>>>(alloc, value),
+        "TransparentVec<u8>" => read_as::<TransparentVec<u8>>(alloc, value),
+        "OrderedMap<Symbol,i64>" => read_as::<OrderedMap<Symbol, i64>>(alloc, value),
+        "BTreeMap<u8,bool>" => read_as::<BTreeMap<u8, bool>>(alloc, value),
+        "Described<i32>" => read_as::<Described<i32>>(alloc, value),
+        _ => Err(Error::Message("no such type")),
+    }
+}

@@ -1,0 +1,98 @@
+//! Calls on decoded values.
+
+use crate::notation::{bytes_of, number_of, word_of};
+use amqp_data::Error;
+use amqp_decode::{decode_value, decode_value_within};
+use amqp_value::Value;
+use amqp_wire::to_vec;
+use std::alloc::Global;
+use std::cmp::Ordering;
+
+/// The bytes that the decoded value is written as, and its text.
+pub fn decode(alloc: Global, bytes: &[u8]) -> Result<String, Error> {
+    shown(alloc, &decode_value(alloc, bytes)?)
+}
+
+/// Like `decode`, within a limit of elements that have no bytes: `LIMIT BYTES`.
+pub fn decode_within(alloc: Global, arguments: &str) -> Result<String, Error> {
+    let (limit, bytes) = two_words(arguments)?;
+    let bytes = bytes_of(alloc, bytes)?;
+    shown(
+        alloc,
+        &decode_value_within(alloc, &bytes, number_of(limit)?)?,
+    )
+}
+
+/// The format code of the value, in hexadecimal.
+pub fn code(alloc: Global, bytes: &[u8]) -> Result<String, Error> {
+    let code = decode_value(alloc, bytes)?.format_code();
+    Ok(format!(in alloc; "{code:02x}")?)
+}
+
+/// How many elements the list or the array has, or how many pairs the map.
+pub fn count(alloc: Global, bytes: &[u8]) -> Result<String, Error> {
+    let count = match &decode_value(alloc, bytes)? {
+        Value::List(items) => items.len(),
+        Value::Map(map) => map.len(),
+        Value::Array(array) => array.as_inner().len(),
+        _ => return Err(Error::Message("no compound")),
+    };
+    Ok(format!(in alloc; "{count}")?)
+}
+
+/// How many lists are around the empty one.
+pub fn depth(alloc: Global, bytes: &[u8]) -> Result<String, Error> {
+    let value = decode_value(alloc, bytes)?;
+    match depth_of(&value) {
+        Some(depth) => Ok(format!(in alloc; "{depth}")?),
+        None => Err(Error::Message("no list around an empty one")),
+    }
+}
+
+/// The order of two values by `cmp`, and which of `<`, `=` and `>` are true of them.
+pub fn compare(alloc: Global, arguments: &str) -> Result<String, Error> {
+    let (first, second) = two_words(arguments)?;
+    let first = decode_value(alloc, &bytes_of(alloc, first)?)?;
+    let second = decode_value(alloc, &bytes_of(alloc, second)?)?;
+    let order = match first.cmp(&second) {
+        Ordering::Less => "less",
+        Ordering::Equal => "equal",
+        Ordering::Greater => "greater",
+    };
+    let less = if first < second { "<" } else { "" };
+    let equal = if first == second { "=" } else { "" };
+    let greater = if first > second { ">" } else { "" };
+    Ok(format!(in alloc; "{order} {less}{equal}{greater}")?)
+}
+
+/// The two words of a row with two arguments.
+pub fn two_words(arguments: &str) -> Result<(&str, &str), Error> {
+    arguments
+        .split_once(' ')
+        .ok_or(Error::Message("one argument"))
+}
+
+// The bytes that the value is written as, and its text.
+fn shown(alloc: Global, value: &Value) -> Result<String, Error> {
+    let bytes = word_of(alloc, &to_vec(alloc, value)?)?;
+    let text = format!(in alloc; "{value}")?;
+    if value.to_string(alloc)? != text {
+        return Err(Error::Message("another text"));
+    }
+    Ok(format!(in alloc; "{bytes} {text}")?)
+}
+
+// How many lists are around the empty one.
+fn depth_of(value: &Value) -> Option<u32> {
+    let mut inner = value;
+    for depth in 0..1000u32 {
+        let Value::List(items) = inner else {
+            return None;
+        };
+        let Some(item) = items.first() else {
+            return Some(depth);
+        };
+        inner = item;
+    }
+    None
+}
