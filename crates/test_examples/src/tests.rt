@@ -13,6 +13,10 @@ fn wrong(rt: &HostRuntime, name: &str, got: &str) -> bool {
     println!(rt; "{name}: got {got}").is_err() && false
 }
 
+fn wrong_number(rt: &HostRuntime, name: &str, got: u64) -> bool {
+    println!(rt; "{name}: got {got}").is_err() && false
+}
+
 fn wrong_error(rt: &HostRuntime, name: &str, got: &Error) -> bool {
     println!(rt; "{name}: got the error {got}").is_err() && false
 }

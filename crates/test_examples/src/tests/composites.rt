@@ -6,7 +6,7 @@ mod messages;
 mod performatives;
 mod rows;
 
-use super::{wrong, wrong_error};
+use super::{wrong, wrong_error, wrong_number};
 use amqp_ser::Serialize;
 use amqp_size::serialized_size;
 use amqp_wire::to_vec;
@@ -35,7 +35,7 @@ fn other_bytes(rt: &HostRuntime, name: &str, bytes: &[u8]) -> bool {
 
 fn is_counted<T: Serialize>(rt: &HostRuntime, name: &str, value: &T, bytes: &[u8]) -> bool {
     match serialized_size(value) {
-        Ok(size) => size == bytes.len() || wrong(rt, name, "another length"),
+        Ok(size) => size == bytes.len() || wrong_number(rt, name, size as u64),
         Err(error) => wrong_error(rt, name, &error),
     }
 }

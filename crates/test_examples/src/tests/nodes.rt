@@ -5,7 +5,7 @@ ghost use Rattle.amqp_ser.specs.Composites.{as_described, descriptor_of};
 ghost use Rattle.amqp_ser.specs.Marked.{marked, mark_of};
 ghost use Rattle.amqp_ser.specs.Tree.{scalar, ubyte};
 
-use super::{wrong, wrong_error};
+use super::{wrong, wrong_error, wrong_number};
 use amqp_data::{Described, Descriptor, Error, markers};
 use amqp_ser::{Serialize, Serializer};
 use example_nodes::{Reading, count_nodes};
@@ -49,7 +49,7 @@ fn nodes_are_counted(rt: HostRuntime) {
 fn has<T: Serialize + Drop>(rt: &HostRuntime, name: &str, value: Option<T>, nodes: u64) -> bool {
     match value {
         Some(value) => match count_nodes(&value) {
-            Ok(count) => count == nodes || wrong(rt, name, "another number of nodes"),
+            Ok(count) => count == nodes || wrong_number(rt, name, count),
             Err(error) => wrong_error(rt, name, &error),
         },
         None => wrong(rt, name, "no memory for the value"),
@@ -60,7 +60,7 @@ fn has<T: Serialize + Drop>(rt: &HostRuntime, name: &str, value: Option<T>, node
 fn is_refused<T: Serialize + Drop>(rt: &HostRuntime, name: &str, value: Option<T>) -> bool {
     match value {
         Some(value) => match count_nodes(&value) {
-            Ok(_) => wrong(rt, name, "a number of nodes"),
+            Ok(count) => wrong_number(rt, name, count),
             Err(Error::InvalidValue) => true,
             Err(error) => wrong_error(rt, name, &error),
         },

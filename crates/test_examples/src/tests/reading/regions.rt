@@ -1,6 +1,6 @@
 //! Regions in regions, read one level after another.
 
-use super::{comes_back, is_invalid, is_restored, list, uint};
+use super::{comes_back, is_invalid, is_other, is_restored, list, uint};
 use crate::tests::wrong;
 use amqp_data::Error;
 use amqp_value::Value;
@@ -9,13 +9,8 @@ use std::alloc::Global;
 
 #[test]
 fn regions_are_read_level_by_level(rt: HostRuntime) {
-    let a = rt.alloc();
     assert!(rt; regions_come_back(&rt), "regions come back");
-    let numbers = numbers_of_three_levels(a);
-    assert!(rt;
-        numbers.is_some_and(|n| n.as_slice() == [1u32, 2, 5, 3, 4].as_slice()),
-        "levels"
-    );
+    assert!(rt; levels_are_read(&rt), "levels are read");
     assert!(rt; other_values_are_refused(&rt), "other values are refused");
 }
 
@@ -42,6 +37,15 @@ fn regions_come_back(rt: &HostRuntime) -> bool {
     let valleys = list(a, [lone(a, 3), lone(a, 4)]);
     let whole = region(a, 1, list(a, [region(a, 2, valleys), lone(a, 5)]));
     comes_back(rt, "three levels", whole, outer(a)) && is_restored(rt, "three levels", outer(a))
+}
+
+fn levels_are_read(rt: &HostRuntime) -> bool {
+    match numbers_of_three_levels(rt.alloc()) {
+        Some(numbers) => {
+            numbers.as_slice() == [1, 2, 5, 3, 4].as_slice() || is_other(rt, "levels", &numbers)
+        }
+        None => wrong(rt, "levels", "no numbers of three levels"),
+    }
 }
 
 /// The numbers of the regions, level by level; none if a fourth level is there.
