@@ -69,20 +69,36 @@ pub fn repeat_chain(alloc: Global, chain: &Chain, op: u32, times: u64) -> u64
 mod tests {
     use super::read_chain;
     use crate::chain::Chain;
+    use crate::tests::{is, wrong};
+    use amqp_data::Error;
     use amqp_size::serialized_size;
     use amqp_to_value::to_value;
     use amqp_value::Value;
-    use std::test::Fail;
+    use std::alloc::Global;
 
     #[test]
-    fn chains_come_back(rt: HostRuntime) -> Result<(), Fail> {
-        let alloc = rt.alloc();
+    fn chains_come_back(rt: HostRuntime) {
         for links in [0, 1, 2, 255] {
-            let chain = Chain::of_links(alloc, links)?;
-            let read = read_chain(alloc, to_value(alloc, &chain)?)?;
-            assert_eq!(rt; serialized_size(&read)?, serialized_size(&chain)?);
+            assert!(rt; comes_back(&rt, links), "{links} links");
         }
-        assert!(rt; read_chain(alloc, Value::Null).is_err());
-        Ok(())
+        assert!(rt; null_is_no_chain(&rt), "null");
+    }
+
+    /// The sizes of a chain and of what is read from its untyped value.
+    fn sizes(alloc: Global, links: u32) -> Result<(usize, usize), Error> {
+        let chain = Chain::of_links(alloc, links)?;
+        let read = read_chain(alloc, to_value(alloc, &chain)?)?;
+        Ok((serialized_size(&chain)?, serialized_size(&read)?))
+    }
+
+    fn comes_back(rt: &HostRuntime, links: u32) -> bool {
+        match sizes(rt.alloc(), links) {
+            Ok((chain, read)) => is(rt, "size", links, read as u64, chain as u64),
+            Err(_) => wrong(rt, "chain", links),
+        }
+    }
+
+    fn null_is_no_chain(rt: &HostRuntime) -> bool {
+        read_chain(rt.alloc(), Value::Null).is_err()
     }
 }

@@ -1,116 +1,134 @@
-//! Answers that no clause states, worked by hand or by another program.
+//! Answers that no clause states, worked by hand or by another program. Each row is a bool, and a
+//! wrong one prints its name, its shape or work, and what was got.
+
+mod prefixes;
 
 use crate::exports::{amqp_bench, amqp_shape};
 use crate::hash::hash_of;
 
+/// Whether the number is the wanted one.
+pub fn is(rt: &HostRuntime, name: &str, of: u32, got: u64, wanted: u64) -> bool {
+    got == wanted || println!(rt; "{name} of {of}: got {got}").is_err() && false
+}
+
+/// Prints that there is no answer, and answers false.
+pub fn wrong(rt: &HostRuntime, name: &str, of: u32) -> bool {
+    println!(rt; "{name} of {of}: got none").is_err() && false
+}
+
 #[test]
-fn hashes_of_worked_texts(rt: HostRuntime) {
-    for (text, hash) in [
-        ("", 0xcbf29ce484222325),
-        ("a", 0xaf63dc4c8601ec8c),
-        ("foobar", 0x85944171f73967e8),
-    ] {
-        assert_eq!(rt; hash_of(text.as_bytes()), hash, "of {text}");
+fn answers_are_worked_ones(rt: HostRuntime) {
+    assert!(rt; hashes(&rt), "hashes");
+    assert!(rt; sizes(&rt), "sizes");
+    assert!(rt; bytes(&rt), "bytes");
+    assert!(rt; spelled_values(&rt), "spelled values");
+    assert!(rt; fed_fields(&rt), "fed fields");
+}
+
+#[test]
+fn each_shape_has_each_answer(rt: HostRuntime) {
+    for shape in 0..10 {
+        assert!(rt; is_written_and_made(&rt, shape), "shape {shape}");
     }
+    assert!(rt; types_are_read(&rt), "types are read out of untyped values");
 }
 
-#[test]
-fn sizes_are_summed(rt: HostRuntime) {
-    let alloc = rt.alloc();
-    assert_eq!(rt; amqp_bench(alloc, 0, 0, b"a\nbc", 3), 30);
-    assert_eq!(rt; amqp_bench(alloc, 1, 0, b"\0\0\0\x01\0\0\0\x02", 2), 24);
+/// Hashes that are published for the function.
+fn hashes(rt: &HostRuntime) -> bool {
+    is(rt, "hash of no bytes", 0, hash_of(b""), 0xcbf29ce484222325)
+        && is(rt, "hash of a", 1, hash_of(b"a"), 0xaf63dc4c8601ec8c)
+        && is(
+            rt,
+            "hash of foobar",
+            6,
+            hash_of(b"foobar"),
+            0x85944171f73967e8,
+        )
 }
 
-#[test]
-fn sizes_of_the_shapes(rt: HostRuntime) {
-    for (shape, size) in [(3, 1786), (4, 65541)] {
-        assert_eq!(rt;
-            amqp_shape(rt.alloc(), shape, 0, 1),
-            size,
-            "of shape {shape}"
-        );
-    }
+/// What a work answers on the data.
+fn of_work(rt: &HostRuntime, work: u32, op: u32, data: &[u8], times: u64, wanted: u64) -> bool {
+    is(
+        rt,
+        "answer of a work",
+        work,
+        amqp_bench(rt.alloc(), work, op, data, times),
+        wanted,
+    )
 }
 
-#[test]
-fn lengths_of_texts_are_summed(rt: HostRuntime) {
-    let alloc = rt.alloc();
-    assert_eq!(rt; amqp_bench(alloc, 0, 4, b"a\nbc", 3), 33);
+/// What a shape answers.
+fn of_shape(rt: &HostRuntime, shape: u32, op: u32, times: u64, wanted: u64) -> bool {
+    is(
+        rt,
+        "answer of a shape",
+        shape,
+        amqp_shape(rt.alloc(), shape, op, times),
+        wanted,
+    )
 }
 
-#[test]
-fn bytes_have_the_hash_of_worked_bytes(rt: HostRuntime) {
-    let alloc = rt.alloc();
+fn sizes(rt: &HostRuntime) -> bool {
+    of_work(rt, 0, 0, b"a\nbc", 3, 30)
+        && of_work(rt, 1, 0, b"\0\0\0\x01\0\0\0\x02", 2, 24)
+        && of_work(rt, 0, 4, b"a\nbc", 3, 33)
+        && of_shape(rt, 3, 0, 1, 1786)
+        && of_shape(rt, 4, 0, 1, 65541)
+}
+
+fn bytes(rt: &HostRuntime) -> bool {
     let strings = hash_of(b"\xc0\x08\x02\xa1\x01a\xa1\x02bc");
-    assert_eq!(rt; amqp_bench(alloc, 0, 2, b"a\nbc", 1), strings);
     let numbers = hash_of(b"\xe0\x0a\x02\x70\0\0\0\x01\0\0\0\x02");
-    assert_eq!(rt;
-        amqp_bench(alloc, 1, 2, b"\0\0\0\x01\0\0\0\x02", 1),
-        numbers
-    );
+    of_work(rt, 0, 2, b"a\nbc", 1, strings)
+        && of_work(rt, 1, 2, b"\0\0\0\x01\0\0\0\x02", 1, numbers)
 }
 
-#[test]
-fn each_shape_is_written_and_made(rt: HostRuntime) {
-    for shape in [0, 1, 2, 3, 4, 5, 6, 7, 8, 9] {
-        let size = amqp_shape(rt.alloc(), shape, 0, 1);
-        assert!(rt; size > 0);
-        assert_eq!(rt;
-            amqp_shape(rt.alloc(), shape, 1, 2),
-            size.wrapping_mul(2),
-            "shape {shape}"
-        );
-        assert_eq!(rt; amqp_shape(rt.alloc(), shape, 3, 2), 2, "shape {shape}");
-        assert!(rt; amqp_shape(rt.alloc(), shape, 4, 1) > 0);
-        assert_eq!(rt; amqp_shape(rt.alloc(), shape, 5, 2), 2, "shape {shape}");
-    }
+/// The size, the bytes, the untyped value, its text and the value read from the bytes.
+fn is_written_and_made(rt: &HostRuntime, shape: u32) -> bool {
+    let size = amqp_shape(rt.alloc(), shape, 0, 1);
+    let text = amqp_shape(rt.alloc(), shape, 4, 1);
+    (size > 0 || wrong(rt, "size", shape))
+        && of_shape(rt, shape, 1, 2, size.wrapping_mul(2))
+        && of_shape(rt, shape, 3, 2, 2)
+        && (text > 0 || wrong(rt, "text", shape))
+        && of_shape(rt, shape, 5, 2, 2)
 }
 
-#[test]
-fn types_are_read_out_of_untyped_values(rt: HostRuntime) {
-    for (shape, reads) in [
-        (0, 3),
-        (1, 3),
-        (2, 3),
-        (3, 3),
-        (4, 3),
-        (5, 3),
-        (6, 3),
-        (7, 3),
-        (8, 0),
-        (9, 0),
-    ] {
-        assert_eq!(rt; amqp_shape(rt.alloc(), shape, 6, 3), reads, "shape {shape}");
-    }
-    assert_eq!(rt; amqp_bench(rt.alloc(), 0, 6, b"a\nbc", 3), 3);
-    assert_eq!(rt; amqp_bench(rt.alloc(), 1, 6, b"\0\0\0\x01", 3), 3);
+fn types_are_read(rt: &HostRuntime) -> bool {
+    of_shape(rt, 0, 6, 3, 3)
+        && of_shape(rt, 1, 6, 3, 3)
+        && of_shape(rt, 2, 6, 3, 3)
+        && of_shape(rt, 3, 6, 3, 3)
+        && of_shape(rt, 4, 6, 3, 3)
+        && of_shape(rt, 5, 6, 3, 3)
+        && of_shape(rt, 6, 6, 3, 3)
+        && of_shape(rt, 7, 6, 3, 3)
+        && of_shape(rt, 8, 6, 3, 0)
+        && of_shape(rt, 9, 6, 3, 0)
+        && of_work(rt, 0, 6, b"a\nbc", 3, 3)
+        && of_work(rt, 1, 6, b"\0\0\0\x01", 3, 3)
 }
 
-#[test]
-fn values_that_are_spelled_answer_as_others(rt: HostRuntime) {
-    let alloc = rt.alloc();
-    // The list of the uint 0, in its longest form, and true.
+/// The works 2 to 4 on the list of the uint 0, in its longest form, and true.
+fn spelled_values(rt: &HostRuntime) -> bool {
+    is_spelled(rt, 2) && is_spelled(rt, 3) && is_spelled(rt, 4)
+}
+
+fn is_spelled(rt: &HostRuntime, work: u32) -> bool {
     let spelled = b"\xc0\x07\x02\x70\0\0\0\0\x41";
-    for work in 2..=4 {
-        assert_eq!(rt; amqp_bench(alloc, work, 0, spelled, 2), 10);
-        assert_eq!(rt;
-            amqp_bench(alloc, work, 2, spelled, 1),
-            hash_of(b"\xc0\x03\x02\x43\x41")
-        );
-        assert_eq!(rt; amqp_bench(alloc, work, 5, spelled, 2), 2);
-        assert_eq!(rt; amqp_bench(alloc, work, 0, b"\x46", 2), 0);
-    }
+    of_work(rt, work, 0, spelled, 2, 10)
+        && of_work(rt, work, 2, spelled, 1, hash_of(b"\xc0\x03\x02\x43\x41"))
+        && of_work(rt, work, 5, spelled, 2, 2)
+        && of_work(rt, work, 0, b"\x46", 2, 0)
 }
 
-#[test]
-fn fields_that_are_fed_have_worked_bytes(rt: HostRuntime) {
-    let alloc = rt.alloc();
+fn fed_fields(rt: &HostRuntime) -> bool {
     let list =
         b"\xc0\x5c\x07\xa1\x1csender-7f3a9c21-queue-orders\x52\x03\x42\x50\x02\x40\xa1\x16client/orders/outgoing\xa1\x1dbroker/queues/orders/incoming";
-    assert_eq!(rt; amqp_shape(alloc, 8, 2, 1), hash_of(list));
-    assert_eq!(rt; amqp_shape(alloc, 8, 0, 1), 94);
     let described =
         b"\0\x53\x12\xc0\x5c\x07\xa1\x1csender-7f3a9c21-queue-orders\x52\x03\x42\x50\x02\x40\xa1\x16client/orders/outgoing\xa1\x1dbroker/queues/orders/incoming";
-    assert_eq!(rt; amqp_shape(alloc, 9, 2, 1), hash_of(described));
-    assert_eq!(rt; amqp_shape(alloc, 7, 0, 1), 133);
+    of_shape(rt, 8, 2, 1, hash_of(list))
+        && of_shape(rt, 8, 0, 1, 94)
+        && of_shape(rt, 9, 2, 1, hash_of(described))
+        && of_shape(rt, 7, 0, 1, 133)
 }

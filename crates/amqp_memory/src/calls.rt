@@ -22,6 +22,7 @@ pub fn all(rt: &(impl Print + AllocGlobal)) -> Result<(), Error> {
     report(rt, "bytes", bytes(alloc)?);
     report(rt, "a refused element fed again", fed_again(alloc)?);
     report(rt, "refused lists fed again", lists_fed_again(alloc)?);
+    report(rt, "refused values of a map serialized again", serializer::values_again(alloc)?);
     report(rt, "images", images(alloc)?);
     report(rt, "described values", described(alloc)?);
     report(rt, "frames", frames(alloc)?);

@@ -1,12 +1,13 @@
 //! Arrays of lists, and composites that are lists and maps: headers of more than one compound,
 //! filled at their ends.
 
-ghost use Rattle.std.specs.Prelude.{◌∷◌, [], codes};
+ghost use Rattle.std.specs.Prelude.{◌∷◌, [], Some, codes};
+ghost use Rattle.amqp_ser.specs.Composites.{as_described};
 ghost use Rattle.amqp_ser.specs.Tree.{code};
 ghost use Rattle.amqp_ser.specs.Words.{list_composite, map_composite, of_bool, of_i32};
 
 use crate::report::report;
-use amqp_data::{Array, Error};
+use amqp_data::{Array, Error, OrderedMap, Symbol, markers};
 use amqp_ser::{ListOf, MapOf, Serialize, Serializer, fields};
 use amqp_to_value::to_value;
 use amqp_wire::to_vec;
@@ -43,6 +44,22 @@ impl Serialize for AsMap {
     }
 }
 
+/// A basic composite around a map from symbols to ints.
+#[derive(Drop)]
+struct Basic(OrderedMap<Symbol, i32>);
+
+impl Serialize for Basic {
+    ghost tree = { λ v. as_described (Some (code 1))
+        (⟦<OrderedMap<Symbol, i32> as Serialize>⟧.tree v.0) };
+
+    fn serialize<S: Serializer>(&self, serializer: &mut S) -> Result<S::Ok, S::Error> {
+        let mut fields = serializer.serialize_struct(markers::DESCRIBED_BASIC, 2)?;
+        fields.serialize_field(markers::DESCRIPTOR, &1u64)?;
+        fields.serialize_field("map", &self.0)?;
+        fields.end()
+    }
+}
+
 /// Makes each call once.
 ///
 /// # Errors
@@ -52,6 +69,7 @@ pub fn all(rt: &(impl Print + AllocGlobal)) -> Result<(), Error> {
     report(rt, "an array of lists", array_of_lists(alloc)?);
     report(rt, "a list composite", list_composite(alloc)?);
     report(rt, "a map composite", map_composite(alloc)?);
+    report(rt, "a basic composite", basic_composite(alloc)?);
     Ok(())
 }
 
@@ -86,5 +104,16 @@ fn map_composite(alloc: Global) -> Result<bool, Error> {
         alloc,
         &AsMap(true, 9),
         b"\0\x53\x13\xc1\x10\x04\xa1\x07is_fool\x41\xa1\x01a\x54\x09",
+    )
+}
+
+fn basic_composite(alloc: Global) -> Result<bool, Error> {
+    let mut map = OrderedMap::new(alloc);
+    drop(map.insert(Symbol::try_from_str(alloc, "a")?, 1)?);
+    drop(map.insert(Symbol::try_from_str(alloc, "b")?, 2)?);
+    writes(
+        alloc,
+        &Basic(map),
+        b"\0\x53\x01\xc1\x0b\x04\xa3\x01a\x54\x01\xa3\x01b\x54\x02",
     )
 }

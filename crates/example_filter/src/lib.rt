@@ -5,7 +5,5 @@
 #![tactic(auto)]
 
 mod filter;
-#[cfg(test)]
-mod tests;
 
 pub use filter::{has_at_least, properties_of};

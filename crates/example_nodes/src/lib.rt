@@ -8,8 +8,6 @@ mod blank;
 mod counter;
 mod pending_mark;
 mod reading;
-#[cfg(test)]
-mod tests;
 
 pub use blank::Blank;
 pub use counter::{Counting, NodeCounter, count_nodes};

@@ -9,8 +9,6 @@ mod position;
 mod region;
 mod restored;
 mod sky;
-#[cfg(test)]
-mod tests;
 
 pub use composites::{Limits, Span, Title};
 pub use day::{Day, Rain};

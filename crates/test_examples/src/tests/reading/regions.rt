@@ -1,0 +1,100 @@
+//! Regions in regions, read one level after another.
+
+use super::{comes_back, is_invalid, is_other, is_restored, list, uint};
+use crate::tests::wrong;
+use amqp_data::Error;
+use amqp_value::Value;
+use example_reading::Region;
+use std::alloc::Global;
+
+#[test]
+fn regions_are_read_level_by_level(rt: HostRuntime) {
+    assert!(rt; regions_come_back(&rt), "regions come back");
+    assert!(rt; levels_are_read(&rt), "levels are read");
+    assert!(rt; other_values_are_refused(&rt), "other values are refused");
+}
+
+/// The value of a region.
+fn region(a: Global, number: u32, inner: Option<Value>) -> Option<Value> {
+    list(a, [uint(number), inner])
+}
+
+/// The value of a region without regions in it.
+fn lone(a: Global, number: u32) -> Option<Value> {
+    region(a, number, list(a, []))
+}
+
+fn outer(a: Global) -> Option<Region> {
+    let valleys = list(a, [lone(a, 3), lone(a, 4)]);
+    Some(Region {
+        number: 1,
+        inner: Vec::from_array(a, [region(a, 2, valleys)?, lone(a, 5)?]).ok()?,
+    })
+}
+
+fn regions_come_back(rt: &HostRuntime) -> bool {
+    let a = rt.alloc();
+    let valleys = list(a, [lone(a, 3), lone(a, 4)]);
+    let whole = region(a, 1, list(a, [region(a, 2, valleys), lone(a, 5)]));
+    comes_back(rt, "three levels", whole, outer(a)) && is_restored(rt, "three levels", outer(a))
+}
+
+fn levels_are_read(rt: &HostRuntime) -> bool {
+    match numbers_of_three_levels(rt.alloc()) {
+        Some(numbers) => {
+            numbers.as_slice() == [1, 2, 5, 3, 4].as_slice() || is_other(rt, "levels", &numbers)
+        }
+        None => wrong(rt, "levels", "no numbers of three levels"),
+    }
+}
+
+/// The numbers of the regions, level by level; none if a fourth level is there.
+fn numbers_of_three_levels(a: Global) -> Option<Vec<u32>> {
+    let mut level = Vec::from_array(a, [outer(a)?]).ok()?;
+    let mut numbers = Vec::new(a);
+    for _ in 0..3 {
+        level = next_level(a, level, &mut numbers)?;
+    }
+    if level.is_empty() {
+        Some(numbers)
+    } else {
+        None
+    }
+}
+
+fn next_level(a: Global, level: Vec<Region>, numbers: &mut Vec<u32>) -> Option<Vec<Region>> {
+    let mut next = Vec::new(a);
+    for region in level {
+        numbers.push(region.number).ok()?;
+        for inner in region.regions(a).ok()? {
+            next.push(inner).ok()?;
+        }
+    }
+    Some(next)
+}
+
+fn with_a_number(a: Global) -> Option<Region> {
+    Some(Region {
+        number: 1,
+        inner: Vec::from_array(a, [lone(a, 2)?, Value::Uint(3)]).ok()?,
+    })
+}
+
+fn other_values_are_refused(rt: &HostRuntime) -> bool {
+    let a = rt.alloc();
+    is_invalid::<Region>(rt, "a number alone", list(a, [uint(1)]))
+        && is_restored(rt, "a number among the regions", with_a_number(a))
+        && is_refused_later(rt)
+}
+
+/// Whether a number among the regions is refused when these are read.
+fn is_refused_later(rt: &HostRuntime) -> bool {
+    let a = rt.alloc();
+    match with_a_number(a) {
+        Some(outer) => {
+            matches!(outer.regions(a), Err(Error::InvalidValue))
+                || wrong(rt, "a number among the regions", "another answer")
+        }
+        None => wrong(rt, "a number among the regions", "no memory for the value"),
+    }
+}
