@@ -5,14 +5,13 @@ ghost use Rattle.amqp_ser.specs.Tree.{code, described, list, trees_of};
 ghost use Rattle.amqp_de.specs.Fields.{OnDescribed, OnFields, OnNamed, must, may, end};
 ghost use Rattle.amqp_de.specs.Reads.{image_option, RestorableOption, SameOption};
 
-use super::{list, map, string};
-use amqp_data::{Described, Descriptor, Error};
+use super::super::values::{described, list, map, string};
+use super::{reads, refuses};
+use amqp_data::{Descriptor, Error};
 use amqp_de::de::{Deserialize, Deserializer};
 use amqp_de::{ListOf, NamedOf, Record, fields, named, read_described};
-use amqp_from_value::from_value;
 use amqp_value::Value;
 use std::alloc::Global;
-use std::test::Fail;
 
 /// A composite of a list of fields.
 #[derive(Debug, PartialEq, Drop)]
@@ -91,88 +90,69 @@ impl Deserialize for Limits {
     }
 }
 
-fn described(alloc: Global, code: u64, value: Value) -> Result<Value, Fail> {
-    let whole = Described {
-        descriptor: Descriptor::Code(code),
-        value,
-    };
-    Ok(Value::Described(Box::new(alloc, whole)?))
+// A composite of this descriptor and these fields.
+fn composite(alloc: Global, code: u64, fields: Result<Value, Error>) -> Result<Value, Error> {
+    described(alloc, Descriptor::Code(code), fields?)
 }
 
-#[test]
-fn a_list_composite_is_read_from_its_list(rt: HostRuntime) -> Result<(), Fail> {
-    let alloc = rt.alloc();
-    let both = list(alloc, [Value::Uint(4), Value::Uint(100)])?;
-    let flow: Flow = from_value(alloc, described(alloc, 0x13, both)?)?;
-    assert_eq!(rt;
-        flow,
-        Flow {
-            handle: 4,
-            credit: Some(100)
-        }
-    );
-    let cut = list(alloc, [Value::Uint(4)])?;
-    let flow: Flow = from_value(alloc, described(alloc, 0x13, cut)?)?;
-    assert_eq!(rt;
-        flow,
-        Flow {
-            handle: 4,
-            credit: None
-        }
-    );
-    let named = map(alloc, [(string(alloc, "handle")?, Value::Uint(4))])?;
-    let read: Result<Flow, Error> = from_value(alloc, described(alloc, 0x13, named)?);
-    assert!(rt; matches!(read, Err(Error::InvalidValue)));
-    Ok(())
+fn flow_of(handle: u32, credit: Option<u32>) -> Flow {
+    Flow { handle, credit }
 }
 
-#[test]
-fn a_composite_of_names_is_read_from_its_list_and_its_map(rt: HostRuntime) -> Result<(), Fail> {
-    let alloc = rt.alloc();
-    let by_position = list(alloc, [Value::Int(-3), Value::Uint(8)])?;
-    let limits: Limits = from_value(alloc, described(alloc, 0x15, by_position)?)?;
-    assert_eq!(rt;
-        limits,
-        Limits {
-            low: -3,
-            high: Some(8)
-        }
-    );
-    let by_name = map(
+fn limits_of(low: i32, high: Option<u32>) -> Limits {
+    Limits { low, high }
+}
+
+fn two_uints(alloc: Global) -> Result<Value, Error> {
+    list(alloc, [Value::Uint(4), Value::Uint(100)])
+}
+
+// The map of one field.
+fn one(alloc: Global, name: &str, value: Value) -> Result<Value, Error> {
+    map(alloc, [(string(alloc, name)?, value)])
+}
+
+fn high_and_low(alloc: Global) -> Result<Value, Error> {
+    map(
         alloc,
         [
             (string(alloc, "high")?, Value::Uint(8)),
             (string(alloc, "low")?, Value::Int(-3)),
         ],
-    )?;
-    let limits: Limits = from_value(alloc, described(alloc, 0x15, by_name)?)?;
-    assert_eq!(rt;
-        limits,
-        Limits {
-            low: -3,
-            high: Some(8)
-        }
-    );
-    let one = map(alloc, [(string(alloc, "low")?, Value::Int(-3))])?;
-    let limits: Limits = from_value(alloc, described(alloc, 0x15, one)?)?;
-    assert_eq!(rt;
-        limits,
-        Limits {
-            low: -3,
-            high: None
-        }
-    );
-    Ok(())
+    )
+}
+
+fn a_list_composite_is_read_from_its_list(rt: &HostRuntime) -> bool {
+    let alloc = rt.alloc();
+    let both = composite(alloc, 0x13, two_uints(alloc));
+    let cut = composite(alloc, 0x13, list(alloc, [Value::Uint(4)]));
+    let named = composite(alloc, 0x13, one(alloc, "handle", Value::Uint(4)));
+    reads(rt, "both fields", both, &flow_of(4, Some(100)))
+        && reads(rt, "no last field", cut, &flow_of(4, None))
+        && refuses::<Flow>(rt, "a map", named)
+}
+
+fn a_composite_of_names_is_read_from_its_list_and_its_map(rt: &HostRuntime) -> bool {
+    let alloc = rt.alloc();
+    let by_position = list(alloc, [Value::Int(-3), Value::Uint(8)]);
+    let by_position = composite(alloc, 0x15, by_position);
+    let by_name = composite(alloc, 0x15, high_and_low(alloc));
+    let one = composite(alloc, 0x15, one(alloc, "low", Value::Int(-3)));
+    reads(rt, "a list", by_position, &limits_of(-3, Some(8)))
+        && reads(rt, "a map", by_name, &limits_of(-3, Some(8)))
+        && reads(rt, "a map of one field", one, &limits_of(-3, None))
+}
+
+fn another_descriptor_is_no_composite(rt: &HostRuntime) -> bool {
+    let alloc = rt.alloc();
+    let other = composite(alloc, 0x14, two_uints(alloc));
+    refuses::<Flow>(rt, "another descriptor", other)
+        && refuses::<Flow>(rt, "no descriptor", two_uints(alloc))
 }
 
 #[test]
-fn another_descriptor_is_no_composite(rt: HostRuntime) -> Result<(), Fail> {
-    let alloc = rt.alloc();
-    let fields = list(alloc, [Value::Uint(4), Value::Uint(100)])?;
-    let read: Result<Flow, Error> = from_value(alloc, described(alloc, 0x14, fields)?);
-    assert!(rt; matches!(read, Err(Error::InvalidValue)));
-    let bare = list(alloc, [Value::Uint(4), Value::Uint(100)])?;
-    let read: Result<Flow, Error> = from_value(alloc, bare);
-    assert!(rt; matches!(read, Err(Error::InvalidValue)));
-    Ok(())
+fn composites(rt: HostRuntime) {
+    assert!(rt; a_list_composite_is_read_from_its_list(&rt));
+    assert!(rt; a_composite_of_names_is_read_from_its_list_and_its_map(&rt));
+    assert!(rt; another_descriptor_is_no_composite(&rt));
 }

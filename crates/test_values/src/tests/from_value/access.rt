@@ -1,0 +1,166 @@
+//! Worked rows of the accessors: their results, and what is left after each.
+
+use super::super::rows::{fails, gives, is};
+use super::super::values::{ordered_map, string};
+use super::variant_1;
+use amqp_data::Error;
+use amqp_de::de::{self, Deserialize, VariantAccess as _};
+use amqp_from_value::{MapAccess, SeqAccess};
+use amqp_value::Value;
+use std::alloc::Global;
+use std::fmt::Debug;
+
+fn elements(alloc: Global) -> Result<SeqAccess, Error> {
+    let items = vec![in alloc; string(alloc, "a")?, Value::Ubyte(2)]?;
+    Ok(SeqAccess::new(alloc, items))
+}
+
+fn entries<const N: usize>(alloc: Global, pairs: [(Value, Value); N]) -> Result<MapAccess, Error> {
+    Ok(MapAccess::new(alloc, ordered_map(alloc, pairs)?))
+}
+
+// Whether the next element has this result.
+fn element<A: de::SeqAccess<Error = Error>>(
+    rt: &HostRuntime,
+    name: &str,
+    access: &mut A,
+    expected: &Result<Option<u8>, Error>,
+) -> bool {
+    is(rt, name, &access.next_element::<u8>(rt.alloc()), expected)
+}
+
+// Whether the next key has this result.
+fn key<A: de::MapAccess<Error = Error>>(
+    rt: &HostRuntime,
+    name: &str,
+    access: &mut A,
+    expected: &Result<Option<u32>, Error>,
+) -> bool {
+    is(rt, name, &access.next_key::<u32>(rt.alloc()), expected)
+}
+
+// Whether the value of the last key has this result.
+fn value<A: de::MapAccess<Error = Error>, T: Deserialize + Debug + PartialEq>(
+    rt: &HostRuntime,
+    name: &str,
+    access: &mut A,
+    expected: &Result<T, Error>,
+) -> bool {
+    is(rt, name, &access.next_value::<T>(rt.alloc()), expected)
+}
+
+// Whether the next entry has this result.
+fn entry<A: de::MapAccess<Error = Error>>(
+    rt: &HostRuntime,
+    name: &str,
+    access: &mut A,
+    expected: &Result<Option<(u32, u8)>, Error>,
+) -> bool {
+    is(
+        rt,
+        name,
+        &access.next_entry::<u32, u8>(rt.alloc()),
+        expected,
+    )
+}
+
+fn a_refused_element_is_taken(rt: &HostRuntime) -> Result<bool, Error> {
+    let access = &mut elements(rt.alloc())?;
+    Ok(
+        element(rt, "a string", access, &Err(Error::InvalidValue))
+            && element(rt, "a ubyte", access, &Ok(Some(2)))
+            && element(rt, "the end", access, &Ok(None)),
+    )
+}
+
+fn a_value_comes_after_its_key_alone(rt: &HostRuntime) -> Result<bool, Error> {
+    let pairs = [(Value::Uint(1), Value::Ubyte(2))];
+    let access = &mut entries(rt.alloc(), pairs)?;
+    Ok(
+        value::<_, u8>(
+            rt,
+            "a value before its key",
+            access,
+            &Err(Error::InvalidValue),
+        ) && key(rt, "a key", access, &Ok(Some(1)))
+            && key(rt, "a second key", access, &Err(Error::InvalidValue))
+            && entry(
+                rt,
+                "an entry after a key",
+                access,
+                &Err(Error::InvalidValue),
+            )
+            && value(rt, "the value", access, &Ok(2u8))
+            && value::<_, u8>(rt, "a second value", access, &Err(Error::InvalidValue))
+            && key(rt, "the end", access, &Ok(None)),
+    )
+}
+
+fn a_refused_key_takes_its_value_with_it(rt: &HostRuntime) -> Result<bool, Error> {
+    let pairs = [
+        (Value::Null, Value::Ubyte(2)),
+        (Value::Uint(3), Value::Ubyte(4)),
+    ];
+    let access = &mut entries(rt.alloc(), pairs)?;
+    Ok(
+        key(rt, "a null key", access, &Err(Error::InvalidValue))
+            && value::<_, u8>(rt, "its value", access, &Err(Error::InvalidValue))
+            && entry(rt, "the next entry", access, &Ok(Some((3, 4))))
+            && entry(rt, "the end", access, &Ok(None)),
+    )
+}
+
+fn a_refused_entry_is_taken_whole(rt: &HostRuntime) -> Result<bool, Error> {
+    let pairs = [
+        (Value::Null, Value::Ubyte(2)),
+        (Value::Uint(3), Value::Null),
+        (Value::Uint(5), Value::Ubyte(6)),
+    ];
+    let access = &mut entries(rt.alloc(), pairs)?;
+    Ok(
+        entry(
+            rt,
+            "an entry of a null key",
+            access,
+            &Err(Error::InvalidValue),
+        ) && entry(
+            rt,
+            "an entry of a null value",
+            access,
+            &Err(Error::InvalidValue),
+        ) && key(rt, "the third key", access, &Ok(Some(5)))
+            && value::<_, bool>(rt, "its value as a bool", access, &Err(Error::InvalidValue))
+            && value::<_, u8>(rt, "its value again", access, &Err(Error::InvalidValue)),
+    )
+}
+
+fn newtype(alloc: Global, item: Option<Value>) -> Result<u64, Error> {
+    variant_1(alloc, item)?.newtype_variant(alloc)
+}
+
+fn unit(alloc: Global, item: Option<Value>) -> Result<(), Error> {
+    variant_1(alloc, item)?.unit_variant()
+}
+
+fn a_variant_tells_what_it_misses(rt: &HostRuntime) -> bool {
+    let alloc = rt.alloc();
+    let missing = Error::Message("Expecting a value");
+    let thirteen = newtype(alloc, Some(Value::Ulong(13)));
+    fails(rt, "no content", &newtype(alloc, None), &missing)
+        && gives(rt, "a newtype variant", &thirteen, &13)
+        && gives(
+            rt,
+            "a unit variant",
+            &unit(alloc, Some(Value::Ulong(13))),
+            &(),
+        )
+}
+
+#[test]
+fn accessors(rt: HostRuntime) {
+    assert!(rt; matches!(a_refused_element_is_taken(&rt), Ok(true)));
+    assert!(rt; matches!(a_value_comes_after_its_key_alone(&rt), Ok(true)));
+    assert!(rt; matches!(a_refused_key_takes_its_value_with_it(&rt), Ok(true)));
+    assert!(rt; matches!(a_refused_entry_is_taken_whole(&rt), Ok(true)));
+    assert!(rt; a_variant_tells_what_it_misses(&rt));
+}

@@ -1,0 +1,45 @@
+//! Rows: each answers whether a result is the expected one.
+
+use amqp_data::Error;
+use std::fmt::Debug;
+
+/// Whether a result is the expected one. If not, prints the row's name and the result.
+pub fn is<T: Debug + PartialEq>(rt: &HostRuntime, name: &str, got: &T, expected: &T) -> bool {
+    *got == *expected || wrong(rt, name, got)
+}
+
+/// Whether a call succeeded with the expected result.
+pub fn gives<T: Debug + PartialEq>(
+    rt: &HostRuntime,
+    name: &str,
+    got: &Result<T, Error>,
+    expected: &T,
+) -> bool {
+    match got {
+        Ok(value) => is(rt, name, value, expected),
+        Err(error) => wrong(rt, name, error),
+    }
+}
+
+/// Whether a call failed with the expected error.
+pub fn fails<T: Debug>(
+    rt: &HostRuntime,
+    name: &str,
+    got: &Result<T, Error>,
+    expected: &Error,
+) -> bool {
+    match got {
+        Ok(value) => wrong(rt, name, value),
+        Err(error) => is(rt, name, error, expected),
+    }
+}
+
+/// Whether a call failed with `Error::InvalidValue`.
+pub fn invalid<T: Debug>(rt: &HostRuntime, name: &str, got: &Result<T, Error>) -> bool {
+    fails(rt, name, got, &Error::InvalidValue)
+}
+
+/// Prints the name of a row and its result, and answers false.
+pub fn wrong<T: Debug>(rt: &HostRuntime, name: &str, got: &T) -> bool {
+    println!(rt; "{name}: got {got:?}").is_err() && false
+}
