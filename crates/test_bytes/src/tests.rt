@@ -9,5 +9,7 @@ mod containers;
 mod made;
 mod readers;
 mod scalars;
+mod shapes;
 mod shown;
 mod sizes;
+mod written;

@@ -146,7 +146,7 @@ fn maps_in_order(rt: &HostRuntime) -> bool {
 }
 
 fn distinct(rt: &HostRuntime) -> Option<OrderedMap<u8, u32>> {
-    Some(OrderedMap::from_distinct(vector(rt, [(1, 1), (2, 2)])?))
+    Some(OrderedMap::from_distinct([(1, 1), (2, 2)].to_vec(rt.alloc()).ok()?))
 }
 
 /// Whether the first two maps are equal, and the third is another and greater one.
