@@ -2,7 +2,7 @@
 
 use super::compare::{is, slice_is};
 use super::made::{array, vector};
-use amqp_data::{Array, Described, Descriptor, OrderedMap, TransparentVec};
+use amqp_data::{Array, Described, Descriptor, Iter, OrderedMap, TransparentVec};
 use std::alloc::Global;
 use std::fmt::Debug;
 use std::hash::Hash;
@@ -98,13 +98,18 @@ fn map_of(alloc: Global, pairs: &[(u8, u32)]) -> Option<OrderedMap<u8, u32>> {
     Some(map)
 }
 
-fn iterates<'a, I: Iterator<Item = (&'a u8, &'a u32)>>(rt: &HostRuntime, mut pairs: I) -> bool {
+/// Whether the next pair is the expected one.
+fn next_is(rt: &HostRuntime, pairs: &mut Iter<'_, u8, u32>, wanted: Option<(&u8, &u32)>) -> bool {
+    is(rt, "next", pairs.next(), wanted)
+}
+
+fn iterates(rt: &HostRuntime, mut pairs: Iter<'_, u8, u32>) -> bool {
     is(rt, "size_hint", pairs.size_hint(), (3, Some(3)))
-        && is(rt, "first pair", pairs.next(), Some((&3, &30)))
-        && is(rt, "second pair", pairs.next(), Some((&1, &10)))
-        && is(rt, "third pair", pairs.next(), Some((&2, &20)))
-        && is(rt, "past the last pair", pairs.next(), None)
-        && is(rt, "past the last pair again", pairs.next(), None)
+        && next_is(rt, &mut pairs, Some((&3, &30)))
+        && next_is(rt, &mut pairs, Some((&1, &10)))
+        && next_is(rt, &mut pairs, Some((&2, &20)))
+        && next_is(rt, &mut pairs, None)
+        && next_is(rt, &mut pairs, None)
 }
 
 fn keys(alloc: Global, map: &OrderedMap<u8, u32>) -> Option<Vec<u8>> {
@@ -146,7 +151,10 @@ fn maps_in_order(rt: &HostRuntime) -> bool {
 }
 
 fn distinct(rt: &HostRuntime) -> Option<OrderedMap<u8, u32>> {
-    Some(OrderedMap::from_distinct([(1, 1), (2, 2)].to_vec(rt.alloc()).ok()?))
+    match [(1, 1), (2, 2)].to_vec(rt.alloc()) {
+        Ok(pairs) => Some(OrderedMap::from_distinct(pairs)),
+        Err(_) => None,
+    }
 }
 
 /// Whether the first two maps are equal, and the third is another and greater one.
