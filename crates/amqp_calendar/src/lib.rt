@@ -7,8 +7,6 @@
 mod civil;
 pub mod laws;
 mod moment;
-#[cfg(test)]
-mod tests;
 
 pub use civil::civil_from_days;
 pub use moment::write_moment;

@@ -1,31 +1,34 @@
-//! What no contract states: bytes from the encoding tables, worked by hand, and what is left of a
-//! refusal.
+//! Serializers of this crate alone: what is left of a refusal, in both passes. The bytes of values
+//! are in `test_bytes`.
 
-mod described;
 mod feeding;
 mod goes_on;
-mod memory;
 mod misplaced;
 mod passed_over;
 mod refused;
-mod rows;
 
-use super::to_vec;
-use amqp_ser::Serialize;
-use std::alloc::Global;
+use crate::header::Header;
+use std::mem::size_of;
 
-/// Whether these are the value's bytes.
-fn writes<T: Serialize>(alloc: Global, value: &T, bytes: &[u8]) -> bool {
-    match to_vec(alloc, value) {
-        Ok(written) => written.as_slice() == bytes,
-        Err(_) => false,
-    }
-}
-
-/// Whether the value has so many bytes, and these come first.
-fn begins<T: Serialize>(alloc: Global, value: &T, len: usize, prefix: &[u8]) -> bool {
-    match to_vec(alloc, value) {
-        Ok(written) => written.len() == len && written.as_slice().starts_with(prefix),
-        Err(_) => false,
-    }
+#[test]
+fn refusals(rt: HostRuntime) {
+    assert!(rt; size_of::<Header>() == 12, "a header has twelve bytes");
+    assert!(rt;
+        feeding::descriptors(&rt),
+        "descriptors come first and once"
+    );
+    assert!(rt; feeding::basic_structs(&rt), "basic structs have one value");
+    assert!(rt; misplaced::vectors(&rt), "misplaced vectors");
+    assert!(rt;
+        passed_over::parts(&rt),
+        "both passes refuse at the same calls"
+    );
+    assert!(rt;
+        refused::parts(&rt),
+        "a refused part leaves no header and no byte"
+    );
+    assert!(rt;
+        goes_on::random_values(&rt),
+        "random values that continue after refusals"
+    );
 }

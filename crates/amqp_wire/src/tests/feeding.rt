@@ -1,41 +1,79 @@
-//! Structs and lists fed by hand, which pass over what is refused: their lengths and bytes.
-
-ghost use Rattle.std.specs.Prelude.{◌∷◌, [], Some};
-ghost use Rattle.amqp_ser.specs.Compounds.{whole};
-ghost use Rattle.amqp_ser.specs.Tree.{scalar, ubyte};
-ghost use Rattle.amqp_ser.specs.declared.kind.Kind.TheVariants.{List};
+//! Structs that are serialized by hand and ignore refusals: their lengths and bytes.
 
 use super::refused::NoTree;
 use crate::measurer::Measurer;
 use crate::writer::Writer;
 use amqp_data::{Error, markers};
-use amqp_ser::{Mark, Serialize, Serializer};
+use amqp_ser::{Mark, Serializer};
 use amqp_size::SizeSerializer;
 use std::alloc::Global;
 
-/// What is fed to each serializer in turn.
+/// Calls that are made to each serializer in turn.
 pub(super) trait Feed {
     fn feed<S: Serializer>(&self, serializer: &mut S) -> Result<S::Ok, S::Error>;
 }
 
-/// The bytes, where all three walks agree on their number.
-fn fed<F: Feed>(alloc: Global, what: &F) -> Result<Vec<u8>, Error> {
-    let size = what.feed(&mut SizeSerializer::new());
+/// The number of headers, and the bytes, if all three passes agree on their number.
+fn fed<F: Feed>(alloc: Global, calls: &F) -> Result<(usize, Vec<u8>), Error> {
+    let size = calls.feed(&mut SizeSerializer::new());
     let mut measurer = Measurer::new(alloc);
-    let len = what.feed(&mut measurer)?;
-    if size != Ok(len) {
+    let len = calls.feed(&mut measurer)?;
+    if size != Ok(len) || measurer.is_refused() {
         return Err(Error::Message("two lengths"));
     }
-    let mut writer = Writer::new(measurer.into_headers(), Vec::with_capacity(alloc, len)?);
-    what.feed(&mut writer)?;
-    Ok(writer.into_bytes())
+    let table = measurer.into_headers();
+    let headers = table.len();
+    let mut writer = Writer::new(table, Vec::with_capacity(alloc, len)?);
+    calls.feed(&mut writer)?;
+    let bytes = writer.into_bytes();
+    if bytes.len() != len {
+        return Err(Error::Message("another length"));
+    }
+    Ok((headers, bytes))
 }
 
-pub(super) fn is<F: Feed>(alloc: Global, what: &F, bytes: &[u8]) -> bool {
-    match fed(alloc, what) {
-        Ok(written) => written.as_slice() == bytes,
-        Err(_) => false,
+/// Prints the row's name and what was got, and answers false.
+fn differs(rt: &HostRuntime, name: &str, got: &Result<(usize, Vec<u8>), Error>) -> bool {
+    println!(rt; "{name}: got {got:?}").is_err() && false
+}
+
+/// Whether the calls give these bytes.
+pub(super) fn is<F: Feed>(rt: &HostRuntime, name: &str, calls: &F, bytes: &[u8]) -> bool {
+    let got = fed(rt.alloc(), calls);
+    matches!(&got, Ok((_, written)) if written.as_slice() == bytes) || differs(rt, name, &got)
+}
+
+/// Whether the calls give so many headers and these bytes.
+pub(super) fn has<F: Feed>(
+    rt: &HostRuntime,
+    name: &str,
+    calls: &F,
+    headers: usize,
+    bytes: &[u8],
+) -> bool {
+    let got = fed(rt.alloc(), calls);
+    matches!(&got, Ok((count, written)) if *count == headers && written.as_slice() == bytes)
+        || differs(rt, name, &got)
+}
+
+/// Whether the calls were built, and give so many headers and these bytes.
+pub(super) fn built<F: Feed + Drop>(
+    rt: &HostRuntime,
+    name: &str,
+    calls: Option<F>,
+    headers: usize,
+    bytes: &[u8],
+) -> bool {
+    match calls {
+        Some(calls) => has(rt, name, &calls, headers, bytes),
+        None => false,
     }
+}
+
+/// Whether the calls are refused as invalid.
+fn invalid<F: Feed>(rt: &HostRuntime, name: &str, calls: &F) -> bool {
+    let got = fed(rt.alloc(), calls);
+    matches!(&got, Err(Error::InvalidValue)) || differs(rt, name, &got)
 }
 
 struct TwoDescriptors;
@@ -137,93 +175,32 @@ impl Feed for MarkedBasic {
     }
 }
 
-/// A struct of one field.
-#[derive(Drop)]
-struct Plain {
-    a: u8,
+const DESCRIBED: &[u8] = b"\x00\x53\x01\xc0\x02\x01\x41";
+
+pub(super) fn descriptors(rt: &HostRuntime) -> bool {
+    is(rt, "a second descriptor", &TwoDescriptors, DESCRIBED)
+        && is(
+            rt,
+            "a late descriptor",
+            &LateDescriptor,
+            b"\xc0\x02\x01\x41",
+        )
+        && is(
+            rt,
+            "a descriptor after a refused one",
+            &BadDescriptor,
+            DESCRIBED,
+        )
+        && is(rt, "a refused first field", &RefusedField, DESCRIBED)
 }
 
-impl Serialize for Plain {
-    ghost tree = { λ p. whole List (Some (scalar (ubyte p.a)) ∷ []) };
-
-    fn serialize<S: Serializer>(&self, serializer: &mut S) -> Result<S::Ok, S::Error> {
-        let mut fields = serializer.serialize_struct("Plain", 1)?;
-        fields.serialize_field("a", &self.a)?;
-        fields.end()
-    }
-}
-
-struct MapComposite;
-
-impl Feed for MapComposite {
-    fn feed<S: Serializer>(&self, serializer: &mut S) -> Result<S::Ok, S::Error> {
-        let mut fields = serializer.serialize_struct(markers::DESCRIBED_MAP, 3)?;
-        fields.serialize_field(markers::DESCRIPTOR, &0x13u64)?;
-        fields.serialize_field("is_fool", &true)?;
-        fields.serialize_field("a", &9i32)?;
-        fields.end()
-    }
-}
-
-#[derive(Drop)]
-struct MapOfStruct(Plain);
-
-impl Feed for MapOfStruct {
-    fn feed<S: Serializer>(&self, serializer: &mut S) -> Result<S::Ok, S::Error> {
-        let mut fields = serializer.serialize_struct(markers::DESCRIBED_MAP, 2)?;
-        fields.serialize_field(markers::DESCRIPTOR, &0x13u64)?;
-        fields.serialize_field("p", &self.0)?;
-        fields.end()
-    }
-}
-
-struct MapNameOnTuple;
-
-impl Feed for MapNameOnTuple {
-    fn feed<S: Serializer>(&self, serializer: &mut S) -> Result<S::Ok, S::Error> {
-        let mut fields = serializer.serialize_tuple_struct(markers::DESCRIBED_MAP, 1)?;
-        fields.serialize_field(&true)?;
-        fields.end()
-    }
-}
-
-#[test]
-fn descriptors_come_first_and_once(rt: HostRuntime) {
-    let a = rt.alloc();
-    let described = b"\x00\x53\x01\xc0\x02\x01\x41".as_slice();
-    assert!(rt; is(a, &TwoDescriptors, described), "a second descriptor");
-    assert!(rt;
-        is(a, &LateDescriptor, b"\xc0\x02\x01\x41"),
-        "a late descriptor"
-    );
-    assert!(rt;
-        is(a, &BadDescriptor, described),
-        "the descriptor still to come"
-    );
-    assert!(rt; is(a, &RefusedField, described), "a refused first field");
-}
-
-#[test]
-fn basic_structs_have_one_value(rt: HostRuntime) {
-    let a = rt.alloc();
-    assert!(rt;
-        is(a, &TwoValues, b"\x00\x53\x01\x50\x05"),
-        "a second value"
-    );
-    assert!(rt; fed(a, &NoValue) == Err(Error::InvalidValue), "no value");
-    assert!(rt;
-        is(a, &MarkedBasic, b"\xe0\x04\x02\x50\x01\x02"),
-        "a marker works through"
-    );
-}
-
-#[test]
-fn map_composites_write_their_names(rt: HostRuntime) {
-    let a = rt.alloc();
-    let two = b"\x00\x53\x13\xc1\x10\x04\xa1\x07is_fool\x41\xa1\x01a\x54\x09".as_slice();
-    assert!(rt; is(a, &MapComposite, two), "two fields");
-    let map = MapOfStruct(Plain { a: 1 });
-    let one = b"\x00\x53\x13\xc1\x09\x02\xa1\x01p\xc0\x03\x01\x50\x01".as_slice();
-    assert!(rt; is(a, &map, one), "a struct inside");
-    assert!(rt; is(a, &MapNameOnTuple, b"\xc0\x02\x01\x41"), "a list");
+pub(super) fn basic_structs(rt: &HostRuntime) -> bool {
+    is(rt, "a second value", &TwoValues, b"\x00\x53\x01\x50\x05")
+        && invalid(rt, "no value", &NoValue)
+        && is(
+            rt,
+            "a marked struct",
+            &MarkedBasic,
+            b"\xe0\x04\x02\x50\x01\x02",
+        )
 }

@@ -1,5 +1,5 @@
-//! What goes on after refusals: both walks refuse at the same calls, and the bytes are those of
-//! what was taken.
+//! Random values that continue after refusals: both passes refuse at the same calls, and the bytes
+//! are those of the parts that were accepted.
 
 use crate::measurer::Measurer;
 use crate::writer::Writer;
@@ -92,7 +92,8 @@ fn leaf<S: Serializer>(serializer: &mut S, seed: u64) -> Result<S::Ok, S::Error>
     }
 }
 
-/// Feeds one part, and says whether it was taken: an error is passed on where the seed says so.
+/// Serializes one part, and says whether it was accepted: the seed decides whether an error is
+/// returned.
 #[cycle(scripts)]
 fn feed<S: Serializer>(
     serializer: &mut S,
@@ -170,7 +171,7 @@ fn pairs<S: Serializer>(
     serializer.end(held)
 }
 
-/// Feeds the one part, at the first of three attempts that is taken, and ends.
+/// Serializes the one part, at the first of three attempts that is accepted, and ends.
 #[cycle(scripts)]
 fn feed_one<S: Serializer>(
     serializer: &mut S,
@@ -193,7 +194,7 @@ fn feed_one<S: Serializer>(
     Err(serializer.misuse(&mut held))
 }
 
-/// One value that stands for itself, behind a descriptor or not.
+/// One value alone, after a descriptor or not.
 #[cycle(scripts)]
 fn alone<S: Serializer>(
     serializer: &mut S,
@@ -266,7 +267,7 @@ fn value<S: Serializer>(
     }
 }
 
-/// The bytes of both walks, without the parts that are left out.
+/// The bytes of both passes, without the parts that are left out.
 fn walked(
     alloc: Global,
     seed: u64,
@@ -288,8 +289,8 @@ fn walked(
     Ok(writer.into_bytes())
 }
 
-/// Whether both walks refuse this value as the length does, or write it as if the refused parts had
-/// not been fed.
+/// Whether both passes refuse this value as the length does, or write it as if the refused parts had
+/// been left out.
 fn agrees(alloc: Global, seed: u64, depth: u32) -> bool {
     let mut refused = Refused::new();
     match value(&mut SizeSerializer::new(), &mut refused, seed, depth) {
@@ -315,22 +316,13 @@ fn agrees(alloc: Global, seed: u64, depth: u32) -> bool {
     }
 }
 
-#[test]
-fn random_values_that_go_on(rt: HostRuntime) {
-    let alloc = rt.alloc();
+pub(super) fn random_values(rt: &HostRuntime) -> bool {
     let mut seed = 14;
-    let mut passed: u64 = 0;
     for script in 0..10000u64 {
         seed = child(seed, script);
-        let depth = match script % 4 {
-            0 => 1,
-            1 => 2,
-            2 => 3,
-            _ => 4,
-        };
-        if agrees(alloc, seed, depth) {
-            passed = passed.wrapping_add(1);
+        if !agrees(rt.alloc(), seed, (script % 4) as u32 + 1) {
+            return println!(rt; "random value {script}: the passes differ").is_err() && false;
         }
     }
-    assert_eq!(rt; passed, 10000);
+    true
 }

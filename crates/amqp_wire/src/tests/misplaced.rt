@@ -1,9 +1,10 @@
-//! Transparent vectors where none may stand: they are refused, and what they stood in goes on.
+//! Transparent vectors and described array elements in places that refuse them: the compound
+//! continues without them.
 
-use super::feeding::{Feed, is};
-use amqp_data::TransparentVec;
+use super::feeding::{Feed, built, is};
+use amqp_data::{Array, Described, Descriptor, TransparentVec};
 use amqp_ser::Serializer;
-use std::test::Fail;
+use std::alloc::Global;
 
 #[derive(Drop)]
 struct MisplacedValue(TransparentVec<bool>);
@@ -35,17 +36,63 @@ impl Feed for MisplacedElement {
     }
 }
 
-#[test]
-fn a_misplaced_vector_leaves_its_key_pending(rt: HostRuntime) {
-    let a = rt.alloc();
-    let none = TransparentVec::from(Vec::new(a));
-    assert!(rt; is(a, &MisplacedValue(none), b"\xc1\x06\x02\xa1\x01a\x50\x01"));
+#[derive(Drop)]
+struct MisplacedParts {
+    vector: TransparentVec<bool>,
+    array: Array<Described<u8>>,
 }
 
-#[test]
-fn a_list_goes_on_after_a_misplaced_vector(rt: HostRuntime) -> Result<(), Fail> {
-    let a = rt.alloc();
-    let one = TransparentVec::from(vec![in a; true]?);
-    assert!(rt; is(a, &MisplacedElement(one), b"\xc0\x03\x02\x41\x42"));
-    Ok(())
+impl Feed for MisplacedParts {
+    fn feed<S: Serializer>(&self, serializer: &mut S) -> Result<S::Ok, S::Error> {
+        let mut list = serializer.serialize_seq(None)?;
+        list.serialize_element(&true)?;
+        if list.serialize_element(&self.vector).is_ok()
+            || list.serialize_element(&self.array).is_ok()
+        {
+            list.serialize_element(&"taken")?;
+        }
+        list.serialize_element(&false)?;
+        list.end()
+    }
+}
+
+fn one(alloc: Global) -> Option<TransparentVec<bool>> {
+    Some(TransparentVec::from(Vec::from_array(alloc, [true]).ok()?))
+}
+
+fn element(alloc: Global) -> Option<MisplacedElement> {
+    Some(MisplacedElement(one(alloc)?))
+}
+
+fn two_parts(alloc: Global) -> Option<MisplacedParts> {
+    let described = Described {
+        descriptor: Descriptor::Code(1),
+        value: 2u8,
+    };
+    Some(MisplacedParts {
+        vector: one(alloc)?,
+        array: Array::from(Vec::from_array(alloc, [described]).ok()?),
+    })
+}
+
+pub(super) fn vectors(rt: &HostRuntime) -> bool {
+    let value = MisplacedValue(TransparentVec::from(Vec::new(rt.alloc())));
+    is(
+        rt,
+        "the value of a key",
+        &value,
+        b"\xc1\x06\x02\xa1\x01a\x50\x01",
+    ) && built(
+        rt,
+        "an element",
+        element(rt.alloc()),
+        1,
+        b"\xc0\x03\x02\x41\x42",
+    ) && built(
+        rt,
+        "a vector and an array",
+        two_parts(rt.alloc()),
+        1,
+        b"\xc0\x03\x02\x41\x42",
+    )
 }

@@ -1,10 +1,10 @@
-//! Refusals that are passed over, by hand: what the second walk would take, or refuse at another
-//! call.
+//! Refusals that are ignored, by hand: parts that the second pass alone would take, or refuse at
+//! another call.
 
-use super::feeding::{Feed, is};
+use super::feeding::{Feed, built, is};
 use amqp_data::{Array, TransparentVec, markers};
 use amqp_ser::{Kind, Mark, Serializer};
-use std::test::Fail;
+use std::alloc::Global;
 
 /// A map whose first key is an array of two kinds.
 #[derive(Drop)]
@@ -22,7 +22,7 @@ impl Feed for MixedKey {
     }
 }
 
-/// An array that is fed a null and a number.
+/// An array of a null. A number after it is refused.
 fn nulls<S: Serializer>(serializer: &mut S) -> Result<S::Ok, S::Error> {
     serializer.mark(Mark::Array);
     let mut array = serializer.serialize_seq(None)?;
@@ -50,7 +50,7 @@ impl Feed for MixedArray {
     }
 }
 
-/// A described value that is fed a transparent vector first.
+/// A described null. A transparent vector before it is refused.
 #[derive(Drop)]
 struct DescribedVector(TransparentVec<u8>);
 
@@ -66,7 +66,7 @@ impl Feed for DescribedVector {
     }
 }
 
-/// A described value that goes on after each refusal.
+/// A described value that ignores each refusal.
 fn described<S: Serializer>(serializer: &mut S) -> Result<S::Ok, S::Error> {
     let mut fields = serializer.serialize_tuple_struct(markers::DESCRIBED_BASIC, 2)?;
     let descriptor = fields.serialize_field(&1u64);
@@ -77,7 +77,7 @@ fn described<S: Serializer>(serializer: &mut S) -> Result<S::Ok, S::Error> {
     fields.end()
 }
 
-/// An array that is fed that value, and then a number.
+/// An array of a number. That value before it is refused.
 struct DescribedElement;
 
 impl Feed for DescribedElement {
@@ -96,26 +96,32 @@ impl Feed for DescribedElement {
     }
 }
 
-#[test]
-fn both_walks_refuse_at_the_same_calls(rt: HostRuntime) -> Result<(), Fail> {
-    let a = rt.alloc();
-    let key = MixedKey(Array::from(vec![in a; Some(1u8), None]?));
-    assert!(rt;
-        is(a, &key, b"\xc1\x08\x02\x50\x00\xc0\x03\x01\x50\x01"),
-        "a key of two kinds"
-    );
-    assert!(rt;
-        is(a, &MixedArray, b"\xc0\x06\x02\xe0\x02\x01\x40\x45"),
-        "a number among nulls"
-    );
-    let vector = DescribedVector(TransparentVec::new(Vec::new(a)));
-    assert!(rt;
-        is(a, &vector, b"\x00\x53\x03\x40"),
-        "a transparent vector after a descriptor"
-    );
-    assert!(rt;
-        is(a, &DescribedElement, b"\xe0\x03\x01\x50\x02"),
-        "a described element"
-    );
-    Ok(())
+fn mixed_key(alloc: Global) -> Option<MixedKey> {
+    Some(MixedKey(Array::from(Vec::from_array(alloc, [Some(1u8), None]).ok()?)))
+}
+
+pub(super) fn parts(rt: &HostRuntime) -> bool {
+    let vector = DescribedVector(TransparentVec::from(Vec::new(rt.alloc())));
+    built(
+        rt,
+        "a key of two kinds",
+        mixed_key(rt.alloc()),
+        2,
+        b"\xc1\x08\x02\x50\x00\xc0\x03\x01\x50\x01",
+    ) && is(
+        rt,
+        "a number among nulls",
+        &MixedArray,
+        b"\xc0\x06\x02\xe0\x02\x01\x40\x45",
+    ) && is(
+        rt,
+        "a transparent vector after a descriptor",
+        &vector,
+        b"\x00\x53\x03\x40",
+    ) && is(
+        rt,
+        "a described element",
+        &DescribedElement,
+        b"\xe0\x03\x01\x50\x02",
+    )
 }

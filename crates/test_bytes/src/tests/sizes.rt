@@ -1,0 +1,323 @@
+//! Lengths of values, from the standard's encoding tables, calculated by hand.
+
+ghost use Rattle.amqp_ser.specs.SizeAndBytes.{IsSizeOf};
+ghost use Rattle.amqp_size.specs.Refused.{told};
+
+use super::calls::samples::NoName;
+use super::compare::is;
+use super::made::{array as array_of, transparent, vector};
+use amqp_data::{Error, TransparentVec};
+use amqp_ser::{Kind, Mark, Serialize, Serializer};
+use amqp_size::width::{array_len, list_len, map_len, text_len};
+use amqp_size::{SizeSerializer, WalkError, serialized_size};
+
+fn text(rt: &HostRuntime, len: usize, in_array: bool, length: usize) -> bool {
+    is(
+        rt,
+        "the length of a text",
+        text_len(len, in_array),
+        Ok(length),
+    )
+}
+
+fn list(rt: &HostRuntime, len: usize, in_array: bool, length: usize) -> bool {
+    is(
+        rt,
+        "the length of a list",
+        list_len(len, in_array),
+        Ok(length),
+    )
+}
+
+fn map(rt: &HostRuntime, len: usize, in_array: bool, length: usize) -> bool {
+    is(
+        rt,
+        "the length of a map",
+        map_len(len, in_array),
+        Ok(length),
+    )
+}
+
+fn array(rt: &HostRuntime, len: usize, count: usize, in_array: bool, length: usize) -> bool {
+    is(
+        rt,
+        "the length of an array",
+        array_len(len, count, in_array),
+        Ok(length),
+    )
+}
+
+fn widths(rt: &HostRuntime) -> bool {
+    text(rt, 254, false, 256)
+        && text(rt, 255, false, 260)
+        && text(rt, 0, true, 4)
+        && text(rt, 4294967291, false, 4294967296)
+        && is(
+            rt,
+            "too long a text",
+            text_len(4294967292, false),
+            Err(Error::TooLong),
+        )
+        && list(rt, 0, false, 1)
+        && list(rt, 254, false, 257)
+        && list(rt, 255, false, 264)
+        && list(rt, 0, true, 8)
+        && list(rt, 1, true, 9)
+        && map(rt, 0, false, 3)
+        && map(rt, 254, false, 257)
+        && map(rt, 255, false, 264)
+        && map(rt, 0, true, 8)
+        && array(rt, 1, 255, false, 4)
+        && array(rt, 1, 256, false, 10)
+        && array(rt, 0, 0, true, 8)
+        && is(
+            rt,
+            "too many elements",
+            array_len(1, 4294967296, false),
+            Err(Error::TooLong),
+        )
+}
+
+/// Whether the value was built, and has this length.
+fn sized<T: Serialize + Drop>(
+    rt: &HostRuntime,
+    name: &str,
+    value: Option<T>,
+    length: usize,
+) -> bool {
+    match value {
+        Some(value) => is(rt, name, serialized_size(&value), Ok(length)),
+        None => false,
+    }
+}
+
+fn nested(rt: &HostRuntime) -> Option<Vec<Vec<&'static str>>> {
+    vector(rt, [vector(rt, ["a", "bc"])?])
+}
+
+fn nested_texts(rt: &HostRuntime) -> bool {
+    sized(rt, "a list of strings", vector(rt, ["a", "bc"]), 10)
+        && sized(rt, "a list of a list", nested(rt), 13)
+        && sized(rt, "an empty list", Some(Vec::<&str>::new(rt.alloc())), 1)
+}
+
+/// An array of two ints. A string between them is refused.
+fn mixed_array<S: Serializer>(serializer: &mut S) -> Result<S::Ok, S::Error> {
+    serializer.mark(Mark::Array);
+    let mut array = serializer.serialize_seq(None)?;
+    array.serialize_element(&1i32)?;
+    if array.serialize_element(&"a").is_ok() {
+        array.serialize_element(&"taken")?;
+    }
+    array.serialize_element(&2i32)?;
+    array.end()
+}
+
+/// A list of two ints. An element without a tree between them is refused.
+fn interrupted_list<S: Serializer>(serializer: &mut S) -> Result<S::Ok, S::Error> {
+    let mut list = serializer.serialize_seq(None)?;
+    list.serialize_element(&1i32)?;
+    if list.serialize_element(&NoName(1)).is_ok() {
+        list.serialize_element(&"taken")?;
+    }
+    list.serialize_element(&2i32)?;
+    list.end()
+}
+
+/// A map of one pair. A second key before the value is refused.
+fn two_keys<S: Serializer>(serializer: &mut S) -> Result<S::Ok, S::Error> {
+    let mut map = serializer.serialize_map(None)?;
+    map.serialize_key(&"a")?;
+    if map.serialize_key(&"b").is_ok() {
+        map.serialize_value(&"taken")?;
+    }
+    map.serialize_value(&1u8)?;
+    map.end()
+}
+
+/// A map that ends after a key.
+fn key_alone<S: Serializer>(serializer: &mut S) -> Result<S::Ok, S::Error> {
+    let mut map = serializer.serialize_map(None)?;
+    map.serialize_key(&"a")?;
+    map.end()
+}
+
+fn refused_parts<S: Serializer<Ok = usize, Error = WalkError>>(
+    rt: &HostRuntime,
+    serializer: &mut S,
+) -> bool {
+    is(rt, "a mixed array", mixed_array(serializer), Ok(12))
+        && is(
+            rt,
+            "an interrupted list",
+            interrupted_list(serializer),
+            Ok(7),
+        )
+        && is(rt, "two keys", two_keys(serializer), Ok(8))
+        && is(
+            rt,
+            "a key alone",
+            key_alone(serializer),
+            Err(WalkError::InvalidValue),
+        )
+        && is(rt, "fresh afterwards", serializer.serialize_str("b"), Ok(3))
+}
+
+/// A list of two truth values. A transparent vector between them is refused.
+fn vector_within<S: Serializer>(
+    serializer: &mut S,
+    vector: &TransparentVec<bool>,
+) -> Result<S::Ok, S::Error> {
+    let mut list = serializer.serialize_seq(None)?;
+    list.serialize_element(&true)?;
+    if list.serialize_element(vector).is_ok() {
+        list.serialize_element(&"taken")?;
+    }
+    list.serialize_element(&false)?;
+    list.end()
+}
+
+/// A map of one pair. A transparent vector as the value of its key is refused before another value.
+fn vector_as_value<S: Serializer>(
+    serializer: &mut S,
+    vector: &TransparentVec<bool>,
+) -> Result<S::Ok, S::Error> {
+    let mut map = serializer.serialize_map(None)?;
+    map.serialize_key(&"a")?;
+    if map.serialize_value(vector).is_ok() {
+        map.serialize_key(&"taken")?;
+    }
+    map.serialize_value(&1u8)?;
+    map.end()
+}
+
+fn misplaced_vector<S: Serializer<Ok = usize, Error = WalkError>>(
+    rt: &HostRuntime,
+    serializer: &mut S,
+    vector: Option<TransparentVec<bool>>,
+) -> bool {
+    match vector {
+        Some(vector) => {
+            is(
+                rt,
+                "a vector in a list",
+                vector_within(serializer, &vector),
+                Ok(5),
+            ) && is(
+                rt,
+                "a vector in a map",
+                vector_as_value(serializer, &vector),
+                Ok(8),
+            )
+        }
+        None => false,
+    }
+}
+
+fn misplaced_vectors<S: Serializer<Ok = usize, Error = WalkError>>(
+    rt: &HostRuntime,
+    serializer: &mut S,
+) -> bool {
+    misplaced_vector(rt, serializer, transparent(rt, [true]))
+        && misplaced_vector(rt, serializer, transparent(rt, []))
+}
+
+fn second_value<S: Serializer<Ok = usize, Error = WalkError>>(
+    rt: &HostRuntime,
+    serializer: &mut S,
+) -> bool {
+    let mut held = serializer.begin(Kind::Single);
+    serializer.begin_part(&mut held);
+    let first = serializer.serialize_u8(1);
+    let taken = serializer.end_part(&mut held, first);
+    serializer.begin_part(&mut held);
+    let second = serializer.serialize_u64(2);
+    let refused = serializer.end_part(&mut held, second);
+    is(rt, "the first value", taken, Ok(()))
+        && is(rt, "a second value", refused, Err(WalkError::InvalidValue))
+        && is(rt, "the first value alone", serializer.end(held), Ok(2))
+        && is(rt, "fresh afterwards", serializer.serialize_str("b"), Ok(3))
+}
+
+fn descriptor_after_a_string<S: Serializer<Ok = usize, Error = WalkError>>(
+    rt: &HostRuntime,
+    serializer: &mut S,
+) -> bool {
+    let mut held = serializer.begin(Kind::Single);
+    serializer.begin_descriptor(&mut held);
+    let text = serializer.serialize_str("a");
+    let refused = serializer.end_descriptor(&mut held, text);
+    serializer.begin_descriptor(&mut held);
+    let code = serializer.serialize_u64(0x24);
+    let taken = serializer.end_descriptor(&mut held, code);
+    serializer.begin_part(&mut held);
+    let list = serializer.begin(Kind::List);
+    let fields = serializer.end(list);
+    let body = serializer.end_part(&mut held, fields);
+    is(
+        rt,
+        "a string as descriptor",
+        refused,
+        Err(WalkError::InvalidValue),
+    ) && is(rt, "a code", taken, Ok(()))
+        && is(rt, "a list after it", body, Ok(()))
+        && is(rt, "the bytes 00532445", serializer.end(held), Ok(4))
+        && is(rt, "fresh afterwards", serializer.serialize_str("b"), Ok(3))
+}
+
+/// The length of the second value, by a serializer that has counted, or refused, the first.
+fn counted_after<A: Serialize, B: Serialize>(first: &A, second: &B) -> Result<usize, WalkError>
+    ensures { IsSizeOf (B.tree second.now) (told result) }
+{
+    let mut serializer = SizeSerializer::default();
+    let _ = first.serialize(&mut serializer);
+    second.serialize(&mut serializer)
+}
+
+/// Whether a serializer that has counted the first value counts the second.
+fn counts_after<A: Serialize + Drop, B: Serialize + Drop>(
+    rt: &HostRuntime,
+    first: Option<A>,
+    second: Option<B>,
+) -> bool {
+    match first {
+        Some(first) => match second {
+            Some(second) => is(
+                rt,
+                "the second value",
+                counted_after(&first, &second),
+                Ok(7),
+            ),
+            None => false,
+        },
+        None => false,
+    }
+}
+
+fn two_values(rt: &HostRuntime) -> bool {
+    sized(rt, "an array of two numbers", array_of(rt, [1u8, 2u8]), 6)
+        && counts_after(rt, array_of(rt, [1u8, 2u8]), vector(rt, [1u8, 2u8]))
+}
+
+#[test]
+fn lengths(rt: HostRuntime) {
+    assert!(rt; widths(&rt), "the lengths of the tables");
+    assert!(rt; nested_texts(&rt), "nested texts");
+    assert!(rt;
+        refused_parts(&rt, &mut SizeSerializer::new()),
+        "compounds without what they refused"
+    );
+    assert!(rt;
+        misplaced_vectors(&rt, &mut SizeSerializer::new()),
+        "misplaced vectors"
+    );
+    assert!(rt;
+        second_value(&rt, &mut SizeSerializer::new()),
+        "a second value of a single compound"
+    );
+    assert!(rt;
+        descriptor_after_a_string(&rt, &mut SizeSerializer::new()),
+        "a descriptor after a string"
+    );
+    assert!(rt; two_values(&rt), "one serializer counts two values");
+}
