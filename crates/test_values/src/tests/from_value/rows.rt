@@ -39,7 +39,7 @@ fn untyped_values_come_back_as_they_are(rt: &HostRuntime) -> bool {
     )
 }
 
-fn boxes_hold_what_they_are_read_from(rt: &HostRuntime) -> bool {
+fn boxes_are_read_as_their_content(rt: &HostRuntime) -> bool {
     let boxed = match Box::new(rt.alloc(), 7u32) {
         Ok(expected) => reads(rt, "Box of a uint", Value::Uint(7), &expected),
         Err(_) => false,
@@ -47,7 +47,7 @@ fn boxes_hold_what_they_are_read_from(rt: &HostRuntime) -> bool {
     boxed && refuses::<Box<u32>>(rt, "Box of a ulong", Value::Ulong(7))
 }
 
-fn tuples_want_their_parts_and_ignore_more(rt: &HostRuntime) -> bool {
+fn tuples_need_their_parts_and_ignore_more(rt: &HostRuntime) -> bool {
     let three = list(rt, [Value::Ubyte(1), Value::Ubyte(2), Value::Ubyte(3)]);
     refuses::<(u8, u8)>(rt, "one element", list(rt, [Value::Ubyte(1)]))
         && reads(rt, "three elements", three, &(1u8, 2u8))
@@ -100,8 +100,8 @@ fn rows(rt: HostRuntime) {
     assert!(rt; null_is_no_value_at_every_depth(&rt));
     assert!(rt; scalars_are_read_from_their_own_kind_alone(&rt));
     assert!(rt; untyped_values_come_back_as_they_are(&rt));
-    assert!(rt; boxes_hold_what_they_are_read_from(&rt));
-    assert!(rt; tuples_want_their_parts_and_ignore_more(&rt));
+    assert!(rt; boxes_are_read_as_their_content(&rt));
+    assert!(rt; tuples_need_their_parts_and_ignore_more(&rt));
     assert!(rt; described_values_keep_their_descriptor(&rt));
     assert!(rt; named_fields_come_from_a_list_an_array_or_a_map(&rt));
     assert!(rt; absent_fields_are_none_and_missing_ones_are_refused(&rt));

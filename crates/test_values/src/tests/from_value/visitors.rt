@@ -19,7 +19,7 @@ use amqp_from_value::Deserializer;
 use amqp_value::Value;
 use std::alloc::Global;
 
-/// Two numbers, which stand in a list.
+/// Two numbers, which are elements of a list.
 #[derive(Debug, PartialEq, Drop)]
 struct Point {
     x: u32,

@@ -12,7 +12,7 @@ use amqp_to_value::{laws, to_value};
 use amqp_value::Value;
 use std::alloc::Global;
 
-// What the value stands for, and what that stands for.
+// The image of the value, and the image of that.
 fn twice<T: Serialize>(alloc: Global, value: &T) -> Result<(Value, Value), Error>
     ensures same { IfOk result (λ values. tree_of values.1 ≡ tree_of values.0) }
     ensures equal { IfOk result (λ values. ⟦<Value as PartialEq>⟧.eq values.1 values.0 ≡ true) }

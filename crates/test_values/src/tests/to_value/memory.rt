@@ -1,16 +1,14 @@
-//! Rows that hold whichever allocation fails: run them by `rt try --test --fail-alloc N`.
+//! Rows that are true whichever allocation fails. Run them by `rt try --test --fail-alloc N`.
 
 use super::super::rows::{gives, is, wrong};
+use super::{newtype_variant, unit};
 use amqp_data::{Array, ByteBuf, Described, Descriptor, Error, OrderedMap, Symbol, markers};
 use amqp_to_value::{Serializer, to_value};
 use amqp_value::Value;
 use std::alloc::Global;
 
 // Serializes words, a refused one again.
-fn feed_list<S: amqp_ser::Serializer>(
-    serializer: &mut S,
-    words: &[&str],
-) -> Result<S::Ok, S::Error> {
+fn list_of<S: amqp_ser::Serializer>(serializer: &mut S, words: &[&str]) -> Result<S::Ok, S::Error> {
     let mut list = serializer.serialize_seq(None)?;
     for word in words {
         if list.serialize_element(word).is_err() {
@@ -21,7 +19,7 @@ fn feed_list<S: amqp_ser::Serializer>(
 }
 
 // Serializes keys and values in turn, a refused one again.
-fn feed_map<S: amqp_ser::Serializer>(
+fn map_of<S: amqp_ser::Serializer>(
     serializer: &mut S,
     pairs: &[(&str, u8)],
 ) -> Result<S::Ok, S::Error> {
@@ -38,7 +36,7 @@ fn feed_map<S: amqp_ser::Serializer>(
 }
 
 // Serializes a descriptor and a value, a refused one again.
-fn feed_described<S: amqp_ser::Serializer>(
+fn described_value<S: amqp_ser::Serializer>(
     serializer: &mut S,
     name: &Symbol,
     value: &Value,
@@ -99,7 +97,7 @@ fn is_word(rt: &HostRuntime, item: Option<&Value>, word: &str) -> bool {
 }
 
 fn a_refused_element_leaves_its_list_unchanged(rt: &HostRuntime) -> bool {
-    let list = feed_list(&mut Serializer::new(rt.alloc()), &["a", "b", "c", "d", "e"]);
+    let list = list_of(&mut Serializer::new(rt.alloc()), &["a", "b", "c", "d", "e"]);
     match &list {
         Ok(Value::List(items)) => {
             let mut items = items.iter();
@@ -125,7 +123,7 @@ fn is_pair(rt: &HostRuntime, pair: Option<(&Value, &Value)>, key: &str, number: 
 
 fn a_refused_value_keeps_its_key_pending(rt: &HostRuntime) -> bool {
     let pairs = [("a", 1), ("b", 2), ("a", 3)];
-    let map = feed_map(&mut Serializer::new(rt.alloc()), &pairs);
+    let map = map_of(&mut Serializer::new(rt.alloc()), &pairs);
     match &map {
         Ok(Value::Map(map)) => {
             let mut pairs = map.iter();
@@ -135,14 +133,6 @@ fn a_refused_value_keeps_its_key_pending(rt: &HostRuntime) -> bool {
         }
         _ => is_out_of_memory(&map) || wrong(rt, "a map", &map),
     }
-}
-
-fn newtype_variant<S: amqp_ser::Serializer>(serializer: &mut S) -> Result<S::Ok, S::Error> {
-    serializer.serialize_newtype_variant("E", 3, "V", &"a")
-}
-
-fn unit<S: amqp_ser::Serializer>(serializer: &mut S) -> Result<S::Ok, S::Error> {
-    serializer.serialize_unit()
 }
 
 fn is_variant(rt: &HostRuntime, variant: &Result<Value, Error>) -> bool {
@@ -157,7 +147,7 @@ fn is_variant(rt: &HostRuntime, variant: &Result<Value, Error>) -> bool {
 
 fn a_refused_variant_leaves_the_serializer_fresh(rt: &HostRuntime) -> bool {
     let serializer = &mut Serializer::new(rt.alloc());
-    let variant = newtype_variant(serializer);
+    let variant = newtype_variant(serializer, &"a");
     is_variant(rt, &variant) && gives(rt, "null afterwards", &unit(serializer), &Value::Null)
 }
 
@@ -169,7 +159,7 @@ fn a_refused_value_leaves_its_descriptor(rt: &HostRuntime) -> bool {
 }
 
 fn is_described(rt: &HostRuntime, name: Symbol, value: Value) -> bool {
-    let answer = feed_described(&mut Serializer::new(rt.alloc()), &name, &value);
+    let answer = described_value(&mut Serializer::new(rt.alloc()), &name, &value);
     match &answer {
         Ok(Value::Described(described)) => {
             is(

@@ -6,11 +6,6 @@ use amqp_data::{Dec32, Dec64, Dec128, Descriptor, F32Bits, F64Bits, OrderedMap, 
 use amqp_value::Value;
 use std::fmt::{Debug, Display};
 
-// Whether the value has this text by `format!` and by `to_string`. The text is the row's name.
-fn shows(rt: &HostRuntime, value: Value, shown: &str) -> bool {
-    prints(rt, &value, shown)
-}
-
 fn is_text<E: Debug + Drop>(rt: &HostRuntime, shown: &str, got: Result<String, E>) -> bool {
     match got {
         Ok(text) => is(rt, shown, &text.as_str(), &shown),
@@ -18,7 +13,8 @@ fn is_text<E: Debug + Drop>(rt: &HostRuntime, shown: &str, got: Result<String, E
     }
 }
 
-fn prints<T: Display>(rt: &HostRuntime, value: &T, shown: &str) -> bool {
+// Whether the value has this text by `format!` and by `to_string`. The text is the row's name.
+fn shows<T: Display + Drop>(rt: &HostRuntime, value: T, shown: &str) -> bool {
     is_text(rt, shown, format!(in rt.alloc(); "{value}"))
         && is_text(rt, shown, value.to_string(rt.alloc()))
 }

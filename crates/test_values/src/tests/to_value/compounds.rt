@@ -2,13 +2,14 @@
 
 use super::super::rows::{gives, invalid, is};
 use super::super::values::{array, described, list, map, string, vec_of};
+use super::{newtype_variant, unit};
 use amqp_data::{Descriptor, Error, OrderedMap, TransparentVec, markers};
 use amqp_ser::Kind;
 use amqp_to_value::{Serializer, to_value};
 use amqp_value::Value;
 
 // Serializes keys and values in turn.
-fn feed_map<S: amqp_ser::Serializer>(
+fn map_of<S: amqp_ser::Serializer>(
     serializer: &mut S,
     pairs: &[(&str, u8)],
 ) -> Result<S::Ok, S::Error> {
@@ -57,7 +58,7 @@ fn end_with_a_key<S: amqp_ser::Serializer>(serializer: &mut S) -> Result<S::Ok, 
     map.end()
 }
 
-fn feed_variant<S: amqp_ser::Serializer>(serializer: &mut S) -> Result<S::Ok, S::Error> {
+fn tuple_variant<S: amqp_ser::Serializer>(serializer: &mut S) -> Result<S::Ok, S::Error> {
     let mut variant = serializer.serialize_tuple_variant("E", 4, "V", 2)?;
     variant.serialize_field(&1u8)?;
     variant.serialize_field(&2u8)?;
@@ -66,7 +67,9 @@ fn feed_variant<S: amqp_ser::Serializer>(serializer: &mut S) -> Result<S::Ok, S:
 
 // Serializes a field that is no descriptor, the descriptor, another descriptor and two fields.
 // Returns the value and whether all but the descriptor and the first field were refused.
-fn feed_described<S: amqp_ser::Serializer>(serializer: &mut S) -> Result<(S::Ok, bool), S::Error> {
+fn described_with_refusals<S: amqp_ser::Serializer>(
+    serializer: &mut S,
+) -> Result<(S::Ok, bool), S::Error> {
     let mut fields = serializer.serialize_struct(markers::DESCRIBED_BASIC, 2)?;
     let descriptor = fields.serialize_field(markers::DESCRIPTOR, &1u32).is_err();
     fields.serialize_field(markers::DESCRIPTOR, &1u64)?;
@@ -112,8 +115,8 @@ fn a_present_key_keeps_its_place(rt: &HostRuntime) -> bool {
         ],
     );
     let pairs = [("a", 1), ("b", 2), ("a", 3)];
-    gives(rt, "no pairs", &feed_map(serializer, &[]), &map(rt, []))
-        && gives(rt, "a key again", &feed_map(serializer, &pairs), &expected)
+    gives(rt, "no pairs", &map_of(serializer, &[]), &map(rt, []))
+        && gives(rt, "a key again", &map_of(serializer, &pairs), &expected)
 }
 
 fn misuse_leaves_a_map_unchanged(rt: &HostRuntime) -> bool {
@@ -144,10 +147,6 @@ fn a_transparent_vector_is_a_list_in_a_sequence(rt: &HostRuntime) -> bool {
     )
 }
 
-fn newtype_variant<S: amqp_ser::Serializer>(serializer: &mut S) -> Result<S::Ok, S::Error> {
-    serializer.serialize_newtype_variant("E", 3, "V", &2u8)
-}
-
 fn variants_are_maps_of_one_pair(rt: &HostRuntime) -> bool {
     let serializer = &mut Serializer::new(rt.alloc());
     let newtype = one_pair(rt, 3, Value::Ubyte(2));
@@ -155,18 +154,14 @@ fn variants_are_maps_of_one_pair(rt: &HostRuntime) -> bool {
     gives(
         rt,
         "a newtype variant",
-        &newtype_variant(serializer),
+        &newtype_variant(serializer, &2u8),
         &newtype,
     ) && gives(
         rt,
         "a tuple variant",
-        &feed_variant(serializer),
+        &tuple_variant(serializer),
         &one_pair(rt, 4, fields),
     )
-}
-
-fn unit<S: amqp_ser::Serializer>(serializer: &mut S) -> Result<S::Ok, S::Error> {
-    serializer.serialize_unit()
 }
 
 fn refusals_leave_a_described_value_unchanged(rt: &HostRuntime) -> bool {
@@ -174,8 +169,12 @@ fn refusals_leave_a_described_value_unchanged(rt: &HostRuntime) -> bool {
     let described = described(rt, Descriptor::Code(1), Value::Ubyte(4));
     let late = refuse_late(serializer);
     let expected = (described, true);
-    gives(rt, "refused fields", &feed_described(serializer), &expected)
-        && gives(rt, "a second value", &late, &expected.0)
+    gives(
+        rt,
+        "refused fields",
+        &described_with_refusals(serializer),
+        &expected,
+    ) && gives(rt, "a second value", &late, &expected.0)
         && gives(rt, "null afterwards", &unit(serializer), &Value::Null)
 }
 
@@ -200,7 +199,7 @@ fn large_maps_keep_their_order(rt: &HostRuntime) -> bool {
 }
 
 #[test]
-fn feeding(rt: HostRuntime) {
+fn compounds(rt: HostRuntime) {
     assert!(rt; a_present_key_keeps_its_place(&rt));
     assert!(rt; misuse_leaves_a_map_unchanged(&rt));
     assert!(rt; a_transparent_vector_is_a_list_in_a_sequence(&rt));
