@@ -5,5 +5,6 @@
 
 mod from_value;
 mod rows;
+mod to_value;
 mod value;
 mod values;

@@ -15,39 +15,30 @@ use amqp_de::EnumAccessOf;
 use amqp_de::de::{Deserialize, EnumAccess as _};
 use amqp_from_value::{Deserializer, VariantAccess, from_value};
 use amqp_value::Value;
-use std::alloc::Global;
 use std::fmt::Debug;
-
-fn read<T: Deserialize>(alloc: Global, value: Result<Value, Error>) -> Result<T, Error> {
-    from_value(alloc, value?)
-}
 
 // Whether the value is deserialized as the expected one.
 fn reads<T: Deserialize + Debug + PartialEq>(
     rt: &HostRuntime,
     name: &str,
-    value: Result<Value, Error>,
+    value: Value,
     expected: &T,
 ) -> bool {
-    gives(rt, name, &read::<T>(rt.alloc(), value), expected)
+    gives(rt, name, &from_value::<T>(rt.alloc(), value), expected)
 }
 
 // Whether the value is refused as invalid.
-fn refuses<T: Deserialize + Debug>(
-    rt: &HostRuntime,
-    name: &str,
-    value: Result<Value, Error>,
-) -> bool {
-    invalid(rt, name, &read::<T>(rt.alloc(), value))
+fn refuses<T: Deserialize + Debug>(rt: &HostRuntime, name: &str, value: Value) -> bool {
+    invalid(rt, name, &from_value::<T>(rt.alloc(), value))
 }
 
 // The content of the variant of index 1.
-fn variant_1(alloc: Global, item: Option<Value>) -> Result<VariantAccess, Error> {
+fn variant_1(rt: &HostRuntime, item: Option<Value>) -> Result<VariantAccess, Error> {
     let item = match item {
-        Some(value) => Some(Deserializer::new(alloc, value)),
+        Some(value) => Some(Deserializer::new(rt.alloc(), value)),
         None => None,
     };
-    let index = Deserializer::new(alloc, Value::Uint(1));
-    let (_index, content) = EnumAccessOf::new(index, item).variant::<u32>(alloc)?;
+    let index = Deserializer::new(rt.alloc(), Value::Uint(1));
+    let (_index, content) = EnumAccessOf::new(index, item).variant::<u32>(rt.alloc())?;
     Ok(content)
 }

@@ -5,16 +5,14 @@ mod maps;
 mod order;
 mod shown;
 
-use super::values::{described, list, map, string, symbol};
-use amqp_data::{
-    Array, ByteBuf, Dec32, Dec64, Dec128, Descriptor, Error, F32Bits, F64Bits, Timestamp, Uuid,
-};
+use super::values::{array, bytes, described, list, map, string, symbol};
+use amqp_data::{Dec32, Dec64, Dec128, Descriptor, F32Bits, F64Bits, Timestamp, Uuid};
 use amqp_value::{Value, laws};
-use std::alloc::Global;
 
-// One value of each variant of a fixed width but the described value, in the order of the standard.
-fn one_of_each_width(alloc: Global) -> Result<Vec<Value>, Error> {
-    Ok(vec![in alloc;
+// One value of each variant, in the order of the standard.
+fn one_of_each(rt: &HostRuntime) -> [Value; 25] {
+    [
+        described(rt, Descriptor::Code(1), Value::Null),
         Value::Null,
         Value::Bool(true),
         Value::Ubyte(9),
@@ -33,23 +31,13 @@ fn one_of_each_width(alloc: Global) -> Result<Vec<Value>, Error> {
         Value::Char('a'),
         Value::Timestamp(Timestamp::from_milliseconds(-1)),
         Value::Uuid(Uuid::from([6; 16])),
-    ]?)
-}
-
-// One value of each variant, in the order of the standard.
-fn one_of_each(alloc: Global) -> Result<Vec<Value>, Error> {
-    let mut values = Vec::new(alloc);
-    values.push(described(alloc, Descriptor::Code(1), Value::Null)?)?;
-    for value in one_of_each_width(alloc)? {
-        values.push(value)?;
-    }
-    values.push(Value::Binary(ByteBuf::from([5].to_vec(alloc)?)))?;
-    values.push(string(alloc, "b")?)?;
-    values.push(symbol(alloc, "a")?)?;
-    values.push(list(alloc, [string(alloc, "z")?])?)?;
-    values.push(map(alloc, [])?)?;
-    values.push(Value::Array(Array::from(Vec::new(alloc))))?;
-    Ok(values)
+        Value::Binary(bytes(rt, [5])),
+        string(rt, "b"),
+        symbol(rt, "a"),
+        list(rt, [string(rt, "z")]),
+        map(rt, []),
+        array(rt, []),
+    ]
 }
 
 #[test]

@@ -1,56 +1,75 @@
-//! Untyped values.
+//! Values for rows. If an allocation fails, the value is empty or null.
 
-use amqp_data::{Array, Described, Descriptor, Error, OrderedMap, Symbol};
+use amqp_data::{Array, ByteBuf, Described, Descriptor, OrderedMap, Symbol};
 use amqp_value::Value;
-use std::alloc::Global;
+
+/// A vector of these items.
+pub fn vec_of<const N: usize, T: Drop>(rt: &HostRuntime, items: [T; N]) -> Vec<T> {
+    match Vec::from_array(rt.alloc(), items) {
+        Ok(items) => items,
+        Err(_) => Vec::new(rt.alloc()),
+    }
+}
 
 /// A list of these values.
-pub fn list<const N: usize>(alloc: Global, items: [Value; N]) -> Result<Value, Error> {
-    Ok(Value::List(Vec::from_array(alloc, items)?))
+pub fn list<const N: usize>(rt: &HostRuntime, items: [Value; N]) -> Value {
+    Value::List(vec_of(rt, items))
 }
 
 /// An array of these values.
-pub fn array<const N: usize>(alloc: Global, items: [Value; N]) -> Result<Value, Error> {
-    Ok(Value::Array(Array::from(Vec::from_array(alloc, items)?)))
+pub fn array<const N: usize>(rt: &HostRuntime, items: [Value; N]) -> Value {
+    Value::Array(Array::from(vec_of(rt, items)))
 }
 
 /// The map of these pairs, inserted in order.
 pub fn ordered_map<const N: usize>(
-    alloc: Global,
+    rt: &HostRuntime,
     pairs: [(Value, Value); N],
-) -> Result<OrderedMap<Value, Value>, Error> {
-    let mut map = OrderedMap::new(alloc);
-    for (key, value) in Vec::from_array(alloc, pairs)? {
-        drop(map.insert(key, value)?);
+) -> OrderedMap<Value, Value> {
+    let mut map = OrderedMap::new(rt.alloc());
+    for (key, value) in vec_of(rt, pairs) {
+        drop(map.insert(key, value));
     }
-    Ok(map)
+    map
 }
 
 /// The map value of these pairs, inserted in order.
-pub fn map<const N: usize>(alloc: Global, pairs: [(Value, Value); N]) -> Result<Value, Error> {
-    Ok(Value::Map(ordered_map(alloc, pairs)?))
+pub fn map<const N: usize>(rt: &HostRuntime, pairs: [(Value, Value); N]) -> Value {
+    Value::Map(ordered_map(rt, pairs))
+}
+
+/// A text.
+pub fn text(rt: &HostRuntime, text: &str) -> String {
+    match String::from_str(rt.alloc(), text) {
+        Ok(text) => text,
+        Err(_) => String::new(rt.alloc()),
+    }
 }
 
 /// A string.
-pub fn string(alloc: Global, text: &str) -> Result<Value, Error> {
-    Ok(Value::String(String::from_str(alloc, text)?))
+pub fn string(rt: &HostRuntime, content: &str) -> Value {
+    Value::String(text(rt, content))
+}
+
+/// A name.
+pub fn name(rt: &HostRuntime, content: &str) -> Symbol {
+    Symbol::from(text(rt, content))
 }
 
 /// A symbol.
-pub fn symbol(alloc: Global, text: &str) -> Result<Value, Error> {
-    Ok(Value::Symbol(Symbol::try_from_str(alloc, text)?))
+pub fn symbol(rt: &HostRuntime, content: &str) -> Value {
+    Value::Symbol(name(rt, content))
+}
+
+/// Bytes.
+pub fn bytes<const N: usize>(rt: &HostRuntime, content: [u8; N]) -> ByteBuf {
+    ByteBuf::from(vec_of(rt, content))
 }
 
 /// A described value.
-pub fn described(alloc: Global, descriptor: Descriptor, value: Value) -> Result<Value, Error> {
-    Ok(Value::Described(Box::new(alloc, Described { descriptor, value })?))
-}
-
-/// A list of strings.
-pub fn strings(alloc: Global, texts: &[&str]) -> Result<Value, Error> {
-    let mut items = Vec::new(alloc);
-    for text in texts {
-        items.push(string(alloc, *text)?)?;
+pub fn described(rt: &HostRuntime, descriptor: Descriptor, value: Value) -> Value {
+    match Box::new(rt.alloc(), Described { descriptor, value }) {
+        Ok(described) => Value::Described(described),
+        Err(_) => Value::Null,
     }
-    Ok(Value::List(items))
 }

@@ -1,22 +1,16 @@
 //! Worked rows of the accessors: their results, and what is left after each.
 
 use super::super::rows::{fails, gives, is};
-use super::super::values::{ordered_map, string};
+use super::super::values::{ordered_map, string, vec_of};
 use super::variant_1;
 use amqp_data::Error;
 use amqp_de::de::{self, Deserialize, VariantAccess as _};
 use amqp_from_value::{MapAccess, SeqAccess};
 use amqp_value::Value;
-use std::alloc::Global;
 use std::fmt::Debug;
 
-fn elements(alloc: Global) -> Result<SeqAccess, Error> {
-    let items = vec![in alloc; string(alloc, "a")?, Value::Ubyte(2)]?;
-    Ok(SeqAccess::new(alloc, items))
-}
-
-fn entries<const N: usize>(alloc: Global, pairs: [(Value, Value); N]) -> Result<MapAccess, Error> {
-    Ok(MapAccess::new(alloc, ordered_map(alloc, pairs)?))
+fn entries<const N: usize>(rt: &HostRuntime, pairs: [(Value, Value); N]) -> MapAccess {
+    MapAccess::new(rt.alloc(), ordered_map(rt, pairs))
 }
 
 // Whether the next element has this result.
@@ -64,103 +58,108 @@ fn entry<A: de::MapAccess<Error = Error>>(
     )
 }
 
-fn a_refused_element_is_taken(rt: &HostRuntime) -> Result<bool, Error> {
-    let access = &mut elements(rt.alloc())?;
-    Ok(
-        element(rt, "a string", access, &Err(Error::InvalidValue))
-            && element(rt, "a ubyte", access, &Ok(Some(2)))
-            && element(rt, "the end", access, &Ok(None)),
-    )
+fn a_refused_element_is_taken(rt: &HostRuntime) -> bool {
+    let items = vec_of(rt, [string(rt, "a"), Value::Ubyte(2)]);
+    let access = &mut SeqAccess::new(rt.alloc(), items);
+    element(rt, "element: a string", access, &Err(Error::InvalidValue))
+        && element(rt, "element: a ubyte", access, &Ok(Some(2)))
+        && element(rt, "element: the end", access, &Ok(None))
 }
 
-fn a_value_comes_after_its_key_alone(rt: &HostRuntime) -> Result<bool, Error> {
-    let pairs = [(Value::Uint(1), Value::Ubyte(2))];
-    let access = &mut entries(rt.alloc(), pairs)?;
-    Ok(
-        value::<_, u8>(
+fn a_value_comes_after_its_key_alone(rt: &HostRuntime) -> bool {
+    let access = &mut entries(rt, [(Value::Uint(1), Value::Ubyte(2))]);
+    value::<_, u8>(
+        rt,
+        "a value before its key",
+        access,
+        &Err(Error::InvalidValue),
+    ) && key(rt, "a key", access, &Ok(Some(1)))
+        && key(rt, "a second key", access, &Err(Error::InvalidValue))
+        && entry(
             rt,
-            "a value before its key",
+            "an entry after a key",
             access,
             &Err(Error::InvalidValue),
-        ) && key(rt, "a key", access, &Ok(Some(1)))
-            && key(rt, "a second key", access, &Err(Error::InvalidValue))
-            && entry(
-                rt,
-                "an entry after a key",
-                access,
-                &Err(Error::InvalidValue),
-            )
-            && value(rt, "the value", access, &Ok(2u8))
-            && value::<_, u8>(rt, "a second value", access, &Err(Error::InvalidValue))
-            && key(rt, "the end", access, &Ok(None)),
-    )
+        )
+        && value(rt, "the value of the key", access, &Ok(2u8))
+        && value::<_, u8>(rt, "a second value", access, &Err(Error::InvalidValue))
+        && key(rt, "no key left", access, &Ok(None))
 }
 
-fn a_refused_key_takes_its_value_with_it(rt: &HostRuntime) -> Result<bool, Error> {
+fn a_refused_key_takes_its_value_with_it(rt: &HostRuntime) -> bool {
     let pairs = [
         (Value::Null, Value::Ubyte(2)),
         (Value::Uint(3), Value::Ubyte(4)),
     ];
-    let access = &mut entries(rt.alloc(), pairs)?;
-    Ok(
-        key(rt, "a null key", access, &Err(Error::InvalidValue))
-            && value::<_, u8>(rt, "its value", access, &Err(Error::InvalidValue))
-            && entry(rt, "the next entry", access, &Ok(Some((3, 4))))
-            && entry(rt, "the end", access, &Ok(None)),
-    )
+    let access = &mut entries(rt, pairs);
+    key(rt, "a null key", access, &Err(Error::InvalidValue))
+        && value::<_, u8>(
+            rt,
+            "the value of a null key",
+            access,
+            &Err(Error::InvalidValue),
+        )
+        && entry(rt, "the entry after a null key", access, &Ok(Some((3, 4))))
+        && entry(rt, "no entry left", access, &Ok(None))
 }
 
-fn a_refused_entry_is_taken_whole(rt: &HostRuntime) -> Result<bool, Error> {
+fn a_refused_entry_is_taken_whole(rt: &HostRuntime) -> bool {
     let pairs = [
         (Value::Null, Value::Ubyte(2)),
         (Value::Uint(3), Value::Null),
         (Value::Uint(5), Value::Ubyte(6)),
     ];
-    let access = &mut entries(rt.alloc(), pairs)?;
-    Ok(
-        entry(
+    let access = &mut entries(rt, pairs);
+    entry(
+        rt,
+        "an entry of a null key",
+        access,
+        &Err(Error::InvalidValue),
+    ) && entry(
+        rt,
+        "an entry of a null value",
+        access,
+        &Err(Error::InvalidValue),
+    ) && key(rt, "the third key", access, &Ok(Some(5)))
+        && value::<_, bool>(
             rt,
-            "an entry of a null key",
+            "the third value as a bool",
             access,
             &Err(Error::InvalidValue),
-        ) && entry(
+        )
+        && value::<_, u8>(
             rt,
-            "an entry of a null value",
+            "the third value again",
             access,
             &Err(Error::InvalidValue),
-        ) && key(rt, "the third key", access, &Ok(Some(5)))
-            && value::<_, bool>(rt, "its value as a bool", access, &Err(Error::InvalidValue))
-            && value::<_, u8>(rt, "its value again", access, &Err(Error::InvalidValue)),
-    )
+        )
 }
 
-fn newtype(alloc: Global, item: Option<Value>) -> Result<u64, Error> {
-    variant_1(alloc, item)?.newtype_variant(alloc)
+fn newtype(rt: &HostRuntime, item: Option<Value>) -> Result<u64, Error> {
+    variant_1(rt, item)?.newtype_variant(rt.alloc())
 }
 
-fn unit(alloc: Global, item: Option<Value>) -> Result<(), Error> {
-    variant_1(alloc, item)?.unit_variant()
+fn unit(rt: &HostRuntime, item: Option<Value>) -> Result<(), Error> {
+    variant_1(rt, item)?.unit_variant()
 }
 
 fn a_variant_tells_what_it_misses(rt: &HostRuntime) -> bool {
-    let alloc = rt.alloc();
     let missing = Error::Message("Expecting a value");
-    let thirteen = newtype(alloc, Some(Value::Ulong(13)));
-    fails(rt, "no content", &newtype(alloc, None), &missing)
-        && gives(rt, "a newtype variant", &thirteen, &13)
+    fails(rt, "no content", &newtype(rt, None), &missing)
         && gives(
             rt,
-            "a unit variant",
-            &unit(alloc, Some(Value::Ulong(13))),
-            &(),
+            "a newtype variant",
+            &newtype(rt, Some(Value::Ulong(13))),
+            &13,
         )
+        && gives(rt, "a unit variant", &unit(rt, Some(Value::Ulong(13))), &())
 }
 
 #[test]
 fn accessors(rt: HostRuntime) {
-    assert!(rt; matches!(a_refused_element_is_taken(&rt), Ok(true)));
-    assert!(rt; matches!(a_value_comes_after_its_key_alone(&rt), Ok(true)));
-    assert!(rt; matches!(a_refused_key_takes_its_value_with_it(&rt), Ok(true)));
-    assert!(rt; matches!(a_refused_entry_is_taken_whole(&rt), Ok(true)));
+    assert!(rt; a_refused_element_is_taken(&rt));
+    assert!(rt; a_value_comes_after_its_key_alone(&rt));
+    assert!(rt; a_refused_key_takes_its_value_with_it(&rt));
+    assert!(rt; a_refused_entry_is_taken_whole(&rt));
     assert!(rt; a_variant_tells_what_it_misses(&rt));
 }

@@ -7,7 +7,7 @@ ghost use Rattle.amqp_de.specs.Reads.{image_option, RestorableOption, SameOption
 
 use super::super::values::{described, list, map, string};
 use super::{reads, refuses};
-use amqp_data::{Descriptor, Error};
+use amqp_data::Descriptor;
 use amqp_de::de::{Deserialize, Deserializer};
 use amqp_de::{ListOf, NamedOf, Record, fields, named, read_described};
 use amqp_value::Value;
@@ -91,8 +91,8 @@ impl Deserialize for Limits {
 }
 
 // A composite of this descriptor and these fields.
-fn composite(alloc: Global, code: u64, fields: Result<Value, Error>) -> Result<Value, Error> {
-    described(alloc, Descriptor::Code(code), fields?)
+fn composite(rt: &HostRuntime, code: u64, fields: Value) -> Value {
+    described(rt, Descriptor::Code(code), fields)
 }
 
 fn flow_of(handle: u32, credit: Option<u32>) -> Flow {
@@ -103,51 +103,50 @@ fn limits_of(low: i32, high: Option<u32>) -> Limits {
     Limits { low, high }
 }
 
-fn two_uints(alloc: Global) -> Result<Value, Error> {
-    list(alloc, [Value::Uint(4), Value::Uint(100)])
+fn two_uints(rt: &HostRuntime) -> Value {
+    list(rt, [Value::Uint(4), Value::Uint(100)])
 }
 
 // The map of one field.
-fn one(alloc: Global, name: &str, value: Value) -> Result<Value, Error> {
-    map(alloc, [(string(alloc, name)?, value)])
-}
-
-fn high_and_low(alloc: Global) -> Result<Value, Error> {
-    map(
-        alloc,
-        [
-            (string(alloc, "high")?, Value::Uint(8)),
-            (string(alloc, "low")?, Value::Int(-3)),
-        ],
-    )
+fn one(rt: &HostRuntime, name: &str, value: Value) -> Value {
+    map(rt, [(string(rt, name), value)])
 }
 
 fn a_list_composite_is_read_from_its_list(rt: &HostRuntime) -> bool {
-    let alloc = rt.alloc();
-    let both = composite(alloc, 0x13, two_uints(alloc));
-    let cut = composite(alloc, 0x13, list(alloc, [Value::Uint(4)]));
-    let named = composite(alloc, 0x13, one(alloc, "handle", Value::Uint(4)));
-    reads(rt, "both fields", both, &flow_of(4, Some(100)))
-        && reads(rt, "no last field", cut, &flow_of(4, None))
-        && refuses::<Flow>(rt, "a map", named)
+    let both = composite(rt, 0x13, two_uints(rt));
+    let cut = composite(rt, 0x13, list(rt, [Value::Uint(4)]));
+    let named = composite(rt, 0x13, one(rt, "handle", Value::Uint(4)));
+    reads(rt, "Flow: both fields", both, &flow_of(4, Some(100)))
+        && reads(rt, "Flow: no last field", cut, &flow_of(4, None))
+        && refuses::<Flow>(rt, "Flow: a map", named)
 }
 
 fn a_composite_of_names_is_read_from_its_list_and_its_map(rt: &HostRuntime) -> bool {
-    let alloc = rt.alloc();
-    let by_position = list(alloc, [Value::Int(-3), Value::Uint(8)]);
-    let by_position = composite(alloc, 0x15, by_position);
-    let by_name = composite(alloc, 0x15, high_and_low(alloc));
-    let one = composite(alloc, 0x15, one(alloc, "low", Value::Int(-3)));
-    reads(rt, "a list", by_position, &limits_of(-3, Some(8)))
-        && reads(rt, "a map", by_name, &limits_of(-3, Some(8)))
-        && reads(rt, "a map of one field", one, &limits_of(-3, None))
+    let by_position = composite(rt, 0x15, list(rt, [Value::Int(-3), Value::Uint(8)]));
+    let by_name = map(
+        rt,
+        [
+            (string(rt, "high"), Value::Uint(8)),
+            (string(rt, "low"), Value::Int(-3)),
+        ],
+    );
+    let one = composite(rt, 0x15, one(rt, "low", Value::Int(-3)));
+    reads(rt, "Limits: a list", by_position, &limits_of(-3, Some(8)))
+        && reads(
+            rt,
+            "Limits: a map",
+            composite(rt, 0x15, by_name),
+            &limits_of(-3, Some(8)),
+        )
+        && reads(rt, "Limits: a map of one field", one, &limits_of(-3, None))
 }
 
 fn another_descriptor_is_no_composite(rt: &HostRuntime) -> bool {
-    let alloc = rt.alloc();
-    let other = composite(alloc, 0x14, two_uints(alloc));
-    refuses::<Flow>(rt, "another descriptor", other)
-        && refuses::<Flow>(rt, "no descriptor", two_uints(alloc))
+    refuses::<Flow>(
+        rt,
+        "Flow: another descriptor",
+        composite(rt, 0x14, two_uints(rt)),
+    ) && refuses::<Flow>(rt, "Flow: no descriptor", two_uints(rt))
 }
 
 #[test]

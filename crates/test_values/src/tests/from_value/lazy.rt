@@ -1,34 +1,43 @@
 //! Lazy values: any value that can be written, as its bytes.
 
-use super::super::rows::{gives, is};
+use super::super::rows::{is, wrong};
 use super::super::values::{array, list, string};
-use super::{read, refuses};
+use super::refuses;
 use amqp_data::Error;
 use amqp_de::de::Refusal;
 use amqp_frame::LazyValue;
+use amqp_from_value::from_value;
 use amqp_value::Value;
-use std::alloc::Global;
 
 // Whether the value is deserialized as a lazy value of these bytes.
-fn is_lazy(rt: &HostRuntime, name: &str, value: Result<Value, Error>, bytes: &[u8]) -> bool {
-    match read::<LazyValue>(rt.alloc(), value) {
+fn is_lazy(rt: &HostRuntime, name: &str, value: Value, bytes: &[u8]) -> bool {
+    match from_value::<LazyValue>(rt.alloc(), value) {
         Ok(lazy) => is(rt, name, &lazy.as_slice(), &bytes),
-        Err(error) => gives(rt, name, &Err(error), &bytes),
+        Err(error) => wrong(rt, name, &error),
     }
 }
 
-fn a_lazy_value_is_the_bytes_of_any_value(rt: &HostRuntime) -> Result<bool, Error> {
-    let alloc = rt.alloc();
-    let text = string(alloc, "Hello, World!");
-    let both = list(alloc, [Value::Uint(1), Value::Bool(true)]);
-    let parts = read::<Vec<LazyValue>>(alloc, both)?;
-    Ok(
-        is_lazy(rt, "a string", text, b"\xa1\x0dHello, World!")
-            && is_lazy(rt, "null", Ok(Value::Null), b"\x40")
-            && is(rt, "the count of elements", &parts.len(), &2)
-            && is_part(rt, "the first element", parts.first(), b"\x52\x01")
-            && is_part(rt, "the second element", parts.last(), b"\x41"),
-    )
+fn a_lazy_value_is_the_bytes_of_any_value(rt: &HostRuntime) -> bool {
+    is_lazy(
+        rt,
+        "a string",
+        string(rt, "Hello, World!"),
+        b"\xa1\x0dHello, World!",
+    ) && is_lazy(rt, "null", Value::Null, b"\x40")
+}
+
+fn lazy_values_are_elements(rt: &HostRuntime) -> bool {
+    let both = list(rt, [Value::Uint(1), Value::Bool(true)]);
+    match from_value::<Vec<LazyValue>>(rt.alloc(), both) {
+        Ok(parts) => are_parts(rt, &parts),
+        Err(error) => wrong(rt, "a list", &error),
+    }
+}
+
+fn are_parts(rt: &HostRuntime, parts: &[LazyValue]) -> bool {
+    is(rt, "the count of elements", &parts.len(), &2)
+        && is_part(rt, "the first element", parts.first(), b"\x52\x01")
+        && is_part(rt, "the second element", parts.last(), b"\x41")
 }
 
 fn is_part(rt: &HostRuntime, name: &str, part: Option<&LazyValue>, bytes: &[u8]) -> bool {
@@ -38,14 +47,9 @@ fn is_part(rt: &HostRuntime, name: &str, part: Option<&LazyValue>, bytes: &[u8])
     }
 }
 
-fn list_of_a_mixed_array(alloc: Global) -> Result<Value, Error> {
-    let mixed = array(alloc, [Value::Int(1), Value::Null])?;
-    list(alloc, [mixed])
-}
-
 fn what_cannot_be_written_is_no_lazy_value(rt: &HostRuntime) -> bool {
-    let mixed = array(rt.alloc(), [Value::Int(1), Value::Null]);
-    let nested = list_of_a_mixed_array(rt.alloc());
+    let mixed = array(rt, [Value::Int(1), Value::Null]);
+    let nested = list(rt, [array(rt, [Value::Int(1), Value::Null])]);
     refuses::<LazyValue>(rt, "an array of an int and null", mixed)
         && refuses::<Vec<LazyValue>>(rt, "a list of such an array", nested)
 }
@@ -64,7 +68,8 @@ fn each_cause_has_its_error(rt: &HostRuntime) -> bool {
 
 #[test]
 fn lazy_values(rt: HostRuntime) {
-    assert!(rt; matches!(a_lazy_value_is_the_bytes_of_any_value(&rt), Ok(true)));
+    assert!(rt; a_lazy_value_is_the_bytes_of_any_value(&rt));
+    assert!(rt; lazy_values_are_elements(&rt));
     assert!(rt; what_cannot_be_written_is_no_lazy_value(&rt));
     assert!(rt; each_cause_has_its_error(&rt));
 }

@@ -1,12 +1,11 @@
 //! Worked rows of enums, from an index, a list and a map.
 
 use super::super::rows::{fails, gives, invalid};
-use super::super::values::{list, map, string};
+use super::super::values::{list, map, string, text};
 use amqp_data::Error;
 use amqp_de::{EnumOf, Seed, named, variant, variants};
 use amqp_from_value::Deserializer;
 use amqp_value::Value;
-use std::alloc::Global;
 
 // A variant by its form, with its content. A unit variant has its index.
 #[derive(Debug, PartialEq, Drop)]
@@ -18,9 +17,9 @@ enum Variant {
 }
 
 // A struct variant, a newtype variant, a unit variant and a tuple variant.
-fn four(alloc: Global, value: Result<Value, Error>) -> Result<Variant, Error> {
+fn four(rt: &HostRuntime, value: Value) -> Result<Variant, Error> {
     let variants = EnumOf(variants! { named! { "a", "b" }, newtype, unit, named! { "0", "1" } });
-    match variants.read(alloc, Deserializer::new(alloc, value?))? {
+    match variants.read(rt.alloc(), Deserializer::new(rt.alloc(), value))? {
         variant!(0, (a, (b, ()))) => Ok(Variant::Struct(a, b)),
         variant!(1, number) => Ok(Variant::Newtype(number)),
         variant!(2, ()) => Ok(Variant::Unit(2)),
@@ -30,9 +29,9 @@ fn four(alloc: Global, value: Result<Value, Error>) -> Result<Variant, Error> {
 }
 
 // Two unit variants.
-fn units(alloc: Global, value: Result<Value, Error>) -> Result<Variant, Error> {
+fn units(rt: &HostRuntime, value: Value) -> Result<Variant, Error> {
     let variants = EnumOf(variants! { unit, unit });
-    match variants.read(alloc, Deserializer::new(alloc, value?))? {
+    match variants.read(rt.alloc(), Deserializer::new(rt.alloc(), value))? {
         variant!(0, ()) => Ok(Variant::Unit(0)),
         variant!(1, ()) => Ok(Variant::Unit(1)),
         variant!(none 2, never) => match never {},
@@ -40,30 +39,34 @@ fn units(alloc: Global, value: Result<Value, Error>) -> Result<Variant, Error> {
 }
 
 // A unit variant and a tuple variant.
-fn two(alloc: Global, value: Result<Value, Error>) -> Result<Variant, Error> {
+fn two(rt: &HostRuntime, value: Value) -> Result<Variant, Error> {
     let variants = EnumOf(variants! { unit, named! { "0", "1" } });
-    match variants.read(alloc, Deserializer::new(alloc, value?))? {
+    match variants.read(rt.alloc(), Deserializer::new(rt.alloc(), value))? {
         variant!(0, ()) => Ok(Variant::Unit(0)),
         variant!(1, (number, (text, ()))) => Ok(Variant::Tuple(number, text)),
         variant!(none 2, never) => match never {},
     }
 }
 
-fn uint(alloc: Global, index: u32) -> Result<Value, Error> {
-    list(alloc, [Value::Uint(index)])
+// The list of an index.
+fn alone(rt: &HostRuntime, index: u32) -> Value {
+    list(rt, [Value::Uint(index)])
 }
 
-fn pair(alloc: Global, index: u32, content: Value) -> Result<Value, Error> {
-    list(alloc, [Value::Uint(index), content])
+// The list of an index and a content.
+fn pair(rt: &HostRuntime, index: u32, content: Value) -> Value {
+    list(rt, [Value::Uint(index), content])
 }
 
-fn entry(alloc: Global, index: u32, content: Value) -> Result<Value, Error> {
-    map(alloc, [(Value::Uint(index), content)])
+// The map of an index to a content.
+fn entry(rt: &HostRuntime, index: u32, content: Value) -> Value {
+    map(rt, [(Value::Uint(index), content)])
 }
 
-fn entries(alloc: Global, first: u32, second: u32) -> Result<Value, Error> {
+// The map of two indices to nulls.
+fn entries(rt: &HostRuntime, first: u32, second: u32) -> Value {
     map(
-        alloc,
+        rt,
         [
             (Value::Uint(first), Value::Null),
             (Value::Uint(second), Value::Null),
@@ -72,122 +75,142 @@ fn entries(alloc: Global, first: u32, second: u32) -> Result<Value, Error> {
 }
 
 // The fields of the struct variant.
-fn named_fields(alloc: Global) -> Result<Value, Error> {
-    list(alloc, [Value::Uint(13), Value::Bool(true)])
+fn named_fields(rt: &HostRuntime) -> Value {
+    list(rt, [Value::Uint(13), Value::Bool(true)])
 }
 
 // The fields of the tuple variant.
-fn fields(alloc: Global) -> Result<Value, Error> {
-    list(alloc, [Value::Int(13), string(alloc, "amqp")?])
+fn fields(rt: &HostRuntime) -> Value {
+    list(rt, [Value::Int(13), string(rt, "amqp")])
 }
 
-fn tuple(alloc: Global) -> Result<Variant, Error> {
-    Ok(Variant::Tuple(13, String::from_str(alloc, "amqp")?))
+fn tuple(rt: &HostRuntime) -> Variant {
+    Variant::Tuple(13, text(rt, "amqp"))
 }
 
 fn newtype_variants(rt: &HostRuntime) -> bool {
-    let a = rt.alloc();
     let missing = Error::Message("Expecting a value");
-    let more = list(a, [Value::Uint(1), Value::Ulong(13), Value::Null]);
-    let pair = pair(a, 1, Value::Ulong(13));
-    let entry = entry(a, 1, Value::Ulong(13));
-    fails(rt, "a list of an index", &four(a, uint(a, 1)), &missing)
-        && gives(rt, "a list of three", &four(a, more), &Variant::Newtype(13))
-        && gives(rt, "a list of two", &four(a, pair), &Variant::Newtype(13))
-        && gives(rt, "a map", &four(a, entry), &Variant::Newtype(13))
+    let three = list(rt, [Value::Uint(1), Value::Ulong(13), Value::Null]);
+    let pair = pair(rt, 1, Value::Ulong(13));
+    let entry = entry(rt, 1, Value::Ulong(13));
+    let expected = Variant::Newtype(13);
+    fails(
+        rt,
+        "newtype: a list of an index",
+        &four(rt, alone(rt, 1)),
+        &missing,
+    ) && gives(rt, "newtype: a list of three", &four(rt, three), &expected)
+        && gives(rt, "newtype: a list of two", &four(rt, pair), &expected)
+        && gives(rt, "newtype: a map", &four(rt, entry), &expected)
 }
 
 fn unit_variants(rt: &HostRuntime) -> bool {
-    let a = rt.alloc();
-    let entry = entry(a, 2, Value::Null);
-    gives(
-        rt,
-        "an index",
-        &four(a, Ok(Value::Uint(2))),
-        &Variant::Unit(2),
-    ) && gives(rt, "a map", &four(a, entry), &Variant::Unit(2))
+    let expected = Variant::Unit(2);
+    gives(rt, "unit: an index", &four(rt, Value::Uint(2)), &expected)
+        && gives(
+            rt,
+            "unit: a map",
+            &four(rt, entry(rt, 2, Value::Null)),
+            &expected,
+        )
 }
 
 fn a_unit_variant_is_its_index_or_a_map_of_it(rt: &HostRuntime) -> bool {
-    let a = rt.alloc();
     let empty = Error::Message("Expecting a Value");
-    let entry = entry(a, 1, Value::Null);
-    gives(
-        rt,
-        "an index",
-        &units(a, Ok(Value::Uint(1))),
-        &Variant::Unit(1),
-    ) && gives(rt, "a map", &units(a, entry), &Variant::Unit(1))
-        && invalid(rt, "a map of two", &units(a, entries(a, 0, 1)))
+    let expected = Variant::Unit(1);
+    gives(rt, "units: an index", &units(rt, Value::Uint(1)), &expected)
         && gives(
             rt,
-            "a list of an index",
-            &units(a, uint(a, 1)),
-            &Variant::Unit(1),
+            "units: a map",
+            &units(rt, entry(rt, 1, Value::Null)),
+            &expected,
         )
-        && fails(rt, "an empty list", &units(a, list(a, [])), &empty)
+        && invalid(rt, "units: a map of two", &units(rt, entries(rt, 0, 1)))
+        && gives(
+            rt,
+            "units: a list of an index",
+            &units(rt, alone(rt, 1)),
+            &expected,
+        )
+        && fails(rt, "units: an empty list", &units(rt, list(rt, [])), &empty)
 }
 
-fn struct_variants(rt: &HostRuntime) -> Result<bool, Error> {
-    let a = rt.alloc();
-    let listed = pair(a, 0, named_fields(a)?);
-    let entry = entry(a, 0, named_fields(a)?);
+fn struct_variants(rt: &HostRuntime) -> bool {
     let expected = Variant::Struct(13, true);
-    Ok(
-        gives(rt, "struct: a list", &four(a, listed), &expected)
-            && gives(rt, "struct: a map", &four(a, entry), &expected),
+    gives(
+        rt,
+        "struct: a list",
+        &four(rt, pair(rt, 0, named_fields(rt))),
+        &expected,
+    ) && gives(
+        rt,
+        "struct: a map",
+        &four(rt, entry(rt, 0, named_fields(rt))),
+        &expected,
     )
 }
 
-fn tuple_variants(rt: &HostRuntime) -> Result<bool, Error> {
-    let a = rt.alloc();
+fn tuple_variants(rt: &HostRuntime) -> bool {
     let missing = Error::Message("Expecting Value::List");
-    let other = pair(a, 3, Value::Int(5));
-    let listed = pair(a, 3, fields(a)?);
-    let entry = entry(a, 3, fields(a)?);
-    Ok(
-        fails(
-            rt,
-            "tuple: a list of an index",
-            &four(a, uint(a, 3)),
-            &missing,
-        ) && invalid(rt, "tuple: fields that are no list", &four(a, other))
-            && gives(rt, "tuple: a map", &four(a, entry), &tuple(a)?)
-            && gives(rt, "tuple: a list", &four(a, listed), &tuple(a)?),
+    fails(
+        rt,
+        "tuple: a list of an index",
+        &four(rt, alone(rt, 3)),
+        &missing,
+    ) && invalid(
+        rt,
+        "tuple: no fields",
+        &four(rt, pair(rt, 3, Value::Int(5))),
+    ) && gives(
+        rt,
+        "tuple: a map",
+        &four(rt, entry(rt, 3, fields(rt))),
+        &tuple(rt),
+    ) && gives(
+        rt,
+        "tuple: a list",
+        &four(rt, pair(rt, 3, fields(rt))),
+        &tuple(rt),
     )
 }
 
-fn a_tuple_variant_of_two(rt: &HostRuntime) -> Result<bool, Error> {
-    let a = rt.alloc();
+fn a_tuple_variant_of_two(rt: &HostRuntime) -> bool {
     let missing = Error::Message("Expecting Value::List");
-    let other = pair(a, 1, Value::Int(5));
-    let listed = pair(a, 1, fields(a)?);
-    let entry = entry(a, 1, fields(a)?);
-    Ok(
-        fails(
+    fails(
+        rt,
+        "two: a list of an index",
+        &two(rt, alone(rt, 1)),
+        &missing,
+    ) && invalid(rt, "two: no fields", &two(rt, pair(rt, 1, Value::Int(5))))
+        && gives(
             rt,
-            "of two: a list of an index",
-            &two(a, uint(a, 1)),
-            &missing,
-        ) && invalid(rt, "of two: fields that are no list", &two(a, other))
-            && gives(rt, "of two: a list", &two(a, listed), &tuple(a)?)
-            && gives(rt, "of two: a map", &two(a, entry), &tuple(a)?),
-    )
+            "two: a list",
+            &two(rt, pair(rt, 1, fields(rt))),
+            &tuple(rt),
+        )
+        && gives(
+            rt,
+            "two: a map",
+            &two(rt, entry(rt, 1, fields(rt))),
+            &tuple(rt),
+        )
 }
 
 fn what_is_no_variant(rt: &HostRuntime) -> bool {
-    let a = rt.alloc();
     let empty = Error::Message("Expecting a Value");
-    let two_pairs = entries(a, 2, 1);
     fails(
         rt,
         "no variant: an empty list",
-        &four(a, list(a, [])),
+        &four(rt, list(rt, [])),
         &empty,
-    ) && fails(rt, "no variant: an empty map", &four(a, map(a, [])), &empty)
-        && invalid(rt, "no variant: a map of two", &four(a, two_pairs))
-        && invalid(rt, "no variant: index 4", &four(a, Ok(Value::Uint(4))))
-        && invalid(rt, "no variant: null", &four(a, Ok(Value::Null)))
+    ) && fails(
+        rt,
+        "no variant: an empty map",
+        &four(rt, map(rt, [])),
+        &empty,
+    ) && invalid(rt, "no variant: a map of two", &four(rt, entries(rt, 2, 1)))
+        && invalid(rt, "no variant: index 4", &four(rt, Value::Uint(4)))
+        && invalid(rt, "no variant: null", &four(rt, Value::Null))
 }
 
 #[test]
@@ -195,8 +218,8 @@ fn variants(rt: HostRuntime) {
     assert!(rt; newtype_variants(&rt));
     assert!(rt; unit_variants(&rt));
     assert!(rt; a_unit_variant_is_its_index_or_a_map_of_it(&rt));
-    assert!(rt; matches!(struct_variants(&rt), Ok(true)));
-    assert!(rt; matches!(tuple_variants(&rt), Ok(true)));
-    assert!(rt; matches!(a_tuple_variant_of_two(&rt), Ok(true)));
+    assert!(rt; struct_variants(&rt));
+    assert!(rt; tuple_variants(&rt));
+    assert!(rt; a_tuple_variant_of_two(&rt));
     assert!(rt; what_is_no_variant(&rt));
 }

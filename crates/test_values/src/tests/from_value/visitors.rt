@@ -8,7 +8,7 @@ ghost use Rattle.amqp_de.specs.Fields.{There};
 ghost use Rattle.amqp_de.specs.Reads.{Always};
 
 use super::super::rows::{fails, gives, invalid, is};
-use super::super::values::{array, described, list, map, string, symbol};
+use super::super::values::{array, described, list, map, name, string, symbol};
 use super::{reads, refuses, variant_1};
 use amqp_data::{Descriptor, Error, Symbol};
 use amqp_de::de::{
@@ -19,7 +19,7 @@ use amqp_from_value::Deserializer;
 use amqp_value::Value;
 use std::alloc::Global;
 
-/// Two numbers, which stand in a list.
+/// Two numbers, which are elements of a list.
 #[derive(Debug, PartialEq, Drop)]
 struct Point {
     x: u32,
@@ -114,8 +114,8 @@ impl Visitor for LightVisitor {
     }
 }
 
-fn read_light(alloc: Global, value: Result<Value, Error>) -> Result<Light, Error> {
-    Deserializer::new(alloc, value?).deserialize_enum("Light", LightVisitor { alloc })
+fn read_light(alloc: Global, value: Value) -> Result<Light, Error> {
+    Deserializer::new(alloc, value).deserialize_enum("Light", LightVisitor { alloc })
 }
 
 /// Reads the name of a variant.
@@ -144,8 +144,8 @@ impl Visitor for NameVisitor {
     }
 }
 
-fn read_name(alloc: Global, value: Result<Value, Error>) -> Result<Symbol, Error> {
-    Deserializer::new(alloc, value?).deserialize_enum("Light", NameVisitor { alloc })
+fn read_name(alloc: Global, value: Value) -> Result<Symbol, Error> {
+    Deserializer::new(alloc, value).deserialize_enum("Light", NameVisitor { alloc })
 }
 
 /// Tells which visit it is shown a value by.
@@ -240,158 +240,179 @@ fn visits_none(
 }
 
 fn a_point_comes_from_a_list_of_two(rt: &HostRuntime) -> bool {
-    let alloc = rt.alloc();
-    let three = list(alloc, [Value::Uint(1), Value::Uint(2), Value::Null]);
-    let mixed = list(alloc, [Value::Uint(1), Value::Int(2)]);
-    reads(rt, "a list of three", three, &Point { x: 1, y: 2 })
-        && refuses::<Point>(rt, "a list of one", list(alloc, [Value::Uint(1)]))
-        && refuses::<Point>(rt, "a uint and an int", mixed)
-        && refuses::<Point>(rt, "null", Ok(Value::Null))
+    let three = list(rt, [Value::Uint(1), Value::Uint(2), Value::Null]);
+    let mixed = list(rt, [Value::Uint(1), Value::Int(2)]);
+    reads(rt, "Point: a list of three", three, &Point { x: 1, y: 2 })
+        && refuses::<Point>(rt, "Point: a list of one", list(rt, [Value::Uint(1)]))
+        && refuses::<Point>(rt, "Point: a uint and an int", mixed)
+        && refuses::<Point>(rt, "Point: null", Value::Null)
 }
 
 fn a_light_comes_from_its_index_or_a_list_or_a_map(rt: &HostRuntime) -> bool {
-    let alloc = rt.alloc();
+    let a = rt.alloc();
     let missing = Error::Message("Expecting a value");
-    let listed = list(alloc, [Value::Uint(1), Value::Uint(5)]);
-    let keyed = map(alloc, [(Value::Uint(1), Value::Uint(5))]);
-    let named = read_light(alloc, symbol(alloc, "k"));
+    let listed = list(rt, [Value::Uint(1), Value::Uint(5)]);
+    let keyed = map(rt, [(Value::Uint(1), Value::Uint(5))]);
     gives(
         rt,
-        "index 0",
-        &read_light(alloc, Ok(Value::Uint(0))),
+        "Light: index 0",
+        &read_light(a, Value::Uint(0)),
         &Light::Off,
     ) && fails(
         rt,
-        "index 1",
-        &read_light(alloc, Ok(Value::Uint(1))),
+        "Light: index 1",
+        &read_light(a, Value::Uint(1)),
         &missing,
-    ) && invalid(rt, "index 2", &read_light(alloc, Ok(Value::Uint(2))))
-        && gives(rt, "a list", &read_light(alloc, listed), &Light::On(5))
-        && gives(rt, "a map", &read_light(alloc, keyed), &Light::On(5))
-        && invalid(rt, "a symbol", &named)
+    ) && invalid(rt, "Light: index 2", &read_light(a, Value::Uint(2)))
+        && gives(rt, "Light: a list", &read_light(a, listed), &Light::On(5))
+        && gives(rt, "Light: a map", &read_light(a, keyed), &Light::On(5))
+        && invalid(rt, "Light: a symbol", &read_light(a, symbol(rt, "k")))
 }
 
-fn list_of_a_name(alloc: Global) -> Result<Value, Error> {
-    list(alloc, [symbol(alloc, "k")?, Value::Uint(5)])
+fn a_variant_may_be_named_by_a_symbol(rt: &HostRuntime) -> bool {
+    let a = rt.alloc();
+    let k = name(rt, "k");
+    let listed = list(rt, [symbol(rt, "k"), Value::Uint(5)]);
+    let keyed = map(rt, [(symbol(rt, "k"), Value::Uint(5))]);
+    gives(rt, "name: a symbol", &read_name(a, symbol(rt, "k")), &k)
+        && gives(rt, "name: a list", &read_name(a, listed), &k)
+        && gives(rt, "name: a map", &read_name(a, keyed), &k)
+        && invalid(rt, "name: a uint", &read_name(a, Value::Uint(0)))
+        && invalid(rt, "name: a string", &read_name(a, string(rt, "k")))
 }
 
-fn map_of_a_name(alloc: Global) -> Result<Value, Error> {
-    map(alloc, [(symbol(alloc, "k")?, Value::Uint(5))])
-}
-
-fn a_variant_may_be_named_by_a_symbol(rt: &HostRuntime) -> Result<bool, Error> {
-    let alloc = rt.alloc();
-    let k = Symbol::try_from_str(alloc, "k")?;
-    let text = read_name(alloc, string(alloc, "k"));
-    Ok(
-        gives(rt, "a symbol", &read_name(alloc, symbol(alloc, "k")), &k)
-            && gives(rt, "a list", &read_name(alloc, list_of_a_name(alloc)), &k)
-            && gives(rt, "a map", &read_name(alloc, map_of_a_name(alloc)), &k)
-            && invalid(rt, "a uint", &read_name(alloc, Ok(Value::Uint(0))))
-            && invalid(rt, "a string", &text),
-    )
-}
-
-fn any(alloc: Global, value: Result<Value, Error>) -> Result<Visit, Error> {
-    Deserializer::new(alloc, value?).deserialize_any(Which)
+fn any(rt: &HostRuntime, value: Value) -> Result<Visit, Error> {
+    of(rt, value).deserialize_any(Which)
 }
 
 fn values_are_shown_by_their_kind(rt: &HostRuntime) -> bool {
-    let alloc = rt.alloc();
-    let described = described(alloc, Descriptor::Code(0x13), Value::Null);
-    visits(rt, "null", any(alloc, Ok(Value::Null)), "plain")
-        && visits(rt, "a uint", any(alloc, Ok(Value::Uint(1))), "plain")
-        && visits(rt, "a symbol", any(alloc, symbol(alloc, "k")), "value")
-        && visits(rt, "a list", any(alloc, list(alloc, [])), "seq")
-        && visits(rt, "a map", any(alloc, map(alloc, [])), "map")
-        && visits(rt, "a described value", any(alloc, described), "described")
+    let described = described(rt, Descriptor::Code(0x13), Value::Null);
+    visits(rt, "any of null", any(rt, Value::Null), "plain")
+        && visits(rt, "any of a uint", any(rt, Value::Uint(1)), "plain")
+        && visits(rt, "any of a symbol", any(rt, symbol(rt, "k")), "value")
+        && visits(rt, "any of a list", any(rt, list(rt, [])), "seq")
+        && visits(rt, "any of a map", any(rt, map(rt, [])), "map")
+        && visits(
+            rt,
+            "any of a described value",
+            any(rt, described),
+            "described",
+        )
 }
 
-fn of(alloc: Global, value: Result<Value, Error>) -> Result<Deserializer, Error> {
-    Ok(Deserializer::new(alloc, value?))
+fn of(rt: &HostRuntime, value: Value) -> Deserializer {
+    Deserializer::new(rt.alloc(), value)
 }
 
-fn each_call_for_a_scalar_has_its_visit(rt: &HostRuntime) -> Result<bool, Error> {
-    let a = rt.alloc();
-    let null = of(a, Ok(Value::Null))?.deserialize_option(Which);
-    let some = of(a, Ok(Value::Int(1)))?.deserialize_option(Which);
-    let int = of(a, Ok(Value::Int(1)))?.deserialize_u32(Which);
-    let uint = of(a, Ok(Value::Uint(1)))?.deserialize_u32(Which);
-    let string = of(a, symbol(a, "k"))?.deserialize_string(Which);
-    let identifier = of(a, symbol(a, "k"))?.deserialize_identifier(Which);
-    let ignored = of(a, Ok(Value::Null))?.deserialize_ignored_any(Which);
-    let readable = of(a, Ok(Value::Null))?.is_human_readable();
-    Ok(
-        is(rt, "is_human_readable", &readable, &false)
-            && visits(rt, "option of null", null, "plain")
-            && visits(rt, "option of an int", some, "some")
-            && visits_none(rt, "u32 of an int", int, &Error::InvalidValue)
-            && visits(rt, "u32 of a uint", uint, "plain")
-            && visits_none(rt, "string of a symbol", string, &Error::InvalidValue)
-            && visits(rt, "identifier of a symbol", identifier, "plain")
-            && visits(rt, "ignored_any of null", ignored, "plain"),
-    )
+fn each_call_for_a_scalar_has_its_visit(rt: &HostRuntime) -> bool {
+    let null = of(rt, Value::Null).deserialize_option(Which);
+    let some = of(rt, Value::Int(1)).deserialize_option(Which);
+    let int = of(rt, Value::Int(1)).deserialize_u32(Which);
+    let uint = of(rt, Value::Uint(1)).deserialize_u32(Which);
+    let readable = of(rt, Value::Null).is_human_readable();
+    is(rt, "is_human_readable", &readable, &false)
+        && visits(rt, "option of null", null, "plain")
+        && visits(rt, "option of an int", some, "some")
+        && visits_none(rt, "u32 of an int", int, &Error::InvalidValue)
+        && visits(rt, "u32 of a uint", uint, "plain")
 }
 
-fn each_call_for_an_enum_has_its_visit(rt: &HostRuntime) -> Result<bool, Error> {
-    let a = rt.alloc();
+fn each_call_for_a_text_has_its_visit(rt: &HostRuntime) -> bool {
+    let string = of(rt, symbol(rt, "k")).deserialize_string(Which);
+    let identifier = of(rt, symbol(rt, "k")).deserialize_identifier(Which);
+    let ignored = of(rt, Value::Null).deserialize_ignored_any(Which);
+    visits_none(rt, "string of a symbol", string, &Error::InvalidValue)
+        && visits(rt, "identifier of a symbol", identifier, "plain")
+        && visits(rt, "ignored_any of null", ignored, "plain")
+}
+
+fn as_enum(rt: &HostRuntime, name: &'static str, value: Value) -> Result<Visit, Error> {
+    of(rt, value).deserialize_enum(name, Which)
+}
+
+fn each_call_for_an_enum_has_its_visit(rt: &HostRuntime) -> bool {
     let empty = Error::Message("Expecting a Value");
-    let array = array(a, [Value::Uint(1)]);
-    let symbol_enum = of(a, symbol(a, "k"))?.deserialize_enum("E", Which);
-    let value_enum = of(a, symbol(a, "k"))?.deserialize_enum("__VALUE", Which);
-    let array_enum = of(a, array)?.deserialize_enum("__ARRAY", Which);
-    let list_enum = of(a, list(a, []))?.deserialize_enum("__ARRAY", Which);
-    let empty_enum = of(a, list(a, []))?.deserialize_enum("E", Which);
-    Ok(
-        visits(rt, "enum of a symbol", symbol_enum, "enum")
-            && visits(rt, "__VALUE of a symbol", value_enum, "value")
-            && visits(rt, "__ARRAY of an array", array_enum, "seq")
-            && visits(rt, "__ARRAY of a list", list_enum, "plain")
-            && visits_none(rt, "enum of an empty list", empty_enum, &empty),
-    )
+    let array = as_enum(rt, "__ARRAY", array(rt, [Value::Uint(1)]));
+    visits(
+        rt,
+        "enum of a symbol",
+        as_enum(rt, "E", symbol(rt, "k")),
+        "enum",
+    ) && visits(
+        rt,
+        "__VALUE of a symbol",
+        as_enum(rt, "__VALUE", symbol(rt, "k")),
+        "value",
+    ) && visits(rt, "__ARRAY of an array", array, "seq")
+        && visits(
+            rt,
+            "__ARRAY of a list",
+            as_enum(rt, "__ARRAY", list(rt, [])),
+            "plain",
+        )
+        && visits_none(
+            rt,
+            "enum of an empty list",
+            as_enum(rt, "E", list(rt, [])),
+            &empty,
+        )
 }
 
-fn each_call_for_a_struct_has_its_visit(rt: &HostRuntime) -> Result<bool, Error> {
-    let a = rt.alloc();
-    let lazy = of(a, Ok(Value::Null))?.deserialize_newtype_struct("__LAZY_VALUE", Which);
-    let list_struct = of(a, list(a, []))?.deserialize_struct("S", Which);
-    let composite = of(a, list(a, []))?.deserialize_struct("__DESCRIBED_LIST", Which);
-    Ok(
-        visits(rt, "__LAZY_VALUE of null", lazy, "plain")
-            && visits(rt, "struct of a list", list_struct, "seq")
-            && visits_none(
-                rt,
-                "__DESCRIBED_LIST of a list",
-                composite,
-                &Error::InvalidValue,
-            ),
-    )
+fn as_struct(rt: &HostRuntime, name: &'static str, value: Value) -> Result<Visit, Error> {
+    of(rt, value).deserialize_struct(name, Which)
 }
 
-fn without_fields(alloc: Global) -> Result<Point, Error> {
-    variant_1(alloc, None)?.tuple_variant(PointVisitor { alloc })
+fn each_call_for_a_struct_has_its_visit(rt: &HostRuntime) -> bool {
+    let lazy = of(rt, Value::Null).deserialize_newtype_struct("__LAZY_VALUE", Which);
+    let composite = as_struct(rt, "__DESCRIBED_LIST", list(rt, []));
+    visits(rt, "__LAZY_VALUE of null", lazy, "plain")
+        && visits(
+            rt,
+            "struct of a list",
+            as_struct(rt, "S", list(rt, [])),
+            "seq",
+        )
+        && visits_none(
+            rt,
+            "__DESCRIBED_LIST of a list",
+            composite,
+            &Error::InvalidValue,
+        )
 }
 
-fn with_fields(alloc: Global) -> Result<Point, Error> {
-    let fields = list(alloc, [Value::Uint(1), Value::Uint(2)])?;
-    variant_1(alloc, Some(fields))?.struct_variant(PointVisitor { alloc })
+fn without_fields(rt: &HostRuntime) -> Result<Point, Error> {
+    variant_1(rt, None)?.tuple_variant(PointVisitor { alloc: rt.alloc() })
+}
+
+fn with_fields(rt: &HostRuntime) -> Result<Point, Error> {
+    let fields = list(rt, [Value::Uint(1), Value::Uint(2)]);
+    variant_1(rt, Some(fields))?.struct_variant(PointVisitor { alloc: rt.alloc() })
 }
 
 fn a_variant_of_fields_is_a_list(rt: &HostRuntime) -> bool {
-    let alloc = rt.alloc();
     let missing = Error::Message("Expecting Value::List");
-    fails(rt, "no fields", &without_fields(alloc), &missing)
-        && gives(rt, "two fields", &with_fields(alloc), &Point { x: 1, y: 2 })
+    fails(
+        rt,
+        "a variant with no fields",
+        &without_fields(rt),
+        &missing,
+    ) && gives(
+        rt,
+        "a variant with two fields",
+        &with_fields(rt),
+        &Point { x: 1, y: 2 },
+    )
 }
 
 #[test]
 fn visitors(rt: HostRuntime) {
     assert!(rt; a_point_comes_from_a_list_of_two(&rt));
     assert!(rt; a_light_comes_from_its_index_or_a_list_or_a_map(&rt));
-    assert!(rt; matches!(a_variant_may_be_named_by_a_symbol(&rt), Ok(true)));
+    assert!(rt; a_variant_may_be_named_by_a_symbol(&rt));
     assert!(rt; values_are_shown_by_their_kind(&rt));
-    assert!(rt; matches!(each_call_for_a_scalar_has_its_visit(&rt), Ok(true)));
-    assert!(rt; matches!(each_call_for_an_enum_has_its_visit(&rt), Ok(true)));
-    assert!(rt; matches!(each_call_for_a_struct_has_its_visit(&rt), Ok(true)));
+    assert!(rt; each_call_for_a_scalar_has_its_visit(&rt));
+    assert!(rt; each_call_for_a_text_has_its_visit(&rt));
+    assert!(rt; each_call_for_an_enum_has_its_visit(&rt));
+    assert!(rt; each_call_for_a_struct_has_its_visit(&rt));
     assert!(rt; a_variant_of_fields_is_a_list(&rt));
 }

@@ -1,13 +1,11 @@
 //! Conversions of scalars, lists and arrays, both ways, and of values that do not fit.
 
-use super::super::rows::is;
-use super::super::values::{array, described, list, string, strings};
+use super::super::rows::{gives, is};
+use super::super::values::{array, bytes, described, list, name, string, text, vec_of};
 use amqp_data::{
-    Array, ByteBuf, Dec32, Dec64, Dec128, Described, Descriptor, Error, F32Bits, F64Bits, Symbol,
-    Timestamp, Uuid,
+    Array, Dec32, Dec64, Dec128, Described, Descriptor, F32Bits, F64Bits, Symbol, Timestamp, Uuid,
 };
 use amqp_value::{ConvertFault, Value};
-use std::alloc::Global;
 use std::fmt::Debug;
 
 // Whether the number is converted to this value, and the value to the number.
@@ -73,25 +71,10 @@ fn types_of_fixed_width_go_both_ways(rt: &HostRuntime) -> bool {
         && fixed_width(rt, "Uuid", Uuid::from([6; 16]))
 }
 
-fn binary(alloc: Global) -> Result<ByteBuf, Error> {
-    Ok(ByteBuf::from([5].to_vec(alloc)?))
-}
-
-fn text(alloc: Global) -> Result<String, Error> {
-    Ok(String::from_str(alloc, "b")?)
-}
-
-fn symbol(alloc: Global) -> Result<Symbol, Error> {
-    Symbol::try_from_str(alloc, "a")
-}
-
-fn types_of_variable_width_go_both_ways(rt: &HostRuntime) -> Result<bool, Error> {
-    let alloc = rt.alloc();
-    Ok(
-        returns(rt, "ByteBuf", binary(alloc)?, binary(alloc)?)
-            && returns(rt, "String", text(alloc)?, text(alloc)?)
-            && returns(rt, "Symbol", symbol(alloc)?, symbol(alloc)?),
-    )
+fn types_of_variable_width_go_both_ways(rt: &HostRuntime) -> bool {
+    returns(rt, "ByteBuf", bytes(rt, [5]), bytes(rt, [5]))
+        && returns(rt, "String", text(rt, "b"), text(rt, "b"))
+        && returns(rt, "Symbol", name(rt, "a"), name(rt, "a"))
 }
 
 // Whether a value is no `T`, and comes back as it was.
@@ -104,46 +87,44 @@ fn unfit<T: TryFrom<Value, Error = Value> + Debug + PartialEq + Drop>(
     is(rt, name, &T::try_from(value), &Err(expected))
 }
 
-fn another_variant_comes_back_as_it_was(rt: &HostRuntime) -> Result<bool, Error> {
-    let alloc = rt.alloc();
-    let (text, expected) = (string(alloc, "a")?, string(alloc, "a")?);
-    let (name, expected_name) = (string(alloc, "a")?, string(alloc, "a")?);
-    Ok(
-        unfit::<u8>(rt, "u8 of a string", text, expected)
-            && unfit::<u8>(rt, "u8 of a ushort", Value::Ushort(1), Value::Ushort(1))
-            && unfit::<Symbol>(rt, "Symbol of a string", name, expected_name),
-    )
-}
-
-fn from_described(alloc: Global) -> Result<Value, Error> {
-    let inner = Described {
-        descriptor: Descriptor::from(1u64),
-        value: true,
-    };
-    Value::try_from_described(alloc, inner)
-}
-
-fn from_vec(alloc: Global) -> Result<Value, Error> {
-    Value::try_from_vec(alloc, vec![in alloc; 1u8, 2u8]?)
-}
-
-fn from_array(alloc: Global) -> Result<Value, Error> {
-    Value::try_from_array(alloc, Array::from(vec![in alloc; 1u8, 2u8]?))
+fn another_variant_comes_back_as_it_was(rt: &HostRuntime) -> bool {
+    unfit::<u8>(rt, "u8 of a string", string(rt, "a"), string(rt, "a"))
+        && unfit::<u8>(rt, "u8 of a ushort", Value::Ushort(1), Value::Ushort(1))
+        && unfit::<Symbol>(rt, "Symbol of a string", string(rt, "a"), string(rt, "a"))
 }
 
 fn containers_are_made_of_their_parts(rt: &HostRuntime) -> bool {
     let alloc = rt.alloc();
-    let expected = described(alloc, Descriptor::from(1u64), Value::Bool(true));
-    let listed = list(alloc, [Value::Ubyte(1), Value::Ubyte(2)]);
-    let arrayed = array(alloc, [Value::Ubyte(1), Value::Ubyte(2)]);
-    is(
+    let inner = Described {
+        descriptor: Descriptor::from(1u64),
+        value: true,
+    };
+    let numbers = vec_of(rt, [1u8, 2u8]);
+    let elements = Array::from(vec_of(rt, [1u8, 2u8]));
+    let expected = described(rt, Descriptor::from(1u64), Value::Bool(true));
+    let listed = list(rt, [Value::Ubyte(1), Value::Ubyte(2)]);
+    let arrayed = array(rt, [Value::Ubyte(1), Value::Ubyte(2)]);
+    gives(
         rt,
-        "from str",
+        "of a str",
         &Value::try_from_str(alloc, "a"),
-        &string(alloc, "a"),
-    ) && is(rt, "from Described", &from_described(alloc), &expected)
-        && is(rt, "from Vec", &from_vec(alloc), &listed)
-        && is(rt, "from Array", &from_array(alloc), &arrayed)
+        &string(rt, "a"),
+    ) && gives(
+        rt,
+        "of a Described",
+        &Value::try_from_described(alloc, inner),
+        &expected,
+    ) && gives(
+        rt,
+        "of a Vec",
+        &Value::try_from_vec(alloc, numbers),
+        &listed,
+    ) && gives(
+        rt,
+        "of an Array",
+        &Value::try_from_array(alloc, elements),
+        &arrayed,
+    )
 }
 
 // Whether a conversion of a compound value has this result.
@@ -156,32 +137,30 @@ fn becomes<T: TryFrom<Value, Error = ConvertFault> + Debug + PartialEq + Drop>(
     is(rt, name, &T::try_from(value), &expected)
 }
 
-fn lists_and_arrays_are_converted(rt: &HostRuntime) -> Result<bool, Error> {
-    let alloc = rt.alloc();
-    let listed = list(alloc, [Value::Ubyte(1), Value::Ubyte(2)])?;
-    let expected = vec![in alloc; 1u8, 2u8]?;
-    let arrayed = array(alloc, [Value::Ubyte(1)])?;
-    let expected_array = Array::from(vec![in alloc; 1u8]?);
-    let none = Vec::<String>::new(alloc);
-    Ok(
-        becomes(rt, "Vec of a list", listed, Ok(expected))
-            && becomes(rt, "Array of an array", arrayed, Ok(expected_array))
-            && becomes(rt, "Vec of an empty list", strings(alloc, &[])?, Ok(none)),
-    )
+fn lists_and_arrays_are_converted(rt: &HostRuntime) -> bool {
+    let listed = list(rt, [Value::Ubyte(1), Value::Ubyte(2)]);
+    let expected = vec_of(rt, [1u8, 2u8]);
+    let elements = Array::from(vec_of(rt, [1u8]));
+    let none = Vec::<String>::new(rt.alloc());
+    becomes(rt, "Vec of a list", listed, Ok(expected))
+        && becomes(
+            rt,
+            "Array of an array",
+            array(rt, [Value::Ubyte(1)]),
+            Ok(elements),
+        )
+        && becomes(rt, "Vec of an empty list", list(rt, []), Ok(none))
 }
 
-fn what_does_not_fit_comes_back(rt: &HostRuntime) -> Result<bool, Error> {
-    let alloc = rt.alloc();
-    let mixed = list(alloc, [Value::Ubyte(1), Value::Int(2), Value::Null])?;
+fn what_does_not_fit_comes_back(rt: &HostRuntime) -> bool {
+    let mixed = list(rt, [Value::Ubyte(1), Value::Int(2), Value::Null]);
+    let arrayed = array(rt, [Value::Ubyte(1)]);
     let int = ConvertFault::Unfit(Value::Int(2));
-    let arrayed = array(alloc, [Value::Ubyte(1)])?;
-    let other = ConvertFault::Unfit(array(alloc, [Value::Ubyte(1)])?);
+    let same = ConvertFault::Unfit(array(rt, [Value::Ubyte(1)]));
     let null = ConvertFault::Unfit(Value::Null);
-    Ok(
-        becomes::<Vec<u8>>(rt, "Vec of a mixed list", mixed, Err(int))
-            && becomes::<Vec<u8>>(rt, "Vec of an array", arrayed, Err(other))
-            && becomes::<Array<u8>>(rt, "Array of null", Value::Null, Err(null)),
-    )
+    becomes::<Vec<u8>>(rt, "Vec of a mixed list", mixed, Err(int))
+        && becomes::<Vec<u8>>(rt, "Vec of an array", arrayed, Err(same))
+        && becomes::<Array<u8>>(rt, "Array of null", Value::Null, Err(null))
 }
 
 #[test]
@@ -189,9 +168,9 @@ fn conversions(rt: HostRuntime) {
     assert!(rt; unsigned_numbers_go_both_ways(&rt));
     assert!(rt; signed_numbers_go_both_ways(&rt));
     assert!(rt; types_of_fixed_width_go_both_ways(&rt));
-    assert!(rt; matches!(types_of_variable_width_go_both_ways(&rt), Ok(true)));
-    assert!(rt; matches!(another_variant_comes_back_as_it_was(&rt), Ok(true)));
+    assert!(rt; types_of_variable_width_go_both_ways(&rt));
+    assert!(rt; another_variant_comes_back_as_it_was(&rt));
     assert!(rt; containers_are_made_of_their_parts(&rt));
-    assert!(rt; matches!(lists_and_arrays_are_converted(&rt), Ok(true)));
-    assert!(rt; matches!(what_does_not_fit_comes_back(&rt), Ok(true)));
+    assert!(rt; lists_and_arrays_are_converted(&rt));
+    assert!(rt; what_does_not_fit_comes_back(&rt));
 }

@@ -1,11 +1,10 @@
 //! Conversions of maps, both ways, and of values that do not fit.
 
-use super::super::rows::{is, wrong};
+use super::super::rows::{gives, is, wrong};
 use super::super::values::{map, string};
 use amqp_data::{Error, OrderedMap};
 use amqp_value::{ConvertFault, Value};
 use indexmap::IndexMap;
-use std::alloc::Global;
 use std::collections::{BTreeMap, HashMap};
 use std::fmt::Debug;
 
@@ -34,86 +33,74 @@ impl From<Alike> for Value {
     }
 }
 
-fn from_sorted(alloc: Global) -> Result<Value, Error> {
-    let mut sorted = BTreeMap::new(alloc);
-    drop(sorted.insert(1u8, true)?);
-    Value::try_from_btree_map(alloc, sorted)
+fn from_sorted(rt: &HostRuntime) -> Result<Value, Error> {
+    let mut sorted = BTreeMap::new(rt.alloc());
+    drop(sorted.insert(1u8, true));
+    Value::try_from_btree_map(rt.alloc(), sorted)
 }
 
-fn from_ordered(alloc: Global) -> Result<Value, Error> {
-    let mut pairs = OrderedMap::new(alloc);
-    drop(pairs.insert(9u8, 'a')?);
-    drop(pairs.insert(3u8, 'b')?);
-    Value::try_from_ordered_map(alloc, pairs)
+fn from_ordered(rt: &HostRuntime) -> Result<Value, Error> {
+    let mut pairs = OrderedMap::new(rt.alloc());
+    drop(pairs.insert(9u8, 'a'));
+    drop(pairs.insert(3u8, 'b'));
+    Value::try_from_ordered_map(rt.alloc(), pairs)
 }
 
-fn from_alike(alloc: Global) -> Result<Value, Error> {
-    let mut alike = BTreeMap::new(alloc);
-    drop(alike.insert(Alike(1), 'a')?);
-    drop(alike.insert(Alike(2), 'b')?);
-    Value::try_from_btree_map(alloc, alike)
+fn from_alike(rt: &HostRuntime) -> Result<Value, Error> {
+    let mut alike = BTreeMap::new(rt.alloc());
+    drop(alike.insert(Alike(1), 'a'));
+    drop(alike.insert(Alike(2), 'b'));
+    Value::try_from_btree_map(rt.alloc(), alike)
 }
 
 fn maps_are_made_of_their_pairs(rt: &HostRuntime) -> bool {
-    let alloc = rt.alloc();
-    let one = map(alloc, [(Value::Ubyte(1), Value::Bool(true))]);
+    let one = map(rt, [(Value::Ubyte(1), Value::Bool(true))]);
     let two = map(
-        alloc,
+        rt,
         [
             (Value::Ubyte(9), Value::Char('a')),
             (Value::Ubyte(3), Value::Char('b')),
         ],
     );
-    let last = map(alloc, [(Value::Null, Value::Char('b'))]);
-    is(rt, "from BTreeMap", &from_sorted(alloc), &one)
-        && is(rt, "from OrderedMap", &from_ordered(alloc), &two)
-        && is(rt, "of keys that are one value", &from_alike(alloc), &last)
+    let last = map(rt, [(Value::Null, Value::Char('b'))]);
+    gives(rt, "of a BTreeMap", &from_sorted(rt), &one)
+        && gives(rt, "of an OrderedMap", &from_ordered(rt), &two)
+        && gives(rt, "of keys that are one value", &from_alike(rt), &last)
 }
 
 // Whether the value or one of its parts does not fit, and comes back.
 fn unfit<T: TryFrom<Value, Error = ConvertFault> + Debug + Drop>(
     rt: &HostRuntime,
     name: &str,
-    value: Result<Value, Error>,
+    value: Value,
     expected: Value,
 ) -> bool {
-    match value {
-        Ok(value) => match T::try_from(value) {
-            Ok(map) => wrong(rt, name, &map),
-            Err(fault) => is(rt, name, &fault, &ConvertFault::Unfit(expected)),
-        },
-        Err(error) => wrong(rt, name, &error),
+    match T::try_from(value) {
+        Ok(map) => wrong(rt, name, &map),
+        Err(fault) => is(rt, name, &fault, &ConvertFault::Unfit(expected)),
     }
 }
 
-fn int_to_string(alloc: Global) -> Result<Value, Error> {
-    map(alloc, [(Value::Int(1), string(alloc, "x")?)])
-}
-
-fn a_key_is_found_unfit_before_its_value(rt: &HostRuntime) -> Result<bool, Error> {
-    let alloc = rt.alloc();
-    let second = map(
-        alloc,
+fn a_key_is_found_unfit_before_its_value(rt: &HostRuntime) -> bool {
+    let int_key = map(rt, [(Value::Int(1), string(rt, "x"))]);
+    let null_value = map(
+        rt,
         [
             (Value::Ubyte(1), Value::Ubyte(5)),
             (Value::Ubyte(2), Value::Null),
         ],
     );
-    let text = string(alloc, "a");
-    let expected = string(alloc, "a")?;
     let truth = Value::Bool(true);
-    Ok(
-        unfit::<BTreeMap<String, u8>>(rt, "a key", int_to_string(alloc), Value::Int(1))
-            && unfit::<OrderedMap<u8, u8>>(rt, "a second value", second, Value::Null)
-            && unfit::<HashMap<u8, u8>>(rt, "HashMap of true", Ok(Value::Bool(true)), truth)
-            && unfit::<IndexMap<u8, u8>>(rt, "IndexMap of a string", text, expected),
-    )
+    unfit::<BTreeMap<String, u8>>(rt, "BTreeMap: a key", int_key, Value::Int(1))
+        && unfit::<OrderedMap<u8, u8>>(rt, "OrderedMap: a value", null_value, Value::Null)
+        && unfit::<HashMap<u8, u8>>(rt, "HashMap of true", truth, Value::Bool(true))
+        && unfit::<IndexMap<u8, u8>>(rt, "IndexMap of a string", string(rt, "a"), string(rt, "a"))
 }
 
 // Two keys that are equal in their low four bits.
-fn clashing(alloc: Global) -> Result<Value, Error> {
+fn clashing(rt: &HostRuntime) -> Value {
     map(
-        alloc,
+        rt,
         [
             (Value::Ubyte(1), Value::Ubyte(5)),
             (Value::Ubyte(17), Value::Ubyte(6)),
@@ -126,47 +113,41 @@ fn is_last(rt: &HostRuntime, name: &str, length: usize, value: Option<&u8>) -> b
     is(rt, name, &length, &1) && is(rt, name, &value, &Some(&6))
 }
 
-fn the_last_of_equal_keys_has_its_value_kept(rt: &HostRuntime) -> Result<bool, Error> {
-    let a = rt.alloc();
-    Ok(
-        is_last_ordered(rt, clashing(a)?)
-            && is_last_sorted(rt, clashing(a)?)
-            && is_last_indexed(rt, clashing(a)?)
-            && is_last_hashed(rt, clashing(a)?),
-    )
-}
-
-fn is_last_ordered(rt: &HostRuntime, value: Value) -> bool {
-    match OrderedMap::<LowBits, u8>::try_from(value) {
+fn is_last_ordered(rt: &HostRuntime) -> bool {
+    match OrderedMap::<LowBits, u8>::try_from(clashing(rt)) {
         Ok(map) => is_last(rt, "OrderedMap", map.len(), map.get(&LowBits(1))),
         Err(fault) => wrong(rt, "OrderedMap", &fault),
     }
 }
 
-fn is_last_sorted(rt: &HostRuntime, value: Value) -> bool {
-    match BTreeMap::<LowBits, u8>::try_from(value) {
+fn is_last_sorted(rt: &HostRuntime) -> bool {
+    match BTreeMap::<LowBits, u8>::try_from(clashing(rt)) {
         Ok(map) => is_last(rt, "BTreeMap", map.len(), map.get(&LowBits(1))),
         Err(fault) => wrong(rt, "BTreeMap", &fault),
     }
 }
 
-fn is_last_indexed(rt: &HostRuntime, value: Value) -> bool {
-    match IndexMap::<LowBits, u8>::try_from(value) {
+fn is_last_indexed(rt: &HostRuntime) -> bool {
+    match IndexMap::<LowBits, u8>::try_from(clashing(rt)) {
         Ok(map) => is_last(rt, "IndexMap", map.len(), map.get(&LowBits(1))),
         Err(fault) => wrong(rt, "IndexMap", &fault),
     }
 }
 
-fn is_last_hashed(rt: &HostRuntime, value: Value) -> bool {
-    match HashMap::<LowBits, u8>::try_from(value) {
+fn is_last_hashed(rt: &HostRuntime) -> bool {
+    match HashMap::<LowBits, u8>::try_from(clashing(rt)) {
         Ok(map) => is_last(rt, "HashMap", map.len(), map.get(&LowBits(1))),
         Err(fault) => wrong(rt, "HashMap", &fault),
     }
 }
 
+fn the_last_of_equal_keys_has_its_value_kept(rt: &HostRuntime) -> bool {
+    is_last_ordered(rt) && is_last_sorted(rt) && is_last_indexed(rt) && is_last_hashed(rt)
+}
+
 #[test]
 fn maps(rt: HostRuntime) {
     assert!(rt; maps_are_made_of_their_pairs(&rt));
-    assert!(rt; matches!(a_key_is_found_unfit_before_its_value(&rt), Ok(true)));
-    assert!(rt; matches!(the_last_of_equal_keys_has_its_value_kept(&rt), Ok(true)));
+    assert!(rt; a_key_is_found_unfit_before_its_value(&rt));
+    assert!(rt; the_last_of_equal_keys_has_its_value_kept(&rt));
 }

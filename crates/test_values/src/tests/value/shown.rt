@@ -1,87 +1,75 @@
 //! Values and their texts, each through `Display` into a string.
 
-use super::super::rows::{gives, is};
-use super::super::values::{array, described, list, map, string, strings, symbol};
-use amqp_data::{
-    ByteBuf, Dec32, Dec64, Dec128, Descriptor, Error, F32Bits, F64Bits, OrderedMap, Symbol,
-    Timestamp, Uuid,
-};
+use super::super::rows::{is, wrong};
+use super::super::values::{array, bytes, described, list, map, name, string, symbol, vec_of};
+use amqp_data::{Dec32, Dec64, Dec128, Descriptor, F32Bits, F64Bits, OrderedMap, Timestamp, Uuid};
 use amqp_value::Value;
-use std::alloc::Global;
-use std::fmt::Display;
+use std::fmt::{Debug, Display};
 
-// Whether the value has this text by `format!` and by `to_string`. The text is the row's name.
-fn shows(rt: &HostRuntime, value: Result<Value, Error>, shown: &str) -> bool {
-    match value {
-        Ok(value) => prints(rt, &value, shown),
-        Err(error) => gives(rt, shown, &Err(error), &shown),
+fn is_text<E: Debug + Drop>(rt: &HostRuntime, shown: &str, got: Result<String, E>) -> bool {
+    match got {
+        Ok(text) => is(rt, shown, &text.as_str(), &shown),
+        Err(error) => wrong(rt, shown, &error),
     }
 }
 
-fn prints<T: Display>(rt: &HostRuntime, value: &T, shown: &str) -> bool {
-    match (
-        format!(in rt.alloc(); "{value}"),
-        value.to_string(rt.alloc()),
-    ) {
-        (Ok(formatted), Ok(text)) => {
-            is(rt, shown, &formatted.as_str(), &shown) && is(rt, shown, &text.as_str(), &shown)
-        }
-        _ => gives(rt, shown, &Err(Error::OutOfMemory), &shown),
-    }
+// Whether the value has this text by `format!` and by `to_string`. The text is the row's name.
+fn shows<T: Display + Drop>(rt: &HostRuntime, value: T, shown: &str) -> bool {
+    is_text(rt, shown, format!(in rt.alloc(); "{value}"))
+        && is_text(rt, shown, value.to_string(rt.alloc()))
 }
 
 fn strings_are_quoted_and_escaped(rt: &HostRuntime) -> bool {
-    let a = rt.alloc();
-    shows(rt, string(a, ""), "\"\"")
-        && shows(rt, string(a, "a\"b"), "\"a\\\"b\"")
-        && shows(rt, string(a, "a\"b\\"), "\"a\\\"b\\\\\"")
-        && shows(rt, string(a, "'"), "\"'\"")
-        && shows(rt, string(a, "\0\t\n\r"), "\"\\0\\t\\n\\r\"")
-        && shows(rt, string(a, "\x01\x7f"), "\"\\u{1}\\u{7f}\"")
+    shows(rt, string(rt, ""), "\"\"")
+        && shows(rt, string(rt, "a\"b"), "\"a\\\"b\"")
+        && shows(rt, string(rt, "a\"b\\"), "\"a\\\"b\\\\\"")
+        && shows(rt, string(rt, "'"), "\"'\"")
+        && shows(rt, string(rt, "\0\t\n\r"), "\"\\0\\t\\n\\r\"")
+        && shows(rt, string(rt, "\x01\x7f"), "\"\\u{1}\\u{7f}\"")
         && shows(
             rt,
-            string(a, "\x01\x0b\x1f \x7f"),
+            string(rt, "\x01\x0b\x1f \x7f"),
             "\"\\u{1}\\u{b}\\u{1f} \\u{7f}\"",
         )
-        && shows(rt, string(a, "it's ~"), "\"it's ~\"")
+        && shows(rt, string(rt, "it's ~"), "\"it's ~\"")
         && shows(
             rt,
-            string(a, "\u{80}\u{e9}\u{20ac}\u{1f600}"),
+            string(rt, "\u{80}\u{e9}\u{20ac}\u{1f600}"),
             "\"\u{80}\u{e9}\u{20ac}\u{1f600}\"",
         )
 }
 
 fn characters_are_quoted_and_escaped(rt: &HostRuntime) -> bool {
-    shows(rt, Ok(Value::Char('a')), "'a'")
-        && shows(rt, Ok(Value::Char('\'')), "'\\''")
-        && shows(rt, Ok(Value::Char('"')), "'\"'")
-        && shows(rt, Ok(Value::Char('\\')), "'\\\\'")
-        && shows(rt, Ok(Value::Char('\0')), "'\\0'")
-        && shows(rt, Ok(Value::Char('\n')), "'\\n'")
-        && shows(rt, Ok(Value::Char('\x1b')), "'\\u{1b}'")
-        && shows(rt, Ok(Value::Char('\x7f')), "'\\u{7f}'")
-        && shows(rt, Ok(Value::Char('\u{e9}')), "'\u{e9}'")
-        && shows(rt, Ok(Value::Char('\u{10ffff}')), "'\u{10ffff}'")
+    shows(rt, Value::Char('a'), "'a'")
+        && shows(rt, Value::Char('\''), "'\\''")
+        && shows(rt, Value::Char('"'), "'\"'")
+        && shows(rt, Value::Char('\\'), "'\\\\'")
+        && shows(rt, Value::Char('\0'), "'\\0'")
+        && shows(rt, Value::Char('\n'), "'\\n'")
+        && shows(rt, Value::Char('\x1b'), "'\\u{1b}'")
+        && shows(rt, Value::Char('\x7f'), "'\\u{7f}'")
+        && shows(rt, Value::Char('\u{e9}'), "'\u{e9}'")
+        && shows(rt, Value::Char('\u{10ffff}'), "'\u{10ffff}'")
 }
 
 fn numbers_are_decimal(rt: &HostRuntime) -> bool {
-    shows(rt, Ok(Value::Null), "null")
-        && shows(rt, Ok(Value::Bool(true)), "true")
-        && shows(rt, Ok(Value::Bool(false)), "false")
-        && shows(rt, Ok(Value::Ubyte(255)), "255")
-        && shows(rt, Ok(Value::Ushort(65_535)), "65535")
-        && shows(rt, Ok(Value::Uint(4_294_967_295)), "4294967295")
-        && shows(rt, Ok(Value::Ulong(u64::MAX)), "18446744073709551615")
-        && shows(rt, Ok(Value::Ulong(0)), "0")
-        && shows(rt, Ok(Value::Byte(-128)), "-128")
-        && shows(rt, Ok(Value::Short(-32_768)), "-32768")
-        && shows(rt, Ok(Value::Int(i32::MIN)), "-2147483648")
-        && shows(rt, Ok(Value::Long(i64::MIN)), "-9223372036854775808")
-        && shows(rt, Ok(Value::Long(7)), "7")
+    shows(rt, Value::Null, "null")
+        && shows(rt, Value::Bool(true), "true")
+        && shows(rt, Value::Bool(false), "false")
+        && shows(rt, Value::Ubyte(255), "255")
+        && shows(rt, Value::Ushort(65_535), "65535")
+        && shows(rt, Value::Uint(4_294_967_295), "4294967295")
+        && shows(rt, Value::Ulong(u64::MAX), "18446744073709551615")
+        && shows(rt, Value::Ulong(0), "0")
+        && shows(rt, Value::Byte(-128), "-128")
+        && shows(rt, Value::Short(-32_768), "-32768")
+        && shows(rt, Value::Int(i32::MIN), "-2147483648")
+        && shows(rt, Value::Long(i64::MIN), "-9223372036854775808")
+        && shows(rt, Value::Long(7), "7")
 }
 
-fn binary(alloc: Global, bytes: &[u8]) -> Result<Value, Error> {
-    Ok(Value::Binary(ByteBuf::from(bytes.to_vec(alloc)?)))
+fn binary<const N: usize>(rt: &HostRuntime, content: [u8; N]) -> Value {
+    Value::Binary(bytes(rt, content))
 }
 
 fn bytes_are_hexadecimal(rt: &HostRuntime) -> bool {
@@ -90,18 +78,18 @@ fn bytes_are_hexadecimal(rt: &HostRuntime) -> bool {
     let decimal32 = Value::Decimal32(Dec32::from([1, 2, 3, 4]));
     let decimal64 = Value::Decimal64(Dec64::from([0xab; 8]));
     let decimal128 = Value::Decimal128(Dec128::from([0x10; 16]));
-    shows(rt, Ok(float), "0x[3fc00000]")
-        && shows(rt, Ok(double), "0x[0000000000000001]")
-        && shows(rt, Ok(decimal32), "0x[01020304]")
-        && shows(rt, Ok(decimal64), "0x[abababababababab]")
-        && shows(rt, Ok(decimal128), "0x[10101010101010101010101010101010]")
-        && shows(rt, binary(rt.alloc(), &[0x00, 0x9a, 0xff]), "0x[009aff]")
-        && shows(rt, binary(rt.alloc(), &[]), "0x[]")
+    shows(rt, float, "0x[3fc00000]")
+        && shows(rt, double, "0x[0000000000000001]")
+        && shows(rt, decimal32, "0x[01020304]")
+        && shows(rt, decimal64, "0x[abababababababab]")
+        && shows(rt, decimal128, "0x[10101010101010101010101010101010]")
+        && shows(rt, binary(rt, [0x00, 0x9a, 0xff]), "0x[009aff]")
+        && shows(rt, binary(rt, []), "0x[]")
 }
 
 fn is_time(rt: &HostRuntime, milliseconds: i64, shown: &str) -> bool {
     let time = Timestamp::from_milliseconds(milliseconds);
-    shows(rt, Ok(Value::Timestamp(time)), shown)
+    shows(rt, Value::Timestamp(time), shown)
 }
 
 fn timestamps_are_dates(rt: &HostRuntime) -> bool {
@@ -121,65 +109,50 @@ fn uuids_and_symbols_are_shown_as_by_themselves(rt: &HostRuntime) -> bool {
     ]);
     shows(
         rt,
-        Ok(Value::Uuid(uuid)),
+        Value::Uuid(uuid),
         "00112233-4455-6677-8899-aabbccddeeff",
-    ) && shows(rt, symbol(rt.alloc(), "größe"), ":größe")
-}
-
-// A list of a list of strings and null, and of an empty list.
-fn nested(alloc: Global) -> Result<Value, Error> {
-    let inner = list(alloc, [strings(alloc, &["a", "b"])?, Value::Null])?;
-    list(alloc, [inner, strings(alloc, &[])?])
+    ) && shows(rt, symbol(rt, "größe"), ":größe")
 }
 
 fn lists_and_arrays_are_bracketed(rt: &HostRuntime) -> bool {
-    let a = rt.alloc();
-    shows(rt, strings(a, &[]), "[]")
-        && shows(rt, strings(a, &[""]), "[\"\"]")
-        && shows(rt, strings(a, &["a", "bc"]), "[\"a\", \"bc\"]")
-        && shows(rt, strings(a, &["a\r"]), "[\"a\\r\"]")
-        && shows(rt, nested(a), "[[[\"a\", \"b\"], null], []]")
-        && shows(rt, array(a, [Value::Int(-1), Value::Int(2)]), "[-1, 2]")
-}
-
-fn two_pairs(alloc: Global) -> Result<Value, Error> {
-    map(
-        alloc,
-        [
-            (symbol(alloc, "k")?, Value::Int(1)),
-            (symbol(alloc, "x")?, Value::Null),
-        ],
-    )
-}
-
-fn one_distinct_pair(alloc: Global) -> Result<Value, Error> {
-    let pairs = vec![in alloc; (Value::Uint(1), Value::Ulong(13))]?;
-    Ok(Value::Map(OrderedMap::from_distinct(pairs)))
+    let inner = list(
+        rt,
+        [list(rt, [string(rt, "a"), string(rt, "b")]), Value::Null],
+    );
+    let nested = list(rt, [inner, list(rt, [])]);
+    shows(rt, list(rt, []), "[]")
+        && shows(rt, list(rt, [string(rt, "")]), "[\"\"]")
+        && shows(
+            rt,
+            list(rt, [string(rt, "a"), string(rt, "bc")]),
+            "[\"a\", \"bc\"]",
+        )
+        && shows(rt, list(rt, [string(rt, "a\r")]), "[\"a\\r\"]")
+        && shows(rt, nested, "[[[\"a\", \"b\"], null], []]")
+        && shows(rt, array(rt, [Value::Int(-1), Value::Int(2)]), "[-1, 2]")
 }
 
 fn maps_are_in_braces(rt: &HostRuntime) -> bool {
-    let a = rt.alloc();
-    shows(rt, Ok(Value::Map(OrderedMap::new(a))), "{}")
-        && shows(rt, two_pairs(a), "{:k: 1, :x: null}")
-        && shows(rt, one_distinct_pair(a), "{1: 13}")
-}
-
-fn described_list(alloc: Global) -> Result<Value, Error> {
-    let fields = list(alloc, [Value::Int(1), Value::Null])?;
-    described(alloc, Descriptor::Code(0x83), fields)
-}
-
-fn described_by_name(alloc: Global) -> Result<Value, Error> {
-    let name = Symbol::try_from_str(alloc, "example:type")?;
-    described(alloc, Descriptor::Name(name), Value::Int(7))
+    let two = map(
+        rt,
+        [
+            (symbol(rt, "k"), Value::Int(1)),
+            (symbol(rt, "x"), Value::Null),
+        ],
+    );
+    let pairs = vec_of(rt, [(Value::Uint(1), Value::Ulong(13))]);
+    let one = Value::Map(OrderedMap::from_distinct(pairs));
+    shows(rt, map(rt, []), "{}") && shows(rt, two, "{:k: 1, :x: null}") && shows(rt, one, "{1: 13}")
 }
 
 fn described_values_come_after_their_descriptor(rt: &HostRuntime) -> bool {
-    let a = rt.alloc();
-    let code_0 = described(a, Descriptor::Code(0), Value::Null);
-    let last_code = described(a, Descriptor::Code(u64::MAX), Value::Null);
-    shows(rt, described_list(a), "0x83 -> [1, null]")
-        && shows(rt, described_by_name(a), ":example:type -> 7")
+    let fields = list(rt, [Value::Int(1), Value::Null]);
+    let code_83 = described(rt, Descriptor::Code(0x83), fields);
+    let name = Descriptor::Name(name(rt, "example:type"));
+    let code_0 = described(rt, Descriptor::Code(0), Value::Null);
+    let last_code = described(rt, Descriptor::Code(u64::MAX), Value::Null);
+    shows(rt, code_83, "0x83 -> [1, null]")
+        && shows(rt, described(rt, name, Value::Int(7)), ":example:type -> 7")
         && shows(rt, code_0, "0x0 -> null")
         && shows(rt, last_code, "0xffffffffffffffff -> null")
 }

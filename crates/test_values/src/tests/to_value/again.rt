@@ -1,17 +1,18 @@
-// A value that is given to `to_value` again comes back: proved with no induction of the caller's
-// own.
+//! A value that is given to `to_value` again comes back: proved with no induction of the caller's
+//! own.
 
 ghost use Rattle.std.specs.Prelude.{◌≡◌, IfOk, true};
 ghost use Rattle.amqp_value.specs.TreeOf.{tree_of};
 
+use super::super::rows::{is, wrong};
+use super::super::values::vec_of;
 use amqp_data::Error;
 use amqp_ser::Serialize;
 use amqp_to_value::{laws, to_value};
 use amqp_value::Value;
 use std::alloc::Global;
-use std::test::Fail;
 
-// What the value stands for, and what that stands for.
+// The image of the value, and the image of that.
 fn twice<T: Serialize>(alloc: Global, value: &T) -> Result<(Value, Value), Error>
     ensures same { IfOk result (λ values. tree_of values.1 ≡ tree_of values.0) }
     ensures equal { IfOk result (λ values. ⟦<Value as PartialEq>⟧.eq values.1 values.0 ≡ true) }
@@ -22,10 +23,15 @@ fn twice<T: Serialize>(alloc: Global, value: &T) -> Result<(Value, Value), Error
     Ok((first, second))
 }
 
+fn values_come_back_equal(rt: &HostRuntime) -> bool {
+    let pairs = vec_of(rt, [("a", 1u8), ("a", 2)]);
+    match twice(rt.alloc(), &pairs) {
+        Ok((first, second)) => is(rt, "two pairs", &second, &first),
+        Err(error) => wrong(rt, "two pairs", &error),
+    }
+}
+
 #[test]
-fn values_come_back_equal(rt: HostRuntime) -> Result<(), Fail> {
-    let pairs = vec![in rt.alloc(); ("a", 1u8), ("a", 2)]?;
-    let (first, second) = twice(rt.alloc(), &pairs)?;
-    assert_eq!(rt; second, first);
-    Ok(())
+fn again(rt: HostRuntime) {
+    assert!(rt; values_come_back_equal(&rt));
 }

@@ -1,6 +1,0 @@
-//! The tests of `amqp_to_value`. They stand beside it, since a crate with tests is proved once more
-//! for them.
-#![tactic(auto)]
-
-#[cfg(test)]
-mod tests;
