@@ -132,29 +132,31 @@ def outside(text, its_functions):
     return parts + [text[at:]]
 
 
-def place(path, function, names):
-    """Returns the folder of the function's proof, proofs/.., as rattle names it, or None if it is not the only one that fits.
+def place(crate, path, function, names):
+    """Returns the name of the function and the folder of its proof, or None if more than one name fits.
 
-    `names` are the paths, below the crate, of the functions that a check of the crate lists.
+    `names` are the names of the crate's functions as a check lists them, as `crate::module::TypeTrait::method`.
     """
-    module = re.sub(r"^src/|(/?\b(lib|main|mod))?\.rt$", "", path)
-    inside = f"{module}/" if module else ""
-    fits = [it for it in names if it.startswith(inside) and it.endswith(f"/{function.name}")]
-    fits = [it for it in fits if it.count("/") == inside.count("/") + 1]
+    module = crate + re.sub(r"^src|(/(lib|main|mod))?\.rt$", "", path).replace("/", "::")
+    fits = [it for it in names if it.startswith(f"{module}::") and it.endswith(f"::{function.name}")]
+    fits = [it for it in fits if it.count("::") == module.count("::") + 2]
     if not function.owner:
-        fits = [it for it in names if it == inside + function.name]
+        fits = [it for it in names if it == f"{module}::{function.name}"]
     elif function.owner.startswith("trait"):
-        fits = [it for it in fits if it.split("/")[-2] == re.match(r"trait (\w+)", function.owner)[1]]
+        fits = [it for it in fits if it.split("::")[-2] == re.match(r"trait (\w+)", function.owner)[1]]
     else:
         its_type, trait, arguments = owner_words(function.owner)
         if not trait:
             # named below the module of its type, which may be another
-            fits = [it for it in names if f"/{it}".endswith(f"/{its_type}/{function.name}")]
-        exact = [it for it in fits if it.split("/")[-2] == its_type + trait + arguments]
-        fits = exact or [it for it in fits if it.split("/")[-2].startswith(its_type + trait)]
+            fits = [it for it in names if it.endswith(f"::{its_type}::{function.name}")]
+        exact = [it for it in fits if it.split("::")[-2] == its_type + trait + arguments]
+        fits = exact or [it for it in fits if it.split("::")[-2].startswith(its_type + trait)]
     if len(fits) != 1:
         return None
-    return f"proofs/{inside}+{function.cycle}/" if function.cycle else f"proofs/{fits[0]}/"
+    folder = fits[0].split("::")[1:]
+    if function.cycle:
+        folder = [*module.split("::")[1:], f"+{function.cycle}"]
+    return fits[0], f"proofs/{'/'.join(folder)}/"
 
 
 def owner_words(header):
