@@ -18,6 +18,10 @@ fn refusals(rt: HostRuntime) {
         "descriptors come first and once"
     );
     assert!(rt; feeding::basic_structs(&rt), "basic structs have one value");
+    assert!(rt;
+        feeding::map_composites(&rt),
+        "map composites write their names"
+    );
     assert!(rt; misplaced::vectors(&rt), "misplaced vectors");
     assert!(rt;
         passed_over::parts(&rt),

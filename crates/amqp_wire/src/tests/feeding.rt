@@ -1,10 +1,15 @@
 //! Structs that are serialized by hand and ignore refusals: their lengths and bytes.
 
+ghost use Rattle.std.specs.Prelude.{◌∷◌, [], Some};
+ghost use Rattle.amqp_ser.specs.Compounds.{whole};
+ghost use Rattle.amqp_ser.specs.Tree.{scalar, ubyte};
+ghost use Rattle.amqp_ser.specs.declared.kind.Kind.TheVariants.{List};
+
 use super::refused::NoTree;
 use crate::measurer::Measurer;
 use crate::writer::Writer;
 use amqp_data::{Error, markers};
-use amqp_ser::{Mark, Serializer};
+use amqp_ser::{Mark, Serialize, Serializer};
 use amqp_size::SizeSerializer;
 use std::alloc::Global;
 
@@ -175,6 +180,56 @@ impl Feed for MarkedBasic {
     }
 }
 
+/// A struct of one field.
+#[derive(Drop)]
+struct Plain {
+    a: u8,
+}
+
+impl Serialize for Plain {
+    ghost tree = { λ p. whole List (Some (scalar (ubyte p.a)) ∷ []) };
+
+    fn serialize<S: Serializer>(&self, serializer: &mut S) -> Result<S::Ok, S::Error> {
+        let mut fields = serializer.serialize_struct("Plain", 1)?;
+        fields.serialize_field("a", &self.a)?;
+        fields.end()
+    }
+}
+
+struct MapComposite;
+
+impl Feed for MapComposite {
+    fn feed<S: Serializer>(&self, serializer: &mut S) -> Result<S::Ok, S::Error> {
+        let mut fields = serializer.serialize_struct(markers::DESCRIBED_MAP, 3)?;
+        fields.serialize_field(markers::DESCRIPTOR, &0x13u64)?;
+        fields.serialize_field("is_fool", &true)?;
+        fields.serialize_field("a", &9i32)?;
+        fields.end()
+    }
+}
+
+#[derive(Drop)]
+struct MapOfStruct(Plain);
+
+impl Feed for MapOfStruct {
+    fn feed<S: Serializer>(&self, serializer: &mut S) -> Result<S::Ok, S::Error> {
+        let mut fields = serializer.serialize_struct(markers::DESCRIBED_MAP, 2)?;
+        fields.serialize_field(markers::DESCRIPTOR, &0x13u64)?;
+        fields.serialize_field("p", &self.0)?;
+        fields.end()
+    }
+}
+
+struct MapNameOnTuple;
+
+impl Feed for MapNameOnTuple {
+    fn feed<S: Serializer>(&self, serializer: &mut S) -> Result<S::Ok, S::Error> {
+        let mut fields = serializer.serialize_tuple_struct(markers::DESCRIBED_MAP, 1)?;
+        fields.serialize_field(&true)?;
+        fields.end()
+    }
+}
+
 const DESCRIBED: &[u8] = b"\x00\x53\x01\xc0\x02\x01\x41";
 
 pub(super) fn descriptors(rt: &HostRuntime) -> bool {
@@ -203,4 +258,18 @@ pub(super) fn basic_structs(rt: &HostRuntime) -> bool {
             &MarkedBasic,
             b"\xe0\x04\x02\x50\x01\x02",
         )
+}
+
+pub(super) fn map_composites(rt: &HostRuntime) -> bool {
+    is(
+        rt,
+        "two fields",
+        &MapComposite,
+        b"\x00\x53\x13\xc1\x10\x04\xa1\x07is_fool\x41\xa1\x01a\x54\x09",
+    ) && is(
+        rt,
+        "a struct inside",
+        &MapOfStruct(Plain { a: 1 }),
+        b"\x00\x53\x13\xc1\x09\x02\xa1\x01p\xc0\x03\x01\x50\x01",
+    ) && is(rt, "a list", &MapNameOnTuple, b"\xc0\x02\x01\x41")
 }

@@ -24,3 +24,8 @@ pub fn transparent<T: Drop, const N: usize>(
 pub fn symbol(rt: &HostRuntime, text: &str) -> Option<Symbol> {
     Symbol::try_from_str(rt.alloc(), text).ok()
 }
+
+/// A list of a list of two strings.
+pub fn nested_texts(rt: &HostRuntime) -> Option<Vec<Vec<&'static str>>> {
+    vector(rt, [vector(rt, ["a", "bc"])?])
+}

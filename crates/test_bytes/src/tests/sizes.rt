@@ -5,9 +5,9 @@ ghost use Rattle.amqp_size.specs.Refused.{told};
 
 use super::calls::samples::NoName;
 use super::compare::is;
-use super::made::{array as array_of, transparent, vector};
+use super::made::{array as array_of, nested_texts, transparent, vector};
 use amqp_data::{Error, TransparentVec};
-use amqp_ser::{Kind, Mark, Serialize, Serializer};
+use amqp_ser::{Kind, Mark, Serialize, SerializeMap, SerializeSeq, Serializer};
 use amqp_size::width::{array_len, list_len, map_len, text_len};
 use amqp_size::{SizeSerializer, WalkError, serialized_size};
 
@@ -91,104 +91,94 @@ fn sized<T: Serialize + Drop>(
     }
 }
 
-fn nested(rt: &HostRuntime) -> Option<Vec<Vec<&'static str>>> {
-    vector(rt, [vector(rt, ["a", "bc"])?])
-}
-
-fn nested_texts(rt: &HostRuntime) -> bool {
+fn texts(rt: &HostRuntime) -> bool {
     sized(rt, "a list of strings", vector(rt, ["a", "bc"]), 10)
-        && sized(rt, "a list of a list", nested(rt), 13)
+        && sized(rt, "a list of a list", nested_texts(rt), 13)
         && sized(rt, "an empty list", Some(Vec::<&str>::new(rt.alloc())), 1)
 }
 
-/// An array of two ints. A string between them is refused.
-fn mixed_array<S: Serializer>(serializer: &mut S) -> Result<S::Ok, S::Error> {
-    serializer.mark(Mark::Array);
-    let mut array = serializer.serialize_seq(None)?;
-    array.serialize_element(&1i32)?;
-    if array.serialize_element(&"a").is_ok() {
-        array.serialize_element(&"taken")?;
-    }
-    array.serialize_element(&2i32)?;
-    array.end()
+/// Whether the list accepts the element.
+fn element<S: Serializer, T: Serialize>(list: &mut SerializeSeq<'_, S>, element: &T) -> bool {
+    list.serialize_element(element).is_ok()
 }
 
-/// A list of two ints. An element without a tree between them is refused.
-fn interrupted_list<S: Serializer>(serializer: &mut S) -> Result<S::Ok, S::Error> {
-    let mut list = serializer.serialize_seq(None)?;
-    list.serialize_element(&1i32)?;
-    if list.serialize_element(&NoName(1)).is_ok() {
-        list.serialize_element(&"taken")?;
-    }
-    list.serialize_element(&2i32)?;
-    list.end()
+/// Whether the map accepts the key.
+fn key<S: Serializer, T: Serialize>(map: &mut SerializeMap<'_, S>, key: &T) -> bool {
+    map.serialize_key(key).is_ok()
+}
+
+/// Whether the map accepts the value of the last key.
+fn value<S: Serializer, T: Serialize>(map: &mut SerializeMap<'_, S>, value: &T) -> bool {
+    map.serialize_value(value).is_ok()
+}
+
+/// A list of two elements. Another one between them is refused.
+fn list_of_two<S: Serializer, T: Serialize, U: Serialize>(
+    serializer: &mut S,
+    first: &T,
+    refused: &U,
+    last: &T,
+) -> Option<S::Ok> {
+    let mut list = serializer.serialize_seq(None).ok()?;
+    let accepted = element(&mut list, first)
+        && !element(&mut list, refused)
+        && element(&mut list, last);
+    let end = list.end();
+    if accepted { end.ok() } else { None }
+}
+
+/// An array of two ints. A string between them is refused.
+fn mixed_array<S: Serializer>(serializer: &mut S) -> Option<S::Ok> {
+    serializer.mark(Mark::Array);
+    list_of_two(serializer, &1i32, &"a", &2i32)
 }
 
 /// A map of one pair. A second key before the value is refused.
-fn two_keys<S: Serializer>(serializer: &mut S) -> Result<S::Ok, S::Error> {
-    let mut map = serializer.serialize_map(None)?;
-    map.serialize_key(&"a")?;
-    if map.serialize_key(&"b").is_ok() {
-        map.serialize_value(&"taken")?;
-    }
-    map.serialize_value(&1u8)?;
-    map.end()
+fn two_keys<S: Serializer>(serializer: &mut S) -> Option<S::Ok> {
+    let mut map = serializer.serialize_map(None).ok()?;
+    let accepted = key(&mut map, &"a") && !key(&mut map, &"b") && value(&mut map, &1u8);
+    let end = map.end();
+    if accepted { end.ok() } else { None }
 }
 
 /// A map that ends after a key.
-fn key_alone<S: Serializer>(serializer: &mut S) -> Result<S::Ok, S::Error> {
-    let mut map = serializer.serialize_map(None)?;
-    map.serialize_key(&"a")?;
-    map.end()
+fn key_alone<S: Serializer>(serializer: &mut S) -> Option<S::Error> {
+    let mut map = serializer.serialize_map(None).ok()?;
+    let accepted = key(&mut map, &"a");
+    let end = map.end();
+    if accepted { end.err() } else { None }
 }
 
 fn refused_parts<S: Serializer<Ok = usize, Error = WalkError>>(
     rt: &HostRuntime,
     serializer: &mut S,
 ) -> bool {
-    is(rt, "a mixed array", mixed_array(serializer), Ok(12))
+    is(rt, "a mixed array", mixed_array(serializer), Some(12))
         && is(
             rt,
-            "an interrupted list",
-            interrupted_list(serializer),
-            Ok(7),
+            "an element without a tree",
+            list_of_two(serializer, &1i32, &NoName(1), &2i32),
+            Some(7),
         )
-        && is(rt, "two keys", two_keys(serializer), Ok(8))
+        && is(rt, "two keys", two_keys(serializer), Some(8))
         && is(
             rt,
             "a key alone",
             key_alone(serializer),
-            Err(WalkError::InvalidValue),
+            Some(WalkError::InvalidValue),
         )
         && is(rt, "fresh afterwards", serializer.serialize_str("b"), Ok(3))
-}
-
-/// A list of two truth values. A transparent vector between them is refused.
-fn vector_within<S: Serializer>(
-    serializer: &mut S,
-    vector: &TransparentVec<bool>,
-) -> Result<S::Ok, S::Error> {
-    let mut list = serializer.serialize_seq(None)?;
-    list.serialize_element(&true)?;
-    if list.serialize_element(vector).is_ok() {
-        list.serialize_element(&"taken")?;
-    }
-    list.serialize_element(&false)?;
-    list.end()
 }
 
 /// A map of one pair. A transparent vector as the value of its key is refused before another value.
 fn vector_as_value<S: Serializer>(
     serializer: &mut S,
     vector: &TransparentVec<bool>,
-) -> Result<S::Ok, S::Error> {
-    let mut map = serializer.serialize_map(None)?;
-    map.serialize_key(&"a")?;
-    if map.serialize_value(vector).is_ok() {
-        map.serialize_key(&"taken")?;
-    }
-    map.serialize_value(&1u8)?;
-    map.end()
+) -> Option<S::Ok> {
+    let mut map = serializer.serialize_map(None).ok()?;
+    let accepted = key(&mut map, &"a") && !value(&mut map, vector) && value(&mut map, &1u8);
+    let end = map.end();
+    if accepted { end.ok() } else { None }
 }
 
 fn misplaced_vector<S: Serializer<Ok = usize, Error = WalkError>>(
@@ -201,13 +191,13 @@ fn misplaced_vector<S: Serializer<Ok = usize, Error = WalkError>>(
             is(
                 rt,
                 "a vector in a list",
-                vector_within(serializer, &vector),
-                Ok(5),
+                list_of_two(serializer, &true, &vector, &false),
+                Some(5),
             ) && is(
                 rt,
                 "a vector in a map",
                 vector_as_value(serializer, &vector),
-                Ok(8),
+                Some(8),
             )
         }
         None => false,
@@ -302,7 +292,7 @@ fn two_values(rt: &HostRuntime) -> bool {
 #[test]
 fn lengths(rt: HostRuntime) {
     assert!(rt; widths(&rt), "the lengths of the tables");
-    assert!(rt; nested_texts(&rt), "nested texts");
+    assert!(rt; texts(&rt), "nested texts");
     assert!(rt;
         refused_parts(&rt, &mut SizeSerializer::new()),
         "compounds without what they refused"

@@ -1,8 +1,8 @@
 //! Bytes of values, from the standard's encoding tables, calculated by hand.
 
 use super::compare::{is, slice_is};
-use super::made::{array, symbol, transparent, vector};
-use super::shapes::{Again, MapComposite, MapNameOnTuple, MapOfStruct, NoTree, Number, Pair};
+use super::made::{array, nested_texts, symbol, transparent, vector};
+use super::shapes::{Again, NoTree, Number, Pair};
 use amqp_data::{
     Array, Dec32, Described, Descriptor, Error, OrderedMap, SymbolRef, Timestamp, TransparentVec,
     Uuid,
@@ -74,10 +74,6 @@ fn invalid<T: Serialize + Drop>(rt: &HostRuntime, value: Option<T>) -> bool {
 
 fn strings(rt: &HostRuntime) -> Option<Vec<String>> {
     vector(rt, [String::new(rt.alloc())])
-}
-
-fn nested_texts(rt: &HostRuntime) -> Option<Vec<Vec<&'static str>>> {
-    vector(rt, [vector(rt, ["a", "bc"])?])
 }
 
 fn lists(rt: &HostRuntime) -> bool {
@@ -297,18 +293,6 @@ fn transparent_vectors(rt: &HostRuntime) -> bool {
         )
 }
 
-fn composites(rt: &HostRuntime) -> bool {
-    writes(
-        rt,
-        &MapComposite(true, 9),
-        b"\x00\x53\x13\xc1\x10\x04\xa1\x07is_fool\x41\xa1\x01a\x54\x09",
-    ) && writes(
-        rt,
-        &MapOfStruct(1),
-        b"\x00\x53\x13\xc1\x09\x02\xa1\x01p\xc0\x03\x01\x50\x01",
-    ) && writes(rt, &MapNameOnTuple(true), b"\xc0\x02\x01\x41")
-}
-
 /// Whether the answer is the value's bytes or out of memory.
 fn writes_or_lacks<T: Serialize>(rt: &HostRuntime, value: &T, bytes: &[u8]) -> bool {
     match to_vec(rt.alloc(), value) {
@@ -359,7 +343,6 @@ fn bytes_of_values(rt: HostRuntime) {
     assert!(rt; variants(&rt), "variants");
     assert!(rt; described_values(&rt), "described values");
     assert!(rt; transparent_vectors(&rt), "transparent vectors");
-    assert!(rt; composites(&rt), "map composites write their names");
     assert!(rt; invalid(&rt, Some(("a", NoTree))), "a value without a tree");
 }
 
