@@ -93,8 +93,8 @@ mod tests {
 
     fn comes_back(rt: &HostRuntime, links: u32) -> bool {
         match sizes(rt.alloc(), links) {
-            Ok((chain, read)) => is(rt, "size", links, read as u64, chain as u64),
-            Err(_) => wrong(rt, "chain", links),
+            Ok((chain, read)) => is(rt, "size at links", links, read as u64, chain as u64),
+            Err(_) => wrong(rt, "chain of links", links),
         }
     }
 

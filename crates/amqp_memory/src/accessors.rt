@@ -6,8 +6,8 @@ ghost use Rattle.amqp_de.specs.declared.shown.Visit.TheVariants as kind;
 
 use amqp_data::{ByteBuf, Error, OrderedMap, markers};
 use amqp_de::de::{
-    Deserialize, Deserializer as _, EnumAccess as _, MapAccess as _, Plain, Refusal,
-    SeqAccess as _, VariantAccess as _, Visit, Visitor,
+    Deserialize, Deserializer as Reads, EnumAccess as Enum, MapAccess as Entries, Plain, Refusal,
+    SeqAccess as Elements, VariantAccess as _, Visit, Visitor,
 };
 use amqp_de::{EnumAccessOf, Of};
 use amqp_from_value::{Deserializer, MapAccess, SeqAccess};
@@ -29,7 +29,10 @@ pub fn all(alloc: Global) -> Result<bool, Error> {
 
 fn elements(alloc: Global) -> Result<bool, Error> {
     let values = vec![in alloc; Value::Uint(1), Value::Uint(2)]?;
-    let mut access = SeqAccess::new(alloc, values);
+    are_one_and_two(alloc, &mut SeqAccess::new(alloc, values))
+}
+
+fn are_one_and_two<A: Elements>(alloc: Global, access: &mut A) -> Result<bool, A::Error> {
     let first = access.next_element::<Boxed>(alloc)?;
     let second = access.next_element_seed(alloc, Of(PhantomData::<Boxed>))?;
     Ok(is(first, 1) && is(second, 2))
@@ -48,15 +51,24 @@ fn pairs(alloc: Global) -> Result<MapAccess, Error> {
 
 fn keys(alloc: Global) -> Result<bool, Error> {
     let mut access = pairs(alloc)?;
+    Ok(has_first(alloc, &mut access)? && has_second(alloc, &mut access)?)
+}
+
+fn has_first<A: Entries>(alloc: Global, access: &mut A) -> Result<bool, A::Error> {
     let key = access.next_key::<Boxed>(alloc)?;
-    let value = access.next_value::<Boxed>(alloc)?;
-    let second = access.next_key_seed(alloc, Of(PhantomData::<Boxed>))?;
-    let last = access.next_value_seed(alloc, Of(PhantomData::<Boxed>))?;
-    Ok(is(key, 1) && *value == 2 && is(second, 3) && *last == 4)
+    Ok(is(key, 1) && *access.next_value::<Boxed>(alloc)? == 2)
+}
+
+fn has_second<A: Entries>(alloc: Global, access: &mut A) -> Result<bool, A::Error> {
+    let key = access.next_key_seed(alloc, Of(PhantomData::<Boxed>))?;
+    Ok(is(key, 3) && *access.next_value_seed(alloc, Of(PhantomData::<Boxed>))? == 4)
 }
 
 fn entries(alloc: Global) -> Result<bool, Error> {
-    let mut access = pairs(alloc)?;
+    are_two_pairs(alloc, &mut pairs(alloc)?)
+}
+
+fn are_two_pairs<A: Entries>(alloc: Global, access: &mut A) -> Result<bool, A::Error> {
     let first = access.next_entry::<Boxed, Boxed>(alloc)?;
     let seed = || Of(PhantomData::<Boxed>);
     let second = access.next_entry_seed(alloc, seed(), seed())?;
@@ -74,12 +86,18 @@ fn variant(alloc: Global) -> EnumAccessOf<Deserializer> {
 }
 
 fn variants(alloc: Global) -> Result<bool, Error> {
-    let (index, content) = variant(alloc).variant::<Boxed>(alloc)?;
-    let value = content.newtype_variant::<Boxed>(alloc)?;
-    let seed = || Of(PhantomData::<Boxed>);
-    let (second, content) = variant(alloc).variant_seed(alloc, seed())?;
-    let last = content.newtype_variant_seed(alloc, seed())?;
-    Ok(*index == 1 && *value == 13 && *second == 1 && *last == 13)
+    Ok(is_variant(alloc, variant(alloc))? && is_variant_by_seed(alloc, variant(alloc))?)
+}
+
+fn is_variant<A: Enum>(alloc: Global, access: A) -> Result<bool, A::Error> {
+    let (index, content) = access.variant::<Boxed>(alloc)?;
+    Ok(*index == 1 && *content.newtype_variant::<Boxed>(alloc)? == 13)
+}
+
+fn is_variant_by_seed<A: Enum>(alloc: Global, access: A) -> Result<bool, A::Error> {
+    let (index, content) = access.variant_seed(alloc, Of(PhantomData::<Boxed>))?;
+    let value = content.newtype_variant_seed(alloc, Of(PhantomData::<Boxed>))?;
+    Ok(*index == 1 && *value == 13)
 }
 
 /// Takes the bytes of a lazy value.
@@ -107,14 +125,20 @@ impl Visitor for Bytes {
 fn written(alloc: Global) -> Result<bool, Error> {
     let of = |number: u32| Deserializer::new(alloc, Value::Uint(number));
     let boxed = Boxed::deserialize(alloc, of(1))?;
-    let first = of(1).deserialize_written(Bytes)?;
-    let second = of(2).deserialize_marked(Mark::Lazy, Bytes)?;
-    let third = of(3).deserialize_newtype_struct(markers::LAZY_VALUE, Bytes)?;
-    let all = matches!(
-        (first, second, third),
-        (Visit::Plain, Visit::Plain, Visit::Plain)
-    );
-    Ok(all && *boxed == 1)
+    Ok(*boxed == 1 && is_written(of(1))? && is_marked(of(2))? && is_newtype(of(3))?)
+}
+
+fn is_written<D: Reads>(deserializer: D) -> Result<bool, D::Error> {
+    Ok(matches!(deserializer.deserialize_written(Bytes)?, Visit::Plain))
+}
+
+fn is_marked<D: Reads>(deserializer: D) -> Result<bool, D::Error> {
+    Ok(matches!(deserializer.deserialize_marked(Mark::Lazy, Bytes)?, Visit::Plain))
+}
+
+fn is_newtype<D: Reads>(deserializer: D) -> Result<bool, D::Error> {
+    let read = deserializer.deserialize_newtype_struct(markers::LAZY_VALUE, Bytes)?;
+    Ok(matches!(read, Visit::Plain))
 }
 
 /// Reads 262,144 elements one by one, and 1,024 pairs of a kibibyte each.
@@ -130,7 +154,10 @@ fn many_elements(alloc: Global) -> Result<bool, Error> {
     for number in 0..262_144u32 {
         values.push(Value::Uint(number))?;
     }
-    let mut access = SeqAccess::new(alloc, values);
+    are_in_turn(alloc, &mut SeqAccess::new(alloc, values))
+}
+
+fn are_in_turn<A: Elements>(alloc: Global, access: &mut A) -> Result<bool, A::Error> {
     for number in 0..262_144u32 {
         if access.next_element::<u32>(alloc)? != Some(number) {
             return Ok(false);
@@ -145,7 +172,10 @@ fn many_entries(alloc: Global) -> Result<bool, Error> {
         let bytes = ByteBuf::from(Vec::from_elem(alloc, 1u8, 1024)?);
         drop(pairs.insert(Value::Ushort(key), Value::Binary(bytes))?);
     }
-    let mut access = MapAccess::new(alloc, pairs);
+    are_kibibytes(alloc, &mut MapAccess::new(alloc, pairs))
+}
+
+fn are_kibibytes<A: Entries>(alloc: Global, access: &mut A) -> Result<bool, A::Error> {
     for key in 0..1024u16 {
         let read = access.next_entry::<u16, ByteBuf>(alloc)?;
         if !read.is_some_and(|(k, bytes)| k == key && bytes.as_inner().len() == 1024) {

@@ -7,10 +7,9 @@ ghost use Rattle.amqp_ser.specs.Tree.{code};
 ghost use Rattle.amqp_ser.specs.Words.{list_composite, map_composite, of_bool, of_i32};
 
 use crate::report::report;
+use crate::written;
 use amqp_data::{Array, Error, OrderedMap, Symbol, markers};
 use amqp_ser::{ListOf, MapOf, Serialize, Serializer, fields};
-use amqp_to_value::to_value;
-use amqp_wire::to_vec;
 use std::alloc::Global;
 
 /// A composite of a truth value and a number, as a list.
@@ -73,18 +72,10 @@ pub fn all(rt: &(impl Print + AllocGlobal)) -> Result<(), Error> {
     Ok(())
 }
 
-// The value and its image are written as these bytes.
-fn writes<T: Serialize>(alloc: Global, value: &T, bytes: &[u8]) -> Result<bool, Error> {
-    let written = to_vec(alloc, value)?;
-    let image = to_value(alloc, value)?;
-    let again = to_vec(alloc, &image)?;
-    Ok(written.as_slice() == bytes && again.as_slice() == bytes)
-}
-
 fn array_of_lists(alloc: Global) -> Result<bool, Error> {
     let one = vec![in alloc; 1u8]?;
     let lists = Array::from(vec![in alloc; Vec::new(alloc), one]?);
-    writes(
+    written::are(
         alloc,
         &lists,
         b"\xe0\x14\x02\xd0\0\0\0\x04\0\0\0\0\0\0\0\x06\0\0\0\x01\x50\x01",
@@ -92,7 +83,7 @@ fn array_of_lists(alloc: Global) -> Result<bool, Error> {
 }
 
 fn list_composite(alloc: Global) -> Result<bool, Error> {
-    writes(
+    written::are(
         alloc,
         &AsList(true, 3),
         b"\0\x53\x13\xc0\x04\x02\x41\x54\x03",
@@ -100,7 +91,7 @@ fn list_composite(alloc: Global) -> Result<bool, Error> {
 }
 
 fn map_composite(alloc: Global) -> Result<bool, Error> {
-    writes(
+    written::are(
         alloc,
         &AsMap(true, 9),
         b"\0\x53\x13\xc1\x10\x04\xa1\x07is_fool\x41\xa1\x01a\x54\x09",
@@ -111,7 +102,7 @@ fn basic_composite(alloc: Global) -> Result<bool, Error> {
     let mut map = OrderedMap::new(alloc);
     drop(map.insert(Symbol::try_from_str(alloc, "a")?, 1)?);
     drop(map.insert(Symbol::try_from_str(alloc, "b")?, 2)?);
-    writes(
+    written::are(
         alloc,
         &Basic(map),
         b"\0\x53\x01\xc1\x0b\x04\xa3\x01a\x54\x01\xa3\x01b\x54\x02",

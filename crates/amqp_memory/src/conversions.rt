@@ -14,13 +14,20 @@ use std::str;
 /// # Errors
 /// `OutOfMemory` where a request for memory is refused; any other is a wrong answer.
 pub fn all(alloc: Global) -> Result<bool, Error> {
-    Ok(parts(alloc)? && lists(alloc)? && maps(alloc)? && hashed(alloc)?)
+    Ok(parts(alloc)? && lists(alloc)? && maps(alloc)? && hashed(alloc)? && indexed(alloc)?)
 }
 
 fn refusal(fault: ConvertFault) -> Error {
     match fault {
         ConvertFault::Unfit(_) => Error::InvalidValue,
         ConvertFault::Memory => Error::OutOfMemory,
+    }
+}
+
+fn taken<T: TryFrom<Value, Error = ConvertFault>>(value: Value) -> Result<T, Error> {
+    match T::try_from(value) {
+        Ok(taken) => Ok(taken),
+        Err(fault) => Err(refusal(fault)),
     }
 }
 
@@ -36,9 +43,9 @@ fn parts(alloc: Global) -> Result<bool, Error> {
 
 fn lists(alloc: Global) -> Result<bool, Error> {
     let value = Value::try_from_vec(alloc, vec![in alloc; 1u8, 2u8, 3u8]?)?;
-    let list = Vec::<u8>::try_from(value).map_err(refusal)?;
+    let list: Vec<u8> = taken(value)?;
     let value = Value::try_from_array(alloc, Array::from(list))?;
-    let array = Array::<u8>::try_from(value).map_err(refusal)?;
+    let array: Array<u8> = taken(value)?;
     Ok(array.as_inner().as_slice() == [1, 2, 3].as_slice())
 }
 
@@ -47,22 +54,27 @@ fn maps(alloc: Global) -> Result<bool, Error> {
     drop(sorted.insert(1u8, true)?);
     drop(sorted.insert(2u8, false)?);
     let value = Value::try_from_btree_map(alloc, sorted)?;
-    let ordered = OrderedMap::<u8, bool>::try_from(value).map_err(refusal)?;
+    let ordered: OrderedMap<u8, bool> = taken(value)?;
     let value = Value::try_from_ordered_map(alloc, ordered)?;
-    let sorted = BTreeMap::<u8, bool>::try_from(value).map_err(refusal)?;
+    let sorted: BTreeMap<u8, bool> = taken(value)?;
     Ok(sorted.len() == 2 && sorted.get(&1) == Some(&true))
 }
 
+// The untyped map from 1 to true.
+fn pair(alloc: Global) -> Result<Value, Error> {
+    let mut pairs = OrderedMap::new(alloc);
+    drop(pairs.insert(1u8, true)?);
+    Ok(Value::try_from_ordered_map(alloc, pairs)?)
+}
+
 fn hashed(alloc: Global) -> Result<bool, Error> {
-    let mut pairs = OrderedMap::new(alloc);
-    drop(pairs.insert(1u8, true)?);
-    let value = Value::try_from_ordered_map(alloc, pairs)?;
-    let hashed = HashMap::<u8, bool>::try_from(value).map_err(refusal)?;
-    let mut pairs = OrderedMap::new(alloc);
-    drop(pairs.insert(1u8, true)?);
-    let value = Value::try_from_ordered_map(alloc, pairs)?;
-    let indexed = IndexMap::<u8, bool>::try_from(value).map_err(refusal)?;
-    Ok(hashed.get(&1) == Some(&true) && indexed.get(&1) == Some(&true))
+    let hashed: HashMap<u8, bool> = taken(pair(alloc)?)?;
+    Ok(hashed.get(&1) == Some(&true))
+}
+
+fn indexed(alloc: Global) -> Result<bool, Error> {
+    let indexed: IndexMap<u8, bool> = taken(pair(alloc)?)?;
+    Ok(indexed.get(&1) == Some(&true))
 }
 
 /// Makes each conversion with about a mebibyte.
@@ -70,23 +82,27 @@ fn hashed(alloc: Global) -> Result<bool, Error> {
 /// # Errors
 /// `OutOfMemory` where a request for memory is refused; any other is a wrong answer.
 pub fn large(alloc: Global) -> Result<bool, Error> {
-    Ok(long_parts(alloc)? && long_lists(alloc)? && large_maps(alloc)? && large_hashed(alloc)?)
+    let parts = long_text(alloc)? && long_described(alloc)?;
+    let maps = large_maps(alloc)? && large_hashed(alloc)? && large_indexed(alloc)?;
+    Ok(parts && long_lists(alloc)? && maps)
 }
 
-fn long_parts(alloc: Global) -> Result<bool, Error> {
+fn long_text(alloc: Global) -> Result<bool, Error> {
     let bytes = Vec::from_elem(alloc, b'a', MEBIBYTE)?;
     let Ok(text) = str::from_utf8(&bytes) else {
         return Ok(false);
     };
     let value = Value::try_from_str(alloc, text)?;
-    let same = matches!(&value, Value::String(string) if string.as_str() == text);
+    Ok(matches!(&value, Value::String(string) if string.as_str() == text))
+}
+
+fn long_described(alloc: Global) -> Result<bool, Error> {
     let inner = Described {
         descriptor: Descriptor::from(1u64),
-        value: ByteBuf::from(bytes),
+        value: ByteBuf::from(Vec::from_elem(alloc, b'a', MEBIBYTE)?),
     };
     let described = Value::try_from_described(alloc, inner)?;
-    let long = matches!(&described, Value::Described(d) if is_binary(&d.value, MEBIBYTE));
-    Ok(same && long)
+    Ok(matches!(&described, Value::Described(d) if is_binary(&d.value, MEBIBYTE)))
 }
 
 fn is_binary(value: &Value, len: usize) -> bool {
@@ -97,9 +113,9 @@ fn is_binary(value: &Value, len: usize) -> bool {
 fn long_lists(alloc: Global) -> Result<bool, Error> {
     let numbers = Vec::from_elem(alloc, 7u32, 262_144)?;
     let value = Value::try_from_vec(alloc, numbers)?;
-    let list = Vec::<u32>::try_from(value).map_err(refusal)?;
+    let list: Vec<u32> = taken(value)?;
     let value = Value::try_from_array(alloc, Array::from(list))?;
-    let array = Array::<u32>::try_from(value).map_err(refusal)?;
+    let array: Array<u32> = taken(value)?;
     Ok(array.as_inner().len() == 262_144 && array.as_inner().iter().all(|number| *number == 7))
 }
 
@@ -117,18 +133,24 @@ pub fn pairs(alloc: Global) -> Result<BTreeMap<u16, ByteBuf>, Error> {
 
 fn large_maps(alloc: Global) -> Result<bool, Error> {
     let value = Value::try_from_btree_map(alloc, pairs(alloc)?)?;
-    let ordered = OrderedMap::<u16, ByteBuf>::try_from(value).map_err(refusal)?;
+    let ordered: OrderedMap<u16, ByteBuf> = taken(value)?;
     let value = Value::try_from_ordered_map(alloc, ordered)?;
-    let sorted = BTreeMap::<u16, ByteBuf>::try_from(value).map_err(refusal)?;
+    let sorted: BTreeMap<u16, ByteBuf> = taken(value)?;
     Ok(sorted == pairs(alloc)?)
 }
 
 fn large_hashed(alloc: Global) -> Result<bool, Error> {
     let value = Value::try_from_btree_map(alloc, pairs(alloc)?)?;
-    let hashed = HashMap::<u16, ByteBuf>::try_from(value).map_err(refusal)?;
+    let hashed: HashMap<u16, ByteBuf> = taken(value)?;
+    Ok(hashed.len() == 1024 && is_kibibyte(hashed.get(&1023)))
+}
+
+fn large_indexed(alloc: Global) -> Result<bool, Error> {
     let value = Value::try_from_btree_map(alloc, pairs(alloc)?)?;
-    let indexed = IndexMap::<u16, ByteBuf>::try_from(value).map_err(refusal)?;
-    let last = ByteBuf::from(Vec::from_elem(alloc, 1u8, 1024)?);
-    let both = hashed.get(&1023) == Some(&last) && indexed.get(&1023) == Some(&last);
-    Ok(both && hashed.len() == 1024 && indexed.len() == 1024)
+    let indexed: IndexMap<u16, ByteBuf> = taken(value)?;
+    Ok(indexed.len() == 1024 && is_kibibyte(indexed.get(&1023)))
+}
+
+fn is_kibibyte(value: Option<&ByteBuf>) -> bool {
+    value.is_some_and(|bytes| bytes.as_inner().as_slice() == [1u8; 1024].as_slice())
 }

@@ -69,17 +69,19 @@ fn nested_lists(alloc: Global, depth: u32) -> Result<Vec<u8>, AllocError> {
 // A binary of a mebibyte inside so many arrays of one element.
 fn nested_arrays(alloc: Global, depth: u32) -> Result<Vec<u8>, AllocError> {
     let len = 1_048_576u32;
-    let mut bytes = Vec::new(alloc);
-    bytes.push(0xf0)?;
+    let mut bytes = vec![in alloc; 0xf0]?;
     for outer in 1..depth {
         let inside = depth.wrapping_sub(outer).wrapping_mul(9);
-        let size = len.wrapping_add(9).wrapping_add(inside);
-        bytes.extend_from_slice(&size.to_be_bytes())?;
-        bytes.extend_from_slice(&[0, 0, 0, 1, 0xf0])?;
+        put_header(&mut bytes, len.wrapping_add(9).wrapping_add(inside), 0xf0)?;
     }
-    bytes.extend_from_slice(&len.wrapping_add(9).to_be_bytes())?;
-    bytes.extend_from_slice(&[0, 0, 0, 1, 0xb0])?;
+    put_header(&mut bytes, len.wrapping_add(9), 0xb0)?;
     bytes.extend_from_slice(&len.to_be_bytes())?;
     bytes.extend_from_slice(&Vec::from_elem(alloc, 1, MEBIBYTE)?)?;
     Ok(bytes)
+}
+
+// The size of an array, its count of one and the code of its element.
+fn put_header(bytes: &mut Vec<u8>, size: u32, code: u8) -> Result<(), AllocError> {
+    bytes.extend_from_slice(&size.to_be_bytes())?;
+    bytes.extend_from_slice(&[0, 0, 0, 1, code])
 }

@@ -1,7 +1,7 @@
 //! The calls that take memory, each with about a mebibyte.
 
 use crate::report::report;
-use crate::{accessors, conversions, own_types, reading, serializer};
+use crate::{accessors, conversions, own_types, reading, serializer, written};
 use amqp_data::{Array, ByteBuf, Error, OrderedMap, Symbol, TransparentVec};
 use amqp_decode::{decode_value, decode_value_within};
 use amqp_frame::{LazyValue, SliceReader};
@@ -78,20 +78,20 @@ fn collected(alloc: Global) -> Result<bool, Error> {
 
 fn bytes(alloc: Global) -> Result<bool, Error> {
     let binary = ByteBuf::from(Vec::from_elem(alloc, 1u8, MEBIBYTE)?);
-    let written = to_vec(alloc, &binary)?;
+    let is_long = written::begins(alloc, &binary, &[0xb0, 0, 0x10, 0, 0, 1], MEBIBYTE + 5)?;
+    Ok(is_long && is_made_again(alloc, binary)?)
+}
+
+fn is_made_again(alloc: Global, binary: ByteBuf) -> Result<bool, Error> {
     let image = to_value(alloc, &binary)?;
-    let again = Value::try_from_serializable(alloc, &image)?;
-    let starts = written.starts_with(&[0xb0, 0, 0x10, 0, 0, 1]);
-    Ok(starts && written.len() == MEBIBYTE + 5 && again == Value::Binary(binary))
+    Ok(Value::try_from_serializable(alloc, &image)? == Value::Binary(binary))
 }
 
 // More than a mebibyte of headers, and of values.
 fn compounds(alloc: Global) -> Result<bool, Error> {
     let lists = Array::from(Vec::from_elem(alloc, (1u8,), 100_000)?);
-    let written = to_vec(alloc, &lists)?;
-    let image = to_value(alloc, &lists)?;
-    let starts = written.starts_with(&[0xf0, 0, 0x0f, 0x42, 0x45, 0, 1, 0x86, 0xa0, 0xd0]);
-    Ok(starts && written.len() == 1_000_010 && to_vec(alloc, &image)? == written)
+    let header = &[0xf0, 0, 0x0f, 0x42, 0x45, 0, 1, 0x86, 0xa0, 0xd0];
+    Ok(written::begins(alloc, &lists, header, 1_000_010)? && written::are_equal(alloc, &lists)?)
 }
 
 fn keys(alloc: Global) -> Result<bool, Error> {
@@ -99,9 +99,7 @@ fn keys(alloc: Global) -> Result<bool, Error> {
     for key in 0..20_000u32 {
         drop(map.insert(key, ())?);
     }
-    let image = to_value(alloc, &map)?;
-    let ascending = to_vec(alloc, &image)? == to_vec(alloc, &map)?;
-    Ok(ascending && descending_keys(alloc)?)
+    Ok(written::are_equal(alloc, &map)? && descending_keys(alloc)?)
 }
 
 // Keys that do not ascend: their places take memory too.
@@ -110,8 +108,7 @@ fn descending_keys(alloc: Global) -> Result<bool, Error> {
     for key in 0..4_000u16 {
         drop(map.insert(u16::MAX - key, ())?);
     }
-    let image = to_value(alloc, &map)?;
-    Ok(to_vec(alloc, &image)? == to_vec(alloc, &map)?)
+    written::are_equal(alloc, &map)
 }
 
 // The encoded value of a binary of a mebibyte.
@@ -131,8 +128,7 @@ fn frame(alloc: Global) -> Result<bool, Error> {
 
 fn decoded(alloc: Global) -> Result<bool, Error> {
     let bytes = long_frame(alloc)?;
-    let value = decode_value(alloc, &bytes)?;
-    Ok(to_vec(alloc, &value)? == bytes)
+    written::is(alloc, &decode_value(alloc, &bytes)?, &bytes)
 }
 
 // A binary of a mebibyte where no element without bytes is granted, and as many nulls as take a
@@ -140,11 +136,14 @@ fn decoded(alloc: Global) -> Result<bool, Error> {
 fn within(alloc: Global) -> Result<bool, Error> {
     let bytes = long_frame(alloc)?;
     let value = decode_value_within(alloc, &bytes, 0)?;
+    Ok(nulls(alloc)? && written::is(alloc, &value, &bytes)?)
+}
+
+fn nulls(alloc: Global) -> Result<bool, Error> {
     let nulls = b"\xf0\0\0\0\x05\0\0\x80\0\x40";
     let granted = decode_value_within(alloc, nulls, 32_768)?;
-    let refused = decode_value_within(alloc, nulls, 32_767);
     let all = matches!(&granted, Value::Array(items) if items.as_inner().len() == 32_768);
-    Ok(all && refused == Err(Error::OutOfMemory) && to_vec(alloc, &value)? == bytes)
+    Ok(all && own_types::is_out_of_memory(alloc, nulls, 32_767))
 }
 
 // An array of numbers of a mebibyte, decoded, and read as numbers.

@@ -64,6 +64,7 @@ mod report;
 mod runs;
 mod serializer;
 mod without;
+mod written;
 
 use amqp_data::Error;
 use std::env::Env;

@@ -3,11 +3,12 @@
 use crate::conversions::pairs;
 use crate::large::MEBIBYTE;
 use amqp_data::{Array, Described, Descriptor, Error, OrderedMap, Symbol, TransparentVec};
+use amqp_de::de::Deserialize;
 use amqp_decode::{decode_value, decode_value_within};
 use amqp_from_value::from_value;
-use amqp_restore::restored;
+use amqp_restore::{Restore, restored};
+use amqp_ser::Serialize;
 use amqp_to_value::to_value;
-use amqp_value::Value;
 use example_reading::{Calibration, Day, Limits, Position, Rain, Sky, Title};
 use std::alloc::Global;
 use std::collections::BTreeMap;
@@ -22,22 +23,37 @@ pub fn all(alloc: Global) -> Result<bool, Error> {
     Ok(own && lists(alloc)? && maps(alloc)? && untyped(alloc)? && bounded(alloc)?)
 }
 
+// Whether the value is the same after it was written and read.
+fn comes_back<T: Restore + PartialEq>(alloc: Global, value: &T) -> Result<bool, Error> {
+    Ok(restored(alloc, value)? == *value)
+}
+
+// Whether the value is read from its image.
+fn is_read<T: Serialize + Deserialize + PartialEq>(alloc: Global, value: &T) -> Result<bool, Error> {
+    let read: T = from_value(alloc, to_value(alloc, value)?)?;
+    Ok(read == *value)
+}
+
 fn composites(alloc: Global) -> Result<bool, Error> {
     let title = Title(String::from_str(alloc, "noon")?);
+    Ok(comes_back(alloc, &title)? && limits(alloc)? && sky(alloc)?)
+}
+
+fn limits(alloc: Global) -> Result<bool, Error> {
     let limits = Limits {
         lowest: -2000,
         highest: 4500,
         unit: Some(Symbol::try_from_str(alloc, "celsius")?),
     };
+    comes_back(alloc, &limits)
+}
+
+fn sky(alloc: Global) -> Result<bool, Error> {
     let sky = Sky::Storm {
         name: String::from_str(alloc, "Ana")?,
         until: Some(7),
     };
-    Ok(
-        restored(alloc, &title)? == title
-            && restored(alloc, &limits)? == limits
-            && restored(alloc, &sky)? == sky,
-    )
+    comes_back(alloc, &sky)
 }
 
 fn fields(alloc: Global) -> Result<bool, Error> {
@@ -46,50 +62,68 @@ fn fields(alloc: Global) -> Result<bool, Error> {
         longitude: 2,
         height: Some(3),
     };
+    Ok(comes_back(alloc, &position)? && calibration(alloc)?)
+}
+
+fn calibration(alloc: Global) -> Result<bool, Error> {
     let calibration = Calibration {
         offset: 1,
         divisor: None,
         remark: Some(String::from_str(alloc, "new")?),
     };
-    let read: Calibration = from_value(alloc, to_value(alloc, &calibration)?)?;
-    Ok(restored(alloc, &position)? == position && read == calibration)
+    is_read(alloc, &calibration)
 }
 
 fn days(alloc: Global) -> Result<bool, Error> {
     let mut hours = BTreeMap::new(alloc);
     drop(hours.insert(6u32, -150)?);
-    let day = Day {
-        light: [5, 21],
-        station: Symbol::try_from_str(alloc, "hut")?,
-        hours,
-    };
     let rain = Rain {
         amount: 12,
         time: 30,
     };
-    let read: Rain = from_value(alloc, to_value(alloc, &rain)?)?;
-    Ok(restored(alloc, &day)? == day && read == rain)
+    Ok(day(alloc, "hut", hours)? && is_read(alloc, &rain)?)
+}
+
+fn day(alloc: Global, station: &str, hours: BTreeMap<u32, i32>) -> Result<bool, Error> {
+    let day = Day {
+        light: [5, 21],
+        station: Symbol::try_from_str(alloc, station)?,
+        hours,
+    };
+    comes_back(alloc, &day)
 }
 
 fn lists(alloc: Global) -> Result<bool, Error> {
     let array = Array::from(vec![in alloc; String::from_str(alloc, "a")?]?);
-    let vector = TransparentVec::from(vec![in alloc; 1u8, 2u8]?);
-    let items = [String::from_str(alloc, "a")?, String::from_str(alloc, "b")?];
-    let boxed = Box::new(alloc, vec![in alloc; Some(1u8), None]?)?;
-    Ok(
-        restored(alloc, &array)? == array
-            && restored(alloc, &vector)? == vector
-            && restored(alloc, &items)? == items
-            && restored(alloc, &boxed)? == boxed,
-    )
+    Ok(comes_back(alloc, &array)? && vectors(alloc)? && pairs_of_texts(alloc)? && boxed(alloc)?)
+}
+
+fn vectors(alloc: Global) -> Result<bool, Error> {
+    comes_back(alloc, &TransparentVec::from(vec![in alloc; 1u8, 2u8]?))
+}
+
+fn pairs_of_texts(alloc: Global) -> Result<bool, Error> {
+    comes_back(alloc, &[String::from_str(alloc, "a")?, String::from_str(alloc, "b")?])
+}
+
+fn boxed(alloc: Global) -> Result<bool, Error> {
+    comes_back(alloc, &Box::new(alloc, vec![in alloc; Some(1u8), None]?)?)
 }
 
 fn maps(alloc: Global) -> Result<bool, Error> {
+    Ok(sorted(alloc)? && ordered(alloc)?)
+}
+
+fn sorted(alloc: Global) -> Result<bool, Error> {
     let mut sorted = BTreeMap::new(alloc);
     drop(sorted.insert(1u8, String::from_str(alloc, "a")?)?);
+    comes_back(alloc, &sorted)
+}
+
+fn ordered(alloc: Global) -> Result<bool, Error> {
     let mut ordered = OrderedMap::new(alloc);
     drop(ordered.insert(Symbol::try_from_str(alloc, "k")?, 1u8)?);
-    Ok(restored(alloc, &sorted)? == sorted && restored(alloc, &ordered)? == ordered)
+    comes_back(alloc, &ordered)
 }
 
 fn untyped(alloc: Global) -> Result<bool, Error> {
@@ -97,18 +131,19 @@ fn untyped(alloc: Global) -> Result<bool, Error> {
         descriptor: Descriptor::from(1u64),
         value: Array::from(vec![in alloc; 1u8, 2u8]?),
     };
-    let value = to_value(alloc, &inner)?;
-    let again: Value = from_value(alloc, to_value(alloc, &value)?)?;
-    let described: Described<Array<u8>> = from_value(alloc, value)?;
-    Ok(again == to_value(alloc, &inner)? && described == inner)
+    Ok(is_read(alloc, &to_value(alloc, &inner)?)? && is_read(alloc, &inner)?)
 }
 
 // Three nulls, where three are granted and where they are not.
 fn bounded(alloc: Global) -> Result<bool, Error> {
     let nulls = b"\xe0\x02\x03\x40";
     let granted = decode_value_within(alloc, nulls, 3)?;
-    let refused = decode_value_within(alloc, nulls, 2);
-    Ok(granted == decode_value(alloc, nulls)? && refused == Err(Error::OutOfMemory))
+    Ok(granted == decode_value(alloc, nulls)? && is_out_of_memory(alloc, nulls, 2))
+}
+
+/// Whether the bytes are out of memory where so many elements without bytes are granted.
+pub fn is_out_of_memory(alloc: Global, bytes: &[u8], elements: u32) -> bool {
+    matches!(decode_value_within(alloc, bytes, elements), Err(Error::OutOfMemory))
 }
 
 /// Writes and reads values of about a mebibyte.
@@ -117,8 +152,7 @@ fn bounded(alloc: Global) -> Result<bool, Error> {
 /// `OutOfMemory` where a request for memory is refused; any other is a wrong answer.
 pub fn large(alloc: Global) -> Result<bool, Error> {
     let numbers = Vec::from_elem(alloc, 7u32, 262_144)?;
-    let map = pairs(alloc)?;
-    Ok(restored(alloc, &numbers)? == numbers && restored(alloc, &map)? == map)
+    Ok(comes_back(alloc, &numbers)? && comes_back(alloc, &pairs(alloc)?)?)
 }
 
 /// Writes and reads types of one's own with a text of a mebibyte, and with 20,000 pairs.
@@ -127,18 +161,20 @@ pub fn large(alloc: Global) -> Result<bool, Error> {
 /// `OutOfMemory` where a request for memory is refused; any other is a wrong answer.
 pub fn large_composites(alloc: Global) -> Result<bool, Error> {
     let bytes = Vec::from_elem(alloc, b'a', MEBIBYTE)?;
-    let Ok(text) = str::from_utf8(&bytes) else {
-        return Ok(false);
-    };
-    let title = Title(String::from_str(alloc, text)?);
+    match str::from_utf8(&bytes) {
+        Ok(text) => Ok(long_title(alloc, text)? && long_day(alloc, text)?),
+        Err(_) => Ok(false),
+    }
+}
+
+fn long_title(alloc: Global, text: &str) -> Result<bool, Error> {
+    comes_back(alloc, &Title(String::from_str(alloc, text)?))
+}
+
+fn long_day(alloc: Global, text: &str) -> Result<bool, Error> {
     let mut hours = BTreeMap::new(alloc);
     for hour in 0..20_000u32 {
         drop(hours.insert(hour, -150)?);
     }
-    let day = Day {
-        light: [5, 21],
-        station: Symbol::try_from_str(alloc, text)?,
-        hours,
-    };
-    Ok(restored(alloc, &title)? == title && restored(alloc, &day)? == day)
+    day(alloc, text, hours)
 }

@@ -2,11 +2,12 @@
 //! of about a mebibyte.
 
 use crate::conversions::pairs;
+use crate::written;
 use amqp_data::{Array, ByteBuf, Error, OrderedMap, TransparentVec};
+use amqp_de::de::Deserialize;
 use amqp_decode::decode_value;
 use amqp_from_value::from_value;
 use amqp_value::Value;
-use amqp_wire::to_vec;
 use std::alloc::Global;
 use std::collections::{BTreeMap, HashMap};
 
@@ -35,9 +36,8 @@ const KEYS_ONCE: &[u8] = b"\xc1\x09\x04\x50\x02\x50\x04\x50\x01\x50\x03";
 pub fn decoded(alloc: Global) -> Result<bool, Error> {
     let value = decode_value(alloc, LIST)?;
     let starts = matches!(&value, Value::List(items) if items.len() == 6);
-    let map = decode_value(alloc, KEYS_IN_TURN)?;
-    let once = to_vec(alloc, &map)?.as_slice() == KEYS_ONCE;
-    Ok(starts && once && to_vec(alloc, &value)?.as_slice() == LIST)
+    let map = written::is(alloc, &decode_value(alloc, KEYS_IN_TURN)?, KEYS_ONCE)?;
+    Ok(starts && map && written::is(alloc, &value, LIST)?)
 }
 
 /// The types that take memory as they are read.
@@ -45,20 +45,25 @@ pub fn decoded(alloc: Global) -> Result<bool, Error> {
 /// # Errors
 /// `OutOfMemory` where a request for memory is refused; any other is a wrong answer.
 pub fn types(alloc: Global) -> Result<bool, Error> {
-    Ok(lists(alloc)? && maps(alloc)?)
+    Ok(lists(alloc)? && boxes(alloc)? && maps(alloc)?)
+}
+
+// The value that the bytes spell, as this type.
+fn read<T: Deserialize>(alloc: Global, bytes: &[u8]) -> Result<T, Error> {
+    from_value(alloc, decode_value(alloc, bytes)?)
 }
 
 fn lists(alloc: Global) -> Result<bool, Error> {
-    let list: Vec<u8> = from_value(alloc, decode_value(alloc, NUMBERS)?)?;
+    let list: Vec<u8> = read(alloc, NUMBERS)?;
     let array: Array<u8> = from_value(alloc, Value::Array(five(alloc)?))?;
-    let boxed: Box<Vec<Box<u8>>> = from_value(alloc, decode_value(alloc, NUMBERS)?)?;
-    let vector: TransparentVec<u8> = from_value(alloc, decode_value(alloc, NUMBERS)?)?;
+    Ok(list.as_slice() == [1, 2, 3, 4, 5].as_slice() && array.as_inner().len() == 5)
+}
+
+fn boxes(alloc: Global) -> Result<bool, Error> {
+    let boxed: Box<Vec<Box<u8>>> = read(alloc, NUMBERS)?;
+    let vector: TransparentVec<u8> = read(alloc, NUMBERS)?;
     let last = boxed.len() == 5 && *boxed[4] == 5;
-    Ok(
-        last && list.as_slice() == [1, 2, 3, 4, 5].as_slice()
-            && array.as_inner().len() == 5
-            && vector.as_slice().len() == 5,
-    )
+    Ok(last && vector.as_slice().len() == 5)
 }
 
 fn five(alloc: Global) -> Result<Array<Value>, Error> {
@@ -70,9 +75,9 @@ fn five(alloc: Global) -> Result<Array<Value>, Error> {
 }
 
 fn maps(alloc: Global) -> Result<bool, Error> {
-    let sorted: BTreeMap<u8, String> = from_value(alloc, decode_value(alloc, MAP)?)?;
-    let ordered: OrderedMap<u8, String> = from_value(alloc, decode_value(alloc, MAP)?)?;
-    let hashed: HashMap<u8, String> = from_value(alloc, decode_value(alloc, MAP)?)?;
+    let sorted: BTreeMap<u8, String> = read(alloc, MAP)?;
+    let ordered: OrderedMap<u8, String> = read(alloc, MAP)?;
+    let hashed: HashMap<u8, String> = read(alloc, MAP)?;
     Ok(sorted.len() == 2 && ordered.len() == 2 && hashed.len() == 2)
 }
 

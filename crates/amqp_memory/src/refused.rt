@@ -5,7 +5,7 @@ ghost use Rattle.std.specs.Prelude.{None};
 
 use crate::report::report;
 use amqp_data::{Described, Descriptor, Error, markers};
-use amqp_ser::{Serialize, Serializer as _};
+use amqp_ser::{Serialize, Serializer as Calls};
 use amqp_to_value::Serializer;
 use amqp_value::Value;
 use std::alloc::Global;
@@ -17,7 +17,7 @@ struct NoTree;
 impl Serialize for NoTree {
     ghost tree = { λ _. None };
 
-    fn serialize<S: amqp_ser::Serializer>(&self, serializer: &mut S) -> Result<S::Ok, S::Error> {
+    fn serialize<S: Calls>(&self, serializer: &mut S) -> Result<S::Ok, S::Error> {
         serializer.serialize_newtype_struct(markers::SYMBOL, &1u8)
     }
 }
@@ -46,7 +46,7 @@ pub fn all(rt: &(impl Print + AllocGlobal)) -> Result<(), Error> {
 fn after_refusals<T: Serialize>(alloc: Global, value: &T) -> Result<bool, Error> {
     let mut serializer = Serializer::new(alloc);
     for _ in 0..100_000u32 {
-        match serializer.serialize_described(&1u64, value) {
+        match described(&mut serializer, value) {
             Err(Error::InvalidValue) => {}
             Err(error) => return Err(error),
             Ok(_) => return Ok(false),
@@ -57,5 +57,9 @@ fn after_refusals<T: Serialize>(alloc: Global, value: &T) -> Result<bool, Error>
         value: Value::Bool(true),
     };
     let expected = Value::Described(Box::new(alloc, described)?);
-    Ok(serializer.serialize_described(&1u64, &true)? == expected)
+    Ok(described(&mut serializer, &true)? == expected)
+}
+
+fn described<S: Calls, T: Serialize>(serializer: &mut S, value: &T) -> Result<S::Ok, S::Error> {
+    serializer.serialize_described(&1u64, value)
 }

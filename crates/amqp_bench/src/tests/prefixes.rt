@@ -45,11 +45,11 @@ fn maps(rt: &HostRuntime) -> bool {
 /// value.
 fn is_cut<T: Serialize + Drop>(rt: &HostRuntime, shape: u32, value: Result<T, Error>) -> bool {
     let Ok(value) = value else {
-        return wrong(rt, "value", shape);
+        return wrong(rt, "value of shape", shape);
     };
     match to_vec(rt.alloc(), &value) {
         Ok(bytes) => are_incomplete(rt, shape, &bytes) && is_complete(rt, shape, &bytes),
-        Err(_) => wrong(rt, "bytes", shape),
+        Err(_) => wrong(rt, "bytes of shape", shape),
     }
 }
 
@@ -72,7 +72,7 @@ fn is_incomplete(alloc: Global, prefix: &[u8]) -> bool {
 
 fn is_complete(rt: &HostRuntime, shape: u32, bytes: &[u8]) -> bool {
     match frame_len(bytes) {
-        Some(len) => len == bytes.len() || wrong(rt, "whole length", shape),
-        None => wrong(rt, "length", shape),
+        Some(len) => len == bytes.len() || wrong(rt, "whole length of shape", shape),
+        None => wrong(rt, "length of shape", shape),
     }
 }

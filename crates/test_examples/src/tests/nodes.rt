@@ -73,7 +73,9 @@ fn pair(a: Global) -> Option<Vec<&'static str>> {
 }
 
 fn in_a_list<T: Drop>(a: Global, value: Option<T>) -> Option<Vec<T>> {
-    Vec::from_array(a, [value?]).ok()
+    let mut list = Vec::new(a);
+    list.push(value?).ok()?;
+    Some(list)
 }
 
 fn nested_lists(rt: &HostRuntime) -> bool {

@@ -1,4 +1,5 @@
-//! Values that are written, read back, and read from other forms.
+//! Values that are written, read back, and read from other forms. Each untyped value is given by
+//! its encoding (AMQP 1.0 part 1, section 1.6), which `decode_value` reads.
 
 mod composites;
 mod days;
@@ -7,8 +8,9 @@ mod regions;
 mod variants;
 
 use super::{wrong, wrong_error, wrong_value};
-use amqp_data::{Described, Descriptor, Error, OrderedMap, Symbol};
+use amqp_data::{Error, Symbol};
 use amqp_de::de::Deserialize;
+use amqp_decode::decode_value;
 use amqp_from_value::from_value;
 use amqp_restore::{Restore, restored};
 use amqp_ser::Serialize;
@@ -16,20 +18,26 @@ use amqp_to_value::to_value;
 use amqp_value::Value;
 use std::alloc::Global;
 
-/// Whether this is the untyped value of the value, and the value is read from it again.
+/// Whether these bytes spell the untyped value of the value, and the value is read from it again.
 fn comes_back<T: Serialize + Deserialize + PartialEq>(
     rt: &HostRuntime,
     name: &str,
-    untyped: Option<Value>,
+    bytes: &[u8],
     value: Option<T>,
 ) -> bool {
-    let (Some(untyped), Some(value)) = (untyped, value) else {
-        return wrong(rt, name, "no memory for the value");
-    };
-    match to_value(rt.alloc(), &value) {
+    match value {
+        Some(value) => {
+            is_untyped(rt, name, bytes, &value) && is_read(rt, name, bytes, &value)
+        }
+        None => wrong(rt, name, "no memory for the value"),
+    }
+}
+
+fn is_untyped<T: Serialize>(rt: &HostRuntime, name: &str, bytes: &[u8], value: &T) -> bool {
+    match to_value(rt.alloc(), value) {
         Ok(written) => {
-            (written == untyped || wrong_value(rt, name, &written))
-                && is_read(rt, name, written, &value)
+            decode_value(rt.alloc(), bytes).is_ok_and(|untyped| untyped == written)
+                || wrong_value(rt, name, &written)
         }
         Err(error) => wrong_error(rt, name, &error),
     }
@@ -39,34 +47,46 @@ fn comes_back<T: Serialize + Deserialize + PartialEq>(
 fn reads<T: Serialize + Deserialize + PartialEq>(
     rt: &HostRuntime,
     name: &str,
-    untyped: Option<Value>,
+    bytes: &[u8],
     value: Option<T>,
 ) -> bool {
-    match (untyped, value) {
-        (Some(untyped), Some(value)) => is_read(rt, name, untyped, &value),
-        _ => wrong(rt, name, "no memory for the value"),
+    match value {
+        Some(value) => is_read(rt, name, bytes, &value),
+        None => wrong(rt, name, "no memory for the value"),
     }
+}
+
+/// The type that is read from an untyped value.
+fn read<T: Deserialize>(alloc: Global, bytes: &[u8]) -> Result<T, Error> {
+    from_value(alloc, decode_value(alloc, bytes)?)
 }
 
 fn is_read<T: Serialize + Deserialize + PartialEq>(
     rt: &HostRuntime,
     name: &str,
-    untyped: Value,
+    bytes: &[u8],
     value: &T,
 ) -> bool {
-    match from_value::<T>(rt.alloc(), untyped) {
-        Ok(read) => read == *value || is_other(rt, name, &read),
-        Err(error) => wrong_error(rt, name, &error),
-    }
+    is_same(rt, name, read(rt.alloc(), bytes), value)
 }
 
 /// Whether the value is the same after it was written and read.
 fn is_restored<T: Restore + PartialEq>(rt: &HostRuntime, name: &str, value: Option<T>) -> bool {
-    let Some(value) = value else {
-        return wrong(rt, name, "no memory for the value");
-    };
-    match restored(rt.alloc(), &value) {
-        Ok(read) => read == value || is_other(rt, name, &read),
+    match value {
+        Some(value) => is_same(rt, name, restored(rt.alloc(), &value), &value),
+        None => wrong(rt, name, "no memory for the value"),
+    }
+}
+
+/// Whether this value was read.
+fn is_same<T: Serialize + PartialEq + Drop>(
+    rt: &HostRuntime,
+    name: &str,
+    read: Result<T, Error>,
+    value: &T,
+) -> bool {
+    match read {
+        Ok(read) => read == *value || is_other(rt, name, &read),
         Err(error) => wrong_error(rt, name, &error),
     }
 }
@@ -80,23 +100,18 @@ fn is_other<T: Serialize>(rt: &HostRuntime, name: &str, read: &T) -> bool {
 }
 
 /// Whether the untyped value is refused as no `T`.
-fn is_invalid<T: Deserialize>(rt: &HostRuntime, name: &str, untyped: Option<Value>) -> bool {
-    is_refused::<T>(rt, name, untyped, &Error::InvalidValue)
+fn is_invalid<T: Deserialize>(rt: &HostRuntime, name: &str, bytes: &[u8]) -> bool {
+    is_refused::<T>(rt, name, bytes, &Error::InvalidValue)
 }
 
 /// Whether the untyped value is refused as no `T`, with this error.
-fn is_refused<T: Deserialize>(
-    rt: &HostRuntime,
-    name: &str,
-    untyped: Option<Value>,
-    wanted: &Error,
-) -> bool {
-    let Some(untyped) = untyped else {
-        return wrong(rt, name, "no memory for the value");
-    };
-    match from_value::<T>(rt.alloc(), untyped) {
-        Ok(_) => wrong(rt, name, "a value"),
-        Err(error) => error == *wanted || wrong_error(rt, name, &error),
+fn is_refused<T: Deserialize>(rt: &HostRuntime, name: &str, bytes: &[u8], wanted: &Error) -> bool {
+    match decode_value(rt.alloc(), bytes) {
+        Ok(untyped) => match from_value::<T>(rt.alloc(), untyped) {
+            Ok(_) => wrong(rt, name, "a value"),
+            Err(error) => error == *wanted || wrong_error(rt, name, &error),
+        },
+        Err(_) => wrong(rt, name, "no untyped value"),
     }
 }
 
@@ -104,50 +119,10 @@ fn text(a: Global, text: &str) -> Option<String> {
     String::from_str(a, text).ok()
 }
 
-fn string(a: Global, name: &str) -> Option<Value> {
-    Some(Value::String(text(a, name)?))
-}
-
 fn symbol(a: Global, name: &str) -> Option<Symbol> {
     Symbol::try_from_str(a, name).ok()
 }
 
-fn list<const N: usize>(a: Global, items: [Option<Value>; N]) -> Option<Value> {
-    let mut list = Vec::new(a);
-    for item in Vec::from_array(a, items).ok()? {
-        list.push(item?).ok()?;
-    }
-    Some(Value::List(list))
-}
-
-fn map<const N: usize>(a: Global, pairs: [(Option<Value>, Option<Value>); N]) -> Option<Value> {
-    let mut map = OrderedMap::new(a);
-    for (key, value) in Vec::from_array(a, pairs).ok()? {
-        drop(map.insert(key?, value?).ok()?);
-    }
-    Some(Value::Map(map))
-}
-
-fn after(a: Global, descriptor: Descriptor, value: Option<Value>) -> Option<Value> {
-    let described = Described {
-        descriptor,
-        value: value?,
-    };
-    Some(Value::Described(Box::new(a, described).ok()?))
-}
-
-fn coded(a: Global, code: u64, value: Option<Value>) -> Option<Value> {
-    after(a, Descriptor::Code(code), value)
-}
-
-fn named(a: Global, name: &str, value: Option<Value>) -> Option<Value> {
-    after(a, Descriptor::Name(symbol(a, name)?), value)
-}
-
-fn int(number: i32) -> Option<Value> {
-    Some(Value::Int(number))
-}
-
-fn uint(number: u32) -> Option<Value> {
-    Some(Value::Uint(number))
+fn untyped(a: Global, bytes: &[u8]) -> Option<Value> {
+    decode_value(a, bytes).ok()
 }

@@ -79,10 +79,9 @@ fn close(a: Global) -> Option<Close> {
 
 fn sessions(rt: &HostRuntime) -> bool {
     let a = rt.alloc();
-    let end = End { error: error(a) };
     has(rt, "begin", Some(begin(a)), rows::BEGIN)
         && has(rt, "begin, short", Some(short_begin()), rows::BEGIN_SHORT)
-        && has(rt, "end", Some(end), rows::END)
+        && has(rt, "end", Some(End { error: error(a) }), rows::END)
         && has(rt, "end, short", Some(End { error: None }), rows::END_SHORT)
 }
 

@@ -1,10 +1,7 @@
 //! Composites, from lists and maps, after their descriptors and others.
 
-use super::{
-    coded, comes_back, int, is_invalid, is_restored, list, map, named, reads, string, symbol, text,
-    uint,
-};
-use amqp_value::Value;
+use super::{comes_back, is_invalid, is_restored, reads, symbol, text};
+use amqp_data::Symbol;
 use example_reading::{Calibration, Contact, Gust, Limits, Span, Title};
 use std::alloc::Global;
 
@@ -12,40 +9,21 @@ use std::alloc::Global;
 fn composites_are_read_from_lists_and_maps(rt: HostRuntime) {
     assert!(rt; spans_come_back(&rt), "spans come back");
     assert!(rt; titles_come_back(&rt), "titles come back");
-    assert!(rt;
-        limits_are_read(&rt),
-        "limits are read from a list and from a map"
-    );
-    assert!(rt;
-        calibrations_are_read(&rt),
-        "calibrations are read from a map and from a list"
-    );
-    assert!(rt;
-        calibrations_are_refused(&rt),
-        "other values are no calibrations"
-    );
-    assert!(rt;
-        contacts_come_back_as_maps(&rt),
-        "contacts come back as maps"
-    );
-    assert!(rt;
-        gusts_come_back(&rt),
-        "gusts come back without absent fields at the end"
-    );
-}
-
-fn ulong(number: u64) -> Option<Value> {
-    Some(Value::Ulong(number))
+    assert!(rt; limits_are_read(&rt), "limits are read from a list and from a map");
+    assert!(rt; calibrations_are_read(&rt), "calibrations are read from a map and from a list");
+    assert!(rt; calibrations_are_refused(&rt), "other values are no calibrations");
+    assert!(rt; contacts_come_back_as_maps(&rt), "contacts come back as maps");
+    assert!(rt; gusts_come_back(&rt), "gusts come back without absent fields at the end");
 }
 
 fn spans_come_back(rt: &HostRuntime) -> bool {
-    let a = rt.alloc();
-    let fields = || list(a, [ulong(60), ulong(3600)]);
-    let short = coded(a, 0x16, list(a, [ulong(60)]));
-    comes_back(rt, "a span", coded(a, 0x16, fields()), Some(Span(60, 3600)))
-        && is_invalid::<Span>(rt, "after a symbol", named(a, "station:span", fields()))
-        && is_invalid::<Span>(rt, "after another code", coded(a, 0x13, fields()))
-        && is_invalid::<Span>(rt, "one field", short)
+    let span = b"\x00\x53\x16\xc0\x0c\x02\x53\x3c\x80\x00\x00\x00\x00\x00\x00\x0e\x10";
+    let named = b"\x00\xa3\x0cstation:span\xc0\x0c\x02\x53\x3c\x80\x00\x00\x00\x00\x00\x00\x0e\x10";
+    let other = b"\x00\x53\x13\xc0\x0c\x02\x53\x3c\x80\x00\x00\x00\x00\x00\x00\x0e\x10";
+    comes_back(rt, "a span", span, Some(Span(60, 3600)))
+        && is_invalid::<Span>(rt, "after a symbol", named)
+        && is_invalid::<Span>(rt, "after another code", other)
+        && is_invalid::<Span>(rt, "one field", b"\x00\x53\x16\xc0\x03\x01\x53\x3c")
 }
 
 fn title(a: Global) -> Option<Title> {
@@ -53,82 +31,56 @@ fn title(a: Global) -> Option<Title> {
 }
 
 fn titles_come_back(rt: &HostRuntime) -> bool {
-    let a = rt.alloc();
-    let noon = || string(a, "noon");
-    comes_back(rt, "a title", coded(a, 0x13, noon()), title(a))
-        && is_invalid::<Title>(rt, "after another code", coded(a, 0x14, noon()))
-        && is_invalid::<Title>(rt, "after no code", noon())
-        && is_invalid::<Title>(rt, "null", coded(a, 0x13, Some(Value::Null)))
+    comes_back(rt, "a title", b"\x00\x53\x13\xa1\x04noon", title(rt.alloc()))
+        && is_invalid::<Title>(rt, "after another code", b"\x00\x53\x14\xa1\x04noon")
+        && is_invalid::<Title>(rt, "after no code", b"\xa1\x04noon")
+        && is_invalid::<Title>(rt, "null", b"\x00\x53\x13\x40")
 }
 
-fn kelvin(a: Global) -> Option<Value> {
-    Some(Value::Symbol(symbol(a, "K")?))
-}
-
-fn limits(a: Global) -> Option<Limits> {
+fn limits(unit: Option<Symbol>) -> Option<Limits> {
     Some(Limits {
         lowest: -4000,
         highest: 8500,
-        unit: Some(symbol(a, "K")?),
+        unit,
     })
 }
 
+/// The map has the fields in another order, and an entry more.
 fn limits_are_read(rt: &HostRuntime) -> bool {
     let a = rt.alloc();
-    let bare = Limits {
-        lowest: -4000,
-        highest: 8500,
-        unit: None,
-    };
-    let fields = list(a, [int(-4000), int(8500), kelvin(a)]);
-    let two = list(a, [int(-4000), int(8500)]);
-    let alone = map(a, [(string(a, "lowest"), int(-4000))]);
-    comes_back(rt, "a list", coded(a, 0x14, fields), limits(a))
-        && reads(rt, "a map", coded(a, 0x14, limits_by_name(a)), limits(a))
-        && reads(rt, "a list of two", coded(a, 0x14, two), Some(bare))
-        && is_invalid::<Limits>(rt, "a map of one", coded(a, 0x14, alone))
-}
-
-/// The fields in another order, and an entry more.
-fn limits_by_name(a: Global) -> Option<Value> {
-    let unit = (string(a, "unit"), kelvin(a));
-    let more = (uint(0), Some(Value::Null));
-    let highest = (string(a, "highest"), int(8500));
-    map(a, [unit, more, highest, (string(a, "lowest"), int(-4000))])
+    let list = b"\x00\x53\x14\xc0\x0e\x03\x71\xff\xff\xf0\x60\x71\x00\x00\x21\x34\xa3\x01K";
+    let map =
+        b"\x00\x53\x14\xc1\x27\x08\xa1\x04unit\xa3\x01K\x43\x40\xa1\x07highest\x71\x00\x00\x21\x34\xa1\x06lowest\x71\xff\xff\xf0\x60";
+    let two = b"\x00\x53\x14\xc0\x0b\x02\x71\xff\xff\xf0\x60\x71\x00\x00\x21\x34";
+    let alone = b"\x00\x53\x14\xc1\x0e\x02\xa1\x06lowest\x71\xff\xff\xf0\x60";
+    comes_back(rt, "a list", list, limits(symbol(a, "K")))
+        && reads(rt, "a map", map, limits(symbol(a, "K")))
+        && reads(rt, "a list of two", two, limits(None))
+        && is_invalid::<Limits>(rt, "a map of one", alone)
 }
 
 fn calibration(a: Global) -> Option<Calibration> {
     Some(Calibration {
         offset: -3,
         divisor: None,
-        remark: Some(text(a, "dry")?),
+        remark: text(a, "dry"),
     })
 }
 
 fn calibrations_are_read(rt: &HostRuntime) -> bool {
     let a = rt.alloc();
-    let entries = map(
-        a,
-        [
-            (string(a, "offset"), int(-3)),
-            (string(a, "remark"), string(a, "dry")),
-        ],
-    );
-    let fields = list(a, [int(-3), Some(Value::Null), string(a, "dry")]);
-    comes_back(rt, "a map", coded(a, 0x15, entries), calibration(a))
+    let map = b"\x00\x53\x15\xc1\x18\x04\xa1\x06offset\x54\xfd\xa1\x06remark\xa1\x03dry";
+    comes_back(rt, "a map", map, calibration(a))
         && is_restored(rt, "a map", calibration(a))
-        && reads(rt, "a list", coded(a, 0x15, fields), calibration(a))
+        && reads(rt, "a list", b"\x00\x53\x15\xc0\x09\x03\x54\xfd\x40\xa1\x03dry", calibration(a))
 }
 
 fn calibrations_are_refused(rt: &HostRuntime) -> bool {
-    let a = rt.alloc();
-    let offset = || map(a, [(string(a, "offset"), int(-3))]);
-    let dry = map(a, [(string(a, "offset"), string(a, "dry"))]);
-    let other = coded(a, 0x14, list(a, [int(-3)]));
-    is_invalid::<Calibration>(rt, "a text as the offset", coded(a, 0x15, dry))
-        && is_invalid::<Calibration>(rt, "after another code", other)
-        && is_invalid::<Calibration>(rt, "after no code", offset())
-        && is_invalid::<Calibration>(rt, "a number", coded(a, 0x15, int(-3)))
+    let dry = b"\x00\x53\x15\xc1\x0e\x02\xa1\x06offset\xa1\x03dry";
+    is_invalid::<Calibration>(rt, "a text as the offset", dry)
+        && is_invalid::<Calibration>(rt, "after another code", b"\x00\x53\x14\xc0\x03\x01\x54\xfd")
+        && is_invalid::<Calibration>(rt, "after no code", b"\xc1\x0b\x02\xa1\x06offset\x54\xfd")
+        && is_invalid::<Calibration>(rt, "a number", b"\x00\x53\x15\x54\xfd")
 }
 
 fn contact(a: Global, telephone: Option<String>) -> Option<Contact> {
@@ -140,13 +92,11 @@ fn contact(a: Global, telephone: Option<String>) -> Option<Contact> {
 
 fn contacts_come_back_as_maps(rt: &HostRuntime) -> bool {
     let a = rt.alloc();
-    let known = || contact(a, text(a, "3912"));
-    let ada = || (string(a, "name"), string(a, "Ada"));
-    let both = map(a, [(string(a, "telephone"), string(a, "3912")), ada()]);
-    comes_back(rt, "a name alone", map(a, [ada()]), contact(a, None))
-        && is_restored(rt, "a name and a number", known())
-        && reads(rt, "a number and a name", both, known())
-        && is_invalid::<Contact>(rt, "an empty map", map(a, []))
+    let both = b"\xc1\x1d\x04\xa1\x09telephone\xa1\x043912\xa1\x04name\xa1\x03Ada";
+    comes_back(rt, "a name alone", b"\xc1\x0c\x02\xa1\x04name\xa1\x03Ada", contact(a, None))
+        && is_restored(rt, "a name and a number", contact(a, text(a, "3912")))
+        && reads(rt, "a number and a name", both, contact(a, text(a, "3912")))
+        && is_invalid::<Contact>(rt, "an empty map", b"\xc1\x01\x00")
 }
 
 fn gust(from: Option<u16>, at: Option<u16>) -> Option<Gust> {
@@ -158,21 +108,14 @@ fn gust(from: Option<u16>, at: Option<u16>) -> Option<Gust> {
 }
 
 fn gusts_come_back(rt: &HostRuntime) -> bool {
-    let a = rt.alloc();
-    let (null, speed) = (|| Some(Value::Null), || uint(90000));
-    let one = list(a, [speed()]);
-    let two = list(a, [speed(), Some(Value::Ushort(270))]);
-    let last = list(a, [speed(), null(), Some(Value::Ushort(600))]);
-    let nulls = list(a, [speed(), null(), null()]);
-    comes_back(rt, "one field", coded(a, 0x17, one), gust(None, None))
-        && comes_back(rt, "two fields", coded(a, 0x17, two), gust(Some(270), None))
-        && comes_back(
-            rt,
-            "the last field",
-            coded(a, 0x17, last),
-            gust(None, Some(600)),
-        )
-        && reads(rt, "nulls", coded(a, 0x17, nulls), gust(None, None))
+    let one = b"\x00\x53\x17\xc0\x06\x01\x70\x00\x01\x5f\x90";
+    let two = b"\x00\x53\x17\xc0\x09\x02\x70\x00\x01\x5f\x90\x60\x01\x0e";
+    let last = b"\x00\x53\x17\xc0\x0a\x03\x70\x00\x01\x5f\x90\x40\x60\x02\x58";
+    let nulls = b"\x00\x53\x17\xc0\x08\x03\x70\x00\x01\x5f\x90\x40\x40";
+    comes_back(rt, "one field", one, gust(None, None))
+        && comes_back(rt, "two fields", two, gust(Some(270), None))
+        && comes_back(rt, "the last field", last, gust(None, Some(600)))
+        && reads(rt, "nulls", nulls, gust(None, None))
         && is_restored(rt, "all fields", gust(Some(270), Some(600)))
-        && is_invalid::<Gust>(rt, "no field", coded(a, 0x17, list(a, [])))
+        && is_invalid::<Gust>(rt, "no field", b"\x00\x53\x17\x45")
 }

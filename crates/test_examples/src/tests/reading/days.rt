@@ -1,11 +1,7 @@
 //! A struct with a map, one after a symbol, and types that are read as they were written.
 
-use super::{
-    coded, comes_back, int, is_invalid, is_restored, list, map, named, reads, string, symbol, text,
-    uint,
-};
+use super::{comes_back, is_invalid, is_restored, reads, symbol, text, untyped};
 use amqp_data::OrderedMap;
-use amqp_value::Value;
 use example_reading::{Day, Rain};
 use std::alloc::Global;
 use std::collections::BTreeMap;
@@ -13,18 +9,8 @@ use std::collections::BTreeMap;
 #[test]
 fn days_and_rain_are_written_and_read(rt: HostRuntime) {
     assert!(rt; days_come_back(&rt), "days come back");
-    assert!(rt;
-        rain_is_described_by_a_symbol(&rt),
-        "rain is described by a symbol"
-    );
-    assert!(rt;
-        maps_and_untyped_values_come_back(&rt),
-        "maps and untyped values come back"
-    );
-}
-
-fn station(a: Global) -> Option<Value> {
-    Some(Value::Symbol(symbol(a, "LOWI")?))
+    assert!(rt; rain_is_described_by_a_symbol(&rt), "rain is described by a symbol");
+    assert!(rt; maps_and_untyped_values_come_back(&rt), "maps and untyped values come back");
 }
 
 fn day(a: Global, hours: Option<BTreeMap<u32, i32>>) -> Option<Day> {
@@ -44,10 +30,9 @@ fn hours(a: Global) -> Option<BTreeMap<u32, i32>> {
 
 fn days_come_back(rt: &HostRuntime) -> bool {
     let a = rt.alloc();
-    let measured = map(a, [(uint(6), int(-40)), (uint(13), int(2150))]);
-    let whole = list(a, [list(a, [uint(6), uint(20)]), station(a), measured]);
-    let light = list(a, [uint(6), uint(20), uint(21)]);
-    let more = list(a, [light, station(a), map(a, []), string(a, "left over")]);
+    let whole =
+        b"\xc0\x1c\x03\xc0\x05\x02\x52\x06\x52\x14\xa3\x04LOWI\xc1\x0c\x04\x52\x06\x54\xd8\x52\x0d\x71\x00\x00\x08\x66";
+    let more = b"\xc0\x1e\x04\xc0\x07\x03\x52\x06\x52\x14\x52\x15\xa3\x04LOWI\xc1\x01\x00\xa1\x09left over";
     comes_back(rt, "a day", whole, day(a, hours(a)))
         && is_restored(rt, "a day", day(a, hours(a)))
         && reads(rt, "a day with more", more, day(a, Some(BTreeMap::new(a))))
@@ -61,14 +46,13 @@ fn rain() -> Option<Rain> {
 }
 
 fn rain_is_described_by_a_symbol(rt: &HostRuntime) -> bool {
-    let a = rt.alloc();
-    let fields = || list(a, [uint(105), Some(Value::Ushort(60))]);
-    let whole = named(a, "station:rain:list", fields());
-    let other = named(a, "station:rain:map", fields());
+    let whole = b"\x00\xa3\x11station:rain:list\xc0\x06\x02\x52\x69\x60\x00\x3c";
+    let other = b"\x00\xa3\x10station:rain:map\xc0\x06\x02\x52\x69\x60\x00\x3c";
+    let code = b"\x00\x53\x17\xc0\x06\x02\x52\x69\x60\x00\x3c";
     comes_back(rt, "rain", whole, rain())
         && is_restored(rt, "rain", rain())
         && is_invalid::<Rain>(rt, "another symbol", other)
-        && is_invalid::<Rain>(rt, "a number", coded(a, 0x17, fields()))
+        && is_invalid::<Rain>(rt, "a number", code)
 }
 
 fn names(a: Global) -> Option<OrderedMap<String, Option<u8>>> {
@@ -80,11 +64,8 @@ fn names(a: Global) -> Option<OrderedMap<String, Option<u8>>> {
 
 fn maps_and_untyped_values_come_back(rt: &HostRuntime) -> bool {
     let a = rt.alloc();
-    let untyped = map(
-        a,
-        [(uint(1), Some(Value::Null)), (Some(Value::Null), uint(1))],
-    );
+    let map = b"\xc1\x07\x04\x52\x01\x40\x40\x52\x01";
     is_restored(rt, "a map in the order of insertion", names(a))
-        && is_restored(rt, "an untyped value", untyped)
+        && is_restored(rt, "an untyped value", untyped(a, map))
         && is_restored(rt, "an array of two", Some([7u64, 8u64]))
 }

@@ -1,6 +1,6 @@
 //! Regions in regions, read one level after another.
 
-use super::{comes_back, is_invalid, is_other, is_restored, list, uint};
+use super::{comes_back, is_invalid, is_other, is_restored, untyped};
 use crate::tests::wrong;
 use amqp_data::Error;
 use amqp_value::Value;
@@ -14,29 +14,20 @@ fn regions_are_read_level_by_level(rt: HostRuntime) {
     assert!(rt; other_values_are_refused(&rt), "other values are refused");
 }
 
-/// The value of a region.
-fn region(a: Global, number: u32, inner: Option<Value>) -> Option<Value> {
-    list(a, [uint(number), inner])
-}
-
-/// The value of a region without regions in it.
-fn lone(a: Global, number: u32) -> Option<Value> {
-    region(a, number, list(a, []))
-}
-
 fn outer(a: Global) -> Option<Region> {
-    let valleys = list(a, [lone(a, 3), lone(a, 4)]);
+    let valleys =
+        b"\xc0\x12\x02\x52\x02\xc0\x0d\x02\xc0\x04\x02\x52\x03\x45\xc0\x04\x02\x52\x04\x45";
     Some(Region {
         number: 1,
-        inner: Vec::from_array(a, [region(a, 2, valleys)?, lone(a, 5)?]).ok()?,
+        inner: Vec::from_array(a, [untyped(a, valleys)?, untyped(a, b"\xc0\x04\x02\x52\x05\x45")?]).ok()?,
     })
 }
 
 fn regions_come_back(rt: &HostRuntime) -> bool {
-    let a = rt.alloc();
-    let valleys = list(a, [lone(a, 3), lone(a, 4)]);
-    let whole = region(a, 1, list(a, [region(a, 2, valleys), lone(a, 5)]));
-    comes_back(rt, "three levels", whole, outer(a)) && is_restored(rt, "three levels", outer(a))
+    let whole =
+        b"\xc0\x20\x02\x52\x01\xc0\x1b\x02\xc0\x12\x02\x52\x02\xc0\x0d\x02\xc0\x04\x02\x52\x03\x45\xc0\x04\x02\x52\x04\x45\xc0\x04\x02\x52\x05\x45";
+    comes_back(rt, "three levels", whole, outer(rt.alloc()))
+        && is_restored(rt, "three levels", outer(rt.alloc()))
 }
 
 fn levels_are_read(rt: &HostRuntime) -> bool {
@@ -76,14 +67,13 @@ fn next_level(a: Global, level: Vec<Region>, numbers: &mut Vec<u32>) -> Option<V
 fn with_a_number(a: Global) -> Option<Region> {
     Some(Region {
         number: 1,
-        inner: Vec::from_array(a, [lone(a, 2)?, Value::Uint(3)]).ok()?,
+        inner: Vec::from_array(a, [untyped(a, b"\xc0\x04\x02\x52\x02\x45")?, Value::Uint(3)]).ok()?,
     })
 }
 
 fn other_values_are_refused(rt: &HostRuntime) -> bool {
-    let a = rt.alloc();
-    is_invalid::<Region>(rt, "a number alone", list(a, [uint(1)]))
-        && is_restored(rt, "a number among the regions", with_a_number(a))
+    is_invalid::<Region>(rt, "a number alone", b"\xc0\x03\x01\x52\x01")
+        && is_restored(rt, "a number among the regions", with_a_number(rt.alloc()))
         && is_refused_later(rt)
 }
 
