@@ -38,24 +38,25 @@ fn next(alloc: Global, reader: &mut SliceReader<'_>) -> Result<String, Error> {
     }
 }
 
-/// How many proper prefixes the bytes have, and to how many of them `decode_value` and
-/// `LazyValue::from_reader` answer that the input ends too early, and `frame_len` none.
+/// How many proper prefixes the bytes have, and how many of them are incomplete.
 pub fn prefixes(alloc: Global, bytes: &[u8]) -> Result<String, Error> {
-    let [mut decoded, mut cut, mut framed] = [0u64; 3];
+    let mut incomplete = 0usize;
     for end in 0..bytes.len() {
         let prefix = bytes.get(..end).unwrap_or(bytes);
-        if matches!(&decode_value(alloc, prefix), Err(Error::UnexpectedEof)) {
-            decoded = decoded.saturating_add(1);
-        }
-        let mut reader = SliceReader::new(prefix);
-        let read = LazyValue::from_reader(alloc, &mut reader);
-        if matches!(&read, Err(Error::UnexpectedEof)) {
-            cut = cut.saturating_add(1);
-        }
-        if frame_len(prefix).is_none() && !is_frame(prefix) {
-            framed = framed.saturating_add(1);
+        if is_incomplete(alloc, prefix) {
+            incomplete = incomplete.saturating_add(1);
         }
     }
-    let all = bytes.len();
-    Ok(format!(in alloc; "{all}: decode {decoded}, cut {cut}, frame {framed}")?)
+    Ok(format!(in alloc; "{} {incomplete}", bytes.len())?)
+}
+
+// Whether `decode_value` and `LazyValue::from_reader` answer that the input ends too early, and
+// `frame_len` finds no encoded value.
+fn is_incomplete(alloc: Global, bytes: &[u8]) -> bool {
+    let value = decode_value(alloc, bytes);
+    let cut = LazyValue::from_reader(alloc, &mut SliceReader::new(bytes));
+    matches!(&value, Err(Error::UnexpectedEof))
+        && matches!(&cut, Err(Error::UnexpectedEof))
+        && frame_len(bytes).is_none()
+        && !is_frame(bytes)
 }

@@ -13,12 +13,11 @@
 //! | `compare BYTES BYTES` | `cmp` of the two values, and which of `<`, `=` and `>` are true |
 //! | `frame BYTES` | `frame_len` and `is_frame` |
 //! | `cut BYTES` | what each call of `LazyValue::from_reader` answers until no byte is left |
-//! | `prefixes BYTES` | how many proper prefixes there are, and how many of them are incomplete |
+//! | `prefixes BYTES` | how many proper prefixes there are, and how many are incomplete |
 //! | `read TYPE BYTES` | the value as this type: its size, its bytes, and its image like `decode` |
 //! | `readers BYTES` | the scalar types that read the value |
 //!
 //! An error is printed in angle brackets. A value's bytes tell its kind, which its text does not.
-//! An image with the bytes of the value itself has `same` in their place.
 #![tactic(auto)]
 
 mod cuts;

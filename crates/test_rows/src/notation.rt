@@ -31,7 +31,10 @@ pub fn word_of(alloc: Global, bytes: &[u8]) -> Result<String, Error> {
 
 /// The number that the word denotes, in decimal.
 pub fn number_of(word: &str) -> Result<u32, Error> {
-    word.parse().map_err(|_| Error::Message("no number"))
+    match word.parse() {
+        Ok(number) => Ok(number),
+        Err(_) => Err(Error::Message("no number")),
+    }
 }
 
 // The bytes of one part, followed by the rest.
@@ -53,7 +56,10 @@ fn followed(alloc: Global, part: &str, rest: &[u8]) -> Result<Vec<u8>, Error> {
 }
 
 fn digits_of(alloc: Global, digits: &str) -> Result<Vec<u8>, Error> {
-    hex::decode(alloc, digits).map_err(|_| Error::Message("no hexadecimal"))
+    match hex::decode(alloc, digits.as_bytes()) {
+        Ok(bytes) => Ok(bytes),
+        Err(_) => Err(Error::Message("no hexadecimal")),
+    }
 }
 
 fn repeated(alloc: Global, piece: &[u8], count: u32) -> Result<Vec<u8>, Error> {
@@ -66,7 +72,9 @@ fn repeated(alloc: Global, piece: &[u8], count: u32) -> Result<Vec<u8>, Error> {
 
 // What is before the bytes inside so many compounds of one element.
 fn opened(alloc: Global, code: &[u8], depth: u32, inside: usize) -> Result<Vec<u8>, Error> {
-    let inside = u32::try_from(inside).map_err(|_| Error::TooLong)?;
+    let Ok(inside) = u32::try_from(inside) else {
+        return Err(Error::TooLong);
+    };
     let mut bytes = Vec::new(alloc);
     for outer in 0..depth {
         let inner = depth.wrapping_sub(outer).wrapping_sub(1);

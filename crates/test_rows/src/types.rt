@@ -1,7 +1,7 @@
 //! Values read as a type, by the type's name.
 
 use crate::notation::{bytes_of, word_of};
-use crate::values::two_words;
+use crate::values::shown;
 use amqp_data::{
     Array, ByteBuf, Dec32, Dec64, Dec128, Described, Error, F32Bits, F64Bits, OrderedMap, Symbol,
     Timestamp, TransparentVec, Uuid,
@@ -44,7 +44,9 @@ const SCALARS: [&str; 21] = [
 
 /// The value as a type: `TYPE BYTES`.
 pub fn read(alloc: Global, arguments: &str) -> Result<String, Error> {
-    let (name, bytes) = two_words(arguments)?;
+    let Some((name, bytes)) = arguments.split_once(' ') else {
+        return Err(Error::Message("one argument"));
+    };
     by_name(alloc, name, &bytes_of(alloc, bytes)?)
 }
 
@@ -81,16 +83,12 @@ fn read_as<T: Serialize + Deserialize>(alloc: Global, value: Value) -> Result<St
     written(alloc, size, &bytes, &image)
 }
 
-// The size, the bytes, and the image's bytes and text; `same` in place of equal bytes.
+// The size, the bytes, and the image's bytes and text.
 fn written(alloc: Global, size: usize, bytes: &[u8], image: &Value) -> Result<String, Error> {
-    let mut text = format!(in alloc; "{size} {}", word_of(alloc, bytes)?)?;
-    let image_bytes = to_vec(alloc, image)?;
-    if image_bytes.as_slice() == bytes {
-        text.push_str(" same ")?;
-    } else {
-        text.push_str(&format!(in alloc; " {} ", word_of(alloc, &image_bytes)?)?)?;
-    }
-    text.push_str(&format!(in alloc; "{image}")?)?;
+    let mut text = format!(in alloc; "{size} ")?;
+    text.push_str(&word_of(alloc, bytes)?)?;
+    text.push_str(" ")?;
+    text.push_str(&shown(alloc, image)?)?;
     Ok(text)
 }
 

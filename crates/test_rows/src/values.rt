@@ -15,7 +15,9 @@ pub fn decode(alloc: Global, bytes: &[u8]) -> Result<String, Error> {
 
 /// Like `decode`, within a limit of elements that have no bytes: `LIMIT BYTES`.
 pub fn decode_within(alloc: Global, arguments: &str) -> Result<String, Error> {
-    let (limit, bytes) = two_words(arguments)?;
+    let Some((limit, bytes)) = arguments.split_once(' ') else {
+        return Err(Error::Message("one argument"));
+    };
     let bytes = bytes_of(alloc, bytes)?;
     shown(
         alloc,
@@ -51,35 +53,36 @@ pub fn depth(alloc: Global, bytes: &[u8]) -> Result<String, Error> {
 
 /// The order of two values by `cmp`, and which of `<`, `=` and `>` are true of them.
 pub fn compare(alloc: Global, arguments: &str) -> Result<String, Error> {
-    let (first, second) = two_words(arguments)?;
+    let Some((first, second)) = arguments.split_once(' ') else {
+        return Err(Error::Message("one argument"));
+    };
     let first = decode_value(alloc, &bytes_of(alloc, first)?)?;
     let second = decode_value(alloc, &bytes_of(alloc, second)?)?;
-    let order = match first.cmp(&second) {
-        Ordering::Less => "less",
-        Ordering::Equal => "equal",
-        Ordering::Greater => "greater",
-    };
-    let less = if first < second { "<" } else { "" };
-    let equal = if first == second { "=" } else { "" };
-    let greater = if first > second { ">" } else { "" };
-    Ok(format!(in alloc; "{order} {less}{equal}{greater}")?)
+    let mut text = String::from_str(alloc, order_of(&first, &second))?;
+    text.push_str(if first < second { "<" } else { "" })?;
+    text.push_str(if first == second { "=" } else { "" })?;
+    text.push_str(if first > second { ">" } else { "" })?;
+    Ok(text)
 }
 
-/// The two words of a row with two arguments.
-pub fn two_words(arguments: &str) -> Result<(&str, &str), Error> {
-    arguments
-        .split_once(' ')
-        .ok_or(Error::Message("one argument"))
+fn order_of(first: &Value, second: &Value) -> &'static str {
+    match first.cmp(second) {
+        Ordering::Less => "less ",
+        Ordering::Equal => "equal ",
+        Ordering::Greater => "greater ",
+    }
 }
 
-// The bytes that the value is written as, and its text.
-fn shown(alloc: Global, value: &Value) -> Result<String, Error> {
-    let bytes = word_of(alloc, &to_vec(alloc, value)?)?;
-    let text = format!(in alloc; "{value}")?;
-    if value.to_string(alloc)? != text {
+/// The bytes that the value is written as, and its text, which `format!` and `to_string` give.
+pub fn shown(alloc: Global, value: &Value) -> Result<String, Error> {
+    let text = value.to_string(alloc)?;
+    if format!(in alloc; "{value}")?.as_str() != text.as_str() {
         return Err(Error::Message("another text"));
     }
-    Ok(format!(in alloc; "{bytes} {text}")?)
+    let mut shown = word_of(alloc, &to_vec(alloc, value)?)?;
+    shown.push_str(" ")?;
+    shown.push_str(&text)?;
+    Ok(shown)
 }
 
 // How many lists are around the empty one.
