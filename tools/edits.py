@@ -29,6 +29,12 @@ def pairs(edit):
                 old = None
 
 
+def only(edit):
+    """Returns the function that a line 'only: NAME' of the edit names: one that is not proved with it. The gate does not read the line."""
+    with open(edit, encoding="utf-8") as lines:
+        return next((it[len("only:") :].strip() for it in lines if it.startswith("only:")), None)
+
+
 def applied(edit, texts, read):
     """Returns the texts, by path, after the edit. `read` gives the text of a file that is not in `texts`."""
     texts = dict(texts)
@@ -133,7 +139,7 @@ def outside(text, its_functions):
 
 
 def place(crate, path, function, names):
-    """Returns the name of the function and the folder of its proof, or None if more than one name fits.
+    """Returns the name of the function, the folder of its proof and how the names of its goals begin there, or None if more than one name fits.
 
     `names` are the names of the crate's functions as a check lists them, as `crate::module::TypeTrait::method`.
     """
@@ -153,10 +159,11 @@ def place(crate, path, function, names):
         fits = exact or [it for it in fits if it.split("::")[-2].startswith(its_type + trait)]
     if len(fits) != 1:
         return None
-    folder = fits[0].split("::")[1:]
+    folder, goals = fits[0].split("::")[1:], ""
     if function.cycle:
-        folder = [*module.split("::")[1:], f"+{function.cycle}"]
-    return fits[0], f"proofs/{'/'.join(folder)}/"
+        # one proof for all functions of the cycle
+        folder, goals = [*module.split("::")[1:], f"+{function.cycle}"], f"{function.name}-"
+    return fits[0], f"proofs/{'/'.join(folder)}/", goals
 
 
 def owner_words(header):
