@@ -1,9 +1,9 @@
-//! Worked rows of untyped values: equality, order, texts, conversions, and each law once.
+//! Worked rows of untyped values: equality, order, conversions, and each law once. The rows of texts and of format codes
+//! are data of the program `test_rows`.
 
 mod conversions;
 mod maps;
 mod order;
-mod shown;
 
 use super::values::{array, bytes, described, list, map, string, symbol};
 use amqp_data::{Dec32, Dec64, Dec128, Descriptor, F32Bits, F64Bits, Timestamp, Uuid};

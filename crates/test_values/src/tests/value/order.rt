@@ -1,4 +1,4 @@
-//! Format codes, equality, and the order of worked values.
+//! Equality and the order of worked values.
 
 use super::super::rows::{is, wrong};
 use super::super::values::{described, list, map, name, string, symbol, vec_of};
@@ -22,24 +22,6 @@ fn is_ascending<T: PartialOrd>(rt: &HostRuntime, values: &[T]) -> bool {
 fn variants_compare_in_the_order_of_the_standard(rt: &HostRuntime) -> bool {
     let values = one_of_each(rt);
     is(rt, "the count of variants", &values.len(), &25) && is_ascending(rt, values.as_slice())
-}
-
-// Whether each value has the format code of the same place.
-fn have_codes(rt: &HostRuntime, values: &[Value], codes: &[u8]) -> bool {
-    for (value, code) in values.iter().zip(codes.iter()) {
-        if value.format_code() != *code {
-            return wrong(rt, "a format code of", value);
-        }
-    }
-    true
-}
-
-fn format_codes_are_those_of_the_standard(rt: &HostRuntime) -> bool {
-    let codes: [u8; 25] = [
-        0x00, 0x40, 0x56, 0x50, 0x60, 0x70, 0x80, 0x51, 0x61, 0x71, 0x81, 0x72, 0x82, 0x74, 0x84,
-        0x94, 0x73, 0x83, 0x98, 0xb0, 0xb1, 0xb3, 0xd0, 0xd1, 0xf0,
-    ];
-    have_codes(rt, one_of_each(rt).as_slice(), codes.as_slice())
 }
 
 // Whether two values are not equal.
@@ -116,7 +98,6 @@ fn compound_values_go_by_content(rt: &HostRuntime) -> bool {
 #[test]
 fn order(rt: HostRuntime) {
     assert!(rt; variants_compare_in_the_order_of_the_standard(&rt));
-    assert!(rt; format_codes_are_those_of_the_standard(&rt));
     assert!(rt; equality_sees_contents_alone(&rt));
     assert!(rt; pairs_in_another_order_are_another_map(&rt));
     assert!(rt; numbers_go_by_content(&rt));
