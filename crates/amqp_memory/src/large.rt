@@ -90,7 +90,7 @@ fn is_made_again(alloc: Global, binary: ByteBuf) -> Result<bool, Error> {
 // More than a mebibyte of headers, and of values.
 fn compounds(alloc: Global) -> Result<bool, Error> {
     let lists = Array::from(Vec::from_elem(alloc, (1u8,), 100_000)?);
-    let header = &[0xf0, 0, 0x0f, 0x42, 0x45, 0, 1, 0x86, 0xa0, 0xd0];
+    let header: &[u8] = &[0xf0, 0, 0x0f, 0x42, 0x45, 0, 1, 0x86, 0xa0, 0xd0];
     Ok(written::begins(alloc, &lists, header, 1_000_010)? && written::are_equal(alloc, &lists)?)
 }
 
