@@ -35,15 +35,25 @@ fn each_shape_has_each_answer(rt: HostRuntime) {
 
 /// Hashes that are published for the function.
 fn hashes(rt: &HostRuntime) -> bool {
-    is(rt, "hash of the text of length", 0, hash_of(b""), 0xcbf29ce484222325)
-        && is(rt, "hash of the text of length", 1, hash_of(b"a"), 0xaf63dc4c8601ec8c)
-        && is(
-            rt,
-            "hash of foobar",
-            6,
-            hash_of(b"foobar"),
-            0x85944171f73967e8,
-        )
+    is(
+        rt,
+        "hash of the text of length",
+        0,
+        hash_of(b""),
+        0xcbf29ce484222325,
+    ) && is(
+        rt,
+        "hash of the text of length",
+        1,
+        hash_of(b"a"),
+        0xaf63dc4c8601ec8c,
+    ) && is(
+        rt,
+        "hash of foobar",
+        6,
+        hash_of(b"foobar"),
+        0x85944171f73967e8,
+    )
 }
 
 /// Whether an operation answers this on a work's data.

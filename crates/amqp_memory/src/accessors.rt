@@ -133,7 +133,10 @@ fn is_written<D: Reads>(deserializer: D) -> Result<bool, D::Error> {
 }
 
 fn is_marked<D: Reads>(deserializer: D) -> Result<bool, D::Error> {
-    Ok(matches!(deserializer.deserialize_marked(Mark::Lazy, Bytes)?, Visit::Plain))
+    Ok(matches!(
+        deserializer.deserialize_marked(Mark::Lazy, Bytes)?,
+        Visit::Plain
+    ))
 }
 
 fn is_newtype<D: Reads>(deserializer: D) -> Result<bool, D::Error> {

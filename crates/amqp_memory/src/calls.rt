@@ -22,7 +22,11 @@ pub fn all(rt: &(impl Print + AllocGlobal)) -> Result<(), Error> {
     report(rt, "bytes", bytes(alloc)?);
     report(rt, "a refused element fed again", fed_again(alloc)?);
     report(rt, "refused lists fed again", lists_fed_again(alloc)?);
-    report(rt, "refused values of a map serialized again", serializer::values_again(alloc)?);
+    report(
+        rt,
+        "refused values of a map serialized again",
+        serializer::values_again(alloc)?,
+    );
     report(rt, "images", images(alloc)?);
     report(rt, "described values", described(alloc)?);
     report(rt, "frames", frames(alloc)?);
@@ -67,7 +71,11 @@ fn bytes(alloc: Global) -> Result<bool, Error> {
 
 fn fed_again(alloc: Global) -> Result<bool, Error> {
     let inner = vec![in alloc; "a"]?;
-    written::is(alloc, &Again(inner), &[0xc0, 7, 1, 0xc0, 4, 1, 0xa1, 1, b'a'])
+    written::is(
+        alloc,
+        &Again(inner),
+        &[0xc0, 7, 1, 0xc0, 4, 1, 0xa1, 1, b'a'],
+    )
 }
 
 /// Five lists within one another: the table's growth is refused within the element that is fed

@@ -29,7 +29,10 @@ fn comes_back<T: Restore + PartialEq>(alloc: Global, value: &T) -> Result<bool, 
 }
 
 // Whether the value is read from its image.
-fn is_read<T: Serialize + Deserialize + PartialEq>(alloc: Global, value: &T) -> Result<bool, Error> {
+fn is_read<T: Serialize + Deserialize + PartialEq>(
+    alloc: Global,
+    value: &T,
+) -> Result<bool, Error> {
     let read: T = from_value(alloc, to_value(alloc, value)?)?;
     Ok(read == *value)
 }
@@ -103,7 +106,10 @@ fn vectors(alloc: Global) -> Result<bool, Error> {
 }
 
 fn pairs_of_texts(alloc: Global) -> Result<bool, Error> {
-    comes_back(alloc, &[String::from_str(alloc, "a")?, String::from_str(alloc, "b")?])
+    comes_back(
+        alloc,
+        &[String::from_str(alloc, "a")?, String::from_str(alloc, "b")?],
+    )
 }
 
 fn boxed(alloc: Global) -> Result<bool, Error> {
@@ -143,7 +149,10 @@ fn bounded(alloc: Global) -> Result<bool, Error> {
 
 /// Whether the bytes are out of memory where so many elements without bytes are granted.
 pub fn is_out_of_memory(alloc: Global, bytes: &[u8], elements: u32) -> bool {
-    matches!(decode_value_within(alloc, bytes, elements), Err(Error::OutOfMemory))
+    matches!(
+        decode_value_within(alloc, bytes, elements),
+        Err(Error::OutOfMemory)
+    )
 }
 
 /// Writes and reads values of about a mebibyte.

@@ -26,9 +26,7 @@ fn comes_back<T: Serialize + Deserialize + PartialEq>(
     value: Option<T>,
 ) -> bool {
     match value {
-        Some(value) => {
-            is_untyped(rt, name, bytes, &value) && is_read(rt, name, bytes, &value)
-        }
+        Some(value) => { is_untyped(rt, name, bytes, &value) && is_read(rt, name, bytes, &value) }
         None => wrong(rt, name, "no memory for the value"),
     }
 }

@@ -9,11 +9,26 @@ use std::alloc::Global;
 fn composites_are_read_from_lists_and_maps(rt: HostRuntime) {
     assert!(rt; spans_come_back(&rt), "spans come back");
     assert!(rt; titles_come_back(&rt), "titles come back");
-    assert!(rt; limits_are_read(&rt), "limits are read from a list and from a map");
-    assert!(rt; calibrations_are_read(&rt), "calibrations are read from a map and from a list");
-    assert!(rt; calibrations_are_refused(&rt), "other values are no calibrations");
-    assert!(rt; contacts_come_back_as_maps(&rt), "contacts come back as maps");
-    assert!(rt; gusts_come_back(&rt), "gusts come back without absent fields at the end");
+    assert!(rt;
+        limits_are_read(&rt),
+        "limits are read from a list and from a map"
+    );
+    assert!(rt;
+        calibrations_are_read(&rt),
+        "calibrations are read from a map and from a list"
+    );
+    assert!(rt;
+        calibrations_are_refused(&rt),
+        "other values are no calibrations"
+    );
+    assert!(rt;
+        contacts_come_back_as_maps(&rt),
+        "contacts come back as maps"
+    );
+    assert!(rt;
+        gusts_come_back(&rt),
+        "gusts come back without absent fields at the end"
+    );
 }
 
 fn spans_come_back(rt: &HostRuntime) -> bool {
@@ -31,8 +46,12 @@ fn title(a: Global) -> Option<Title> {
 }
 
 fn titles_come_back(rt: &HostRuntime) -> bool {
-    comes_back(rt, "a title", b"\x00\x53\x13\xa1\x04noon", title(rt.alloc()))
-        && is_invalid::<Title>(rt, "after another code", b"\x00\x53\x14\xa1\x04noon")
+    comes_back(
+        rt,
+        "a title",
+        b"\x00\x53\x13\xa1\x04noon",
+        title(rt.alloc()),
+    ) && is_invalid::<Title>(rt, "after another code", b"\x00\x53\x14\xa1\x04noon")
         && is_invalid::<Title>(rt, "after no code", b"\xa1\x04noon")
         && is_invalid::<Title>(rt, "null", b"\x00\x53\x13\x40")
 }
@@ -72,13 +91,22 @@ fn calibrations_are_read(rt: &HostRuntime) -> bool {
     let map = b"\x00\x53\x15\xc1\x18\x04\xa1\x06offset\x54\xfd\xa1\x06remark\xa1\x03dry";
     comes_back(rt, "a map", map, calibration(a))
         && is_restored(rt, "a map", calibration(a))
-        && reads(rt, "a list", b"\x00\x53\x15\xc0\x09\x03\x54\xfd\x40\xa1\x03dry", calibration(a))
+        && reads(
+            rt,
+            "a list",
+            b"\x00\x53\x15\xc0\x09\x03\x54\xfd\x40\xa1\x03dry",
+            calibration(a),
+        )
 }
 
 fn calibrations_are_refused(rt: &HostRuntime) -> bool {
     let dry = b"\x00\x53\x15\xc1\x0e\x02\xa1\x06offset\xa1\x03dry";
     is_invalid::<Calibration>(rt, "a text as the offset", dry)
-        && is_invalid::<Calibration>(rt, "after another code", b"\x00\x53\x14\xc0\x03\x01\x54\xfd")
+        && is_invalid::<Calibration>(
+            rt,
+            "after another code",
+            b"\x00\x53\x14\xc0\x03\x01\x54\xfd",
+        )
         && is_invalid::<Calibration>(rt, "after no code", b"\xc1\x0b\x02\xa1\x06offset\x54\xfd")
         && is_invalid::<Calibration>(rt, "a number", b"\x00\x53\x15\x54\xfd")
 }
@@ -93,8 +121,12 @@ fn contact(a: Global, telephone: Option<String>) -> Option<Contact> {
 fn contacts_come_back_as_maps(rt: &HostRuntime) -> bool {
     let a = rt.alloc();
     let both = b"\xc1\x1d\x04\xa1\x09telephone\xa1\x043912\xa1\x04name\xa1\x03Ada";
-    comes_back(rt, "a name alone", b"\xc1\x0c\x02\xa1\x04name\xa1\x03Ada", contact(a, None))
-        && is_restored(rt, "a name and a number", contact(a, text(a, "3912")))
+    comes_back(
+        rt,
+        "a name alone",
+        b"\xc1\x0c\x02\xa1\x04name\xa1\x03Ada",
+        contact(a, None),
+    ) && is_restored(rt, "a name and a number", contact(a, text(a, "3912")))
         && reads(rt, "a number and a name", both, contact(a, text(a, "3912")))
         && is_invalid::<Contact>(rt, "an empty map", b"\xc1\x01\x00")
 }

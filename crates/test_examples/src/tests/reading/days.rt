@@ -9,8 +9,14 @@ use std::collections::BTreeMap;
 #[test]
 fn days_and_rain_are_written_and_read(rt: HostRuntime) {
     assert!(rt; days_come_back(&rt), "days come back");
-    assert!(rt; rain_is_described_by_a_symbol(&rt), "rain is described by a symbol");
-    assert!(rt; maps_and_untyped_values_come_back(&rt), "maps and untyped values come back");
+    assert!(rt;
+        rain_is_described_by_a_symbol(&rt),
+        "rain is described by a symbol"
+    );
+    assert!(rt;
+        maps_and_untyped_values_come_back(&rt),
+        "maps and untyped values come back"
+    );
 }
 
 fn day(a: Global, hours: Option<BTreeMap<u32, i32>>) -> Option<Day> {
@@ -32,7 +38,8 @@ fn days_come_back(rt: &HostRuntime) -> bool {
     let a = rt.alloc();
     let whole =
         b"\xc0\x1c\x03\xc0\x05\x02\x52\x06\x52\x14\xa3\x04LOWI\xc1\x0c\x04\x52\x06\x54\xd8\x52\x0d\x71\x00\x00\x08\x66";
-    let more = b"\xc0\x1e\x04\xc0\x07\x03\x52\x06\x52\x14\x52\x15\xa3\x04LOWI\xc1\x01\x00\xa1\x09left over";
+    let more =
+        b"\xc0\x1e\x04\xc0\x07\x03\x52\x06\x52\x14\x52\x15\xa3\x04LOWI\xc1\x01\x00\xa1\x09left over";
     comes_back(rt, "a day", whole, day(a, hours(a)))
         && is_restored(rt, "a day", day(a, hours(a)))
         && reads(rt, "a day with more", more, day(a, Some(BTreeMap::new(a))))

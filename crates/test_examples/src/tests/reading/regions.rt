@@ -19,7 +19,14 @@ fn outer(a: Global) -> Option<Region> {
         b"\xc0\x12\x02\x52\x02\xc0\x0d\x02\xc0\x04\x02\x52\x03\x45\xc0\x04\x02\x52\x04\x45";
     Some(Region {
         number: 1,
-        inner: Vec::from_array(a, [untyped(a, valleys)?, untyped(a, b"\xc0\x04\x02\x52\x05\x45")?]).ok()?,
+        inner: Vec::from_array(
+            a,
+            [
+                untyped(a, valleys)?,
+                untyped(a, b"\xc0\x04\x02\x52\x05\x45")?,
+            ],
+        )
+        .ok()?,
     })
 }
 
@@ -67,7 +74,11 @@ fn next_level(a: Global, level: Vec<Region>, numbers: &mut Vec<u32>) -> Option<V
 fn with_a_number(a: Global) -> Option<Region> {
     Some(Region {
         number: 1,
-        inner: Vec::from_array(a, [untyped(a, b"\xc0\x04\x02\x52\x02\x45")?, Value::Uint(3)]).ok()?,
+        inner: Vec::from_array(
+            a,
+            [untyped(a, b"\xc0\x04\x02\x52\x02\x45")?, Value::Uint(3)],
+        )
+        .ok()?,
     })
 }
 
