@@ -1,5 +1,5 @@
-//! Rows of the two runs, over readers and writers in memory that give little, or fail; and of the
-//! calls that are handed out.
+//! The program's two runs, over readers and writers in memory, some of which fail; and the public
+//! calls.
 
 mod composites;
 mod compounds;
@@ -22,5 +22,6 @@ mod runs;
 mod scalars;
 mod streams;
 mod structs;
+mod support;
 mod transparent;
 mod variants;
