@@ -15,6 +15,10 @@ pub fn array<T: Drop, const N: usize>(alloc: Global, items: [T; N]) -> Option<Ar
     Some(Array::from(list(alloc, items)?))
 }
 
+fn put<K: Hash + Eq + Drop, V: Drop>(map: &mut OrderedMap<K, V>, key: K, value: V) -> bool {
+    map.insert(key, value).is_ok()
+}
+
 /// A map of these pairs.
 pub fn pairs<K: Hash + Eq + Drop, V: Drop, const N: usize>(
     alloc: Global,
@@ -22,7 +26,9 @@ pub fn pairs<K: Hash + Eq + Drop, V: Drop, const N: usize>(
 ) -> Option<OrderedMap<K, V>> {
     let mut map = OrderedMap::new(alloc);
     for (key, value) in list(alloc, pairs)? {
-        drop(map.insert(key, value).ok()?);
+        if !put(&mut map, key, value) {
+            return None;
+        }
     }
     Some(map)
 }

@@ -6,11 +6,12 @@ ghost use Rattle.amqp_ser.specs.Composites.{as_described, descriptor_of};
 ghost use Rattle.amqp_ser.specs.Marked.{marked, mark_of};
 ghost use Rattle.amqp_ser.specs.Tree.{scalar, ubyte};
 
-use super::made::{array, described, list, pairs, symbol, text};
-use super::rows::{has_no_tree, has_some_image, wrong};
+use super::made::list;
+use super::rows::{decoded, has_no_tree, has_some_image, written, wrong};
 use serde_amqp::Value;
+use serde_amqp::decode::decode_value;
 use serde_amqp::extensions::TransparentVec;
-use serde_amqp::primitives::{ByteBuf, Dec32, Dec64, Dec128, F32Bits, F64Bits, Timestamp, Uuid};
+use serde_amqp::primitives::ByteBuf;
 use serde_amqp::ser::{Serialize, Serializer, markers};
 use std::alloc::Global;
 
@@ -41,55 +42,51 @@ impl<D: Serialize> Serialize for After<'_, D> {
     }
 }
 
-const VALUES: u32 = 25;
+/// A value of each kind, by its bytes, in the order of `Value`. The length of the binary is none that
+/// a marker takes, and its bytes are no encoded value.
+const VALUES: [&str; 25] = [
+    "00530140",
+    "40",
+    "41",
+    "5001",
+    "600001",
+    "5201",
+    ULONG,
+    "5101",
+    "610001",
+    "5401",
+    LONG,
+    "7200000001",
+    "820000000000000001",
+    "7401010101",
+    "840101010101010101",
+    "9401010101010101010101010101010101",
+    "7300000061",
+    "830000000000000001",
+    "9801010101010101010101010101010101",
+    "a003a10561",
+    STRING,
+    SYMBOL,
+    LIST,
+    "c10402500140",
+    "e003015001",
+];
 
-const ULONG: u32 = 6;
+const ULONG: &str = "5301";
 
-const LONG: u32 = 10;
+const LONG: &str = "5501";
 
-const STRING: u32 = 20;
+const STRING: &str = "a10161";
 
-const SYMBOL: u32 = 21;
+const SYMBOL: &str = "a30161";
 
-const LIST: u32 = 22;
+const LIST: &str = "c003015001";
 
-// A value of each kind, by its number in the order of `Value`. The length of the binary is none
-// that a marker takes, and its bytes are no encoded value.
-fn value(a: Global, number: u32) -> Option<Value> {
-    match number {
-        0 => described(a, 1, Value::Null),
-        19 => Some(Value::Binary(ByteBuf::from(list(a, [0xa1, 5, b'a'])?))),
-        STRING => Some(Value::String(text(a, b'a', 1)?)),
-        SYMBOL => Some(Value::Symbol(symbol(a, "a")?)),
-        LIST => Some(Value::List(list(a, [Value::Ubyte(1)])?)),
-        23 => Some(Value::Map(pairs(a, [(Value::Ubyte(1), Value::Null)])?)),
-        24 => Some(Value::Array(array(a, [Value::Ubyte(1)])?)),
-        _ => fixed(number),
-    }
-}
+const NONE: &str = "";
 
-fn fixed(number: u32) -> Option<Value> {
-    match number {
-        1 => Some(Value::Null),
-        2 => Some(Value::Bool(true)),
-        3 => Some(Value::Ubyte(1)),
-        4 => Some(Value::Ushort(1)),
-        5 => Some(Value::Uint(1)),
-        ULONG => Some(Value::Ulong(1)),
-        7 => Some(Value::Byte(1)),
-        8 => Some(Value::Short(1)),
-        9 => Some(Value::Int(1)),
-        LONG => Some(Value::Long(1)),
-        11 => Some(Value::Float(F32Bits::from(1))),
-        12 => Some(Value::Double(F64Bits::from(1))),
-        13 => Some(Value::Decimal32(Dec32::from([1; 4]))),
-        14 => Some(Value::Decimal64(Dec64::from([1; 8]))),
-        15 => Some(Value::Decimal128(Dec128::from([1; 16]))),
-        16 => Some(Value::Char('a')),
-        17 => Some(Value::Timestamp(Timestamp::from_milliseconds(1))),
-        18 => Some(Value::Uuid(Uuid::from([1; 16]))),
-        _ => None,
-    }
+// The value of these bytes.
+fn value(alloc: Global, bytes: &str) -> Option<Value> {
+    decode_value(alloc, decoded(alloc, bytes)?.as_slice()).ok()
 }
 
 // The value under the marker has an image if the marker takes it, and otherwise no tree.
@@ -107,12 +104,15 @@ fn marked_value<T: Serialize>(
     has_no_tree(rt, row, &newtype) && has_no_tree(rt, row, &(1u8, newtype))
 }
 
-fn over_value(rt: &HostRuntime, name: &'static str, number: u32, taken: bool) -> bool {
+fn over_value(rt: &HostRuntime, name: &'static str, bytes: &'static str, taken: bool) -> bool {
     match (
-        value(rt.alloc(), number),
-        format!(in rt.alloc(); "{name} over value {number}"),
+        value(rt.alloc(), bytes),
+        format!(in rt.alloc(); "{name} over {bytes}"),
     ) {
-        (Some(value), Ok(row)) => marked_value(rt, row.as_str(), name, &value, taken),
+        (Some(value), Ok(row)) => {
+            written(rt, row.as_str(), &value, bytes)
+                && marked_value(rt, row.as_str(), name, &value, taken)
+        }
         _ => wrong(rt, name, "no memory"),
     }
 }
@@ -127,26 +127,26 @@ fn over_a_transparent_vector(rt: &HostRuntime, name: &'static str) -> bool {
     }
 }
 
-// The marker over each value takes the value of this number alone.
-fn takes(rt: &HostRuntime, name: &'static str, taken: Option<u32>) -> bool {
+// The marker over each value takes the value of these bytes alone.
+fn takes(rt: &HostRuntime, name: &'static str, taken: &str) -> bool {
     let mut holds = over_a_transparent_vector(rt, name);
-    for number in 0..VALUES {
-        holds = over_value(rt, name, number, taken == Some(number)) && holds;
+    for bytes in VALUES {
+        holds = over_value(rt, name, bytes, bytes == taken) && holds;
     }
     holds
 }
 
 fn each_marker_over_each_other_kind(rt: &HostRuntime) -> bool {
-    takes(rt, markers::SYMBOL, Some(STRING))
-        && takes(rt, markers::SYMBOL_REF, Some(STRING))
-        && takes(rt, markers::TIMESTAMP, Some(LONG))
-        && takes(rt, markers::UUID, None)
-        && takes(rt, markers::DECIMAL32, None)
-        && takes(rt, markers::DECIMAL64, None)
-        && takes(rt, markers::DECIMAL128, None)
-        && takes(rt, markers::ARRAY, Some(LIST))
-        && takes(rt, markers::TRANSPARENT_VEC, Some(LIST))
-        && takes(rt, markers::LAZY_VALUE, None)
+    takes(rt, markers::SYMBOL, STRING)
+        && takes(rt, markers::SYMBOL_REF, STRING)
+        && takes(rt, markers::TIMESTAMP, LONG)
+        && takes(rt, markers::UUID, NONE)
+        && takes(rt, markers::DECIMAL32, NONE)
+        && takes(rt, markers::DECIMAL64, NONE)
+        && takes(rt, markers::DECIMAL128, NONE)
+        && takes(rt, markers::ARRAY, LIST)
+        && takes(rt, markers::TRANSPARENT_VEC, LIST)
+        && takes(rt, markers::LAZY_VALUE, NONE)
 }
 
 fn over_length(rt: &HostRuntime, name: &'static str, length: usize, taken: bool) -> bool {
@@ -180,12 +180,12 @@ fn each_marker_over_each_other_length(rt: &HostRuntime) -> bool {
         && takes_length(rt, markers::DECIMAL128, 16)
 }
 
-fn after_value(rt: &HostRuntime, number: u32) -> bool {
+fn after_value(rt: &HostRuntime, bytes: &'static str) -> bool {
     match (
-        value(rt.alloc(), number),
-        format!(in rt.alloc(); "after value {number}"),
+        value(rt.alloc(), bytes),
+        format!(in rt.alloc(); "after {bytes}"),
     ) {
-        (Some(value), Ok(row)) if number == ULONG || number == SYMBOL => {
+        (Some(value), Ok(row)) if bytes == ULONG || bytes == SYMBOL => {
             has_some_image(rt, row.as_str(), &After(&value))
         }
         (Some(value), Ok(row)) => {
@@ -198,8 +198,8 @@ fn after_value(rt: &HostRuntime, number: u32) -> bool {
 
 fn each_descriptor_of_another_kind(rt: &HostRuntime) -> bool {
     let mut holds = true;
-    for number in 0..VALUES {
-        holds = after_value(rt, number) && holds;
+    for bytes in VALUES {
+        holds = after_value(rt, bytes) && holds;
     }
     holds
 }

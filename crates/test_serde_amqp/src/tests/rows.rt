@@ -34,11 +34,21 @@ pub fn decoded(alloc: Global, hexadecimal: &str) -> Option<Vec<u8>> {
     Some(bytes)
 }
 
+const DIGITS: &[u8; 16] = b"0123456789abcdef";
+
+fn hexadecimal_digit(value: u8) -> char {
+    match DIGITS.get(usize::from(value)) {
+        Some(digit) => char::from(*digit),
+        None => '?',
+    }
+}
+
 /// The bytes in hexadecimal; `None` if out of memory.
 pub fn hexadecimal(alloc: Global, bytes: &[u8]) -> Option<String> {
     let mut text = String::new(alloc);
     for byte in bytes {
-        write!(text, "{byte:02x}").ok()?;
+        text.push(hexadecimal_digit(*byte / 16)).ok()?;
+        text.push(hexadecimal_digit(*byte % 16)).ok()?;
     }
     Some(text)
 }
@@ -68,25 +78,22 @@ pub fn shows<T: Debug>(rt: &HostRuntime, name: &str, got: &T, wanted: &str) -> b
 
 /// The answer is these bytes.
 pub fn is_bytes(rt: &HostRuntime, name: &str, got: Result<Vec<u8>, Error>, wanted: &str) -> bool {
-    match got {
-        Ok(bytes) => is_text(rt, name, hexadecimal(rt.alloc(), &bytes), wanted),
-        Err(error) => shows(rt, name, &error, wanted),
+    match &got {
+        Ok(bytes) => is_text(rt, name, hexadecimal(rt.alloc(), bytes), wanted),
+        Err(error) => shows(rt, name, error, wanted),
     }
 }
 
 /// The answer is this length.
 pub fn is_length(rt: &HostRuntime, name: &str, got: Result<usize, Error>, wanted: usize) -> bool {
-    match got {
-        Ok(length) if length == wanted => true,
-        _ => shows(rt, name, &got, "another length"),
-    }
+    matches!(&got, Ok(length) if *length == wanted) || shows(rt, name, &got, "another length")
 }
 
 /// The answer is this value, as `Debug` prints it.
 pub fn is_value(rt: &HostRuntime, name: &str, got: Result<Value, Error>, wanted: &str) -> bool {
-    match got {
-        Ok(value) => shows(rt, name, &value, wanted),
-        Err(error) => shows(rt, name, &error, wanted),
+    match &got {
+        Ok(value) => shows(rt, name, value, wanted),
+        Err(error) => shows(rt, name, error, wanted),
     }
 }
 
@@ -154,18 +161,14 @@ pub fn own_image_of(rt: &HostRuntime, name: &str, value: Option<Value>, bytes: &
 
 /// The value has this image.
 pub fn has_image<T: Serialize>(rt: &HostRuntime, name: &str, value: &T, image: &Value) -> bool {
-    match to_value(rt.alloc(), value) {
-        Ok(got) if got == *image => true,
-        got => shows(rt, name, &got, "another image"),
-    }
+    let got = to_value(rt.alloc(), value);
+    matches!(&got, Ok(got) if got == image) || shows(rt, name, &got, "another image")
 }
 
 /// The value has an image.
 pub fn has_some_image<T: Serialize>(rt: &HostRuntime, name: &str, value: &T) -> bool {
-    match to_value(rt.alloc(), value) {
-        Ok(_) => true,
-        Err(error) => shows(rt, name, &error, "an image"),
-    }
+    let got = to_value(rt.alloc(), value);
+    got.is_ok() || shows(rt, name, &got, "an image")
 }
 
 /// The value has this length, and its bytes begin with these.
@@ -177,9 +180,9 @@ pub fn begins<T: Serialize>(
     head: &str,
 ) -> bool {
     is_length(rt, name, serialized_size(value), length)
-        && match to_vec(rt.alloc(), value) {
-            Ok(bytes) => is_begun(rt, name, &bytes, length, head),
-            Err(error) => shows(rt, name, &error, head),
+        && match &to_vec(rt.alloc(), value) {
+            Ok(bytes) => is_begun(rt, name, bytes, length, head),
+            Err(error) => shows(rt, name, error, head),
         }
 }
 
@@ -204,13 +207,8 @@ pub fn same_bytes<T: Serialize, U: Serialize>(
     value: &T,
     other: &U,
 ) -> bool {
-    match to_vec(rt.alloc(), other) {
-        Ok(bytes) => match hexadecimal(rt.alloc(), &bytes) {
-            Some(text) => is_bytes(rt, name, to_vec(rt.alloc(), value), text.as_str()),
-            None => wrong(rt, name, "no memory"),
-        },
-        Err(error) => shows(rt, name, &error, "bytes"),
-    }
+    let got = to_vec(rt.alloc(), value);
+    got.is_ok() && got == to_vec(rt.alloc(), other) || shows(rt, name, &got, "other bytes")
 }
 
 // The bytes are of this length and begin with these.
