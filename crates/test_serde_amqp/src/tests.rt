@@ -22,5 +22,6 @@ mod runs;
 mod scalars;
 mod streams;
 mod structs;
+mod support;
 mod transparent;
 mod variants;

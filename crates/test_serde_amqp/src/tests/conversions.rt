@@ -1,23 +1,29 @@
 //! Conversions to and from untyped values, format codes and order.
 
 use super::made::{array, list, symbol};
-use super::rows::{is_value, shows, wrong};
+use super::rows::{holds, imaged, is_value, wrong};
+use super::support::is;
 use serde_amqp::format_code::EncodingCodes;
 use serde_amqp::primitives::{
     ByteBuf, Dec32, Dec64, Dec128, F32Bits, F64Bits, OrderedMap, Timestamp, Uuid,
 };
 use serde_amqp::ser::Serialize;
-use serde_amqp::value::{Value, to_value};
+use serde_amqp::value::Value;
 use std::alloc::Global;
 use std::collections::BTreeMap;
+
+// The conversion is this value.
+fn converted<T: Into<Value>>(rt: &HostRuntime, content: T, value: &str) -> bool {
+    let got: Value = content.into();
+    is(rt, value, got, value)
+}
 
 // The image of the scalar is this value, and so is its conversion.
 fn scalar<T>(rt: &HostRuntime, scalar: T, value: &str) -> bool
 where
     T: Serialize + Into<Value> + Drop,
 {
-    is_value(rt, value, to_value(rt.alloc(), &scalar), value)
-        && shows(rt, value, &scalar.into(), value)
+    imaged(rt, value, &scalar, value) && converted(rt, scalar, value)
 }
 
 // Like `scalar`, of a scalar for which memory was allocated.
@@ -82,7 +88,7 @@ fn lists_are_converted_to_their_images(rt: &HostRuntime) -> bool {
     let a = rt.alloc();
     match list(a, [1u8, 2u8]) {
         Some(items) => {
-            is_value(rt, "the image of a vector", to_value(a, &items), LIST)
+            imaged(rt, "the image of a vector", &items, LIST)
                 && is_value(rt, "a vector", Value::try_from_vec(a, items), LIST)
         }
         None => wrong(rt, "a vector", "no memory"),
@@ -95,7 +101,7 @@ fn arrays_are_converted_to_their_images(rt: &HostRuntime) -> bool {
     let a = rt.alloc();
     match array(a, [1u8, 2u8]) {
         Some(items) => {
-            is_value(rt, "the image of an array", to_value(a, &items), ARRAY)
+            imaged(rt, "the image of an array", &items, ARRAY)
                 && is_value(rt, "an array", Value::try_from_array(a, items), ARRAY)
         }
         None => wrong(rt, "an array", "no memory"),
@@ -114,7 +120,7 @@ fn maps_are_converted_to_their_images(rt: &HostRuntime) -> bool {
     let a = rt.alloc();
     match one_pair(a) {
         Some(map) => {
-            is_value(rt, "the image of a map", to_value(a, &map), MAP)
+            imaged(rt, "the image of a map", &map, MAP)
                 && is_value(rt, "a map", Value::try_from_btree_map(a, map), MAP)
         }
         None => wrong(rt, "a map", "no memory"),
@@ -127,27 +133,37 @@ fn a_string_has_its_code_and_is_no_number(rt: &HostRuntime) -> bool {
     match Value::try_from_str(rt.alloc(), "a") {
         Ok(text) => {
             let code = u8::from(EncodingCodes::Str32);
-            shows(
-                rt,
-                "the code of a string",
-                &(text.format_code() == code),
-                "true",
-            ) && shows(
-                rt,
-                "a string as a u8",
-                &u8::try_from(text),
-                "Err(String(\"a\"))",
-            )
+            holds(rt, "the code of a string", text.format_code() == code)
+                && is(
+                    rt,
+                    "a string as a u8",
+                    u8::try_from(text),
+                    "Err(String(\"a\"))",
+                )
         }
         Err(_) => wrong(rt, "a string", "no memory"),
     }
 }
 
-fn null_is_no_map_and_values_have_an_order(rt: &HostRuntime) -> bool {
-    let map = OrderedMap::<u8, u8>::try_from(Value::Null);
-    let less = Value::from(-1i64) < Value::from(0i64);
-    shows(rt, "null as a map", &map, "Err(Unfit(Null))")
-        && shows(rt, "-1 is less than 0", &less, "true")
+fn null_is_no_map(rt: &HostRuntime) -> bool {
+    is(
+        rt,
+        "null as a map",
+        OrderedMap::<u8, u8>::try_from(Value::Null),
+        "Err(Unfit(Null))",
+    )
+}
+
+fn is_less(first: Value, second: Value) -> bool {
+    first < second
+}
+
+fn values_have_an_order(rt: &HostRuntime) -> bool {
+    holds(
+        rt,
+        "-1 is less than 0",
+        is_less(Value::from(-1i64), Value::from(0i64)),
+    )
 }
 
 #[test]
@@ -162,8 +178,6 @@ fn conversions(rt: HostRuntime) {
     assert!(rt; arrays_are_converted_to_their_images(&rt), "arrays");
     assert!(rt; maps_are_converted_to_their_images(&rt), "maps");
     assert!(rt; a_string_has_its_code_and_is_no_number(&rt), "a string");
-    assert!(rt;
-        null_is_no_map_and_values_have_an_order(&rt),
-        "null and order"
-    );
+    assert!(rt; null_is_no_map(&rt), "null");
+    assert!(rt; values_have_an_order(&rt), "order");
 }

@@ -1,8 +1,9 @@
 //! The two runs over a writer with a buffer.
 
-use super::rows::shows;
+use super::rows::holds;
 use super::runs::{Run, is_printed, run_over};
 use super::streams::FlushedWriter;
+use super::support::is;
 use serde_amqp::read::SliceReader;
 use serde_amqp::{IoWriter, Write};
 
@@ -15,9 +16,9 @@ fn is_flushed(rt: &HostRuntime, name: &str, run: Run, input: &[u8], text: &[u8])
     let mut writer = IoWriter::new(FlushedWriter::new(buffer, &mut written, &mut flushes, false));
     let got = run_over(a, run, &mut SliceReader::new(input), &mut writer);
     drop(writer);
-    shows(rt, name, &got, "Ok(())")
+    is(rt, name, got, "Ok(())")
         && is_printed(rt, name, &written, text)
-        && shows(rt, name, &(flushes > 0), "true")
+        && holds(rt, name, flushes > 0)
 }
 
 // The run, and a flush after it, answer that the flush failed.
@@ -30,9 +31,7 @@ fn fails(rt: &HostRuntime, name: &str, run: Run, input: &[u8]) -> bool {
     let got = run_over(a, run, &mut SliceReader::new(input), &mut writer);
     let again = writer.flush();
     drop(writer);
-    shows(rt, name, &got, "Err(Io)")
-        && shows(rt, name, &again, "Err(Io)")
-        && shows(rt, name, &flushes, "2")
+    is(rt, name, got, "Err(Io)") && is(rt, name, again, "Err(Io)") && is(rt, name, flushes, "2")
 }
 
 fn runs_flush_what_they_print(rt: &HostRuntime) -> bool {

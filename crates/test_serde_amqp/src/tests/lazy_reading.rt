@@ -8,6 +8,7 @@ use serde_amqp::Value;
 use serde_amqp::lazy::{LazyValue, to_lazy_value};
 use serde_amqp::primitives::{ByteBuf, Dec32, Dec64, Dec128, F32Bits, F64Bits, Timestamp, Uuid};
 use serde_amqp::read::SliceReader;
+use serde_amqp::ser::Serialize;
 use std::alloc::Global;
 
 // The bytes spell this value, or are refused with this error.
@@ -80,9 +81,9 @@ fn nested_bytes(alloc: Global, depth: u32) -> Option<Vec<u8>> {
     let mut bytes = Vec::new(alloc);
     for outer in 0..depth {
         let size = 5u32.wrapping_add(depth.wrapping_sub(outer).wrapping_sub(1).wrapping_mul(9));
-        bytes.push(0xd0).ok()?;
-        bytes.extend_from_slice(&size.to_be_bytes()).ok()?;
-        bytes.extend_from_slice(&[0, 0, 0, 1]).ok()?;
+        let [first, second, third, fourth] = size.to_be_bytes();
+        let header = [0xd0, first, second, third, fourth, 0, 0, 0, 1];
+        bytes.extend_from_slice(&header).ok()?;
     }
     bytes.push(0x45).ok()?;
     Some(bytes)
@@ -120,7 +121,7 @@ fn more_levels_are_refused(rt: &HostRuntime) -> bool {
 }
 
 // The value comes back from its lazy value.
-fn comes_back(rt: &HostRuntime, value: Value, text: &str) -> bool {
+fn comes_back<T: Serialize + Drop>(rt: &HostRuntime, value: T, text: &str) -> bool {
     match to_lazy_value(rt.alloc(), &value) {
         Ok(lazy) => imaged(rt, text, &lazy, text),
         Err(error) => shows(rt, text, &error, text),
@@ -128,7 +129,7 @@ fn comes_back(rt: &HostRuntime, value: Value, text: &str) -> bool {
 }
 
 // Like `comes_back`, of a value for which memory was allocated.
-fn comes_back_of(rt: &HostRuntime, value: Option<Value>, text: &str) -> bool {
+fn comes_back_of<T: Serialize + Drop>(rt: &HostRuntime, value: Option<T>, text: &str) -> bool {
     match value {
         Some(value) => comes_back(rt, value, text),
         None => wrong(rt, text, "no memory"),
@@ -160,21 +161,40 @@ fn signed_numbers_come_back(rt: &HostRuntime) -> bool {
         && comes_back(rt, Value::Long(i64::MAX), "Long(9223372036854775807)")
 }
 
-fn fixed_widths_come_back(rt: &HostRuntime) -> bool {
-    let float = Value::Float(F32Bits::from(0x3fc0_0000));
-    let double = Value::Double(F64Bits::from(0x3ff8_0000_0000_0000));
-    let timestamp = Value::Timestamp(Timestamp::from_milliseconds(13));
-    let decimal = Value::Decimal32(Dec32::from([1, 2, 3, 4]));
-    let decimal64 = Value::Decimal64(Dec64::from([1, 2, 3, 4, 5, 6, 7, 8]));
-    comes_back(rt, float, "Float(F32Bits(1069547520))")
-        && comes_back(rt, double, "Double(F64Bits(4609434218613702656))")
-        && comes_back(rt, Value::Char('a'), "Char('a')")
-        && comes_back(rt, timestamp, "Timestamp(Timestamp(13))")
-        && comes_back(rt, decimal, "Decimal32(Dec32([1, 2, 3, 4]))")
-        && comes_back(rt, decimal64, "Decimal64(Dec64([1, 2, 3, 4, 5, 6, 7, 8]))")
+fn floats_and_characters_come_back(rt: &HostRuntime) -> bool {
+    comes_back(
+        rt,
+        Value::Float(F32Bits::from(0x3fc0_0000)),
+        "Float(F32Bits(1069547520))",
+    ) && comes_back(
+        rt,
+        Value::Double(F64Bits::from(0x3ff8_0000_0000_0000)),
+        DOUBLE,
+    ) && comes_back(rt, Value::Char('a'), "Char('a')")
+        && comes_back(
+            rt,
+            Value::Timestamp(Timestamp::from_milliseconds(13)),
+            "Timestamp(Timestamp(13))",
+        )
+}
+
+const DOUBLE: &str = "Double(F64Bits(4609434218613702656))";
+
+fn decimals_and_uuids_come_back(rt: &HostRuntime) -> bool {
+    comes_back(
+        rt,
+        Value::Decimal32(Dec32::from(FOUR)),
+        "Decimal32(Dec32([1, 2, 3, 4]))",
+    ) && comes_back(rt, Value::Decimal64(Dec64::from(EIGHT)), DECIMAL64)
         && comes_back(rt, Value::Decimal128(Dec128::from(SIXTEEN)), DECIMAL128)
         && comes_back(rt, Value::Uuid(Uuid::from(SIXTEEN)), UUID)
 }
+
+const FOUR: [u8; 4] = [1, 2, 3, 4];
+
+const EIGHT: [u8; 8] = [1, 2, 3, 4, 5, 6, 7, 8];
+
+const DECIMAL64: &str = "Decimal64(Dec64([1, 2, 3, 4, 5, 6, 7, 8]))";
 
 const SIXTEEN: [u8; 16] = [1, 2, 3, 4, 5, 6, 7, 8, 9, 10, 11, 12, 13, 14, 15, 16];
 
@@ -258,6 +278,10 @@ fn lazy_reading(rt: HostRuntime) {
     assert!(rt; more_levels_are_refused(&rt), "257 levels");
     assert!(rt; unsigned_numbers_come_back(&rt), "unsigned numbers");
     assert!(rt; signed_numbers_come_back(&rt), "signed numbers");
-    assert!(rt; fixed_widths_come_back(&rt), "fixed widths");
+    assert!(rt;
+        floats_and_characters_come_back(&rt),
+        "floats and characters"
+    );
+    assert!(rt; decimals_and_uuids_come_back(&rt), "decimals and UUIDs");
     assert!(rt; texts_and_compounds_come_back(&rt), "texts and compounds");
 }

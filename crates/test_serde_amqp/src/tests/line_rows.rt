@@ -1,8 +1,8 @@
 //! Rows of `run_lines`.
 
-use super::rows::shows;
 use super::runs::{Reading, Run, each_write_fails, is_printed, read_fails, row, run_over};
 use super::streams::Fault;
+use super::support::is;
 use serde_amqp::VecWriter;
 use serde_amqp::read::SliceReader;
 use std::io::ErrorKind;
@@ -84,7 +84,7 @@ fn begins(rt: &HostRuntime, name: &str, byte: u8, count: usize, text: &[u8]) -> 
     );
     let printed = writer.as_slice();
     let len = printed.len().min(text.len());
-    shows(rt, name, &got, "Ok(())") && is_printed(rt, name, &printed[..len], text)
+    is(rt, name, got, "Ok(())") && is_printed(rt, name, &printed[..len], text)
 }
 
 const LONG_LIST: &[u8] = b"size 265\nbytes d00000010400000001a1fe7878";

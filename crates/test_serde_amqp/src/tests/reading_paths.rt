@@ -1,12 +1,14 @@
 //! Each public item of reading, by its path.
 
-use super::rows::shows;
+use super::made::{self, described, pairs};
+use super::rows::holds;
+use super::support::is;
 use serde_amqp::de::{
     Deserialize as _, Deserializer as _, EnumAccess as _, MapAccess as _, Seed as _,
     SeqAccess as _, VariantAccess as _,
 };
 use serde_amqp::primitives::OrderedMap;
-use serde_amqp::{Error, Value, de, described, descriptor, from_value, value};
+use serde_amqp::{Error, Value, de, descriptor, from_value, value};
 use std::alloc::Global;
 use std::marker::PhantomData;
 
@@ -14,27 +16,39 @@ fn uint(alloc: Global) -> value::de::Deserializer {
     value::de::Deserializer::new(alloc, Value::Uint(1))
 }
 
-fn list(alloc: Global) -> Result<value::de::Deserializer, Error> {
-    let items = vec![in alloc; Value::Uint(1)]?;
-    Ok(value::de::Deserializer::new(alloc, Value::List(items)))
+// Reads this value, or null if out of memory.
+fn source(alloc: Global, value: Option<Value>) -> value::de::Deserializer {
+    match value {
+        Some(value) => value::de::Deserializer::new(alloc, value),
+        None => value::de::Deserializer::new(alloc, Value::Null),
+    }
+}
+
+fn list(alloc: Global) -> Option<Value> {
+    Some(Value::List(made::list(alloc, [Value::Uint(1)])?))
 }
 
 fn values_are_read(rt: &HostRuntime) -> bool {
     let a = rt.alloc();
-    let inner = value::de::from_value::<u32>(a, Value::Uint(1));
-    shows(
+    is(
         rt,
         "from_value",
-        &from_value::<u32>(a, Value::Uint(1)),
+        from_value::<u32>(a, Value::Uint(1)),
         "Ok(1)",
-    ) && shows(rt, "value::de::from_value", &inner, "Ok(1)")
-        && shows(rt, "deserialize", &u32::deserialize(a, uint(a)), "Ok(1)")
-        && shows(rt, "restored", &value::restored(a, &7u64), "Ok(7)")
+    ) && is(
+        rt,
+        "value::de::from_value",
+        value::de::from_value::<u32>(a, Value::Uint(1)),
+        "Ok(1)",
+    ) && is(rt, "deserialize", u32::deserialize(a, uint(a)), "Ok(1)")
+        && is(rt, "restored", value::restored(a, &7u64), "Ok(7)")
 }
 
-fn first_of_elements(alloc: Global) -> Result<Option<u32>, Error> {
-    let mut elements = value::de::SeqAccess::new(alloc, vec![in alloc; Value::Uint(1)]?);
-    elements.next_element(alloc)
+fn first_of_elements(alloc: Global) -> Option<u32> {
+    let elements = made::list(alloc, [Value::Uint(1)])?;
+    value::de::SeqAccess::new(alloc, elements)
+        .next_element(alloc)
+        .ok()?
 }
 
 fn first_of_entries(alloc: Global) -> Result<Option<(u32, u32)>, Error> {
@@ -52,9 +66,9 @@ fn index_and_content(alloc: Global) -> Result<(u32, u32), Error> {
 
 fn parts_are_read_by_accessors(rt: &HostRuntime) -> bool {
     let a = rt.alloc();
-    shows(rt, "an element", &first_of_elements(a), "Ok(Some(1))")
-        && shows(rt, "no entry", &first_of_entries(a), "Ok(None)")
-        && shows(rt, "a variant", &index_and_content(a), "Ok((1, 1))")
+    is(rt, "an element", first_of_elements(a), "Some(1)")
+        && is(rt, "no entry", first_of_entries(a), "Ok(None)")
+        && is(rt, "a variant", index_and_content(a), "Ok((1, 1))")
 }
 
 // Calls what a type promises of the values that come back.
@@ -93,7 +107,7 @@ fn optional() -> de::May<u32, ()> {
 }
 
 fn seeded<S: de::Seed>(alloc: Global, seed: S) -> Result<S::Value, Error> {
-    seed.read(alloc, list(alloc)?)
+    seed.read(alloc, source(alloc, list(alloc)))
 }
 
 // The second of two variants without a value.
@@ -109,22 +123,22 @@ fn second_variant(alloc: Global) -> bool {
 
 fn seeds_read_parts_of_types(rt: &HostRuntime) -> bool {
     let a = rt.alloc();
-    shows(
+    is(
         rt,
         "a type",
-        &de::Of(PhantomData::<u32>).read(a, uint(a)),
+        de::Of(PhantomData::<u32>).read(a, uint(a)),
         "Ok(1)",
-    ) && shows(
+    ) && is(
         rt,
         "a required field",
-        &seeded(a, de::ListOf(required())),
+        seeded(a, de::ListOf(required())),
         "Ok((1, ()))",
-    ) && shows(
+    ) && is(
         rt,
         "an optional field",
-        &seeded(a, de::NamedOf(optional())),
+        seeded(a, de::NamedOf(optional())),
         "Ok((Some(1), ()))",
-    ) && shows(rt, "the second variant", &second_variant(a), "true")
+    ) && holds(rt, "the second variant", second_variant(a))
 }
 
 // The first element of a list.
@@ -155,25 +169,26 @@ fn first_entry<D: de::Deserializer>(
     }
 }
 
-fn first_of_list(alloc: Global) -> Result<Option<u32>, Error> {
-    first_element(alloc, list(alloc)?)
-}
-
 fn first_of_map(alloc: Global) -> Result<Option<(u32, u32)>, Error> {
-    let map = Value::Map(OrderedMap::new(alloc));
-    first_entry(alloc, value::de::Deserializer::new(alloc, map))
+    first_entry(
+        alloc,
+        source(alloc, Some(Value::Map(OrderedMap::new(alloc)))),
+    )
 }
 
 fn one_level_is_opened(rt: &HostRuntime) -> bool {
     let a = rt.alloc();
-    shows(rt, "a list", &first_of_list(a), "Ok(Some(1))")
-        && shows(
-            rt,
-            "no list",
-            &first_element(a, uint(a)),
-            "Err(InvalidValue)",
-        )
-        && shows(rt, "an empty map", &first_of_map(a), "Ok(None)")
+    is(
+        rt,
+        "a list",
+        first_element(a, source(a, list(a))),
+        "Ok(Some(1))",
+    ) && is(
+        rt,
+        "no list",
+        first_element(a, uint(a)),
+        "Err(InvalidValue)",
+    ) && is(rt, "an empty map", first_of_map(a), "Ok(None)")
 }
 
 /// Returns a value without parts.
@@ -216,57 +231,52 @@ impl de::Record for Whole {
     ghost parts = { λ w. w.0 };
 }
 
-// The value after the code 1.
-fn described(alloc: Global, value: Value) -> Result<value::de::Deserializer, Error> {
-    let described = described::Described {
-        descriptor: descriptor::Descriptor::Code(1),
-        value,
-    };
-    let value = Value::Described(Box::new(alloc, described)?);
-    Ok(value::de::Deserializer::new(alloc, value))
+// The map from the string `x` to the uint 1.
+fn map(alloc: Global) -> Option<Value> {
+    let key = Value::try_from_str(alloc, "x").ok()?;
+    Some(Value::Map(pairs(alloc, [(key, Value::Uint(1))])?))
 }
 
-// The map from the string `x` to the uint 1.
-fn map(alloc: Global) -> Result<Value, Error> {
-    let mut pairs = OrderedMap::new(alloc);
-    drop(pairs.insert(Value::String(String::from_str(alloc, "x")?), Value::Uint(1))?);
-    Ok(Value::Map(pairs))
+// The map after the code 1.
+fn described_map(alloc: Global) -> Option<Value> {
+    described(alloc, 1, map(alloc)?)
 }
 
 fn count_of_a_list(alloc: Global) -> Result<(u32, ()), Error> {
-    de::read::<Count, _, _>(alloc, list(alloc)?, de::ListOf(required()))
+    de::read::<Count, _, _>(alloc, source(alloc, list(alloc)), de::ListOf(required()))
 }
 
 fn count_after_a_descriptor(alloc: Global) -> Result<u32, Error> {
     let of = de::Of(PhantomData::<u32>);
-    de::read_described::<Whole, _, _, _>(alloc, described(alloc, Value::Uint(1))?, &1u64, of)
+    let value = source(alloc, described(alloc, 1, Value::Uint(1)));
+    de::read_described::<Whole, _, _, _>(alloc, value, &1u64, of)
 }
 
 fn count_of_a_composite(alloc: Global) -> Result<u32, Error> {
     let of = de::Of(PhantomData::<u32>);
-    de::read_composite::<Whole, _, _>(alloc, described(alloc, Value::Uint(1))?, 1, of)
+    let value = source(alloc, described(alloc, 1, Value::Uint(1)));
+    de::read_composite::<Whole, _, _>(alloc, value, 1, of)
 }
 
 fn count_of_a_map(alloc: Global) -> Result<(u32, ()), Error> {
-    let map = value::de::Deserializer::new(alloc, map(alloc)?);
-    de::read_map::<Count, _, _>(alloc, map, required())
+    de::read_map::<Count, _, _>(alloc, source(alloc, map(alloc)), required())
 }
 
 fn count_of_a_described_map(alloc: Global) -> Result<(u32, ()), Error> {
-    let map = described(alloc, map(alloc)?)?;
-    de::read_described_map::<Count, _, _, _>(alloc, map, &1u64, required())
+    let value = source(alloc, described_map(alloc));
+    de::read_described_map::<Count, _, _, _>(alloc, value, &1u64, required())
 }
 
 fn records_are_read(rt: &HostRuntime) -> bool {
     let a = rt.alloc();
-    shows(rt, "read", &count_of_a_list(a), "Ok((1, ()))")
-        && shows(rt, "read_described", &count_after_a_descriptor(a), "Ok(1)")
-        && shows(rt, "read_composite", &count_of_a_composite(a), "Ok(1)")
-        && shows(rt, "read_map", &count_of_a_map(a), "Ok((1, ()))")
-        && shows(
+    is(rt, "read", count_of_a_list(a), "Ok((1, ()))")
+        && is(rt, "read_described", count_after_a_descriptor(a), "Ok(1)")
+        && is(rt, "read_composite", count_of_a_composite(a), "Ok(1)")
+        && is(rt, "read_map", count_of_a_map(a), "Ok((1, ()))")
+        && is(
             rt,
             "read_described_map",
-            &count_of_a_described_map(a),
+            count_of_a_described_map(a),
             "Ok((1, ()))",
         )
 }
@@ -293,15 +303,10 @@ fn variant_without_its_value(alloc: Global) -> bool {
 }
 
 fn types_of_a_program_are_read(rt: &HostRuntime) -> bool {
-    let is = de::Describes::is(&1u64, &descriptor::Descriptor::Code(1));
-    shows(rt, "deserialize_any", &any_value(rt.alloc()), "true")
-        && shows(rt, "is", &is, "true")
-        && shows(
-            rt,
-            "a missing value",
-            &variant_without_its_value(rt.alloc()),
-            "true",
-        )
+    let code = descriptor::Descriptor::Code(1);
+    holds(rt, "deserialize_any", any_value(rt.alloc()))
+        && holds(rt, "is", de::Describes::is(&1u64, &code))
+        && holds(rt, "a missing value", variant_without_its_value(rt.alloc()))
 }
 
 #[test]

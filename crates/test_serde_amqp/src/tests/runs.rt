@@ -1,7 +1,8 @@
 //! The two runs of the program over one input, and over readers and writers that fail.
 
-use super::rows::{shows, wrong};
+use super::rows::wrong;
 use super::streams::{ByteReader, ByteWriter, Fault};
+use super::support::is;
 use serde_amqp::read::{IoReader, Read, SliceReader};
 use serde_amqp::{Error, IoWriter, VecWriter, Write, run_cut, run_lines};
 use std::alloc::Global;
@@ -50,7 +51,7 @@ fn prints<R: Read>(
 ) -> bool {
     let mut writer = VecWriter::new(rt.alloc());
     let got = run_over(rt.alloc(), run, reader, &mut writer);
-    shows(rt, name, &got, wanted) && is_printed(rt, name, writer.as_slice(), text)
+    is(rt, name, got, wanted) && is_printed(rt, name, writer.as_slice(), text)
 }
 
 /// How an input is read.
@@ -112,7 +113,7 @@ pub fn writes(
     let mut writer = IoWriter::new(ByteWriter::failing(&mut written, failing, fault));
     let got = run_over(rt.alloc(), run, &mut SliceReader::new(input), &mut writer);
     drop(writer);
-    shows(rt, "a run", &got, wanted) && is_printed(rt, "a run", &written, text)
+    is(rt, "a run", got, wanted) && is_printed(rt, "a run", &written, text)
 }
 
 /// If the write of any one byte of this text fails, the run prints the bytes before it and answers
