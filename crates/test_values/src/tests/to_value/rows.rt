@@ -5,7 +5,7 @@ ghost use Rattle.amqp_ser.specs.Marked.{marked, mark_of};
 use super::super::rows::{gives, invalid};
 use super::super::values::{array, bytes, described, list, map, name, string, symbol, vec_of};
 use amqp_data::{
-    Dec32, Dec64, Dec128, Described, Descriptor, F32Bits, F64Bits, SymbolRef, Timestamp,
+    ByteBuf, Dec32, Dec64, Dec128, Described, Descriptor, F32Bits, F64Bits, SymbolRef, Timestamp,
     TransparentVec, Uuid, markers,
 };
 use amqp_ser::{Serialize, Serializer};
@@ -149,22 +149,32 @@ fn other_names_are_no_markers(rt: &HostRuntime) -> bool {
     is_no_marker(rt, "") && is_no_marker(rt, "Unknown") && is_no_marker(rt, "__SYMBOL_")
 }
 
-// Whether the value is refused under this name.
-fn refuses<T: Serialize + Drop>(rt: &HostRuntime, name: &'static str, inner: T) -> bool {
-    invalid(rt, name, &to_value(rt.alloc(), &Named { name, inner }))
+// Whether the value is refused under its name.
+fn refuses<T: Serialize>(rt: &HostRuntime, value: &Named<T>) -> bool {
+    invalid(rt, value.name, &to_value(rt.alloc(), value))
+}
+
+// Whether a `u8` is refused under this name.
+fn refuses_u8(rt: &HostRuntime, name: &'static str) -> bool {
+    refuses(rt, &Named { name, inner: 1u8 })
+}
+
+// Whether these bytes are refused under this name.
+fn refuses_bytes(rt: &HostRuntime, name: &'static str, inner: ByteBuf) -> bool {
+    refuses(rt, &Named { name, inner })
 }
 
 fn markers_refuse_another_kind(rt: &HostRuntime) -> bool {
-    refuses(rt, markers::SYMBOL, 1u8)
-        && refuses(rt, markers::SYMBOL_REF, 1u8)
-        && refuses(rt, markers::TIMESTAMP, 1u8)
-        && refuses(rt, markers::DECIMAL32, 1u8)
-        && refuses(rt, markers::DECIMAL64, 1u8)
-        && refuses(rt, markers::DECIMAL128, 1u8)
-        && refuses(rt, markers::UUID, 1u8)
-        && refuses(rt, markers::ARRAY, 1u8)
-        && refuses(rt, markers::TRANSPARENT_VEC, 1u8)
-        && refuses(rt, markers::LAZY_VALUE, 1u8)
+    refuses_u8(rt, markers::SYMBOL)
+        && refuses_u8(rt, markers::SYMBOL_REF)
+        && refuses_u8(rt, markers::TIMESTAMP)
+        && refuses_u8(rt, markers::DECIMAL32)
+        && refuses_u8(rt, markers::DECIMAL64)
+        && refuses_u8(rt, markers::DECIMAL128)
+        && refuses_u8(rt, markers::UUID)
+        && refuses_u8(rt, markers::ARRAY)
+        && refuses_u8(rt, markers::TRANSPARENT_VEC)
+        && refuses_u8(rt, markers::LAZY_VALUE)
 }
 
 fn markers_refuse_a_marked_value(rt: &HostRuntime) -> bool {
@@ -172,14 +182,18 @@ fn markers_refuse_a_marked_value(rt: &HostRuntime) -> bool {
         name: markers::SYMBOL,
         inner: "a",
     };
-    refuses(rt, markers::SYMBOL, inner)
+    let value = Named {
+        name: markers::SYMBOL,
+        inner,
+    };
+    refuses(rt, &value)
 }
 
 fn markers_refuse_another_length(rt: &HostRuntime) -> bool {
-    refuses(rt, markers::DECIMAL32, bytes(rt, [7; 3]))
-        && refuses(rt, markers::DECIMAL64, bytes(rt, [7; 9]))
-        && refuses(rt, markers::DECIMAL128, bytes(rt, [7; 4]))
-        && refuses(rt, markers::UUID, bytes(rt, [7; 15]))
+    refuses_bytes(rt, markers::DECIMAL32, bytes(rt, [7; 3]))
+        && refuses_bytes(rt, markers::DECIMAL64, bytes(rt, [7; 9]))
+        && refuses_bytes(rt, markers::DECIMAL128, bytes(rt, [7; 4]))
+        && refuses_bytes(rt, markers::UUID, bytes(rt, [7; 15]))
 }
 
 // The value of descriptor 1 with a list of a string and a ubyte.
@@ -197,6 +211,10 @@ fn described_values_keep_their_descriptors(rt: &HostRuntime) -> bool {
         descriptor: Descriptor::Code(1),
         value: ("a", 2u8),
     };
+    let marked = Named {
+        name: markers::SYMBOL,
+        inner: described_by_name(rt),
+    };
     image(rt, "a described pair", &one, described_list(rt))
         && image(
             rt,
@@ -204,7 +222,7 @@ fn described_values_keep_their_descriptors(rt: &HostRuntime) -> bool {
             &described_by_name(rt),
             described_by_name(rt),
         )
-        && refuses(rt, markers::SYMBOL, described_by_name(rt))
+        && refuses(rt, &marked)
 }
 
 fn transparent_vectors_are_lists(rt: &HostRuntime) -> bool {
