@@ -149,19 +149,19 @@ fn other_names_are_no_markers(rt: &HostRuntime) -> bool {
     is_no_marker(rt, "") && is_no_marker(rt, "Unknown") && is_no_marker(rt, "__SYMBOL_")
 }
 
-// Whether the value is refused under its name.
-fn refuses<T: Serialize>(rt: &HostRuntime, value: &Named<T>) -> bool {
-    invalid(rt, value.name, &to_value(rt.alloc(), value))
+// Whether the value has no image.
+fn refuses<T: Serialize>(rt: &HostRuntime, name: &str, value: &T) -> bool {
+    invalid(rt, name, &to_value(rt.alloc(), value))
 }
 
 // Whether a `u8` is refused under this name.
 fn refuses_u8(rt: &HostRuntime, name: &'static str) -> bool {
-    refuses(rt, &Named { name, inner: 1u8 })
+    refuses(rt, name, &Named { name, inner: 1u8 })
 }
 
 // Whether these bytes are refused under this name.
 fn refuses_bytes(rt: &HostRuntime, name: &'static str, inner: ByteBuf) -> bool {
-    refuses(rt, &Named { name, inner })
+    refuses(rt, name, &Named { name, inner })
 }
 
 fn markers_refuse_another_kind(rt: &HostRuntime) -> bool {
@@ -186,7 +186,7 @@ fn markers_refuse_a_marked_value(rt: &HostRuntime) -> bool {
         name: markers::SYMBOL,
         inner,
     };
-    refuses(rt, &value)
+    refuses(rt, "a marked value under a marker", &value)
 }
 
 fn markers_refuse_another_length(rt: &HostRuntime) -> bool {
@@ -222,7 +222,7 @@ fn described_values_keep_their_descriptors(rt: &HostRuntime) -> bool {
             &described_by_name(rt),
             described_by_name(rt),
         )
-        && refuses(rt, &marked)
+        && refuses(rt, "a described value under a marker", &marked)
 }
 
 fn transparent_vectors_are_lists(rt: &HostRuntime) -> bool {
