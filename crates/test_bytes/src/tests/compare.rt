@@ -1,13 +1,13 @@
-//! Comparisons that print the row's name and the value that they got if it is not the expected one.
+//! Comparisons that print the row's name, the value that they got and the expected one if the two differ.
 
 use std::fmt::Debug;
 
 /// Whether the value is the expected one.
 pub fn is<T: PartialEq + Debug + Drop>(rt: &HostRuntime, name: &str, got: T, wanted: T) -> bool {
-    got == wanted || println!(rt; "{name}: got {got:?}").is_err() && false
+    got == wanted || println!(rt; "{name}: got {got:?}, expected {wanted:?}").is_err() && false
 }
 
-/// Prints a row's number, and answers false.
+/// Prints a row's number, and returns false.
 pub fn in_row(rt: &HostRuntime, row: usize) -> bool {
     println!(rt; "in row {row}").is_err() && false
 }
@@ -19,5 +19,10 @@ pub fn slice_is<T: PartialEq + Debug>(
     got: &[T],
     wanted: &[T],
 ) -> bool {
-    *got == *wanted || println!(rt; "{name}: got {got:?}").is_err() && false
+    *got == *wanted || println!(rt; "{name}: got {got:?}, expected {wanted:?}").is_err() && false
+}
+
+/// Prints the bytes that a row is about, and returns false.
+pub fn for_bytes(rt: &HostRuntime, bytes: &[u8]) -> bool {
+    println!(rt; "for the bytes {bytes:?}").is_err() && false
 }

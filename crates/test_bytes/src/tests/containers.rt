@@ -48,13 +48,14 @@ fn described_values(rt: &HostRuntime) -> bool {
 /// Whether a key is inserted, and the value that it had is the expected one.
 fn inserts<K: Hash + Eq + Drop, V: Debug + PartialEq + Drop>(
     rt: &HostRuntime,
+    name: &str,
     map: &mut OrderedMap<K, V>,
     key: K,
     value: V,
     old: Option<V>,
 ) -> bool {
     match map.insert(key, value) {
-        Ok(got) => is(rt, "insert", got, old),
+        Ok(got) => is(rt, name, got, old),
         Err(_) => false,
     }
 }
@@ -72,9 +73,9 @@ fn gets<K: Hash + Eq, V: Debug + PartialEq + Copy>(
 fn present_keys(rt: &HostRuntime) -> bool {
     let mut map = OrderedMap::new(rt.alloc());
     is(rt, "a new map is empty", map.is_empty(), true)
-        && inserts(rt, &mut map, "a", 1, None)
-        && inserts(rt, &mut map, "b", 2, None)
-        && inserts(rt, &mut map, "a", 3, Some(1))
+        && inserts(rt, "insert a", &mut map, "a", 1, None)
+        && inserts(rt, "insert b", &mut map, "b", 2, None)
+        && inserts(rt, "insert a again", &mut map, "a", 3, Some(1))
         && is(rt, "len", map.len(), 2)
         && is(rt, "is_empty", map.is_empty(), false)
         && gets(rt, &map, &"a", Some(3))

@@ -5,7 +5,7 @@ ghost use Rattle.std.specs.Cmp.Lexicographic.{slice_cmp};
 ghost use Rattle.std.specs.Ordering.{nat_cmp};
 ghost use Rattle.amqp_frame.specs.Reader.{last_count};
 
-use super::compare::{in_row, is, slice_is};
+use super::compare::{for_bytes, in_row, is, slice_is};
 use amqp_data::Error;
 use amqp_frame::{IoReader, LazyValue, Read, SliceReader, frame_len, is_frame};
 use bytes::Bytes;
@@ -20,8 +20,9 @@ fn whole(rt: &HostRuntime, bytes: &[u8]) -> bool {
             Ok(value) => {
                 is(rt, "is_frame of a value", is_frame(bytes), true)
                     && slice_is(rt, "a value's bytes", value.as_slice(), bytes)
+                    || for_bytes(rt, bytes)
             }
-            Err(error) => is(rt, "one whole value", Some(error), None),
+            Err(error) => is(rt, "one whole value", Some(error), None) || for_bytes(rt, bytes),
         },
         Err(_) => false,
     }
@@ -35,6 +36,7 @@ fn part(rt: &HostRuntime, bytes: &[u8]) -> bool {
             Err(error) => {
                 is(rt, "is_frame of other bytes", is_frame(bytes), false)
                     && is(rt, "the error of other bytes", error, Error::InvalidValue)
+                    || for_bytes(rt, bytes)
             }
         },
         Err(_) => false,
@@ -222,7 +224,7 @@ fn fails(rt: &HostRuntime, failing: u64, kind: ErrorKind, left: usize) -> bool {
         by_bytes(b"\x00\xa1\x01\x61\x45", failing, kind),
         if left == 0 { &Ok(5) } else { &Err(Error::Io) },
         left,
-    )
+    ) || in_row(rt, left)
 }
 
 fn failures(rt: &HostRuntime, kind: ErrorKind) -> bool {
@@ -251,8 +253,8 @@ fn peeks_after_a_failure<R: io::Read>(rt: &HostRuntime, reader: &mut IoReader<R>
         && is(rt, "the next call", peeks_once(reader), Ok(Some(0x40)))
 }
 
-fn peeks<R: Read>(rt: &HostRuntime, reader: &mut R, byte: u8) -> bool {
-    is(rt, "peek", reader.peek(), Ok(Some(byte)))
+fn peeks<R: Read>(rt: &HostRuntime, name: &str, reader: &mut R, byte: u8) -> bool {
+    is(rt, name, reader.peek(), Ok(Some(byte)))
 }
 
 fn takes<R: Read>(rt: &HostRuntime, reader: &mut R, byte: Option<u8>) -> bool {
@@ -269,10 +271,10 @@ fn reads<R: Read>(reader: &mut R, count: usize) -> Result<u8, Error> {
 }
 
 fn peeked<R: Read>(rt: &HostRuntime, reader: &mut R) -> bool {
-    peeks(rt, reader, 0x40)
-        && peeks(rt, reader, 0x40)
+    peeks(rt, "peek", reader, 0x40)
+        && peeks(rt, "peek again", reader, 0x40)
         && takes(rt, reader, Some(0x40))
-        && peeks(rt, reader, 0x41)
+        && peeks(rt, "peek", reader, 0x41)
         && is(rt, "the failing call", reads(reader, 2), Err(Error::Io))
         && is(rt, "the call after it", reads(reader, 1), Ok(0x42))
         && takes(rt, reader, None)
@@ -285,17 +287,19 @@ fn peeked<R: Read>(rt: &HostRuntime, reader: &mut R) -> bool {
 }
 
 /// Whether a deep value has this length, or is refused so.
-fn deep(rt: &HostRuntime, bytes: Option<Vec<u8>>, length: &Result<usize, Error>) -> bool {
+fn deep(
+    rt: &HostRuntime,
+    name: &str,
+    bytes: Option<Vec<u8>>,
+    length: &Result<usize, Error>,
+) -> bool {
     match bytes {
         Some(bytes) => {
-            is(
-                rt,
-                "frame_len of a deep value",
-                frame_len(&bytes),
-                length_of(length),
-            ) && next_of_slice(rt, &bytes, length, 0)
+            is(rt, name, frame_len(&bytes), length_of(length))
+                && (next_of_slice(rt, &bytes, length, 0)
+                    || println!(rt; "of {name}").is_err() && false)
         }
-        None => false,
+        None => is(rt, name, "was not built", "the bytes"),
     }
 }
 
@@ -311,14 +315,26 @@ fn deep_bytes(alloc: Global, nulls: usize, last: &[u8]) -> Option<Vec<u8>> {
 
 fn deep_values(rt: &HostRuntime) -> bool {
     let a = rt.alloc();
-    deep(rt, deep_bytes(a, 0, b""), &Err(Error::UnexpectedEof))
+    let eof = Err(Error::UnexpectedEof);
+    deep(rt, "100,000 open values", deep_bytes(a, 0, b""), &eof)
         && deep(
             rt,
+            "100,000 open values and 10",
             deep_bytes(a, 0, b"\x10"),
             &Err(Error::InvalidFormatCode),
         )
-        && deep(rt, deep_bytes(a, 100_000, b""), &Err(Error::UnexpectedEof))
-        && deep(rt, deep_bytes(a, 100_000, b"\x40"), &Ok(200_001))
+        && deep(
+            rt,
+            "100,000 descriptors",
+            deep_bytes(a, 100_000, b""),
+            &eof,
+        )
+        && deep(
+            rt,
+            "100,000 descriptors and null",
+            deep_bytes(a, 100_000, b"\x40"),
+            &Ok(200_001),
+        )
 }
 
 /// Equality is that of the bytes.

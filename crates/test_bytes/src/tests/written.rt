@@ -1,6 +1,6 @@
 //! Bytes of values, from the standard's encoding tables, calculated by hand.
 
-use super::compare::{is, slice_is};
+use super::compare::{for_bytes, is, slice_is};
 use super::made::{array, nested_texts, symbol, transparent, vector};
 use super::shapes::{Again, NoTree, Number, Pair};
 use amqp_data::{
@@ -18,7 +18,7 @@ fn writes<T: Serialize>(rt: &HostRuntime, value: &T, bytes: &[u8]) -> bool {
             slice_is(rt, "the bytes", &written, bytes)
                 && is(rt, "the length", serialized_size(value), Ok(bytes.len()))
         }
-        Err(error) => is(rt, "bytes", Some(error), None),
+        Err(error) => is(rt, "bytes", Some(error), None) || for_bytes(rt, bytes),
     }
 }
 
@@ -26,7 +26,7 @@ fn writes<T: Serialize>(rt: &HostRuntime, value: &T, bytes: &[u8]) -> bool {
 fn built<T: Serialize + Drop>(rt: &HostRuntime, value: Option<T>, bytes: &[u8]) -> bool {
     match value {
         Some(value) => writes(rt, &value, bytes),
-        None => false,
+        None => for_bytes(rt, bytes),
     }
 }
 
@@ -42,7 +42,7 @@ fn begins<T: Serialize>(rt: &HostRuntime, value: &T, len: usize, prefix: &[u8]) 
                     prefix,
                 )
         }
-        Err(error) => is(rt, "bytes", Some(error), None),
+        Err(error) => is(rt, "bytes", Some(error), None) || for_bytes(rt, prefix),
     }
 }
 
@@ -55,20 +55,20 @@ fn built_begins<T: Serialize + Drop>(
 ) -> bool {
     match value {
         Some(value) => begins(rt, &value, len, prefix),
-        None => false,
+        None => for_bytes(rt, prefix),
     }
 }
 
 /// Whether the value was built, and is refused as invalid.
-fn invalid<T: Serialize + Drop>(rt: &HostRuntime, value: Option<T>) -> bool {
+fn invalid<T: Serialize + Drop>(rt: &HostRuntime, name: &str, value: Option<T>) -> bool {
     match value {
         Some(value) => is(
             rt,
-            "an invalid value",
+            name,
             to_vec(rt.alloc(), &value).err(),
             Some(Error::InvalidValue),
         ),
-        None => false,
+        None => is(rt, name, "was not built", "a value"),
     }
 }
 
@@ -263,7 +263,11 @@ fn named(rt: &HostRuntime) -> Option<Described<(u8, bool)>> {
 fn described_values(rt: &HostRuntime) -> bool {
     coded_values(rt)
         && built_begins(rt, named(rt), 259, b"\x00\xa3\xfaaa")
-        && invalid(rt, array(rt, [coded(1, 2u8)]))
+        && invalid(
+            rt,
+            "an array of a described value",
+            array(rt, [coded(1, 2u8)]),
+        )
 }
 
 fn inside(rt: &HostRuntime) -> Option<Vec<TransparentVec<bool>>> {
@@ -282,9 +286,9 @@ fn vector_of_vectors(rt: &HostRuntime) -> Option<TransparentVec<TransparentVec<b
 
 fn transparent_vectors(rt: &HostRuntime) -> bool {
     built(rt, transparent(rt, [true, false, true]), b"\x41\x42\x41")
-        && invalid(rt, inside(rt))
+        && invalid(rt, "a transparent vector in a list", inside(rt))
         && built(rt, transparent::<u8, 0>(rt, []), b"")
-        && invalid(rt, as_value(rt))
+        && invalid(rt, "an empty transparent vector in a map", as_value(rt))
         && built(rt, vector_of_vectors(rt), b"\x41")
         && built(
             rt,
@@ -297,7 +301,7 @@ fn transparent_vectors(rt: &HostRuntime) -> bool {
 fn writes_or_lacks<T: Serialize>(rt: &HostRuntime, value: &T, bytes: &[u8]) -> bool {
     match to_vec(rt.alloc(), value) {
         Ok(written) => slice_is(rt, "the bytes", &written, bytes),
-        Err(error) => is(rt, "the error", error, Error::OutOfMemory),
+        Err(error) => is(rt, "the error", error, Error::OutOfMemory) || for_bytes(rt, bytes),
     }
 }
 
@@ -343,7 +347,10 @@ fn bytes_of_values(rt: HostRuntime) {
     assert!(rt; variants(&rt), "variants");
     assert!(rt; described_values(&rt), "described values");
     assert!(rt; transparent_vectors(&rt), "transparent vectors");
-    assert!(rt; invalid(&rt, Some(("a", NoTree))), "a value without a tree");
+    assert!(rt;
+        invalid(&rt, "a value without a tree", Some(("a", NoTree))),
+        "a value without a tree"
+    );
 }
 
 #[test]
