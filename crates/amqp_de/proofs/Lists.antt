@@ -1,4 +1,4 @@
--- Parts of compounds, as lists and back.
+-- Conversions between the elements or pairs of a compound and lists are inverse and injective.
 use Rattle.std.proofs.Common.{◌≡◌, List, [], ◌∷◌, refl, sym, ap, ◌∙◌}
 use Rattle.amqp_ser.specs.Tree.{Tree, map, trees_of}
 use Rattle.amqp_value.specs.TreeOf.{pairs_of}
