@@ -34,8 +34,8 @@ before_last R (y ∷ xs) x each =
     let (others, after) = before_last R xs x each.1 in
     ((some, others), (last, after))
 
--- If a step appends each new element, then folding over elements that are all new results in their
--- list.
+-- If a step appends each new element, then folding it over elements that are all new results in the
+-- list of them.
 module _ {X : Type 0} (R : X → X → Type 0) (step : List X → X → List X) (new : (es : List X) (x : X) → AllByRecursion (λ e. R e x) es → step es x ≡ es ++ x ∷ []) where
   after_more : (done : List X) (x : X) (xs : List X) → AllByRecursion (λ y. AllByRecursion (λ e. R e y) done) xs → AllByRecursion (R x) xs
       → AllByRecursion (λ y. AllByRecursion (λ e. R e y) (done ++ x ∷ [])) xs
@@ -57,8 +57,9 @@ module _ {X : Type 0} (R : X → X → Type 0) (step : List X → X → List X) 
   all_new xs each = new_onto [] xs (after_none xs) each
 
 module _ {K V : Type 0} where
-  -- If `R` relates all keys with the contents of the keys of `xs`, it relates the keys of `ys`,
-  -- which have these contents.
+  -- If `R` relates all keys with the contents of each key of `xs` to all with those of every later
+  -- one, it relates each key of `ys` to every later one, where the pairs of `ys` and `xs` have the
+  -- same contents.
   module _ (S : K → K → Type 0) (U : V → V → Type 0) (R : K → K → Type 0) where
     so_to_all : (k l : K) (v w : V) (ys xs : List (K × V)) → S k l → AllZip (SamePair S U) ys xs → AllByRecursion (IsSoToAll S R l) (keys_of xs)
         → AllByRecursion (λ (e : K × V). R k e.0) ys
@@ -81,7 +82,7 @@ module _ {K V : Type 0} where
     pub distinct_inserted : (ps : List (K × V)) → EachBefore (λ p q. eq q.0 p.0 ≡ false) ps → inserted_in_order eq ps ≡ ps
     distinct_inserted = all_new (λ p q. eq q.0 p.0 ≡ false) (λ es p. insert_pair eq es p.0 p.1) insert_new
 
-    -- A map has no value at a new key.
+    -- A key without a value has none after updates of other keys.
     pub new_is_absent : ((k l : K) → eq k l ≡ eq l k) → (es : List (K × V)) (f : K → Option V) (k : K) → f k ≡ None → AllByRecursion (λ e. eq k e.0 ≡ false) es → update_all eq f es k ≡ None
     new_is_absent flips [] f k none all = none
     new_is_absent flips (e ∷ es) f k none all = let other : eq e.0 k ≡ false = flips e.0 k ∙ all.0 in new_is_absent flips es _ k (rw other none) all.1

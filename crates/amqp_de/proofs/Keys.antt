@@ -12,8 +12,8 @@ use Rattle.amqp_data.specs.Pairs as pairs
 use Rattle.amqp_de.specs.Maps.{IsSoToAll, AreDistinct, Ascend}
 
 module _ {K : Type 0} (S : K → K → Type 0) where
-  -- If `R` implies that `Q` relates all keys with the same contents, and `R` relates a key to each
-  -- of a list, then so does `Q` for all keys with their contents.
+  -- If `R` implies that `Q` relates all keys with the same contents, and `R` relates `k` to each of
+  -- `ks`, then `Q` relates all keys with the contents of `k` to all keys with those of `ks`.
   all_so : (R Q : K → K → Type 0) → ((k l : K) → R k l → IsSoToAll S Q k l) → (k : K) (ks : List K) → AllByRecursion (R k) ks → AllByRecursion (IsSoToAll S Q k) ks
   all_so R Q so k [] all = tt
   all_so R Q so k (l ∷ ks) all = (so k l all.0, all_so R Q so k ks all.1)

@@ -38,7 +38,8 @@ pub entries : (ns : List (List ℕ)) (fs : List (Bool × Tree)) (es : List (Tree
     t ≡ map (pairs_of (those_there ns fs)) → es ≡ those_there ns fs
 entries ns fs es t e f = let same : pairs_of es ≡ pairs_of (those_there ns fs) = cc in same_pairs es (those_there ns fs) same
 
--- The name of the first entry has that entry's value, and the entries without it are the rest.
+-- A name equals itself. The value at the name of the first entry is that of the entry, and the
+-- entries without this name are the rest.
 itself : (n : List ℕ) → bytes_eq n n ≡ true
 itself n = nat_list_eq_equiv.refl n
 

@@ -1,5 +1,5 @@
--- Results of the accessors of lists, maps and variants, and what remains after each call (AMQP 1.0
--- part 1, sections 1.6.22 and 1.6.23).
+-- Results of the accessors of lists, maps and variants, and what remains after each call
+-- (AMQP 1.0 part 1, sections 1.6.22 and 1.6.23).
 use Rattle.std.specs.Prelude.{◌≡◌, ◌⊎◌, List, [], ◌∷◌, Option, Some, None, Result, Ok, Err, IsSome, IsSomeAnd, MatchResult}
 use Rattle.amqp_ser.specs.Tree.{Tree}
 use Rattle.amqp_de.specs.Answers.{Refuses}
@@ -21,8 +21,8 @@ abbrev pub Stays : Option Tree → List (Tree × Tree) → Option Tree → List 
 Stays owed left owed' left' = (owed' ≡ owed) × (left' ≡ left)
 
 -- The next pair is consumed and its key is read. The value is then pending; if the key cannot be
--- read, no value is pending. While a value is pending, no key is read, and the error is not out of
--- memory.
+-- read, no value is pending. While a value is pending, no key is read, nothing changes, and the
+-- error is not out of memory.
 abbrev pub ReadsKey : {T E : Type 0} → (E → Type 0) → (Tree → T → Type 0) → Option Tree → List (Tree × Tree) → Option Tree → List (Tree × Tree)
     → Result (Option T) E → Type 0
 ReadsKey Memory R owed left owed' left' (Ok None) = (owed ≡ None) × (left ≡ []) × Stays owed left owed' left'
@@ -31,7 +31,7 @@ ReadsKey Memory R owed left owed' left' (Err r) =
     (IsSome owed × ¬ Memory r × Stays owed left owed' left') ⊎ ((owed ≡ None) × (owed' ≡ None) × ((e : Tree × Tree) × (left ≡ e ∷ left') × Refuses Memory (R e.0) r))
 
 -- The pending value is read. If no value is pending, the error is not out of memory. Afterwards no
--- value is pending.
+-- value is pending. The remaining pairs are unchanged.
 abbrev pub ReadsValue : {T E : Type 0} → (E → Type 0) → (Tree → T → Type 0) → Option Tree → List (Tree × Tree) → Option Tree → List (Tree × Tree)
     → Result T E → Type 0
 ReadsValue Memory R owed left owed' left' (Ok x) = (owed' ≡ None) × (left' ≡ left) × ((t : Tree) × (owed ≡ Some t) × R t x)
@@ -39,7 +39,7 @@ ReadsValue Memory R owed left owed' left' (Err r) =
     (owed' ≡ None) × (left' ≡ left) × (((owed ≡ None) × ¬ Memory r) ⊎ ((t : Tree) × (owed ≡ Some t) × Refuses Memory (R t) r))
 
 -- The next pair is consumed, and the result is its key and value or an error. While a value is
--- pending, no pair is read, and the error is not out of memory.
+-- pending, no pair is read, nothing changes, and the error is not out of memory.
 abbrev pub ReadsEntry : {K V E : Type 0} → (E → Type 0) → (Tree → K → Type 0) → (Tree → V → Type 0) → Option Tree → List (Tree × Tree) → Option Tree
     → List (Tree × Tree) → Result (Option (K × V)) E → Type 0
 ReadsEntry Memory R S owed left owed' left' (Ok None) = (owed ≡ None) × (left ≡ []) × Stays owed left owed' left'

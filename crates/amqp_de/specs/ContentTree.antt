@@ -1,5 +1,5 @@
--- The tree of a value that is being deserialized, by its first level (AMQP 1.0 part 1,
--- section 1.6).
+-- The tree of a value that is being deserialized, by its first level
+-- (AMQP 1.0 part 1, section 1.6).
 use Rattle.std.specs.Prelude.{List, string_bytes}
 use Rattle.amqp_data.specs.Fixed.{f32_bits, f64_bits, dec32_bytes, dec64_bytes, dec128_bytes, milliseconds_of, uuid_bytes}
 use Rattle.amqp_data.specs.Items.{byte_buf_bytes}

@@ -1,5 +1,5 @@
--- The trees that an enum is read from: the index of a variant and its value (AMQP 1.0 part 1,
--- sections 1.6.5, 1.6.22 and 1.6.23).
+-- The trees that an enum is read from: the index of a variant and its value
+-- (AMQP 1.0 part 1, sections 1.6.5, 1.6.22 and 1.6.23).
 use Rattle.std.specs.Prelude.{◌≡◌, ℕ, List, [], ◌∷◌, Option, Some, None, ◌≤◌, ◌+◌, ◌-◌}
 use Rattle.amqp_ser.specs.Tree.{Scalar, uint, Tree, scalar, list, map}
 use Rattle.amqp_value.specs.Image.{variant_map}
@@ -69,8 +69,8 @@ abbrev pub value_of : {D : Type 0} → (D → Tree) → Option D → Option Tree
 value_of value None = None
 value_of value (Some d) = Some (value d)
 
--- The index of a variant, the image of its value, whether it is restorable, and whether two
--- variants have the same contents, each from that of the variant present.
+-- For one of the variants: its index, the image of its value, whether it is restorable, and whether
+-- two of them have the same contents.
 abbrev pub index_of : {A R : Type 0} → (R → ℕ) → OneOf A R → ℕ
 index_of f (This x) = 0
 index_of f (Other y) = 1 + f y

@@ -1,5 +1,5 @@
--- The events that are reported to a visitor, and the trees that each event reports (AMQP 1.0
--- part 1, section 1.6).
+-- The events that are reported to a visitor, and the trees that each event reports
+-- (AMQP 1.0 part 1, section 1.6).
 use Rattle.std.specs.Prelude.{◌≡◌, ◌≢◌, ◌⊎◌, ◌||◌, ℕ, ℤ, Bool, true, false, List, [], ◌∷◌, Option, Some, None, Result, MatchResult, bytes_eq, codes, string_bytes}
 use Rattle.amqp_data.specs.Fixed.{f32_bits, f64_bits}
 use Rattle.amqp_data.specs.Items.{byte_buf_bytes}
@@ -61,7 +61,8 @@ plain_shown (plain.Char c) = plain_event (tree.char c)
 plain_shown (plain.String s) = plain_event (tree.string (string_bytes s))
 plain_shown (plain.ByteBuf b) = plain_event (tree.binary (byte_buf_bytes b))
 
--- If the event represents `x`, the result has the same contents as `x`, unless out of memory.
+-- If the reported event represents `x`, stated by `P`, the result has the same contents as `x`,
+-- unless out of memory.
 abbrev pub Returns : {T E : Type 0} → (T → Type 0) → (T → T → Type 0) → (E → Type 0) → Result T E → Type 0
 Returns {T} P S Memory r = (x : T) → P x → MatchResult r (λ y. S y x) Memory
 

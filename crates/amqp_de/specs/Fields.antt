@@ -1,5 +1,5 @@
--- The trees that the fields of a struct are read from: a list by position, or a map by name (AMQP
--- 1.0 part 1, sections 1.4 and 1.6).
+-- The trees that the fields of a struct are read from: a list by position, or a map by name
+-- (AMQP 1.0 part 1, sections 1.4 and 1.6).
 use Rattle.std.specs.Prelude.{◌≡◌, ℕ, List, [], ◌∷◌, Option, Some, None, Bool, false, bytes_eq, if◌then◌else◌}
 use Rattle.amqp_ser.specs.Tree.{Scalar, string, Descriptor, Tree, scalar, list, array, map, described}
 use Rattle.amqp_de.specs.Parts.{elements_in, entries_in}

@@ -1,5 +1,5 @@
--- The trees that maps are read from: pairs of a key and a value, inserted in order (AMQP 1.0
--- part 1, section 1.6.23).
+-- The trees that maps are read from: pairs of a key and a value, inserted in order
+-- (AMQP 1.0 part 1, section 1.6.23).
 use Rattle.std.specs.Prelude.{◌≡◌, Bool, false, List, [], ◌∷◌}
 use Rattle.std.specs.BTreeMap as tree
 use Rattle.std.specs.HashMap as hashed
@@ -59,7 +59,7 @@ IsSoToAll {K} S R k l = (x y : K) → S x k → S y l → R x y
 abbrev pub AreDistinct : {K : Type 0} → (K → K → Type 0) → (K → K → Bool) → List K → Type 0
 AreDistinct S eq = EachBefore (IsSoToAll S (λ x y. eq y x ≡ false))
 
--- The keys ascend, even if they are replaced by keys with the same contents.
+-- The keys strictly ascend, even if they are replaced by keys with the same contents.
 abbrev pub Ascend : {K : Type 0} → (K → K → Type 0) → (K → K → Ordering) → List K → Type 0
 Ascend S cmp = EachBefore (IsSoToAll S (λ x y. cmp y x ≡ Greater))
 

@@ -1,5 +1,5 @@
--- The trees that options, lists, arrays, descriptors and lazy values are read from (AMQP 1.0
--- part 1, sections 1.2 and 1.6).
+-- The trees that options, lists, arrays, descriptors and lazy values are read from
+-- (AMQP 1.0 part 1, sections 1.2 and 1.6).
 use Rattle.std.specs.Prelude.{◌≡◌, ℕ, true, List, Option, Some, None, length, take}
 use Rattle.std.specs.List.{AllZip}
 use Rattle.amqp_frame.specs.Frame.{IsFrame}

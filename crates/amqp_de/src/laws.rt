@@ -1,5 +1,5 @@
-//! Laws of map keys, which decide the maps that round-trip. The functions do nothing: each contract
-//! is a law.
+//! Laws about the keys of maps that round-trip. Each function does nothing: its contract is the
+//! law.
 
 ghost use Rattle.std.specs.Prelude.{◌≡◌, ℕ, ℤ, List, String, true};
 ghost use Rattle.std.specs.Global.{Global};

@@ -1,4 +1,4 @@
-//! The functions that read a type by its parts, with or without a descriptor.
+//! Functions that read the parts of a user-defined type, with or without a descriptor.
 
 ghost use Rattle.std.specs.Prelude.{◌≡◌, ◌↔◌, IsTrue, MatchResult};
 ghost use Rattle.amqp_data.specs.Text.{symbol_ref_text, symbol_text};
@@ -14,7 +14,7 @@ use crate::seed::Seed;
 use amqp_data::{Descriptor, SymbolRef};
 use std::alloc::Global;
 
-/// A type whose values are determined by their parts, such as the fields of a struct.
+/// A type whose values are read by their parts, such as the fields of a struct.
 pub trait Record: Sized {
     /// The parts, as a seed returns them.
     type Parts;
@@ -61,7 +61,7 @@ impl Describes for SymbolRef<'_> {
     }
 }
 
-/// The text of a symbol.
+/// A descriptor that is a symbol, given by its text.
 impl Describes for &str {
     ghost wanted = { λ s. name s.now };
 
@@ -76,7 +76,7 @@ impl Describes for &str {
 /// Reads the parts of a value.
 ///
 /// # Errors
-/// Returns the seed's error; one other than out of memory only if no value of type `T` is read.
+/// Returns the seed's error, which is out of memory or means that no value of type `T` can be read.
 ///
 /// # Example
 /// For the list of the ubyte 1 and `ListOf(named! { "x" })`, returns the parts `(1, ())`.

@@ -25,9 +25,9 @@ use amqp_value::Value;
 /// # Implementer notes
 /// Required method: `refuses`. Implement each visit that can produce a value; the defaults of the
 /// others return an error. `visit_plain` receives null, the absent value and all scalars that have
-/// a variant of [`Plain`]. A visit must return a value that `gives` relates to the event, and must
-/// return one with the same contents as `x` if `stands` relates the event to `x`; out of memory is
-/// always permitted.
+/// a variant of [`Plain`]. A visit must return a value that `gives` relates to the event, and may
+/// return an error other than out of memory only if there is no such value. If `stands` relates the
+/// event to `x`, the visit must return a value with the same contents as `x`, or run out of memory.
 pub trait Visitor: Sized + Drop {
     /// The type of the value that is built.
     type Value: Drop;

@@ -71,7 +71,7 @@ pub trait MapAccess: Sized + Drop {
     ///
     /// # Errors
     /// Returns `Refusal::invalid`, and changes nothing, if a value is pending. Otherwise returns
-    /// the seed's error; one other than out of memory only if the key is not read.
+    /// the seed's error, which is out of memory or means that the key cannot be read.
     ///
     /// # Example
     /// For the pair of the uint 1 and the ubyte 2, with `Of(PhantomData::<u32>)`, returns
@@ -105,8 +105,8 @@ pub trait MapAccess: Sized + Drop {
     /// read.
     ///
     /// # Errors
-    /// Returns `Refusal::invalid` if no value is pending. Otherwise returns the seed's error; one
-    /// other than out of memory only if the value is not read.
+    /// Returns `Refusal::invalid` if no value is pending. Otherwise returns the seed's error, which
+    /// is out of memory or means that the value cannot be read.
     ///
     /// # Example
     /// After that key, with `Of(PhantomData::<u8>)`, returns 2. Before it, the call is invalid.
@@ -135,7 +135,7 @@ pub trait MapAccess: Sized + Drop {
     ///
     /// # Errors
     /// Returns `Refusal::invalid`, and changes nothing, if a value is pending. Otherwise returns
-    /// the error of a seed; one other than out of memory only if the pair is not read.
+    /// the error of a seed, which is out of memory or means that the pair cannot be read.
     ///
     /// # Example
     /// For the pair of the uint 3 and the ubyte 4, with the seeds of `u32` and `u8`, returns

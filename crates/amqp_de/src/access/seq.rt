@@ -38,7 +38,7 @@ pub trait SeqAccess: Sized + Drop {
     /// An element that cannot be read is consumed.
     ///
     /// # Errors
-    /// Returns the seed's error; one other than out of memory only if the element is not read.
+    /// Returns the seed's error, which is out of memory or means that the element cannot be read.
     ///
     /// # Example
     /// For the string `a` and the ubyte 2, with `Of(PhantomData::<u8>)`, returns an error for the
@@ -67,7 +67,8 @@ pub trait SeqAccess: Sized + Drop {
     /// An element that cannot be read is consumed.
     ///
     /// # Errors
-    /// Returns the error of the type; one other than out of memory only if the element is not read.
+    /// Returns the error of the type, which is out of memory or means that the element cannot be
+    /// read.
     ///
     /// # Example
     /// For the string `a` and the ubyte 2, as `u8`, returns an error for the invalid value, then

@@ -47,7 +47,7 @@ pub trait EnumAccess: Sized + Drop {
     /// Reads the index with a seed, and returns it with the accessor of the value.
     ///
     /// # Errors
-    /// Returns the seed's error; one other than out of memory only if the index is not read.
+    /// Returns the seed's error, which is out of memory or means that the index cannot be read.
     ///
     /// # Example
     /// For the index 1, with `Of(PhantomData::<u32>)`, returns 1 and the accessor of the value.
@@ -71,7 +71,8 @@ pub trait EnumAccess: Sized + Drop {
     /// Reads the index, and returns it with the accessor of the value.
     ///
     /// # Errors
-    /// Returns the error of the type; one other than out of memory only if the index is not read.
+    /// Returns the error of the type, which is out of memory or means that the index cannot be
+    /// read.
     ///
     /// # Example
     /// For the index 1, as a `u32`, returns 1 and the accessor of the value.
