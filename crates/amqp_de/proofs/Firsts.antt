@@ -1,4 +1,4 @@
--- So many elements that are read one after another, from what may be more of them.
+-- A given number of elements, read in order from a list that may have more.
 use Rattle.std.proofs.Common.{◌≡◌, ℕ, zero, suc, ◌<◌, ◌≤◌, inl, inr, List, [], ◌∷◌, ◌++◌, length, map, take, sym, subst, ap, ◌∙◌, arith}
 use Rattle.std.proofs.Math.Seq.{take-append_seam}
 use Rattle.std.proofs.lemmas.List.{append-nil, length-append}
@@ -24,7 +24,7 @@ module _ {T : Type 0} (R : Tree → T → Type 0) where
   not_more (suc n) (t ∷ ts) [] h = absurd h
   not_more (suc n) (t ∷ ts) (x ∷ xs) h = let fewer = not_more n ts xs h.1 in omega arith
 
-  -- where there are fewer elements, nothing is read
+  -- If there are fewer elements, no values are read.
   pub too_few : (n : ℕ) (whole : List Tree) (xs : List T) → ReadSoFar R whole [] xs → length xs < n → (ys : List T) → ¬ ReadsFirst R n whole ys
   too_few n whole xs (done, e, h) short ys (long, zip) =
       let fewer = not_more n whole ys zip in

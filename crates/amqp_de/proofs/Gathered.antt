@@ -1,4 +1,4 @@
--- Elements, or pairs, that are read one after another.
+-- Elements or pairs that are read in order.
 use Rattle.std.proofs.Common.{◌≡◌, inl, inr, List, [], ◌∷◌, ◌++◌, map, refl, sym, ap, ◌∙◌, append_assoc}
 use Rattle.std.proofs.lemmas.List.{append-nil}
 use Rattle.std.specs.List.{AllZip, AllByRecursion}
@@ -6,7 +6,7 @@ use Rattle.amqp_value.proofs.Zips.{zip_push}
 use Rattle.amqp_de.specs.Answers.{Refuses}
 
 module _ {A T : Type 0} (R : A → T → Type 0) where
-  -- what was read before the rest
+  -- `xs` are read from the elements of `whole` before `rest`.
   abbrev pub ReadSoFar : List A → List A → List T → Type 0
   ReadSoFar whole rest xs = (done : List A) × (whole ≡ done ++ rest) × AllZip R done xs
 
@@ -21,7 +21,7 @@ module _ {A T : Type 0} (R : A → T → Type 0) where
   pub read_whole : (whole : List A) (xs : List T) → ReadSoFar whole [] xs → AllZip R whole xs
   read_whole whole xs (done, e, h) = let p : done ≡ whole = sym (append-nil done) ∙ sym e in rw p at h
 
-  -- where one of them has no reading, the list has none
+  -- If one element cannot be read, the list cannot be read.
   all_zip_none : (done : List A) (t : A) (rest : List A) → ((x : T) → ¬ R t x) → (xs : List T) → ¬ AllZip R (done ++ t ∷ rest) xs
   all_zip_none [] t rest n [] h = h
   all_zip_none [] t rest n (x ∷ xs) h = n x h.0
@@ -39,7 +39,8 @@ module _ {A T : Type 0} (R : A → T → Type 0) where
       ]
 
 module _ {A T : Type 0} (image : T → A) (P : T → Type 0) (S : T → T → Type 0) where
-  -- of restorable values whose images are the whole, the first are the same as those that were read
+  -- `xs` consists of the values with the same contents as `ys`, and of the restorable values whose
+  -- images are `rest`.
   abbrev pub Halves : List A → List T → List T → Type 0
   Halves rest ys xs = (done : List T) × (left : List T) × (rest ≡ map image left) × (xs ≡ done ++ left) × AllByRecursion P left × AllZip S ys done
 

@@ -1,4 +1,4 @@
--- Pairs that are inserted into a map one after another.
+-- Pairs that are inserted into a map in order.
 use Rattle.std.proofs.Common.{◌≡◌, inl, inr, Bool, true, false, List, [], ◌∷◌, ◌++◌, Option, None, Some, Result, Ok, Err, IfOk, is_ok, refl, sym, subst, ap, ◌∙◌, fold}
 use Rattle.std.proofs.lemmas.List.{append_assoc, append-nil}
 use Rattle.std.specs.BTreeMap.{insert_entry}
@@ -25,7 +25,8 @@ all_prefix : {X : Type 0} (P : X → Type 0) (xs : List X) (x : X) → AllByRecu
 all_prefix P [] x all = (tt, all.0)
 all_prefix P (y ∷ xs) x all = let (some, last) = all_prefix P xs x all.1 in ((all.0, some), last)
 
--- the last is after each of those before it, and these are as they were
+-- If `R` relates each element to every later one, it relates each of the others to the last, and
+-- the others among themselves.
 pub before_last : {X : Type 0} (R : X → X → Type 0) (xs : List X) (x : X) → EachBefore R (xs ++ x ∷ []) → EachBefore R xs × AllByRecursion (λ y. R y x) xs
 before_last R [] x each = (tt, tt)
 before_last R (y ∷ xs) x each =
@@ -33,7 +34,8 @@ before_last R (y ∷ xs) x each =
     let (others, after) = before_last R xs x each.1 in
     ((some, others), (last, after))
 
--- where a new pair goes last, pairs that are all new are the list of them
+-- If a step appends each new element, then folding it over elements that are all new results in the
+-- list of them.
 module _ {X : Type 0} (R : X → X → Type 0) (step : List X → X → List X) (new : (es : List X) (x : X) → AllByRecursion (λ e. R e x) es → step es x ≡ es ++ x ∷ []) where
   after_more : (done : List X) (x : X) (xs : List X) → AllByRecursion (λ y. AllByRecursion (λ e. R e y) done) xs → AllByRecursion (R x) xs
       → AllByRecursion (λ y. AllByRecursion (λ e. R e y) (done ++ x ∷ [])) xs
@@ -55,7 +57,9 @@ module _ {X : Type 0} (R : X → X → Type 0) (step : List X → X → List X) 
   all_new xs each = new_onto [] xs (after_none xs) each
 
 module _ {K V : Type 0} where
-  -- keys with the contents of keys that are so to one another are so themselves
+  -- If `R` relates all keys with the contents of each key of `xs` to all with those of every later
+  -- one, it relates each key of `ys` to every later one, where the pairs of `ys` and `xs` have the
+  -- same contents.
   module _ (S : K → K → Type 0) (U : V → V → Type 0) (R : K → K → Type 0) where
     so_to_all : (k l : K) (v w : V) (ys xs : List (K × V)) → S k l → AllZip (SamePair S U) ys xs → AllByRecursion (IsSoToAll S R l) (keys_of xs)
         → AllByRecursion (λ (e : K × V). R k e.0) ys
@@ -78,7 +82,7 @@ module _ {K V : Type 0} where
     pub distinct_inserted : (ps : List (K × V)) → EachBefore (λ p q. eq q.0 p.0 ≡ false) ps → inserted_in_order eq ps ≡ ps
     distinct_inserted = all_new (λ p q. eq q.0 p.0 ≡ false) (λ es p. insert_pair eq es p.0 p.1) insert_new
 
-    -- no value is at a key that is new
+    -- A key without a value has none after updates of other keys.
     pub new_is_absent : ((k l : K) → eq k l ≡ eq l k) → (es : List (K × V)) (f : K → Option V) (k : K) → f k ≡ None → AllByRecursion (λ e. eq k e.0 ≡ false) es → update_all eq f es k ≡ None
     new_is_absent flips [] f k none all = none
     new_is_absent flips (e ∷ es) f k none all = let other : eq e.0 k ≡ false = flips e.0 k ∙ all.0 in new_is_absent flips es _ k (rw other none) all.1
@@ -92,7 +96,7 @@ module _ {K V : Type 0} where
     ascending_inserted = all_new (λ p q. cmp q.0 p.0 ≡ Greater) (λ es p. insert_entry cmp es p.0 p.1) insert_greater
 
 module _ {K V : Type 0} (S : K → K → Type 0) (U : V → V → Type 0) where
-  -- pairs with the contents of a map's are inserted as they are
+  -- Pairs with the same contents as those of a map are inserted unchanged.
   pub restored_in_order : (eq : K → K → Bool) (es ys xs : List (K × V)) → AllZip (SamePair S U) ys xs → AreDistinct S eq (keys_of xs) → es ≡ inserted_in_order eq ys → AllZip (SamePair S U) es xs
   restored_in_order eq es ys xs zip apart is =
       let each = each_before S U (λ x y. eq y x ≡ false) ys xs zip apart in
@@ -104,7 +108,7 @@ module _ {K V : Type 0} (S : K → K → Type 0) (U : V → V → Type 0) where
       rw (is ∙ ascending_inserted cmp ys each) zip
 
 module _ {K V H E : Type 0} where
-  -- a new key comes to those that were there
+  -- Inserting a new key adds its pair to the entries.
   pub put_new : (eq : K → K → Bool) (m n : hashed.HashMap K V H) (k : K) (v : V) (r : Result (Option V) E) → IfOk r (λ old. old ≡ hashed.get eq m k) → IfOk r (hashed.PutsEntry eq m n k v) → is_ok r ≡ true
       → hashed.get eq m k ≡ None → IsPermutation ((k, v) ∷ m.entries) n.entries
   put_new eq m n k v (Ok None) old puts ok absent = puts
@@ -117,7 +121,7 @@ map_read P ds t is h =
     let here : OnMap P (tree.map (pairs_of ds)) = subst (OnMap P) (sym is) h in
     subst P (entries_in_pairs ds) here
 
--- where the pairs of a map are not read, it is not read
+-- An error in reading the pairs of a map is an error in reading the map.
 pub map_refused : {K V M E : Type 0} (R : Tree → K → Type 0) (Q : Tree → V → Type 0) (Holds : List (K × V) → M → Type 0) (Memory : E → Type 0) (e : E) (ds : List (Tree × Tree)) (t : Tree)
     → tree.map (pairs_of ds) ≡ t → Refuses Memory (λ ps. AllZip (ReadsPair R Q) ds ps) e → Refuses Memory (λ m. OnMap (λ ts. ReadsPairs R Q Holds ts m) t) e
 map_refused R Q Holds Memory e ds t is r =

@@ -1,4 +1,4 @@
--- Keys that stay apart by their contents.
+-- Keys remain distinct or ascending if they are replaced by keys with the same contents.
 use Rattle.std.proofs.Common.{◌≡◌, ℕ, nat_eq, Bool, true, false, List, [], ◌∷◌, ap, ◌∙◌}
 use Rattle.std.proofs.lemmas.Cmp.{nat_list_eq_equiv, nat_list_cmp_total, tied_itself}
 use Rattle.std.specs.Cmp.Lexicographic.{pointwise, slice_cmp}
@@ -12,7 +12,8 @@ use Rattle.amqp_data.specs.Pairs as pairs
 use Rattle.amqp_de.specs.Maps.{IsSoToAll, AreDistinct, Ascend}
 
 module _ {K : Type 0} (S : K → K → Type 0) where
-  -- a key that is so to each of these, with whatever has their contents
+  -- If `R` implies that `Q` relates all keys with the same contents, and `R` relates `k` to each of
+  -- `ks`, then `Q` relates all keys with the contents of `k` to all keys with those of `ks`.
   all_so : (R Q : K → K → Type 0) → ((k l : K) → R k l → IsSoToAll S Q k l) → (k : K) (ks : List K) → AllByRecursion (R k) ks → AllByRecursion (IsSoToAll S Q k) ks
   all_so R Q so k [] all = tt
   all_so R Q so k (l ∷ ks) all = (so k l all.0, all_so R Q so k ks all.1)

@@ -1,4 +1,4 @@
--- What fields stand as where absent ones are left out.
+-- The trees of fields of which absent ones are left out.
 use Rattle.std.proofs.Common.{◌≡◌, ℕ, Bool, true, false, true≢false, List, [], ◌∷◌, Option, Some, None, is_some, refl, sym, ap, subst, ◌∙◌}
 use Rattle.std.proofs.lemmas.Cmp.{nat_list_eq_equiv}
 use Rattle.std.specs.Prelude.{◌||◌, ◌&&◌, not, if◌then◌else◌, bytes_eq}
@@ -9,7 +9,7 @@ use Rattle.amqp_de.specs.Fields.{value_at, without}
 use Rattle.amqp_de.specs.Present.{optional, any_there, all_images, up_to_last, those_there, has_name, distinct_names, EndsEarly}
 use Rattle.amqp_de.specs.Reads.{image_option, SameOption}
 
--- the list in full is cut nowhere
+-- The images of all fields are a list that `EndsEarly` permits.
 all_there : (fs : List (Bool × Tree)) → EndsEarly fs (all_images fs)
 all_there [] = refl
 all_there (f ∷ fs) = (refl, all_there fs)
@@ -23,7 +23,8 @@ some_there : (fs : List (Bool × Tree)) → EndsEarly fs (up_to_last fs)
 some_there [] = refl
 some_there (f ∷ fs) = cut_by (f.0 || any_there fs) f fs refl (some_there fs)
 
--- the elements of a list that stands for the fields in full, and of one without the absent fields at its end
+-- `EndsEarly` permits the elements of the list of all fields, and those of the list without the
+-- absent fields at its end.
 pub full : (fs : List (Bool × Tree)) (ts : List Tree) (t : Tree) → list (trees_of ts) ≡ t → t ≡ list (trees_of (all_images fs)) → EndsEarly fs ts
 full fs ts t e f = let same : trees_of ts ≡ trees_of (all_images fs) = cc in
     subst (λ (us : List Tree). EndsEarly fs us) (sym (same_trees ts (all_images fs) same)) (all_there fs)
@@ -32,12 +33,13 @@ pub cut : (fs : List (Bool × Tree)) (ts : List Tree) (t : Tree) → list (trees
 cut fs ts t e f = let same : trees_of ts ≡ trees_of (up_to_last fs) = cc in
     subst (λ (us : List Tree). EndsEarly fs us) (sym (same_trees ts (up_to_last fs) same)) (some_there fs)
 
--- the entries of a map that stands for the fields that are there
+-- The entries of the map of the present fields are those of `those_there`.
 pub entries : (ns : List (List ℕ)) (fs : List (Bool × Tree)) (es : List (Tree × Tree)) (t : Tree) → map (pairs_of es) ≡ t →
     t ≡ map (pairs_of (those_there ns fs)) → es ≡ those_there ns fs
 entries ns fs es t e f = let same : pairs_of es ≡ pairs_of (those_there ns fs) = cc in same_pairs es (those_there ns fs) same
 
--- of the first entry its name has the value, and the rest is left
+-- A name equals itself. The value at the name of the first entry is that of the entry, and the
+-- entries without this name are the rest.
 itself : (n : List ℕ) → bytes_eq n n ≡ true
 itself n = nat_list_eq_equiv.refl n
 
@@ -59,7 +61,7 @@ pub others_distinct : (n : List ℕ) (ns : List (List ℕ)) → distinct_names (
 others_distinct n ns e = (not_and (has_name n ns) (distinct_names ns) e).1
 
 module _ (n : List ℕ) where
-  -- a name that no field has is not there
+  -- If no field has a name, no entry has it.
   no_value_by : (m : List ℕ) (b : Bool) (t : Tree) (es : List (Tree × Tree)) → bytes_eq m n ≡ false → value_at n es ≡ None →
       value_at n (if b then (scalar (string m), t) ∷ es else es) ≡ None
   no_value_by m true t es d e = ap (λ (b : Bool). if b then Some t else value_at n es) d ∙ e
@@ -101,18 +103,18 @@ none_by : {T : Type 0} (S : T → T → Type 0) (o : Option T) (n : List ℕ) (t
 none_by S None n t rs es e v = tt
 none_by S (Some x) n t rs es e v = let same : Some t ≡ None = sym (first_value n t rs) ∙ ap (value_at n) (sym e) ∙ v in absurd cc
 
--- where the name of a field that may be absent is there, its value is the field's image
+-- If the name of an optional field is present, its value is the image of the field.
 pub present_value : {T : Type 0} (n : List ℕ) (image : T → Tree) (o : Option T) (ns : List (List ℕ)) (fs : List (Bool × Tree))
     (es : List (Tree × Tree)) (t : Tree) → distinct_names (n ∷ ns) ≡ true → es ≡ those_there (n ∷ ns) (optional image o ∷ fs) →
     value_at n es ≡ Some t → t ≡ image_option image o
 present_value n image o ns fs es t d e v = value_by n image o ns fs es t (not_and (has_name n ns) (distinct_names ns) d).0 e v
 
--- where it is not there, the field is absent
+-- If the name of an optional field is not present, the field is absent.
 pub absent_same : {T : Type 0} (S : T → T → Type 0) (o : Option T) (n : List ℕ) (t : Tree) (rs es : List (Tree × Tree)) →
     es ≡ (if is_some o then (scalar (string n), t) ∷ rs else rs) → value_at n es ≡ None → SameOption S None o
 absent_same S o n t rs es e v = none_by S o n t rs es e v
 
--- what is left without it are the fields after it
+-- The entries without the first field are the entries of the fields after it.
 pub rest_there : (n : List ℕ) (b : Bool) (t : Tree) (ns : List (List ℕ)) (fs : List (Bool × Tree)) (es rest : List (Tree × Tree)) →
     distinct_names (n ∷ ns) ≡ true → es ≡ (if b then (scalar (string n), t) ∷ those_there ns fs else those_there ns fs) →
     rest ≡ without n es → rest ≡ those_there ns fs

@@ -1,4 +1,5 @@
--- Parts of compounds, as lists and back.
+-- Lists of elements or pairs round-trip through compounds, and distinct lists make distinct
+-- compounds.
 use Rattle.std.proofs.Common.{◌≡◌, List, [], ◌∷◌, refl, sym, ap, ◌∙◌}
 use Rattle.amqp_ser.specs.Tree.{Tree, map, trees_of}
 use Rattle.amqp_value.specs.TreeOf.{pairs_of}

@@ -1,24 +1,28 @@
--- What the accessors of a list and of a map may answer, and what they leave (AMQP 1.0 part 1, sections 1.6.22 and 1.6.23).
+-- Results of the accessors of lists, maps and variants, and what remains after each call
+-- (AMQP 1.0 part 1, sections 1.6.22 and 1.6.23).
 use Rattle.std.specs.Prelude.{◌≡◌, ◌⊎◌, List, [], ◌∷◌, Option, Some, None, Result, Ok, Err, IsSome, IsSomeAnd, MatchResult}
 use Rattle.amqp_ser.specs.Tree.{Tree}
 use Rattle.amqp_de.specs.Answers.{Refuses}
 
--- the next element is taken, and read or refused; after the last there is none
+-- The next element is consumed, and the result is its value or an error. After the last element,
+-- the result is `None`.
 abbrev pub ReadsNext : {T E : Type 0} → (E → Type 0) → (Tree → T → Type 0) → List Tree → List Tree → Result (Option T) E → Type 0
 ReadsNext Memory R old new (Ok None) = (old ≡ []) × (new ≡ [])
 ReadsNext Memory R old new (Ok (Some x)) = (t : Tree) × (old ≡ t ∷ new) × R t x
 ReadsNext Memory R old new (Err e) = (t : Tree) × (old ≡ t ∷ new) × Refuses Memory (R t) e
 
--- the image of a restorable x is read as the same as x, unless out of memory
+-- If the next element is the image of a restorable `x`, it is read as a value with the same
+-- contents, unless out of memory.
 abbrev pub RestoresNext : {T E : Type 0} → (T → Tree) → (T → Type 0) → (T → T → Type 0) → (E → Type 0) → List Tree → Result (Option T) E → Type 0
 RestoresNext {T} image P S Memory old r = (x : T) (ts : List Tree) → P x → old ≡ image x ∷ ts → MatchResult r (λ o. IsSomeAnd o (λ y. S y x)) Memory
 
--- what is owed and left stays as it is
+-- The pending value and the remaining pairs are unchanged.
 abbrev pub Stays : Option Tree → List (Tree × Tree) → Option Tree → List (Tree × Tree) → Type 0
 Stays owed left owed' left' = (owed' ≡ owed) × (left' ≡ left)
 
--- the next pair is taken, and its key read: the value is owed then, and of a refused key it is not;
--- while a value is owed no key is taken, and the refusal is not out of memory
+-- The next pair is consumed and its key is read. The value is then pending; if the key cannot be
+-- read, no value is pending. While a value is pending, no key is read, nothing changes, and the
+-- error is not out of memory.
 abbrev pub ReadsKey : {T E : Type 0} → (E → Type 0) → (Tree → T → Type 0) → Option Tree → List (Tree × Tree) → Option Tree → List (Tree × Tree)
     → Result (Option T) E → Type 0
 ReadsKey Memory R owed left owed' left' (Ok None) = (owed ≡ None) × (left ≡ []) × Stays owed left owed' left'
@@ -26,14 +30,16 @@ ReadsKey Memory R owed left owed' left' (Ok (Some x)) = (owed ≡ None) × ((e :
 ReadsKey Memory R owed left owed' left' (Err r) =
     (IsSome owed × ¬ Memory r × Stays owed left owed' left') ⊎ ((owed ≡ None) × (owed' ≡ None) × ((e : Tree × Tree) × (left ≡ e ∷ left') × Refuses Memory (R e.0) r))
 
--- the value that is owed is read, or there is none, and the refusal is not out of memory; none is owed after it
+-- The pending value is read. If no value is pending, the error is not out of memory. Afterwards no
+-- value is pending. The remaining pairs are unchanged.
 abbrev pub ReadsValue : {T E : Type 0} → (E → Type 0) → (Tree → T → Type 0) → Option Tree → List (Tree × Tree) → Option Tree → List (Tree × Tree)
     → Result T E → Type 0
 ReadsValue Memory R owed left owed' left' (Ok x) = (owed' ≡ None) × (left' ≡ left) × ((t : Tree) × (owed ≡ Some t) × R t x)
 ReadsValue Memory R owed left owed' left' (Err r) =
     (owed' ≡ None) × (left' ≡ left) × (((owed ≡ None) × ¬ Memory r) ⊎ ((t : Tree) × (owed ≡ Some t) × Refuses Memory (R t) r))
 
--- the next pair is taken, and read or refused whole; while a value is owed none is taken, and the refusal is not out of memory
+-- The next pair is consumed, and the result is its key and value or an error. While a value is
+-- pending, no pair is read, nothing changes, and the error is not out of memory.
 abbrev pub ReadsEntry : {K V E : Type 0} → (E → Type 0) → (Tree → K → Type 0) → (Tree → V → Type 0) → Option Tree → List (Tree × Tree) → Option Tree
     → List (Tree × Tree) → Result (Option (K × V)) E → Type 0
 ReadsEntry Memory R S owed left owed' left' (Ok None) = (owed ≡ None) × (left ≡ []) × Stays owed left owed' left'
@@ -43,7 +49,8 @@ ReadsEntry {K} {V} Memory R S owed left owed' left' (Err r) =
     (IsSome owed × ¬ Memory r × Stays owed left owed' left')
     ⊎ ((owed ≡ None) × (owed' ≡ None) × ((e : Tree × Tree) × (left ≡ e ∷ left') × Refuses Memory (λ (x : K × V). R e.0 x.0 × S e.1 x.1) r))
 
--- images of restorable keys, values and pairs are read as the same, unless out of memory
+-- Images of restorable keys, pairs and values are read as values with the same contents, unless out
+-- of memory.
 abbrev pub RestoresKey : {T E : Type 0} → (T → Tree) → (T → Type 0) → (T → T → Type 0) → (E → Type 0) → Option Tree → List (Tree × Tree)
     → Result (Option T) E → Type 0
 RestoresKey {T} image P S Memory owed left r =
@@ -58,11 +65,12 @@ RestoresEntry {K} {V} f P S g Q T Memory owed left r =
 abbrev pub RestoresOwed : {T E : Type 0} → (T → Tree) → (T → Type 0) → (T → T → Type 0) → (E → Type 0) → Option Tree → Result T E → Type 0
 RestoresOwed {T} image P S Memory owed r = (x : T) → P x → owed ≡ Some (image x) → MatchResult r (λ y. S y x) Memory
 
--- a variant's index is read, and what comes with it is left
+-- The index of a variant is read, and the value after it is unchanged.
 abbrev pub Picks : {T V E : Type 0} → (E → Type 0) → (Tree → T → Type 0) → (V → Option Tree) → Tree → Option Tree → Result (T × V) E → Type 0
 Picks Memory R content index held (Ok x) = R index x.0 × (content x.1 ≡ held)
 Picks Memory R content index held (Err r) = Refuses Memory (R index) r
 
--- the image of a restorable index is read as the same, unless out of memory
+-- If the index is the image of a restorable `x`, it is read as a value with the same contents,
+-- unless out of memory.
 abbrev pub RestoresPicked : {T V E : Type 0} → (T → Tree) → (T → Type 0) → (T → T → Type 0) → (E → Type 0) → Tree → Result (T × V) E → Type 0
 RestoresPicked {T} image P S Memory index r = (x : T) → P x → index ≡ image x → MatchResult r (λ y. S y.0 x) Memory

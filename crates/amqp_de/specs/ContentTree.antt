@@ -1,4 +1,5 @@
--- The tree of what a deserializer holds, by its first level (AMQP 1.0 part 1, section 1.6).
+-- The tree of a value that is being deserialized, by its first level
+-- (AMQP 1.0 part 1, section 1.6).
 use Rattle.std.specs.Prelude.{List, string_bytes}
 use Rattle.amqp_data.specs.Fixed.{f32_bits, f64_bits, dec32_bytes, dec64_bytes, dec128_bytes, milliseconds_of, uuid_bytes}
 use Rattle.amqp_data.specs.Items.{byte_buf_bytes}
@@ -11,7 +12,7 @@ use Rattle.amqp_de.specs.declared.content.Content.{Content}
 use Rattle.amqp_de.specs.declared.content.Content.TheVariants as content
 
 module _ {D P E : Type 0} (value : D → Tree) (elements : P → List Tree) (entries : E → List (Tree × Tree)) where
-  -- one level, where each value inside is what its deserializer holds
+  -- The tree of one level. The trees of the values inside are those of their deserializers.
   abbrev pub content_tree : Content D P E → Tree
   content_tree content.Null = scalar tree.null
   content_tree (content.Bool b) = scalar (tree.bool b)

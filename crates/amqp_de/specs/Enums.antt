@@ -1,4 +1,5 @@
--- What an enum is read from: a variant's index, and what comes with it (AMQP 1.0 part 1, sections 1.6.5, 1.6.22 and 1.6.23).
+-- The trees that an enum is read from: the index of a variant and its value
+-- (AMQP 1.0 part 1, sections 1.6.5, 1.6.22 and 1.6.23).
 use Rattle.std.specs.Prelude.{◌≡◌, ℕ, List, [], ◌∷◌, Option, Some, None, ◌≤◌, ◌+◌, ◌-◌}
 use Rattle.amqp_ser.specs.Tree.{Scalar, uint, Tree, scalar, list, map}
 use Rattle.amqp_value.specs.Image.{variant_map}
@@ -7,12 +8,12 @@ use Rattle.amqp_de.specs.Fields.{There}
 use Rattle.amqp_de.specs.declared.enums.variants.OneOf.{OneOf}
 use Rattle.amqp_de.specs.declared.enums.variants.OneOf.TheVariants.{This, Other}
 
--- the first, if there is one
+-- The first tree, if there is one.
 abbrev pub first : List Tree → Option Tree
 first [] = None
 first (t ∷ ts) = Some t
 
--- the index of a variant is a uint
+-- The index of a variant is a uint.
 abbrev pub index_of_scalar : Scalar → Option ℕ
 index_of_scalar (uint n) = Some n
 index_of_scalar s = None
@@ -21,54 +22,55 @@ abbrev pub index_of_tree : Tree → Option ℕ
 index_of_tree (scalar s) = index_of_scalar s
 index_of_tree t = None
 
--- what is read at an index that is there
+-- What is read at an index. Without an index, nothing is read.
 abbrev pub AtIndex : {V : Type 0} → (ℕ → Option Tree → V → Type 0) → Option ℕ → Option Tree → V → Type 0
 AtIndex K None d x = ⊥
 AtIndex K (Some n) d x = K n d x
 
--- in a list the index stands first and then what comes with it: what is left over is ignored
+-- A list has the index and then the value. Further elements are ignored.
 abbrev pub OnListed : {V : Type 0} → (ℕ → Option Tree → V → Type 0) → List Tree → V → Type 0
 OnListed K [] x = ⊥
 OnListed K (t ∷ ts) x = AtIndex K (index_of_tree t) (first ts) x
 
--- a map has the one key that is the index
+-- A map has one pair, from the index to the value.
 abbrev pub OnKeyed : {V : Type 0} → (ℕ → Option Tree → V → Type 0) → List (Tree × Tree) → V → Type 0
 OnKeyed K [] x = ⊥
 OnKeyed K (e ∷ []) x = AtIndex K (index_of_tree e.0) (Some e.1) x
 OnKeyed K (e ∷ f ∷ es) x = ⊥
 
--- the index alone, a list, or a map
+-- An enum is an index, a list or a map.
 unfoldable pub OnEnum : {V : Type 0} → (ℕ → Option Tree → V → Type 0) → Tree → V → Type 0
 OnEnum K (scalar s) x = AtIndex K (index_of_scalar s) None x
 OnEnum K (list ts) x = OnListed K (elements_in ts) x
 OnEnum K (map ps) x = OnKeyed K (entries_in ps) x
 OnEnum K t x = ⊥
 
--- a variant with nothing, and those after it
+-- A variant without a value, and the variants after it.
 abbrev pub unit_or : {U R : Type 0} → (ℕ → Option Tree → R → Type 0) → ℕ → Option Tree → OneOf U R → Type 0
 unit_or K n d (This u) = n ≡ 0
 unit_or K n d (Other y) = (1 ≤ n) × K (n - 1) d y
 
--- a variant with a value, and those after it
+-- A variant with a value, and the variants after it.
 abbrev pub data_or : {T R : Type 0} → (Tree → T → Type 0) → (ℕ → Option Tree → R → Type 0) → ℕ → Option Tree → OneOf T R → Type 0
 data_or R K n d (This x) = (n ≡ 0) × There R d x
 data_or R K n d (Other y) = (1 ≤ n) × K (n - 1) d y
 
--- no more variants
+-- No more variants.
 abbrev pub no_variant : {R : Type 0} → ℕ → Option Tree → R → Type 0
 no_variant n d x = ⊥
 
--- the image of a variant: its index alone, or the map from it to what comes with it
+-- The image of a variant: its index, or the map from the index to the value.
 abbrev pub enum_image : ℕ → Option Tree → Tree
 enum_image n None = scalar (uint n)
 enum_image n (Some t) = variant_map n t
 
--- what is held, if something is
+-- The tree of a deserializer, if there is one.
 abbrev pub value_of : {D : Type 0} → (D → Tree) → Option D → Option Tree
 value_of value None = None
 value_of value (Some d) = Some (value d)
 
--- of one of the variants: its index, what comes with it, and the facts of the one that it is
+-- For one of the variants: its index, the image of its value, whether it is restorable, and whether
+-- two of them have the same contents.
 abbrev pub index_of : {A R : Type 0} → (R → ℕ) → OneOf A R → ℕ
 index_of f (This x) = 0
 index_of f (Other y) = 1 + f y

@@ -1,4 +1,5 @@
--- What a visitor is shown of a value, and which trees are shown so (AMQP 1.0 part 1, section 1.6).
+-- The events that are reported to a visitor, and the trees that each event reports
+-- (AMQP 1.0 part 1, section 1.6).
 use Rattle.std.specs.Prelude.{◌≡◌, ◌≢◌, ◌⊎◌, ◌||◌, ℕ, ℤ, Bool, true, false, List, [], ◌∷◌, Option, Some, None, Result, MatchResult, bytes_eq, codes, string_bytes}
 use Rattle.amqp_data.specs.Fixed.{f32_bits, f64_bits}
 use Rattle.amqp_data.specs.Items.{byte_buf_bytes}
@@ -17,7 +18,7 @@ use Rattle.amqp_de.specs.declared.shown.Visit.TheVariants as visit
 use Rattle.amqp_de.specs.declared.shown.Plain.{Plain}
 use Rattle.amqp_de.specs.declared.shown.Plain.TheVariants as plain
 
--- what a visitor is shown: of an enum the index, and what comes with it
+-- An event. That of an enum has the index and, if there is one, the value.
 pub data Event : Type 0 where
   plain_event : Scalar → Event
   none_event : Event
@@ -29,7 +30,7 @@ pub data Event : Type 0 where
   described_event : Descriptor → Tree → Event
   value_event : Tree → Event
 
--- the visit that an event comes by
+-- The visit that reports an event.
 abbrev pub visit_of : Event → Visit
 visit_of (plain_event s) = visit.Plain
 visit_of none_event = visit.Plain
@@ -41,7 +42,7 @@ visit_of (enum_event t d) = visit.Enum
 visit_of (described_event d t) = visit.Described
 visit_of (value_event t) = visit.Value
 
--- the event of what has no parts
+-- The event of null, an absent value or a scalar.
 abbrev pub plain_shown : Plain → Event
 plain_shown plain.None = none_event
 plain_shown plain.Unit = plain_event tree.null
@@ -60,60 +61,62 @@ plain_shown (plain.Char c) = plain_event (tree.char c)
 plain_shown (plain.String s) = plain_event (tree.string (string_bytes s))
 plain_shown (plain.ByteBuf b) = plain_event (tree.binary (byte_buf_bytes b))
 
--- what stands for a value x that comes back gives the same as x, unless out of memory
+-- If the reported event represents `x`, stated by `P`, the result has the same contents as `x`,
+-- unless out of memory.
 abbrev pub Returns : {T E : Type 0} → (T → Type 0) → (T → T → Type 0) → (E → Type 0) → Result T E → Type 0
 Returns {T} P S Memory r = (x : T) → P x → MatchResult r (λ y. S y x) Memory
 
 module _ {T : Type 0} (G : Event → T → Type 0) where
-  -- a scalar of this kind is shown as it is
+  -- A scalar of this kind is reported unchanged.
   abbrev pub ByPlain : {A : Type 0} → (A → Scalar) → Tree → T → Type 0
   ByPlain {A} kind t x = (a : A) × (t ≡ scalar (kind a)) × G (plain_event (kind a)) x
 
-  -- null alone
+  -- Only null is reported.
   abbrev pub ByUnit : Tree → T → Type 0
   ByUnit t x = (t ≡ scalar tree.null) × G (plain_event tree.null) x
 
-  -- null is shown as nothing, and any other tree as something
+  -- Null is reported as absent, and any other tree as present.
   abbrev pub ByOption : Tree → T → Type 0
   ByOption t x = (t ≡ scalar tree.null → G none_event x) × (t ≢ scalar tree.null → G (some_event t) x)
 
-  -- the elements of a list, and of an array
+  -- The elements of a list or, in `ByArray`, of an array are reported.
   abbrev pub ByList : Tree → T → Type 0
   ByList t x = (ts : Trees) × (t ≡ list ts) × G (seq_event (elements_in ts)) x
 
   abbrev pub ByArray : Tree → T → Type 0
   ByArray t x = (ts : Trees) × (t ≡ array ts) × G (seq_event (elements_in ts)) x
 
-  -- the pairs of a map
+  -- The pairs of a map are reported.
   abbrev pub ByMap : Tree → T → Type 0
   ByMap t x = (ps : Pairs) × (t ≡ map ps) × G (map_event (entries_in ps)) x
 
-  -- a descriptor and the value that it describes
+  -- A descriptor and the value after it are reported.
   abbrev pub ByDescribed : Tree → T → Type 0
   ByDescribed t x = (d : Descriptor) × (u : Tree) × (t ≡ described d u) × G (described_event d u) x
 
-  -- a value with a descriptor where one is asked for, and else a list
+  -- A described value is reported for the name of a described struct, and a list for any other
+  -- name.
   abbrev pub ByStruct : Bool → Tree → T → Type 0
   ByStruct true = ByDescribed
   ByStruct false = ByList
 
-  -- a uint or a symbol, which is shown as a text
+  -- A uint is reported unchanged, and a symbol as a string.
   abbrev pub ByIdentifier : Tree → T → Type 0
   ByIdentifier t x = ((n : ℕ) × (t ≡ scalar (tree.uint n)) × G (plain_event (tree.uint n)) x)
       ⊎ ((s : List ℕ) × (t ≡ scalar (tree.symbol s)) × G (plain_event (tree.string s)) x)
 
-  -- a variant by itself: its index alone
+  -- A variant without a value: its index.
   abbrev pub ScalarVariant : Scalar → T → Type 0
   ScalarVariant (tree.uint n) x = G (enum_event (scalar (tree.uint n)) None) x
   ScalarVariant (tree.symbol s) x = G (enum_event (scalar (tree.symbol s)) None) x
   ScalarVariant s x = ⊥
 
-  -- in a list its index, and then what comes with it: what is left over is ignored
+  -- A list has the index and then the value. Further elements are ignored.
   abbrev pub ListedVariant : List Tree → T → Type 0
   ListedVariant [] x = ⊥
   ListedVariant (t ∷ ts) x = G (enum_event t (first ts)) x
 
-  -- a map has the one key that is the index
+  -- A map has one pair, from the index to the value.
   abbrev pub KeyedVariant : List (Tree × Tree) → T → Type 0
   KeyedVariant [] x = ⊥
   KeyedVariant (e ∷ []) x = G (enum_event e.0 (Some e.1)) x
@@ -125,28 +128,30 @@ module _ {T : Type 0} (G : Event → T → Type 0) where
   ByVariant (map ps) x = KeyedVariant (entries_in ps) x
   ByVariant t x = ⊥
 
-  -- a descriptor: a ulong, or a symbol, which is shown as a text
+  -- A descriptor: a ulong is reported unchanged, and a symbol as a string.
   abbrev pub ByDescriptor : Tree → T → Type 0
   ByDescriptor t x = ((n : ℕ) × (t ≡ scalar (tree.ulong n)) × G (plain_event (tree.ulong n)) x)
       ⊎ ((s : List ℕ) × (t ≡ scalar (tree.symbol s)) × G (plain_event (tree.string s)) x)
 
-  -- anything, as an untyped value
+  -- Any tree is reported as an untyped value.
   abbrev pub ByValue : Tree → T → Type 0
   ByValue t x = G (value_event t) x
 
-  -- the elements of an array, or the format code of any other value
+  -- The elements of an array are reported, or the format code of any other value.
   abbrev pub ByFormat : Tree → T → Type 0
   ByFormat (array ts) x = G (seq_event (elements_in ts)) x
   ByFormat t x = G (plain_event (tree.ubyte (code_of_kind t))) x
 
-  -- an enum by its name: an untyped value, a descriptor, an array's elements or a format code, or a variant
+  -- The name of an enum selects an untyped value, a descriptor, the elements of an array or a
+  -- format code, or a variant.
   abbrev pub ByEnum : Bool → Bool → Bool → Tree → T → Type 0
   ByEnum true b c = ByValue
   ByEnum false true c = ByDescriptor
   ByEnum false false true = ByFormat
   ByEnum false false false = ByVariant
 
-  -- a symbol as a text, a timestamp as a number, another scalar as an untyped value
+  -- A symbol is reported as a string, a timestamp as a long, and another scalar as an untyped
+  -- value.
   abbrev pub BySymbol : Tree → T → Type 0
   BySymbol t x = (s : List ℕ) × (t ≡ scalar (tree.symbol s)) × G (plain_event (tree.string s)) x
 
@@ -156,15 +161,15 @@ module _ {T : Type 0} (G : Event → T → Type 0) where
   abbrev pub ByKind : {A : Type 0} → (A → Scalar) → Tree → T → Type 0
   ByKind {A} kind t x = (a : A) × (t ≡ scalar (kind a)) × G (value_event (scalar (kind a))) x
 
-  -- anything, in a newtype
+  -- Any tree is reported as the value of a newtype.
   abbrev pub ByNewtype : Tree → T → Type 0
   ByNewtype t x = G (newtype_event t) x
 
-  -- the bytes of what can be written
+  -- The bytes of a writable tree are reported.
   abbrev pub ByWritten : Tree → T → Type 0
   ByWritten t x = (writable t ≡ true) × G (plain_event (tree.binary (encoding t))) x
 
-  -- a newtype by what its name asks for
+  -- The marker of a newtype selects what is reported.
   abbrev pub ByMark : Mark → Tree → T → Type 0
   ByMark mark.Symbol = BySymbol
   ByMark mark.Timestamp = ByTimestamp
@@ -177,7 +182,7 @@ module _ {T : Type 0} (G : Event → T → Type 0) where
   ByMark mark.Lazy = ByWritten
   ByMark mark.Other = ByNewtype
 
--- whether a tree is the index of a variant by itself
+-- Whether a tree is the index of a variant: a uint or a symbol.
 abbrev pub is_index_scalar : Scalar → Bool
 is_index_scalar (tree.uint n) = true
 is_index_scalar (tree.symbol s) = true
@@ -187,15 +192,15 @@ abbrev pub is_index : Tree → Bool
 is_index (scalar s) = is_index_scalar s
 is_index t = false
 
--- the name of an enum that is an array's elements, or a format code
+-- The name of an enum that is read as the elements of an array, or as a format code.
 abbrev pub is_array_name : List ℕ → Bool
 is_array_name n = bytes_eq n (codes "__ARRAY")
 
--- the names of structs that stand after a descriptor
+-- The names of structs that are read after a descriptor.
 abbrev pub is_described_name : List ℕ → Bool
 is_described_name n = is_basic_name n || is_list_name n || is_map_name n
 
--- what any value is shown as: scalars that have no visit of their own as untyped values
+-- The event of any value. Scalars for which there is no visit are reported as untyped values.
 abbrev pub scalar_event : Scalar → Event
 scalar_event (tree.symbol s) = value_event (scalar (tree.symbol s))
 scalar_event (tree.timestamp z) = value_event (scalar (tree.timestamp z))

@@ -1,4 +1,4 @@
--- Contracts of public items rest on all of these.
+-- The contracts of public items use all of these modules.
 pub mod Parts
 pub mod Maps
 pub mod Reads

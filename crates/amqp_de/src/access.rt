@@ -1,4 +1,4 @@
-//! Reading element by element and entry by entry.
+//! Accessors that read lists, maps and variants one element at a time.
 
 mod map;
 mod seq;

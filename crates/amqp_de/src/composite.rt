@@ -1,4 +1,4 @@
-//! The call by which a composite is read: what stands after a number.
+//! The function that reads a composite type, whose descriptor is a number.
 
 ghost use Rattle.amqp_ser.specs.Tree.{code, described};
 ghost use Rattle.amqp_de.specs.Answers.{PartsOf, RestoresParts};
@@ -12,18 +12,19 @@ use crate::seed::Seed;
 use amqp_data::Descriptor;
 use std::alloc::Global;
 
-/// Reads the parts of a value that stands after this number.
+/// Reads the parts of a value with the given numeric descriptor.
 ///
-/// It is `read_described` of a number. Its laws speak of the one descriptor, so the check finds them
-/// by itself for fields of any count, and for a type of one's own after a number.
+/// Like `read_described` with a number, but without its law for maps of fields. The laws state the
+/// descriptor directly, so the check applies them without help to any number of fields, and to a
+/// user-defined type with a numeric descriptor.
 ///
 /// # Errors
-/// Invalid where there is another descriptor, or none; as the seed otherwise. Only where nothing is
-/// read.
+/// Returns `Refusal::invalid` if the value has another descriptor, or none; otherwise the seed's
+/// error. An error other than out of memory is returned only if no value of type `T` is read.
 ///
 /// # Example
-/// Of the code 1 and the list of the ubyte 1, by `1` and `ListOf(named! { "x" })`: the parts
-/// `(1, ())`. By `2`: invalid.
+/// For the list of the ubyte 1 described by the code 1, with `1` and `ListOf(named! { "x" })`,
+/// returns the parts `(1, ())`. With `2`, the value is invalid.
 #[tactic(auto, unfolding(crate::specs::Fields::OnDescribed))]
 pub fn read_composite<T: Record, D: Deserializer, S: Seed<Value = T::Parts>>(
     alloc: Global,

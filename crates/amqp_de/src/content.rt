@@ -1,4 +1,4 @@
-//! One level of what a deserializer holds.
+//! One level of a value that is being deserialized.
 
 ghost use Rattle.std.specs.Prelude.{◌≡◌, List};
 ghost use Rattle.amqp_ser.specs.Tree.{Tree};
@@ -10,29 +10,32 @@ use amqp_data::{
     Uuid,
 };
 
-/// One level of what a deserializer `D` holds: null, a scalar, or a compound whose parts are still
-/// to be read.
+/// One level of a value: null, a scalar, or a compound whose elements have not been read
+/// (AMQP 1.0 part 1, section 1.6).
+///
+/// `D` is the deserializer of a value, `P` holds the elements of a list or an array, and `E` the
+/// pairs of a map.
 #[derive(Drop)]
 pub enum Content<D, P, E> {
     /// Null.
     Null,
-    /// A truth value.
+    /// A boolean.
     Bool(bool),
-    /// An unsigned number of 8 bits.
+    /// An unsigned integer of 8 bits.
     Ubyte(u8),
-    /// An unsigned number of 16 bits.
+    /// An unsigned integer of 16 bits.
     Ushort(u16),
-    /// An unsigned number of 32 bits.
+    /// An unsigned integer of 32 bits.
     Uint(u32),
-    /// An unsigned number of 64 bits.
+    /// An unsigned integer of 64 bits.
     Ulong(u64),
-    /// A signed number of 8 bits.
+    /// A signed integer of 8 bits.
     Byte(i8),
-    /// A signed number of 16 bits.
+    /// A signed integer of 16 bits.
     Short(i16),
-    /// A signed number of 32 bits.
+    /// A signed integer of 32 bits.
     Int(i32),
-    /// A signed number of 64 bits.
+    /// A signed integer of 64 bits.
     Long(i64),
     /// The bits of a float.
     Float(F32Bits),
@@ -46,13 +49,13 @@ pub enum Content<D, P, E> {
     Decimal128(Dec128),
     /// A character.
     Char(char),
-    /// A moment.
+    /// A point in time.
     Timestamp(Timestamp),
     /// A uuid.
     Uuid(Uuid),
     /// A binary.
     Binary(ByteBuf),
-    /// A text.
+    /// A string.
     String(String),
     /// A symbol.
     Symbol(Symbol),
@@ -62,12 +65,12 @@ pub enum Content<D, P, E> {
     Array(P),
     /// The pairs of a map.
     Map(E),
-    /// A descriptor, and the value that it describes.
+    /// A descriptor, and the deserializer of the value after it.
     Described(Descriptor, D),
 }
 
 impl<D, P, E> Content<D, P, E> {
-    /// The code of the value's kind, as that of a `Value`.
+    /// Returns the format code of the value's kind, equal to that of the same `Value`.
     pub fn format_code(&self) -> u8
         ensures { (value : D → Tree) (items : P → List Tree) (pairs : E → List (Tree × Tree)) →
             result ≡ code_of_kind (content_tree value items pairs self.now) }

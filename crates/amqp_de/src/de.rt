@@ -1,4 +1,4 @@
-//! The traits of reading.
+//! The traits for reading, and the types of their methods.
 
 pub use crate::access::{EnumAccess, MapAccess, SeqAccess, VariantAccess};
 pub use crate::content::Content;

@@ -1,4 +1,4 @@
-//! What is read.
+//! Types that can be read from a deserializer.
 
 ghost use Rattle.amqp_ser.specs.Tree.{Tree};
 ghost use Rattle.amqp_de.specs.Answers.{Answers, Restores};
@@ -7,15 +7,20 @@ use crate::deserializer::Deserializer;
 use crate::refusal::Refusal;
 use std::alloc::Global;
 
-/// A type that is read out of any deserializer.
+/// A type that can be read from any deserializer.
+///
+/// # Implementer notes
+/// Required method: `deserialize`. It must return a value that `reads` relates to the tree, and may
+/// return an error other than out of memory only if there is no such value. From the image of a
+/// restorable value it must read a value with the same contents, or run out of memory.
 pub trait Deserialize: Sized + Drop {
-    /// Which trees are read as which value.
+    /// Which trees are read as which values.
     ghost reads: { Tree → Self → Type 0 };
 
-    /// The tree of the untyped value that stands for a value.
+    /// The tree of the untyped value that represents a value.
     ghost image: { Self → Tree };
 
-    /// Whether a value comes back from its image.
+    /// Whether a value round-trips through its image.
     ghost restorable: { Self → Type 0 };
 
     /// Whether two values have the same contents.
@@ -24,11 +29,11 @@ pub trait Deserialize: Sized + Drop {
     /// Reads a value.
     ///
     /// # Errors
-    /// Only where the tree is read as no value, out of memory aside.
+    /// Returns an error other than out of memory only if the tree is read as no value.
     ///
     /// # Example
-    /// As a `u32` the uint 1 is 1, and the ulong 1 invalid. As an `Option<u32>` null is `None`, and
-    /// the uint 5 `Some(5)`.
+    /// As a `u32`, the uint 1 is read as 1, and the ulong 1 is invalid. As an `Option<u32>`, null
+    /// is read as `None`, and the uint 5 as `Some(5)`.
     fn deserialize<D: Deserializer>(alloc: Global, deserializer: D) -> Result<Self, D::Error>
         ensures read { Answers D.Error.is_memory (reads (D.value deserializer)) result }
         ensures law { Restores image restorable same

@@ -1,4 +1,4 @@
-//! What a type is read out of.
+//! Source of one value, opened level by level.
 
 ghost use Rattle.std.specs.Prelude.{◌≡◌, ◌↔◌, IsTrue, List, false};
 ghost use Rattle.amqp_ser.specs.Marked.{is_descriptor_name, is_value_name, mark_of};
@@ -21,103 +21,109 @@ use amqp_value::Value;
 use amqp_wire::to_vec;
 use std::alloc::Global;
 
-/// What a type is read out of: it holds a tree, and gives it away level by level.
+/// A source of one value, opened one level at a time.
 ///
-/// The calls `deserialize_..` show a visitor what it holds.
+/// Each `deserialize_..` method opens the value and reports it to a visitor.
 ///
 /// # Errors
-/// A call `deserialize_..` is invalid where a value of another kind is held than it takes. An
-/// enum's empty list or map has the message `Expecting a Value`. Otherwise the answer is the
-/// visitor's.
+/// A `deserialize_..` method returns `Refusal::invalid` if it does not accept values of this kind,
+/// and the message `Expecting a Value` if a variant is read from an empty list or map.
+/// `deserialize_written` also returns the errors of encoding. All other errors are the visitor's.
 ///
 /// # Implementer notes
-/// The eight calls above the first `deserialize_..` are to be written.
+/// Required methods: `alloc`, `is_null`, `is_index`, `open`, `into_value`, `next_element`,
+/// `next_pair` and `take_named`. `open` and `into_value` return a level and a `Value` whose tree is
+/// `value`. `next_element` and `next_pair` remove the first of `items` and `pairs`; `take_named`
+/// removes the first entry with the given name.
 pub trait Deserializer: Sized + Drop {
-    /// The refusals of what is read.
+    /// The error type.
     type Error: Refusal;
 
-    /// The elements of a list or an array that were not taken yet.
+    /// The elements of a list or an array that have not been taken.
     type Elements: Drop;
 
-    /// The pairs of a map that were not taken yet.
+    /// The pairs of a map that have not been taken.
     type Entries: Drop;
 
-    /// The tree that it holds.
+    /// The tree of the value.
     ghost value: { Self → Tree };
 
-    /// The trees of the elements, in order.
+    /// The trees of the remaining elements, in order.
     ghost items: { Self.Elements → List Tree };
 
-    /// The trees of the keys and values, in order.
+    /// The trees of the remaining keys and values, in order.
     ghost pairs: { Self.Entries → List (Tree × Tree) };
 
-    /// The allocator for the bytes of a lazy value.
+    /// Returns the allocator for the bytes of a lazy value.
     fn alloc(&self) -> Global;
 
-    /// Whether it holds null.
+    /// Returns `true` if and only if the value is null.
     ///
     /// # Example
-    /// True of null alone.
+    /// `true` for null, `false` for any other value.
     fn is_null(&self) -> bool
         ensures { IsTrue result ↔ value self.now ≡ scalar null };
 
-    /// Whether it holds what a variant's index may be: a uint or a symbol.
+    /// Returns `true` if and only if the value can be the index of a variant: a uint or a symbol.
     ///
     /// # Example
-    /// True of the uint 1 and of the symbol `a`, and false of the ulong 1.
+    /// `true` for the uint 1 and for the symbol `a`, `false` for the ulong 1.
     fn is_index(&self) -> bool
         ensures { result ≡ is_index (value self.now) };
 
-    /// Opens the first level.
+    /// Opens the first level of the value.
     ///
     /// # Example
-    /// Of the ubyte 1: `Content::Ubyte(1)`. Of the list of it: `Content::List` of one element.
+    /// The ubyte 1 opens as `Content::Ubyte(1)`, and a list of this ubyte as `Content::List` with
+    /// one element.
     fn open(self) -> Content<Self, Self::Elements, Self::Entries>
         ensures { content_tree value items pairs result ≡ value self };
 
-    /// The whole, as an untyped value.
+    /// Returns the complete value as an untyped value.
     ///
     /// # Example
-    /// Of null: `Value::Null`.
+    /// Null is returned as `Value::Null`.
     fn into_value(self) -> Value
         ensures { tree_of result ≡ value self };
 
-    /// Takes the next element.
+    /// Takes the next element; returns `None` after the last.
     ///
     /// # Example
-    /// Of the ubytes 1 and 2: what holds 1, then what holds 2, then `None`.
+    /// For the ubytes 1 and 2, returns a deserializer of 1, then one of 2, then `None`.
     fn next_element(elements: &mut Self::Elements) -> Option<Self>
         ensures { TakesNext value (items elements.old) (items elements.new) result };
 
-    /// Takes the next pair.
+    /// Takes the next key and value; returns `None` after the last.
     ///
     /// # Example
-    /// Of the pair of the uint 1 and the ubyte 2: what holds 1 and what holds 2, then `None`.
+    /// For the pair of the uint 1 and the ubyte 2, returns deserializers of 1 and of 2, then
+    /// `None`.
     fn next_pair(entries: &mut Self::Entries) -> Option<(Self, Self)>
         ensures { TakesPair value (pairs entries.old) (pairs entries.new) result };
 
-    /// Takes the value of the first key that is the string of this name.
+    /// Takes the value of the first key that is the string `name`; returns `None` if there is no
+    /// such key.
     ///
     /// # Example
-    /// Of the string `x` with the ubyte 1 and `y` with 2, by the name `y`: what holds 2. By the
-    /// name `z`: `None`.
+    /// The entries map the string `x` to the ubyte 1 and `y` to 2. The name `y` returns a
+    /// deserializer of 2, and the name `z` returns `None`.
     fn take_named(entries: &mut Self::Entries, name: &str) -> Option<Self>
         ensures { TakesNamed value name.now (pairs entries.old) (pairs entries.new) result };
 
-    /// Whether texts for people are held: never.
+    /// Returns `false`: the format is not human-readable.
     final fn is_human_readable(&self) -> bool
         ensures { result ≡ false }
     {
         false
     }
 
-    /// Deserializes a `bool`.
+    /// Deserializes a `bool` from a boolean.
     ///
     /// # Errors
-    /// Invalid where no boolean is held; as the visitor otherwise.
+    /// Returns `Refusal::invalid` if the value is not a boolean; otherwise the visitor's error.
     ///
     /// # Example
-    /// Of `true`: `visit_bool(true)`. Of the ubyte 1: invalid.
+    /// For `true`, calls `visit_bool(true)`. The ubyte 1 is invalid.
     final fn deserialize_bool<V: Visitor>(self, visitor: V) -> Result<V::Value, Self::Error>
         ensures read { Answers Self.Error.is_memory
             (ByPlain (V.gives visitor) bool (value self)) result }
@@ -130,13 +136,13 @@ pub trait Deserializer: Sized + Drop {
         }
     }
 
-    /// Deserializes a `u8`.
+    /// Deserializes a `u8` from a ubyte.
     ///
     /// # Errors
-    /// Invalid where no ubyte is held; as the visitor otherwise.
+    /// Returns `Refusal::invalid` if the value is not a ubyte; otherwise the visitor's error.
     ///
     /// # Example
-    /// Of the ubyte 5: `visit_u8(5)`. Of the uint 5: invalid.
+    /// For the ubyte 5, calls `visit_u8(5)`. The uint 5 is invalid.
     final fn deserialize_u8<V: Visitor>(self, visitor: V) -> Result<V::Value, Self::Error>
         ensures read { Answers Self.Error.is_memory
             (ByPlain (V.gives visitor) ubyte (value self)) result }
@@ -149,13 +155,13 @@ pub trait Deserializer: Sized + Drop {
         }
     }
 
-    /// Deserializes a `u16`.
+    /// Deserializes a `u16` from a ushort.
     ///
     /// # Errors
-    /// Invalid where no ushort is held; as the visitor otherwise.
+    /// Returns `Refusal::invalid` if the value is not a ushort; otherwise the visitor's error.
     ///
     /// # Example
-    /// Of the ushort 256: `visit_u16(256)`.
+    /// For the ushort 256, calls `visit_u16(256)`.
     final fn deserialize_u16<V: Visitor>(self, visitor: V) -> Result<V::Value, Self::Error>
         ensures read { Answers Self.Error.is_memory
             (ByPlain (V.gives visitor) ushort (value self)) result }
@@ -168,13 +174,13 @@ pub trait Deserializer: Sized + Drop {
         }
     }
 
-    /// Deserializes a `u32`.
+    /// Deserializes a `u32` from a uint.
     ///
     /// # Errors
-    /// Invalid where no uint is held; as the visitor otherwise.
+    /// Returns `Refusal::invalid` if the value is not a uint; otherwise the visitor's error.
     ///
     /// # Example
-    /// Of the uint 1: `visit_u32(1)`. Of the ulong 1: invalid.
+    /// For the uint 1, calls `visit_u32(1)`. The ulong 1 is invalid.
     final fn deserialize_u32<V: Visitor>(self, visitor: V) -> Result<V::Value, Self::Error>
         ensures read { Answers Self.Error.is_memory
             (ByPlain (V.gives visitor) uint (value self)) result }
@@ -187,13 +193,13 @@ pub trait Deserializer: Sized + Drop {
         }
     }
 
-    /// Deserializes a `u64`.
+    /// Deserializes a `u64` from a ulong.
     ///
     /// # Errors
-    /// Invalid where no ulong is held; as the visitor otherwise.
+    /// Returns `Refusal::invalid` if the value is not a ulong; otherwise the visitor's error.
     ///
     /// # Example
-    /// Of the ulong 13: `visit_u64(13)`.
+    /// For the ulong 13, calls `visit_u64(13)`.
     final fn deserialize_u64<V: Visitor>(self, visitor: V) -> Result<V::Value, Self::Error>
         ensures read { Answers Self.Error.is_memory
             (ByPlain (V.gives visitor) ulong (value self)) result }
@@ -206,13 +212,13 @@ pub trait Deserializer: Sized + Drop {
         }
     }
 
-    /// Deserializes an `i8`.
+    /// Deserializes an `i8` from a byte.
     ///
     /// # Errors
-    /// Invalid where no byte is held; as the visitor otherwise.
+    /// Returns `Refusal::invalid` if the value is not a byte; otherwise the visitor's error.
     ///
     /// # Example
-    /// Of the byte -1: `visit_i8(-1)`.
+    /// For the byte -1, calls `visit_i8(-1)`.
     final fn deserialize_i8<V: Visitor>(self, visitor: V) -> Result<V::Value, Self::Error>
         ensures read { Answers Self.Error.is_memory
             (ByPlain (V.gives visitor) byte (value self)) result }
@@ -225,13 +231,13 @@ pub trait Deserializer: Sized + Drop {
         }
     }
 
-    /// Deserializes an `i16`.
+    /// Deserializes an `i16` from a short.
     ///
     /// # Errors
-    /// Invalid where no short is held; as the visitor otherwise.
+    /// Returns `Refusal::invalid` if the value is not a short; otherwise the visitor's error.
     ///
     /// # Example
-    /// Of the short -2: `visit_i16(-2)`.
+    /// For the short -2, calls `visit_i16(-2)`.
     final fn deserialize_i16<V: Visitor>(self, visitor: V) -> Result<V::Value, Self::Error>
         ensures read { Answers Self.Error.is_memory
             (ByPlain (V.gives visitor) short (value self)) result }
@@ -244,13 +250,13 @@ pub trait Deserializer: Sized + Drop {
         }
     }
 
-    /// Deserializes an `i32`.
+    /// Deserializes an `i32` from an int.
     ///
     /// # Errors
-    /// Invalid where no int is held; as the visitor otherwise.
+    /// Returns `Refusal::invalid` if the value is not an int; otherwise the visitor's error.
     ///
     /// # Example
-    /// Of the int 128: `visit_i32(128)`.
+    /// For the int 128, calls `visit_i32(128)`.
     final fn deserialize_i32<V: Visitor>(self, visitor: V) -> Result<V::Value, Self::Error>
         ensures read { Answers Self.Error.is_memory
             (ByPlain (V.gives visitor) int (value self)) result }
@@ -263,13 +269,13 @@ pub trait Deserializer: Sized + Drop {
         }
     }
 
-    /// Deserializes an `i64`.
+    /// Deserializes an `i64` from a long.
     ///
     /// # Errors
-    /// Invalid where no long is held; as the visitor otherwise.
+    /// Returns `Refusal::invalid` if the value is not a long; otherwise the visitor's error.
     ///
     /// # Example
-    /// Of the long -1: `visit_i64(-1)`. Of a timestamp: invalid.
+    /// For the long -1, calls `visit_i64(-1)`. A timestamp is invalid.
     final fn deserialize_i64<V: Visitor>(self, visitor: V) -> Result<V::Value, Self::Error>
         ensures read { Answers Self.Error.is_memory
             (ByPlain (V.gives visitor) long (value self)) result }
@@ -282,13 +288,13 @@ pub trait Deserializer: Sized + Drop {
         }
     }
 
-    /// Deserializes an `f32`, by its bits.
+    /// Deserializes the bits of an `f32` from a float.
     ///
     /// # Errors
-    /// Invalid where no float is held; as the visitor otherwise.
+    /// Returns `Refusal::invalid` if the value is not a float; otherwise the visitor's error.
     ///
     /// # Example
-    /// Of the float 1.5: `visit_f32` of the bits 3FC00000.
+    /// For the float 1.5, calls `visit_f32` with the bits 3FC00000.
     final fn deserialize_f32<V: Visitor>(self, visitor: V) -> Result<V::Value, Self::Error>
         ensures read { Answers Self.Error.is_memory
             (ByPlain (V.gives visitor) float (value self)) result }
@@ -301,13 +307,13 @@ pub trait Deserializer: Sized + Drop {
         }
     }
 
-    /// Deserializes an `f64`, by its bits.
+    /// Deserializes the bits of an `f64` from a double.
     ///
     /// # Errors
-    /// Invalid where no double is held; as the visitor otherwise.
+    /// Returns `Refusal::invalid` if the value is not a double; otherwise the visitor's error.
     ///
     /// # Example
-    /// Of the double 1.5: `visit_f64` of the bits 3FF8000000000000.
+    /// For the double 1.5, calls `visit_f64` with the bits 3FF8000000000000.
     final fn deserialize_f64<V: Visitor>(self, visitor: V) -> Result<V::Value, Self::Error>
         ensures read { Answers Self.Error.is_memory
             (ByPlain (V.gives visitor) double (value self)) result }
@@ -320,13 +326,13 @@ pub trait Deserializer: Sized + Drop {
         }
     }
 
-    /// Deserializes a `char`.
+    /// Deserializes a `char` from a char.
     ///
     /// # Errors
-    /// Invalid where no character is held; as the visitor otherwise.
+    /// Returns `Refusal::invalid` if the value is not a char; otherwise the visitor's error.
     ///
     /// # Example
-    /// Of the character `a`: `visit_char('a')`.
+    /// For the char `a`, calls `visit_char('a')`.
     final fn deserialize_char<V: Visitor>(self, visitor: V) -> Result<V::Value, Self::Error>
         ensures read { Answers Self.Error.is_memory
             (ByPlain (V.gives visitor) char (value self)) result }
@@ -339,13 +345,13 @@ pub trait Deserializer: Sized + Drop {
         }
     }
 
-    /// Deserializes a `String`.
+    /// Deserializes a `String` from a string.
     ///
     /// # Errors
-    /// Invalid where no string is held; as the visitor otherwise.
+    /// Returns `Refusal::invalid` if the value is not a string; otherwise the visitor's error.
     ///
     /// # Example
-    /// Of the string `a`: `visit_string` of it. Of the symbol `a`: invalid.
+    /// For the string `a`, calls `visit_string` with it. The symbol `a` is invalid.
     final fn deserialize_string<V: Visitor>(self, visitor: V) -> Result<V::Value, Self::Error>
         ensures read { Answers Self.Error.is_memory
             (ByPlain (V.gives visitor) string (value self)) result }
@@ -358,13 +364,13 @@ pub trait Deserializer: Sized + Drop {
         }
     }
 
-    /// Deserializes a string. As `deserialize_string`.
+    /// Deserializes a string, like `deserialize_string`.
     ///
     /// # Errors
-    /// Invalid where no string is held; as the visitor otherwise.
+    /// Returns `Refusal::invalid` if the value is not a string; otherwise the visitor's error.
     ///
     /// # Example
-    /// Of the string `a`: `visit_string` of it.
+    /// For the string `a`, calls `visit_string` with it.
     final fn deserialize_str<V: Visitor>(self, visitor: V) -> Result<V::Value, Self::Error>
         ensures read { Answers Self.Error.is_memory
             (ByPlain (V.gives visitor) string (value self)) result }
@@ -374,13 +380,13 @@ pub trait Deserializer: Sized + Drop {
         self.deserialize_string(visitor)
     }
 
-    /// Deserializes a binary.
+    /// Deserializes a `ByteBuf` from a binary.
     ///
     /// # Errors
-    /// Invalid where no binary is held; as the visitor otherwise.
+    /// Returns `Refusal::invalid` if the value is not a binary; otherwise the visitor's error.
     ///
     /// # Example
-    /// Of the binary 01, 02: `visit_byte_buf` of it. Of a list of ubytes: invalid.
+    /// For the binary 01, 02, calls `visit_byte_buf` with it. A list of ubytes is invalid.
     final fn deserialize_byte_buf<V: Visitor>(self, visitor: V) -> Result<V::Value, Self::Error>
         ensures read { Answers Self.Error.is_memory
             (ByPlain (V.gives visitor) binary (value self)) result }
@@ -393,13 +399,13 @@ pub trait Deserializer: Sized + Drop {
         }
     }
 
-    /// Deserializes a binary. As `deserialize_byte_buf`.
+    /// Deserializes a binary, like `deserialize_byte_buf`.
     ///
     /// # Errors
-    /// Invalid where no binary is held; as the visitor otherwise.
+    /// Returns `Refusal::invalid` if the value is not a binary; otherwise the visitor's error.
     ///
     /// # Example
-    /// Of the binary 01, 02: `visit_byte_buf` of it.
+    /// For the binary 01, 02, calls `visit_byte_buf` with it.
     final fn deserialize_bytes<V: Visitor>(self, visitor: V) -> Result<V::Value, Self::Error>
         ensures read { Answers Self.Error.is_memory
             (ByPlain (V.gives visitor) binary (value self)) result }
@@ -409,13 +415,14 @@ pub trait Deserializer: Sized + Drop {
         self.deserialize_byte_buf(visitor)
     }
 
-    /// Deserializes an `Option`: null as nothing, and anything else as something.
+    /// Deserializes an `Option`: null as `None`, and any other value as `Some`.
     ///
     /// # Errors
-    /// As the visitor.
+    /// Returns the visitor's error.
     ///
     /// # Example
-    /// Of null: `visit_none()`. Of the uint 5: `visit_some` of what holds it.
+    /// For null, calls `visit_none()`. For the uint 5, calls `visit_some` with a deserializer of
+    /// it.
     final fn deserialize_option<V: Visitor>(self, visitor: V) -> Result<V::Value, Self::Error>
         ensures read { Answers Self.Error.is_memory
             (ByOption (V.gives visitor) (value self)) result }
@@ -429,13 +436,13 @@ pub trait Deserializer: Sized + Drop {
         }
     }
 
-    /// Deserializes `()`, from null.
+    /// Deserializes `()` from null.
     ///
     /// # Errors
-    /// Invalid where something else than null is held; as the visitor otherwise.
+    /// Returns `Refusal::invalid` if the value is not null; otherwise the visitor's error.
     ///
     /// # Example
-    /// Of null: `visit_unit()`. Of `false`: invalid.
+    /// For null, calls `visit_unit()`. The boolean `false` is invalid.
     final fn deserialize_unit<V: Visitor>(self, visitor: V) -> Result<V::Value, Self::Error>
         ensures read { Answers Self.Error.is_memory (ByUnit (V.gives visitor) (value self)) result }
         ensures law { Returns (ByUnit (V.stands visitor) (value self))
@@ -448,13 +455,13 @@ pub trait Deserializer: Sized + Drop {
         }
     }
 
-    /// Deserializes a unit struct. As `deserialize_unit`.
+    /// Deserializes a unit struct, like `deserialize_unit`. The name is ignored.
     ///
     /// # Errors
-    /// Invalid where something else than null is held; as the visitor otherwise.
+    /// Returns `Refusal::invalid` if the value is not null; otherwise the visitor's error.
     ///
     /// # Example
-    /// Of null: `visit_unit()`, whatever the name.
+    /// For null and any name, calls `visit_unit()`.
     final fn deserialize_unit_struct<V: Visitor>(
         self,
         _name: &str,
@@ -470,10 +477,11 @@ pub trait Deserializer: Sized + Drop {
     /// Deserializes the elements of a list.
     ///
     /// # Errors
-    /// Invalid where no list is held; as the visitor otherwise.
+    /// Returns `Refusal::invalid` if the value is not a list; otherwise the visitor's error.
     ///
     /// # Example
-    /// Of the list of the ubytes 1 and 2: `visit_seq` of these two. Of their array: invalid.
+    /// For the list of the ubytes 1 and 2, calls `visit_seq` with these two elements. An array of
+    /// them is invalid.
     #[tactic(auto, using(crate::proofs::Lists::list_of_trees))]
     final fn deserialize_seq<V: Visitor>(self, visitor: V) -> Result<V::Value, Self::Error>
         ensures read { Answers Self.Error.is_memory (ByList (V.gives visitor) (value self)) result }
@@ -486,13 +494,13 @@ pub trait Deserializer: Sized + Drop {
         }
     }
 
-    /// Deserializes a tuple. As `deserialize_seq`.
+    /// Deserializes a tuple, like `deserialize_seq`.
     ///
     /// # Errors
-    /// Invalid where no list is held; as the visitor otherwise.
+    /// Returns `Refusal::invalid` if the value is not a list; otherwise the visitor's error.
     ///
     /// # Example
-    /// Of the list of the ubyte 1 and `true`: `visit_seq` of these two.
+    /// For the list of the ubyte 1 and `true`, calls `visit_seq` with these two elements.
     final fn deserialize_tuple<V: Visitor>(self, visitor: V) -> Result<V::Value, Self::Error>
         ensures read { Answers Self.Error.is_memory (ByList (V.gives visitor) (value self)) result }
         ensures law { Returns (ByList (V.stands visitor) (value self))
@@ -504,10 +512,10 @@ pub trait Deserializer: Sized + Drop {
     /// Deserializes the keys and values of a map.
     ///
     /// # Errors
-    /// Invalid where no map is held; as the visitor otherwise.
+    /// Returns `Refusal::invalid` if the value is not a map; otherwise the visitor's error.
     ///
     /// # Example
-    /// Of the map from the ubyte 1 to `true`: `visit_map` of this pair.
+    /// For the map from the ubyte 1 to `true`, calls `visit_map` with this pair.
     #[tactic(auto, using(crate::proofs::Lists::entries_in_pairs))]
     final fn deserialize_map<V: Visitor>(self, visitor: V) -> Result<V::Value, Self::Error>
         ensures read { Answers Self.Error.is_memory (ByMap (V.gives visitor) (value self)) result }
@@ -523,11 +531,12 @@ pub trait Deserializer: Sized + Drop {
     /// Deserializes an identifier: a uint, or the text of a symbol.
     ///
     /// # Errors
-    /// Invalid where neither a uint nor a symbol is held; as the visitor otherwise.
+    /// Returns `Refusal::invalid` if the value is neither a uint nor a symbol; otherwise the
+    /// visitor's error.
     ///
     /// # Example
-    /// Of the uint 1: `visit_u32(1)`. Of the symbol `a`: `visit_string` of `a`. Of the string `a`:
-    /// invalid.
+    /// For the uint 1, calls `visit_u32(1)`. For the symbol `a`, calls `visit_string` with `a`. The
+    /// string `a` is invalid.
     final fn deserialize_identifier<V: Visitor>(self, visitor: V) -> Result<V::Value, Self::Error>
         ensures read { Answers Self.Error.is_memory
             (ByIdentifier (V.gives visitor) (value self)) result }
@@ -541,13 +550,13 @@ pub trait Deserializer: Sized + Drop {
         }
     }
 
-    /// Deserializes anything, as null.
+    /// Ignores the value and reports null.
     ///
     /// # Errors
-    /// As the visitor.
+    /// Returns the visitor's error.
     ///
     /// # Example
-    /// Of the list of nothing: `visit_unit()`.
+    /// For the empty list, calls `visit_unit()`.
     final fn deserialize_ignored_any<V: Visitor>(self, visitor: V) -> Result<V::Value, Self::Error>
         ensures read { Answers Self.Error.is_memory (V.gives visitor (plain_event null)) result }
         ensures law { Returns (V.stands visitor (plain_event null))
@@ -559,11 +568,11 @@ pub trait Deserializer: Sized + Drop {
     /// Deserializes a described value: a descriptor and the value after it.
     ///
     /// # Errors
-    /// Invalid where no described value is held; as the visitor otherwise.
+    /// Returns `Refusal::invalid` if the value is not described; otherwise the visitor's error.
     ///
     /// # Example
-    /// Of the code 1 and `true`: `visit_described` of this code and of what holds `true`. Of `true`
-    /// alone: invalid.
+    /// For `true` described by the code 1, calls `visit_described` with this code and a
+    /// deserializer of `true`. The value `true` without a descriptor is invalid.
     final fn deserialize_described<V: Visitor>(self, visitor: V) -> Result<V::Value, Self::Error>
         ensures read { Answers Self.Error.is_memory
             (ByDescribed (V.gives visitor) (value self)) result }
@@ -576,16 +585,16 @@ pub trait Deserializer: Sized + Drop {
         }
     }
 
-    /// Deserializes a struct: the elements of a list; under a name that asks for a descriptor, that
-    /// and the value after it.
+    /// Deserializes a struct: the elements of a list, or, if the name is that of a described
+    /// struct, a descriptor and the value after it.
     ///
     /// # Errors
-    /// Invalid where no list is held, or, under a name that asks for a descriptor, no described
-    /// value; as the visitor otherwise.
+    /// Returns `Refusal::invalid` if the value is not a list, or, for the name of a described
+    /// struct, not a described value; otherwise the visitor's error.
     ///
     /// # Example
-    /// Of the list of the ubyte 1: `visit_seq` of it. Under the name `DESCRIBED_LIST` of the code 1
-    /// and that list: `visit_described`.
+    /// For the list of the ubyte 1, calls `visit_seq` with this element. For that list described by
+    /// the code 1, under the name `DESCRIBED_LIST`, calls `visit_described`.
     final fn deserialize_struct<V: Visitor>(
         self,
         name: &str,
@@ -604,13 +613,13 @@ pub trait Deserializer: Sized + Drop {
         }
     }
 
-    /// Deserializes a tuple struct. As `deserialize_struct`.
+    /// Deserializes a tuple struct, like `deserialize_struct`.
     ///
     /// # Errors
-    /// As `deserialize_struct`.
+    /// Returns the errors of `deserialize_struct`.
     ///
     /// # Example
-    /// Of the list of the ubyte 1: `visit_seq` of it.
+    /// For the list of the ubyte 1, calls `visit_seq` with this element.
     final fn deserialize_tuple_struct<V: Visitor>(
         self,
         name: &str,
@@ -628,10 +637,12 @@ pub trait Deserializer: Sized + Drop {
     /// Deserializes a descriptor: a ulong, or the text of a symbol.
     ///
     /// # Errors
-    /// Invalid where neither a ulong nor a symbol is held; as the visitor otherwise.
+    /// Returns `Refusal::invalid` if the value is neither a ulong nor a symbol; otherwise the
+    /// visitor's error.
     ///
     /// # Example
-    /// Of the ulong 1: `visit_u64(1)`. Of the symbol `a:b`: `visit_string` of `a:b`.
+    /// For the ulong 1, calls `visit_u64(1)`. For the symbol `a:b`, calls `visit_string` with
+    /// `a:b`.
     final fn deserialize_descriptor<V: Visitor>(self, visitor: V) -> Result<V::Value, Self::Error>
         ensures read { Answers Self.Error.is_memory
             (ByDescriptor (V.gives visitor) (value self)) result }
@@ -645,16 +656,20 @@ pub trait Deserializer: Sized + Drop {
         }
     }
 
-    /// Deserializes a variant: its index alone, a list of the index and what comes with it, or a
-    /// map from the one to the other.
+    /// Deserializes a variant: an index, a list of the index and its value, or a map from the index
+    /// to its value.
+    ///
+    /// In a list, elements after the second are ignored.
     ///
     /// # Errors
-    /// The message `Expecting a Value` for an empty list or map; invalid for a map of several
-    /// pairs, and where no uint, symbol, list or map is held; as the visitor otherwise.
+    /// Returns the message `Expecting a Value` for an empty list or map. Returns `Refusal::invalid`
+    /// for a map of several pairs, and if the value is not a uint, symbol, list or map. Otherwise
+    /// returns the visitor's error.
     ///
     /// # Example
-    /// Of the uint 3: `visit_enum` of this index, with nothing. Of the map from the uint 1 to the
-    /// ulong 13, or the list of these: `visit_enum` of the index 1 with 13.
+    /// For the uint 3, calls `visit_enum` with this index and no value. For the map from the uint 1
+    /// to the ulong 13, or the list of these two, calls `visit_enum` with the index 1 and the value
+    /// 13.
     #[tactic(auto, using(crate::proofs::Lists::list_of_trees, crate::proofs::Lists::entries_in_pairs))]
     final fn deserialize_variant<V: Visitor>(self, visitor: V) -> Result<V::Value, Self::Error>
         ensures read { Answers Self.Error.is_memory
@@ -687,10 +702,10 @@ pub trait Deserializer: Sized + Drop {
     /// Deserializes the elements of an array, or the format code of any other value.
     ///
     /// # Errors
-    /// As the visitor.
+    /// Returns the visitor's error.
     ///
     /// # Example
-    /// Of the uint 3: `visit_u8(0x70)`. Of an array: `visit_seq` of its elements.
+    /// For the uint 3, calls `visit_u8(0x70)`. For an array, calls `visit_seq` with its elements.
     #[tactic(auto, using(crate::proofs::Lists::list_of_trees))]
     final fn deserialize_format<V: Visitor>(self, visitor: V) -> Result<V::Value, Self::Error>
         ensures read { Answers Self.Error.is_memory
@@ -704,16 +719,18 @@ pub trait Deserializer: Sized + Drop {
         }
     }
 
-    /// Deserializes an enum by its name: an untyped value, a descriptor, an array's elements or
-    /// another value's format code, or a variant.
+    /// Deserializes an enum. The name selects the form: an untyped value, a descriptor, the
+    /// elements of an array or the format code of another value, or a variant.
     ///
     /// # Errors
-    /// Under the name `VALUE` as the visitor; under `DESCRIPTOR` as `deserialize_descriptor`; under
-    /// `ARRAY` as `deserialize_format`; else as `deserialize_variant`.
+    /// Returns the visitor's error for the name `VALUE`, the errors of `deserialize_descriptor` for
+    /// `DESCRIPTOR`, those of `deserialize_format` for `ARRAY`, and those of `deserialize_variant`
+    /// for any other name.
     ///
     /// # Example
-    /// Of the uint 3: `visit_enum` of this index. Under the name `VALUE`: `visit_value` of
-    /// `Value::Uint(3)`. Under `DESCRIPTOR`: invalid. Under `ARRAY`: `visit_u8(0x70)`.
+    /// For the uint 3, calls `visit_enum` with this index. Under the name `VALUE`, calls
+    /// `visit_value` with `Value::Uint(3)`; under `ARRAY`, calls `visit_u8(0x70)`; under
+    /// `DESCRIPTOR`, the uint is invalid.
     final fn deserialize_enum<V: Visitor>(
         self,
         name: &str,
@@ -742,10 +759,11 @@ pub trait Deserializer: Sized + Drop {
     /// Deserializes the elements of an array.
     ///
     /// # Errors
-    /// Invalid where no array is held; as the visitor otherwise.
+    /// Returns `Refusal::invalid` if the value is not an array; otherwise the visitor's error.
     ///
     /// # Example
-    /// Of the array of the ubytes 1 and 2: `visit_seq` of these two. Of their list: invalid.
+    /// For the array of the ubytes 1 and 2, calls `visit_seq` with these two elements. A list of
+    /// them is invalid.
     #[tactic(auto, using(crate::proofs::Lists::list_of_trees))]
     final fn deserialize_array<V: Visitor>(self, visitor: V) -> Result<V::Value, Self::Error>
         ensures read { Answers Self.Error.is_memory
@@ -759,14 +777,17 @@ pub trait Deserializer: Sized + Drop {
         }
     }
 
-    /// Deserializes a lazy value: the bytes that the value is written as.
+    /// Deserializes a lazy value: the bytes of the encoded value.
     ///
     /// # Errors
-    /// Invalid or too long where the value cannot be written, as `to_vec`; out of memory; as the
-    /// visitor otherwise.
+    /// Returns `Refusal::invalid` or `Refusal::too_long` if `to_vec` cannot encode the value, and
+    /// `Refusal::memory` if an allocation fails; otherwise the visitor's error.
+    ///
+    /// # Memory
+    /// The bytes are allocated from `alloc`.
     ///
     /// # Example
-    /// Of the string `a`: `visit_byte_buf` of `a10161`.
+    /// For the string `a`, calls `visit_byte_buf` with `a10161`.
     final fn deserialize_written<V: Visitor>(self, visitor: V) -> Result<V::Value, Self::Error>
         ensures read { Answers Self.Error.is_memory
             (ByWritten (V.gives visitor) (value self)) result }
@@ -780,16 +801,17 @@ pub trait Deserializer: Sized + Drop {
         }
     }
 
-    /// Deserializes what a newtype's name asks for.
+    /// Deserializes the value of a newtype with the marker `mark`.
+    ///
+    /// `Mark::Other` and `Mark::Transparent` accept a value of any kind.
     ///
     /// # Errors
-    /// Invalid where another kind is held than the mark makes; under `Mark::Lazy` as
-    /// `deserialize_written`; as the visitor otherwise. `Mark::Other` and `Mark::Transparent` take
-    /// any kind.
+    /// Returns `Refusal::invalid` if the value is not of the kind that `mark` makes, and the errors
+    /// of `deserialize_written` for `Mark::Lazy`; otherwise the visitor's error.
     ///
     /// # Example
-    /// Of the symbol `a` and `Mark::Symbol`: `visit_string` of `a`. Of a timestamp of 13
-    /// milliseconds and `Mark::Timestamp`: `visit_i64(13)`.
+    /// For the symbol `a` and `Mark::Symbol`, calls `visit_string` with `a`. For a timestamp of 13
+    /// milliseconds and `Mark::Timestamp`, calls `visit_i64(13)`.
     final fn deserialize_marked<V: Visitor>(
         self,
         mark: Mark,
@@ -833,14 +855,16 @@ pub trait Deserializer: Sized + Drop {
         }
     }
 
-    /// Deserializes a newtype struct: anything; under a marker's name, what that asks for.
+    /// Deserializes a newtype struct: any value, or, if the name is that of a marker, the value
+    /// that the marker makes.
     ///
     /// # Errors
-    /// As `deserialize_marked`, by the name's mark; under a name that is no marker as the visitor.
+    /// Returns the errors of `deserialize_marked` for the marker of this name. For any other name
+    /// returns the visitor's error.
     ///
     /// # Example
-    /// Of the uint 1 under the name `Celsius`: `visit_newtype_struct` of what holds it. Of the
-    /// symbol `a` under `SYMBOL`: `visit_string` of `a`.
+    /// For the uint 1 under the name `Celsius`, calls `visit_newtype_struct` with a deserializer of
+    /// it. For the symbol `a` under `SYMBOL`, calls `visit_string` with `a`.
     final fn deserialize_newtype_struct<V: Visitor>(
         self,
         name: &str,
@@ -854,15 +878,15 @@ pub trait Deserializer: Sized + Drop {
         self.deserialize_marked(mark_named(name), visitor)
     }
 
-    /// Deserializes a value by its kind. A symbol, a timestamp, a uuid and a decimal are shown as
-    /// untyped values.
+    /// Deserializes a value by its kind. A symbol, timestamp, uuid or decimal is reported as an
+    /// untyped value.
     ///
     /// # Errors
-    /// As the visitor.
+    /// Returns the visitor's error.
     ///
     /// # Example
-    /// Of `true`: `visit_bool(true)`. Of the array of the ubyte 1: `visit_seq` of it. Of the symbol
-    /// `a`: `visit_value` of it.
+    /// For `true`, calls `visit_bool(true)`. For the array of the ubyte 1, calls `visit_seq` with
+    /// this element. For the symbol `a`, calls `visit_value` with it.
     #[tactic(auto, using(crate::proofs::Lists::list_of_trees, crate::proofs::Lists::entries_in_pairs))]
     final fn deserialize_any<V: Visitor>(self, visitor: V) -> Result<V::Value, Self::Error>
         ensures read { Answers Self.Error.is_memory

@@ -1,4 +1,4 @@
-//! The variants of an enum, read together.
+//! The variants of an enum that are read in one call.
 
 mod enum_of;
 mod variants;

@@ -1,4 +1,4 @@
-//! The fields of a struct, read together.
+//! The fields of a struct that are read in one call.
 
 ghost use Rattle.std.specs.Prelude.{◌≡◌, ℕ, List, [], ◌∷◌, Bool, true, MatchResult};
 ghost use Rattle.amqp_ser.specs.Tree.{Tree};
@@ -13,13 +13,16 @@ use crate::refusal::Refusal;
 use std::alloc::Global;
 use std::marker::PhantomData;
 
-/// The fields that are asked for, in order, with their names. Written by the macro [`named!`].
+/// The fields to read, in order, with their names. Written with the macro [`named!`].
 ///
 /// # Implementer notes
-/// `reads` is what the fields mean; the calls answer by it, and what stands for restorable fields
-/// comes back.
+/// Required methods: `read_elements` and `read_entries`. They must return values that `reads`
+/// relates to the elements or entries, and may return an error other than out of memory only if
+/// there are none. From the images of restorable fields they must read values with the same
+/// contents, or run out of memory. In a list, absent fields at the end may be left out. In a map,
+/// all absent fields are left out, and the law applies if the names are distinct.
 pub trait Fields: Sized + Drop {
-    /// The fields' values, as nested pairs.
+    /// The values of the fields, as nested pairs.
     type Values: Drop;
 
     /// Which elements or entries are read as which values.
@@ -28,22 +31,23 @@ pub trait Fields: Sized + Drop {
     /// The names of the fields, in order.
     ghost names: { Self → List (List ℕ) };
 
-    /// Whether each field is there, and its image, in order.
+    /// Whether each field is present, and its image, in order.
     ghost images: { Self.Values → List (Bool × Tree) };
 
-    /// Whether each field comes back from its image.
+    /// Whether every field round-trips through its image.
     ghost restorable: { Self.Values → Type 0 };
 
-    /// Whether the fields have the same contents.
+    /// Whether the fields of two values have the same contents.
     ghost same: { Self.Values → Self.Values → Type 0 };
 
-    /// Reads the fields from elements, by their places. Elements left over are ignored.
+    /// Reads the fields from elements, by position. Further elements are ignored.
     ///
     /// # Errors
-    /// Invalid where an element is missing or another than the field's; out of memory.
+    /// Returns `Refusal::invalid` if the element of a required field is missing, and the error of
+    /// the field's type if an element cannot be read.
     ///
     /// # Example
-    /// Of the ubytes 1, 2 and 3, by `x` and `y`: 1 and 2.
+    /// For the ubytes 1, 2 and 3, the fields `x` and `y` are 1 and 2.
     fn read_elements<D: Deserializer>(
         &self,
         alloc: Global,
@@ -54,13 +58,15 @@ pub trait Fields: Sized + Drop {
         ensures law { (x : Self.Values) → restorable x → EndsEarly (images x) (D.items elements.old) →
             MatchResult result (λ y. same y x) D.Error.is_memory };
 
-    /// Reads the fields from the entries of a map, by their names. Entries left over are ignored.
+    /// Reads the fields from the entries of a map, by name. Other entries are ignored.
     ///
     /// # Errors
-    /// Invalid where an entry is missing or another than the field's; out of memory.
+    /// Returns `Refusal::invalid` if the entry of a required field is missing, and the error of the
+    /// field's type if a value cannot be read.
     ///
     /// # Example
-    /// Of the entries from the string `y` to 2 and from `x` to 1, by `x` and `y`: 1 and 2.
+    /// For the entries from the string `y` to 2 and from `x` to 1, the fields `x` and `y` are 1 and
+    /// 2.
     fn read_entries<D: Deserializer>(
         &self,
         alloc: Global,
@@ -105,14 +111,14 @@ impl Fields for () {
     }
 }
 
-/// A field that must be there, and those after it.
+/// A required field, and the fields after it.
 #[derive(Drop)]
 pub struct Must<V, R> {
-    /// The field's name.
+    /// The name of the field.
     pub name: &'static str,
-    /// The field's type.
+    /// The type of the field.
     pub of: PhantomData<V>,
-    /// The fields after it; `()` for none.
+    /// The fields after it; `()` if there are none.
     pub rest: R,
 }
 
@@ -161,14 +167,14 @@ impl<V: Deserialize, R: Fields> Fields for Must<V, R> {
     }
 }
 
-/// A field that may be absent or null, and those after it.
+/// An optional field, which may be absent or null, and the fields after it.
 #[derive(Drop)]
 pub struct May<V, R> {
-    /// The field's name.
+    /// The name of the field.
     pub name: &'static str,
-    /// The field's type, where it is there.
+    /// The type of the field if it is present.
     pub of: PhantomData<V>,
-    /// The fields after it; `()` for none.
+    /// The fields after it; `()` if there are none.
     pub rest: R,
 }
 

@@ -1,4 +1,4 @@
-//! What is read by the types of std and of AMQP data.
+//! Implementations of `Deserialize` for the types of std and of AMQP data.
 
 mod arrays;
 mod described;

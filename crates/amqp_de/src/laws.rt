@@ -1,4 +1,5 @@
-//! Laws of keys: which maps come back. Each function does nothing: its contract is the law.
+//! Laws about the keys of maps that round-trip. Each function does nothing: its contract is the
+//! law.
 
 ghost use Rattle.std.specs.Prelude.{◌≡◌, ℕ, ℤ, List, String, true};
 ghost use Rattle.std.specs.Global.{Global};
@@ -11,11 +12,11 @@ ghost use Rattle.amqp_de.specs.Maps.{AreDistinct, Ascend};
 use crate::deserialize::Deserialize;
 use amqp_data::{ByteBuf, Symbol, Uuid};
 
-/// Distinct keys are distinct by their contents, where keys of the same contents are equal: of an
-/// ordered map, and of a hash map.
+/// Distinct keys of an ordered map or a hash map remain distinct if they are replaced by keys with
+/// the same contents, provided that keys with the same contents are equal.
 ///
 /// # Memory
-/// Takes none.
+/// None.
 pub fn distinct_keys_stay_apart<K: Deserialize + Eq>()
     ensures ordered { ((x y : K) → K.same x y → K.eq x y ≡ true) →
         (ks : List K) → pairs.AreDistinct K.eq ks → AreDistinct K.same K.eq ks }
@@ -23,20 +24,21 @@ pub fn distinct_keys_stay_apart<K: Deserialize + Eq>()
         (ks : List K) → IsDistinct K.eq ks → AreDistinct K.same K.eq ks }
 {}
 
-/// Ascending keys ascend by their contents, where keys of the same contents are equal.
+/// Ascending keys remain ascending if they are replaced by keys with the same contents, provided
+/// that keys with the same contents are equal.
 ///
 /// # Memory
-/// Takes none.
+/// None.
 pub fn ascending_keys_stay_apart<K: Deserialize + Ord>()
     ensures { ((x y : K) → K.same x y → K.cmp x y ≡ Equal) → (ks : List K) →
         IsStrictlySortedBy K.cmp ks → Ascend K.same K.cmp ks }
 {}
 
-/// Keys of the same contents are equal: numbers of 32 and 64 bits, texts, symbols, binaries and
-/// uuids.
+/// Keys with the same contents are equal: integers of 32 and 64 bits, strings, symbols, binaries
+/// and uuids.
 ///
 /// # Memory
-/// Takes none.
+/// None.
 pub fn keys_of_the_same_contents_are_equal()
     ensures uint { (x y : ℕ) → ⟦<u32 as Deserialize>⟧.same x y →
         (⟦<u32 as PartialEq>⟧.eq x y ≡ true) × (⟦<u32 as Ord>⟧.cmp x y ≡ Equal) }

@@ -1,4 +1,4 @@
-//! What can be read out of a deserializer, and how.
+//! Traits and helpers that read typed values from a deserializer.
 #![tactic(auto)]
 
 mod access;
@@ -31,8 +31,8 @@ pub use seed::{ListOf, NamedOf, Of, Seed};
 
 /// The fields of a struct, in order: `named! { "name", "other"?, .. }`.
 ///
-/// A `?` marks one that may be absent or null. Wrapped in [`ListOf`] or [`NamedOf`] it reads the
-/// fields' values, which the pattern [`fields!`] takes apart.
+/// A `?` marks an optional field, which may be absent or null. Inside [`ListOf`] or [`NamedOf`] it
+/// reads the values of the fields, which the pattern [`fields!`] destructures.
 #[macro_export]
 macro_rules! named {
     () => { () };
@@ -52,7 +52,7 @@ macro_rules! named {
     };
 }
 
-/// The pattern of fields that were read, in order: `let fields! { name, other } = read(..)?;`.
+/// The pattern of the values of fields, in order: `let fields! { name, other } = read(..)?;`.
 #[macro_export]
 macro_rules! fields {
     () => { () };
@@ -61,11 +61,12 @@ macro_rules! fields {
     };
 }
 
-/// The variants of an enum, in order: `variants! { unit, newtype, named! { "side", "note"? }, ..
-/// }`.
+/// The variants of an enum, in order:
+/// `variants! { unit, newtype, named! { "side", "note"? }, .. }`.
 ///
-/// `unit` has no value, `newtype` has one, and a variant of fields has the list of them. Wrapped in
-/// [`EnumOf`] it reads one of the variants, which the pattern [`variant!`] tells.
+/// `unit` is a variant without a value, `newtype` is a variant with one value, and the value of a
+/// variant with fields is the list of them. Inside [`EnumOf`] it reads one of the variants, which
+/// the pattern [`variant!`] matches.
 #[macro_export]
 macro_rules! variants {
     () => { () };
@@ -88,8 +89,10 @@ macro_rules! variants {
     };
 }
 
-/// The pattern of a variant that was read, by its place, and of none after the last: `variant!(none
-/// 4, never)`.
+/// The pattern of the variant at a position: `variant!(1, value)`.
+///
+/// `variant!(none 4, never)` is the pattern after the last of four variants. There, `never` has the
+/// empty type [`Never`].
 #[macro_export]
 macro_rules! variant {
     (0, $value:pat) => { $crate::OneOf::This($value) };

@@ -1,4 +1,4 @@
-//! The names that ask for a form of their own.
+//! Names of structs and enums that select a special form.
 
 ghost use Rattle.std.specs.Prelude.{◌≡◌};
 ghost use Rattle.amqp_ser.specs.Marked.{is_descriptor_name, is_value_name};
@@ -6,10 +6,10 @@ ghost use Rattle.amqp_de.specs.Events.{is_array_name, is_described_name};
 
 use amqp_data::markers;
 
-/// Whether a struct of this name stands after a descriptor.
+/// Returns `true` if and only if a struct of this name is read after a descriptor.
 ///
 /// # Example
-/// True of `DESCRIBED_BASIC`, `DESCRIBED_LIST` and `DESCRIBED_MAP` alone.
+/// `true` only for `DESCRIBED_BASIC`, `DESCRIBED_LIST` and `DESCRIBED_MAP`.
 pub fn is_described_name(name: &str) -> bool
     ensures { result ≡ is_described_name name.now }
 {
@@ -18,27 +18,28 @@ pub fn is_described_name(name: &str) -> bool
         || name == markers::DESCRIBED_MAP
 }
 
-/// Whether an enum of this name is an untyped value.
+/// Returns `true` if and only if an enum of this name is read as an untyped value.
 ///
 /// # Example
-/// True of `VALUE` alone.
+/// `true` only for `VALUE`.
 pub fn is_value_name(name: &str) -> bool
     ensures { result ≡ is_value_name name.now }
 {
     name == markers::VALUE
 }
 
-/// Whether an enum of this name is an array's elements, or the format code of another value.
+/// Returns `true` if and only if an enum of this name is read as the elements of an array, or as
+/// the format code of another value.
 pub fn is_array_name(name: &str) -> bool
     ensures { result ≡ is_array_name name.now }
 {
     name == markers::ARRAY
 }
 
-/// Whether an enum of this name is a descriptor.
+/// Returns `true` if and only if an enum of this name is read as a descriptor.
 ///
 /// # Example
-/// True of `DESCRIPTOR` alone.
+/// `true` only for `DESCRIPTOR`.
 pub fn is_descriptor_name(name: &str) -> bool
     ensures { result ≡ is_descriptor_name name.now }
 {

@@ -1,4 +1,4 @@
-//! The two calls by which a type of fields is read.
+//! Functions that read the parts of a user-defined type, with or without a descriptor.
 
 ghost use Rattle.std.specs.Prelude.{◌≡◌, ◌↔◌, IsTrue, MatchResult};
 ghost use Rattle.amqp_data.specs.Text.{symbol_ref_text, symbol_text};
@@ -14,24 +14,27 @@ use crate::seed::Seed;
 use amqp_data::{Descriptor, SymbolRef};
 use std::alloc::Global;
 
-/// A type whose values are known by their parts.
+/// A type whose values are read by their parts, such as the fields of a struct.
 pub trait Record: Sized {
-    /// The parts, as what reads them gives them.
+    /// The parts, as a seed returns them.
     type Parts;
 
     /// The parts of a value.
     ghost parts: { Self → Self.Parts };
 }
 
-/// What a descriptor has to be.
+/// A descriptor that a value must have.
+///
+/// # Implementer notes
+/// Required method: `is`, which compares a descriptor with `wanted`.
 pub trait Describes {
     /// The descriptor.
     ghost wanted: { Self → Descriptor };
 
-    /// Whether it is this one.
+    /// Returns `true` if and only if `descriptor` is this one.
     ///
     /// # Example
-    /// `1u64` is `Descriptor::Code(1)` alone, and `SymbolRef::from("a:b")` the name `a:b` alone.
+    /// `1u64` accepts only `Descriptor::Code(1)`, and `SymbolRef::from("a:b")` only the name `a:b`.
     fn is(&self, descriptor: &Descriptor) -> bool
         ensures { IsTrue result ↔ descriptor_content descriptor.now ≡ wanted self.now };
 }
@@ -58,7 +61,7 @@ impl Describes for SymbolRef<'_> {
     }
 }
 
-/// The name of a symbol.
+/// A descriptor that is a symbol, given by its text.
 impl Describes for &str {
     ghost wanted = { λ s. name s.now };
 
@@ -73,10 +76,10 @@ impl Describes for &str {
 /// Reads the parts of a value.
 ///
 /// # Errors
-/// As the seed, and only where nothing is read.
+/// Returns the seed's error, which is out of memory or means that no value of type `T` can be read.
 ///
 /// # Example
-/// Of the list of the ubyte 1, by `ListOf(named! { "x" })`: the parts `(1, ())`.
+/// For the list of the ubyte 1 and `ListOf(named! { "x" })`, returns the parts `(1, ())`.
 pub fn read<T: Record, D: Deserializer, S: Seed<Value = T::Parts>>(
     alloc: Global,
     deserializer: D,
@@ -96,15 +99,15 @@ pub fn read<T: Record, D: Deserializer, S: Seed<Value = T::Parts>>(
     }
 }
 
-/// Reads the parts of a value that stands after this descriptor.
+/// Reads the parts of a value with the given descriptor.
 ///
 /// # Errors
-/// Invalid where there is another descriptor, or none; as the seed otherwise. Only where nothing is
-/// read.
+/// Returns `Refusal::invalid` if the value has another descriptor, or none; otherwise the seed's
+/// error. An error other than out of memory is returned only if no value of type `T` is read.
 ///
 /// # Example
-/// Of the code 1 and the list of the ubyte 1, by `&1u64` and `ListOf(named! { "x" })`: the parts
-/// `(1, ())`. By `&2u64`: invalid.
+/// For the list of the ubyte 1 described by the code 1, with `&1u64` and `ListOf(named! { "x" })`,
+/// returns the parts `(1, ())`. With `&2u64`, the value is invalid.
 #[tactic(auto, unfolding(crate::specs::Fields::OnDescribed))]
 pub fn read_described<T: Record, D: Deserializer, K: Describes, S: Seed<Value = T::Parts>>(
     alloc: Global,

@@ -1,4 +1,4 @@
-//! The two calls by which a type that is written as a map of its fields is read.
+//! The functions that read a type that is written as a map of its fields.
 
 ghost use Rattle.std.specs.Prelude.{◌≡◌, ℕ, List, true, MatchResult};
 ghost use Rattle.amqp_ser.specs.Tree.{Descriptor as AnyDescriptor, described};
@@ -14,17 +14,18 @@ use crate::refusal::Refusal;
 use crate::seed::{NamedOf, Seed};
 use std::alloc::Global;
 
-/// Reads the parts of a value that is written as a map of its fields. A list or an array of them is
-/// read too.
+/// Reads the parts of a value from a map of its fields, or from a list or an array of them.
 ///
-/// What comes back is the map without what is absent, where no two fields have the same name.
+/// The map of the fields that are present round-trips if no two fields have the same name.
 ///
 /// # Errors
-/// Invalid where a field is missing or another than is asked for; out of memory. Only where nothing
-/// is read.
+/// Returns `Refusal::invalid` if the value is not a map, list or array, or if a required field is
+/// missing, and the error of the field's type if a field cannot be read. An error other than out of
+/// memory is returned only if no value of type `T` is read.
 ///
 /// # Example
-/// Of the map from the string `x` to the ubyte 1, by `named! { "x" }`: the parts `(1, ())`.
+/// For the map from the string `x` to the ubyte 1 and `named! { "x" }`, returns the parts
+/// `(1, ())`.
 pub fn read_map<T: Record, D: Deserializer, F: Fields<Values = T::Parts>>(
     alloc: Global,
     deserializer: D,
@@ -43,15 +44,17 @@ pub fn read_map<T: Record, D: Deserializer, F: Fields<Values = T::Parts>>(
     }
 }
 
-/// Reads the parts of a value that is written, after this descriptor, as a map of its fields.
+/// Reads the parts of a value with the given descriptor from a map of its fields, or from a list or
+/// an array of them.
 ///
 /// # Errors
-/// Invalid where there is another descriptor, or none; as [`read_map`] otherwise. Only where
-/// nothing is read.
+/// Returns `Refusal::invalid` if the value has another descriptor, or none; otherwise the errors of
+/// [`read_map`]. An error other than out of memory is returned only if no value of type `T` is
+/// read.
 ///
 /// # Example
-/// Of the code 1 and the map from the string `x` to the ubyte 1, by `&1u64` and `named! { "x" }`:
-/// the parts `(1, ())`. By `&2u64`: invalid.
+/// For the map from the string `x` to the ubyte 1, described by the code 1, with `&1u64` and
+/// `named! { "x" }`, returns the parts `(1, ())`. With `&2u64`, the value is invalid.
 #[tactic(auto, unfolding(crate::specs::Fields::OnDescribed))]
 pub fn read_described_map<T: Record, D: Deserializer, K: Describes, F: Fields<Values = T::Parts>>(
     alloc: Global,

@@ -1,4 +1,4 @@
-//! What is read of one value: a type, a list of fields, fields by name.
+//! Seeds, which read one value as a type, as a list of fields or as named fields.
 
 ghost use Rattle.std.specs.Prelude.{◌≡◌, true};
 ghost use Rattle.amqp_ser.specs.Tree.{Tree, list, trees_of};
@@ -14,39 +14,45 @@ use crate::refusal::Refusal;
 use std::alloc::Global;
 use std::marker::PhantomData;
 
-/// What is read of one value.
+/// A reader of one value: a type, a list of fields, named fields or a variant.
+///
+/// # Implementer notes
+/// Required method: `read`. It must return a value that `reads` relates to the tree, and may return
+/// an error other than out of memory only if there is no such value. From the trees `image`,
+/// `short` and, if `is_named` holds, `by_name` of a restorable value it must read a value with the
+/// same contents, or run out of memory.
 pub trait Seed: Sized + Drop {
-    /// What comes of it.
+    /// The type of the value that is read.
     type Value: Drop;
 
-    /// Which trees are read as what.
+    /// Which trees are read as which values.
     ghost reads: { Self → Tree → Self.Value → Type 0 };
 
-    /// The tree of the untyped value that stands for it.
+    /// The tree of the untyped value that represents a value.
     ghost image: { Self.Value → Tree };
 
-    /// Whether it comes back from its image.
+    /// Whether a value round-trips through its image.
     ghost restorable: { Self.Value → Type 0 };
 
-    /// Whether two have the same contents.
+    /// Whether two values have the same contents.
     ghost same: { Self.Value → Self.Value → Type 0 };
 
-    /// The same without the absent fields at its end, where it is a list of fields.
+    /// For a list of fields, the image without the absent fields at its end.
     ghost short: { Self.Value → Tree };
 
-    /// The map of its fields that are there, by their names, where it is read from one.
+    /// For a seed that reads maps of fields, the map from the names to the fields that are present.
     ghost by_name: { Self → Self.Value → Tree };
 
-    /// Whether it is read from such a map: no two fields have the same name.
+    /// Whether `by_name` can be read: no two fields have the same name.
     ghost is_named: { Self → Type 0 };
 
-    /// Reads it.
+    /// Reads a value.
     ///
     /// # Errors
-    /// Only where the tree is read as nothing, out of memory aside.
+    /// Returns an error other than out of memory only if the tree is read as no value.
     ///
     /// # Example
-    /// `Of(PhantomData::<u32>)` reads the uint 1 as 1, and refuses the ulong 1.
+    /// `Of(PhantomData::<u32>)` reads the uint 1 as 1. The ulong 1 is invalid.
     fn read<D: Deserializer>(self, alloc: Global, deserializer: D) -> Result<Self::Value, D::Error>
         ensures read { Answers D.Error.is_memory (λ x. reads self (D.value deserializer) x) result }
         ensures law { Restores image restorable same
@@ -57,7 +63,7 @@ pub trait Seed: Sized + Drop {
             D.Error.is_memory (D.value deserializer) result };
 }
 
-/// A value of this type.
+/// A seed that reads a value of the type `T`.
 #[derive(Drop)]
 pub struct Of<T>(pub PhantomData<T>);
 
@@ -83,7 +89,7 @@ impl<T: Deserialize> Seed for Of<T> {
     }
 }
 
-/// A list of fields.
+/// A seed that reads fields from a list.
 #[derive(Drop)]
 pub struct ListOf<F>(pub F);
 
@@ -118,7 +124,7 @@ impl<F: Fields> Seed for ListOf<F> {
     }
 }
 
-/// Fields of these names: a list or an array of them, by their places, or a map, by their names.
+/// A seed that reads fields from a list or an array, by position, or from a map, by name.
 #[derive(Drop)]
 pub struct NamedOf<F>(pub F);
 

@@ -1,55 +1,55 @@
-//! What a visitor is shown.
+//! The events that are reported to a visitor.
 
 ghost use Rattle.std.specs.Prelude.{◌⊎◌, IsTrue};
 
 use crate::refusal::Refusal;
 use amqp_data::{ByteBuf, F32Bits, F64Bits};
 
-/// The visits of a visitor, by what they show.
+/// The visits of a visitor, by the kind of event.
 #[derive(Clone, Copy, Drop)]
 pub enum Visit {
-    /// What has no parts.
+    /// Null, an absent value or a scalar.
     Plain,
-    /// Something that may be absent.
+    /// The value of an `Option` that is present.
     Some,
-    /// What stands in a newtype.
+    /// The value of a newtype.
     Newtype,
     /// Elements.
     Seq,
     /// Keys and values.
     Map,
-    /// One of the variants of an enum.
+    /// A variant of an enum.
     Enum,
-    /// A value after its descriptor.
+    /// A descriptor and the value after it.
     Described,
     /// An untyped value.
     Value,
 }
 
-/// What has no parts.
+/// Null, an absent value or a scalar.
 #[derive(Drop)]
 pub enum Plain {
-    /// Nothing, where something may be absent.
+    /// An absent value.
     None,
     /// Null.
     Unit,
-    /// A truth value.
+    /// A boolean.
     Bool(bool),
-    /// An unsigned number of 8 bits.
+    /// An unsigned integer of 8 bits.
     U8(u8),
-    /// An unsigned number of 16 bits.
+    /// An unsigned integer of 16 bits.
     U16(u16),
-    /// An unsigned number of 32 bits.
+    /// An unsigned integer of 32 bits.
     U32(u32),
-    /// An unsigned number of 64 bits.
+    /// An unsigned integer of 64 bits.
     U64(u64),
-    /// A signed number of 8 bits.
+    /// A signed integer of 8 bits.
     I8(i8),
-    /// A signed number of 16 bits.
+    /// A signed integer of 16 bits.
     I16(i16),
-    /// A signed number of 32 bits.
+    /// A signed integer of 32 bits.
     I32(i32),
-    /// A signed number of 64 bits.
+    /// A signed integer of 64 bits.
     I64(i64),
     /// The bits of a float.
     F32(F32Bits),
@@ -57,13 +57,14 @@ pub enum Plain {
     F64(F64Bits),
     /// A character.
     Char(char),
-    /// A text.
+    /// A string.
     String(String),
     /// A binary.
     ByteBuf(ByteBuf),
 }
 
-/// What a visit that is not written answers: invalid, where the visitor says that it refuses it.
+/// Returns the error of a visit that is not implemented: `Refusal::invalid` if `is_refused` is
+/// `true`, and `Refusal::memory` otherwise.
 pub fn unwritten<E: Refusal>(is_refused: bool) -> E
     ensures { IsTrue is_refused ⊎ E.is_memory result }
 {

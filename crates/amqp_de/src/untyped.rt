@@ -1,4 +1,4 @@
-//! The untyped values of what a visitor has no visit for.
+//! Untyped values of the kinds for which a visitor has no visit.
 
 ghost use Rattle.std.specs.Prelude.{◌≡◌};
 ghost use Rattle.amqp_data.specs.Fixed.{dec32_bytes, dec64_bytes, dec128_bytes, milliseconds_of, uuid_bytes};
@@ -9,7 +9,7 @@ ghost use Rattle.amqp_value.specs.TreeOf.{tree_of};
 use amqp_data::{Dec32, Dec64, Dec128, Symbol, Timestamp, Uuid};
 use amqp_value::Value;
 
-/// The untyped value of a decimal32.
+/// Converts a decimal32 to an untyped value.
 #[tactic(auto, using(amqp_value::proofs::BackLemmas::decimal32_tree))]
 pub fn decimal32_value(value: Dec32) -> Value
     ensures { tree_of result ≡ scalar (decimal32 (dec32_bytes value)) }
@@ -17,7 +17,7 @@ pub fn decimal32_value(value: Dec32) -> Value
     Value::Decimal32(value)
 }
 
-/// The untyped value of a decimal64.
+/// Converts a decimal64 to an untyped value.
 #[tactic(auto, using(amqp_value::proofs::BackLemmas::decimal64_tree))]
 pub fn decimal64_value(value: Dec64) -> Value
     ensures { tree_of result ≡ scalar (decimal64 (dec64_bytes value)) }
@@ -25,7 +25,7 @@ pub fn decimal64_value(value: Dec64) -> Value
     Value::Decimal64(value)
 }
 
-/// The untyped value of a decimal128.
+/// Converts a decimal128 to an untyped value.
 #[tactic(auto, using(amqp_value::proofs::BackLemmas::decimal128_tree))]
 pub fn decimal128_value(value: Dec128) -> Value
     ensures { tree_of result ≡ scalar (decimal128 (dec128_bytes value)) }
@@ -33,7 +33,7 @@ pub fn decimal128_value(value: Dec128) -> Value
     Value::Decimal128(value)
 }
 
-/// The untyped value of a timestamp.
+/// Converts a timestamp to an untyped value.
 #[tactic(auto, using(amqp_value::proofs::BackLemmas::timestamp_tree))]
 pub fn timestamp_value(value: Timestamp) -> Value
     ensures { tree_of result ≡ scalar (timestamp (milliseconds_of value)) }
@@ -41,7 +41,7 @@ pub fn timestamp_value(value: Timestamp) -> Value
     Value::Timestamp(value)
 }
 
-/// The untyped value of a uuid.
+/// Converts a uuid to an untyped value.
 #[tactic(auto, using(amqp_value::proofs::BackLemmas::uuid_tree))]
 pub fn uuid_value(value: Uuid) -> Value
     ensures { tree_of result ≡ scalar (uuid (uuid_bytes value)) }
@@ -49,7 +49,7 @@ pub fn uuid_value(value: Uuid) -> Value
     Value::Uuid(value)
 }
 
-/// The untyped value of a symbol.
+/// Converts a symbol to an untyped value.
 #[tactic(auto, using(amqp_value::proofs::BackLemmas::symbol_tree))]
 pub fn symbol_value(value: Symbol) -> Value
     ensures { tree_of result ≡ scalar (symbol (symbol_text value)) }

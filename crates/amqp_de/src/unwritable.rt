@@ -1,4 +1,4 @@
-//! The refusals of what is written on the way.
+//! The errors of a value that cannot be encoded.
 
 ghost use Rattle.std.specs.Prelude.{◌≡◌, ◌↔◌};
 ghost use Rattle.amqp_data.specs.declared.error.Error.TheVariants.{OutOfMemory};
@@ -6,7 +6,8 @@ ghost use Rattle.amqp_data.specs.declared.error.Error.TheVariants.{OutOfMemory};
 use crate::refusal::Refusal;
 use amqp_data::Error;
 
-/// What a call that writes refused with.
+/// Converts an error of encoding. The result is out of memory if and only if `error` is
+/// `OutOfMemory`.
 pub fn unwritable<E: Refusal>(error: Error) -> E
     ensures { E.is_memory result ↔ error ≡ OutOfMemory }
 {

@@ -1,4 +1,4 @@
-//! What a type is made of, as it is shown part by part.
+//! Builds a value from reported events.
 
 ghost use Rattle.std.specs.Prelude.{◌≡◌, IsTrue, None, string_bytes};
 ghost use Rattle.amqp_data.specs.Fixed.{f32_bits, f64_bits};
@@ -16,46 +16,50 @@ use crate::shown::{Plain, Visit, unwritten};
 use amqp_data::{ByteBuf, Descriptor, F32Bits, F64Bits};
 use amqp_value::Value;
 
-/// What a deserializer shows a value to, to make another of it.
+/// Builds a value from the event that a deserializer reports.
 ///
 /// # Errors
-/// A visit is refused where nothing is given for what it shows. One that is not written is invalid
-/// where `refuses` says so, and out of memory otherwise.
+/// A visit returns an error if no value is produced from its event. The default of a visit returns
+/// `Refusal::invalid` if `refuses` returns `true` for it, and `Refusal::memory` otherwise.
 ///
 /// # Implementer notes
-/// Write `refuses`, and the visits that give a value; the others are refused. All that has no parts
-/// comes by `visit_plain`.
+/// Required method: `refuses`. Implement each visit that can produce a value; the defaults of the
+/// others return an error. `visit_plain` receives null, the absent value and all scalars that have
+/// a variant of [`Plain`]. A visit must return a value that `gives` relates to the event, and may
+/// return an error other than out of memory only if there is no such value. If `stands` relates the
+/// event to `x`, the visit must return a value with the same contents as `x`, or run out of memory.
 pub trait Visitor: Sized + Drop {
-    /// What is made.
+    /// The type of the value that is built.
     type Value: Drop;
 
-    /// Which events give which value.
+    /// Which events produce which values.
     ghost gives: { Self → Event → Self.Value → Type 0 };
 
-    /// Which event stands for a value that comes back from it.
+    /// Which event represents a value that round-trips.
     ghost stands: { Self → Event → Self.Value → Type 0 };
 
     /// Whether two values have the same contents.
     ghost same: { Self.Value → Self.Value → Type 0 };
 
-    /// Whether no event of this visit gives a value. The visits that are not written ask it.
+    /// Returns `true` only if no event of this visit produces a value. The defaults of the visits
+    /// call it.
     ///
     /// # Example
-    /// Of a visitor of lists: `!matches!(visit, Visit::Seq)`.
+    /// A visitor of lists returns `!matches!(visit, Visit::Seq)`.
     fn refuses(&self, visit: Visit) -> bool
         ensures gives { IsTrue result → (e : Event) (x : Self.Value) →
             visit_of e ≡ visit → ¬ gives self.now e x }
         ensures stands { IsTrue result → (e : Event) (x : Self.Value) →
             visit_of e ≡ visit → ¬ stands self.now e x };
 
-    /// Visits what has no parts.
+    /// Visits null, an absent value or a scalar.
     ///
     /// # Errors
-    /// Only where nothing is given for it, out of memory aside. Not written, it is invalid where
-    /// `refuses` says so.
+    /// Returns an error other than out of memory only if this event produces no value. The default
+    /// returns `Refusal::invalid` if `refuses` returns `true`, and `Refusal::memory` otherwise.
     ///
     /// # Example
-    /// The uint 1 comes as `Plain::U32(1)`, null as `Plain::Unit`, and an absent one as
+    /// The uint 1 is passed as `Plain::U32(1)`, null as `Plain::Unit`, and an absent value as
     /// `Plain::None`.
     fn visit_plain<E: Refusal>(self, plain: Plain) -> Result<Self::Value, E>
         ensures read { Answers E.is_memory (gives self (plain_shown plain)) result }
@@ -64,14 +68,14 @@ pub trait Visitor: Sized + Drop {
         Err(unwritten(self.refuses(Visit::Plain)))
     }
 
-    /// Visits something that may be absent.
+    /// Visits the value of an `Option` that is present.
     ///
     /// # Errors
-    /// Only where nothing is given for it, out of memory aside. Not written, it is invalid where
-    /// `refuses` says so.
+    /// Returns an error other than out of memory only if this event produces no value. The default
+    /// returns `Refusal::invalid` if `refuses` returns `true`, and `Refusal::memory` otherwise.
     ///
     /// # Example
-    /// By `deserialize_option`, of the uint 5: what holds 5.
+    /// `deserialize_option` passes a deserializer of 5 for the uint 5.
     fn visit_some<D: Deserializer>(self, deserializer: D) -> Result<Self::Value, D::Error>
         ensures read { Answers D.Error.is_memory
             (gives self (some_event (D.value deserializer))) result }
@@ -81,14 +85,15 @@ pub trait Visitor: Sized + Drop {
         Err(unwritten(self.refuses(Visit::Some)))
     }
 
-    /// Visits what stands in a newtype.
+    /// Visits the value of a newtype.
     ///
     /// # Errors
-    /// Only where nothing is given for it, out of memory aside. Not written, it is invalid where
-    /// `refuses` says so.
+    /// Returns an error other than out of memory only if this event produces no value. The default
+    /// returns `Refusal::invalid` if `refuses` returns `true`, and `Refusal::memory` otherwise.
     ///
     /// # Example
-    /// By `deserialize_newtype_struct` under the name `Celsius`, of the uint 1: what holds 1.
+    /// `deserialize_newtype_struct` under the name `Celsius` passes a deserializer of 1 for the
+    /// uint 1.
     fn visit_newtype_struct<D: Deserializer>(self, deserializer: D) -> Result<Self::Value, D::Error>
         ensures read { Answers D.Error.is_memory
             (gives self (newtype_event (D.value deserializer))) result }
@@ -101,11 +106,11 @@ pub trait Visitor: Sized + Drop {
     /// Visits the elements of a list or an array.
     ///
     /// # Errors
-    /// Only where nothing is given for it, out of memory aside. Not written, it is invalid where
-    /// `refuses` says so.
+    /// Returns an error other than out of memory only if this event produces no value. The default
+    /// returns `Refusal::invalid` if `refuses` returns `true`, and `Refusal::memory` otherwise.
     ///
     /// # Example
-    /// By `deserialize_seq`, of the list of the ubytes 1 and 2: these elements, in order.
+    /// `deserialize_seq` passes the elements 1 and 2, in order, for the list of the ubytes 1 and 2.
     fn visit_seq<A: SeqAccess>(self, elements: A) -> Result<Self::Value, A::Error>
         ensures read { Answers A.Error.is_memory (gives self (seq_event (A.left elements))) result }
         ensures law { Returns (stands self (seq_event (A.left elements)))
@@ -114,14 +119,14 @@ pub trait Visitor: Sized + Drop {
         Err(unwritten(self.refuses(Visit::Seq)))
     }
 
-    /// Visits the keys and values of a map.
+    /// Visits the keys and values of a map. The accessor has no pending value.
     ///
     /// # Errors
-    /// Only where nothing is given for it, out of memory aside. Not written, it is invalid where
-    /// `refuses` says so.
+    /// Returns an error other than out of memory only if this event produces no value. The default
+    /// returns `Refusal::invalid` if `refuses` returns `true`, and `Refusal::memory` otherwise.
     ///
     /// # Example
-    /// By `deserialize_map`, of the map from the ubyte 1 to `true`: this pair.
+    /// `deserialize_map` passes this one pair for the map from the ubyte 1 to `true`.
     fn visit_map<A: MapAccess>(self, entries: A) -> Result<Self::Value, A::Error>
         requires { A.owed entries ≡ None }
         ensures read { Answers A.Error.is_memory (gives self (map_event (A.left entries))) result }
@@ -131,14 +136,15 @@ pub trait Visitor: Sized + Drop {
         Err(unwritten(self.refuses(Visit::Map)))
     }
 
-    /// Visits one of the variants of an enum.
+    /// Visits a variant of an enum.
     ///
     /// # Errors
-    /// Only where nothing is given for it, out of memory aside. Not written, it is invalid where
-    /// `refuses` says so.
+    /// Returns an error other than out of memory only if this event produces no value. The default
+    /// returns `Refusal::invalid` if `refuses` returns `true`, and `Refusal::memory` otherwise.
     ///
     /// # Example
-    /// By `deserialize_enum`, of the map from the uint 1 to the ulong 13: the index 1 with 13.
+    /// `deserialize_enum` passes the index 1 and the value 13 for the map from the uint 1 to the
+    /// ulong 13.
     fn visit_enum<A: EnumAccess>(self, variant: A) -> Result<Self::Value, A::Error>
         ensures read { Answers A.Error.is_memory
             (gives self (enum_event (A.index variant) (A.content variant))) result }
@@ -148,15 +154,15 @@ pub trait Visitor: Sized + Drop {
         Err(unwritten(self.refuses(Visit::Enum)))
     }
 
-    /// Visits a value after its descriptor.
+    /// Visits a descriptor and the value after it.
     ///
     /// # Errors
-    /// Only where nothing is given for it, out of memory aside. Not written, it is invalid where
-    /// `refuses` says so.
+    /// Returns an error other than out of memory only if this event produces no value. The default
+    /// returns `Refusal::invalid` if `refuses` returns `true`, and `Refusal::memory` otherwise.
     ///
     /// # Example
-    /// By `deserialize_described`, of the code 1 and `true`: `Descriptor::Code(1)`, and what holds
-    /// `true`.
+    /// `deserialize_described` passes `Descriptor::Code(1)` and a deserializer of `true` for `true`
+    /// described by the code 1.
     fn visit_described<D: Deserializer>(
         self,
         descriptor: Descriptor,
@@ -175,11 +181,11 @@ pub trait Visitor: Sized + Drop {
     /// Visits an untyped value.
     ///
     /// # Errors
-    /// Only where nothing is given for it, out of memory aside. Not written, it is invalid where
-    /// `refuses` says so.
+    /// Returns an error other than out of memory only if this event produces no value. The default
+    /// returns `Refusal::invalid` if `refuses` returns `true`, and `Refusal::memory` otherwise.
     ///
     /// # Example
-    /// By `deserialize_any`, of the symbol `a`: `Value::Symbol` of it.
+    /// `deserialize_any` passes `Value::Symbol` of `a` for the symbol `a`.
     fn visit_value<E: Refusal>(self, value: Value) -> Result<Self::Value, E>
         ensures read { Answers E.is_memory (gives self (value_event (tree_of value))) result }
         ensures law { Returns (stands self (value_event (tree_of value))) same E.is_memory result }
@@ -190,10 +196,10 @@ pub trait Visitor: Sized + Drop {
     /// Visits `()`, from null.
     ///
     /// # Errors
-    /// As `visit_plain`.
+    /// Returns the errors of `visit_plain`.
     ///
     /// # Example
-    /// `visit_plain(Plain::Unit)`.
+    /// Calls `visit_plain(Plain::Unit)`.
     final fn visit_unit<E: Refusal>(self) -> Result<Self::Value, E>
         ensures read { Answers E.is_memory (gives self (plain_event null)) result }
         ensures law { Returns (stands self (plain_event null)) same E.is_memory result }
@@ -201,13 +207,13 @@ pub trait Visitor: Sized + Drop {
         self.visit_plain(Plain::Unit)
     }
 
-    /// Visits nothing, where something may be absent.
+    /// Visits an absent value.
     ///
     /// # Errors
-    /// As `visit_plain`.
+    /// Returns the errors of `visit_plain`.
     ///
     /// # Example
-    /// `visit_plain(Plain::None)`.
+    /// Calls `visit_plain(Plain::None)`.
     final fn visit_none<E: Refusal>(self) -> Result<Self::Value, E>
         ensures read { Answers E.is_memory (gives self none_event) result }
         ensures law { Returns (stands self none_event) same E.is_memory result }
@@ -218,10 +224,10 @@ pub trait Visitor: Sized + Drop {
     /// Visits a `bool`.
     ///
     /// # Errors
-    /// As `visit_plain`.
+    /// Returns the errors of `visit_plain`.
     ///
     /// # Example
-    /// Of `true`: `visit_plain(Plain::Bool(true))`.
+    /// For `true`, calls `visit_plain(Plain::Bool(true))`.
     final fn visit_bool<E: Refusal>(self, value: bool) -> Result<Self::Value, E>
         ensures read { Answers E.is_memory (gives self (plain_event (bool value))) result }
         ensures law { Returns (stands self (plain_event (bool value))) same E.is_memory result }
@@ -232,10 +238,10 @@ pub trait Visitor: Sized + Drop {
     /// Visits a `u8`.
     ///
     /// # Errors
-    /// As `visit_plain`.
+    /// Returns the errors of `visit_plain`.
     ///
     /// # Example
-    /// Of 5: `visit_plain(Plain::U8(5))`.
+    /// For 5, calls `visit_plain(Plain::U8(5))`.
     final fn visit_u8<E: Refusal>(self, value: u8) -> Result<Self::Value, E>
         ensures read { Answers E.is_memory (gives self (plain_event (ubyte value))) result }
         ensures law { Returns (stands self (plain_event (ubyte value))) same E.is_memory result }
@@ -246,10 +252,10 @@ pub trait Visitor: Sized + Drop {
     /// Visits a `u16`.
     ///
     /// # Errors
-    /// As `visit_plain`.
+    /// Returns the errors of `visit_plain`.
     ///
     /// # Example
-    /// Of 256: `visit_plain(Plain::U16(256))`.
+    /// For 256, calls `visit_plain(Plain::U16(256))`.
     final fn visit_u16<E: Refusal>(self, value: u16) -> Result<Self::Value, E>
         ensures read { Answers E.is_memory (gives self (plain_event (ushort value))) result }
         ensures law { Returns (stands self (plain_event (ushort value))) same E.is_memory result }
@@ -260,10 +266,10 @@ pub trait Visitor: Sized + Drop {
     /// Visits a `u32`.
     ///
     /// # Errors
-    /// As `visit_plain`.
+    /// Returns the errors of `visit_plain`.
     ///
     /// # Example
-    /// Of 1: `visit_plain(Plain::U32(1))`.
+    /// For 1, calls `visit_plain(Plain::U32(1))`.
     final fn visit_u32<E: Refusal>(self, value: u32) -> Result<Self::Value, E>
         ensures read { Answers E.is_memory (gives self (plain_event (uint value))) result }
         ensures law { Returns (stands self (plain_event (uint value))) same E.is_memory result }
@@ -274,10 +280,10 @@ pub trait Visitor: Sized + Drop {
     /// Visits a `u64`.
     ///
     /// # Errors
-    /// As `visit_plain`.
+    /// Returns the errors of `visit_plain`.
     ///
     /// # Example
-    /// Of 13: `visit_plain(Plain::U64(13))`.
+    /// For 13, calls `visit_plain(Plain::U64(13))`.
     final fn visit_u64<E: Refusal>(self, value: u64) -> Result<Self::Value, E>
         ensures read { Answers E.is_memory (gives self (plain_event (ulong value))) result }
         ensures law { Returns (stands self (plain_event (ulong value))) same E.is_memory result }
@@ -288,10 +294,10 @@ pub trait Visitor: Sized + Drop {
     /// Visits an `i8`.
     ///
     /// # Errors
-    /// As `visit_plain`.
+    /// Returns the errors of `visit_plain`.
     ///
     /// # Example
-    /// Of -1: `visit_plain(Plain::I8(-1))`.
+    /// For -1, calls `visit_plain(Plain::I8(-1))`.
     final fn visit_i8<E: Refusal>(self, value: i8) -> Result<Self::Value, E>
         ensures read { Answers E.is_memory (gives self (plain_event (byte value))) result }
         ensures law { Returns (stands self (plain_event (byte value))) same E.is_memory result }
@@ -302,10 +308,10 @@ pub trait Visitor: Sized + Drop {
     /// Visits an `i16`.
     ///
     /// # Errors
-    /// As `visit_plain`.
+    /// Returns the errors of `visit_plain`.
     ///
     /// # Example
-    /// Of -2: `visit_plain(Plain::I16(-2))`.
+    /// For -2, calls `visit_plain(Plain::I16(-2))`.
     final fn visit_i16<E: Refusal>(self, value: i16) -> Result<Self::Value, E>
         ensures read { Answers E.is_memory (gives self (plain_event (short value))) result }
         ensures law { Returns (stands self (plain_event (short value))) same E.is_memory result }
@@ -316,10 +322,10 @@ pub trait Visitor: Sized + Drop {
     /// Visits an `i32`.
     ///
     /// # Errors
-    /// As `visit_plain`.
+    /// Returns the errors of `visit_plain`.
     ///
     /// # Example
-    /// Of 128: `visit_plain(Plain::I32(128))`.
+    /// For 128, calls `visit_plain(Plain::I32(128))`.
     final fn visit_i32<E: Refusal>(self, value: i32) -> Result<Self::Value, E>
         ensures read { Answers E.is_memory (gives self (plain_event (int value))) result }
         ensures law { Returns (stands self (plain_event (int value))) same E.is_memory result }
@@ -330,10 +336,10 @@ pub trait Visitor: Sized + Drop {
     /// Visits an `i64`.
     ///
     /// # Errors
-    /// As `visit_plain`.
+    /// Returns the errors of `visit_plain`.
     ///
     /// # Example
-    /// Of -1: `visit_plain(Plain::I64(-1))`.
+    /// For -1, calls `visit_plain(Plain::I64(-1))`.
     final fn visit_i64<E: Refusal>(self, value: i64) -> Result<Self::Value, E>
         ensures read { Answers E.is_memory (gives self (plain_event (long value))) result }
         ensures law { Returns (stands self (plain_event (long value))) same E.is_memory result }
@@ -341,13 +347,13 @@ pub trait Visitor: Sized + Drop {
         self.visit_plain(Plain::I64(value))
     }
 
-    /// Visits an `f32`, by its bits.
+    /// Visits the bits of an `f32`.
     ///
     /// # Errors
-    /// As `visit_plain`.
+    /// Returns the errors of `visit_plain`.
     ///
     /// # Example
-    /// Of the bits 3FC00000, which are 1.5: `visit_plain` of `Plain::F32` of them.
+    /// For the bits 3FC00000, which are 1.5, calls `visit_plain` with `Plain::F32` of them.
     final fn visit_f32<E: Refusal>(self, value: F32Bits) -> Result<Self::Value, E>
         ensures read { Answers E.is_memory
             (gives self (plain_event (float (f32_bits value)))) result }
@@ -357,13 +363,13 @@ pub trait Visitor: Sized + Drop {
         self.visit_plain(Plain::F32(value))
     }
 
-    /// Visits an `f64`, by its bits.
+    /// Visits the bits of an `f64`.
     ///
     /// # Errors
-    /// As `visit_plain`.
+    /// Returns the errors of `visit_plain`.
     ///
     /// # Example
-    /// Of the bits 3FF8000000000000, which are 1.5: `visit_plain` of `Plain::F64` of them.
+    /// For the bits 3FF8000000000000, which are 1.5, calls `visit_plain` with `Plain::F64` of them.
     final fn visit_f64<E: Refusal>(self, value: F64Bits) -> Result<Self::Value, E>
         ensures read { Answers E.is_memory
             (gives self (plain_event (double (f64_bits value)))) result }
@@ -376,10 +382,10 @@ pub trait Visitor: Sized + Drop {
     /// Visits a `char`.
     ///
     /// # Errors
-    /// As `visit_plain`.
+    /// Returns the errors of `visit_plain`.
     ///
     /// # Example
-    /// Of `a`: `visit_plain(Plain::Char('a'))`.
+    /// For `a`, calls `visit_plain(Plain::Char('a'))`.
     final fn visit_char<E: Refusal>(self, value: char) -> Result<Self::Value, E>
         ensures read { Answers E.is_memory (gives self (plain_event (char value))) result }
         ensures law { Returns (stands self (plain_event (char value))) same E.is_memory result }
@@ -390,10 +396,10 @@ pub trait Visitor: Sized + Drop {
     /// Visits a `String`.
     ///
     /// # Errors
-    /// As `visit_plain`.
+    /// Returns the errors of `visit_plain`.
     ///
     /// # Example
-    /// Of `a`: `visit_plain` of `Plain::String` of it.
+    /// For `a`, calls `visit_plain` with `Plain::String` of it.
     final fn visit_string<E: Refusal>(self, value: String) -> Result<Self::Value, E>
         ensures read { Answers E.is_memory
             (gives self (plain_event (string (string_bytes value)))) result }
@@ -406,10 +412,10 @@ pub trait Visitor: Sized + Drop {
     /// Visits a binary.
     ///
     /// # Errors
-    /// As `visit_plain`.
+    /// Returns the errors of `visit_plain`.
     ///
     /// # Example
-    /// Of the bytes 01, 02: `visit_plain` of `Plain::ByteBuf` of them.
+    /// For the bytes 01, 02, calls `visit_plain` with `Plain::ByteBuf` of them.
     final fn visit_byte_buf<E: Refusal>(self, value: ByteBuf) -> Result<Self::Value, E>
         ensures read { Answers E.is_memory
             (gives self (plain_event (binary (byte_buf_bytes value)))) result }

@@ -1,4 +1,4 @@
-//! The keys and values of a map, one after another.
+//! The accessor of the keys and values of a map.
 
 ghost use Rattle.std.specs.Prelude.{◌≡◌, ◌↔◌, IsTrue, IsSome, List, Option, Some, None};
 ghost use Rattle.amqp_ser.specs.Tree.{Tree};
@@ -13,64 +13,69 @@ use crate::seed::{Of, Seed};
 use std::alloc::Global;
 use std::marker::PhantomData;
 
-/// The keys and values of a map, which are read one after another.
+/// An accessor of the keys and values of a map.
 ///
-/// A key that was read leaves its value owed, until that is read.
+/// The value must be read before the next key.
 ///
 /// # Implementer notes
-/// Four calls are to be written: `owes`, `next_pair`, `owe` and `take_owed`.
+/// Required methods: `owes`, `next_pair`, `owe` and `take_owed`. `left` lists the pairs that
+/// `next_pair` has not taken. `owed` is the pending value, which `owe` sets and `take_owed`
+/// removes.
 pub trait MapAccess: Sized + Drop {
-    /// The refusals of what is read.
+    /// The error type.
     type Error: Refusal;
 
-    /// What holds a key or a value.
+    /// The deserializer of a key or a value.
     type Item: Deserializer<Error = Self::Error>;
 
-    /// The tree of the value that is owed, if a key was read and its value was not.
+    /// The tree of the pending value, if a key has been read and its value has not.
     ghost owed: { Self → Option Tree };
 
-    /// The trees of the keys and values that are left, in order.
+    /// The trees of the remaining keys and values, in order.
     ghost left: { Self → List (Tree × Tree) };
 
-    /// Whether a value is owed.
+    /// Returns `true` if and only if a value is pending.
     ///
     /// # Example
-    /// True after `next_key`, until `next_value`.
+    /// `true` after `next_key` has returned a key, until `next_value` is called.
     fn owes(&self) -> bool
         ensures { IsTrue result ↔ IsSome (owed self.now) };
 
-    /// Takes the next pair.
+    /// Takes the next key and value; returns `None` after the last. The pending value is unchanged.
     ///
     /// # Example
-    /// Of the pair of the uint 1 and the ubyte 2: what holds 1 and what holds 2, then `None`.
+    /// For the pair of the uint 1 and the ubyte 2, returns deserializers of 1 and of 2, then
+    /// `None`.
     fn next_pair(&mut self) -> Option<(Self::Item, Self::Item)>
         ensures taken { TakesPair Self.Item.value (left self.old) (left self.new) result }
         ensures kept { owed self.new ≡ owed self.old };
 
-    /// Puts a value aside as owed.
+    /// Sets the pending value. The remaining pairs are unchanged.
     fn owe(&mut self, value: Self::Item)
         ensures owed { owed self.new ≡ Some (Self.Item.value value) }
         ensures kept { left self.new ≡ left self.old };
 
-    /// Takes the value that is owed.
+    /// Takes the pending value; returns `None` if there is none. The remaining pairs are unchanged.
     ///
     /// # Example
-    /// After `owe` of what holds the ubyte 2: `Some` of it, then `None`.
+    /// After `owe` with a deserializer of the ubyte 2, returns `Some` of it, then `None`.
     fn take_owed(&mut self) -> Option<Self::Item>
         ensures taken { value_of Self.Item.value result ≡ owed self.old }
         ensures owed { owed self.new ≡ None }
         ensures kept { left self.new ≡ left self.old };
 
-    /// Reads the next key by a seed; `None` after the last. Its value is owed then. A refused key
-    /// takes its value with it, and no value is owed.
+    /// Reads the next key with a seed; returns `None` after the last.
+    ///
+    /// The value of the key is then pending. If the key cannot be read, the pair is consumed and no
+    /// value is pending.
     ///
     /// # Errors
-    /// Invalid while a value is owed, and nothing changes; as the seed otherwise, and only where
-    /// the key is not read.
+    /// Returns `Refusal::invalid`, and changes nothing, if a value is pending. Otherwise returns
+    /// the seed's error, which is out of memory or means that the key cannot be read.
     ///
     /// # Example
-    /// Of the pair of the uint 1 and the ubyte 2, by `Of(PhantomData::<u32>)`: `Some(1)`. Again,
-    /// before the value: invalid.
+    /// For the pair of the uint 1 and the ubyte 2, with `Of(PhantomData::<u32>)`, returns
+    /// `Some(1)`. A second call, before the value is read, is invalid.
     final fn next_key_seed<K: Seed>(
         &mut self,
         alloc: Global,
@@ -96,13 +101,15 @@ pub trait MapAccess: Sized + Drop {
         }
     }
 
-    /// Reads the value that is owed by a seed. It is owed no more, also where it is refused.
+    /// Reads the pending value with a seed. Afterwards no value is pending, even if it cannot be
+    /// read.
     ///
     /// # Errors
-    /// Invalid where none is owed; as the seed otherwise, and only where the value is not read.
+    /// Returns `Refusal::invalid` if no value is pending. Otherwise returns the seed's error, which
+    /// is out of memory or means that the value cannot be read.
     ///
     /// # Example
-    /// After that key, by `Of(PhantomData::<u8>)`: 2. Before it: invalid.
+    /// After that key, with `Of(PhantomData::<u8>)`, returns 2. Before it, the call is invalid.
     final fn next_value_seed<V: Seed>(
         &mut self,
         alloc: Global,
@@ -122,16 +129,17 @@ pub trait MapAccess: Sized + Drop {
         }
     }
 
-    /// Reads the next key and its value by seeds; `None` after the last. A refused pair is taken
-    /// whole.
+    /// Reads the next key and its value with seeds; returns `None` after the last.
+    ///
+    /// If the key or the value cannot be read, the pair is consumed.
     ///
     /// # Errors
-    /// Invalid while a value is owed, and nothing changes; as the seeds otherwise, and only where
-    /// the pair is not read.
+    /// Returns `Refusal::invalid`, and changes nothing, if a value is pending. Otherwise returns
+    /// the error of a seed, which is out of memory or means that the pair cannot be read.
     ///
     /// # Example
-    /// Of the pair of the uint 3 and the ubyte 4, by the seeds of `u32` and `u8`: `Some((3, 4))`,
-    /// then `None`.
+    /// For the pair of the uint 3 and the ubyte 4, with the seeds of `u32` and `u8`, returns
+    /// `Some((3, 4))`, then `None`.
     final fn next_entry_seed<K: Seed, V: Seed>(
         &mut self,
         alloc: Global,
@@ -158,14 +166,14 @@ pub trait MapAccess: Sized + Drop {
         }
     }
 
-    /// Reads the next key; `None` after the last. As [`MapAccess::next_key_seed`].
+    /// Reads the next key; returns `None` after the last. Like [`MapAccess::next_key_seed`].
     ///
     /// # Errors
-    /// Invalid while a value is owed; as the type otherwise.
+    /// Returns `Refusal::invalid` if a value is pending; otherwise the error of the type.
     ///
     /// # Example
-    /// Of the pair of the uint 1 and the ubyte 2, as a `u32`: `Some(1)`. Again, before the value:
-    /// invalid.
+    /// For the pair of the uint 1 and the ubyte 2, as a `u32`, returns `Some(1)`. A second call,
+    /// before the value is read, is invalid.
     final fn next_key<K: Deserialize>(&mut self, alloc: Global) -> Result<Option<K>, Self::Error>
         ensures read { ReadsKey Self.Error.is_memory K.reads
             (owed self.old) (left self.old) (owed self.new) (left self.new) result }
@@ -175,13 +183,13 @@ pub trait MapAccess: Sized + Drop {
         self.next_key_seed(alloc, Of(PhantomData::<K>))
     }
 
-    /// Reads the value that is owed. As [`MapAccess::next_value_seed`].
+    /// Reads the pending value. Like [`MapAccess::next_value_seed`].
     ///
     /// # Errors
-    /// Invalid where none is owed; as the type otherwise.
+    /// Returns `Refusal::invalid` if no value is pending; otherwise the error of the type.
     ///
     /// # Example
-    /// After that key, as a `u8`: 2. Before it: invalid.
+    /// After that key, as a `u8`, returns 2. Before it, the call is invalid.
     final fn next_value<V: Deserialize>(&mut self, alloc: Global) -> Result<V, Self::Error>
         ensures read { ReadsValue Self.Error.is_memory V.reads
             (owed self.old) (left self.old) (owed self.new) (left self.new) result }
@@ -191,13 +199,15 @@ pub trait MapAccess: Sized + Drop {
         self.next_value_seed(alloc, Of(PhantomData::<V>))
     }
 
-    /// Reads the next key and its value; `None` after the last. As [`MapAccess::next_entry_seed`].
+    /// Reads the next key and its value; returns `None` after the last. Like
+    /// [`MapAccess::next_entry_seed`].
     ///
     /// # Errors
-    /// Invalid while a value is owed; as the types otherwise.
+    /// Returns `Refusal::invalid` if a value is pending; otherwise the error of one of the types.
     ///
     /// # Example
-    /// Of the pair of the uint 3 and the ubyte 4, as `u32` and `u8`: `Some((3, 4))`, then `None`.
+    /// For the pair of the uint 3 and the ubyte 4, as `u32` and `u8`, returns `Some((3, 4))`, then
+    /// `None`.
     final fn next_entry<K: Deserialize, V: Deserialize>(
         &mut self,
         alloc: Global,
@@ -211,7 +221,7 @@ pub trait MapAccess: Sized + Drop {
     }
 }
 
-/// The pairs that a deserializer opened.
+/// An accessor of the pairs of a map that a deserializer opened.
 #[derive(Drop)]
 pub struct EntriesOf<D: Deserializer> {
     entries: D::Entries,
@@ -219,7 +229,7 @@ pub struct EntriesOf<D: Deserializer> {
 }
 
 impl<D: Deserializer> EntriesOf<D> {
-    /// An accessor of these pairs, which owes no value.
+    /// Returns an accessor of these pairs, with no pending value.
     pub fn new(entries: D::Entries) -> EntriesOf<D>
         ensures left { ⟦<EntriesOf<D> as MapAccess>⟧.left result ≡ D.pairs entries }
         ensures owed { ⟦<EntriesOf<D> as MapAccess>⟧.owed result ≡ None }

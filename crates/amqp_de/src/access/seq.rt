@@ -1,4 +1,4 @@
-//! The elements of a list or an array, one after another.
+//! The accessor of the elements of a list or an array.
 
 ghost use Rattle.std.specs.Prelude.{◌≡◌, List};
 ghost use Rattle.amqp_ser.specs.Tree.{Tree};
@@ -12,35 +12,37 @@ use crate::seed::{Of, Seed};
 use std::alloc::Global;
 use std::marker::PhantomData;
 
-/// The elements of a list or an array, which are read one after another.
+/// An accessor of the elements of a list or an array.
 ///
 /// # Implementer notes
-/// `next_item` is the one call to write.
+/// Required method: `next_item`, which removes the first of the elements in `left`.
 pub trait SeqAccess: Sized + Drop {
-    /// The refusals of what is read.
+    /// The error type.
     type Error: Refusal;
 
-    /// What holds an element.
+    /// The deserializer of an element.
     type Item: Deserializer<Error = Self::Error>;
 
-    /// The trees of the elements that are left, in order.
+    /// The trees of the remaining elements, in order.
     ghost left: { Self → List Tree };
 
-    /// Takes the next element.
+    /// Takes the next element; returns `None` after the last.
     ///
     /// # Example
-    /// Of the ubytes 1 and 2: what holds 1, then what holds 2, then `None`.
+    /// For the ubytes 1 and 2, returns a deserializer of 1, then one of 2, then `None`.
     fn next_item(&mut self) -> Option<Self::Item>
         ensures { TakesNext Self.Item.value (left self.old) (left self.new) result };
 
-    /// Reads the next element by a seed; `None` after the last. A refused element is taken too.
+    /// Reads the next element with a seed; returns `None` after the last.
+    ///
+    /// An element that cannot be read is consumed.
     ///
     /// # Errors
-    /// As the seed, and only where the element is not read.
+    /// Returns the seed's error, which is out of memory or means that the element cannot be read.
     ///
     /// # Example
-    /// Of the string `a` and the ubyte 2, by `Of(PhantomData::<u8>)`: invalid, then `Some(2)`, then
-    /// `None`.
+    /// For the string `a` and the ubyte 2, with `Of(PhantomData::<u8>)`, returns an error for the
+    /// invalid value, then `Some(2)`, then `None`.
     final fn next_element_seed<S: Seed>(
         &mut self,
         alloc: Global,
@@ -60,13 +62,17 @@ pub trait SeqAccess: Sized + Drop {
         }
     }
 
-    /// Reads the next element; `None` after the last. A refused element is taken too.
+    /// Reads the next element; returns `None` after the last.
+    ///
+    /// An element that cannot be read is consumed.
     ///
     /// # Errors
-    /// As the type, and only where the element is not read.
+    /// Returns the error of the type, which is out of memory or means that the element cannot be
+    /// read.
     ///
     /// # Example
-    /// Of the string `a` and the ubyte 2, as `u8`: invalid, then `Some(2)`, then `None`.
+    /// For the string `a` and the ubyte 2, as `u8`, returns an error for the invalid value, then
+    /// `Some(2)`, then `None`.
     final fn next_element<T: Deserialize>(
         &mut self,
         alloc: Global,
@@ -80,14 +86,14 @@ pub trait SeqAccess: Sized + Drop {
     }
 }
 
-/// The elements that a deserializer opened.
+/// An accessor of the elements of a list or an array that a deserializer opened.
 #[derive(Drop)]
 pub struct ElementsOf<D: Deserializer> {
     elements: D::Elements,
 }
 
 impl<D: Deserializer> ElementsOf<D> {
-    /// An accessor of these elements.
+    /// Returns an accessor of these elements.
     pub fn new(elements: D::Elements) -> ElementsOf<D>
         ensures { ⟦<ElementsOf<D> as SeqAccess>⟧.left result ≡ D.items elements }
     {

@@ -1,4 +1,4 @@
-//! A variant of an enum: its index, and what comes with it.
+//! The accessors of a variant of an enum: its index and its value.
 
 ghost use Rattle.std.specs.Prelude.{◌≡◌, Ok, Option, Some};
 ghost use Rattle.amqp_ser.specs.Tree.{Tree};
@@ -16,41 +16,41 @@ use crate::visitor::Visitor;
 use std::alloc::Global;
 use std::marker::PhantomData;
 
-/// A variant whose index is still to be read.
+/// An accessor of a variant whose index has not been read.
 ///
 /// # Implementer notes
-/// `split` is the one call to write.
+/// Required method: `split`, which returns `index` and `content`.
 pub trait EnumAccess: Sized + Drop {
-    /// The refusals of what is read.
+    /// The error type.
     type Error: Refusal;
 
-    /// What holds the index.
+    /// The deserializer of the index.
     type Item: Deserializer<Error = Self::Error>;
 
-    /// What comes with the index.
+    /// The accessor of the value after the index.
     type Variant: VariantAccess<Error = Self::Error>;
 
     /// The tree of the index.
     ghost index: { Self → Tree };
 
-    /// The tree of what comes with it, if something does.
+    /// The tree of the value, if there is one.
     ghost content: { Self → Option Tree };
 
-    /// The index, and what comes with it.
+    /// Returns the deserializer of the index and the accessor of the value.
     ///
     /// # Example
-    /// Of the index 1 with the ulong 13: what holds 1, and what gives 13.
+    /// For the index 1 with the ulong 13, returns a deserializer of 1 and an accessor of 13.
     fn split(self) -> (Self::Item, Self::Variant)
         ensures index { Self.Item.value result.0 ≡ index self }
         ensures content { Self.Variant.content result.1 ≡ content self };
 
-    /// Reads the index by a seed, and gives what comes with it.
+    /// Reads the index with a seed, and returns it with the accessor of the value.
     ///
     /// # Errors
-    /// As the seed, and only where the index is not read.
+    /// Returns the seed's error, which is out of memory or means that the index cannot be read.
     ///
     /// # Example
-    /// Of the index 1, by `Of(PhantomData::<u32>)`: 1, and what comes with it.
+    /// For the index 1, with `Of(PhantomData::<u32>)`, returns 1 and the accessor of the value.
     final fn variant_seed<S: Seed>(
         self,
         alloc: Global,
@@ -68,13 +68,14 @@ pub trait EnumAccess: Sized + Drop {
         }
     }
 
-    /// Reads the index, and gives what comes with it.
+    /// Reads the index, and returns it with the accessor of the value.
     ///
     /// # Errors
-    /// As the type, and only where the index is not read.
+    /// Returns the error of the type, which is out of memory or means that the index cannot be
+    /// read.
     ///
     /// # Example
-    /// Of the index 1, as a `u32`: 1, and what comes with it.
+    /// For the index 1, as a `u32`, returns 1 and the accessor of the value.
     final fn variant<T: Deserialize>(self, alloc: Global) -> Result<(T, Self::Variant), Self::Error>
         ensures read { Picks Self.Error.is_memory T.reads
             Self.Variant.content (index self) (content self) result }
@@ -85,48 +86,50 @@ pub trait EnumAccess: Sized + Drop {
     }
 }
 
-/// What comes with a variant's index.
+/// An accessor of the value of a variant.
 ///
 /// # Implementer notes
-/// `into_item` is the one call to write.
+/// Required method: `into_item`, which returns `content`.
 pub trait VariantAccess: Sized + Drop {
-    /// The refusals of what is read.
+    /// The error type.
     type Error: Refusal;
 
-    /// What holds it.
+    /// The deserializer of the value.
     type Item: Deserializer<Error = Self::Error>;
 
-    /// Its tree, if there is something.
+    /// The tree of the value, if there is one.
     ghost content: { Self → Option Tree };
 
-    /// What holds it, if there is something.
+    /// Returns the deserializer of the value, if there is one.
     ///
     /// # Example
-    /// Of the ulong 13: `Some` of what holds it. Of nothing: `None`.
+    /// For the ulong 13, returns `Some` of a deserializer of it. If there is no value, returns
+    /// `None`.
     fn into_item(self) -> Option<Self::Item>
         ensures { value_of Self.Item.value result ≡ content self };
 
-    /// Reads a variant with nothing. What comes with it is ignored.
+    /// Reads a variant without a value. A value after the index is ignored.
     ///
     /// # Errors
-    /// None: it is never refused.
+    /// None.
     ///
     /// # Example
-    /// `Ok(())`, also where the ulong 13 comes with the index.
+    /// Returns `Ok(())`, even if the ulong 13 follows the index.
     final fn unit_variant(self) -> Result<(), Self::Error>
         ensures { result ≡ Ok tt }
     {
         Ok(())
     }
 
-    /// Reads the value of a variant by a seed.
+    /// Reads the value of a variant with a seed.
     ///
     /// # Errors
-    /// The message `Expecting a value` where nothing comes with the index; as the seed otherwise.
-    /// Only where nothing is read.
+    /// Returns the message `Expecting a value` if there is no value; otherwise the seed's error. An
+    /// error other than out of memory is returned only if no value is read.
     ///
     /// # Example
-    /// Of the ulong 13, by `Of(PhantomData::<u64>)`: 13. Of nothing: the message.
+    /// For the ulong 13, with `Of(PhantomData::<u64>)`, returns 13. If there is no value, returns
+    /// the message.
     final fn newtype_variant_seed<S: Seed>(
         self,
         alloc: Global,
@@ -148,10 +151,10 @@ pub trait VariantAccess: Sized + Drop {
     /// Reads the value of a variant.
     ///
     /// # Errors
-    /// As [`VariantAccess::newtype_variant_seed`].
+    /// Returns the errors of [`VariantAccess::newtype_variant_seed`].
     ///
     /// # Example
-    /// Of the ulong 13, as a `u64`: 13.
+    /// For the ulong 13, as a `u64`, returns 13.
     final fn newtype_variant<T: Deserialize>(self, alloc: Global) -> Result<T, Self::Error>
         ensures read { Answers Self.Error.is_memory (There T.reads (content self)) result }
         ensures law { RestoresOwed T.image T.restorable T.same
@@ -160,14 +163,14 @@ pub trait VariantAccess: Sized + Drop {
         self.newtype_variant_seed(alloc, Of(PhantomData::<T>))
     }
 
-    /// Deserializes a tuple variant: shows the visitor the list of its fields.
+    /// Deserializes a tuple variant: reports the list of its fields to the visitor.
     ///
     /// # Errors
-    /// The message `Expecting Value::List` where nothing comes with the index; invalid where it is
-    /// no list; as the visitor otherwise.
+    /// Returns the message `Expecting Value::List` if there is no value, and `Refusal::invalid` if
+    /// the value is not a list; otherwise the visitor's error.
     ///
     /// # Example
-    /// Of the list of the ubytes 1 and 2: `visit_seq` of these two.
+    /// For the list of the ubytes 1 and 2, calls `visit_seq` with these two elements.
     final fn tuple_variant<V: Visitor>(self, visitor: V) -> Result<V::Value, Self::Error>
         ensures read { Answers Self.Error.is_memory
             (There (ByList (V.gives visitor)) (content self)) result }
@@ -180,13 +183,13 @@ pub trait VariantAccess: Sized + Drop {
         }
     }
 
-    /// Deserializes a struct variant. As [`VariantAccess::tuple_variant`].
+    /// Deserializes a struct variant, like [`VariantAccess::tuple_variant`].
     ///
     /// # Errors
-    /// As [`VariantAccess::tuple_variant`].
+    /// Returns the errors of [`VariantAccess::tuple_variant`].
     ///
     /// # Example
-    /// Of the list of the ubytes 1 and 2: `visit_seq` of these two.
+    /// For the list of the ubytes 1 and 2, calls `visit_seq` with these two elements.
     final fn struct_variant<V: Visitor>(self, visitor: V) -> Result<V::Value, Self::Error>
         ensures read { Answers Self.Error.is_memory
             (There (ByList (V.gives visitor)) (content self)) result }
@@ -197,21 +200,21 @@ pub trait VariantAccess: Sized + Drop {
     }
 }
 
-/// The variant that a deserializer opened.
+/// An accessor of a variant that a deserializer opened.
 #[derive(Drop)]
 pub struct EnumAccessOf<D: Deserializer> {
     index: D,
     content: ContentOf<D>,
 }
 
-/// What comes with the index of a variant that a deserializer opened.
+/// An accessor of the value of a variant that a deserializer opened.
 #[derive(Drop)]
 pub struct ContentOf<D: Deserializer> {
     item: Option<D>,
 }
 
 impl<D: Deserializer> EnumAccessOf<D> {
-    /// The variant of this index, with what comes with it.
+    /// Returns an accessor of the variant with this index and value.
     pub fn new(index: D, item: Option<D>) -> EnumAccessOf<D>
         ensures index { ⟦<EnumAccessOf<D> as EnumAccess>⟧.index result ≡ D.value index }
         ensures content { ⟦<EnumAccessOf<D> as EnumAccess>⟧.content result ≡ value_of D.value item }

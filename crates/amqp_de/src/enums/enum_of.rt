@@ -1,4 +1,4 @@
-//! One of the variants, read from each form of an enum's tree.
+//! The seed that reads one of the variants of an enum.
 
 ghost use Rattle.std.specs.Prelude.{◌≡◌, List, [], ◌∷◌, Option, Some, None, MatchResult};
 ghost use Rattle.amqp_ser.specs.Tree.{Tree, scalar, uint};
@@ -12,7 +12,7 @@ use crate::refusal::Refusal;
 use crate::seed::Seed;
 use std::alloc::Global;
 
-/// Reads a variant by its index's tree.
+/// Reads the variant with this index and value.
 fn read_at<D: Deserializer, V: Variants>(
     alloc: Global,
     variants: V,
@@ -34,7 +34,7 @@ fn read_at<D: Deserializer, V: Variants>(
     }
 }
 
-/// Reads a variant from a list: its index, and then its value. What is left over is ignored.
+/// Reads a variant from a list of its index and its value. Further elements are ignored.
 fn read_listed<D: Deserializer, V: Variants>(
     alloc: Global,
     variants: V,
@@ -55,7 +55,7 @@ fn read_listed<D: Deserializer, V: Variants>(
     }
 }
 
-/// Reads a variant from the one pair of a map: its index, and its value.
+/// Reads a variant from a map with one pair, from its index to its value.
 fn read_keyed<D: Deserializer, V: Variants>(
     alloc: Global,
     variants: V,
@@ -79,8 +79,8 @@ fn read_keyed<D: Deserializer, V: Variants>(
     }
 }
 
-/// One of the variants: its index alone, a list of the index and the value, or a map from the one
-/// to the other.
+/// A seed that reads a variant from its index, from a list of the index and the value, or from a
+/// map from the index to the value.
 #[derive(Drop)]
 pub struct EnumOf<V>(pub V);
 

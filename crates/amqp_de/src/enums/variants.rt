@@ -1,4 +1,4 @@
-//! The variants that are asked for, in order.
+//! The variants of an enum, in order.
 
 ghost use Rattle.std.specs.Prelude.{◌≡◌, ℕ, Option, Some, None, MatchResult};
 ghost use Rattle.amqp_ser.specs.Tree.{Tree};
@@ -11,47 +11,53 @@ use crate::refusal::Refusal;
 use crate::seed::Seed;
 use std::alloc::Global;
 
-/// This variant, or one of those after it.
+/// A variant, or one of the variants after it.
 #[derive(Drop)]
 pub enum OneOf<A, R> {
-    /// This one.
+    /// The variant.
     This(A),
-    /// Another.
+    /// A later variant.
     Other(R),
 }
 
-/// No variant.
+/// No variant. This type has no values.
 #[derive(Drop)]
 pub enum Never {}
 
-/// The variants that are asked for, in order. Written by the macro [`variants!`].
+/// The variants to read, in order. Written with the macro [`variants!`].
+///
+/// # Implementer notes
+/// Required method: `read`. It must return a variant that `reads` relates to the index and the
+/// value, and may return an error other than out of memory only if there is none. From the
+/// `position` and the `content` of a restorable variant it must read a variant with the same
+/// contents, or run out of memory.
 pub trait Variants: Sized + Drop {
-    /// What comes of them: one of the variants' values.
+    /// The type of one of the variants.
     type Value: Drop;
 
-    /// Which index, with what comes with it, is read as what.
+    /// Which index and value are read as which variant.
     ghost reads: { Self → ℕ → Option Tree → Self.Value → Type 0 };
 
     /// The index of a variant.
     ghost position: { Self.Value → ℕ };
 
-    /// The image of what comes with it.
+    /// The image of the value of a variant, if it has one.
     ghost content: { Self.Value → Option Tree };
 
-    /// Whether it comes back from its image.
+    /// Whether a variant round-trips through its image.
     ghost restorable: { Self.Value → Type 0 };
 
-    /// Whether two have the same contents.
+    /// Whether two variants have the same contents.
     ghost same: { Self.Value → Self.Value → Type 0 };
 
-    /// Reads the variant of this index.
+    /// Reads the variant with this index.
     ///
     /// # Errors
-    /// Invalid for an index past the last; what the variant's value is refused with; a message
-    /// where it is missing.
+    /// Returns `Refusal::invalid` if no variant has this index, a message if the variant's value is
+    /// missing, and the seed's error if the value cannot be read.
     ///
     /// # Example
-    /// Of three variants the index 3 is invalid.
+    /// For three variants, the index 3 is invalid.
     fn read<D: Deserializer>(
         self,
         alloc: Global,
@@ -88,10 +94,10 @@ impl Variants for () {
     }
 }
 
-/// A variant with nothing, and those after it. What comes with it is ignored.
+/// A variant without a value, and the variants after it. A value after the index is ignored.
 #[derive(Drop)]
 pub struct UnitOr<R> {
-    /// The variants after it; `()` for none.
+    /// The variants after it; `()` if there are none.
     pub rest: R,
 }
 
@@ -126,14 +132,14 @@ impl<R: Variants> Variants for UnitOr<R> {
     }
 }
 
-/// A variant with a value, and those after it.
+/// A variant with a value, and the variants after it.
 #[derive(Drop)]
 pub struct DataOr<S, R> {
-    /// What the value is read by.
+    /// The seed of the value.
     pub seed: S,
-    /// The words of the refusal where the value is missing.
+    /// The error message if the value is missing.
     pub missing: &'static str,
-    /// The variants after it; `()` for none.
+    /// The variants after it; `()` if there are none.
     pub rest: R,
 }
 

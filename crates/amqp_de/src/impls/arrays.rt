@@ -1,4 +1,4 @@
-//! Arrays of a fixed length: the first elements of a list.
+//! Arrays of a fixed length, which are read from the first elements of a list.
 
 ghost use Rattle.std.specs.Prelude.{◌≡◌, List, length, map, MatchResult};
 ghost use Rattle.std.specs.List.{AllZip, AllByRecursion};
@@ -12,10 +12,11 @@ use crate::deserializer::Deserializer;
 use crate::refusal::Refusal;
 use std::alloc::Global;
 
-/// Reads this many elements, in order. Elements left over are ignored.
+/// Reads `count` elements, in order. Further elements are ignored.
 ///
 /// # Errors
-/// Invalid where there are fewer; what the first refused element is refused with; out of memory.
+/// Returns `Refusal::invalid` if there are fewer elements, the error of the first element that
+/// cannot be read, and `Refusal::memory` if an allocation fails.
 fn read_first<T: Deserialize, D: Deserializer>(
     alloc: Global,
     elements: &mut D::Elements,

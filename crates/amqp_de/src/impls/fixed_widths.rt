@@ -1,4 +1,4 @@
-//! The types of AMQP data of a fixed width: each is read from its own kind alone.
+//! AMQP types of a fixed width. Each is read only from a value of its own kind.
 
 ghost use Rattle.std.specs.Prelude.{◌≡◌};
 ghost use Rattle.amqp_data.specs.Fixed.{dec32_bytes, dec64_bytes, dec128_bytes, f32_bits, f64_bits, milliseconds_of, uuid_bytes};

@@ -1,4 +1,4 @@
-//! Types that hold others: options and boxes; and untyped values.
+//! Options, boxes and untyped values.
 
 ghost use Rattle.std.specs.Prelude.{◌≡◌};
 ghost use Rattle.amqp_value.specs.Sound.{IsSound};

@@ -1,4 +1,4 @@
-//! Lazy values: the bytes of any value that can be written.
+//! Lazy values: the bytes of any value that can be encoded.
 
 ghost use Rattle.std.specs.Prelude.{◌≡◌};
 ghost use Rattle.amqp_ser.specs.Tree.{scalar, null};
@@ -11,13 +11,14 @@ use amqp_frame::LazyValue;
 use amqp_wire::to_lazy_value;
 use std::alloc::Global;
 
-/// Any value, as the bytes that it is written as.
+/// Reads any value as the bytes of its encoding.
 ///
-/// None is restorable: its image is the value inside it, which may have been written in another
-/// form.
+/// No lazy value is restorable, because the value inside it may have been encoded in another form.
+/// The image is a placeholder.
 ///
 /// # Errors
-/// Invalid or too long where the value cannot be written; out of memory.
+/// Returns `Refusal::invalid` or `Refusal::too_long` if the value cannot be encoded, and
+/// `Refusal::memory` if an allocation fails.
 impl Deserialize for LazyValue {
     ghost reads = { ReadsLazy };
 

@@ -1,4 +1,4 @@
-//! Vectors and arrays: all the elements, by their places.
+//! Vectors and arrays, which are read from all elements, in order.
 
 ghost use Rattle.std.specs.Prelude.{◌≡◌, List, map, MatchResult};
 ghost use Rattle.std.specs.List.{AllZip, AllByRecursion};
@@ -14,10 +14,11 @@ use crate::refusal::Refusal;
 use amqp_data::{Array, TransparentVec};
 use std::alloc::Global;
 
-/// Reads all the elements that are left, in order.
+/// Reads all remaining elements, in order.
 ///
 /// # Errors
-/// What the first refused element is refused with; out of memory.
+/// Returns the error of the first element that cannot be read, and `Refusal::memory` if an
+/// allocation fails.
 fn read_all<T: Deserialize, D: Deserializer>(
     alloc: Global,
     elements: &mut D::Elements,

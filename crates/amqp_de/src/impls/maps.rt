@@ -1,4 +1,4 @@
-//! Maps: every key and its value, inserted in turn.
+//! Maps, whose keys and values are read and inserted in order.
 
 ghost use Rattle.std.specs.Prelude.{◌≡◌, List, [], ◌∷◌, ◌++◌, IsTrue, map, MatchResult};
 ghost use Rattle.std.specs.List.{AllZip, AllByRecursion};
@@ -22,14 +22,14 @@ use std::hash::Hash;
 
 /// A map that pairs are inserted into.
 trait Inserts<K, V>: Sized + Drop {
-    /// Which maps hold these pairs, inserted in turn.
+    /// Which maps result from inserting these pairs, in order.
     ghost holds: { List (K × V) → Self → Type 0 };
 
-    /// A map of no pairs.
+    /// Returns an empty map.
     fn empty(alloc: Global) -> Self
         ensures { holds [] result };
 
-    /// Inserts a pair, and says whether there was memory for it.
+    /// Inserts a pair; returns `false` if an allocation fails.
     fn put(&mut self, key: K, value: V) -> bool
         ensures { (done : List (K × V)) → IsTrue result →
             holds done self.old → holds (done ++ (key, value) ∷ []) self.new };
@@ -52,10 +52,11 @@ fn read_pair<K: Deserialize, V: Deserialize, D: Deserializer>(
     Ok((key, value))
 }
 
-/// Reads all the pairs that are left, and inserts them in turn.
+/// Reads all remaining pairs and inserts them in order.
 ///
 /// # Errors
-/// What the first refused key or value is refused with; out of memory.
+/// Returns the error of the first key or value that cannot be read, and `Refusal::memory` if an
+/// allocation fails.
 fn read_pairs<K: Deserialize, V: Deserialize, M: Inserts<K, V>, D: Deserializer>(
     alloc: Global,
     entries: &mut D::Entries,

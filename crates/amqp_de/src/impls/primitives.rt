@@ -1,4 +1,4 @@
-//! Null, truth values, whole numbers and characters: each type is read from its own kind alone.
+//! Null, booleans, integers and characters. Each type is read only from a value of its own kind.
 
 ghost use Rattle.std.specs.Prelude.{◌≡◌};
 ghost use Rattle.amqp_ser.specs.Tree.{scalar, null, bool, ubyte, ushort, uint, ulong, byte, short, int, long, char};

@@ -1,4 +1,4 @@
-//! Binaries, strings and symbols: each type is read from its own kind alone.
+//! Binaries, strings and symbols. Each type is read only from a value of its own kind.
 
 ghost use Rattle.std.specs.Prelude.{◌≡◌, string_bytes};
 ghost use Rattle.amqp_data.specs.Items.{byte_buf_bytes};

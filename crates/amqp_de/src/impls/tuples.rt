@@ -1,4 +1,4 @@
-//! Tuples: lists of their parts. Elements left over are ignored.
+//! Tuples, which are read from a list of their fields. Further elements are ignored.
 
 ghost use Rattle.std.specs.Prelude.{[], ◌∷◌};
 ghost use Rattle.amqp_ser.specs.Tree.{list, trees_of};
