@@ -17,8 +17,8 @@ use crate::serializer::Serializer;
 use crate::struct_form::StructForm;
 use std::mem;
 
-/// Returns whether a descriptor is a second one or follows a field, or a field is the second one of
-/// a single value.
+/// Returns whether a descriptor is repeated or late, or a field is the second one of a single
+/// value.
 #[inline(always)]
 fn is_misplaced(form: StructForm, described: bool, opened: bool, descriptor: bool) -> bool
     ensures { result ≡ is_misplaced form described opened descriptor }

@@ -102,7 +102,7 @@ impl<'a, S: Serializer> SerializeMap<'a, S> {
     ///
     /// # Errors
     /// Returns the serializer's error for the value, or a misuse error if there is no key. The map
-    /// is then unchanged: the value of the key is still pending.
+    /// is then unchanged: if there is a key, its value is still pending.
     ///
     /// # Example
     /// After the key, `true` appends `41`.

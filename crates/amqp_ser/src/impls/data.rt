@@ -1,4 +1,4 @@
-//! AMQP data types. A type that Rust's data model does not have is serialized as the nearest kind,
+//! AMQP data types. A type that serde's data model does not have is serialized as the nearest kind,
 //! under a marker.
 
 ghost use Rattle.std.specs.Prelude.{Some};
