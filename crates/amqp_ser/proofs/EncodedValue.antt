@@ -41,7 +41,7 @@ either : (b : Bool) {xs ys : List ℕ} → IsFrame xs → IsFrame ys → IsFrame
 either true f g = f
 either false f g = g
 
--- The size of a body that fits, with a count of four bytes, fits in four bytes.
+-- A length that fits, plus the four bytes of a count, is less than 2^32.
 below : (n : ℕ) → fits n ≡ true → n + 4 < 4294967296
 below n h = let l = is_le n 4294967291 h in omega arith
 
@@ -116,7 +116,7 @@ inside_frame (variant n t) r h i = map_frame 2 (scalar_form (uint n) ++ encoding
 inside_frame (lazy bs) r h i = r.1
 inside_frame (transparent ts) r h i = absurd cc
 
--- A tree with placed transparent trees that is not transparent itself contains none.
+-- A placed tree that is not transparent contains no transparent tree.
 pub inside_placed : (t : Tree) → placed t ≡ true → is_transparent t ≡ false → inside t ≡ true
 inside_placed (scalar s) h n = refl
 inside_placed (list ts) h n = h

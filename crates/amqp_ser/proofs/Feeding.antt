@@ -1,7 +1,7 @@
 -- Lemmas for lists that are serialized one element at a time.
 use Rattle.std.proofs.Common.{◌≡◌, suc, zero, ℕ, ◌<◌, ◌+◌, List, [], ◌∷◌, ◌++◌, length, map, take, drop, get_or, ap, refl, arith, add-one, subst}
 
--- The results for all elements are those before index i, the one at i, and those after it.
+-- The values of `f` on all elements are those before index i, the one at i, and those after it.
 pub map-at : {X Y : Type 0} (f : X → Y) (xs : List X) (i : ℕ) (d : X) → i < length xs →
     map f xs ≡ map f (take i xs) ++ (f (get_or xs i d) ∷ map f (drop (i + 1) xs))
 map-at f [] i d h = absurd (omega arith)

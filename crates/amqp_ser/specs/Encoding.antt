@@ -43,7 +43,8 @@ list_form n (b ∷ bs) = counted 0xc0 0xd0 n (b ∷ bs)
 abbrev pub map_form : ℕ → List ℕ → List ℕ
 map_form n body = counted 0xc1 0xd1 n body
 
--- An array of n elements (section 1.6.24). The content is the constructor followed by the elements.
+-- An array of n elements (section 1.6.24). The content is the constructor followed by the payloads
+-- of the elements.
 abbrev pub array_form : ℕ → List ℕ → List ℕ
 array_form n content = if is_short (length content) && nat_le n 255 then 0xe0 ∷ (length content + 1) ∷ n ∷ content else 0xf0 ∷ wide n content
 

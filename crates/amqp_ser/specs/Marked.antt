@@ -36,8 +36,8 @@ of_length n bs s = if nat_eq (length bs) n then Some (scalar s) else None
 abbrev pub of_frame : List ℕ → Option Tree
 of_frame bs = if is_frame bs then Some (lazy bs) else None
 
--- The tree of a marked scalar: a symbol of a string, a timestamp of a long, a decimal or a uuid of
--- a binary of its length, and a lazy value of a binary that is one encoded value.
+-- The tree of a marked scalar: a symbol for a string, a timestamp for a long, a decimal or a uuid
+-- for a binary of its length, and a lazy tree for a binary that is one encoded value.
 abbrev pub marked_scalar : Mark → Scalar → Option Tree
 marked_scalar mark.Symbol (string bs) = Some (scalar (symbol bs))
 marked_scalar mark.Timestamp (long z) = Some (scalar (timestamp z))
@@ -49,7 +49,7 @@ marked_scalar mark.Lazy (binary bs) = of_frame bs
 marked_scalar mark.Other s = Some (scalar s)
 marked_scalar m s = None
 
--- The tree of a marked tree: an array or a transparent tree of a list.
+-- The tree of a marked tree: an array or a transparent tree for a list.
 abbrev pub marked_tree : Mark → Tree → Option Tree
 marked_tree m (scalar s) = marked_scalar m s
 marked_tree mark.Array (list ts) = Some (array ts)

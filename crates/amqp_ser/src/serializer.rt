@@ -54,9 +54,9 @@ use amqp_data::{F32Bits, F64Bits};
 pub trait Serializer {
     ghost use Rattle.amqp_ser.specs.declared.kind.Kind.{Kind};
 
-    /// The result of serializing a tree.
+    /// The output of a successful serialization.
     type Ok: Drop;
-    /// The error that is returned instead of a result.
+    /// The error of a failed serialization.
     type Error: Drop;
     /// A compound that is being serialized.
     type Open: Drop;
@@ -139,7 +139,7 @@ pub trait Serializer {
     fn serialize_bytes(&mut self, v: &[u8]) -> Result<Self::Ok, Self::Error>
         ensures { permits self.old (Some (scalar (binary v.now))) result self.new };
 
-    /// Sets the marker of the next tree.
+    /// Sets the marker that is applied to the next tree.
     ///
     /// # Example
     /// `Mark::Symbol` before the string `amqp`: `a304616d7170`.
@@ -816,7 +816,8 @@ pub trait Serializer {
     ///
     /// # Errors
     /// Returns the serializer's error for the variant. Always returns an error if the value has no
-    /// tree. Returns a misuse error (`InvalidValue`) if the enum is named `DESCRIPTOR`.
+    /// tree. Returns a misuse error (`InvalidValue` in this repository) if the enum is named
+    /// `DESCRIPTOR`.
     ///
     /// # Example
     /// The variant 1 of the ulong 13 is `c105025201530d`, and in an enum named `VALUE` it is

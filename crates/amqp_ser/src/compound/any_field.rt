@@ -31,12 +31,12 @@ fn is_misplaced(form: StructForm, described: bool, opened: bool, descriptor: boo
 }
 
 /// Serializes a field or the descriptor. The open compound is passed and returned by value, so that
-/// it is not in memory of the caller.
+/// the caller does not keep it in memory.
 ///
 /// # Errors
-/// Returns the serializer's error for the field or for a descriptor that is neither a ulong nor a
-/// symbol. Returns a misuse error for a second or late descriptor, or for a second field of a
-/// single value. The compound is then unchanged.
+/// Returns the serializer's error for the field or the descriptor. Always returns an error if the
+/// descriptor is neither a ulong nor a symbol. Returns a misuse error for a second or late
+/// descriptor, or for a second field of a single value. The compound is then unchanged.
 ///
 /// # Example
 /// `true` with the key `x` appends `41` to a list and `a1017841` to a map. As the first field, the

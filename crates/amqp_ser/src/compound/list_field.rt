@@ -36,7 +36,7 @@ fn open_list<S: Serializer>(serializer: &mut S, held: &mut S::Open, opened: bool
     Some(mem::replace(held, fields))
 }
 
-/// Restores the single compound after an error of its first field. The compound is unchanged.
+/// Returns the single compound unchanged, and the error, after its first field failed.
 #[cold]
 #[inline(never)]
 fn close_first<S: Serializer>(

@@ -96,9 +96,10 @@ impl<'a, S: Serializer> SerializeStruct<'a, S> {
     /// Serializes one more field, or the descriptor.
     ///
     /// # Errors
-    /// Returns the serializer's error for the field or for a descriptor that is neither a ulong nor
-    /// a symbol. Returns a misuse error for a second or late descriptor, or for a second field of a
-    /// single value. The struct is then unchanged and keeps accepting fields.
+    /// Returns the serializer's error for the field or the descriptor. Always returns an error if
+    /// the descriptor is neither a ulong nor a symbol. Returns a misuse error for a second or late
+    /// descriptor, or for a second field of a single value. The struct is then unchanged and keeps
+    /// accepting fields.
     ///
     /// # Example
     /// The ubyte 1 with the key `x` appends `5001`, and under the name `DESCRIBED_MAP`

@@ -95,9 +95,9 @@ impl<'a, S: Serializer> SerializeTupleStruct<'a, S> {
     /// Serializes one more field, or the descriptor if it is still to be serialized.
     ///
     /// # Errors
-    /// Returns the serializer's error for the field or for a descriptor that is neither a ulong nor
-    /// a symbol, or a misuse error for a second field of a single value. The struct is then
-    /// unchanged and keeps accepting fields.
+    /// Returns the serializer's error for the field or the descriptor. Always returns an error if
+    /// the descriptor is neither a ulong nor a symbol. Returns a misuse error for a second field of
+    /// a single value. The struct is then unchanged and keeps accepting fields.
     ///
     /// # Example
     /// The ubyte 1 appends `5001`. Under the name `DESCRIBED_LIST` a first ulong 1 puts `005301`
