@@ -1,4 +1,4 @@
--- What is written of several trees is cut back into their encoded values.
+-- The concatenated encodings of trees are split into their encoded values.
 use Rattle.std.proofs.Common.{◌≡◌, ℕ, true, false, ◌&&◌, List, [], ◌∷◌, ◌++◌, map as mapped, refl, sym, ap, subst}
 use Rattle.std.proofs.lemmas.List.{append-nil}
 use Rattle.std.proofs.lemmas.List.Folds.{concat-append}
@@ -13,7 +13,7 @@ use Rattle.amqp_ser.specs.Writable.{within_limits, within_limits_each, uniform_a
 use Rattle.amqp_ser.proofs.Bools.{left_true, right_true}
 use Rattle.amqp_ser.proofs.EncodedValue.{inside_frame, inside_placed, encoding_frame}
 
--- what the first law has of each tree
+-- The premise of `written_cut` for each tree.
 abbrev IsWritten : Tree → Type 0
 IsWritten t = IsRanged t × (writable t ≡ true) × (is_transparent t ≡ false)
 
@@ -44,7 +44,7 @@ transparent_cut ts r h n =
     let frames = each_frame ts r each (right_true (uniform_arrays_each us) (placed_each us) rest) n in
     subst (λ bs. IsCut bs (mapped encoding ts) []) (sym (joined_bytes ts)) (cut-back (mapped encoding ts) frames)
 
--- bytes that are encoded values one after another
+-- The bytes are concatenated encoded values.
 abbrev AreFrames : List ℕ → Type 0
 AreFrames bs = (values : List (List ℕ)) × AllByRecursion IsFrame values × (bs ≡ concat values)
 

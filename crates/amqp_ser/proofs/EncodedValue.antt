@@ -1,4 +1,4 @@
--- The bytes of a tree that is not transparent are one encoded value.
+-- The encoding of a tree that is not transparent is one encoded value.
 use Rattle.std.proofs.Common.{◌≡◌, ℕ, ◌+◌, ◌*◌, ◌<◌, Bool, true, false, ◌&&◌, IsTrue, List, [], ◌∷◌, ◌++◌, length, refl, sym, subst, arith, length-append, if◌then◌else◌, nat_le, nat_eq, nat_lt}
 use Rattle.std.proofs.lemmas.Nat.{from_be_bytes-to_be_bytes_4}
 use Rattle.std.specs.Int.{w8, w16, w32, w64, to_be_bytes, from_be_bytes}
@@ -14,12 +14,12 @@ use Rattle.amqp_ser.specs.Encoding.{encoding, encoding_each, encoding_pairs, pay
 use Rattle.amqp_ser.specs.Writable.{scalar_fits, descriptor_fits, within_limits, uniform_arrays, inside, placed, writable}
 use Rattle.amqp_ser.proofs.Bools.{is_le, left_true, right_true}
 
--- a payload of fixed width
+-- A payload of fixed width.
 of_width : (c : ℕ) (p : List ℕ) (n : ℕ) → IsTrue (is_primitive_code c) → category c ≡ Fixed n → length p ≡ n → IsFrame (c ∷ p)
 unfolding size_width body_len
 of_width c p n ok is len = IsFrame.primitive c p ok (subst (λ k. length p ≡ payload_len k p) (sym is) (omega (arith, len)))
 
--- a payload with its size in one byte
+-- A payload with a size of one byte.
 of_one_byte : (c size : ℕ) (body : List ℕ) → IsTrue (is_primitive_code c) → category c ≡ OneByteSize → length body ≡ size → IsFrame (c ∷ size ∷ body)
 unfolding size_width body_len
 of_one_byte c size body ok is len =
@@ -28,7 +28,7 @@ of_one_byte c size body ok is len =
 four_bytes : (n : ℕ) (bs : List ℕ) → n < 4294967296 → from_be_bytes w32 (to_be_bytes w32 n ++ bs) ≡ n
 four_bytes n bs lt = from_be_bytes-to_be_bytes_4 n (omega arith)
 
--- a payload with its size in four bytes
+-- A payload with a size of four bytes.
 of_four_bytes : (c size : ℕ) (body : List ℕ) → IsTrue (is_primitive_code c) → category c ≡ FourByteSize → length body ≡ size → size < 4294967296 → IsFrame (c ∷ (to_be_bytes w32 size ++ body))
 unfolding size_width body_len
 of_four_bytes c size body ok is len lt =
@@ -41,7 +41,7 @@ either : (b : Bool) {xs ys : List ℕ} → IsFrame xs → IsFrame ys → IsFrame
 either true f g = f
 either false f g = g
 
--- what fits has its length in four bytes, with a count too
+-- A length that fits, plus the four bytes of a count, is less than 2^32.
 below : (n : ℕ) → fits n ≡ true → n + 4 < 4294967296
 below n h = let l = is_le n 4294967291 h in omega arith
 
@@ -83,7 +83,7 @@ descriptor_frame : (d : Descriptor) → IsRangedDescriptor d → descriptor_fits
 descriptor_frame (name bs) r h = scalar_frame (symbol bs) r h
 descriptor_frame (code n) r h = scalar_frame (ulong n) r refl
 
--- a body of n parts, with its size and count in one byte each or in four
+-- A body of n parts, with size and count in one byte each or in four bytes each.
 compound_frame : (b : Bool) (c8 c32 n : ℕ) (body : List ℕ) → IsTrue (is_primitive_code c8) → IsTrue (is_primitive_code c32) → category c8 ≡ OneByteSize → category c32 ≡ FourByteSize → fits (length body) ≡ true
     → IsFrame (if b then c8 ∷ (length body + 1) ∷ n ∷ body else c32 ∷ wide n body)
 compound_frame b c8 c32 n body p8 p32 is8 is32 h =
@@ -116,7 +116,7 @@ inside_frame (variant n t) r h i = map_frame 2 (scalar_form (uint n) ++ encoding
 inside_frame (lazy bs) r h i = r.1
 inside_frame (transparent ts) r h i = absurd cc
 
--- only a transparent tree has transparent ones in it
+-- A placed tree that is not transparent contains no transparent tree.
 pub inside_placed : (t : Tree) → placed t ≡ true → is_transparent t ≡ false → inside t ≡ true
 inside_placed (scalar s) h n = refl
 inside_placed (list ts) h n = h
@@ -132,7 +132,7 @@ encoding_frame t r h n =
     let rest = right_true (within_limits t) (uniform_arrays t && placed t) h in
     inside_frame t r (left_true _ _ h) (inside_placed t (right_true _ _ rest) n)
 
--- of a transparent tree it is false: one of no trees is written as no bytes
+-- The lemma does not hold for transparent trees: an empty one is encoded as no bytes.
 no_bytes : ¬ IsFrame (encoding (transparent no_trees))
 no_bytes f =
     let some = some-byte [] f in

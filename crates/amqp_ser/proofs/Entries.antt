@@ -1,9 +1,9 @@
--- Maps fed one entry at a time.
+-- Maps that are serialized one entry at a time.
 use Rattle.std.proofs.Common.{◌≡◌, List, [], ◌∷◌, ◌++◌, Option, true, not, refl, ap, sym, ◌∙◌, append_assoc}
 use Rattle.amqp_ser.specs.Tree.{Tree}
 use Rattle.amqp_ser.specs.Compounds.{parts_of, paired}
 
--- an open map was fed the keys and values that stand before those of the entries left
+-- The open map has accepted the keys and values before those of the remaining entries.
 abbrev pub FedUpTo : {K V : Type 0} → (List (Option Tree) → Type 0) → (K → Option Tree) → (V → Option Tree) → List (K × V) → List (K × V) → Type 0
 FedUpTo has f g left all =
     (ps : List (Option Tree)) × has ps × (paired ps ≡ true) × (ps ++ parts_of f g left ≡ parts_of f g all)
@@ -13,7 +13,7 @@ paired-two [] p q = refl
 paired-two (x ∷ ps) p q = ap not (paired-two ps p q)
 
 module _ {K V : Type 0} (f : K → Option Tree) (g : V → Option Tree) where
-  -- one entry more
+  -- The map accepts one more entry.
   pub fed_entry : (has now_has : List (Option Tree) → Type 0) (e : K × V) (left rest all : List (K × V)) → left ≡ e ∷ rest →
       (fed : FedUpTo has f g left all) → now_has (fed.0 ++ (f e.0 ∷ (g e.1 ∷ []))) → FedUpTo now_has f g rest all
   fed_entry has now_has e left rest all h (ps, fed, even, whole) more =

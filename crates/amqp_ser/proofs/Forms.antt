@@ -1,4 +1,4 @@
--- The ordinary form of a tree beside its payload in an array.
+-- The form of a tree outside an array, compared with its payload in an array.
 use Rattle.std.proofs.Common.{◌≡◌, ℕ, ◌*◌, List, [], ◌∷◌, ◌++◌, ◌&&◌, inl, inr, Some, Bool, true, false, length, nat_le, nat_eq, nat_lt, refl, subst, arith, if◌then◌else◌}
 use Rattle.amqp_ser.specs.Tree.{Scalar, null, bool, ubyte, ushort, uint, ulong, byte, short, int, long, float, double, decimal32, decimal64, decimal128, char, timestamp, uuid, binary, string, symbol, Tree, scalar, list, array, map, described, variant, lazy, transparent, count, pair_count}
 use Rattle.amqp_ser.specs.Limits.{is_short}

@@ -1,4 +1,4 @@
--- The trees of parts before others.
+-- The trees of concatenated parts.
 use Rattle.std.proofs.Common.{◌≡◌, ℕ, ◌+◌, List, [], ◌∷◌, ◌++◌, Option, Some, None, ◌&&◌, refl, ap, sym, ◌∙◌, arith, append_assoc}
 use Rattle.amqp_ser.specs.Tree.{Tree, Trees, no_trees, more, count}
 use Rattle.amqp_ser.specs.Compounds.{all_trees, prepend, as_kind}

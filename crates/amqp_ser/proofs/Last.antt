@@ -1,4 +1,4 @@
--- The last of some parts.
+-- The last part of a list of parts.
 use Rattle.std.proofs.Common.{◌≡◌, List, [], ◌∷◌, ◌++◌, Option, not, refl, ap}
 use Rattle.amqp_ser.specs.Tree.{Tree}
 use Rattle.amqp_ser.specs.Compounds.{paired}
@@ -12,7 +12,7 @@ nothing_left : (A : Type 0) (qs : List (Option Tree)) (q : Option Tree) → [] �
 nothing_left A [] q e = cc
 nothing_left A (x ∷ qs) q e = cc
 
--- lists with one part more are equal where they were
+-- If two lists with one more part each are equal, the lists are equal.
 pub last_off : (ps qs : List (Option Tree)) (p q : Option Tree) → ps ++ (p ∷ []) ≡ qs ++ (q ∷ []) → ps ≡ qs
 last_off [] qs p q e = one_left p qs q e
 last_off (x ∷ ps) [] p q e = nothing_left (x ∷ ps ≡ []) ps p (cc)

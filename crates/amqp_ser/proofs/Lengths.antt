@@ -25,7 +25,7 @@ length-list_form n (b ∷ bs) = length-counted 0xc0 0xd0 n (b ∷ bs)
 length-array_form : (n : ℕ) (content : List ℕ) → length (array_form n content) ≤ length content + 9
 length-array_form n content = if_length (is_short (length content) && nat_le n 255) _ _ _ (omega arith) (omega arith)
 
--- what has at most nine bytes beside what fits
+-- A length that exceeds a fitting length by at most 9 is less than 2^64.
 below : (n m : ℕ) → fits n ≡ true → m ≤ n + 9 → m < 2 ^ 64
 below n m h k = let l = is_le n 4294967291 h in omega arith
 

@@ -1,4 +1,4 @@
--- Maps of keys and values in turn.
+-- Maps of alternating keys and values.
 use Rattle.std.proofs.Common.{◌≡◌, List, [], ◌∷◌, Option, Some, None, true, false, not, refl, Bool}
 use Rattle.amqp_ser.specs.Tree.{Tree, Trees, Pairs, no_trees}
 use Rattle.amqp_ser.specs.Compounds.{all_trees, prepend, prepend_pair, in_pairs, as_map, as_kind, whole, paired}
@@ -22,7 +22,7 @@ not_not : (b : Bool) → not (not b) ≡ false → b ≡ false
 not_not true h = h
 not_not false h = refl
 
--- an odd number of parts makes no map
+-- An odd number of parts has no tree as a map.
 pub odd_map : (ps : List (Option Tree)) → paired ps ≡ false → whole Map ps ≡ None
 unfolding whole
 odd_map [] h = cc

@@ -1,4 +1,4 @@
--- Names and values in turn are an even number of parts.
+-- The names and values of fields, in alternation, are an even number of parts.
 use Rattle.std.proofs.Common.{◌≡◌, ℕ, List, [], ◌∷◌, Option, Bool, true, false, not, refl, ap, if◌then◌else◌}
 use Rattle.amqp_ser.specs.Tree.{Tree}
 use Rattle.amqp_ser.specs.Compounds.{paired}

@@ -1,4 +1,4 @@
--- Parts that are keys and values in turn.
+-- Parts that are alternating keys and values.
 use Rattle.amqp_ser.specs.Tree.{Tree, Trees, Pairs, no_trees, more, no_pairs, pair}
 use Rattle.amqp_ser.specs.Compounds.{all_trees, prepend, in_pairs, prepend_pair, paired}
 use Rattle.amqp_ser.specs.Encoding.{encoding, encoding_each, encoding_pairs}

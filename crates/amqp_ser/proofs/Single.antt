@@ -1,4 +1,4 @@
--- One value that stands for itself.
+-- The tree of a single compound is the tree of its one value.
 use Rattle.std.proofs.Common.{◌≡◌, List, [], ◌∷◌, Option, Some, None, Result, Ok, Err, MatchResult, refl, subst}
 use Rattle.amqp_ser.specs.Tree.{Tree}
 use Rattle.amqp_ser.specs.Compounds.{whole}
@@ -14,7 +14,7 @@ pub no_value : whole kind.Single [] ≡ None
 unfolding whole
 no_value = refl
 
--- the one value of a single compound
+-- An error of the one value of a single compound is permitted for that value.
 pub one_value : {S H O E U : Type 0} (permits : S → Option Tree → Result O E → S → Type 0) (has : S → Kind → S → H → List (Option Tree) → Type 0) (start now : S) (held : H) (p : Option Tree) (r : Result U E) →
     MatchResult r (λ u. has start kind.Single now held (p ∷ [])) (λ e. has start kind.Single now held [] × ((rest : List (Option Tree)) → permits start (whole kind.Single (p ∷ rest)) (Err e) now)) →
     MatchResult r (λ u. has start kind.Single now held (p ∷ [])) (λ e. has start kind.Single now held [] × permits start p (Err e) now)

@@ -1,4 +1,4 @@
--- A marker of another name marks nothing.
+-- The marker `Other` leaves the tree unchanged.
 use Rattle.std.proofs.Common.{◌≡◌, Option, Some, None, refl}
 use Rattle.amqp_ser.specs.Tree.{Tree, scalar, list, array, map, described, variant, lazy, transparent}
 use Rattle.amqp_ser.specs.Marked.{marked, marked_tree}

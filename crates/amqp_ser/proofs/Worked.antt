@@ -1,4 +1,4 @@
--- Worked rows: trees and their bytes, computed from the definitions.
+-- Examples: trees and their bytes, computed from the definitions.
 use Rattle.std.proofs.Common.{◌≡◌, ℕ, pos, negsuc, ◌+◌, ◌*◌, ◌-◌, List, [], ◌∷◌, Some, None, true, false, nat_le, if◌then◌else◌, length, take, replicate, codes, refl}
 use Rattle.amqp_frame.specs.Code.{is_primitive_code, category, size_width, body_len}
 use Rattle.amqp_frame.specs.Whole.{is_frame}
@@ -11,7 +11,7 @@ use Rattle.amqp_ser.specs.Writable.{uniform_arrays, placed, within_limits, writa
 abbrev pub digit : ℕ → ℕ
 digit c = if nat_le 97 c then c - 87 else c - 48
 
--- the bytes of pairs of hexadecimal digits
+-- The bytes of pairs of hexadecimal digits.
 abbrev pub bytes : List ℕ → List ℕ
 bytes [] = []
 bytes (a ∷ []) = []
@@ -23,15 +23,15 @@ list_of ts = list (trees_of ts)
 abbrev array_of : List Tree → Tree
 array_of ts = array (trees_of ts)
 
--- a list or an array of so many equal elements
+-- A list or an array of n equal elements.
 abbrev many : (List Tree → Tree) → ℕ → Scalar → Tree
 many kind n s = kind (replicate n (scalar s))
 
--- the first bytes of a tree, and how many it has
+-- The tree is writable, and its encoding begins with these bytes and has this length.
 abbrev Begins : Tree → List ℕ → ℕ → Type 0
 Begins t prefix n = (take (length prefix) (encoding t) ≡ prefix) × (length (encoding t) ≡ n) × (writable t ≡ true)
 
--- null and truth values
+-- Null and booleans.
 null_row : encoding (scalar null) ≡ bytes (codes "40")
 null_row = refl
 
@@ -41,7 +41,7 @@ true_row = refl
 false_row : encoding (scalar (bool false)) ≡ bytes (codes "42")
 false_row = refl
 
--- unsigned numbers at their widths
+-- Unsigned numbers of each width.
 ubyte_255 : encoding (scalar (ubyte 255)) ≡ bytes (codes "50ff")
 ubyte_255 = refl
 
@@ -66,7 +66,7 @@ ulong_255 = refl
 ulong_256 : encoding (scalar (ulong 256)) ≡ bytes (codes "800000000000000100")
 ulong_256 = refl
 
--- signed numbers at their widths: `negsuc n` is -(n + 1)
+-- Signed numbers of each width; `negsuc n` is -(n + 1).
 byte_-1 : encoding (scalar (byte (negsuc 0))) ≡ bytes (codes "51ff")
 byte_-1 = refl
 
@@ -94,7 +94,7 @@ long_-129 = refl
 long_128 : encoding (scalar (long (pos 128))) ≡ bytes (codes "810000000000000080")
 long_128 = refl
 
--- the other scalars of fixed width
+-- The other scalars of fixed width.
 float_row : encoding (scalar (float 0x3fc00000)) ≡ bytes (codes "723fc00000")
 float_row = refl
 
@@ -110,7 +110,7 @@ timestamp_13 = refl
 decimal32_row : encoding (scalar (decimal32 (1 ∷ 2 ∷ 3 ∷ 4 ∷ []))) ≡ bytes (codes "7401020304")
 decimal32_row = refl
 
--- texts and binaries
+-- Texts and binaries.
 symbol_amqp : encoding (scalar (symbol (codes "amqp"))) ≡ bytes (codes "a304616d7170")
 symbol_amqp = refl
 
@@ -120,7 +120,7 @@ empty_string = refl
 empty_binary : encoding (scalar (binary [])) ≡ bytes (codes "a000")
 empty_binary = refl
 
--- texts up to 254 bytes have their length in one byte
+-- Texts of up to 254 bytes have a length of one byte.
 string_254 : Begins (scalar (string (replicate 254 97))) (bytes (codes "a1fe61")) 256
 string_254 = (refl, refl, refl)
 
@@ -133,7 +133,7 @@ symbol_255 = (refl, refl, refl)
 binary_255 : Begins (scalar (binary (replicate 255 0))) (bytes (codes "b0000000ff00")) 260
 binary_255 = (refl, refl, refl)
 
--- lists
+-- Lists.
 empty_list : encoding (list_of []) ≡ bytes (codes "45")
 empty_list = refl
 
@@ -158,7 +158,7 @@ list_of_254_nulls = (refl, refl, refl)
 list_of_255_nulls : Begins (many list_of 255 null) (bytes (codes "d000000103000000ff40")) 264
 list_of_255_nulls = (refl, refl, refl)
 
--- arrays
+-- Arrays.
 empty_array : encoding (array_of []) ≡ bytes (codes "e00100")
 empty_array = refl
 
@@ -189,7 +189,7 @@ array_of_255_nulls = refl
 array_of_256_nulls : encoding (many array_of 256 null) ≡ bytes (codes "f0000000050000010040")
 array_of_256_nulls = refl
 
--- maps
+-- Maps.
 empty_map : encoding (map no_pairs) ≡ bytes (codes "c10100")
 empty_map = refl
 
@@ -199,7 +199,7 @@ array_to_list = refl
 symbols_to_ints : encoding (described (code 1) (map (pair (scalar (symbol (codes "a"))) (scalar (int (pos 1))) (pair (scalar (symbol (codes "b"))) (scalar (int (pos 2))) no_pairs)))) ≡ bytes (codes "005301c10b04a301615401a301625402")
 symbols_to_ints = refl
 
--- described values
+-- Described values.
 described_list : encoding (described (code 1) (list_of (scalar (bool true) ∷ []))) ≡ bytes (codes "005301c0020141")
 described_list = refl
 
@@ -209,7 +209,7 @@ described_empty_list = refl
 symbol_descriptor : Begins (described (name (replicate 250 97)) (list_of (scalar (ubyte 1) ∷ []))) (bytes (codes "00a3fa61")) 258
 symbol_descriptor = (refl, refl, refl)
 
--- variants
+-- Variants.
 variant_of_ulong : encoding (variant 1 (scalar (ulong 13))) ≡ bytes (codes "c105025201530d")
 variant_of_ulong = refl
 
@@ -222,7 +222,7 @@ variant_of_fields = refl
 first_variant_of_fields : encoding (variant 0 (list_of (scalar (uint 13) ∷ scalar (bool true) ∷ []))) ≡ bytes (codes "c1080243c00402520d41")
 first_variant_of_fields = refl
 
--- transparent trees
+-- Transparent trees.
 transparent_truth_values : encoding (transparent (trees_of (scalar (bool true) ∷ scalar (bool false) ∷ scalar (bool true) ∷ []))) ≡ bytes (codes "414241")
 transparent_truth_values = refl
 
@@ -232,7 +232,7 @@ nested_transparent = refl
 nested_transparent_is_written : writable (transparent (trees_of (transparent (trees_of []) ∷ []))) ≡ true
 nested_transparent_is_written = refl
 
--- lazy trees
+-- Lazy trees.
 lazy_string : marked mark.Lazy (Some (scalar (binary (bytes (codes "a10161"))))) ≡ Some (lazy (bytes (codes "a10161")))
 unfolding is_frame is_primitive_code category size_width body_len
 lazy_string = refl
@@ -262,7 +262,7 @@ list_of_lazy = refl
 lazy_is_written : writable (map (pair (lazy (bytes (codes "40"))) (described (code 1) (lazy (bytes (codes "41")))) no_pairs)) ≡ true
 lazy_is_written = refl
 
--- trees that are refused
+-- Trees that cannot be written.
 array_of_lazy : uniform_arrays (array_of (lazy (bytes (codes "40")) ∷ [])) ≡ false
 array_of_lazy = refl
 

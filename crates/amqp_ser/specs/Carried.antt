@@ -1,4 +1,5 @@
--- The trees of types that hold others (AMQP 1.0 part 1, sections 1.2, 1.6.1 and 1.6.24).
+-- The trees of options, arrays, transparent vectors and descriptors (AMQP 1.0 part 1, sections 1.2,
+-- 1.6.1 and 1.6.24).
 use Rattle.std.specs.Prelude.{List, Option, Some, None, map}
 use Rattle.amqp_data.specs.Text.{symbol_text}
 use Rattle.amqp_data.specs.declared.descriptor.Descriptor.{Descriptor}
@@ -10,20 +11,20 @@ use Rattle.amqp_ser.specs.Marked.{marked}
 use Rattle.amqp_ser.specs.declared.kind.Kind.TheVariants as kind
 use Rattle.amqp_ser.specs.declared.mark.Mark.TheVariants as mark
 
--- no value is null; a value that is there has its own tree
+-- `None` is null, and `Some` has the tree of its value.
 abbrev pub optional : {T : Type 0} → (T → Option Tree) → Option T → Option Tree
 optional f None = Some (scalar null)
 optional f (Some x) = f x
 
--- the array of the items
+-- The array of the items.
 abbrev pub array_of : {T : Type 0} → (T → Option Tree) → List T → Option Tree
 array_of f items = marked mark.Array (whole kind.List (map f items))
 
--- the items one after another
+-- The transparent tree of the items.
 abbrev pub transparent_of : {T : Type 0} → (T → Option Tree) → List T → Option Tree
 transparent_of f items = marked mark.Transparent (whole kind.List (map f items))
 
--- the name or the code of a descriptor
+-- The name or the code of a descriptor.
 abbrev pub descriptor_content : Descriptor → tree.Descriptor
 descriptor_content (descriptor.Name s) = tree.name (symbol_text s)
 descriptor_content (descriptor.Code n) = tree.code n

@@ -1,4 +1,4 @@
--- Described composites: a descriptor before a body (AMQP 1.0 part 1, sections 1.1.2, 1.4 and 1.5).
+-- Described composites: a descriptor and a body (AMQP 1.0 part 1, sections 1.1.2, 1.4 and 1.5).
 use Rattle.std.specs.Prelude.{Option, Some, None}
 use Rattle.amqp_ser.specs.Tree.{Scalar, ulong, symbol, Descriptor, name, code, Tree, scalar, described}
 
@@ -7,12 +7,12 @@ scalar_descriptor (ulong n) = Some (code n)
 scalar_descriptor (symbol bs) = Some (name bs)
 scalar_descriptor s = None
 
--- a descriptor is a ulong or a symbol; any other tree is none
+-- The descriptor that a tree is: a ulong or a symbol. Any other tree is none.
 abbrev pub descriptor_of : Option Tree → Option Descriptor
 descriptor_of (Some (scalar s)) = scalar_descriptor s
 descriptor_of t = None
 
--- the described value of a descriptor and a body
+-- The described value of a descriptor and a body. It has no tree if one of them is missing.
 abbrev pub as_described : Option Descriptor → Option Tree → Option Tree
 as_described None t = None
 as_described (Some d) None = None

@@ -1,11 +1,12 @@
--- The bytes of a tree (AMQP 1.0 part 1, sections 1.2 and 1.6.22 to 1.6.24), by recursion on it.
+-- The encoding of a tree (AMQP 1.0 part 1, sections 1.2 and 1.6.22 to 1.6.24), by recursion on the
+-- tree.
 use Rattle.std.specs.Prelude.{ℕ, List, [], ◌∷◌, ◌++◌, Option, Some, None, ◌&&◌, nat_le, length, ◌+◌, ◌*◌, if◌then◌else◌}
 use Rattle.std.specs.Int.{w32, to_be_bytes}
 use Rattle.amqp_ser.specs.Tree.{uint, ulong, symbol, Descriptor, name, code, Tree, Trees, Pairs, scalar, list, array, map, described, variant, lazy, transparent, no_trees, more, no_pairs, pair, count, pair_count}
 use Rattle.amqp_ser.specs.Limits.{is_short}
 use Rattle.amqp_ser.specs.Scalars.{scalar_code, scalar_payload, scalar_form}
 
--- the constructor that a tree has as an array's element, if it can be one
+-- The constructor of a tree as an element of an array, if it can be one.
 abbrev pub constructor : Tree → Option ℕ
 constructor (scalar s) = Some (scalar_code s)
 constructor (list ts) = Some 0xd0
@@ -20,39 +21,40 @@ abbrev pub code_list : Option ℕ → List ℕ
 code_list None = []
 code_list (Some c) = c ∷ []
 
--- the constructor of an array's elements, that of the first
+-- The constructor of the elements of an array, which is that of the first element.
 abbrev pub array_constructor : Trees → List ℕ
 array_constructor no_trees = []
 array_constructor (more t ts) = code_list (constructor t)
 
--- a size and a count in four bytes each, and a body
+-- A size and a count of four bytes each, and a body.
 abbrev pub wide : ℕ → List ℕ → List ℕ
 wide n body = to_be_bytes w32 (length body + 4) ++ (to_be_bytes w32 n ++ body)
 
--- a body of n parts, with the code of a size of one byte and that of four
+-- A body of n parts, with the format codes for a size of one byte and for a size of four bytes.
 abbrev pub counted : ℕ → ℕ → ℕ → List ℕ → List ℕ
 counted c8 c32 n body = if is_short (length body) then c8 ∷ (length body + 1) ∷ n ∷ body else c32 ∷ wide n body
 
--- a list of n elements (section 1.6.22)
+-- A list of n elements (section 1.6.22).
 abbrev pub list_form : ℕ → List ℕ → List ℕ
 list_form n [] = 0x45 ∷ []
 list_form n (b ∷ bs) = counted 0xc0 0xd0 n (b ∷ bs)
 
--- a map of n keys and values (section 1.6.23)
+-- A map of n keys and values (section 1.6.23).
 abbrev pub map_form : ℕ → List ℕ → List ℕ
 map_form n body = counted 0xc1 0xd1 n body
 
--- an array of n elements (section 1.6.24); the content is the constructor and the elements after it
+-- An array of n elements (section 1.6.24). The content is the constructor followed by the payloads
+-- of the elements.
 abbrev pub array_form : ℕ → List ℕ → List ℕ
 array_form n content = if is_short (length content) && nat_le n 255 then 0xe0 ∷ (length content + 1) ∷ n ∷ content else 0xf0 ∷ wide n content
 
--- a descriptor is an ordinary symbol or ulong (section 1.5)
+-- A descriptor is encoded as a symbol or a ulong (section 1.5).
 abbrev pub descriptor_form : Descriptor → List ℕ
 descriptor_form (name bs) = scalar_form (symbol bs)
 descriptor_form (code n) = scalar_form (ulong n)
 
--- a tree by itself, and as an array's element after the constructor; a variant is the map of one pair,
--- from its index to its payload
+-- The encoding of a tree outside an array, and its payload as an element of an array, after the
+-- constructor. A variant is the map of one pair, from its index to its payload.
 abbrev mutual
   pub encoding : Tree → List ℕ
   encoding (scalar s) = scalar_form s

@@ -1,11 +1,11 @@
--- Parts fed to an open compound.
+-- The effect of serializing parts of an open compound.
 use Rattle.std.specs.Prelude.{List, [], ◌∷◌, ◌++◌, Option, Result, Err, MatchResult}
 use Rattle.amqp_ser.specs.Tree.{Tree}
 use Rattle.amqp_ser.specs.Compounds.{whole}
 use Rattle.amqp_ser.specs.declared.kind.Kind.{Kind}
 
--- a part that was taken is one part more; one that was refused leaves the compound as it was, and its refusal is one
--- that the whole may give, whatever parts would still have come
+-- One part. If it succeeds, the compound has one more part. If it fails, the compound is unchanged
+-- and the error is permitted for the complete compound, whatever further parts follow.
 abbrev pub Feeds : {S H O E : Type 0} → (S → Option Tree → Result O E → S → Type 0) → (S → Kind → S → H → List (Option Tree) → Type 0) →
     Kind → Option Tree → S → H → Result (Unit {0}) E → S → H → Type 0
 Feeds {S} {H} {O} {E} permits has kind part before held result after held_after =
@@ -14,8 +14,8 @@ Feeds {S} {H} {O} {E} permits has kind part before held result after held_after 
     (λ _. has start kind after held_after (ps ++ (part ∷ [])))
     (λ e. has start kind after held_after ps × ((rest : List (Option Tree)) → permits start (whole kind (ps ++ (part ∷ rest))) (Err e) after))
 
--- parts that are handed over together: all of them were taken, or the refusal is one that the whole may give,
--- whatever parts would still have come
+-- Parts that are serialized in one call. If all succeed, the compound has all of them. If one
+-- fails, the error is permitted for the complete compound, whatever further parts follow.
 abbrev pub FeedsAll : {S H O E : Type 0} → (S → Option Tree → Result O E → S → Type 0) → (S → Kind → S → H → List (Option Tree) → Type 0) →
     List (Option Tree) → S → H → Result (Unit {0}) E → S → H → Type 0
 FeedsAll {S} {H} {O} {E} permits has parts before held result after held_after =

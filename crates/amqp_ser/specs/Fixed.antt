@@ -1,4 +1,4 @@
--- The scalar that a value of fixed width is (AMQP 1.0 part 1, section 1.6).
+-- The scalar of a value of fixed width (AMQP 1.0 part 1, section 1.6).
 use Rattle.amqp_ser.specs.Tree.{Scalar, null, bool, ubyte, ushort, uint, ulong, byte, short, int, long, float, double, char}
 use Rattle.amqp_ser.specs.declared.fixed.Fixed.{Fixed}
 use Rattle.amqp_ser.specs.declared.fixed.Fixed.TheVariants as fixed

@@ -1,5 +1,6 @@
--- Contracts of public items rest on all of these, but for `fields_kind` and `field_parts` in Structs, which those of
--- private functions alone cite. Words is for the trees of users' types: it abbreviates the others.
+-- The contracts of public items use all of these, except `fields_kind` and `field_parts` in
+-- Structs, which only the contracts of private functions use. Words has abbreviations of the other
+-- definitions, for the trees of user-defined types.
 pub mod Tree
 pub mod Limits
 pub mod Scalars

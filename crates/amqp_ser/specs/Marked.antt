@@ -1,11 +1,11 @@
--- The trees that a newtype's marker name makes of the tree inside it, and the names that stand for themselves.
+-- The trees of newtypes with marker names, and the names of descriptors and untyped values.
 use Rattle.std.specs.Prelude.{ℕ, List, Option, Some, None, Bool, nat_eq, length, bytes_eq, codes, if◌then◌else◌}
 use Rattle.amqp_frame.specs.Whole.{is_frame}
 use Rattle.amqp_ser.specs.Tree.{Scalar, long, binary, string, symbol, timestamp, decimal32, decimal64, decimal128, uuid, Tree, scalar, list, array, lazy, transparent}
 use Rattle.amqp_ser.specs.declared.mark.Mark.{Mark}
 use Rattle.amqp_ser.specs.declared.mark.Mark.TheVariants as mark
 
--- the marker of a name; any other name marks nothing
+-- The marker of a name; `Other` for a name that is not a marker name.
 abbrev pub mark_of : List ℕ → Mark
 mark_of n =
     if bytes_eq n (codes "__SYMBOL") then mark.Symbol
@@ -20,24 +20,24 @@ mark_of n =
     else if bytes_eq n (codes "__LAZY_VALUE") then mark.Lazy
     else mark.Other
 
--- the key of the field that is a struct's descriptor
+-- The key of the field that is the descriptor of a struct.
 abbrev pub is_descriptor_name : List ℕ → Bool
 is_descriptor_name n = bytes_eq n (codes "__DESCRIPTOR")
 
--- the name of an enum whose newtype variants are written bare
+-- The name of an enum whose newtype variants are written as their values, without the index.
 abbrev pub is_value_name : List ℕ → Bool
 is_value_name n = bytes_eq n (codes "__VALUE")
 
--- a scalar, if its content has this length
+-- A scalar, if its content has this length.
 abbrev pub of_length : ℕ → List ℕ → Scalar → Option Tree
 of_length n bs s = if nat_eq (length bs) n then Some (scalar s) else None
 
--- the lazy tree of these bytes, if they are one encoded value
+-- The lazy tree of these bytes, if they are one encoded value.
 abbrev pub of_frame : List ℕ → Option Tree
 of_frame bs = if is_frame bs then Some (lazy bs) else None
 
--- a symbol is marked on a string, a timestamp on a long, a decimal or a uuid on a binary of its length, and a lazy value
--- on a binary that is one encoded value
+-- The tree of a marked scalar: a symbol for a string, a timestamp for a long, a decimal or a uuid
+-- for a binary of its length, and a lazy tree for a binary that is one encoded value.
 abbrev pub marked_scalar : Mark → Scalar → Option Tree
 marked_scalar mark.Symbol (string bs) = Some (scalar (symbol bs))
 marked_scalar mark.Timestamp (long z) = Some (scalar (timestamp z))
@@ -49,7 +49,7 @@ marked_scalar mark.Lazy (binary bs) = of_frame bs
 marked_scalar mark.Other s = Some (scalar s)
 marked_scalar m s = None
 
--- an array and a transparent vector are marked on a list
+-- The tree of a marked tree: an array or a transparent tree for a list.
 abbrev pub marked_tree : Mark → Tree → Option Tree
 marked_tree m (scalar s) = marked_scalar m s
 marked_tree mark.Array (list ts) = Some (array ts)
@@ -57,7 +57,7 @@ marked_tree mark.Transparent (list ts) = Some (transparent ts)
 marked_tree mark.Other t = Some t
 marked_tree m t = None
 
--- the tree of a newtype with this marker; over none there is none
+-- The tree of a newtype with this marker. It has none if its value has none.
 abbrev pub marked : Mark → Option Tree → Option Tree
 marked m None = None
 marked m (Some t) = marked_tree m t

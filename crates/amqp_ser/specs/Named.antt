@@ -1,25 +1,26 @@
--- Fields that are handed over together: a name, whether the field is there, and its tree (AMQP 1.0 part 1, section 1.4).
+-- Fields that are serialized in one call: the name, whether the field is present, and its tree
+-- (AMQP 1.0 part 1, section 1.4).
 use Rattle.std.specs.Prelude.{ℕ, List, [], ◌∷◌, Option, Some, Bool, false, ◌||◌, if◌then◌else◌}
 use Rattle.amqp_ser.specs.Tree.{Tree, scalar, string, symbol}
 use Rattle.amqp_ser.specs.declared.fields.Keys.{Keys}
 use Rattle.amqp_ser.specs.declared.fields.Keys.TheVariants as keys
 
--- the fields without their names
+-- The fields without their names.
 abbrev pub values_of : List (List ℕ × (Bool × Option Tree)) → List (Bool × Option Tree)
 values_of [] = []
 values_of (f ∷ fs) = f.1 ∷ values_of fs
 
--- one of the fields is there
+-- At least one field is present.
 abbrev pub any_there : List (Bool × Option Tree) → Bool
 any_there [] = false
 any_there (f ∷ fs) = f.0 || any_there fs
 
--- the parts of a list: the fields up to the last that is there
+-- The elements of a list: the fields up to the last present one.
 abbrev pub up_to_last : List (Bool × Option Tree) → List (Option Tree)
 up_to_last [] = []
 up_to_last (f ∷ fs) = if f.0 || any_there fs then f.1 ∷ up_to_last fs else []
 
--- a name as a map's key: a string, or a symbol
+-- A name as a key of a map: a string or a symbol.
 abbrev pub string_key : List ℕ → Option Tree
 string_key n = Some (scalar (string n))
 
@@ -30,7 +31,7 @@ abbrev pub key_of : Keys → List ℕ → Option Tree
 key_of keys.Strings n = string_key n
 key_of keys.Symbols n = symbol_key n
 
--- the parts of a map: key and tree, in turn, of each field that is there
+-- The parts of a map: the key and the tree of each present field, in alternation.
 abbrev pub named_parts : (List ℕ → Option Tree) → List (List ℕ × (Bool × Option Tree)) → List (Option Tree)
 named_parts key [] = []
 named_parts key (f ∷ fs) = if f.1.0 then key f.0 ∷ f.1.1 ∷ named_parts key fs else named_parts key fs

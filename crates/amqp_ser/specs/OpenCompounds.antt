@@ -1,4 +1,4 @@
--- Lists, maps and variants under way: what one was fed so far, and what a call feeds it.
+-- Lists, maps and variants that are being serialized: the parts so far, and the effect of a call.
 use Rattle.std.specs.Prelude.{ℕ, Bool, List, ◌∷◌, ◌++◌, [], Option, None, true, Result, Err, MatchResult, IfErr, ◌≡◌}
 use Rattle.std.specs.Borrow.{MutBor}
 use Rattle.amqp_ser.specs.Tree.{Tree}
@@ -11,45 +11,45 @@ use Rattle.amqp_ser.specs.declared.compound.sequence.SerializeSeq.{SerializeSeq}
 use Rattle.amqp_ser.specs.declared.compound.struct_variant.SerializeStructVariant.{SerializeStructVariant}
 use Rattle.amqp_ser.specs.declared.compound.variant.SerializeTupleVariant.{SerializeTupleVariant}
 
--- the reference that the list holds, and the list with another serializer there
+-- The reference in the list, and the list with another serializer behind that reference.
 abbrev pub list_reference : {S H O E : Type 0} → SerializeSeq S O E H → MutBor S
 list_reference list = list.serializer
 
 abbrev pub list_with_serializer : {S H O E : Type 0} → SerializeSeq S O E H → S → SerializeSeq S O E H
 list_with_serializer list s = record list { serializer = record list.serializer { now = s } }
 
--- the list, which this serializer opened, was fed these elements
+-- The list, which this serializer opened, has accepted these elements.
 abbrev pub ListHas : {S H O E : Type 0} → (S → Kind → S → H → List (Option Tree) → Type 0) → S → SerializeSeq S O E H → List (Option Tree) → Type 0
 ListHas has start list elements = has start kind.List list.serializer.now list.held elements
 
--- the list is fed one element more, or is as it was
+-- The list accepts one more element, or is unchanged.
 abbrev pub FeedsList : {S H O E : Type 0} → (S → Option Tree → Result O E → S → Type 0) → (S → Kind → S → H → List (Option Tree) → Type 0) →
     Option Tree → SerializeSeq S O E H → Result (Unit {0}) E → SerializeSeq S O E H → Type 0
 FeedsList permits has element before result after =
     Feeds permits has kind.List element before.serializer.now before.held result after.serializer.now after.held
 
--- the reference that the map holds, and the map with another serializer there
+-- The reference in the map, and the map with another serializer behind that reference.
 abbrev pub map_reference : {S H O E : Type 0} → SerializeMap S O E H → MutBor S
 map_reference map = map.serializer
 
 abbrev pub map_with_serializer : {S H O E : Type 0} → SerializeMap S O E H → S → SerializeMap S O E H
 map_with_serializer map s = record map { serializer = record map.serializer { now = s } }
 
--- the map, which this serializer opened, was fed these keys and values in turn
+-- The map, which this serializer opened, has accepted these keys and values, in alternation.
 abbrev pub MapHas : {S H O E : Type 0} → (S → Kind → S → H → List (Option Tree) → Type 0) → S → SerializeMap S O E H → List (Option Tree) → Type 0
 MapHas has start map parts = has start kind.Map map.serializer.now map.held parts
 
--- the map has a key whose value is to come
+-- The map has a key whose value is pending.
 abbrev pub has_key : {S H O E : Type 0} → SerializeMap S O E H → Bool
 has_key map = map.pending
 
--- the map is fed a key or a value more, or is as it was
+-- The map accepts one more key or value, or is unchanged.
 abbrev pub FeedsMap : {S H O E : Type 0} → (S → Option Tree → Result O E → S → Type 0) → (S → Kind → S → H → List (Option Tree) → Type 0) →
     Option Tree → SerializeMap S O E H → Result (Unit {0}) E → SerializeMap S O E H → Type 0
 FeedsMap permits has part before result after =
     Feeds permits has kind.Map part before.serializer.now before.held result after.serializer.now after.held
 
--- the map is fed one pair more, or is as it was
+-- The map accepts one more pair, or is unchanged.
 abbrev pub FeedsPair : {S H O E : Type 0} → (S → Option Tree → Result O E → S → Type 0) → (S → Kind → S → H → List (Option Tree) → Type 0) →
     Option Tree → Option Tree → SerializeMap S O E H → Result (Unit {0}) E → SerializeMap S O E H → Type 0
 FeedsPair {S} permits has key value before result after =
@@ -59,31 +59,31 @@ FeedsPair {S} permits has key value before result after =
     (λ e. MapHas has start after ps × ((rest : List (Option Tree)) →
     permits start (whole kind.Map (ps ++ (key ∷ (value ∷ rest)))) (Err e) after.serializer.now))
 
--- a key or a value out of turn: the map is as it was, and there is no tree
+-- The error of a key or a value in the wrong order: the map is unchanged, and there is no tree.
 abbrev pub RefusesInTurn : {S H O E : Type 0} → (S → Option Tree → Result O E → S → Type 0) → (S → Kind → S → H → List (Option Tree) → Type 0) →
     SerializeMap S O E H → Result (Unit {0}) E → SerializeMap S O E H → Type 0
 RefusesInTurn {S} permits has before result after =
     (start : S) (ps : List (Option Tree)) → MapHas has start before ps →
     IfErr result (λ e. MapHas has start after ps × permits start None (Err e) after.serializer.now)
 
--- the reference that the variant holds, and the variant with another serializer there
+-- The reference in the variant, and the variant with another serializer behind that reference.
 abbrev pub variant_reference : {S H O E : Type 0} → SerializeTupleVariant S O E H → MutBor S
 variant_reference variant = variant.serializer
 
 abbrev pub variant_with_serializer : {S H O E : Type 0} → SerializeTupleVariant S O E H → S → SerializeTupleVariant S O E H
 variant_with_serializer variant s = record variant { serializer = record variant.serializer { now = s } }
 
--- the variant of this index, which this serializer opened, was fed these fields
+-- The variant of this index, which this serializer opened, has accepted these fields.
 abbrev pub VariantHas : {S H O E : Type 0} → (S → Kind → S → H → List (Option Tree) → Type 0) → S → ℕ → SerializeTupleVariant S O E H → List (Option Tree) → Type 0
 VariantHas has start index variant fields = has start (kind.Variant index) variant.serializer.now variant.held fields
 
--- the variant is fed one field more, or is as it was
+-- The variant accepts one more field, or is unchanged.
 abbrev pub FeedsVariant : {S H O E : Type 0} → (S → Option Tree → Result O E → S → Type 0) → (S → Kind → S → H → List (Option Tree) → Type 0) →
     Option Tree → SerializeTupleVariant S O E H → Result (Unit {0}) E → SerializeTupleVariant S O E H → Type 0
 FeedsVariant permits has field before result after =
     (index : ℕ) → Feeds permits has (kind.Variant index) field before.serializer.now before.held result after.serializer.now after.held
 
--- the same of a variant whose fields have names
+-- Like the definitions above, for a variant with named fields.
 abbrev pub struct_variant_reference : {S H O E : Type 0} → SerializeStructVariant S O E H → MutBor S
 struct_variant_reference variant = variant.serializer
 

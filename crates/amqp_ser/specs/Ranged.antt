@@ -1,5 +1,5 @@
--- Trees whose contents lie in the ranges of their types, with one encoded value in each lazy tree: every tree of a value
--- in hand is one.
+-- Trees whose contents are in the ranges of their types, with one encoded value in each lazy tree.
+-- The tree of every Rust value is in range.
 use Rattle.std.specs.Prelude.{◌≡◌, ℕ, List, length, All, ◌<◌, ◌^◌}
 use Rattle.std.specs.Prelude.{FitsSigned}
 use Rattle.std.specs.Int.{w8, w16, w32, w64}
@@ -8,11 +8,11 @@ use Rattle.std.specs.Str.{IsUtf8}
 use Rattle.amqp_frame.specs.Frame.{IsFrame}
 use Rattle.amqp_ser.specs.Tree.{Scalar, null, bool, ubyte, ushort, uint, ulong, byte, short, int, long, float, double, decimal32, decimal64, decimal128, char, timestamp, uuid, binary, string, symbol, Descriptor, name, code, Tree, Trees, Pairs, scalar, list, array, map, described, variant, lazy, transparent, no_trees, more, no_pairs, pair}
 
--- bytes
+-- Each element is a byte.
 abbrev pub AreBytes : List ℕ → Type 0
 AreBytes bs = All (λ b. b < 256) bs
 
--- this many bytes
+-- A list of exactly n bytes.
 abbrev pub AreExactly : ℕ → List ℕ → Type 0
 AreExactly n bs = (length bs ≡ n) × AreBytes bs
 

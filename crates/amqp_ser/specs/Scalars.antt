@@ -1,18 +1,18 @@
--- The bytes of null and of the scalars (AMQP 1.0 part 1, sections 1.6.1 to 1.6.21).
+-- The encodings of null and of the scalars (AMQP 1.0 part 1, sections 1.6.1 to 1.6.21).
 use Rattle.std.specs.Prelude.{ℕ, ℤ, pos, negsuc, Bool, true, false, ◌&&◌, List, [], ◌∷◌, ◌++◌, length, nat_eq, nat_lt, int_le, if◌then◌else◌}
 use Rattle.std.specs.Int.{Width, w8, w16, w32, w64, to_be_bytes, cast_unsigned}
 use Rattle.amqp_ser.specs.Tree.{Scalar, null, bool, ubyte, ushort, uint, ulong, byte, short, int, long, float, double, decimal32, decimal64, decimal128, char, timestamp, uuid, binary, string, symbol}
 use Rattle.amqp_ser.specs.Limits.{is_short}
 
--- a signed number in two's complement, the highest byte first
+-- A signed number in two's complement, most significant byte first.
 abbrev pub signed_bytes : Width → ℤ → List ℕ
 signed_bytes w z = to_be_bytes w (cast_unsigned w z)
 
--- a signed number of one byte
+-- A signed number that fits in one byte.
 abbrev pub is_small : ℤ → Bool
 is_small z = int_le (negsuc 127) z && int_le z (pos 127)
 
--- the constructor of a scalar in an array
+-- The constructor of a scalar in an array.
 abbrev pub scalar_code : Scalar → ℕ
 scalar_code null = 0x40
 scalar_code (bool b) = 0x56
@@ -36,7 +36,7 @@ scalar_code (binary bs) = 0xb0
 scalar_code (string bs) = 0xb1
 scalar_code (symbol bs) = 0xb3
 
--- what follows the constructor in an array: the widest form
+-- The payload of a scalar in an array, after the constructor: the widest form.
 abbrev pub scalar_payload : Scalar → List ℕ
 scalar_payload null = []
 scalar_payload (bool true) = 1 ∷ []
@@ -61,11 +61,12 @@ scalar_payload (binary bs) = to_be_bytes w32 (length bs) ++ bs
 scalar_payload (string bs) = to_be_bytes w32 (length bs) ++ bs
 scalar_payload (symbol bs) = to_be_bytes w32 (length bs) ++ bs
 
--- bytes after their length, with the code of a length of one byte and that of four
+-- Bytes after their length, with the format codes for a length of one byte and for a length of four
+-- bytes.
 abbrev pub sized : ℕ → ℕ → List ℕ → List ℕ
 sized c8 c32 bs = if is_short (length bs) then c8 ∷ length bs ∷ bs else c32 ∷ (to_be_bytes w32 (length bs) ++ bs)
 
--- a scalar by itself: the shortest form that this profile writes
+-- A scalar outside an array, in the shortest form that this profile writes.
 abbrev pub scalar_form : Scalar → List ℕ
 scalar_form null = 0x40 ∷ []
 scalar_form (bool true) = 0x41 ∷ []

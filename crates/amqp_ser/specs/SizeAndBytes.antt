@@ -1,4 +1,4 @@
--- The answers that may be given on a tree, or on none: its length and its bytes.
+-- The permitted results for a tree, or for none: its length and its bytes.
 use Rattle.std.specs.Prelude.{◌≡◌, ℕ, List, true, false, ◌&&◌, Option, Some, None, Result, Ok, Err, length}
 use Rattle.amqp_data.specs.declared.error.Error.{Error}
 use Rattle.amqp_data.specs.declared.error.Error.TheVariants as error
@@ -6,26 +6,27 @@ use Rattle.amqp_ser.specs.Tree.{Tree}
 use Rattle.amqp_ser.specs.Encoding.{encoding}
 use Rattle.amqp_ser.specs.Writable.{within_limits, uniform_arrays, placed, writable}
 
--- without a tree: too long or invalid
+-- The errors without a tree: `TooLong` or `InvalidValue`.
 abbrev pub refuses_none : Error → Type 0
 refuses_none error.TooLong = Unit {0}
 refuses_none error.InvalidValue = Unit {0}
 refuses_none e = ⊥
 
--- too long only where a limit is passed, invalid only for another cause
+-- The errors for a tree: `TooLong` only if a limit is exceeded, `InvalidValue` only for another
+-- reason.
 abbrev pub refuses_tree : Tree → Error → Type 0
 refuses_tree t error.TooLong = within_limits t ≡ false
 refuses_tree t error.InvalidValue = (uniform_arrays t && placed t) ≡ false
 refuses_tree t e = ⊥
 
--- exactly where the tree is writable, the length of its bytes
+-- The length of the encoding if and only if the tree is writable.
 abbrev pub IsSizeOf : Option Tree → Result ℕ Error → Type 0
 IsSizeOf None (Ok n) = ⊥
 IsSizeOf None (Err e) = refuses_none e
 IsSizeOf (Some t) (Ok n) = (writable t ≡ true) × (n ≡ length (encoding t))
 IsSizeOf (Some t) (Err e) = refuses_tree t e
 
--- exactly where the tree is writable, its bytes, out of memory aside
+-- The encoding if and only if the tree is writable, unless an allocation fails.
 abbrev pub AreBytesOf : Option Tree → Result (List ℕ) Error → Type 0
 AreBytesOf None (Ok bs) = ⊥
 AreBytesOf (Some t) (Ok bs) = (writable t ≡ true) × (bs ≡ encoding t)

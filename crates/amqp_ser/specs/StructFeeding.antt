@@ -1,5 +1,5 @@
--- Fields fed to a struct, and its descriptor: one that was refused leaves the struct as it was, and its refusal is one
--- that the whole may give, whatever would still have come.
+-- The effect of serializing a field, or the descriptor, of a struct. If it fails, the struct is
+-- unchanged and the error is permitted for the complete struct, whatever further parts follow.
 use Rattle.std.specs.Prelude.{◌≡◌, List, [], ◌∷◌, ◌++◌, Option, Some, None, true, Result, Err, MatchResult, IfErr}
 use Rattle.amqp_ser.specs.Tree.{Tree}
 use Rattle.amqp_ser.specs.Compounds.{whole, paired}
@@ -8,7 +8,7 @@ use Rattle.amqp_ser.specs.Structs.{Stands, optionally_described}
 use Rattle.amqp_ser.specs.declared.kind.Kind.{Kind}
 use Rattle.amqp_ser.specs.declared.kind.Kind.TheVariants as kind
 
--- the descriptor, before any field
+-- The descriptor, before any field.
 abbrev pub FeedsDescriptor : {S H O E : Type 0} → (S → Option Tree → Result O E → S → Type 0) → (S → Kind → S → H → List (Option Tree) → Type 0) →
     Option Tree → S → H → Result (Unit {0}) E → S → H → Type 0
 FeedsDescriptor {S} {H} {O} {E} permits has descriptor before held result after held_after =
@@ -18,7 +18,7 @@ FeedsDescriptor {S} {H} {O} {E} permits has descriptor before held result after 
     (λ e. Stands permits has start None kind.Single after held_after [] × ((t : Option Tree) →
     permits start (as_described (descriptor_of descriptor) t) (Err e) after))
 
--- the first field, as these parts of a body of this kind
+-- The first field, as these parts of a body of this kind.
 abbrev pub FeedsFirst : {S H O E : Type 0} → (S → Option Tree → Result O E → S → Type 0) → (S → Kind → S → H → List (Option Tree) → Type 0) →
     Kind → List (Option Tree) → S → H → Result (Unit {0}) E → S → H → Type 0
 FeedsFirst {S} {H} {O} {E} permits has body parts before held result after held_after =
@@ -28,7 +28,7 @@ FeedsFirst {S} {H} {O} {E} permits has body parts before held result after held_
     (λ e. Stands permits has start prefix kind.Single after held_after [] × ((rest : List (Option Tree)) →
     permits start (optionally_described prefix (whole body (parts ++ rest))) (Err e) after))
 
--- a further element of a list
+-- A further element of a list.
 abbrev pub FeedsElement : {S H O E : Type 0} → (S → Option Tree → Result O E → S → Type 0) → (S → Kind → S → H → List (Option Tree) → Type 0) →
     Option Tree → S → H → Result (Unit {0}) E → S → H → Type 0
 FeedsElement {S} {H} {O} {E} permits has element before held result after held_after =
@@ -38,7 +38,7 @@ FeedsElement {S} {H} {O} {E} permits has element before held result after held_a
     (λ e. Stands permits has start prefix kind.List after held_after ps × ((rest : List (Option Tree)) →
     permits start (optionally_described prefix (whole kind.List (ps ++ (element ∷ rest)))) (Err e) after))
 
--- a further entry of a map
+-- A further entry of a map.
 abbrev pub FeedsEntry : {S H O E : Type 0} → (S → Option Tree → Result O E → S → Type 0) → (S → Kind → S → H → List (Option Tree) → Type 0) →
     Option Tree → Option Tree → S → H → Result (Unit {0}) E → S → H → Type 0
 FeedsEntry {S} {H} {O} {E} permits has key value before held result after held_after =
@@ -48,7 +48,7 @@ FeedsEntry {S} {H} {O} {E} permits has key value before held result after held_a
     (λ e. Stands permits has start prefix kind.Map after held_after ps × ((rest : List (Option Tree)) →
     permits start (optionally_described prefix (whole kind.Map (ps ++ (key ∷ (value ∷ rest))))) (Err e) after))
 
--- the one field of a struct that has one alone
+-- The only field of a single value.
 abbrev pub FeedsSingle : {S H O E : Type 0} → (S → Option Tree → Result O E → S → Type 0) → (S → Kind → S → H → List (Option Tree) → Type 0) →
     Option Tree → S → H → Result (Unit {0}) E → S → H → Type 0
 FeedsSingle {S} {H} {O} {E} permits has value before held result after held_after =
@@ -58,7 +58,7 @@ FeedsSingle {S} {H} {O} {E} permits has value before held result after held_afte
     (λ e. Stands permits has start prefix kind.Single after held_after []
     × permits start (optionally_described prefix value) (Err e) after)
 
--- a misplaced one: the struct of these parts is as it was, and there is no tree
+-- A misplaced field or descriptor: the struct with these parts is unchanged, and there is no tree.
 abbrev pub RefusesField : {S H O E : Type 0} → (S → Option Tree → Result O E → S → Type 0) → (S → Kind → S → H → List (Option Tree) → Type 0) →
     Kind → S → H → Result (Unit {0}) E → S → H → Type 0
 RefusesField {S} {H} {O} {E} permits has body before held result after held_after =

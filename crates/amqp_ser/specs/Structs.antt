@@ -1,4 +1,5 @@
--- Structs: the body that a name asks for, and the descriptor before it (AMQP 1.0 part 1, sections 1.1.2 and 1.4).
+-- Structs: the body that the name determines, and the descriptor before it (AMQP 1.0 part 1,
+-- sections 1.1.2 and 1.4).
 use Rattle.std.specs.Prelude.{ℕ, List, [], ◌∷◌, Option, Some, None, Bool, true, false, ◌||◌, bytes_eq, codes, if◌then◌else◌}
 use Rattle.amqp_ser.specs.Tree.{Tree, scalar, string}
 use Rattle.amqp_ser.specs.Compounds.{whole}
@@ -18,16 +19,16 @@ is_list_name n = bytes_eq n (codes "__DESCRIBED_LIST")
 abbrev pub is_map_name : List ℕ → Bool
 is_map_name n = bytes_eq n (codes "__DESCRIBED_MAP")
 
--- a struct's fields are one value, a map from their names, or a list
+-- The fields of a struct are one value, a map from their names, or a list.
 abbrev pub struct_form : List ℕ → StructForm
 struct_form n = if is_basic_name n then form.Single else if is_map_name n then form.Map else form.List
 
--- a tuple struct's fields are one value or a list
+-- The fields of a tuple struct are one value or a list.
 abbrev pub single_or_list : Bool → StructForm
 single_or_list true = form.Single
 single_or_list false = form.List
 
--- a tuple struct of such a name has its descriptor as its first field
+-- The first field of a tuple struct with this name is its descriptor.
 abbrev pub is_tagged : List ℕ → Bool
 is_tagged n = is_basic_name n || is_list_name n
 
@@ -36,37 +37,39 @@ form_kind form.List = kind.List
 form_kind form.Map = kind.Map
 form_kind form.Single = kind.Single
 
--- what is open: a single compound until the first field is taken, and then the body
+-- The kind that is open: a single compound until the first field is accepted, then the body.
 abbrev pub open_kind : Bool → StructForm → Kind
 open_kind false b = kind.Single
 open_kind true b = form_kind b
 
--- fields with names stand in a map, others in a list
+-- Named fields are in a map, others in a list.
 abbrev pub fields_kind : Bool → Kind
 fields_kind false = kind.List
 fields_kind true = kind.Map
 
--- the parts that a field adds: in a map its name and its value
+-- The parts that a field adds: its value, and in a map its name before it.
 abbrev pub field_parts : Bool → List ℕ → Option Tree → List (Option Tree)
 field_parts false key t = t ∷ []
 field_parts true key t = Some (scalar (string key)) ∷ (t ∷ [])
 
--- a second or late descriptor, and a second field of a bare body
+-- A second or late descriptor, or a second field of a single value.
 abbrev pub is_misplaced : StructForm → Bool → Bool → Bool → Bool
 is_misplaced b described opened true = described || opened
 is_misplaced form.Single described opened false = opened
 is_misplaced b described opened false = false
 
--- a body after a descriptor, if there is one
+-- A body after a descriptor, if there is one.
 abbrev pub optionally_described : Option (Option Tree) → Option Tree → Option Tree
 optionally_described None t = t
 optionally_described (Some d) t = as_described (descriptor_of d) t
 
--- the variant of one value: bare or refused in the enums of these names
+-- The tree of a newtype variant: its value in an enum named `__VALUE`, and none in an enum named
+-- `__DESCRIPTOR`.
 abbrev pub named_variant : List ℕ → ℕ → Option Tree → Option Tree
 named_variant n i t = if is_value_name n then t else if is_descriptor_name n then None else whole (kind.NewtypeVariant i) (t ∷ [])
 
--- a compound that stands after a descriptor, if there is one: what is answered there is an answer on the whole
+-- A compound after a descriptor, if there is one: each result that is permitted for the compound is
+-- permitted for the described value.
 unfoldable pub Stands : {S H R : Type 0} → (S → Option Tree → R → S → Type 0) → (S → Kind → S → H → List (Option Tree) → Type 0) →
     S → Option (Option Tree) → Kind → S → H → List (Option Tree) → Type 0
 Stands {S} {H} {R} permits has start prefix k now held ps =

@@ -1,7 +1,8 @@
--- Data trees: what a value means, apart from how it is written (AMQP 1.0 part 1, section 1.6).
+-- Data trees: the content of a value, independent of its encoding (AMQP 1.0 part 1, section 1.6).
 use Rattle.std.specs.Prelude.{ℕ, ℤ, Bool, true, false, List, [], ◌∷◌, ◌+◌}
 
--- null and the twenty scalars, with their contents: numbers, bits, bytes and UTF-8 texts (sections 1.6.1 to 1.6.21)
+-- Null and the twenty scalars with their contents: numbers, bits, bytes and UTF-8 texts (sections
+-- 1.6.1 to 1.6.21).
 pub data Scalar : Type 0 where
   null : Scalar
   bool : Bool → Scalar
@@ -25,13 +26,14 @@ pub data Scalar : Type 0 where
   string : List ℕ → Scalar
   symbol : List ℕ → Scalar
 
--- what tells the type of a described value: a symbol or a number (sections 1.1.2 and 1.5)
+-- The descriptor of a described value, which identifies its type: a symbol or a number (sections
+-- 1.1.2 and 1.5).
 pub data Descriptor : Type 0 where
   name : List ℕ → Descriptor
   code : ℕ → Descriptor
 
--- a variant is the index and the payload of an enum's variant; lazy holds the bytes of one encoded value;
--- transparent trees are written one after another with no header
+-- A variant has the index and the payload of a variant of an enum. A lazy tree has the bytes of one
+-- encoded value. The elements of a transparent tree are encoded one after another without a header.
 mutual
   pub data Tree : Type 0 where
     scalar : Scalar → Tree
@@ -51,7 +53,7 @@ mutual
     no_pairs : Pairs
     pair : Tree → Tree → Pairs → Pairs
 
--- how many trees, and how many pairs
+-- The number of trees, and the number of pairs.
 abbrev pub count : Trees → ℕ
 count no_trees = 0
 count (more t ts) = count ts + 1
@@ -60,12 +62,12 @@ abbrev pub pair_count : Pairs → ℕ
 pair_count no_pairs = 0
 pair_count (pair k v ps) = pair_count ps + 1
 
--- the trees of a list, in order
+-- The trees of a list, in order.
 abbrev pub trees_of : List Tree → Trees
 trees_of [] = no_trees
 trees_of (t ∷ ts) = more t (trees_of ts)
 
--- the tree is itself transparent, whatever is in it
+-- The tree itself is transparent, whatever its elements are.
 abbrev pub is_transparent : Tree → Bool
 is_transparent (transparent ts) = true
 is_transparent t = false

@@ -1,5 +1,5 @@
--- Short words for the trees of composites: a descriptor before a list, a map or one value, and fields of common types
--- (AMQP 1.0 part 1, sections 1.2, 1.4 and 1.6).
+-- Abbreviations for the trees of composites, with a descriptor before a list, a map or one value,
+-- and for fields of common types (AMQP 1.0 part 1, sections 1.2, 1.4 and 1.6).
 use Rattle.std.specs.Prelude.{ℕ, ℤ, List, [], ◌∷◌, Option, Some, Bool, true, is_some, string_bytes}
 use Rattle.std.specs.declared.string.String.{String}
 use Rattle.std.specs.declared.alloc.Global.{Global}
@@ -25,7 +25,7 @@ use Rattle.amqp_ser.specs.Carried.{array_of, optional}
 use Rattle.amqp_ser.specs.Named.{named_parts, string_key, symbol_key, up_to_last}
 use Rattle.amqp_ser.specs.declared.kind.Kind.TheVariants as kind
 
--- the list of these parts, and the map of these named parts
+-- The list of these parts, and the map of these named parts.
 abbrev pub list_of : List (Option Tree) → Option Tree
 list_of parts = whole kind.List parts
 
@@ -36,29 +36,29 @@ in_turn key (f ∷ fs) = key f.0 ∷ f.1 ∷ in_turn key fs
 abbrev pub map_of : List (List ℕ × Option Tree) → Option Tree
 map_of fields = whole kind.Map (in_turn string_key fields)
 
--- the map whose keys are the names as symbols
+-- The map with the names as symbol keys.
 abbrev pub symbol_map_of : List (List ℕ × Option Tree) → Option Tree
 symbol_map_of fields = whole kind.Map (in_turn symbol_key fields)
 
--- the variant of an index whose payload is the list of these parts
+-- The variant with this index whose payload is the list of these parts.
 abbrev pub variant_of : ℕ → List (Option Tree) → Option Tree
 variant_of index parts = whole (kind.Variant index) parts
 
--- the same after a descriptor
+-- The list and the map after a descriptor.
 abbrev pub list_composite : Descriptor → List (Option Tree) → Option Tree
 list_composite d parts = as_described (Some d) (list_of parts)
 
 abbrev pub map_composite : Descriptor → List (List ℕ × Option Tree) → Option Tree
 map_composite d fields = as_described (Some d) (map_of fields)
 
--- a field that is always there, and one that may be absent
+-- A required field, and an optional field.
 abbrev pub must : Option Tree → Bool × Option Tree
 must t = (true, t)
 
 abbrev pub may : {T : Type 0} → (T → Option Tree) → Option T → Bool × Option Tree
 may f o = (is_some o, optional f o)
 
--- the list without the absent fields at its end, and the map without the absent fields
+-- The list without the absent fields at its end, and the map without the absent fields.
 abbrev pub short_list_of : List (Bool × Option Tree) → Option Tree
 short_list_of parts = whole kind.List (up_to_last parts)
 
@@ -68,15 +68,15 @@ short_map_of fields = whole kind.Map (named_parts string_key fields)
 abbrev pub short_symbol_map_of : List (List ℕ × (Bool × Option Tree)) → Option Tree
 short_symbol_map_of fields = whole kind.Map (named_parts symbol_key fields)
 
--- the short list after a descriptor, as the standard's composites are written
+-- The short list after a descriptor, the form of the composites of the standard.
 abbrev pub short_composite : Descriptor → List (Bool × Option Tree) → Option Tree
 short_composite d parts = as_described (Some d) (short_list_of parts)
 
--- one value after a descriptor
+-- One value after a descriptor.
 abbrev pub basic_composite : Descriptor → Option Tree → Option Tree
 basic_composite d t = as_described (Some d) t
 
--- fields of common types
+-- Fields of common types.
 abbrev pub of_null : Option Tree
 of_null = Some (scalar null)
 
@@ -140,7 +140,7 @@ of_uuid u = Some (scalar (uuid (uuid_bytes u)))
 abbrev pub of_binary : ByteBuf → Option Tree
 of_binary b = Some (scalar (binary (byte_buf_bytes b)))
 
--- an array, and a map whose keys are known at run time alone
+-- An array, and a map whose keys are known only at run time.
 abbrev pub of_array : {T : Type 0} → (T → Option Tree) → Array T → Option Tree
 of_array f a = array_of f (array_items a)
 

@@ -1,11 +1,12 @@
--- Which trees can be written: within the limits, with arrays of one constructor, and transparent trees at the root alone.
+-- The trees that can be written: within the limits, with one constructor for all elements of an
+-- array, and with transparent trees only at the root or directly inside one there.
 use Rattle.std.specs.Prelude.{ℕ, ◌++◌, Option, Some, None, Bool, true, false, ◌&&◌, nat_eq, length}
 use Rattle.amqp_ser.specs.Tree.{Scalar, binary, string, symbol, uint, Descriptor, name, code, Tree, Trees, Pairs, scalar, list, array, map, described, variant, lazy, transparent, no_trees, more, no_pairs, pair, count}
 use Rattle.amqp_ser.specs.Limits.{fits, is_count, is_length}
 use Rattle.amqp_ser.specs.Scalars.{scalar_form}
 use Rattle.amqp_ser.specs.Encoding.{encoding, encoding_each, encoding_pairs, payload_each, array_constructor, constructor}
 
--- a text or a binary fits
+-- The length of a text or a binary is within the limit.
 abbrev pub scalar_fits : Scalar → Bool
 scalar_fits (binary bs) = fits (length bs)
 scalar_fits (string bs) = fits (length bs)
@@ -16,7 +17,7 @@ abbrev pub descriptor_fits : Descriptor → Bool
 descriptor_fits (name bs) = fits (length bs)
 descriptor_fits (code n) = true
 
--- every text, body, content and count is within its limit, and so is the length of the whole
+-- Every text, body, content and count is within its limit, and so is the length of the encoding.
 abbrev mutual
   pub within_limits : Tree → Bool
   within_limits (scalar s) = scalar_fits s
@@ -36,7 +37,7 @@ abbrev mutual
   within_limits_pairs no_pairs = true
   within_limits_pairs (pair k v ps) = within_limits k && (within_limits v && within_limits_pairs ps)
 
--- this constructor is that one
+-- Both trees have a constructor, and it is the same.
 abbrev pub same_constructor : Option ℕ → Option ℕ → Bool
 same_constructor None d = false
 same_constructor (Some c) None = false
@@ -46,12 +47,12 @@ abbrev pub each_constructor : Option ℕ → Trees → Bool
 each_constructor c no_trees = true
 each_constructor c (more t ts) = same_constructor c (constructor t) && each_constructor c ts
 
--- all have one and the same constructor
+-- All trees have the same constructor.
 abbrev pub one_constructor : Trees → Bool
 one_constructor no_trees = true
 one_constructor (more t ts) = each_constructor (constructor t) (more t ts)
 
--- the elements of each array, at every depth, share one constructor
+-- The elements of each array, at every depth, have the same constructor.
 abbrev mutual
   pub uniform_arrays : Tree → Bool
   uniform_arrays (scalar s) = true
@@ -71,7 +72,7 @@ abbrev mutual
   uniform_arrays_pairs no_pairs = true
   uniform_arrays_pairs (pair k v ps) = uniform_arrays k && (uniform_arrays v && uniform_arrays_pairs ps)
 
--- no transparent tree, at any depth
+-- There is no transparent tree at any depth.
 abbrev mutual
   pub inside : Tree → Bool
   inside (scalar s) = true
@@ -91,7 +92,7 @@ abbrev mutual
   inside_pairs no_pairs = true
   inside_pairs (pair k v ps) = inside k && (inside v && inside_pairs ps)
 
--- transparent trees stand at the root or directly inside one there
+-- Transparent trees are only at the root or directly inside one there.
 abbrev mutual
   pub placed : Tree → Bool
   placed (transparent ts) = placed_each ts
@@ -107,6 +108,6 @@ abbrev mutual
   placed_each no_trees = true
   placed_each (more t ts) = placed t && placed_each ts
 
--- the tree can be written
+-- The tree can be written.
 abbrev pub writable : Tree → Bool
 writable t = within_limits t && (uniform_arrays t && placed t)

@@ -1,4 +1,4 @@
-//! What fields are that are handed over together: a list, a variant or a map of them.
+//! Wrappers that serialize fields as a list, a variant or a map.
 
 ghost use Rattle.std.specs.Prelude.{◌≡◌, List, Option, true};
 ghost use Rattle.amqp_ser.specs.Tree.{Tree};
@@ -11,7 +11,7 @@ use crate::kind::Kind;
 use crate::serialize::Serialize;
 use crate::serializer::Serializer;
 
-/// Serializes the list, or the variant, of the fields up to the last that is there.
+/// Serializes the fields up to the last present one as a list or a variant.
 fn serialize_values<S: Serializer, F: Fields>(
     serializer: &mut S,
     kind: Kind,
@@ -26,7 +26,7 @@ fn serialize_values<S: Serializer, F: Fields>(
     serializer.end(held)
 }
 
-/// Serializes the map from the fields' names to the fields that are there.
+/// Serializes the present fields as a map from their names.
 #[tactic(auto, using(crate::proofs::Paired::paired_entries))]
 #[inline(always)]
 fn serialize_entries<S: Serializer, F: Fields>(
@@ -42,14 +42,14 @@ fn serialize_entries<S: Serializer, F: Fields>(
     serializer.end(held)
 }
 
-/// The list of the fields up to the last that is there: an absent one before it is null. Their
-/// names are not written.
+/// The list of the fields up to the last present one. An absent field before that one is null. The
+/// names of the fields are not written.
 ///
 /// # Encoding
-/// `45`, `c0` or `d0`: AMQP 1.0 part 1, section 1.6.22.
+/// `45`, `c0` or `d0` (AMQP 1.0 part 1, section 1.6.22).
 ///
 /// # Example
-/// `ListOf(fields! { "x": 1u32, "y": 2u32 })` is written `c0050252015202`.
+/// `ListOf(fields! { "x": 1u32, "y": 2u32 })` is `c0050252015202`.
 #[derive(Drop)]
 pub struct ListOf<F>(pub F);
 
@@ -62,13 +62,13 @@ impl<F: Fields> Serialize for ListOf<F> {
     }
 }
 
-/// The variant of this index whose payload is the list of the fields up to the last that is there.
+/// The variant with this index whose payload is the list of the fields up to the last present one.
 ///
 /// # Encoding
-/// The map of one pair, from the index as a uint to the list: AMQP 1.0 part 1, section 1.6.23.
+/// The map of one pair, from the index as a uint to the list (AMQP 1.0 part 1, section 1.6.23).
 ///
 /// # Example
-/// `VariantOf(1, fields! { "x": 2u32 })` is written `c108025201c003015202`.
+/// `VariantOf(1, fields! { "x": 2u32 })` is `c108025201c003015202`.
 #[derive(Drop)]
 pub struct VariantOf<F>(pub u32, pub F);
 
@@ -81,13 +81,13 @@ impl<F: Fields> Serialize for VariantOf<F> {
     }
 }
 
-/// The map from the fields' names, as strings, to the fields that are there.
+/// The map from the names of the present fields, as strings, to their values.
 ///
 /// # Encoding
-/// `c1` or `d1`: AMQP 1.0 part 1, section 1.6.23.
+/// `c1` or `d1` (AMQP 1.0 part 1, section 1.6.23).
 ///
 /// # Example
-/// `MapOf(fields! { "crc": 7u32 })` is written `c10802a1036372635207`.
+/// `MapOf(fields! { "crc": 7u32 })` is `c10802a1036372635207`.
 #[derive(Drop)]
 pub struct MapOf<F>(pub F);
 
@@ -100,13 +100,13 @@ impl<F: Fields> Serialize for MapOf<F> {
     }
 }
 
-/// The map from the fields' names, as symbols, to the fields that are there.
+/// The map from the names of the present fields, as symbols, to their values.
 ///
 /// # Encoding
-/// `c1` or `d1`: AMQP 1.0 part 1, section 1.6.23.
+/// `c1` or `d1` (AMQP 1.0 part 1, section 1.6.23).
 ///
 /// # Example
-/// `SymbolMapOf(fields! { "crc": 7u32 })` is written `c10802a3036372635207`.
+/// `SymbolMapOf(fields! { "crc": 7u32 })` is `c10802a3036372635207`.
 #[derive(Drop)]
 pub struct SymbolMapOf<F>(pub F);
 

@@ -1,7 +1,7 @@
-//! Compounds whose parts are still fed, over any serializer.
+//! Compounds that are being serialized, generic over the serializer.
 //!
-//! Each holds the serializer and what it holds open. A part that is refused leaves the compound as
-//! it was, and it may be fed on.
+//! Each contains a reference to the serializer and the serializer's open compound. If serializing
+//! an element, key, value or field fails, the compound is unchanged and keeps accepting parts.
 
 mod any_field;
 mod body;

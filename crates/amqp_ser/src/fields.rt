@@ -1,4 +1,4 @@
-//! The fields of a struct, handed over together.
+//! The fields of a struct, serialized in one call.
 
 ghost use Rattle.std.specs.Prelude.{◌≡◌, ◌∷◌, [], ℕ, List, Option, Bool, true};
 ghost use Rattle.amqp_ser.specs.Tree.{Tree};
@@ -11,58 +11,59 @@ use crate::serialize::Serialize;
 use crate::serializer::Serializer;
 use amqp_data::SymbolRef;
 
-/// What the keys of a map are that is made of fields.
+/// The type of the keys in a map of fields.
 ///
 /// # Example
-/// Of the name `x`: `a10178` as a string, `a30178` as a symbol.
+/// The name `x` is `a10178` as a string and `a30178` as a symbol.
 #[derive(Clone, Copy)]
 pub enum Keys {
-    /// The fields' names as strings.
+    /// The names of the fields as strings.
     Strings,
-    /// The fields' names as symbols.
+    /// The names of the fields as symbols.
     Symbols,
 }
 
-/// The fields of a struct, in order, with their names. Written by the macro [`fields!`].
+/// The fields of a struct with their names, in order. The macro [`fields!`] builds them.
 ///
 /// # Implementer notes
-/// `named` is what the fields mean. A compound that was fed the fields has the parts that `named`
-/// tells, after those that it had; a refusal is permitted on every continuation.
+/// `named` lists the fields: name, presence and tree. `feed` and `feed_named` append the parts that
+/// `named` determines to those that the compound already has. An error must be permitted for every
+/// continuation of the compound.
 ///
 /// # Example
 /// `fields! { "x": 1u8, "y": true }` is `c00402500141` as a list, and `c10a04a101785001a1017941` as
-/// a map from strings.
+/// a map with string keys.
 pub trait Fields {
-    /// The fields in order: the name, whether the field is there, and the tree.
+    /// The fields in order: the name, whether the field is present, and the tree.
     ghost named: { Self → List (List ℕ × (Bool × Option Tree)) };
 
-    /// Whether one of the fields is there.
+    /// Returns whether at least one field is present.
     ///
     /// # Example
-    /// An absent `y` alone: false, and the list is `45`. With `x`, the ubyte 1, after it: true, and
-    /// the list is `c00402405001`.
+    /// Only an absent `y`: `false`, and the list is `45`. With `x`, the ubyte 1, after it: `true`,
+    /// and the list is `c00402405001`.
     fn any_there(&self) -> bool
         ensures { result ≡ any_there (values_of (named self.now)) };
 
-    /// Feeds a compound the fields up to the last that is there.
+    /// Serializes the fields up to the last present one into an open compound.
     ///
     /// # Errors
-    /// The serializer's refusal of a field.
+    /// Returns the serializer's error for a field.
     ///
     /// # Example
-    /// Of `x`, the ubyte 1, and an absent `y` the one part `5001`; where `y` is the first of the
-    /// two, `40` and `5001`.
+    /// The fields `x`, the ubyte 1, and `y`, absent, are one element, `5001`. If `y` comes first,
+    /// they are `40` and `5001`.
     fn feed<S: Serializer>(&self, serializer: &mut S, held: &mut S::Open) -> Result<(), S::Error>
         ensures { FeedsAll S.permits S.has (up_to_last (values_of (named self.now))) serializer.old
             held.old result serializer.new held.new };
 
-    /// Feeds a compound the name, as a key, and the value of each field that is there.
+    /// Serializes the name, as a key, and the value of each present field into an open compound.
     ///
     /// # Errors
-    /// The serializer's refusal of a name or a field.
+    /// Returns the serializer's error for a name or a field.
     ///
     /// # Example
-    /// Of `x`, the ubyte 1, and an absent `y` as symbols: `a301785001`.
+    /// The fields `x`, the ubyte 1, and `y`, absent, are `a301785001` with symbols as keys.
     fn feed_named<S: Serializer>(
         &self,
         serializer: &mut S,
@@ -73,7 +74,7 @@ pub trait Fields {
             serializer.old held.old result serializer.new held.new };
 }
 
-/// Feeds a compound a field's name.
+/// Serializes the name of a field as a key of an open compound.
 #[inline(always)]
 pub(crate) fn feed_key<S: Serializer>(
     serializer: &mut S,
@@ -91,7 +92,7 @@ pub(crate) fn feed_key<S: Serializer>(
     }
 }
 
-/// Feeds a compound a value, and then each further field's name and the field.
+/// Serializes a value, then the name and the value of each remaining field that is present.
 #[inline(always)]
 pub(crate) fn feed_value<S: Serializer, V: Serialize, R: Fields>(
     serializer: &mut S,
@@ -136,17 +137,17 @@ impl Fields for () {
     }
 }
 
-/// A field, and those after it.
+/// A required field and the fields after it.
 ///
 /// # Example
-/// `fields! { "x": 1u8 }` is one: in a list it is `5001`, in a map from strings `a101785001`.
+/// `fields! { "x": 1u8 }` is one: `5001` in a list, `a101785001` in a map with string keys.
 #[derive(Drop)]
 pub struct Field<'a, V, R> {
     /// The field's name.
     pub name: &'a str,
-    /// The field, or a reference to it.
+    /// The value of the field, or a reference to it.
     pub value: V,
-    /// The fields after it; `()` for none.
+    /// The fields after this one; `()` if there are none.
     pub rest: R,
 }
 

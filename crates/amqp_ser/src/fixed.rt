@@ -1,40 +1,41 @@
-//! The values of fixed width.
+//! Values of fixed width.
 
 ghost use Rattle.std.specs.Prelude.{◌≡◌};
 
-/// A value of fixed width, as a serializer is given it: null and the scalars but for texts,
-/// binaries and what markers make.
+/// A value of fixed width, as passed to a serializer: null, or a scalar that is neither a text nor
+/// a binary and needs no marker.
 ///
 /// # Encoding
-/// AMQP 1.0 part 1, sections 1.6.1 to 1.6.16, of fixed width (section 1.2.1).
+/// The fixed-width types of AMQP 1.0 part 1, sections 1.6.1 to 1.6.12 and 1.6.16 (section 1.2.1).
 ///
 /// # Example
-/// `Fixed::Ubyte(1)` is `5001`, `Fixed::Uint(0)` is `43`, `Fixed::Float(0x3fc00000)` `723fc00000`.
+/// `Fixed::Ubyte(1)` is `5001`, `Fixed::Uint(0)` is `43`, `Fixed::Float(0x3fc00000)` is
+/// `723fc00000`.
 #[derive(Clone, Copy)]
 pub enum Fixed {
-    /// No value.
+    /// The null value.
     Null,
-    /// A truth value.
+    /// A boolean.
     Bool(bool),
-    /// An unsigned number of 8 bits.
+    /// An 8-bit unsigned integer.
     Ubyte(u8),
-    /// An unsigned number of 16 bits.
+    /// A 16-bit unsigned integer.
     Ushort(u16),
-    /// An unsigned number of 32 bits.
+    /// A 32-bit unsigned integer.
     Uint(u32),
-    /// An unsigned number of 64 bits.
+    /// A 64-bit unsigned integer.
     Ulong(u64),
-    /// A signed number of 8 bits.
+    /// An 8-bit signed integer.
     Byte(i8),
-    /// A signed number of 16 bits.
+    /// A 16-bit signed integer.
     Short(i16),
-    /// A signed number of 32 bits.
+    /// A 32-bit signed integer.
     Int(i32),
-    /// A signed number of 64 bits.
+    /// A 64-bit signed integer.
     Long(i64),
-    /// The 32 bits of a binary floating point number.
+    /// The bits of a 32-bit binary floating point number.
     Float(u32),
-    /// The 64 bits of a binary floating point number.
+    /// The bits of a 64-bit binary floating point number.
     Double(u64),
     /// A Unicode scalar value.
     Char(char),

@@ -1,4 +1,4 @@
-//! The trees of Rust's own types and of the types of AMQP data.
+//! The trees of Rust's own types and of the AMQP data types.
 
 mod data;
 mod holders;

@@ -1,21 +1,21 @@
-//! What a compound is made of.
+//! The kinds of compounds.
 
-/// What an open compound makes of the parts that it is fed.
+/// The kind of an open compound, which determines the tree of its parts.
 ///
 /// # Example
-/// Of the ubyte 1 and `true`: `c00402500141` as a list, `c10402500141` as a map and
-/// `c109025201c00402500141` as `Variant(1)`. Of `true`: `c10402520141` as `NewtypeVariant(1)`, and
+/// The ubyte 1 and `true` are `c00402500141` as `List`, `c10402500141` as `Map` and
+/// `c109025201c00402500141` as `Variant(1)`. `true` is `c10402520141` as `NewtypeVariant(1)` and
 /// `41` as `Single`.
 #[derive(Clone, Copy)]
 pub enum Kind {
     /// A list of its elements.
     List,
-    /// A map of its keys and values, fed in turn.
+    /// A map of its keys and values, in alternation.
     Map,
-    /// The variant of this index whose payload is the list of its fields.
+    /// The variant with this index whose payload is the list of its fields.
     Variant(u32),
-    /// The variant of this index whose payload is its one value.
+    /// The variant with this index whose payload is its one value.
     NewtypeVariant(u32),
-    /// One value, that stands for itself.
+    /// The one value itself.
     Single,
 }

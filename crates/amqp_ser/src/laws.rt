@@ -1,7 +1,7 @@
 //! Laws of the definitions.
 //!
-//! A law is a function that does nothing: its clause is the law. A caller's proof learns it by a
-//! call.
+//! A law is a function without effect: its `ensures` clause states the law. A proof uses a law by
+//! calling the function.
 
 pub mod trees_of_carried_types;
 
@@ -16,39 +16,39 @@ ghost use Rattle.amqp_ser.specs.Scalars.{scalar_code, scalar_payload};
 ghost use Rattle.amqp_ser.specs.Tree.{Scalar, Tree, scalar, transparent, trees_of, is_transparent};
 ghost use Rattle.amqp_ser.specs.Writable.{writable};
 
-/// The length of a tree that can be written is a number of 64 bits.
+/// The encoding of a writable tree in range is shorter than 2^64 bytes.
 pub fn written_lengths_fit()
     ensures { (t : Tree) → IsRanged t → writable t ≡ true → length (encoding t) < 2 ^ 64 }
 {}
 
-/// A tree that can be an array's element is written as there, after its constructor, unless it has
-/// a shorter form.
+/// The encoding of a tree that can be an element of an array is its constructor and payload in an
+/// array, or is shorter than these.
 pub fn forms_are_those_of_arrays_or_shorter()
     ensures { (t : Tree) (c : ℕ) → constructor t ≡ Some c → IsForm c (payload t) (encoding t) }
 {}
 
-/// A scalar that has one form alone is written as in an array, after its constructor.
+/// The encoding of a scalar with only one form is its constructor and payload in an array.
 pub fn one_form_is_that_of_arrays()
     ensures { (s : Scalar) → has_one_form s ≡ true →
         encoding (scalar s) ≡ scalar_code s ∷ scalar_payload s }
 {}
 
-/// A tree that can be written and is not transparent is written as one encoded value.
+/// The encoding of a writable tree in range that is not transparent is one encoded value.
 pub fn one_encoded_value()
     ensures { (t : Tree) → IsRanged t → writable t ≡ true →
         is_transparent t ≡ false → IsFrame (encoding t) }
 {}
 
-/// Trees that are written one after another, none of them transparent, are cut back into their
-/// encoded values.
+/// The concatenated encodings of writable trees in range, none of them transparent, are split into
+/// the encodings of the trees.
 pub fn written_values_are_cut_back()
     ensures { (ts : List Tree) → AllByRecursion (λ t.
         IsRanged t × (writable t ≡ true) × (is_transparent t ≡ false)) ts →
         IsCut (concat (map encoding ts)) (map encoding ts) [] }
 {}
 
-/// What is written of a transparent tree is cut back into the encoded values of its elements, where
-/// none of these is transparent.
+/// The encoding of a writable transparent tree in range is split into the encodings of its elements
+/// if none of them is transparent.
 pub fn transparent_elements_are_cut_back()
     ensures { (ts : List Tree) → IsRanged (transparent (trees_of ts)) →
         writable (transparent (trees_of ts)) ≡ true →
@@ -56,7 +56,8 @@ pub fn transparent_elements_are_cut_back()
         IsCut (encoding (transparent (trees_of ts))) (map encoding ts) [] }
 {}
 
-/// What is written of any tree is encoded values one after another, and nothing more.
+/// The encoding of a writable tree in range is a sequence of encoded values without remaining
+/// bytes.
 pub fn encoded_values_alone()
     ensures { (t : Tree) → IsRanged t → writable t ≡ true →
         (values : List (List ℕ)) × IsCut (encoding t) values [] }

@@ -1,9 +1,9 @@
-//! What can be serialized, and into what.
+//! Serialization of values through their data trees.
 //!
-//! `Serialize` gives a value's data tree to any `Serializer`; a serializer answers on a tree with
-//! its length, its bytes or an untyped value. The one law: a type's answer is the serializer's
-//! answer on the type's tree. This crate has the traits, the compounds and the trees of Rust's own
-//! types; it writes no byte.
+//! A type that implements `Serialize` declares the data tree of its values. A `Serializer` turns a
+//! data tree into its length, its bytes or an untyped value. There is one law: the result of
+//! serializing a value is the serializer's result for the tree of the value. This crate defines the
+//! traits, the compounds and the trees of Rust's own types. It does not write bytes.
 #![tactic(auto)]
 
 mod composite;
@@ -34,17 +34,17 @@ pub use serialize::Serialize;
 pub use serializer::Serializer;
 pub use struct_form::StructForm;
 
-/// The fields of a struct, in order: `fields! { "name": value, "other"?: option, .. }`.
+/// Builds the fields of a struct, in order: `fields! { "name": value, "other"?: option, .. }`.
 ///
-/// A name is a literal, or an expression in parentheses whose value is a `&str`. A value is what
-/// its name means, or a reference to it. The value after `?:` is a reference to an `Option`, and
-/// the field is left out where it is `None`: in a map always, and in a list where no later field is
-/// there. Wrapped in [`ListOf`], [`MapOf`], [`SymbolMapOf`] or [`VariantOf`] the fields serialize
-/// as the list of them, as the map from their names, or as a variant.
+/// A name is a literal, or an expression in parentheses whose value is a `&str`. After `:`, the
+/// value is the field or a reference to it. After `?:`, the value is a reference to an `Option`. A
+/// field that is `None` is absent: a map omits it, and a list omits it if no later field is
+/// present. To serialize the fields as a list, a map from their names or a variant, wrap them in
+/// [`ListOf`], [`MapOf`], [`SymbolMapOf`] or [`VariantOf`].
 ///
 /// # Example
-/// `ListOf(fields! { "x": 1u8, "y"?: &None::<bool> })` is `c003015001`, and `MapOf` of the same
-/// `c10602a101785001`.
+/// `ListOf(fields! { "x": 1u8, "y"?: &None::<bool> })` is `c003015001`. `MapOf` of the same fields
+/// is `c10602a101785001`.
 #[macro_export]
 macro_rules! fields {
     () => { () };

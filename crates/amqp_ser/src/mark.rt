@@ -1,11 +1,11 @@
-//! The marks that names of newtypes stand for.
+//! The markers that names of newtypes denote.
 
 ghost use Rattle.std.specs.Prelude.{◌≡◌};
 ghost use Rattle.amqp_ser.specs.Marked.{mark_of};
 
 use amqp_data::markers;
 
-/// What the name of a newtype makes of the tree inside it.
+/// A marker: determines the tree of a newtype from the tree of its inner value.
 ///
 /// # Example
 /// The string `amqp` is `a304616d7170` under `Mark::Symbol`. The list of `true` and `false` is
@@ -30,17 +30,17 @@ pub enum Mark {
     Transparent,
     /// A binary that is one encoded value becomes that value.
     Lazy,
-    /// Any other name: the tree stays as it is.
+    /// Any other name: the tree is unchanged.
     Other,
 }
 
-/// The mark that a newtype's name stands for: the one place where marker names are compared.
+/// Returns the marker that the name of a newtype denotes, or `Mark::Other` if it denotes none.
 ///
 /// # Memory
-/// Takes none.
+/// None.
 ///
 /// # Example
-/// `SYMBOL` and `SYMBOL_REF` stand for `Mark::Symbol`, `Celsius` for `Mark::Other`.
+/// `Mark::Symbol` for `SYMBOL` and `SYMBOL_REF`, `Mark::Other` for `Celsius`.
 pub fn mark_named(name: &str) -> Mark
     ensures { result ≡ mark_of name.now }
 {

@@ -1,4 +1,4 @@
-//! The names of structs, fields and enums that ask for a form or a descriptor.
+//! The names of structs, fields and enums that select a form or a descriptor.
 
 ghost use Rattle.std.specs.Prelude.{◌≡◌};
 ghost use Rattle.amqp_ser.specs.Marked.{is_descriptor_name, is_value_name};
@@ -6,13 +6,13 @@ ghost use Rattle.amqp_ser.specs.Structs.{is_basic_name, is_tagged};
 
 use amqp_data::markers;
 
-/// Whether a tuple struct of this name has one field alone after its descriptor.
+/// Returns whether a tuple struct with this name has exactly one field after its descriptor.
 ///
 /// # Memory
-/// Takes none.
+/// None.
 ///
 /// # Example
-/// True of `DESCRIBED_BASIC` alone.
+/// `true` only for `DESCRIBED_BASIC`.
 #[inline(always)]
 pub fn is_basic_name(name: &str) -> bool
     ensures { result ≡ is_basic_name name.now }
@@ -20,40 +20,41 @@ pub fn is_basic_name(name: &str) -> bool
     name.len() == markers::DESCRIBED_BASIC.len() && name == markers::DESCRIBED_BASIC
 }
 
-/// Whether the first field of a tuple struct of this name is its descriptor.
+/// Returns whether the first field of a tuple struct with this name is its descriptor.
 ///
 /// # Memory
-/// Takes none.
+/// None.
 ///
 /// # Example
-/// True of `DESCRIBED_BASIC` and `DESCRIBED_LIST` alone.
+/// `true` only for `DESCRIBED_BASIC` and `DESCRIBED_LIST`.
 pub fn is_tagged(name: &str) -> bool
     ensures { result ≡ is_tagged name.now }
 {
     is_basic_name(name) || name == markers::DESCRIBED_LIST
 }
 
-/// Whether the newtype variants of an enum of this name are written bare.
+/// Returns whether a newtype variant of an enum with this name is written as its value, without the
+/// index.
 ///
 /// # Memory
-/// Takes none.
+/// None.
 ///
 /// # Example
-/// True of `VALUE` alone.
+/// `true` only for `VALUE`.
 pub fn is_value_name(name: &str) -> bool
     ensures { result ≡ is_value_name name.now }
 {
     name == markers::VALUE
 }
 
-/// Whether a field of this key is its struct's descriptor, or an enum of this name has no variant
-/// with a value.
+/// Returns whether a field with this key is the descriptor of its struct. A newtype variant of an
+/// enum with this name is a misuse.
 ///
 /// # Memory
-/// Takes none.
+/// None.
 ///
 /// # Example
-/// True of `DESCRIPTOR` alone.
+/// `true` only for `DESCRIPTOR`.
 #[inline(always)]
 pub fn is_descriptor_name(key: &str) -> bool
     ensures { result ≡ is_descriptor_name key.now }

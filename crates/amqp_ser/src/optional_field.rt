@@ -1,5 +1,5 @@
-//! A field that may be absent: a list is cut after the last that is there, and a map has no pair for
-//! one that is not.
+//! Optional fields. A list ends after its last present field, and a map has no entry for an absent
+//! field.
 
 ghost use Rattle.std.specs.Prelude.{◌∷◌, is_some};
 ghost use Rattle.amqp_ser.specs.Carried.{optional};
@@ -9,18 +9,18 @@ use crate::fields::{Fields, Keys, feed_key, feed_value};
 use crate::serialize::Serialize;
 use crate::serializer::Serializer;
 
-/// A field that may be absent, and those after it.
+/// An optional field and the fields after it.
 ///
 /// # Example
-/// In `fields! { "x"?: &x, "y": true }` an `x` that is `None` is `40` in a list and nothing in a
-/// map; `Some(1u8)` is `5001` and, in a map from strings, `a101785001`.
+/// In `fields! { "x"?: &x, "y": true }`, an `x` that is `None` is `40` in a list and is omitted in
+/// a map. `Some(1u8)` is `5001` in a list and `a101785001` in a map with string keys.
 #[derive(Drop)]
 pub struct OptionalField<'a, V, R> {
     /// The field's name.
     pub name: &'a str,
-    /// The field.
+    /// The value of the field; `None` if the field is absent.
     pub value: &'a Option<V>,
-    /// The fields after it; `()` for none.
+    /// The fields after this one; `()` if there are none.
     pub rest: R,
 }
 

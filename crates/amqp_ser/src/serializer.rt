@@ -1,4 +1,4 @@
-//! The law of a serializer, and the methods by which values are handed to it.
+//! The serializer trait: its laws, its required methods, and the methods that values call.
 
 ghost use Rattle.std.specs.Prelude.{◌≡◌, ◌++◌, ◌∷◌, [], List, Option, Some, None, Result, Ok, Err, MatchResult, IfOk, IfErr, IsOk, IsErr, not, true, false};
 ghost use Rattle.amqp_ser.specs.Tree.{Tree, Scalar, scalar, null, bool, ubyte, ushort, uint, ulong, byte, short, int, long, float, double, char, string, binary};
@@ -25,68 +25,70 @@ use crate::serialize::Serialize;
 use crate::struct_form::struct_form;
 use amqp_data::{F32Bits, F64Bits};
 
-/// Turns data trees into answers of one kind, as their length, their bytes or an untyped value.
+/// A serializer: turns a data tree into a result, such as its length, its bytes or an untyped
+/// value.
 ///
-/// An author writes the fourteen required methods; the methods that values call, named as serde
-/// names them, stand on these and are the same for every serializer.
+/// An implementation defines the fourteen required methods. The methods that values call have the
+/// names of serde, are built on the required methods, and are the same for every serializer.
 ///
 /// # Errors
-/// Which refusals come is the serializer's to say, by `permits`; where there is no tree it always
-/// refuses. Those of this repository refuse as `InvalidValue` where there is no tree, and as
-/// `OutOfMemory` where memory for the answer is refused. Those that measure or write refuse as
-/// `TooLong` past a limit too, and as `InvalidValue` where a tree cannot be written, as an array of
-/// two kinds.
+/// `permits` determines the errors of a serializer. If there is no tree, the result is always an
+/// error. The serializers of this repository return `InvalidValue` if there is no tree and no other
+/// error occurs first, and `OutOfMemory` if an allocation for the result fails. Those that measure
+/// or write also return `TooLong` if a limit is exceeded, and `InvalidValue` if the tree cannot be
+/// written, such as an array with elements of two types.
 ///
 /// # Implementer notes
-/// `permits before tree answer after` says which answers are permitted on a tree, or on none, and
-/// what they leave of the serializer: fresh after each call, refused ones too. `has start kind now
-/// open parts` says that a compound which `start` opened may have been fed these parts; `awaits`
-/// says the same of a serializer that is ready for the next part. Three laws tie them to the parts:
-/// none at opening and one more after each that was taken; a refused part leaves the compound as it
-/// was, and its refusal is permitted on every continuation; at the end what is answered is
-/// permitted on the tree that the kind makes of the parts.
+/// `permits before tree result after` states which results are permitted for a tree, or for none,
+/// and the state of the serializer afterwards. After each call, also a failed one, the serializer
+/// must be ready for another value. `has start kind now open parts` states that the compound
+/// `open`, which was opened in the state `start`, may have accepted these parts. `awaits` states
+/// the same of a serializer that is ready for the next part. Three laws relate `has` and `awaits`
+/// to the parts. A compound is opened without parts, and each accepted part is appended. If a part
+/// fails, the compound is unchanged and the error is permitted for every continuation. When the
+/// compound ends, the result is permitted for the tree that the kind makes of the parts.
 ///
 /// # Example
-/// On the list of the strings `a` and `bc` the answer is the length 10, the bytes
+/// For the list of the strings `a` and `bc` the result is the length 10, the bytes
 /// `c00802a10161a1026263`, or an untyped list of two strings.
 pub trait Serializer {
     ghost use Rattle.amqp_ser.specs.declared.kind.Kind.{Kind};
 
-    /// What is answered on a tree.
+    /// The output of a successful serialization.
     type Ok: Drop;
-    /// What is answered in its place.
+    /// The error of a failed serialization.
     type Error: Drop;
-    /// A compound whose parts are still fed.
+    /// A compound that is being serialized.
     type Open: Drop;
 
-    /// What may be answered on a tree, or on none, and what that leaves of the serializer.
+    /// The permitted results for a tree, or for none, and the state of the serializer after each.
     ghost permits: { Self → Option Tree → Result Self.Ok Self.Error → Self → Type 0 };
 
-    /// A compound, opened by the first serializer, may have been fed these parts.
+    /// A compound that was opened in the first state may have accepted these parts.
     ghost has: { Self → Kind → Self → Self.Open → List (Option Tree) → Type 0 };
 
-    /// The same, and the serializer is ready for the next part.
+    /// Like `has`, for a serializer that is ready for the next part.
     ghost awaits: { Self → Kind → Self → Self.Open → List (Option Tree) → Type 0 };
 
-    /// A single compound, opened by the first serializer, is ready for the descriptor of its one
+    /// A single compound that was opened in the first state is ready for the descriptor of its one
     /// value.
     ghost awaits_descriptor: { Self → Self → Self.Open → Type 0 };
 
-    /// The refusal of a misuse, as of a value without a key.
+    /// The error of a misuse, such as a value without a key.
     ghost is_misuse: { Self.Error → Type 0 };
 
-    /// Where there is no tree there is no answer but a refusal.
+    /// If there is no tree, the result is an error.
     ghost refuses_none: { (before : Self) (answer : Self.Ok) (after : Self) →
         permits before None (Ok answer) after → ⊥ };
 
     /// Serializes null or a scalar of fixed width.
     ///
     /// # Encoding
-    /// That of its kind (AMQP 1.0 part 1, sections 1.6.1 to 1.6.12 and 1.6.16).
+    /// The encoding of its type (AMQP 1.0 part 1, sections 1.6.1 to 1.6.12 and 1.6.16).
     ///
     /// # Errors
-    /// The serializer's refusal of it where it stands: as `InvalidValue` under a mark that does not
-    /// take it, or among an array's elements of another kind.
+    /// Returns the serializer's error, such as `InvalidValue` if the pending marker does not accept
+    /// this type or if the elements of the enclosing array have another type.
     ///
     /// # Example
     /// `Fixed::Bool(true)` is `41`, `Fixed::Null` is `40`.
@@ -99,8 +101,8 @@ pub trait Serializer {
     /// `40` (AMQP 1.0 part 1, section 1.6.1).
     ///
     /// # Errors
-    /// The serializer's refusal of it where it stands: as `InvalidValue` under a mark that does not
-    /// take it, or among an array's elements of another kind.
+    /// Returns the serializer's error, such as `InvalidValue` if the pending marker does not accept
+    /// this type or if the elements of the enclosing array have another type.
     ///
     /// # Example
     /// Null is `40`.
@@ -110,34 +112,34 @@ pub trait Serializer {
     /// Serializes a string.
     ///
     /// # Encoding
-    /// `a1` and a length of one byte up to 254 bytes, else `b1` and four; in an array always `b1`
-    /// (AMQP 1.0 part 1, section 1.6.20).
+    /// `a1` and a length of one byte up to 254 bytes, otherwise `b1` and a length of four bytes; in
+    /// an array always `b1` (AMQP 1.0 part 1, section 1.6.20).
     ///
     /// # Errors
-    /// The serializer's refusal of it where it stands: as `TooLong` past 4,294,967,291 bytes,
-    /// `InvalidValue` under a mark that does not take it, or `OutOfMemory`.
+    /// Returns the serializer's error, such as `TooLong` for more than 4,294,967,291 bytes,
+    /// `InvalidValue` if the pending marker does not accept this type, or `OutOfMemory`.
     ///
     /// # Example
-    /// `a` is `a10161`; as an array's element its payload is `0000000161`.
+    /// `a` is `a10161`; as an element of an array its payload is `0000000161`.
     fn serialize_str(&mut self, v: &str) -> Result<Self::Ok, Self::Error>
         ensures { permits self.old (Some (scalar (string v.now))) result self.new };
 
     /// Serializes a binary.
     ///
     /// # Encoding
-    /// `a0` and a length of one byte up to 254 bytes, else `b0` and four; in an array always `b0`
-    /// (AMQP 1.0 part 1, section 1.6.19).
+    /// `a0` and a length of one byte up to 254 bytes, otherwise `b0` and a length of four bytes; in
+    /// an array always `b0` (AMQP 1.0 part 1, section 1.6.19).
     ///
     /// # Errors
-    /// The serializer's refusal of it where it stands: as `TooLong` past 4,294,967,291 bytes,
-    /// `InvalidValue` under a mark that does not take it, or `OutOfMemory`.
+    /// Returns the serializer's error, such as `TooLong` for more than 4,294,967,291 bytes,
+    /// `InvalidValue` if the pending marker does not accept this type, or `OutOfMemory`.
     ///
     /// # Example
     /// The bytes 01, 02 are `a0020102`.
     fn serialize_bytes(&mut self, v: &[u8]) -> Result<Self::Ok, Self::Error>
         ensures { permits self.old (Some (scalar (binary v.now))) result self.new };
 
-    /// Makes ready for a tree that stands for the marked one.
+    /// Sets the marker that is applied to the next tree.
     ///
     /// # Example
     /// `Mark::Symbol` before the string `amqp`: `a304616d7170`.
@@ -145,22 +147,21 @@ pub trait Serializer {
         ensures { (t : Option Tree) (r : Result Self.Ok Self.Error) (after : Self) →
             permits self.new t r after → permits self.old (marked mark t) r after };
 
-    /// Opens a compound.
+    /// Opens a compound without parts.
     ///
     /// # Example
-    /// `Kind::List`, ended with no part, is `45`.
+    /// `Kind::List`, ended without elements, is `45`.
     fn begin(&mut self, kind: Kind) -> Self::Open
         ensures { has self.old kind self.new result [] };
 
-    /// A compound that was never opened, which stands where one was moved out.
+    /// Returns a placeholder for a compound that has been moved out. It was never opened.
     fn vacant(&self) -> Self::Open;
 
-    /// Makes ready for the next part. The first of a single compound stands where the compound was
-    /// opened: any call may come there.
+    /// Prepares the serializer for the next part of a compound. The first part of a single compound
+    /// has the position of the compound itself, so that any method may follow.
     ///
     /// # Example
-    /// Before a list's next element, the string `a`: once `end_part` has taken it, `a10161` is
-    /// added.
+    /// Before the next element of a list, the string `a`: `end_part` then appends `a10161`.
     fn begin_part(&mut self, held: &mut Self::Open)
         ensures ready { (start : Self) (kind : Kind) (ps : List (Option Tree)) →
             has start kind self.old held.old ps → awaits start kind self.new held.new ps }
@@ -168,14 +169,15 @@ pub trait Serializer {
             (t : Option Tree) (r : Result Self.Ok Self.Error) (after : Self) →
             permits self.new t r after → permits start t r after };
 
-    /// Takes the answer on a part: the compound has it, or is as it was. A refused part is never
-    /// taken.
+    /// Accepts the result of serializing a part: appends the part, or leaves the compound
+    /// unchanged. A part that failed is never accepted.
     ///
     /// # Errors
-    /// The part's refusal, or the serializer's of the part after those before it.
+    /// Returns the error of the part, or the serializer's error for the part after the preceding
+    /// ones.
     ///
     /// # Example
-    /// The answer on `true` adds `41`; a refusal adds nothing.
+    /// The result for `true` appends `41`; an error appends nothing.
     fn end_part(
         &mut self,
         held: &mut Self::Open,
@@ -190,10 +192,10 @@ pub trait Serializer {
             permits start (whole kind (ps ++ (p ∷ rest))) (Err e) self.new)) }
         ensures refused { IfErr part (λ _. IsErr result) };
 
-    /// Takes the last part back: a key whose value was refused.
+    /// Removes the last part: a key whose value failed.
     ///
     /// # Example
-    /// After the key 1, a ubyte, `5001` is taken back: a map of nothing else is `c10100`.
+    /// Removes the key 1, a ubyte, `5001`. If the map has no other parts, it is `c10100`.
     fn undo_part(&mut self, held: &mut Self::Open)
         ensures back { (start : Self) (ps : List (Option Tree)) (p : Option Tree) →
             has start Kind.Map self.old held.old (ps ++ (p ∷ [])) → paired ps ≡ true →
@@ -203,34 +205,36 @@ pub trait Serializer {
             has start Kind.Map self.old held.old (ps ++ (p ∷ [])) → paired ps ≡ true →
             permits start t (Err e) self.old → permits start t (Err e) self.new };
 
-    /// The refusal of parts that make no tree; the compound is as it was.
+    /// Returns the misuse error, for parts that make no tree. The compound is unchanged.
     ///
     /// # Example
-    /// An empty map refuses a value without a key by it, as `InvalidValue`; ended then: `c10100`.
+    /// A value without a key in an empty map returns `InvalidValue`. If the map ends then, it is
+    /// `c10100`.
     fn misuse(&mut self, held: &mut Self::Open) -> Self::Error
         ensures kept { (start : Self) (kind : Kind) (ps : List (Option Tree)) →
             has start kind self.old held.old ps →
             has start kind self.new held.new ps × permits start None (Err result) self.new }
         ensures invalid { is_misuse result };
 
-    /// Makes ready for a descriptor, before the one value of a single compound.
+    /// Prepares the serializer for a descriptor, before the one value of a single compound.
     ///
     /// # Example
-    /// Before the ulong 1 as the descriptor of `true`, in all `00530141`.
+    /// Before the ulong 1 as the descriptor of `true`: together they are `00530141`.
     fn begin_descriptor(&mut self, held: &mut Self::Open)
         ensures { (start : Self) → has start Kind.Single self.old held.old [] →
             awaits_descriptor start self.new held.new };
 
-    /// Takes the answer on a descriptor: the value to come is described by it, or the compound is
-    /// as it was. A refused one is never taken, nor one that is no ulong and no symbol.
+    /// Accepts the result of serializing a descriptor: it then describes the value that follows, or
+    /// the compound is unchanged. A descriptor that failed is never accepted, nor one that is
+    /// neither a ulong nor a symbol.
     ///
     /// # Errors
-    /// The descriptor's refusal, or the serializer's of it: always where it is no ulong and no
-    /// symbol.
+    /// Returns the error of the descriptor, or the serializer's error for it. Always returns an
+    /// error if the descriptor is neither a ulong nor a symbol.
     ///
     /// # Example
-    /// The ulong 1 puts `005301` before the value, the symbol `a:b` `00a303613a62`. The ubyte 1 is
-    /// refused.
+    /// The ulong 1 is `005301` before the value, the symbol `a:b` is `00a303613a62`. The ubyte 1 is
+    /// rejected.
     fn end_descriptor(
         &mut self,
         held: &mut Self::Open,
@@ -253,7 +257,8 @@ pub trait Serializer {
     /// Ends the compound.
     ///
     /// # Errors
-    /// The serializer's refusal of the tree of the parts: always where there is none.
+    /// Returns the serializer's error for the tree of the parts. Always returns an error if a part
+    /// of a complete compound has no tree.
     ///
     /// # Example
     /// The list of the strings `a` and `bc` is `c00802a10161a1026263`.
@@ -262,7 +267,7 @@ pub trait Serializer {
             has start kind self.old held ps →
             complete kind ps ≡ true → permits start (whole kind ps) result self.new };
 
-    /// Whether values take a form for people to read: never.
+    /// Returns `false`: values are never serialized in a human-readable form.
     ///
     /// # Example
     /// A `Uuid` is `98` and its 16 bytes, never its text.
@@ -273,14 +278,15 @@ pub trait Serializer {
         false
     }
 
-    /// Serializes a `bool`, a boolean.
+    /// Serializes a `bool` as a boolean.
     ///
     /// # Encoding
-    /// `41` true, `42` false; in an array `56`, then `01` or `00` (AMQP 1.0 part 1, section 1.6.2).
+    /// `41` for true, `42` for false; in an array `56`, then `01` or `00` (AMQP 1.0 part 1, section
+    /// 1.6.2).
     ///
     /// # Errors
-    /// The serializer's refusal of it where it stands: as `InvalidValue` under a mark that does not
-    /// take it, or among an array's elements of another kind.
+    /// Returns the serializer's error, such as `InvalidValue` if the pending marker does not accept
+    /// this type or if the elements of the enclosing array have another type.
     ///
     /// # Example
     /// `true` is `41`.
@@ -291,14 +297,14 @@ pub trait Serializer {
         self.serialize_fixed(Fixed::Bool(v))
     }
 
-    /// Serializes an `i8`, a byte.
+    /// Serializes an `i8` as a byte.
     ///
     /// # Encoding
     /// `51` and one byte (AMQP 1.0 part 1, section 1.6.7).
     ///
     /// # Errors
-    /// The serializer's refusal of it where it stands: as `InvalidValue` under a mark that does not
-    /// take it, or among an array's elements of another kind.
+    /// Returns the serializer's error, such as `InvalidValue` if the pending marker does not accept
+    /// this type or if the elements of the enclosing array have another type.
     ///
     /// # Example
     /// -1 is `51ff`.
@@ -309,14 +315,14 @@ pub trait Serializer {
         self.serialize_fixed(Fixed::Byte(v))
     }
 
-    /// Serializes an `i16`, a short.
+    /// Serializes an `i16` as a short.
     ///
     /// # Encoding
     /// `61` and two bytes (AMQP 1.0 part 1, section 1.6.8).
     ///
     /// # Errors
-    /// The serializer's refusal of it where it stands: as `InvalidValue` under a mark that does not
-    /// take it, or among an array's elements of another kind.
+    /// Returns the serializer's error, such as `InvalidValue` if the pending marker does not accept
+    /// this type or if the elements of the enclosing array have another type.
     ///
     /// # Example
     /// -2 is `61fffe`.
@@ -327,15 +333,15 @@ pub trait Serializer {
         self.serialize_fixed(Fixed::Short(v))
     }
 
-    /// Serializes an `i32`, an int.
+    /// Serializes an `i32` as an int.
     ///
     /// # Encoding
-    /// `54` and one byte from -128 to 127, else `71` and four; in an array always `71` (AMQP 1.0
-    /// part 1, section 1.6.9).
+    /// `54` and one byte from -128 to 127, otherwise `71` and four bytes; in an array always `71`
+    /// (AMQP 1.0 part 1, section 1.6.9).
     ///
     /// # Errors
-    /// The serializer's refusal of it where it stands: as `InvalidValue` under a mark that does not
-    /// take it, or among an array's elements of another kind.
+    /// Returns the serializer's error, such as `InvalidValue` if the pending marker does not accept
+    /// this type or if the elements of the enclosing array have another type.
     ///
     /// # Example
     /// 1 is `5401`, 128 is `7100000080`.
@@ -346,15 +352,15 @@ pub trait Serializer {
         self.serialize_fixed(Fixed::Int(v))
     }
 
-    /// Serializes an `i64`, a long.
+    /// Serializes an `i64` as a long.
     ///
     /// # Encoding
-    /// `55` and one byte from -128 to 127, else `81` and eight; in an array always `81` (AMQP 1.0
-    /// part 1, section 1.6.10).
+    /// `55` and one byte from -128 to 127, otherwise `81` and eight bytes; in an array always `81`
+    /// (AMQP 1.0 part 1, section 1.6.10).
     ///
     /// # Errors
-    /// The serializer's refusal of it where it stands: as `InvalidValue` under a mark that does not
-    /// take it, or among an array's elements of another kind.
+    /// Returns the serializer's error, such as `InvalidValue` if the pending marker does not accept
+    /// this type or if the elements of the enclosing array have another type.
     ///
     /// # Example
     /// -1 is `55ff`, 128 is `810000000000000080`.
@@ -365,14 +371,14 @@ pub trait Serializer {
         self.serialize_fixed(Fixed::Long(v))
     }
 
-    /// Serializes a `u8`, a ubyte.
+    /// Serializes a `u8` as a ubyte.
     ///
     /// # Encoding
     /// `50` and one byte (AMQP 1.0 part 1, section 1.6.3).
     ///
     /// # Errors
-    /// The serializer's refusal of it where it stands: as `InvalidValue` under a mark that does not
-    /// take it, or among an array's elements of another kind.
+    /// Returns the serializer's error, such as `InvalidValue` if the pending marker does not accept
+    /// this type or if the elements of the enclosing array have another type.
     ///
     /// # Example
     /// 5 is `5005`.
@@ -383,14 +389,14 @@ pub trait Serializer {
         self.serialize_fixed(Fixed::Ubyte(v))
     }
 
-    /// Serializes a `u16`, a ushort.
+    /// Serializes a `u16` as a ushort.
     ///
     /// # Encoding
     /// `60` and two bytes (AMQP 1.0 part 1, section 1.6.4).
     ///
     /// # Errors
-    /// The serializer's refusal of it where it stands: as `InvalidValue` under a mark that does not
-    /// take it, or among an array's elements of another kind.
+    /// Returns the serializer's error, such as `InvalidValue` if the pending marker does not accept
+    /// this type or if the elements of the enclosing array have another type.
     ///
     /// # Example
     /// 256 is `600100`.
@@ -401,15 +407,15 @@ pub trait Serializer {
         self.serialize_fixed(Fixed::Ushort(v))
     }
 
-    /// Serializes a `u32`, a uint.
+    /// Serializes a `u32` as a uint.
     ///
     /// # Encoding
-    /// `43` for 0, `52` and one byte up to 255, else `70` and four; in an array always `70` (AMQP
-    /// 1.0 part 1, section 1.6.5).
+    /// `43` for 0, `52` and one byte up to 255, otherwise `70` and four bytes; in an array always
+    /// `70` (AMQP 1.0 part 1, section 1.6.5).
     ///
     /// # Errors
-    /// The serializer's refusal of it where it stands: as `InvalidValue` under a mark that does not
-    /// take it, or among an array's elements of another kind.
+    /// Returns the serializer's error, such as `InvalidValue` if the pending marker does not accept
+    /// this type or if the elements of the enclosing array have another type.
     ///
     /// # Example
     /// 0 is `43`, 1 is `5201`, 256 is `7000000100`.
@@ -420,15 +426,15 @@ pub trait Serializer {
         self.serialize_fixed(Fixed::Uint(v))
     }
 
-    /// Serializes a `u64`, a ulong.
+    /// Serializes a `u64` as a ulong.
     ///
     /// # Encoding
-    /// `44` for 0, `53` and one byte up to 255, else `80` and eight; in an array always `80` (AMQP
-    /// 1.0 part 1, section 1.6.6).
+    /// `44` for 0, `53` and one byte up to 255, otherwise `80` and eight bytes; in an array always
+    /// `80` (AMQP 1.0 part 1, section 1.6.6).
     ///
     /// # Errors
-    /// The serializer's refusal of it where it stands: as `InvalidValue` under a mark that does not
-    /// take it, or among an array's elements of another kind.
+    /// Returns the serializer's error, such as `InvalidValue` if the pending marker does not accept
+    /// this type or if the elements of the enclosing array have another type.
     ///
     /// # Example
     /// 0 is `44`, 13 is `530d`, 256 is `800000000000000100`.
@@ -439,14 +445,14 @@ pub trait Serializer {
         self.serialize_fixed(Fixed::Ulong(v))
     }
 
-    /// Serializes an `f32`, a float, by its bits.
+    /// Serializes the bits of an `f32` as a float.
     ///
     /// # Encoding
     /// `72` and four bytes (AMQP 1.0 part 1, section 1.6.11).
     ///
     /// # Errors
-    /// The serializer's refusal of it where it stands: as `InvalidValue` under a mark that does not
-    /// take it, or among an array's elements of another kind.
+    /// Returns the serializer's error, such as `InvalidValue` if the pending marker does not accept
+    /// this type or if the elements of the enclosing array have another type.
     ///
     /// # Example
     /// The bits 3FC00000, which are 1.5, are `723fc00000`.
@@ -457,14 +463,14 @@ pub trait Serializer {
         self.serialize_fixed(Fixed::Float(v.into_inner()))
     }
 
-    /// Serializes an `f64`, a double, by its bits.
+    /// Serializes the bits of an `f64` as a double.
     ///
     /// # Encoding
     /// `82` and eight bytes (AMQP 1.0 part 1, section 1.6.12).
     ///
     /// # Errors
-    /// The serializer's refusal of it where it stands: as `InvalidValue` under a mark that does not
-    /// take it, or among an array's elements of another kind.
+    /// Returns the serializer's error, such as `InvalidValue` if the pending marker does not accept
+    /// this type or if the elements of the enclosing array have another type.
     ///
     /// # Example
     /// The bits 3FF8000000000000, which are 1.5, are `823ff8000000000000`.
@@ -478,11 +484,11 @@ pub trait Serializer {
     /// Serializes a `char`.
     ///
     /// # Encoding
-    /// `73` and its number in four bytes (AMQP 1.0 part 1, section 1.6.16).
+    /// `73` and the Unicode scalar value in four bytes (AMQP 1.0 part 1, section 1.6.16).
     ///
     /// # Errors
-    /// The serializer's refusal of it where it stands: as `InvalidValue` under a mark that does not
-    /// take it, or among an array's elements of another kind.
+    /// Returns the serializer's error, such as `InvalidValue` if the pending marker does not accept
+    /// this type or if the elements of the enclosing array have another type.
     ///
     /// # Example
     /// `a` is `7300000061`.
@@ -493,14 +499,14 @@ pub trait Serializer {
         self.serialize_fixed(Fixed::Char(v))
     }
 
-    /// Serializes `None`, as null.
+    /// Serializes `None` as null.
     ///
     /// # Encoding
     /// `40` (AMQP 1.0 part 1, section 1.6.1).
     ///
     /// # Errors
-    /// The serializer's refusal of it where it stands: as `InvalidValue` under a mark that does not
-    /// take it, or among an array's elements of another kind.
+    /// Returns the serializer's error, such as `InvalidValue` if the pending marker does not accept
+    /// this type or if the elements of the enclosing array have another type.
     ///
     /// # Example
     /// `None` is `40`.
@@ -511,14 +517,14 @@ pub trait Serializer {
         self.serialize_null()
     }
 
-    /// Serializes `()`, as null.
+    /// Serializes `()` as null.
     ///
     /// # Encoding
     /// `40` (AMQP 1.0 part 1, section 1.6.1).
     ///
     /// # Errors
-    /// The serializer's refusal of it where it stands: as `InvalidValue` under a mark that does not
-    /// take it, or among an array's elements of another kind.
+    /// Returns the serializer's error, such as `InvalidValue` if the pending marker does not accept
+    /// this type or if the elements of the enclosing array have another type.
     ///
     /// # Example
     /// `()` is `40`.
@@ -529,17 +535,17 @@ pub trait Serializer {
         self.serialize_null()
     }
 
-    /// Serializes a struct without fields, as null.
+    /// Serializes a unit struct as null.
     ///
     /// # Encoding
     /// `40` (AMQP 1.0 part 1, section 1.6.1).
     ///
     /// # Errors
-    /// The serializer's refusal of it where it stands: as `InvalidValue` under a mark that does not
-    /// take it, or among an array's elements of another kind.
+    /// Returns the serializer's error, such as `InvalidValue` if the pending marker does not accept
+    /// this type or if the elements of the enclosing array have another type.
     ///
     /// # Example
-    /// A struct without fields is `40`, whatever its name.
+    /// A unit struct is `40`, whatever its name.
     #[inline(always)]
     final fn serialize_unit_struct(&mut self, _name: &'static str) -> Result<Self::Ok, Self::Error>
         ensures { Self.permits self.old (Some (scalar null)) result self.new }
@@ -547,14 +553,14 @@ pub trait Serializer {
         self.serialize_null()
     }
 
-    /// Serializes a variant without a value, as the uint of its index.
+    /// Serializes a unit variant as its index, a uint.
     ///
     /// # Encoding
-    /// As a `u32` of that number.
+    /// The encoding of the index as a `u32` (AMQP 1.0 part 1, section 1.6.5).
     ///
     /// # Errors
-    /// The serializer's refusal of it where it stands: as `InvalidValue` under a mark that does not
-    /// take it, or among an array's elements of another kind.
+    /// Returns the serializer's error, such as `InvalidValue` if the pending marker does not accept
+    /// this type or if the elements of the enclosing array have another type.
     ///
     /// # Example
     /// The variant 3 is `5203`.
@@ -570,10 +576,11 @@ pub trait Serializer {
         self.serialize_fixed(Fixed::Uint(index))
     }
 
-    /// Serializes the value of a `Some`, as itself.
+    /// Serializes the value of a `Some` as the value itself.
     ///
     /// # Errors
-    /// The serializer's refusal of the value: always where it has no tree.
+    /// Returns the serializer's error for the value. Always returns an error if the value has no
+    /// tree.
     ///
     /// # Example
     /// `Some(true)` is `41`.
@@ -586,15 +593,16 @@ pub trait Serializer {
         v.serialize(self)
     }
 
-    /// Serializes a newtype struct, as its name marks the tree inside it.
+    /// Serializes a newtype struct: applies the marker that its name denotes to the tree of its
+    /// value.
     ///
     /// # Errors
-    /// The serializer's refusal of the marked tree: always where there is none, as under a marker
-    /// over another kind than it takes.
+    /// Returns the serializer's error for the marked tree. Always returns an error if there is no
+    /// marked tree, such as when the marker does not accept the kind of the value.
     ///
     /// # Example
-    /// The string `amqp` is `a304616d7170` under the name `SYMBOL`, and `a104616d7170` under one
-    /// that is no marker.
+    /// The string `amqp` is `a304616d7170` under the name `SYMBOL`, and `a104616d7170` under a name
+    /// that is not a marker.
     #[inline(always)]
     final fn serialize_newtype_struct<T: Serialize>(
         &mut self,
@@ -610,14 +618,14 @@ pub trait Serializer {
         v.serialize(self)
     }
 
-    /// Begins to serialize a sequence, a list. The length is a hint: it is not checked and reserves
-    /// nothing.
+    /// Begins to serialize a sequence as a list. The length is a hint: it is not checked, and no
+    /// memory is reserved for it.
     ///
     /// # Encoding
     /// A list (AMQP 1.0 part 1, section 1.6.22).
     ///
     /// # Errors
-    /// None: opening is never refused.
+    /// Never returns an error.
     ///
     /// # Example
     /// The strings `a` and `bc` are `c00802a10161a1026263`.
@@ -637,13 +645,13 @@ pub trait Serializer {
         Ok(SerializeSeq::new(self, held))
     }
 
-    /// Begins to serialize a tuple, a list of its elements.
+    /// Begins to serialize a tuple as a list of its elements.
     ///
     /// # Encoding
     /// A list (AMQP 1.0 part 1, section 1.6.22).
     ///
     /// # Errors
-    /// None: opening is never refused.
+    /// Never returns an error.
     ///
     /// # Example
     /// The ubyte 1 and `true` are `c00402500141`.
@@ -663,15 +671,15 @@ pub trait Serializer {
         Ok(SerializeSeq::new(self, held))
     }
 
-    /// Begins to serialize a tuple struct: a list of its fields, of which the first is the
-    /// descriptor where the name asks for one.
+    /// Begins to serialize a tuple struct as a list of its fields. The name determines whether the
+    /// first field is the descriptor.
     ///
     /// # Encoding
     /// A list (AMQP 1.0 part 1, section 1.6.22); under the names `DESCRIBED_LIST` and
     /// `DESCRIBED_BASIC` a described value (section 1.2).
     ///
     /// # Errors
-    /// None: opening is never refused.
+    /// Never returns an error.
     ///
     /// # Example
     /// The ubyte 1 and `true` are `c00402500141`. Under the name `DESCRIBED_LIST` the ulong 1 and
@@ -707,20 +715,20 @@ pub trait Serializer {
         Ok(SerializeTupleStruct::new(self, held, single, false))
     }
 
-    /// Begins to serialize a struct: a list of its fields, a map from their names or the one field
-    /// itself, as its name says.
+    /// Begins to serialize a struct. The name determines the form: a list of the fields, a map from
+    /// their names, or the one field itself.
     ///
     /// # Encoding
-    /// A list (AMQP 1.0 part 1, section 1.6.22), under the name `DESCRIBED_MAP` a map (1.6.23) and
-    /// under `DESCRIBED_BASIC` the one value; a first field with the key `DESCRIPTOR` comes before
-    /// it (section 1.2).
+    /// A list (AMQP 1.0 part 1, section 1.6.22); under the name `DESCRIBED_MAP` a map (section
+    /// 1.6.23), and under `DESCRIBED_BASIC` the one value. A first field with the key `DESCRIPTOR`
+    /// is the descriptor before it (section 1.2).
     ///
     /// # Errors
-    /// None: opening is never refused.
+    /// Never returns an error.
     ///
     /// # Example
     /// The fields `x`, the ubyte 1, and `y`, `true`, are `c00402500141`. Under the name
-    /// `DESCRIBED_MAP` the field `x` alone is `c10602a101785001`.
+    /// `DESCRIBED_MAP` the one field `x` is `c10602a101785001`.
     #[tactic(auto, unfolding(crate::specs::Structs::Stands))]
     #[inline(always)]
     final fn serialize_struct(
@@ -739,20 +747,20 @@ pub trait Serializer {
             (λ fields. (struct_reference fields).ghost_name ≡ self.entry.ghost_name) }
         ensures succeeds { IsOk result }
     {
-        // Of any form a struct begins as one value: a descriptor may come before its fields, so
-        // that a list or a map is opened with the first of these.
+        // A struct of any form begins as a single compound, because a descriptor may precede its
+        // fields. The list or the map is opened with the first field.
         let held = self.begin(Kind::Single);
         Ok(SerializeStruct::new(self, held, struct_form(name)))
     }
 
-    /// Serializes a described value: a descriptor, which is a ulong or a symbol, before a value.
+    /// Serializes a described value: a descriptor, which is a ulong or a symbol, and a value.
     ///
     /// # Encoding
     /// `00`, the descriptor and the value (AMQP 1.0 part 1, section 1.2).
     ///
     /// # Errors
-    /// The serializer's refusal of the described value: always where the descriptor is no ulong and
-    /// no symbol, or the value has no tree.
+    /// Returns the serializer's error for the described value. Always returns an error if the
+    /// descriptor is neither a ulong nor a symbol, or if the value has no tree.
     ///
     /// # Example
     /// The code 1 and `true` are `00530141`.
@@ -777,10 +785,10 @@ pub trait Serializer {
     /// A map (AMQP 1.0 part 1, section 1.6.23).
     ///
     /// # Errors
-    /// None: opening is never refused.
+    /// Never returns an error.
     ///
     /// # Example
-    /// From the ubyte 1 to `true` it is `c10402500141`.
+    /// The map from the ubyte 1 to `true` is `c10402500141`.
     #[inline(always)]
     final fn serialize_map(
         &mut self,
@@ -798,19 +806,22 @@ pub trait Serializer {
         Ok(SerializeMap::new(self, held))
     }
 
-    /// Serializes a variant of one value; in the enum named `VALUE` it is the value itself, and in
-    /// that named `DESCRIPTOR` a misuse. Other names of an enum and its variants are not written.
+    /// Serializes a newtype variant. In an enum named `VALUE` it is the value itself, and in an
+    /// enum named `DESCRIPTOR` it is a misuse. Other names of enums and the names of variants are
+    /// not written.
     ///
     /// # Encoding
-    /// The map of one pair, from the index as a uint to the value; in the enum named `VALUE` the
-    /// value alone.
+    /// The map of one pair, from the index as a uint to the value (AMQP 1.0 part 1, section
+    /// 1.6.23); in an enum named `VALUE` only the value.
     ///
     /// # Errors
-    /// The serializer's refusal of the variant: always where the value has no tree, and a misuse
-    /// (`InvalidValue`) in the enum named `DESCRIPTOR`.
+    /// Returns the serializer's error for the variant. Always returns an error if the value has no
+    /// tree. Returns a misuse error (`InvalidValue` in this repository) if the enum is named
+    /// `DESCRIPTOR`.
     ///
     /// # Example
-    /// The variant 1 of the ulong 13 is `c105025201530d`, and in the enum named `VALUE` `530d`.
+    /// The variant 1 of the ulong 13 is `c105025201530d`, and in an enum named `VALUE` it is
+    /// `530d`.
     #[inline(always)]
     final fn serialize_newtype_variant<T: Serialize>(
         &mut self,
@@ -837,13 +848,14 @@ pub trait Serializer {
         self.end(held)
     }
 
-    /// Begins to serialize a variant of fields that have no names.
+    /// Begins to serialize a tuple variant.
     ///
     /// # Encoding
-    /// The map of one pair, from the index as a uint to the list of the fields.
+    /// The map of one pair, from the index as a uint to the list of the fields (AMQP 1.0 part 1,
+    /// section 1.6.23).
     ///
     /// # Errors
-    /// None: opening is never refused.
+    /// Never returns an error.
     ///
     /// # Example
     /// The variant 1 of `true` and the ubyte 1 is `c109025201c00402415001`.
@@ -866,14 +878,14 @@ pub trait Serializer {
         Ok(SerializeTupleVariant::new(self, held))
     }
 
-    /// Begins to serialize a variant of named fields.
+    /// Begins to serialize a struct variant.
     ///
     /// # Encoding
-    /// The map of one pair, from the index as a uint to the list of the fields. Their names are not
-    /// written.
+    /// The map of one pair, from the index as a uint to the list of the fields (AMQP 1.0 part 1,
+    /// section 1.6.23). The names of the fields are not written.
     ///
     /// # Errors
-    /// None: opening is never refused.
+    /// Never returns an error.
     ///
     /// # Example
     /// The variant 1 of the fields `a`, `true`, and `b`, the ubyte 1, is `c109025201c00402415001`.

@@ -1,4 +1,4 @@
-//! What the fields of a struct are together, by its name.
+//! The form of the fields of a struct, determined by the name of the struct.
 
 ghost use Rattle.std.specs.Prelude.{◌≡◌};
 ghost use Rattle.amqp_ser.specs.Structs.{struct_form};
@@ -6,27 +6,29 @@ ghost use Rattle.amqp_ser.specs.Structs.{struct_form};
 use crate::names::is_basic_name;
 use amqp_data::markers;
 
-/// What the fields of a struct are together.
+/// The form in which the fields of a struct are serialized.
 ///
 /// # Example
-/// The one field `x`, the ubyte 1, is the list `c003015001`, the map `c10602a101785001`, or `5001`.
+/// The one field `x`, the ubyte 1, is `c003015001` as a list, `c10602a101785001` as a map and
+/// `5001` as a single value.
 #[derive(Clone, Copy)]
 pub enum StructForm {
-    /// A list of them.
+    /// A list of the fields.
     List,
-    /// A map from their names.
+    /// A map from the names of the fields to their values.
     Map,
     /// The one field itself.
     Single,
 }
 
-/// What the fields of a struct of this name are together.
+/// Returns the form of the fields of a struct with this name.
 ///
 /// # Memory
-/// Takes none.
+/// None.
 ///
 /// # Example
-/// Of `DESCRIBED_MAP` it is a map, of `DESCRIBED_BASIC` the one field, of `Point` a list.
+/// `StructForm::Map` for `DESCRIBED_MAP`, `StructForm::Single` for `DESCRIBED_BASIC` and
+/// `StructForm::List` for `Point`.
 #[inline(always)]
 pub fn struct_form(name: &str) -> StructForm
     ensures { result ≡ struct_form name.now }

@@ -1,4 +1,4 @@
-//! Feeding a struct of any form a field, or its descriptor.
+//! Serialization of a field, or the descriptor, of a struct of any form.
 
 ghost use Rattle.std.specs.Prelude.{◌≡◌, ◌∷◌, [], Some, None, IfErr, IsErr, true, false};
 ghost use Rattle.amqp_ser.specs.Tree.{scalar, string};
@@ -17,7 +17,8 @@ use crate::serializer::Serializer;
 use crate::struct_form::StructForm;
 use std::mem;
 
-/// Whether a descriptor comes twice or late, or a second field where there is one alone.
+/// Returns whether a descriptor is repeated or late, or a field is the second one of a single
+/// value.
 #[inline(always)]
 fn is_misplaced(form: StructForm, described: bool, opened: bool, descriptor: bool) -> bool
     ensures { result ≡ is_misplaced form described opened descriptor }
@@ -29,17 +30,17 @@ fn is_misplaced(form: StructForm, described: bool, opened: bool, descriptor: boo
     }
 }
 
-/// Feeds any field, or the descriptor. What is held comes and goes by value, so that it is in no
-/// memory of the caller's.
+/// Serializes a field or the descriptor. The open compound is passed and returned by value, so that
+/// the caller does not keep it in memory.
 ///
 /// # Errors
-/// The serializer's refusal of the field, of a descriptor that is no ulong and no symbol, of a
-/// second or late descriptor, or of a second field where there is one alone. What is held is then
-/// as it was.
+/// Returns the serializer's error for the field or the descriptor. Always returns an error if the
+/// descriptor is neither a ulong nor a symbol. Returns a misuse error for a second or late
+/// descriptor, or for a second field of a single value. The compound is then unchanged.
 ///
 /// # Example
-/// `true` with the key `x` adds `41` to a list and `a1017841` to a map. As a first field, the ulong
-/// 1 with the key `DESCRIPTOR` puts `005301` before the fields.
+/// `true` with the key `x` appends `41` to a list and `a1017841` to a map. As the first field, the
+/// ulong 1 with the key `DESCRIPTOR` puts `005301` before the fields.
 #[tactic(auto, unfolding(crate::specs::Structs::Stands))]
 #[inline(never)]
 pub fn feed_owned<S: Serializer, T: Serialize>(
@@ -122,13 +123,13 @@ pub fn feed_owned<S: Serializer, T: Serialize>(
     }
 }
 
-/// Feeds any field, or the descriptor: what is held is moved out for it, and back.
+/// Like `feed_owned`, with the open compound moved out of `held` and back.
 ///
 /// # Errors
-/// As `feed_owned`.
+/// See `feed_owned`.
 ///
 /// # Example
-/// `true` with the key `x` adds `41` to a list and `a1017841` to a map.
+/// `true` with the key `x` appends `41` to a list and `a1017841` to a map.
 #[inline(always)]
 pub fn feed_any<S: Serializer, T: Serialize>(
     serializer: &mut S,

@@ -1,4 +1,4 @@
-//! A struct's body: opened with its first field in place of a single compound, and ended.
+//! The body of a struct, which is opened with the first field in place of a single compound.
 
 ghost use Rattle.std.specs.Prelude.{◌≡◌, ◌++◌, ◌∷◌, [], List, Option, None, Err, MatchResult, IfErr, IsErr, true, false};
 ghost use Rattle.amqp_ser.specs.Tree.{Tree};
@@ -12,7 +12,7 @@ use crate::serialize::Serialize;
 use crate::serializer::Serializer;
 use crate::struct_form::StructForm;
 
-/// Fields with names stand in a map, others in a list.
+/// Returns the kind of a body: a map if the fields have names, otherwise a list.
 #[inline(always)]
 fn fields_kind(named: bool) -> Kind
     ensures { result ≡ fields_kind named }
@@ -20,7 +20,7 @@ fn fields_kind(named: bool) -> Kind
     if named { Kind::Map } else { Kind::List }
 }
 
-/// Feeds an open list or map its first field, or leaves it as it was.
+/// Serializes the first field of an open list or map. On an error the compound is unchanged.
 #[inline(always)]
 fn feed_field<S: Serializer, T: Serialize>(
     serializer: &mut S,
@@ -46,11 +46,11 @@ fn feed_field<S: Serializer, T: Serialize>(
     }
 }
 
-/// Opens a map or a list in place of a single compound and feeds it its first field, or leaves the
-/// single compound as it was.
+/// Opens a map or a list in place of a single compound and serializes its first field. On an error
+/// the single compound is unchanged.
 ///
 /// # Errors
-/// The serializer's refusal of the field; no body is open then.
+/// Returns the serializer's error for the field; no body is open then.
 ///
 /// # Example
 /// The ubyte 1 with the key `x` opens the list `c003015001`, or the map `c10602a101785001`.
@@ -86,7 +86,7 @@ pub fn open_body<S: Serializer, T: Serialize>(
     }
 }
 
-/// Ends a single compound without its value: as an empty list or map, or with a misuse.
+/// Ends a single compound without a value: as an empty list or map, or with a misuse error.
 #[inline(always)]
 fn end_empty<S: Serializer>(
     serializer: &mut S,
@@ -107,14 +107,14 @@ fn end_empty<S: Serializer>(
     serializer.end(fields)
 }
 
-/// Ends a body, or the single compound in its place where no field was taken.
+/// Ends a body, or the single compound in its place if no field was serialized.
 ///
 /// # Errors
-/// The serializer's refusal of the tree of the fields, or of no field where there is one alone,
-/// which is a misuse.
+/// Returns the serializer's error for the tree of the fields. Returns a misuse error if the form is
+/// a single value and no field was serialized.
 ///
 /// # Example
-/// Of no field: the list `45`, or the map `c10100`. Of the ubyte 1: the list `c003015001`.
+/// Without fields: the list `45`, or the map `c10100`. With the ubyte 1: the list `c003015001`.
 #[inline(always)]
 pub fn end_fields<S: Serializer>(
     serializer: &mut S,

@@ -1,4 +1,4 @@
-//! Described values: a descriptor, and the one value of a single compound.
+//! Described values: the descriptor and the one value of a single compound.
 
 ghost use Rattle.std.specs.Prelude.{◌≡◌, ◌∷◌, [], Option, Some, None, Err, MatchResult, IsErr};
 ghost use Rattle.amqp_ser.specs.Tree.{Tree};
@@ -10,13 +10,15 @@ use crate::kind::Kind;
 use crate::serialize::Serialize;
 use crate::serializer::Serializer;
 
-/// Feeds a descriptor before the one value of a single compound, or leaves it as it was.
+/// Serializes the descriptor of a single compound, before its value. On an error the compound is
+/// unchanged.
 ///
 /// # Errors
-/// The serializer's refusal of the descriptor: always where it is no ulong and no symbol.
+/// Returns the serializer's error for the descriptor. Always returns an error if the descriptor is
+/// neither a ulong nor a symbol.
 ///
 /// # Example
-/// The ulong 1 puts `005301` before the value, the symbol `a:b` `00a303613a62`.
+/// The ulong 1 is `005301` before the value, the symbol `a:b` is `00a303613a62`.
 #[tactic(auto, unfolding(crate::specs::Structs::Stands))]
 #[inline(always)]
 pub fn feed_descriptor<S: Serializer, T: Serialize>(
@@ -39,13 +41,13 @@ pub fn feed_descriptor<S: Serializer, T: Serialize>(
     serializer.end_descriptor(held, part)
 }
 
-/// Feeds a single compound its one value, or leaves it as it was.
+/// Serializes the one value of a single compound. On an error the compound is unchanged.
 ///
 /// # Errors
-/// The serializer's refusal of the value.
+/// Returns the serializer's error for the value.
 ///
 /// # Example
-/// `true` is `41`, and after the descriptor 1 `00530141`.
+/// `true` is `41`, and after the descriptor 1 it is `00530141`.
 #[inline(always)]
 pub fn feed_single<S: Serializer, T: Serialize>(
     serializer: &mut S,
@@ -64,10 +66,10 @@ pub fn feed_single<S: Serializer, T: Serialize>(
 /// Ends a single compound that has its one value.
 ///
 /// # Errors
-/// The serializer's refusal of the value: always where it has no tree.
+/// Returns the serializer's error for the value. Always returns an error if the value has no tree.
 ///
 /// # Example
-/// Of `true`: `41`; after the descriptor 1 `00530141`.
+/// `true` is `41`, and after the descriptor 1 it is `00530141`.
 #[inline(always)]
 pub fn end_single<S: Serializer>(serializer: &mut S, held: S::Open) -> Result<S::Ok, S::Error>
     ensures { (start : S) (p : Option Tree) → S.has start Kind.Single serializer.old held (p ∷ []) →
@@ -76,14 +78,15 @@ pub fn end_single<S: Serializer>(serializer: &mut S, held: S::Open) -> Result<S:
     serializer.end(held)
 }
 
-/// Serializes a described value, as a struct named `DESCRIBED_BASIC` of a descriptor and one field.
+/// Serializes a described value, like a struct named `DESCRIBED_BASIC` with a descriptor and one
+/// field.
 ///
 /// # Encoding
 /// `00`, the descriptor and the value (AMQP 1.0 part 1, section 1.2).
 ///
 /// # Errors
-/// The serializer's refusal of the described value: always where the descriptor is no ulong and no
-/// symbol, or the value has no tree.
+/// Returns the serializer's error for the described value. Always returns an error if the
+/// descriptor is neither a ulong nor a symbol, or if the value has no tree.
 ///
 /// # Example
 /// The code 1 and `true` are `00530141`.

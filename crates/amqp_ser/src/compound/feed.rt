@@ -1,4 +1,4 @@
-//! Feeding a compound its parts.
+//! Serialization of the parts of an open compound.
 
 ghost use Rattle.std.specs.Prelude.{◌≡◌, ◌++◌, ◌∷◌, [], List, Option, Err, MatchResult, true};
 ghost use Rattle.amqp_ser.specs.Tree.{Tree};
@@ -9,13 +9,13 @@ use crate::kind::Kind;
 use crate::serialize::Serialize;
 use crate::serializer::Serializer;
 
-/// Feeds a compound one part more, or leaves it as it was.
+/// Serializes one more part of an open compound. On an error the compound is unchanged.
 ///
 /// # Errors
-/// The serializer's refusal of the part.
+/// Returns the serializer's error for the part.
 ///
 /// # Example
-/// `true` adds `41` to a list, and to a map as a key or a value.
+/// `true` appends `41` to a list, and to a map as a key or a value.
 #[inline(always)]
 pub fn feed_part<S: Serializer, T: Serialize>(
     serializer: &mut S,
@@ -31,13 +31,13 @@ pub fn feed_part<S: Serializer, T: Serialize>(
     serializer.end_part(held, part)
 }
 
-/// Feeds a map one entry more, or leaves it as it was.
+/// Serializes one more entry of an open map. On an error the map is unchanged.
 ///
 /// # Errors
-/// The serializer's refusal of the key or of the value.
+/// Returns the serializer's error for the key or the value.
 ///
 /// # Example
-/// The ubyte 1 and `true` add `500141`.
+/// The ubyte 1 and `true` append `500141`.
 #[inline(always)]
 pub fn feed_entry<S: Serializer, K: Serialize, V: Serialize>(
     serializer: &mut S,

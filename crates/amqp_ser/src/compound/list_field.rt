@@ -1,4 +1,4 @@
-//! Feeding a struct that is a list a field.
+//! Serialization of a field of a struct that is a list.
 
 ghost use Rattle.std.specs.Prelude.{◌≡◌, ◌∷◌, [], List, Option, Some, None, Result, Err, MatchResult, true, false};
 ghost use Rattle.amqp_ser.specs.Tree.{Tree};
@@ -12,7 +12,8 @@ use crate::serialize::Serialize;
 use crate::serializer::Serializer;
 use std::mem;
 
-/// Opens a list in place of a single compound, which is given out, where none is open.
+/// Opens a list in place of a single compound and returns the single compound, or returns `None` if
+/// a list is open already.
 #[inline(always)]
 fn open_list<S: Serializer>(serializer: &mut S, held: &mut S::Open, opened: bool) -> Option<S::Open>
     ensures next { opened ≡ true →
@@ -35,7 +36,7 @@ fn open_list<S: Serializer>(serializer: &mut S, held: &mut S::Open, opened: bool
     Some(mem::replace(held, fields))
 }
 
-/// Takes back the first field, which was refused: the single compound is as it was.
+/// Returns the single compound unchanged, and the error, after its first field failed.
 #[cold]
 #[inline(never)]
 fn close_first<S: Serializer>(
@@ -58,14 +59,14 @@ fn close_first<S: Serializer>(
     }
 }
 
-/// Feeds a list one field more, the first after it was opened in place of a single compound; or
-/// leaves what was as it was.
+/// Serializes one more field of a list. The first field opens the list in place of a single
+/// compound. On an error the compound that was open is unchanged.
 ///
 /// # Errors
-/// The serializer's refusal of the field.
+/// Returns the serializer's error for the field.
 ///
 /// # Example
-/// A first field `true` opens the list `c0020141`; a second one makes it `c003024141`.
+/// A first field `true` opens the list `c0020141`; a second one extends it to `c003024141`.
 #[tactic(auto, unfolding(crate::specs::Structs::Stands))]
 #[inline(always)]
 pub fn feed_list_field<S: Serializer, T: Serialize>(

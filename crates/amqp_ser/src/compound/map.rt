@@ -1,4 +1,4 @@
-//! Maps, with a key that may be pending.
+//! Maps that are being serialized, with a key whose value may be pending.
 
 ghost use Rattle.std.specs.Prelude.{◌≡◌, [], List, Option, Err, MatchResult, IfErr, IsErr, not, true, false};
 ghost use mir.Syntax.{named};
@@ -12,13 +12,13 @@ use crate::kind::Kind;
 use crate::serialize::Serialize;
 use crate::serializer::Serializer;
 
-/// A map whose keys and values are still fed, in turn.
+/// A map that is being serialized: its keys and values, in alternation.
 ///
 /// # Encoding
-/// AMQP 1.0 part 1, section 1.6.23.
+/// A map (AMQP 1.0 part 1, section 1.6.23).
 ///
 /// # Example
-/// Of the key 1, a ubyte, and the value `true`: `c10402500141`.
+/// The key 1, a ubyte, and the value `true`: `c10402500141`.
 pub struct SerializeMap<'a, S: Serializer> {
     serializer: &'a mut S,
     held: S::Open,
@@ -55,8 +55,8 @@ impl<'a, S: Serializer> SerializeMap<'a, S> {
         }
     }
 
-    /// The serializer behind the map, which goes on with what is left there; nothing else of it
-    /// changes.
+    /// Returns the serializer of the map. The map continues with the state that the caller leaves
+    /// in it; the rest of the map is unchanged.
     #[inline(always)]
     pub fn as_mut(&mut self) -> &mut S
         ensures* writes_back { sem 𝓛
@@ -69,14 +69,14 @@ impl<'a, S: Serializer> SerializeMap<'a, S> {
         &mut *self.serializer
     }
 
-    /// Serializes a key, whose value comes next.
+    /// Serializes a key. Its value must follow.
     ///
     /// # Errors
-    /// The serializer's refusal of the key, or of a second key while one is pending; the map is
-    /// then as it was.
+    /// Returns the serializer's error for the key, or a misuse error if the value of another key is
+    /// pending. The map is then unchanged.
     ///
     /// # Example
-    /// The ubyte 1 adds `5001`.
+    /// The ubyte 1 appends `5001`.
     #[inline(always)]
     pub fn serialize_key<T: Serialize>(&mut self, key: &T) -> Result<(), S::Error>
         ensures same { (map_reference self.new).ghost_name
@@ -98,14 +98,14 @@ impl<'a, S: Serializer> SerializeMap<'a, S> {
         Ok(())
     }
 
-    /// Serializes the value of the pending key.
+    /// Serializes the pending value.
     ///
     /// # Errors
-    /// The serializer's refusal of the value, after which the key is still pending, or of a value
-    /// without a key; the map is then as it was.
+    /// Returns the serializer's error for the value, or a misuse error if there is no key. The map
+    /// is then unchanged: if there is a key, its value is still pending.
     ///
     /// # Example
-    /// After that key `true` adds `41`.
+    /// After the key, `true` appends `41`.
     #[inline(always)]
     pub fn serialize_value<T: Serialize>(&mut self, value: &T) -> Result<(), S::Error>
         ensures same { (map_reference self.new).ghost_name
@@ -130,11 +130,11 @@ impl<'a, S: Serializer> SerializeMap<'a, S> {
     /// Serializes a key and its value.
     ///
     /// # Errors
-    /// The serializer's refusal of the key or of the value, or of an entry while a key is pending;
-    /// the map is then as it was.
+    /// Returns the serializer's error for the key or the value, or a misuse error if the value of
+    /// another key is pending. The map is then unchanged.
     ///
     /// # Example
-    /// The ubyte 1 and `true` add `500141`.
+    /// The ubyte 1 and `true` append `500141`.
     #[inline(always)]
     pub fn serialize_entry<K: Serialize, V: Serialize>(
         &mut self,
@@ -156,13 +156,13 @@ impl<'a, S: Serializer> SerializeMap<'a, S> {
         feed_entry(&mut *self.serializer, &mut self.held, key, value)
     }
 
-    /// Ends the map, with the serializer's answer on the tree of its pairs.
+    /// Ends the map and returns the serializer's result for the tree of its entries.
     ///
     /// # Errors
-    /// The serializer's refusal of that tree, or of a map whose last key has no value.
+    /// Returns the serializer's error for that tree, or a misuse error if a value is pending.
     ///
     /// # Example
-    /// Of no pairs: `c10100`. Of the ubyte 1 and `true`: `c10402500141`.
+    /// Without entries: `c10100`. With the ubyte 1 and `true`: `c10402500141`.
     #[inline(always)]
     pub fn end(self) -> Result<S::Ok, S::Error>
         ensures ended { (start : S) (ps : List (Option Tree)) →

@@ -12,13 +12,13 @@ use crate::kind::Kind;
 use crate::serialize::Serialize;
 use crate::serializer::Serializer;
 
-/// A list whose elements are still fed.
+/// A list that is being serialized.
 ///
 /// # Encoding
-/// AMQP 1.0 part 1, section 1.6.22.
+/// A list (AMQP 1.0 part 1, section 1.6.22).
 ///
 /// # Example
-/// Of the strings `a` and `bc`: `c00802a10161a1026263`.
+/// The strings `a` and `bc`: `c00802a10161a1026263`.
 pub struct SerializeSeq<'a, S: Serializer> {
     serializer: &'a mut S,
     held: S::Open,
@@ -48,8 +48,8 @@ impl<'a, S: Serializer> SerializeSeq<'a, S> {
         SerializeSeq { serializer, held }
     }
 
-    /// The serializer behind the list, which goes on with what is left there; nothing else of it
-    /// changes.
+    /// Returns the serializer of the list. The list continues with the state that the caller leaves
+    /// in it; the rest of the list is unchanged.
     #[inline(always)]
     pub fn as_mut(&mut self) -> &mut S
         ensures* writes_back { sem 𝓛
@@ -62,14 +62,15 @@ impl<'a, S: Serializer> SerializeSeq<'a, S> {
         &mut *self.serializer
     }
 
-    /// Serializes one element more.
+    /// Serializes one more element.
     ///
     /// # Errors
-    /// The serializer's refusal of the element; the list is then as it was and may be fed on.
+    /// Returns the serializer's error for the element. The list is then unchanged and keeps
+    /// accepting elements.
     ///
     /// # Example
-    /// The string `a` adds `a10161`; under `Mark::Array` it adds `0000000161`, and the first one
-    /// its constructor `b1` too.
+    /// The string `a` appends `a10161`. Under `Mark::Array` it appends `0000000161`, and the first
+    /// element also the constructor `b1`.
     #[inline(always)]
     pub fn serialize_element<T: Serialize>(&mut self, value: &T) -> Result<(), S::Error>
         ensures same { (list_reference self.new).ghost_name
@@ -79,13 +80,13 @@ impl<'a, S: Serializer> SerializeSeq<'a, S> {
         feed_part(&mut *self.serializer, &mut self.held, value)
     }
 
-    /// Ends the list, with the serializer's answer on the tree of its elements.
+    /// Ends the list and returns the serializer's result for the tree of its elements.
     ///
     /// # Errors
-    /// The serializer's refusal of that tree.
+    /// Returns the serializer's error for that tree.
     ///
     /// # Example
-    /// Of no elements: `45`. Of the strings `a` and `bc`: `c00802a10161a1026263`.
+    /// Without elements: `45`. With the strings `a` and `bc`: `c00802a10161a1026263`.
     #[inline(always)]
     pub fn end(self) -> Result<S::Ok, S::Error>
         ensures { (start : S) (ps : List (Option Tree)) →
@@ -97,8 +98,8 @@ impl<'a, S: Serializer> SerializeSeq<'a, S> {
     }
 }
 
-/// A tuple whose elements are still fed: a list.
+/// A tuple that is being serialized, as a list.
 ///
 /// # Example
-/// Of the ubyte 1 and `true`: `c00402500141`.
+/// The ubyte 1 and `true`: `c00402500141`.
 pub type SerializeTuple<'a, S> = SerializeSeq<'a, S>;

@@ -12,14 +12,14 @@ use crate::kind::Kind;
 use crate::serialize::Serialize;
 use crate::serializer::Serializer;
 
-/// A struct variant whose fields are still fed; the names of the fields are not written.
+/// A struct variant that is being serialized. The names of the fields are not written.
 ///
 /// # Encoding
 /// The map of one pair, from the index as a uint to the list of the fields (AMQP 1.0 part 1,
 /// section 1.6.23).
 ///
 /// # Example
-/// Of the index 1 and the fields `a`, `true`, and `b`, the ubyte 1: `c109025201c00402415001`.
+/// The index 1 and the fields `a`, `true`, and `b`, the ubyte 1: `c109025201c00402415001`.
 pub struct SerializeStructVariant<'a, S: Serializer> {
     serializer: &'a mut S,
     held: S::Open,
@@ -49,8 +49,8 @@ impl<'a, S: Serializer> SerializeStructVariant<'a, S> {
         SerializeStructVariant { serializer, held }
     }
 
-    /// The serializer behind the variant, which goes on with what is left there; nothing else of it
-    /// changes.
+    /// Returns the serializer of the variant. The variant continues with the state that the caller
+    /// leaves in it; the rest of the variant is unchanged.
     pub fn as_mut(&mut self) -> &mut S
         ensures* writes_back { sem 𝓛
             (Lends
@@ -62,13 +62,14 @@ impl<'a, S: Serializer> SerializeStructVariant<'a, S> {
         &mut *self.serializer
     }
 
-    /// Serializes one field more.
+    /// Serializes one more field.
     ///
     /// # Errors
-    /// The serializer's refusal of the field; the variant is then as it was and may be fed on.
+    /// Returns the serializer's error for the field. The variant is then unchanged and keeps
+    /// accepting fields.
     ///
     /// # Example
-    /// The ubyte 1 with the key `b` adds `5001` to the list of the fields.
+    /// The ubyte 1 with the key `b` appends `5001` to the list of the fields.
     #[inline(always)]
     pub fn serialize_field<T: Serialize>(
         &mut self,
@@ -83,14 +84,14 @@ impl<'a, S: Serializer> SerializeStructVariant<'a, S> {
         feed_part(&mut *self.serializer, &mut self.held, value)
     }
 
-    /// Ends the variant, with the serializer's answer on its tree.
+    /// Ends the variant and returns the serializer's result for its tree.
     ///
     /// # Errors
-    /// The serializer's refusal of that tree.
+    /// Returns the serializer's error for that tree.
     ///
     /// # Example
-    /// Of the index 1 and no fields: `c10402520145`. Of the index 1 and the fields `a`, `true`, and
-    /// `b`, the ubyte 1: `c109025201c00402415001`.
+    /// The index 1 without fields: `c10402520145`. The index 1 and the fields `a`, `true`, and `b`,
+    /// the ubyte 1: `c109025201c00402415001`.
     #[inline(always)]
     pub fn end(self) -> Result<S::Ok, S::Error>
         ensures { (start : S) (i : ℕ) (ps : List (Option Tree)) →

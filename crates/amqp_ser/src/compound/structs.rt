@@ -1,4 +1,4 @@
-//! Structs: a descriptor, if there is one, and a body of fields.
+//! Structs: an optional descriptor and a body of fields.
 
 ghost use Rattle.std.specs.Prelude.{◌≡◌, ◌∷◌, ◌||◌, [], List, Option, Some, None, IfOk, IfErr, IsErr, not, true, false};
 ghost use mir.Syntax.{named};
@@ -19,23 +19,24 @@ use crate::serialize::Serialize;
 use crate::serializer::Serializer;
 use crate::struct_form::StructForm;
 
-/// A struct whose fields are still fed: a list of them, a map from their names, or the one field
-/// itself, as the struct's name says. A first field of the descriptor's key makes it described.
+/// A struct that is being serialized. The name of the struct determines its body: a list of the
+/// fields, a map from their names, or the one field itself. A first field with the key `DESCRIPTOR`
+/// is the descriptor.
 ///
 /// # Encoding
-/// `00`, the descriptor and the body (AMQP 1.0 part 1, section 1.2), or the body alone (sections
+/// `00`, the descriptor and the body (AMQP 1.0 part 1, section 1.2), or only the body (sections
 /// 1.6.22 and 1.6.23).
 ///
 /// # Example
-/// Of the descriptor 1 and the field `x`, `true`: `005301c0020141`; under the name `DESCRIBED_MAP`
+/// The descriptor 1 and the field `x`, `true`: `005301c0020141`; under the name `DESCRIBED_MAP`
 /// `005301c10502a1017841`.
 pub struct SerializeStruct<'a, S: Serializer> {
     serializer: &'a mut S,
     held: S::Open,
     form: StructForm,
-    /// The descriptor was taken.
+    /// Whether the descriptor has been serialized.
     described: bool,
-    /// A field was taken.
+    /// Whether a field has been serialized.
     opened: bool,
 }
 
@@ -79,8 +80,8 @@ impl<'a, S: Serializer> SerializeStruct<'a, S> {
         }
     }
 
-    /// The serializer behind the struct, which goes on with what is left there; nothing else of it
-    /// changes.
+    /// Returns the serializer of the struct. The struct continues with the state that the caller
+    /// leaves in it; the rest of the struct is unchanged.
     pub fn as_mut(&mut self) -> &mut S
         ensures* writes_back { sem 𝓛
             (Lends
@@ -92,16 +93,18 @@ impl<'a, S: Serializer> SerializeStruct<'a, S> {
         &mut *self.serializer
     }
 
-    /// Serializes one field more, or the descriptor.
+    /// Serializes one more field, or the descriptor.
     ///
     /// # Errors
-    /// The serializer's refusal of the field, of a descriptor that is no ulong and no symbol, of a
-    /// second or late descriptor, or of a second field where there is one alone; the struct is then
-    /// as it was and may be fed on.
+    /// Returns the serializer's error for the field or the descriptor. Always returns an error if
+    /// the descriptor is neither a ulong nor a symbol. Returns a misuse error for a second or late
+    /// descriptor, or for a second field of a single value. The struct is then unchanged and keeps
+    /// accepting fields.
     ///
     /// # Example
-    /// The ubyte 1 with the key `x` adds `5001`, and under the name `DESCRIBED_MAP` `a101785001`.
-    /// As a first field, the ulong 1 with the key `DESCRIPTOR` puts `005301` before the fields.
+    /// The ubyte 1 with the key `x` appends `5001`, and under the name `DESCRIBED_MAP`
+    /// `a101785001`. As the first field, the ulong 1 with the key `DESCRIPTOR` puts `005301` before
+    /// the fields.
     #[tactic(auto, unfolding(crate::specs::Structs::Stands))]
     #[inline(always)]
     pub fn serialize_field<T: Serialize>(
@@ -149,8 +152,9 @@ impl<'a, S: Serializer> SerializeStruct<'a, S> {
             StructHas S.permits S.has start None Kind.Single self.old [] →
             descriptor_of (T.tree value.now) ≡ None → IsErr result }
     {
-        // A list's fields come a way of their own, which is built into the caller: most structs are
-        // lists. A descriptor, and the fields of a map or a single one, go by one call.
+        // Most structs are lists, so the fields of a list have a path of their own, which is
+        // inlined into the caller. A descriptor, and the fields of a map or of a single value,
+        // share one function call.
         let descriptor = is_descriptor_name(key);
         if descriptor || !matches!(self.form, StructForm::List) {
             return match feed_any(
@@ -182,13 +186,14 @@ impl<'a, S: Serializer> SerializeStruct<'a, S> {
         }
     }
 
-    /// Ends the struct, with the serializer's answer on the tree of its fields.
+    /// Ends the struct and returns the serializer's result for the tree of its fields.
     ///
     /// # Errors
-    /// The serializer's refusal of that tree, or of no field where there is one alone.
+    /// Returns the serializer's error for that tree, or a misuse error if the form is a single
+    /// value and no field was serialized.
     ///
     /// # Example
-    /// Of the descriptor 1 and the field `true`: `005301c0020141`; under the name `DESCRIBED_BASIC`
+    /// The descriptor 1 and the field `true`: `005301c0020141`; under the name `DESCRIBED_BASIC`
     /// `00530141`.
     #[tactic(auto, unfolding(crate::specs::Structs::Stands))]
     #[inline(always)]

@@ -1,4 +1,4 @@
-//! Tuple structs: lists of their fields, of which the first may be a descriptor.
+//! Tuple structs: lists of their fields. The first field may be a descriptor.
 
 ghost use Rattle.std.specs.Prelude.{◌≡◌, ◌∷◌, [], List, Option, None, IfOk, IfErr, IsErr, ◌||◌, not, true, false};
 ghost use mir.Syntax.{named};
@@ -17,24 +17,24 @@ use crate::serialize::Serialize;
 use crate::serializer::Serializer;
 use crate::struct_form::StructForm;
 
-/// A tuple struct whose fields are still fed: a list of them, or the one field itself. Where its
-/// name asks for a descriptor, the first field is that.
+/// A tuple struct that is being serialized: a list of its fields, or the one field itself. The name
+/// of the struct determines whether the first field is the descriptor.
 ///
 /// # Encoding
-/// `00`, the descriptor and the body (AMQP 1.0 part 1, section 1.2), or a list alone (section
+/// `00`, the descriptor and the body (AMQP 1.0 part 1, section 1.2), or only a list (section
 /// 1.6.22).
 ///
 /// # Example
-/// Of the ubyte 1 and `true`: `c00402500141`; under the name `DESCRIBED_BASIC`, of the ulong 1 and
-/// `true`: `00530141`.
+/// The ubyte 1 and `true`: `c00402500141`. The ulong 1 and `true` under the name `DESCRIBED_BASIC`:
+/// `00530141`.
 pub struct SerializeTupleStruct<'a, S: Serializer> {
     serializer: &'a mut S,
     held: S::Open,
-    /// There is one field alone.
+    /// Whether the body is a single field.
     single: bool,
-    /// The descriptor is still to come.
+    /// Whether the descriptor is still to be serialized.
     wants_descriptor: bool,
-    /// A field was taken, or the list stands open from the start.
+    /// Whether a field has been serialized, or the list has been open from the start.
     opened: bool,
 }
 
@@ -79,8 +79,8 @@ impl<'a, S: Serializer> SerializeTupleStruct<'a, S> {
         }
     }
 
-    /// The serializer behind the struct, which goes on with what is left there; nothing else of it
-    /// changes.
+    /// Returns the serializer of the struct. The struct continues with the state that the caller
+    /// leaves in it; the rest of the struct is unchanged.
     pub fn as_mut(&mut self) -> &mut S
         ensures* writes_back { sem 𝓛
             (Lends
@@ -92,14 +92,15 @@ impl<'a, S: Serializer> SerializeTupleStruct<'a, S> {
         &mut *self.serializer
     }
 
-    /// Serializes one field more, or the descriptor, where it is still to come.
+    /// Serializes one more field, or the descriptor if it is still to be serialized.
     ///
     /// # Errors
-    /// The serializer's refusal of the field, of a descriptor that is no ulong and no symbol, or of
-    /// a second field where there is one alone; the struct is then as it was and may be fed on.
+    /// Returns the serializer's error for the field or the descriptor. Always returns an error if
+    /// the descriptor is neither a ulong nor a symbol. Returns a misuse error for a second field of
+    /// a single value. The struct is then unchanged and keeps accepting fields.
     ///
     /// # Example
-    /// The ubyte 1 adds `5001`. Under the name `DESCRIBED_LIST` a first ulong 1 puts `005301`
+    /// The ubyte 1 appends `5001`. Under the name `DESCRIBED_LIST` a first ulong 1 puts `005301`
     /// before the fields.
     #[tactic(auto, unfolding(crate::specs::Structs::Stands))]
     #[inline(always)]
@@ -152,14 +153,15 @@ impl<'a, S: Serializer> SerializeTupleStruct<'a, S> {
         Ok(())
     }
 
-    /// Ends the struct, with the serializer's answer on the tree of its fields.
+    /// Ends the struct and returns the serializer's result for the tree of its fields.
     ///
     /// # Errors
-    /// The serializer's refusal of that tree, or of no field where there is one alone.
+    /// Returns the serializer's error for that tree, or a misuse error if the form is a single
+    /// value and no field was serialized.
     ///
     /// # Example
-    /// Of the ubyte 1 and `true`: `c00402500141`. Under the name `DESCRIBED_LIST`, of the ulong 1
-    /// and `true`: `005301c0020141`.
+    /// The ubyte 1 and `true`: `c00402500141`. Under the name `DESCRIBED_LIST`, the ulong 1 and
+    /// `true`: `005301c0020141`.
     #[tactic(auto, unfolding(crate::specs::Structs::Stands))]
     #[inline(always)]
     pub fn end(self) -> Result<S::Ok, S::Error>

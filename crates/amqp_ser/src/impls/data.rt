@@ -1,5 +1,5 @@
-//! The types of AMQP data. Where Rust's data model has no kind for one, a mark makes it of the kind
-//! that is nearest.
+//! AMQP data types. A type that serde's data model does not have is serialized as the nearest kind,
+//! under a marker.
 
 ghost use Rattle.std.specs.Prelude.{Some};
 ghost use Rattle.amqp_ser.specs.Carried.{array_of, descriptor_content, transparent_of};

@@ -1,4 +1,4 @@
-//! Types that hold others: references, boxes, options, vectors and arrays.
+//! Types that contain other values: references, boxes, options, vectors and arrays.
 
 ghost use Rattle.std.specs.Prelude.{map};
 ghost use Rattle.amqp_ser.specs.Carried.{optional};
@@ -62,10 +62,10 @@ impl<T: Serialize, const N: usize> Serialize for [T; N] {
 /// A list (AMQP 1.0 part 1, section 1.6.22).
 ///
 /// # Errors
-/// The serializer's refusal of an item, or of the list.
+/// Returns the serializer's error for an item or for the list.
 ///
 /// # Example
-/// Of the strings `a` and `bc`: `c00802a10161a1026263`.
+/// The strings `a` and `bc`: `c00802a10161a1026263`.
 #[inline(always)]
 pub fn serialize_items<T: Serialize, S: Serializer>(
     items: &[T],

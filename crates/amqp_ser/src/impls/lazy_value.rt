@@ -1,4 +1,4 @@
-//! An encoded value, which is written as it is.
+//! An encoded value, which is written unchanged.
 
 ghost use Rattle.std.specs.Prelude.{Some};
 ghost use Rattle.amqp_ser.specs.Tree.{lazy};

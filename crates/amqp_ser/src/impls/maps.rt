@@ -1,4 +1,4 @@
-//! Maps, in their own order of keys.
+//! Maps, with the entries in the order of the map.
 
 ghost use Rattle.amqp_ser.specs.Compounds.{parts_of, whole};
 ghost use Rattle.amqp_ser.specs.declared.kind.Kind.TheVariants.{Map};

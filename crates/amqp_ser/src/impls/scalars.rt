@@ -1,4 +1,4 @@
-//! Null, truth values, numbers and characters.
+//! Null, booleans, integers and characters.
 
 ghost use Rattle.std.specs.Prelude.{Some};
 ghost use Rattle.amqp_ser.specs.Tree.{scalar, null, bool, ubyte, ushort, uint, ulong, byte, short, int, long, char};

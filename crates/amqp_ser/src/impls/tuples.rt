@@ -1,4 +1,4 @@
-//! Tuples: lists of their parts.
+//! Tuples: lists of their elements.
 
 ghost use Rattle.std.specs.Prelude.{◌∷◌, []};
 ghost use Rattle.amqp_ser.specs.Compounds.{whole};

@@ -1,7 +1,8 @@
-//! The tree of each type that is carried, row by row.
+//! The tree of each serializable type, one law per type.
 //!
-//! A type's tree is declared where the type is made serializable; these laws say what it is, apart
-//! from there. A compound has a tree where all its parts have one.
+//! The `Serialize` implementation of a type declares its tree. These laws state the trees
+//! independently of the implementations. A compound has a tree if and only if all its parts have
+//! one.
 
 ghost use Rattle.std.specs.Prelude.{◌≡◌, ◌∷◌, [], ℕ, ℤ, List, Bool, true, false, Some, None, Box, String, Vec, map, option_map, string_bytes};
 ghost use Rattle.std.specs.Global.{Global};
@@ -26,7 +27,7 @@ use amqp_data::{
 use amqp_frame::LazyValue;
 use std::collections::BTreeMap;
 
-/// The unit is null, and truth values, numbers and characters are their scalars.
+/// `()` is null, and booleans, integers and characters are their scalars.
 pub fn trees_of_numbers()
     ensures unit { ⟦<() as Serialize>⟧.tree tt ≡ Some (scalar tree.null) }
     ensures bool { (b : Bool) → ⟦<bool as Serialize>⟧.tree b ≡ Some (scalar (tree.bool b)) }
@@ -59,7 +60,8 @@ pub fn trees_of_fixed_width()
         ⟦<Uuid as Serialize>⟧.tree x ≡ Some (scalar (tree.uuid (uuid_bytes x))) }
 {}
 
-/// Texts are strings, byte buffers are binaries, and symbols are symbols.
+/// `&str` and `String` are strings, `ByteBuf` is a binary, and `Symbol` and `SymbolRef` are
+/// symbols.
 pub fn trees_of_texts(text: &str)
     ensures str { ⟦<&'static str as Serialize>⟧.tree text.entry
         ≡ Some (scalar (tree.string text.now)) }
@@ -74,7 +76,7 @@ pub fn trees_of_texts(text: &str)
         ≡ Some (scalar (tree.symbol (symbol_ref_text s))) }
 {}
 
-/// A reference, a box and `Some` have the tree of what they hold, and `None` is null.
+/// A reference, a box and `Some` have the tree of the inner value, and `None` is null.
 pub fn trees_of_holders<T: Serialize>(value: &T)
     ensures reference { ⟦<&'static T as Serialize>⟧.tree value.entry ≡ T.tree value.now }
     ensures boxed { (b : Box T Global) → ⟦<Box<T> as Serialize>⟧.tree b ≡ T.tree b.value }
@@ -82,8 +84,8 @@ pub fn trees_of_holders<T: Serialize>(value: &T)
     ensures none { ⟦<Option<T> as Serialize>⟧.tree None ≡ Some (scalar tree.null) }
 {}
 
-/// Vectors and arrays of fixed length are lists, `Array` is an array, and `TransparentVec` is
-/// transparent, each of its elements in order.
+/// `Vec` and arrays of fixed length are lists, `Array` is an array, and `TransparentVec` is
+/// transparent, each with its elements in order.
 pub fn trees_of_sequences<T: Serialize, const N: usize>(array: &[T; N])
     ensures vec { (v : Vec T Global) →
         ⟦<Vec<T> as Serialize>⟧.tree v ≡ option_map tree.list (all_trees (map T.tree v.items)) }
@@ -97,7 +99,7 @@ pub fn trees_of_sequences<T: Serialize, const N: usize>(array: &[T; N])
         (all_trees (map T.tree (transparent_items v))) }
 {}
 
-/// Tuples are lists of their parts.
+/// Tuples are lists of their elements.
 pub fn trees_of_tuples<A: Serialize, B: Serialize, C: Serialize, D: Serialize>()
     ensures one { (a : A) →
         ⟦<(A,) as Serialize>⟧.tree (record { 0 = a }) ≡ option_map tree.list
@@ -113,7 +115,7 @@ pub fn trees_of_tuples<A: Serialize, B: Serialize, C: Serialize, D: Serialize>()
         (all_trees (A.tree a ∷ B.tree b ∷ C.tree c ∷ D.tree d ∷ [])) }
 {}
 
-/// Maps are maps, in their own order of keys.
+/// `BTreeMap` and `OrderedMap` are maps, with the entries in the order of the Rust map.
 pub fn trees_of_maps<K: Serialize + Ord, V: Serialize>(sorted: &BTreeMap<K, V>)
     ensures sorted { ⟦<BTreeMap<K, V> as Serialize>⟧.tree sorted.now ≡ whole Map
         (parts_of K.tree V.tree sorted.now.entries) }
@@ -122,7 +124,7 @@ pub fn trees_of_maps<K: Serialize + Ord, V: Serialize>(sorted: &BTreeMap<K, V>)
         (parts_of K.tree V.tree (entries_of m)) }
 {}
 
-/// A described value is its value's tree after its descriptor: a name or a code.
+/// A described value is its descriptor, a name or a code, with the tree of its value.
 pub fn trees_of_described_values<T: Serialize>(value: &Described<T>)
     ensures name { (s : Symbol) → value.now.descriptor ≡ Name s →
         ⟦<Described<T> as Serialize>⟧.tree value.now ≡ option_map
@@ -138,8 +140,8 @@ pub fn trees_of_lazy_values()
         ⟦<LazyValue as Serialize>⟧.tree bytes ≡ Some (tree.lazy bytes) }
 {}
 
-/// What fields that are handed over together mean, in order: a field is there; one that may be
-/// absent is there where it is `Some`, and else null.
+/// Fields are listed in order. A required field is present. An optional field is present if it is
+/// `Some`; otherwise it is absent, and its tree is null.
 pub fn meanings_of_fields<V: Serialize, R: Fields>()
     ensures none { ⟦<() as Fields>⟧.named tt ≡ [] }
     ensures field { (f : Field V R) →
@@ -153,8 +155,8 @@ pub fn meanings_of_fields<V: Serialize, R: Fields>()
         ≡ (f.name.now, (false, Some (scalar tree.null))) ∷ R.named f.rest }
 {}
 
-/// Fields that are handed over together are a list up to the last that is there, the variant of
-/// that list, or a map from the names of those that are there, as strings or as symbols.
+/// Fields are a list up to the last present one, the variant of that list, or a map from the names
+/// of the present fields, with strings or symbols as keys.
 pub fn trees_of_fields<F: Fields>()
     ensures list { (l : ListOf F) → ⟦<ListOf<F> as Serialize>⟧.tree l
         ≡ option_map tree.list (all_trees (up_to_last (values_of (F.named l.0)))) }

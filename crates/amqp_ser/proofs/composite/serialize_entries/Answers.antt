@@ -4,7 +4,7 @@ use Rattle.amqp_ser.specs.declared.kind.Kind.TheVariants.{Map}
 use Rattle.amqp_ser.proofs.Feeding.{moved}
 use Rattle.amqp_ser.proofs.composite.serialize_entries.Goals as goal
 
--- a refusal of the fields is one of their map
+-- An error of the fields is permitted for the map of the fields.
 pub returns-in_err-feed_named : goal.returns-in_err-feed_named
 returns-in_err-feed_named g c =
     moved (g.S.Serializer.permits c.args.serializer.now) (ap (whole Map) (append-nil _)) (search rules) (search rules)

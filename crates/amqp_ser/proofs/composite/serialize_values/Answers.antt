@@ -3,7 +3,7 @@ use Rattle.amqp_ser.specs.Compounds.{whole}
 use Rattle.amqp_ser.proofs.Feeding.{moved}
 use Rattle.amqp_ser.proofs.composite.serialize_values.Goals as goal
 
--- a refusal of the fields is one of their list
+-- An error of the fields is permitted for the compound of the fields.
 pub returns-in_err-feed : goal.returns-in_err-feed
 returns-in_err-feed g c =
     moved (g.S.Serializer.permits c.args.serializer.now) (ap (whole c.args.kind) (append-nil _)) (search rules) (search rules)

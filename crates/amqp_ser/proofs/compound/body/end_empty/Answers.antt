@@ -5,7 +5,7 @@ use Rattle.amqp_ser.specs.declared.kind.Kind.TheVariants.{Single}
 use Rattle.amqp_ser.proofs.Single.{no_value}
 use Rattle.amqp_ser.proofs.compound.body.end_empty.Goals as goal
 
--- no field where there is one alone
+-- A single value without a field has no tree, so the misuse error is permitted.
 pub returns-in-Single-clause-empty : goal.returns-in-Single-clause-empty
 returns-in-Single-clause-empty g c = λ start h.
     subst (λ t. g.S.Serializer.permits start t (Err c.misuse.result) c.misuse.new.self) (sym (ap (λ b. whole (form_kind b) []) c.in-Single.is ∙ no_value)) (c.misuse.ensures.kept start Single [] h).1

@@ -5,7 +5,7 @@ use Rattle.amqp_ser.specs.declared.kind.Kind.TheVariants.{Single}
 use Rattle.amqp_ser.proofs.Single.{whole_single}
 use Rattle.amqp_ser.proofs.compound.body.open_body.Goals as goal
 
--- the single compound takes the refusal of its body
+-- The single compound accepts the error of its body as the error of its one part.
 pub returns-in-Err-end_part : goal.returns-in-Err-end_part
 returns-in-Err-end_part g c = λ start h.
     let s1 = c.begin_part.new.self in

@@ -3,7 +3,7 @@ use Rattle.amqp_ser.specs.Compounds.{whole}
 use Rattle.amqp_ser.specs.declared.kind.Kind.TheVariants.{Map}
 use Rattle.amqp_ser.proofs.compound.feed.feed_entry.Goals as goal
 
--- a refused value takes its key back
+-- If the value fails, its key is removed.
 pub returns-in-Err : goal.returns-in-Err
 returns-in-Err g c = λ start ps h e.
     let k = g.K.Serialize.tree c.args.key.now in

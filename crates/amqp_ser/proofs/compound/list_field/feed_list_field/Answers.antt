@@ -6,7 +6,7 @@ use Rattle.amqp_ser.proofs.compound.list_field.feed_list_field.Goals as goal
 some_is : {X : Type 0} (a b : X) → Some a ≡ Some b → a ≡ b
 some_is a b q = cc
 
--- the single compound takes the refusal of its first field
+-- The single compound accepts the error of its first field as the error of its one part.
 pub returns-in-Some-clause-first : goal.returns-in-Some-clause-first
 returns-in-Some-clause-first g c = λ o start h.
     let f = c.in-Some.ensures.first o start h in

@@ -2,7 +2,7 @@ use Rattle.std.proofs.Common.{◌≡◌, map, take}
 use Rattle.amqp_ser.specs.declared.kind.Kind.TheVariants.{List}
 use Rattle.amqp_ser.proofs.impls.holders.serialize_items.Given as goal
 
--- the list was fed the trees of the items before this one
+-- The list has accepted the trees of the items before this one.
 abbrev pub invariant-loop-item : goal.invariant-loop-item
 invariant-loop-item g l =
     record {

@@ -4,7 +4,7 @@ use Rattle.amqp_ser.proofs.Maps.{odd_map}
 use Rattle.amqp_ser.specs.declared.kind.Kind.TheVariants.{Map}
 use Rattle.amqp_ser.proofs.compound.map.SerializeMap.end.Goals as goal
 
--- a map with a pending key has an odd number of parts
+-- A map with a pending value has an odd number of parts.
 pub returns-then-pending-clause-ended : goal.returns-then-pending-clause-ended
 returns-then-pending-clause-ended g c = λ start ps h e.
     let odd : paired ps ≡ false = sym e ∙ ap not c.if-pending.true in

@@ -3,7 +3,7 @@ use Rattle.amqp_ser.proofs.Entries.{FedUpTo}
 use Rattle.amqp_ser.specs.declared.kind.Kind.TheVariants.{Map}
 use Rattle.amqp_ser.proofs.impls.maps.BTreeMapSerialize.serialize.Given as goal
 
--- the map was fed the entries before those that are left
+-- The map has accepted the entries before the remaining ones.
 abbrev pub invariant-loop-key : goal.invariant-loop-key
 invariant-loop-key g l =
     record {
