@@ -63,7 +63,7 @@ impl Read for SliceReader<'_> {
 /// A reader over the bytes of a `std` reader.
 ///
 /// Each failed read, including an interrupted one, counts as one failure and is not retried. A call
-/// that succeeds counts no failure.
+/// that does not return [`Error::Io`] counts none.
 #[derive(Drop)]
 pub struct IoReader<R> {
     inner: R,
