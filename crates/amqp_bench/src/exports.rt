@@ -56,12 +56,11 @@ fn attached(alloc: Global, form: u32, op: u32, times: u64) -> u64
 /// Runs an operation on a value made from `data`, and returns its result.
 ///
 /// The value of work 0 is the list of the lines of the text, and of work 1 the array of the numbers
-/// of four bytes each. The value of works 2 to 4 is the untyped value encoded in the data. For any
-/// other work the result is 0.
+/// of four bytes each. The value of works 2 to 4 is the untyped value encoded in the data.
 ///
 /// The operations are those of `repeat_typed`: 0 computes sizes, 1 writes bytes, 2 hashes the
 /// bytes, 3 builds untyped values, 4 writes texts, 5 decodes untyped values from the bytes, 6
-/// deserializes values from untyped values.
+/// deserializes values from untyped values. For any other work or operation, the result is 0.
 #[unsafe(no_mangle)]
 pub extern "C" fn amqp_bench(alloc: Global, work: u32, op: u32, data: &[u8], times: u64) -> u64
     ensures works { 5 ≤ work → result ≡ 0 }
@@ -79,9 +78,9 @@ pub extern "C" fn amqp_bench(alloc: Global, work: u32, op: u32, data: &[u8], tim
 ///
 /// Shape 0 is a list of fourteen fields, 1 a list of 1,000 ints, 2 a list of 1,000 rows of ten
 /// ints, 3 a chain of 256 lists, 4 a binary of 65,536 bytes, and 5 and 6 are maps of 1,000 and
-/// 10,000 keys. Shape 7 is the list of fields with a descriptor. Shapes 8 and 9 are the list
-/// without and with a descriptor, of the first seven fields, serialized one at a time. For any
-/// other shape the result is 0. The operations are those of `amqp_bench`.
+/// 10,000 keys. Shape 7 is the list of fields with a descriptor. Shape 8 is the list of the first
+/// seven fields, serialized one at a time, and shape 9 is that list with a descriptor. The
+/// operations are those of `amqp_bench`. For any other shape or operation, the result is 0.
 #[unsafe(no_mangle)]
 pub extern "C" fn amqp_shape(alloc: Global, shape: u32, op: u32, times: u64) -> u64
     ensures shapes { 10 ≤ shape → result ≡ 0 }

@@ -16,7 +16,7 @@ const DAY: i64 = 86_400_000;
 /// A year from 0 to 9999 has four digits. Any other year has a sign and at least six digits.
 ///
 /// # Errors
-/// Returns the formatter's error if its writer fails. A prefix of the text has then been written.
+/// Returns the formatter's error if its writer fails. A part of the text may have been written.
 ///
 /// # Memory
 /// What the formatter's writer allocates.

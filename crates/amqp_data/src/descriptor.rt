@@ -5,7 +5,7 @@ ghost use Rattle.amqp_data.specs.declared.descriptor.Descriptor.TheVariants.{Nam
 
 use crate::Symbol;
 
-/// The type of a described value, as a name or a code. Every name is less than every code.
+/// The descriptor of a described value, a name or a code. Every name is less than every code.
 ///
 /// # Encoding
 /// A symbol or a ulong, between the `00` and the value.

@@ -10,7 +10,7 @@ use std::fmt::{Formatter, Write};
 /// Writes two hexadecimal digits for each byte.
 ///
 /// # Errors
-/// Returns the formatter's error if its writer fails. A prefix of the digits has then been written.
+/// Returns the formatter's error if its writer fails. Some of the digits may have been written.
 ///
 /// # Memory
 /// What the formatter's writer allocates.

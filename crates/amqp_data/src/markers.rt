@@ -50,7 +50,7 @@ pub const ARRAY: &str = "__ARRAY";
 /// # Example
 /// The list of `true` and `false` is encoded as `4142`.
 pub const TRANSPARENT_VEC: &str = "__TRANSPARENT_VEC";
-/// Marks a newtype over a binary that is one encoded value as that value.
+/// Marks a newtype over a binary that is one encoded value. It is written as that value.
 ///
 /// # Example
 /// The bytes 50 and 01 are encoded as `5001`.

@@ -36,8 +36,8 @@ impl<K, V> OrderedMap<K, V> {
     /// Allocates nothing. Keeps `alloc` for later insertions.
     ///
     /// # Example
-    /// Encoded as `c10100`. After the ubyte 1 is inserted with the value `true`, encoded as
-    /// `c10402500141`.
+    /// The map is encoded as `c10100`. After the ubyte 1 is inserted with the value `true`, it is
+    /// encoded as `c10402500141`.
     pub fn new(alloc: Global) -> Self
         ensures { entries_of result ≡ [] }
     {
@@ -130,7 +130,7 @@ impl<K: Hash + Eq, V> OrderedMap<K, V> {
         }
     }
 
-    /// Sets the value of a key and returns the previous value, if the key was present.
+    /// Inserts a key with its value, and returns the previous value if the key was present.
     ///
     /// A key that is present keeps its position, and the key argument is dropped. A new key is
     /// appended. The keys are searched in order.
@@ -149,7 +149,7 @@ impl<K: Hash + Eq, V> OrderedMap<K, V> {
     where
         K: Drop,
         V: Drop,
-        // The value of `Ok`, and the entries after it.
+        // What `Ok` contains, and the entries after success.
         ensures replaced { IfOk result (λ old. old ≡ lookup (K.eq key) (entries_of self.old)) }
         ensures entries { OnOk result
             (entries_of self.new ≡ insert_pair K.eq (entries_of self.old) key value) }
@@ -159,7 +159,7 @@ impl<K: Hash + Eq, V> OrderedMap<K, V> {
         ensures memory { IfErr result (λ e. e ≡ Error.OutOfMemory) }
         ensures unchanged { OnErr result (entries_of self.new ≡ entries_of self.old) }
 
-        // In both cases.
+        // What holds in both cases.
         ensures distinct { AreDistinct K.eq (keys_of (entries_of self.old)) →
             AreDistinct K.eq (keys_of (entries_of self.new)) }
     {

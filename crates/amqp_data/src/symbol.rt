@@ -31,7 +31,7 @@ impl Symbol {
     /// Allocates the copy from `alloc`.
     ///
     /// # Example
-    /// From `amqp`, the symbol encoded as `a304616d7170` and displayed as `:amqp`.
+    /// `amqp` gives the symbol encoded as `a304616d7170` and displayed as `:amqp`.
     pub fn try_from_str(alloc: Global, text: &str) -> Result<Symbol, Error>
         ensures ok { IfOk result (λ symbol. symbol_text symbol ≡ text.now) }
         ensures memory { IfErr result (λ e. e ≡ Error.OutOfMemory) }

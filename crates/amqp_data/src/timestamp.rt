@@ -23,7 +23,7 @@ impl Timestamp {
     /// negative.
     ///
     /// # Example
-    /// From -1, the timestamp displayed as `1969-12-31T23:59:59.999Z` and encoded as
+    /// -1 gives the timestamp displayed as `1969-12-31T23:59:59.999Z` and encoded as
     /// `83ffffffffffffffff`.
     pub fn from_milliseconds(milliseconds: i64) -> Timestamp
         ensures { milliseconds_of result ≡ milliseconds }

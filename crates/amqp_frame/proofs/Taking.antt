@@ -19,7 +19,7 @@ failed-later f g h fg gh (inl rose) = inl (omega arith)
 failed-later f g h fg gh (inr last) =
     elim (cases_lt f g) [ inl below ↦ inl (omega arith) | inr over ↦ inr (omega arith) ]
 
--- an error of a call, after earlier calls consumed bytes
+-- an error of a later call is an error of the sequence, whose earlier calls consumed bytes
 pub refuses-later : (a b c : Option (List ℕ)) (f g h : ℕ) (taken : List ℕ) {E E' C C' : Type 0} → Consumes a b taken
     → f ≤ g → g ≤ h → (E → E') → (C → C') → (e : Error) → FrameRefuses b c g h E C e → FrameRefuses a c f h E' C' e
 refuses-later a b c f g h taken t fg gh at_end at_code OutOfMemory (more, r) =

@@ -19,8 +19,7 @@ TakesIncomplete old new = IfSome old (λ s. IsIncomplete s × (new ≡ Some []))
 abbrev pub TakesMalformed : Option (List ℕ) → Option (List ℕ) → Type 0
 TakesMalformed old new = (prefix : List ℕ) × IsMalformed prefix × Consumes old new prefix
 
--- the statement for each error; the caller supplies those for `UnexpectedEof` and
--- `InvalidFormatCode`
+-- the statement for each error: `at_end` for `UnexpectedEof`, `at_code` for `InvalidFormatCode`
 abbrev pub FrameRefuses : Option (List ℕ) → Option (List ℕ) → ℕ → ℕ → Type 0 → Type 0 → Error → Type 0
 FrameRefuses old new before after at_end at_code OutOfMemory = Takes old new
 FrameRefuses old new before after at_end at_code UnexpectedEof = at_end

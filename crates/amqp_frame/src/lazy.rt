@@ -50,7 +50,7 @@ impl LazyValue {
     ///
     /// Returns [`Error::InvalidFormatCode`] if the first byte of a value is an invalid code. That
     /// code is the last byte consumed. Returns [`Error::UnexpectedEof`] if the input ends before
-    /// the value does. No bytes remain. Returns [`Error::Io`] if a read fails, and
+    /// the value does. No bytes then remain. Returns [`Error::Io`] if a read fails, and
     /// [`Error::OutOfMemory`] if an allocation fails. After any error, the consumed bytes followed
     /// by the remaining bytes are the bytes that remained before the call.
     ///
