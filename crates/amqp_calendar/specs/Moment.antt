@@ -21,8 +21,7 @@ time_text ms =
 abbrev pub date_and_time_text : ℤ → ℕ → ℕ → ℕ → List ℕ
 date_and_time_text y m d time = year_text y ++ (codes "-" ++ (padded 2 m ++ (codes "-" ++ (padded 2 d ++ time_text time))))
 
--- the date of the day that contains the millisecond, and the time from the milliseconds since
--- midnight
+-- the date of the day that contains the millisecond, and the time of that day
 abbrev pub moment_text : ℤ → List ℕ
 moment_text ms =
     let p = date_of (int_div_euclid ms (pos 86_400_000)) in date_and_time_text p.0 p.1 p.2 (unsigned_abs (int_rem_euclid ms (pos 86_400_000)))

@@ -28,8 +28,7 @@ abbrev pub answers_io : {T : Type 0} → Result T Error → Bool
 answers_io (Ok value) = false
 answers_io (Err e) = is_io e
 
--- a call that returned `Io` below the maximum counted one failure, and any other result counted
--- none
+-- a call that returned `Io` below the maximum counted one failure; any other call counted none
 abbrev pub CountsOne : Bool → ℕ → ℕ → Type 0
 CountsOne true before after = before < last_count → after ≡ before + 1
 CountsOne false before after = after ≡ before

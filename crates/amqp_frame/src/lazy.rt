@@ -64,7 +64,7 @@ impl LazyValue {
     ///
     /// From `500140`, reads `5001`, and `40` remains. From `00a1016145`, reads all five bytes.
     pub fn from_reader<R: Read>(alloc: Global, reader: &mut R) -> Result<LazyValue, Error>
-        // The value of `Ok`, and the bytes that remain after it.
+        // What `Ok` contains, and the bytes that remain after success.
         ensures frame { IfOk result (λ value.
             IsFrame value × Consumes (R.left reader.old) (R.left reader.new) value) }
         // When each result is returned.

@@ -26,7 +26,7 @@ const PIECE: usize = 4096;
 /// # Errors
 ///
 /// Returns [`Error::InvalidFormatCode`] at an invalid code, which is the last byte consumed.
-/// Returns [`Error::UnexpectedEof`] if the input ends before the value does. No bytes remain.
+/// Returns [`Error::UnexpectedEof`] if the input ends before the value does. No bytes then remain.
 /// Returns [`Error::Io`] if a read fails, and [`Error::OutOfMemory`] if an allocation fails.
 ///
 /// # Example
