@@ -1,4 +1,4 @@
-//! Lists within lists, read out of an untyped value.
+//! Deserializes nested lists from an untyped value.
 
 ghost use Rattle.std.specs.Prelude.{◌≡◌, ◌≤◌};
 
@@ -10,11 +10,12 @@ use amqp_to_value::to_value;
 use amqp_value::Value;
 use std::alloc::Global;
 
-/// Reads a chain one level at a time, each as a list of untyped values: a type that holds itself has
-/// no `deserialize` that calls itself.
+/// Reads a chain one level at a time, each level as a list of untyped values: the `deserialize` of
+/// a recursive type cannot call itself.
 ///
 /// # Errors
-/// `OutOfMemory`; `InvalidValue` where a level is no list, or has more than one element.
+/// Returns `Error::OutOfMemory` if an allocation fails. Returns `Error::InvalidValue` if a level is
+/// not a list or has more than one element.
 fn read_chain(alloc: Global, untyped: Value) -> Result<Chain, Error> {
     let mut level: Vec<Value> = from_value(alloc, untyped)?;
     for links in 0..u32::MAX {
@@ -31,7 +32,8 @@ fn read_chain(alloc: Global, untyped: Value) -> Result<Chain, Error> {
     Err(Error::InvalidValue)
 }
 
-/// Makes the untyped value and reads the chain out of it, adds one, and tells whether it was read.
+/// Builds the untyped value, reads the chain from it and adds one to `sum`. Returns whether both
+/// calls succeeded.
 #[inline(never)]
 fn add_chain(alloc: Global, chain: &Chain, sum: &mut u64) -> bool {
     let Ok(untyped) = to_value(alloc, chain) else {
@@ -46,10 +48,11 @@ fn add_chain(alloc: Global, chain: &Chain, sum: &mut u64) -> bool {
     }
 }
 
-/// As `repeat`, and 6 how many chains were read out of an untyped value that was made for each.
+/// Like `repeat`, with the additional operation 6, which returns the number of chains read, each
+/// from a new untyped value.
 ///
 /// # Memory
-/// Takes `alloc`, and gives it back after each round.
+/// Allocates from `alloc`. What a round allocates is freed at the end of the round.
 pub fn repeat_chain(alloc: Global, chain: &Chain, op: u32, times: u64) -> u64
     ensures { 7 ≤ op → result ≡ 0 }
 {
@@ -84,7 +87,7 @@ mod tests {
         assert!(rt; null_is_no_chain(&rt), "null");
     }
 
-    /// The sizes of a chain and of what is read from its untyped value.
+    /// Returns the sizes of a chain and of the chain read from its untyped value.
     fn sizes(alloc: Global, links: u32) -> Result<(usize, usize), Error> {
         let chain = Chain::of_links(alloc, links)?;
         let read = read_chain(alloc, to_value(alloc, &chain)?)?;

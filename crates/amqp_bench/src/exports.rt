@@ -1,4 +1,4 @@
-//! The functions for C.
+//! The functions exported to C.
 
 ghost use Rattle.std.specs.Prelude.{◌≡◌, ◌≤◌};
 
@@ -14,7 +14,7 @@ use amqp_decode::decode_value;
 use amqp_ser::Serialize;
 use std::alloc::Global;
 
-/// The answer on what could be built; 0 where it could not.
+/// Returns the result of an operation on the value that was built, or 0 if building it failed.
 fn answer<T: Serialize + Deserialize + Drop>(
     alloc: Global,
     built: Result<T, Error>,
@@ -29,7 +29,7 @@ fn answer<T: Serialize + Deserialize + Drop>(
     }
 }
 
-/// The answer on a chain of 256 lists.
+/// Returns the result of an operation on a chain of 256 lists.
 fn chained(alloc: Global, op: u32, times: u64) -> u64
     ensures { 7 ≤ op → result ≡ 0 }
 {
@@ -39,7 +39,7 @@ fn chained(alloc: Global, op: u32, times: u64) -> u64
     }
 }
 
-/// The answer on the fields in one of three other forms.
+/// Returns the result of an operation on the fields of `Attach` in one of three other forms.
 fn attached(alloc: Global, form: u32, op: u32, times: u64) -> u64
     ensures { 7 ≤ op → result ≡ 0 }
 {
@@ -53,12 +53,14 @@ fn attached(alloc: Global, form: u32, op: u32, times: u64) -> u64
     }
 }
 
-/// Answers on a value made of the data: work 0 is the list of the text's lines, work 1 the array of
-/// the numbers of four bytes each, works 2 to 4 the untyped value that the data spells; any other
-/// is 0.
+/// Runs an operation on a value made from `data`, and returns its result.
 ///
-/// The operations are those of `repeat_typed`: 0 sizes, 1 bytes, 2 a hash of the bytes, 3 untyped
-/// values, 4 texts, 5 untyped values read from the bytes, 6 values read out of untyped ones.
+/// The value of work 0 is the list of the lines of the text, and of work 1 the array of the numbers
+/// of four bytes each. The value of works 2 to 4 is the untyped value encoded in the data.
+///
+/// The operations are those of `repeat_typed`: 0 computes sizes, 1 writes bytes, 2 hashes the
+/// bytes, 3 builds untyped values, 4 writes texts, 5 decodes untyped values from the bytes, 6
+/// deserializes values from untyped values. For any other work or operation, the result is 0.
 #[unsafe(no_mangle)]
 pub extern "C" fn amqp_bench(alloc: Global, work: u32, op: u32, data: &[u8], times: u64) -> u64
     ensures works { 5 ≤ work → result ≡ 0 }
@@ -72,10 +74,13 @@ pub extern "C" fn amqp_bench(alloc: Global, work: u32, op: u32, data: &[u8], tim
     }
 }
 
-/// Answers on a value made by a rule: 0 is a list of fourteen fields, 1 a list of 1,000 ints, 2
-/// 1,000 rows of ten ints, 3 a chain of 256 lists, 4 a binary of 65,536 bytes, 5 and 6 maps of
-/// 1,000 and 10,000 keys; 7 is the list of fields under a descriptor, 8 and 9 are those two of the
-/// first seven fields, fed one by one; any other is 0. The operations are those of `amqp_bench`.
+/// Runs an operation on a value made by a rule, and returns its result.
+///
+/// Shape 0 is a list of fourteen fields, 1 a list of 1,000 ints, 2 a list of 1,000 rows of ten
+/// ints, 3 a chain of 256 lists, 4 a binary of 65,536 bytes, and 5 and 6 are maps of 1,000 and
+/// 10,000 keys. Shape 7 is the list of fields with a descriptor. Shape 8 is the list of the first
+/// seven fields, serialized one at a time, and shape 9 is that list with a descriptor. The
+/// operations are those of `amqp_bench`. For any other shape or operation, the result is 0.
 #[unsafe(no_mangle)]
 pub extern "C" fn amqp_shape(alloc: Global, shape: u32, op: u32, times: u64) -> u64
     ensures shapes { 10 ≤ shape → result ≡ 0 }

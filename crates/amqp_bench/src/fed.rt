@@ -1,10 +1,10 @@
-//! The first seven of the fields, fed one by one.
+//! The first seven fields of `Attach`, serialized one at a time.
 
 use crate::attach::Attach;
 use amqp_data::markers;
 use amqp_ser::{Serialize, Serializer};
 
-/// The fields, fed one by one.
+/// The fields, serialized one at a time.
 #[derive(Drop)]
 pub struct FedFields(pub Attach);
 
@@ -26,7 +26,7 @@ impl Serialize for FedFields {
     }
 }
 
-/// The descriptor and the fields, fed one by one.
+/// The descriptor and the fields, serialized one at a time.
 #[derive(Drop)]
 pub struct FedDescribedFields(pub Attach);
 

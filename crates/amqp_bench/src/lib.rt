@@ -1,7 +1,7 @@
-//! What the bench measures, as a static library with two functions for C.
+//! The benchmarked operations, as a static library with two functions for C.
 //!
-//! Each call builds a value, answers on it many times and gives a sum, so that what is measured
-//! stands in one call.
+//! Each function builds a value, runs one operation on it many times and returns a sum, so that the
+//! measured work is in one call.
 #![tactic(auto)]
 
 mod attach;

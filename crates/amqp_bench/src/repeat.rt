@@ -1,6 +1,6 @@
-//! One answer, many times.
+//! Runs one operation many times.
 //!
-//! Each round is a call of its own, so that a compiler does not see that all are the same.
+//! Each round is a separate call, so that the compiler cannot detect that all rounds are the same.
 
 ghost use Rattle.std.specs.Prelude.{◌≡◌, ◌≤◌};
 
@@ -16,7 +16,7 @@ use amqp_value::Value;
 use amqp_wire::to_vec;
 use std::alloc::Global;
 
-/// Adds the size of a value to a sum, and tells whether it has one.
+/// Adds the size of a value to `sum`. Returns whether the value has a size.
 #[inline(never)]
 fn add_size<T: Serialize>(value: &T, sum: &mut u64) -> bool {
     match serialized_size(value) {
@@ -28,7 +28,7 @@ fn add_size<T: Serialize>(value: &T, sum: &mut u64) -> bool {
     }
 }
 
-/// Writes a value, adds how many bytes that were, and tells whether it was written.
+/// Writes a value and adds the number of bytes to `sum`. Returns whether the value was written.
 #[inline(never)]
 fn add_bytes<T: Serialize>(alloc: Global, value: &T, sum: &mut u64) -> bool {
     match to_vec(alloc, value) {
@@ -40,7 +40,7 @@ fn add_bytes<T: Serialize>(alloc: Global, value: &T, sum: &mut u64) -> bool {
     }
 }
 
-/// Makes the untyped value, adds one, and tells whether it was made.
+/// Builds the untyped value and adds one to `sum`. Returns whether the value was built.
 #[inline(never)]
 fn add_value<T: Serialize>(alloc: Global, value: &T, sum: &mut u64) -> bool {
     match to_value(alloc, value) {
@@ -52,8 +52,8 @@ fn add_value<T: Serialize>(alloc: Global, value: &T, sum: &mut u64) -> bool {
     }
 }
 
-/// Writes the text of an untyped value, adds how many bytes it has, and tells whether it was
-/// written.
+/// Writes the text of an untyped value and adds its length in bytes to `sum`. Returns whether the
+/// text was written.
 #[inline(never)]
 fn add_text(alloc: Global, value: &Value, sum: &mut u64) -> bool {
     match value.to_string(alloc) {
@@ -65,7 +65,8 @@ fn add_text(alloc: Global, value: &Value, sum: &mut u64) -> bool {
     }
 }
 
-/// Reads the untyped value that the bytes spell, adds one, and tells whether they spell one.
+/// Decodes an untyped value from the bytes and adds one to `sum`. Returns whether decoding
+/// succeeded.
 #[inline(never)]
 fn add_decoded(alloc: Global, bytes: &[u8], sum: &mut u64) -> bool {
     match decode_value(alloc, bytes) {
@@ -77,7 +78,7 @@ fn add_decoded(alloc: Global, bytes: &[u8], sum: &mut u64) -> bool {
     }
 }
 
-/// How many untyped values were read from a value's bytes; 0 where one is refused.
+/// Returns the number of untyped values decoded from the bytes of a value, or 0 if a call fails.
 fn decoded<T: Serialize>(alloc: Global, value: &T, times: u64) -> u64 {
     let Ok(bytes) = to_vec(alloc, value) else {
         return 0;
@@ -91,7 +92,8 @@ fn decoded<T: Serialize>(alloc: Global, value: &T, times: u64) -> u64 {
     sum
 }
 
-/// Makes the untyped value and reads the type out of it, adds one, and tells whether it was read.
+/// Builds the untyped value, deserializes the type from it and adds one to `sum`. Returns whether
+/// both calls succeeded.
 #[inline(never)]
 fn add_typed<T: Serialize + Deserialize + Drop>(alloc: Global, value: &T, sum: &mut u64) -> bool {
     let Ok(untyped) = to_value(alloc, value) else {
@@ -107,7 +109,7 @@ fn add_typed<T: Serialize + Deserialize + Drop>(alloc: Global, value: &T, sum: &
     }
 }
 
-/// The sum of so many lengths of the text of a value's untyped value; 0 where one is refused.
+/// Returns the sum of `times` lengths of the text of the untyped value, or 0 if a call fails.
 fn lengths_of_texts<T: Serialize>(alloc: Global, value: &T, times: u64) -> u64 {
     match to_value(alloc, value) {
         Ok(value) => {
@@ -123,7 +125,7 @@ fn lengths_of_texts<T: Serialize>(alloc: Global, value: &T, times: u64) -> u64 {
     }
 }
 
-/// The hash of a value's bytes; 0 where they cannot be written.
+/// Returns the hash of the bytes of a value, or 0 if the value cannot be written.
 fn hash_of_bytes<T: Serialize>(alloc: Global, value: &T) -> u64 {
     match to_vec(alloc, value) {
         Ok(bytes) => hash_of(bytes.as_slice()),
@@ -131,7 +133,7 @@ fn hash_of_bytes<T: Serialize>(alloc: Global, value: &T) -> u64 {
     }
 }
 
-/// One round of an operation.
+/// Runs one round of an operation. Returns whether it succeeded.
 fn round<T: Serialize>(alloc: Global, value: &T, op: u32, sum: &mut u64) -> bool {
     match op {
         0 => add_size(value, sum),
@@ -140,13 +142,15 @@ fn round<T: Serialize>(alloc: Global, value: &T, op: u32, sum: &mut u64) -> bool
     }
 }
 
-/// What an operation answers on a value: 0 the sum of this many sizes, 1 the sum of this many
-/// written lengths, 2 the hash of the bytes, 3 how many untyped values were made, 4 the sum of this
-/// many lengths of texts, 5 how many untyped values were read from the bytes; 0 where a round is
-/// refused, and for any other operation.
+/// Runs an operation on a value and returns its result.
+///
+/// Operation 0 returns the sum of `times` sizes, 1 the sum of `times` lengths of the bytes, 2 the
+/// hash of the bytes, 3 the number of untyped values built, 4 the sum of `times` lengths of the
+/// text, 5 the number of untyped values decoded from the bytes. The result is 0 if a round fails,
+/// and for any other operation.
 ///
 /// # Memory
-/// Takes `alloc`, and gives it back after each round.
+/// Allocates from `alloc`. What a round allocates is freed at the end of the round.
 pub fn repeat<T: Serialize>(alloc: Global, value: &T, op: u32, times: u64) -> u64
     ensures { 6 ≤ op → result ≡ 0 }
 {
@@ -171,10 +175,11 @@ pub fn repeat<T: Serialize>(alloc: Global, value: &T, op: u32, times: u64) -> u6
     sum
 }
 
-/// As `repeat`, and 6 how many values were read out of an untyped value that was made for each.
+/// Like `repeat`, with the additional operation 6, which returns the number of values deserialized,
+/// each from a new untyped value.
 ///
 /// # Memory
-/// Takes `alloc`, and gives it back after each round.
+/// Allocates from `alloc`. What a round allocates is freed at the end of the round.
 pub fn repeat_typed<T: Serialize + Deserialize + Drop>(
     alloc: Global,
     value: &T,

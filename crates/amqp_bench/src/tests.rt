@@ -1,17 +1,17 @@
-//! Answers that no clause states, worked by hand or by another program. Each row is a bool, and a
-//! wrong one prints its name, its shape or work, and what was got.
+//! Tests of results that no clause states, computed by hand or by another program. Each row is a
+//! `bool`. A row that fails prints its name, its shape or work, and the actual result.
 
 mod prefixes;
 
 use crate::exports::{amqp_bench, amqp_shape};
 use crate::hash::hash_of;
 
-/// Whether the number is the wanted one.
+/// Returns whether `got` equals `wanted`. Prints the actual number if it does not.
 pub fn is(rt: &HostRuntime, name: &str, of: u32, got: u64, wanted: u64) -> bool {
     got == wanted || println!(rt; "{name} {of}: got {got}").is_err() && false
 }
 
-/// Prints that there is no answer, and answers false.
+/// Prints that there is no result, and returns false.
 pub fn wrong(rt: &HostRuntime, name: &str, of: u32) -> bool {
     println!(rt; "{name} {of}: got none").is_err() && false
 }
@@ -33,7 +33,7 @@ fn each_shape_has_each_answer(rt: HostRuntime) {
     assert!(rt; types_are_read(&rt), "types are read out of untyped values");
 }
 
-/// Hashes that are published for the function.
+/// Compares hashes with the published hashes of FNV-1a.
 fn hashes(rt: &HostRuntime) -> bool {
     is(
         rt,
@@ -56,13 +56,13 @@ fn hashes(rt: &HostRuntime) -> bool {
     )
 }
 
-/// Whether an operation answers this on a work's data.
+/// Returns whether an operation on the data of a work returns `wanted`.
 fn of_work(rt: &HostRuntime, work: u32, op: u32, data: &[u8], times: u64, wanted: u64) -> bool {
     let got = amqp_bench(rt.alloc(), work, op, data, times);
     got == wanted || println!(rt; "work {work}, operation {op}: got {got}").is_err() && false
 }
 
-/// Whether an operation answers this on a shape.
+/// Returns whether an operation on a shape returns `wanted`.
 fn of_shape(rt: &HostRuntime, shape: u32, op: u32, times: u64, wanted: u64) -> bool {
     let got = amqp_shape(rt.alloc(), shape, op, times);
     got == wanted || println!(rt; "shape {shape}, operation {op}: got {got}").is_err() && false
@@ -83,7 +83,7 @@ fn bytes(rt: &HostRuntime) -> bool {
         && of_work(rt, 1, 2, b"\0\0\0\x01\0\0\0\x02", 1, numbers)
 }
 
-/// The size, the bytes, the untyped value, its text and the value read from the bytes.
+/// Checks the size, the bytes, the untyped value, its text and the value decoded from the bytes.
 fn is_written_and_made(rt: &HostRuntime, shape: u32) -> bool {
     let size = amqp_shape(rt.alloc(), shape, 0, 1);
     let text = amqp_shape(rt.alloc(), shape, 4, 1);
@@ -109,7 +109,7 @@ fn types_are_read(rt: &HostRuntime) -> bool {
         && of_work(rt, 1, 6, b"\0\0\0\x01", 3, 3)
 }
 
-/// The works 2 to 4 on the list of the uint 0, in its longest form, and true.
+/// Checks works 2 to 4 on the list of the uint 0, in its longest encoding, and true.
 fn spelled_values(rt: &HostRuntime) -> bool {
     is_spelled(rt, 2) && is_spelled(rt, 3) && is_spelled(rt, 4)
 }

@@ -1,4 +1,4 @@
--- The days before each month.
+-- The number of days before each month.
 use Rattle.std.proofs.Common.{◌≡◌, ℕ, zero, suc, ◌+◌, ◌-◌, ◌≤◌, ℤ, refl, arith}
 use Rattle.amqp_calendar.specs.Years.{year_length}
 use Rattle.amqp_calendar.specs.Dates.{month_length, months_before, IsDate}
@@ -25,7 +25,7 @@ from_on y m (suc k) =
 pub later : (y : ℤ) (m n : ℕ) → m ≤ n → months_before y m ≤ months_before y n
 later y m n h = let same : n - m + m ≡ n = omega arith in rw same at (from_on y m (n - m))
 
--- a day of a month lies before each later month
+-- a day of a month precedes each later month
 pub before_later : (y : ℤ) (m d n : ℕ) → IsDate y m d → m ≤ n → months_before y (m - 1) + d ≤ months_before y n
 before_later y m d n h le = omega (arith, one_more y m h.0, later y m n le, h.3)
 

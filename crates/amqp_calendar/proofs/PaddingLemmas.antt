@@ -1,4 +1,4 @@
--- Numbers filled up with zeros.
+-- Numbers padded with zeros.
 use Rattle.std.proofs.Common.{◌≡◌, ℕ, ◌-◌, List, [], ◌++◌, length, replicate, false, ap, ◌∙◌, arith}
 use Rattle.std.specs.Prelude.{decimal}
 use Rattle.std.specs.Fmt.{padded_integral, styled_decimal, format_spec, char_count}

@@ -1,4 +1,4 @@
--- Where a year starts: from year to year, and by cycles.
+-- The first day of each year, computed year by year and by cycles.
 use Rattle.std.proofs.Common.{◌≡◌, ℕ, zero, suc, ◌+◌, ◌*◌, ◌≤◌, cond, refl, sym, ap, ◌∙◌, arith, ℤ, pos, negsuc, ◌+ℤ◌, ◌-ℤ◌}
 use Rattle.std.proofs.lemmas.Bool.Decides.{nat_tests}
 use Rattle.amqp_calendar.specs.Years.{is_leap_year, year_length, years_from, start, start_after}
@@ -12,7 +12,7 @@ leap_day y = cond (is_leap_year y) 1 0
 pub length_is : (y : ℤ) → year_length y ≡ 365 + leap_day y
 length_is y = grind arith
 
--- the rule does not change when the years are counted from a multiple of 400
+-- the leap year rule is unchanged if years are counted from a multiple of 400
 leap_shift : (y : ℤ) (n : ℕ) → y +ℤ pos 292_280_000 ≡ pos n → leap_day y ≡ leap_day (pos n)
 leap_shift (pos a) n e = let h : a + 292_280_000 ≡ n = omega (arith, signed) in grind (arith, nat_tests)
 leap_shift (negsuc a) n e = let h : n + suc a ≡ 292_280_000 = omega (arith, signed) in grind (arith, nat_tests)
@@ -56,7 +56,7 @@ pub start_is : (y : ℤ) (n : ℕ) → y +ℤ pos 292_280_000 ≡ pos (suc n) �
 unfolding start
 start_is y n h = start_by y (y -ℤ pos 1970) n refl h
 
--- the first of some years, and the others
+-- the days of some years are those of the first year and those of the others
 from_prefix : (y z : ℤ) (n : ℕ) → z ≡ y +ℤ pos 1 → years_from y (suc n) ≡ year_length y + years_from z n
 from_prefix y z zero e =
     let same : y +ℤ pos 0 ≡ y = omega (arith, signed) in
@@ -80,7 +80,7 @@ next_by y z (negsuc k) (negsuc m) e ha hb =
     let next : k ≡ suc m = omega (arith, signed) in
     rw next (omega (arith, signed, from_prefix y z (suc m) e))
 
--- the next year starts after the days of this one
+-- the next year starts after the days of this year
 pub start_next : (y z : ℤ) → z ≡ y +ℤ pos 1 → up (start z) + down (start y) ≡ down (start z) + up (start y) + year_length y
 unfolding start
 start_next y z e = next_by y z (y -ℤ pos 1970) (z -ℤ pos 1970) e refl refl

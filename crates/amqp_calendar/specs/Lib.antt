@@ -1,7 +1,7 @@
--- What contracts of public items rest on.
+-- Definitions used by the contracts of public items.
 pub mod Years
 pub mod Dates
 pub mod DateOf
 pub mod Moment
--- What contracts of private functions alone cite.
+-- Definitions used only by the contracts of private functions.
 pub mod Cycles

@@ -1,27 +1,28 @@
-//! From a day's number to its date.
+//! Conversion from a day number to a date.
 
 ghost use Rattle.std.specs.Prelude.{◌≡◌, ℕ, ℤ, ◌+◌, ◌-◌, ◌*◌, ◌<◌, ◌≤◌, pos, neg_ℤ, ◌+ℤ◌, ◌≤ℤ◌};
 ghost use Rattle.amqp_calendar.specs.Cycles.{days_of};
 ghost use Rattle.amqp_calendar.specs.Dates.{IsDate, day_number, month_length, months_before};
 ghost use Rattle.amqp_calendar.specs.Years.{is_leap_year, year_length};
 
-// The days of 400 years.
+// The number of days in 400 years.
 const CYCLE: u64 = 146_097;
 
-// Whole cycles from the first year that is counted up to the year 1.
+// The number of 400-year cycles from the first counted year to the year 1.
 const CYCLES: i64 = 730_700;
 
-// The days from the first one that is counted up to day 0, which is 1 January 1970.
+// The number of days from the first counted day to day 0, which is 1 January 1970.
 const EPOCH: i64 = CYCLES * 146_097 + 719_162;
 
-/// The date of a day as year, month and day, in the proleptic Gregorian calendar with a year 0.
+/// Returns the year, month and day of a day number, in the proleptic Gregorian calendar with a year
+/// 0.
 ///
-/// Day 0 is 1 January 1970. The days are those of all milliseconds that an `i64` counts: from
+/// Day 0 is 1 January 1970. The valid days are those of all milliseconds that an `i64` counts: from
 /// -106,751,991,168 to 106,751,991,167. Months and days are counted from 1. No other date has this
-/// day, in any year of all integers.
+/// day number, over all integer years.
 ///
 /// # Memory
-/// Takes none.
+/// Allocates nothing.
 ///
 /// # Example
 /// Day 11,016 is (2000, 2, 29).
@@ -39,7 +40,7 @@ pub fn civil_from_days(days: i64) -> (i64, u32, u32)
     (year, month, day)
 }
 
-// How many days lie before, from the first that is counted.
+// Returns the number of days from the first counted day to `days`.
 fn day_count(days: i64) -> u64
     requires low { neg_ℤ (pos 106_751_991_168) ≤ℤ days }
     requires high { days ≤ℤ pos 106_751_991_167 }
@@ -49,7 +50,7 @@ fn day_count(days: i64) -> u64
     (days + EPOCH) as u64
 }
 
-// The year after so many.
+// Returns the year that follows `years` counted years.
 fn year_number(years: u64) -> i64
     requires { years < 900_000_000 }
     ensures { result +ℤ pos 292_280_000 ≡ pos (years + 1) }
@@ -57,8 +58,8 @@ fn year_number(years: u64) -> i64
     years as i64 + 1 - 400 * CYCLES
 }
 
-// How many whole years lie before a day, and its place in its year. The long year is the last of
-// each group.
+// Returns the number of complete years before a day, and the offset of the day in its year. The
+// leap year is the last of each group of years.
 fn year_of(days: u64) -> (u64, u32)
     requires { days < 300_000_000_000 }
     ensures value { days_of result.0 + result.1 ≡ days }
@@ -79,7 +80,7 @@ fn year_of(days: u64) -> (u64, u32)
     )
 }
 
-// The month of a day by its place in the year, and the day in that month.
+// Returns the month of the day at an offset in the year, and the day of that month.
 #[tactic(auto, using(crate::proofs::MonthLemmas::months))]
 fn month_of(year: i64, day: u32) -> (u32, u32)
     requires { day < year_length year }

@@ -1,22 +1,23 @@
-//! The laws of dates. Each function does nothing: its contract is the law.
+//! Laws of dates. Each law is a function with an empty body whose contract states the law.
 
 ghost use Rattle.std.specs.Prelude.{◌≡◌, ℕ, ℤ};
 ghost use Rattle.amqp_calendar.specs.DateOf.{date_of};
 ghost use Rattle.amqp_calendar.specs.Dates.{IsDate, day_number};
 
-/// Each day, of all integers, has a date, which is found from year to year and from month to month.
+/// Each day, over all integers, has a date, which `date_of` computes year by year and month by
+/// month.
 ///
 /// # Memory
-/// Takes none.
+/// Allocates nothing.
 pub fn each_day_has_a_date()
     ensures valid { (day : ℤ) → let p = date_of day in IsDate p.0 p.1 p.2 }
     ensures value { (day : ℤ) → let p = date_of day in day_number p.0 p.1 p.2 ≡ day }
 {}
 
-/// No two dates have one day.
+/// No two dates have the same day number.
 ///
 /// # Memory
-/// Takes none.
+/// Allocates nothing.
 pub fn a_day_has_one_date()
     ensures { (y : ℤ) (m d : ℕ) (z : ℤ) (n e : ℕ) → IsDate y m d → IsDate z n e →
         day_number y m d ≡ day_number z n e →

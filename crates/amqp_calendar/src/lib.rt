@@ -1,7 +1,8 @@
-//! The calendar: the date of a day, and the text of a moment.
+//! The calendar: the date of a day, and the text of a timestamp.
 //!
-//! It is the proleptic Gregorian calendar with a year 0, for the days of all milliseconds that an
-//! `i64` counts from the Unix epoch. It stands on nothing; `amqp_data` hands it on.
+//! This is the proleptic Gregorian calendar with a year 0, for the days of all milliseconds that an
+//! `i64` counts from the Unix epoch. The crate has no dependencies. `amqp_data` re-exports
+//! `civil_from_days`.
 #![tactic(auto)]
 
 mod civil;

@@ -1,4 +1,4 @@
-//! The text of a moment.
+//! The text of a timestamp.
 
 ghost use Rattle.std.specs.Prelude.{◌≡◌, ◌<◌, pos, neg_ℤ, ◌≤ℤ◌, unsigned_abs};
 ghost use Rattle.std.specs.Fmt.{WritesOnOk};
@@ -11,18 +11,18 @@ use std::fmt::{Formatter, Write};
 
 const DAY: i64 = 86_400_000;
 
-/// Writes a moment, so many milliseconds after the Unix epoch, as `Y-MM-DDThh:mm:ss.mmmZ`.
+/// Writes the timestamp `milliseconds` after the Unix epoch as `Y-MM-DDThh:mm:ss.mmmZ`.
 ///
-/// Years from 0 to 9999 have four digits, others a sign and at least six.
+/// A year from 0 to 9999 has four digits. Any other year has a sign and at least six digits.
 ///
 /// # Errors
-/// The formatter's, where its writer refuses; a prefix of the text was written then.
+/// Returns the formatter's error if its writer fails. A part of the text may have been written.
 ///
 /// # Memory
-/// What the formatter's writer takes.
+/// What the formatter's writer allocates.
 ///
 /// # Example
-/// -1 is written `1969-12-31T23:59:59.999Z`.
+/// -1 is written as `1969-12-31T23:59:59.999Z`.
 pub fn write_moment<W: Write>(milliseconds: i64, f: &mut Formatter<W>) -> fmt::Result
     ensures { WritesOnOk W.write_str_gives f.old result (moment_text milliseconds) f.new }
 {
@@ -31,7 +31,7 @@ pub fn write_moment<W: Write>(milliseconds: i64, f: &mut Formatter<W>) -> fmt::R
     write_parts(year, month, day, time, f)
 }
 
-// The day in which a millisecond lies, and how many of its milliseconds have passed.
+// Returns the day that contains a millisecond, and the milliseconds since the start of that day.
 fn split_day(milliseconds: i64) -> (i64, u32)
     ensures day { result.0 ≡ int_div_euclid milliseconds (pos 86_400_000) }
     ensures time { result.1 ≡ unsigned_abs (int_rem_euclid milliseconds (pos 86_400_000)) }
@@ -83,7 +83,7 @@ fn write_two<W: Write>(number: u32, f: &mut Formatter<W>) -> fmt::Result
     write!(f, "{number:02}")
 }
 
-// Writes the time of day, so many milliseconds after midnight.
+// Writes the time of day, given in milliseconds since midnight.
 #[tactic(auto, using(crate::proofs::PaddingLemmas::padding))]
 fn write_time<W: Write>(time: u32, f: &mut Formatter<W>) -> fmt::Result
     ensures { WritesOnOk W.write_str_gives f.old result (time_text time) f.new }

@@ -1,4 +1,4 @@
--- Looking up a key and inserting it, by its place in the list.
+-- Lookup and insertion of a key, by its position in the list.
 use Rattle.std.proofs.Common.{◌≡◌, ℕ, zero, suc, ◌<◌, Bool, true, false, List, [], ◌∷◌, ◌++◌, length, get_or, slice_set, position, Some, None, refl, sym, ap, ◌∙◌, arith}
 use Rattle.std.proofs.lemmas.List.Quantifiers.{position-Some}
 use Rattle.std.specs.Map.{keys_of, lookup}
@@ -6,11 +6,11 @@ use Rattle.amqp_data.specs.Pairs.{insert_pair, LacksKey, AreDistinct}
 use Rattle.amqp_data.proofs.Searches.{AllFail, fail_by_position}
 
 module _ {K V : Type 0} (eq : K → K → Bool) (k : K) where
-  -- the pair at place i is the first whose key equals k
+  -- the pair at position i is the first whose key equals k
   abbrev IsFirst : List (K × V) → ℕ → (K × V) → Type 0
   IsFirst es i d = (i < length es) × (eq k (get_or es i d).0 ≡ true) × ((j : ℕ) → j < i → eq k (get_or es j d).0 ≡ false)
 
-  -- the same one element further on
+  -- if the first such pair of a list is at position i + 1, it is at position i of the tail
   tail_first : (e : K × V) (es : List (K × V)) (i : ℕ) (d : K × V) → IsFirst (e ∷ es) (suc i) d → IsFirst es i d
   tail_first e es i d first = (omega arith, first.1, λ j below. first.2 (suc j) (omega arith))
 
@@ -34,21 +34,21 @@ module _ {K V : Type 0} (eq : K → K → Bool) (k : K) where
   insert_first (e ∷ es) v (suc i) d first =
       rw (first.2 0 (omega arith)) (ap (λ r. e ∷ r) (insert_first es v i d (tail_first e es i d first)))
 
-  -- a key without a place has no value
+  -- looking up a key that has no position returns `None`
   pub lookup_none : (es : List (K × V)) → None ≡ position (λ e. eq k e.0) es → None ≡ lookup (eq k) es
   lookup_none es none = sym (lookup_absent es (fail_by_position (λ e. eq k e.0) es (sym none)))
 
-  -- and its pair goes last
+  -- inserting a key that has no position appends its pair
   pub insert_new : (es : List (K × V)) (v : V) → None ≡ position (λ e. eq k e.0) es → es ++ (k, v) ∷ [] ≡ insert_pair eq es k v
   insert_new es v none = sym (insert_absent es v (fail_by_position (λ e. eq k e.0) es (sym none)))
 
-  -- the pair at a key's place has its value
+  -- looking up a key that has a position returns the value at that position
   pub lookup_found : (es : List (K × V)) (i : ℕ) (e : K × V) → Some i ≡ position (λ x. eq k x.0) es → e ≡ get_or es i e
       → Some e.1 ≡ lookup (eq k) es
   lookup_found es i e found is =
       ap (λ x. Some x.1) is ∙ sym (lookup_first es i e (position-Some (λ x. eq k x.0) es i e (sym found)))
 
-  -- and takes the new one
+  -- inserting a key that has a position replaces the value at that position
   pub insert_found : (es : List (K × V)) (v : V) (i : ℕ) (e : K × V) → Some i ≡ position (λ x. eq k x.0) es → e ≡ get_or es i e
       → slice_set es i (e.0, v) ≡ insert_pair eq es k v
   insert_found es v i e found is =
@@ -60,7 +60,7 @@ module _ {K V : Type 0} (eq : K → K → Bool) (symmetric : (x y : K) → eq x 
   lacks_step x true e es is lacks rest = rw is lacks
   lacks_step x false e es is lacks rest = rw is (lacks.0, rest)
 
-  -- a list without x has none after another key was inserted
+  -- a list without the key x still has none after another key is inserted
   lacks_after : (x : K) (es : List (K × V)) → eq k x ≡ false → LacksKey eq x (keys_of es) → LacksKey eq x (keys_of (insert_pair eq es k v))
   lacks_after x [] other lacks = (symmetric x k ∙ other, tt)
   lacks_after x (e ∷ es) other lacks = lacks_step x (eq k e.0) e es refl lacks (lacks_after x es other lacks.1)
@@ -70,7 +70,7 @@ module _ {K V : Type 0} (eq : K → K → Bool) (symmetric : (x y : K) → eq x 
   distinct_step true e es is distinct rest = rw is distinct
   distinct_step false e es is distinct rest = rw is (lacks_after e.0 es is distinct.0, rest)
 
-  -- inserting keeps distinct keys distinct
+  -- insertion keeps distinct keys distinct
   pub distinct_after : (es : List (K × V)) → AreDistinct eq (keys_of es) → AreDistinct eq (keys_of (insert_pair eq es k v))
   distinct_after [] distinct = (tt, tt)
   distinct_after (e ∷ es) distinct = distinct_step (eq k e.0) e es refl distinct (distinct_after es distinct.1)

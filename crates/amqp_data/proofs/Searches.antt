@@ -1,9 +1,9 @@
--- Where a search finds no place, its test fails at each element.
+-- If a search finds no position, its test fails for each element.
 use Rattle.std.proofs.Common.{◌≡◌, ℕ, ◌≤◌, Bool, true, false, cond, nat_lt, List, [], ◌∷◌, length, position, Some, None, refl, arith}
 use Rattle.std.proofs.lemmas.Bool.Decides.{nat_tests}
 use Rattle.std.specs.List.{position_or_len}
 
--- the test fails at each element
+-- the test fails for each element
 abbrev pub AllFail : {X : Type 0} → (X → Bool) → List X → Type 0
 AllFail p [] = Unit {0}
 AllFail p (x ∷ xs) = (p x ≡ false) × AllFail p xs
@@ -22,6 +22,6 @@ module _ {X : Type 0} (p : X → Bool) where
   not_below true m n is none = absurd (cc)
   not_below false m n is none = grind (arith, nat_tests)
 
-  -- where no place is found, the test fails everywhere
+  -- if no position is found, the test fails for each element
   pub fail_by_position : (xs : List X) → position p xs ≡ None → AllFail p xs
   fail_by_position xs none = all_fail xs (not_below (nat_lt (position_or_len p xs) (length xs)) _ _ refl none)

@@ -1,4 +1,4 @@
--- What a scalar of fixed width holds (AMQP 1.0 part 1, sections 1.6.11 to 1.6.18).
+-- The contents of scalars of fixed width (AMQP 1.0 part 1, sections 1.6.11 to 1.6.18).
 use Rattle.std.specs.Prelude.{◌≡◌, ◌≢◌, ℕ, ℤ, List, length, Result, IsOk, IfOk, IfErr}
 use Rattle.amqp_data.specs.declared.error.Error.{Error}
 use Rattle.amqp_data.specs.declared.error.Error.TheVariants.{InvalidValue}
@@ -38,7 +38,8 @@ milliseconds_of timestamp = timestamp.0
 abbrev pub uuid_bytes : Uuid → List ℕ
 uuid_bytes uuid = uuid.0
 
--- what comes of bytes where `width` of them are asked for: a value of these bytes, or a refusal of their number
+-- the result of converting bytes to a scalar of `width` bytes: a scalar with these bytes, or
+-- `InvalidValue` if their number is not `width`
 abbrev pub GivesFixed : {T : Type 0} → ℕ → (T → List ℕ) → List ℕ → Result T Error → Type 0
 GivesFixed width bytes_of bytes result =
     (length bytes ≡ width → IsOk result)

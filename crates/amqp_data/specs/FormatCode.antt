@@ -48,7 +48,8 @@ code_of Map32 = 0xd1
 code_of Array8 = 0xe0
 code_of Array32 = 0xf0
 
--- what comes of a byte: the one name that has it as its code, or a refusal where none has
+-- the result of converting a byte: the only name with this code, or `InvalidFormatCode` if there is
+-- none
 abbrev pub GivesName : ℕ → Result EncodingCodes Error → Type 0
 GivesName byte result =
     ((name : EncodingCodes) → code_of name ≡ byte → result ≡ Ok name)

@@ -1,4 +1,4 @@
--- What a type over a list holds, in order.
+-- The elements of the types that contain a list, in order.
 use Rattle.std.specs.Prelude.{ℕ, List}
 use Rattle.amqp_data.specs.declared.array.Array.{Array}
 use Rattle.amqp_data.specs.declared.byte_buf.ByteBuf.{ByteBuf}

@@ -1,4 +1,4 @@
--- What a transparent vector ends as, once a `&mut` to its inside ends.
+-- The content of a transparent vector after a mutable borrow of its elements ends.
 use Rattle.std.specs.Prelude.{Vec}
 use Rattle.std.specs.Borrow.{Array, Fml, Lends, MutBor, RattleType, follows}
 use Rattle.std.specs.Slice.Iter.{iter_mut_name}
@@ -12,11 +12,11 @@ use Rattle.amqp_data.specs.declared.transparent_vec.TransparentVec.{TransparentV
 use Rattle.amqp_data.specs.contracts.transparent_vec.TransparentVec.{the_row}
 
 module _ (T : RattleType) (vector : MutBor (TransparentVec T.Denot)) where
-  -- the vector has what its inside was left as
+  -- the transparent vector has the final content of the borrowed vector
   abbrev pub lends_vec : MutBor (Vec T.Denot Global) → Fml
   lends_vec inside = Lends (the_row T) (vec.the_row T global.the_row ghosts) vector inside (λ v. record { 0 = v })
 
-  -- the vector has the elements that were left behind the references
+  -- the transparent vector has the final values of the borrowed elements
   abbrev pub lends_items : IterMut T.Denot → Fml
   lends_items iter =
       follows (the_row T) (Array T 0) vector.ghost_name (iter_mut_name iter) (λ xs. record { 0 = with_items vector.now.0 xs })

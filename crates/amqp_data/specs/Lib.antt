@@ -1,4 +1,4 @@
--- Contracts of public items rest on all of these.
+-- Definitions used by the contracts of public items.
 pub mod Compares
 pub mod Fixed
 pub mod FormatCode

@@ -1,18 +1,18 @@
--- A map as the list of its pairs, in order (AMQP 1.0 part 1, section 1.6.23).
+-- A map as the list of its entries, in order (AMQP 1.0 part 1, section 1.6.23).
 use Rattle.std.specs.Prelude.{◌≡◌, Bool, false, List, [], ◌∷◌, if◌then◌else◌}
 use Rattle.amqp_data.specs.declared.ordered_map.OrderedMap.{OrderedMap}
 use Rattle.amqp_data.specs.declared.ordered_map.Iter.{Iter}
 
--- the pairs of a map
+-- the entries of a map
 abbrev pub entries_of : {K V : Type 0} → OrderedMap K V → List (K × V)
 entries_of map = map.entries.items
 
--- the pairs that an iterator has not given yet
+-- the entries that an iterator has not yielded yet
 abbrev pub entries_left : {K V : Type 0} → Iter K V → List (K × V)
 entries_left iter = iter.rest.now
 
 module _ {K V : Type 0} (eq : K → K → Bool) where
-  -- a present key keeps its place and takes the value, and a new key goes last
+  -- replaces the value of a key that is present, or appends an entry for a new key
   abbrev pub insert_pair : List (K × V) → K → V → List (K × V)
   insert_pair [] k v = (k, v) ∷ []
   insert_pair (e ∷ es) k v = if eq k e.0 then (e.0, v) ∷ es else e ∷ insert_pair es k v

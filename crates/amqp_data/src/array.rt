@@ -3,32 +3,33 @@
 ghost use Rattle.std.specs.Prelude.{◌≡◌};
 ghost use Rattle.amqp_data.specs.Items.{array_items};
 
-/// Elements that are written under one constructor, where those of a `Vec<T>` have one each.
+/// Elements that share one constructor. The elements of a `Vec<T>` have one constructor each.
 ///
 /// # Encoding
-/// `e0` with a size and a count of one byte, `f0` with four each, then the constructor and the
-/// elements' payloads.
+/// `e0` with a size and a count of one byte each, or `f0` with a size and a count of four bytes
+/// each, then the constructor and the payloads of the elements.
 ///
 /// # Example
-/// An array of no elements is written `e00100`.
+/// An empty array is encoded as `e00100`.
 #[derive(Debug, PartialEq, Eq, PartialOrd, Ord, Hash, Drop)]
 pub struct Array<T>(Vec<T>);
 
 impl<T> Array<T> {
-    /// The elements.
+    /// Returns the elements.
     ///
     /// # Example
-    /// Of the array of the ubytes 1 and 2, written `e00402500102`: the vector of 1 and 2.
+    /// For the array of the ubytes 1 and 2, encoded as `e00402500102`, returns the vector of 1 and
+    /// 2.
     pub fn as_inner(&self) -> &Vec<T>
         ensures { result.now.items ≡ array_items self.now }
     {
         &self.0
     }
 
-    /// Gives the elements up.
+    /// Consumes the array and returns the elements.
     ///
     /// # Example
-    /// Of an array that is written `e00100`: a vector of no elements.
+    /// For an array encoded as `e00100`, returns an empty vector.
     pub fn into_inner(self) -> Vec<T>
         ensures { result.items ≡ array_items self }
     {

@@ -1,4 +1,4 @@
-//! Binary floating-point numbers, held as bits and never computed with (AMQP 1.0 part 1, sections
+//! Binary floating-point numbers, stored as bits without arithmetic (AMQP 1.0 part 1, sections
 //! 1.6.11 and 1.6.12).
 
 ghost use Rattle.std.specs.Prelude.{◌≡◌};
@@ -15,20 +15,20 @@ ghost use Rattle.amqp_data.specs.Fixed.{f32_bits, f64_bits};
 pub struct F32Bits(u32);
 
 impl F32Bits {
-    /// The bits.
+    /// Returns a reference to the bits.
     ///
     /// # Example
-    /// Of the float 1.5, written `723fc00000`: `0x3fc00000`.
+    /// For the float 1.5, encoded as `723fc00000`, returns `0x3fc00000`.
     pub fn as_inner(&self) -> &u32
         ensures { result.now ≡ f32_bits self.now }
     {
         &self.0
     }
 
-    /// The bits.
+    /// Consumes the float and returns the bits.
     ///
     /// # Example
-    /// Of the float -0.0, written `7280000000`: `0x80000000`.
+    /// For the float -0.0, encoded as `7280000000`, returns `0x80000000`.
     pub fn into_inner(self) -> u32
         ensures { result ≡ f32_bits self }
     {
@@ -55,20 +55,20 @@ impl From<u32> for F32Bits {
 pub struct F64Bits(u64);
 
 impl F64Bits {
-    /// The bits.
+    /// Returns a reference to the bits.
     ///
     /// # Example
-    /// Of the double 1.5, written `823ff8000000000000`: `0x3ff8000000000000`.
+    /// For the double 1.5, encoded as `823ff8000000000000`, returns `0x3ff8000000000000`.
     pub fn as_inner(&self) -> &u64
         ensures { result.now ≡ f64_bits self.now }
     {
         &self.0
     }
 
-    /// The bits.
+    /// Consumes the double and returns the bits.
     ///
     /// # Example
-    /// Of the double -0.0, written `828000000000000000`: `0x8000000000000000`.
+    /// For the double -0.0, encoded as `828000000000000000`, returns `0x8000000000000000`.
     pub fn into_inner(self) -> u64
         ensures { result ≡ f64_bits self }
     {

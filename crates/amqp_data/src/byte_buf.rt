@@ -3,31 +3,31 @@
 ghost use Rattle.std.specs.Prelude.{◌≡◌};
 ghost use Rattle.amqp_data.specs.Items.{byte_buf_bytes};
 
-/// A binary: bytes that are written as one value, where a `Vec<u8>` is written as a list.
+/// Bytes that are encoded as one binary. A `Vec<u8>` is encoded as a list.
 ///
 /// # Encoding
-/// `a0` with a length of one byte, `b0` with a length of four.
+/// `a0` with a length of one byte, or `b0` with a length of four bytes.
 ///
 /// # Example
-/// No bytes are written `a000`.
+/// An empty binary is encoded as `a000`.
 #[derive(Debug, PartialEq, Eq, PartialOrd, Ord, Hash, Drop)]
 pub struct ByteBuf(Vec<u8>);
 
 impl ByteBuf {
-    /// The bytes.
+    /// Returns the bytes.
     ///
     /// # Example
-    /// Of the binary that is written `a003616263`: the bytes 61, 62, 63.
+    /// For the binary encoded as `a003616263`, returns the bytes 61, 62, 63.
     pub fn as_inner(&self) -> &Vec<u8>
         ensures { result.now.items ≡ byte_buf_bytes self.now }
     {
         &self.0
     }
 
-    /// Gives the bytes up.
+    /// Consumes the binary and returns the bytes.
     ///
     /// # Example
-    /// Of the binary that is written `a000`: no bytes.
+    /// For the binary encoded as `a000`, returns an empty vector.
     pub fn into_inner(self) -> Vec<u8>
         ensures { result.items ≡ byte_buf_bytes self }
     {

@@ -2,16 +2,16 @@
 
 use crate::Descriptor;
 
-/// A value and the descriptor that says what it is.
+/// A value with its descriptor.
 ///
 /// # Encoding
 /// `00`, the descriptor, the value.
 ///
 /// # Example
-/// The code 1 and a list of nothing are written `00530145`.
+/// The code 1 with an empty list is encoded as `00530145`.
 #[derive(Debug, PartialEq, Eq, PartialOrd, Ord, Hash, Drop)]
 pub struct Described<T> {
-    /// What the value is.
+    /// The descriptor of the value.
     pub descriptor: Descriptor,
     /// The value.
     pub value: T,

@@ -5,14 +5,15 @@ ghost use Rattle.amqp_data.specs.declared.descriptor.Descriptor.TheVariants.{Nam
 
 use crate::Symbol;
 
-/// What a described value is: a name or a code. Each name is before all codes.
+/// The descriptor of a described value, a name or a code. Every name is less than every code.
 ///
 /// # Encoding
 /// A symbol or a ulong, between the `00` and the value.
 ///
 /// # Example
-/// Before null the code 1 is the `5301` of `00530140`, and the name `a:b` the `a303613a62` of
-/// `00a303613a6240`.
+/// Null described by the code 1 is encoded as `00530140`, where `5301` is the descriptor. Null
+/// described by the name `a:b` is encoded as `00a303613a6240`, where `a303613a62` is the
+/// descriptor.
 #[derive(Debug, PartialEq, Eq, PartialOrd, Ord, Hash, Drop)]
 pub enum Descriptor {
     /// A symbolic descriptor.

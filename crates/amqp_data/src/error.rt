@@ -1,4 +1,4 @@
-//! Why a call refuses.
+//! The error type of all calls.
 
 ghost use Rattle.std.specs.Prelude.{◌≡◌};
 ghost use Rattle.amqp_data.specs.declared.error.Error.TheVariants.{OutOfMemory};
@@ -6,23 +6,23 @@ ghost use Rattle.amqp_data.specs.declared.error.Error.TheVariants.{OutOfMemory};
 use std::alloc::{AllocError, AllocFailed};
 use thiserror::Error as ThisError;
 
-/// Why a call refused.
+/// The reason why a call failed.
 ///
 /// # Example
-/// `OutOfMemory` is shown `out of memory`, and `Message("no such name")` `no such name`.
+/// `OutOfMemory` is displayed as `out of memory`, and `Message("no such name")` as `no such name`.
 #[derive(Debug, PartialEq, Eq, Drop, ThisError)]
 pub enum Error {
-    /// A request for memory was refused.
+    /// An allocation failed.
     #[error("out of memory")]
     OutOfMemory,
-    /// A length or a count is past its limit.
+    /// A length or a count exceeds its limit.
     #[error("too long")]
     TooLong,
-    /// A value of the wrong kind, a tree that cannot be written for another cause than a limit, or
-    /// a misuse of a compound.
+    /// A value has the wrong kind, a tree is not writable for a reason other than a limit, or a
+    /// compound was misused.
     #[error("invalid value")]
     InvalidValue,
-    /// A byte that is no accepted format code (AMQP 1.0 part 1, section 1.2).
+    /// A byte is not an accepted format code (AMQP 1.0 part 1, section 1.2).
     #[error("invalid format code")]
     InvalidFormatCode,
     /// The input ends before the value does.
@@ -31,7 +31,7 @@ pub enum Error {
     /// A read or a write failed.
     #[error("input or output failed")]
     Io,
-    /// A visitor's own words.
+    /// A message from a visitor.
     #[error("{0}")]
     Message(&'static str),
 }

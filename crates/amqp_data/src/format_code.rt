@@ -5,10 +5,10 @@ ghost use Rattle.amqp_data.specs.FormatCode.{code_of, GivesName};
 
 use crate::Error;
 
-/// A format code by its name.
+/// A named format code.
 ///
 /// # Encoding
-/// Its number is the byte.
+/// The discriminant is the byte.
 ///
 /// # Example
 /// `u8::from(EncodingCodes::Str8)` is `a1`.
@@ -26,15 +26,15 @@ pub enum EncodingCodes {
     Uint0 = 0x43,
     /// The ulong 0, with no payload.
     Ulong0 = 0x44,
-    /// The list of nothing, with no payload.
+    /// The empty list, with no payload.
     List0 = 0x45,
     /// A ubyte.
     Ubyte = 0x50,
     /// A byte.
     Byte = 0x51,
-    /// A uint of up to 255, in one byte.
+    /// A uint from 0 to 255, in one byte.
     SmallUint = 0x52,
-    /// A ulong of up to 255, in one byte.
+    /// A ulong from 0 to 255, in one byte.
     SmallUlong = 0x53,
     /// An int from -128 to 127, in one byte.
     SmallInt = 0x54,
@@ -52,7 +52,7 @@ pub enum EncodingCodes {
     Int = 0x71,
     /// A float.
     Float = 0x72,
-    /// A character, as its number.
+    /// A char, as its Unicode code point.
     Char = 0x73,
     /// A decimal32.
     Decimal32 = 0x74,
@@ -70,29 +70,29 @@ pub enum EncodingCodes {
     Decimal128 = 0x94,
     /// A uuid.
     Uuid = 0x98,
-    /// A binary, its length in one byte.
+    /// A binary with a length of one byte.
     Vbin8 = 0xa0,
-    /// A string, its length in one byte.
+    /// A string with a length of one byte.
     Str8 = 0xa1,
-    /// A symbol, its length in one byte.
+    /// A symbol with a length of one byte.
     Sym8 = 0xa3,
-    /// A binary, its length in four bytes.
+    /// A binary with a length of four bytes.
     Vbin32 = 0xb0,
-    /// A string, its length in four bytes.
+    /// A string with a length of four bytes.
     Str32 = 0xb1,
-    /// A symbol, its length in four bytes.
+    /// A symbol with a length of four bytes.
     Sym32 = 0xb3,
-    /// A list, its size and count in one byte each.
+    /// A list with a size and a count of one byte each.
     List8 = 0xc0,
-    /// A map, its size and count in one byte each.
+    /// A map with a size and a count of one byte each.
     Map8 = 0xc1,
-    /// A list, its size and count in four bytes each.
+    /// A list with a size and a count of four bytes each.
     List32 = 0xd0,
-    /// A map, its size and count in four bytes each.
+    /// A map with a size and a count of four bytes each.
     Map32 = 0xd1,
-    /// An array, its size and count in one byte each.
+    /// An array with a size and a count of one byte each.
     Array8 = 0xe0,
-    /// An array, its size and count in four bytes each.
+    /// An array with a size and a count of four bytes each.
     Array32 = 0xf0,
 }
 
@@ -104,11 +104,13 @@ impl From<EncodingCodes> for u8 {
     }
 }
 
+/// Returns the name of a format code.
+///
 /// # Errors
-/// `InvalidFormatCode` where no name has this code.
+/// Returns `Error::InvalidFormatCode` if no name has this code.
 ///
 /// # Example
-/// Of `a1`: `Str8`. Of `46`: `InvalidFormatCode`.
+/// `a1` is `Str8`. `46` is an `InvalidFormatCode` error.
 impl TryFrom<u8> for EncodingCodes {
     type Error = Error;
 

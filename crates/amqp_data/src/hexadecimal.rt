@@ -1,4 +1,4 @@
-//! Lower-case hexadecimal, for people.
+//! Lower-case hexadecimal for display.
 
 ghost use Rattle.std.specs.Prelude.{◌≡◌, ◌<◌};
 ghost use Rattle.std.specs.Fmt.{WritesOnOk};
@@ -7,16 +7,16 @@ ghost use Rattle.amqp_data.specs.Hexadecimal.{hex, hex_digit};
 use std::fmt;
 use std::fmt::{Formatter, Write};
 
-/// Writes two digits for each byte.
+/// Writes two hexadecimal digits for each byte.
 ///
 /// # Errors
-/// The formatter's, where its writer refuses; a prefix of the digits was written then.
+/// Returns the formatter's error if its writer fails. Some of the digits may have been written.
 ///
 /// # Memory
-/// What the formatter's writer takes.
+/// What the formatter's writer allocates.
 ///
 /// # Example
-/// The bytes 160 and 15 are written `a00f`.
+/// The bytes 160 and 15 are written as `a00f`.
 pub fn write_hexadecimal<W: Write>(bytes: &[u8], f: &mut Formatter<W>) -> fmt::Result
     ensures { WritesOnOk W.write_str_gives f.old result (hex bytes.now) f.new }
 {
@@ -27,13 +27,13 @@ pub fn write_hexadecimal<W: Write>(bytes: &[u8], f: &mut Formatter<W>) -> fmt::R
     Ok(())
 }
 
-/// The digit of a number below 16.
+/// Returns the hexadecimal digit of a number below 16.
 ///
 /// # Memory
-/// Takes none.
+/// Allocates nothing.
 ///
 /// # Example
-/// 10 has `a`.
+/// The digit of 10 is `a`.
 pub fn hexadecimal_digit(value: u8) -> u8
     requires { value < 16 }
     ensures { result ≡ hex_digit value }

@@ -1,7 +1,7 @@
-//! What equality, order and hash go by: the content of each type, and nothing else.
+//! Laws of equality, order and hash: they depend on the content of each type only.
 //!
-//! A law is a function that does nothing: its clauses are the law. A caller's proof learns it by a
-//! call.
+//! Each law is a function with an empty body whose clauses state the law. A caller's proof uses a
+//! law by calling its function.
 
 ghost use Rattle.std.specs.Prelude.{◌≡◌, ◌&&◌, false, nat_eq};
 ghost use Rattle.std.specs.Cmp.Lexicographic.{pointwise, slice_cmp};
@@ -20,14 +20,14 @@ use crate::{
 };
 use std::hash::Hash;
 
-/// Symbols go by their texts, byte by byte.
+/// Symbols compare and hash by their texts, byte by byte.
 pub fn symbols_go_by_text(a: &Symbol, b: &Symbol)
     ensures equality { EqualBy symbol_text ⟦<Symbol as PartialEq>⟧.eq a.now b.now }
     ensures order { ComparesBy symbol_text (slice_cmp nat_cmp) ⟦<Symbol as Ord>⟧.cmp a.now b.now }
     ensures hash { HashesBy symbol_text ⟦<Symbol as Hash>⟧.hash_input a.now b.now }
 {}
 
-/// Borrowed symbols go by the texts that they point to.
+/// Borrowed symbols compare and hash by the texts they refer to.
 pub fn symbol_refs_go_by_text(a: &SymbolRef<'_>, b: &SymbolRef<'_>)
     ensures equality { EqualBy symbol_ref_text ⟦<SymbolRef<'static> as PartialEq>⟧.eq a.now b.now }
     ensures order { ComparesBy symbol_ref_text (slice_cmp nat_cmp)
@@ -35,7 +35,7 @@ pub fn symbol_refs_go_by_text(a: &SymbolRef<'_>, b: &SymbolRef<'_>)
     ensures hash { HashesBy symbol_ref_text ⟦<SymbolRef<'static> as Hash>⟧.hash_input a.now b.now }
 {}
 
-/// Binaries go by their bytes.
+/// Binaries compare and hash by their bytes.
 pub fn binaries_go_by_bytes(a: &ByteBuf, b: &ByteBuf)
     ensures equality { EqualBy byte_buf_bytes ⟦<ByteBuf as PartialEq>⟧.eq a.now b.now }
     ensures order { ComparesBy byte_buf_bytes (slice_cmp nat_cmp)
@@ -43,56 +43,56 @@ pub fn binaries_go_by_bytes(a: &ByteBuf, b: &ByteBuf)
     ensures hash { HashesBy byte_buf_bytes ⟦<ByteBuf as Hash>⟧.hash_input a.now b.now }
 {}
 
-/// Floats go by their bits, as unsigned numbers.
+/// Floats compare and hash by their bits, as unsigned numbers.
 pub fn floats_go_by_bits(a: &F32Bits, b: &F32Bits)
     ensures equality { EqualBy f32_bits ⟦<F32Bits as PartialEq>⟧.eq a.now b.now }
     ensures order { ComparesBy f32_bits nat_cmp ⟦<F32Bits as Ord>⟧.cmp a.now b.now }
     ensures hash { HashesBy f32_bits ⟦<F32Bits as Hash>⟧.hash_input a.now b.now }
 {}
 
-/// Doubles go by their bits, as unsigned numbers.
+/// Doubles compare and hash by their bits, as unsigned numbers.
 pub fn doubles_go_by_bits(a: &F64Bits, b: &F64Bits)
     ensures equality { EqualBy f64_bits ⟦<F64Bits as PartialEq>⟧.eq a.now b.now }
     ensures order { ComparesBy f64_bits nat_cmp ⟦<F64Bits as Ord>⟧.cmp a.now b.now }
     ensures hash { HashesBy f64_bits ⟦<F64Bits as Hash>⟧.hash_input a.now b.now }
 {}
 
-/// Values of decimal32 go by their bytes.
+/// Values of decimal32 compare and hash by their bytes.
 pub fn decimal32s_go_by_bytes(a: &Dec32, b: &Dec32)
     ensures equality { EqualBy dec32_bytes ⟦<Dec32 as PartialEq>⟧.eq a.now b.now }
     ensures order { ComparesBy dec32_bytes (slice_cmp nat_cmp) ⟦<Dec32 as Ord>⟧.cmp a.now b.now }
     ensures hash { HashesBy dec32_bytes ⟦<Dec32 as Hash>⟧.hash_input a.now b.now }
 {}
 
-/// Values of decimal64 go by their bytes.
+/// Values of decimal64 compare and hash by their bytes.
 pub fn decimal64s_go_by_bytes(a: &Dec64, b: &Dec64)
     ensures equality { EqualBy dec64_bytes ⟦<Dec64 as PartialEq>⟧.eq a.now b.now }
     ensures order { ComparesBy dec64_bytes (slice_cmp nat_cmp) ⟦<Dec64 as Ord>⟧.cmp a.now b.now }
     ensures hash { HashesBy dec64_bytes ⟦<Dec64 as Hash>⟧.hash_input a.now b.now }
 {}
 
-/// Values of decimal128 go by their bytes.
+/// Values of decimal128 compare and hash by their bytes.
 pub fn decimal128s_go_by_bytes(a: &Dec128, b: &Dec128)
     ensures equality { EqualBy dec128_bytes ⟦<Dec128 as PartialEq>⟧.eq a.now b.now }
     ensures order { ComparesBy dec128_bytes (slice_cmp nat_cmp) ⟦<Dec128 as Ord>⟧.cmp a.now b.now }
     ensures hash { HashesBy dec128_bytes ⟦<Dec128 as Hash>⟧.hash_input a.now b.now }
 {}
 
-/// Timestamps go by their milliseconds.
+/// Timestamps compare and hash by their milliseconds.
 pub fn timestamps_go_by_milliseconds(a: &Timestamp, b: &Timestamp)
     ensures equality { EqualBy milliseconds_of ⟦<Timestamp as PartialEq>⟧.eq a.now b.now }
     ensures order { ComparesBy milliseconds_of int_cmp ⟦<Timestamp as Ord>⟧.cmp a.now b.now }
     ensures hash { HashesBy milliseconds_of ⟦<Timestamp as Hash>⟧.hash_input a.now b.now }
 {}
 
-/// Uuids go by their bytes.
+/// Uuids compare and hash by their bytes.
 pub fn uuids_go_by_bytes(a: &Uuid, b: &Uuid)
     ensures equality { EqualBy uuid_bytes ⟦<Uuid as PartialEq>⟧.eq a.now b.now }
     ensures order { ComparesBy uuid_bytes (slice_cmp nat_cmp) ⟦<Uuid as Ord>⟧.cmp a.now b.now }
     ensures hash { HashesBy uuid_bytes ⟦<Uuid as Hash>⟧.hash_input a.now b.now }
 {}
 
-/// Descriptors of one kind go by their name or code.
+/// Descriptors of the same variant compare by their name or code, and equal names hash the same.
 pub fn descriptors_go_by_content(a: &Symbol, b: &Symbol, m: u64, n: u64)
     ensures names { ComparesBy Descriptor.Name
         ⟦<Descriptor as Ord>⟧.cmp ⟦<Symbol as Ord>⟧.cmp a.now b.now }
@@ -106,7 +106,7 @@ pub fn descriptors_go_by_content(a: &Symbol, b: &Symbol, m: u64, n: u64)
         ≡ ⟦<Descriptor as Hash>⟧.hash_input (Descriptor.Name b.now) }
 {}
 
-/// Each name is before all codes.
+/// Every name is less than every code.
 pub fn names_come_before_codes(name: &Symbol, code: u64)
     ensures order { ⟦<Descriptor as Ord>⟧.cmp (Descriptor.Name name.now) (Descriptor.Code code)
         ≡ Less }
@@ -114,7 +114,7 @@ pub fn names_come_before_codes(name: &Symbol, code: u64)
         (Descriptor.Code code) ≡ false }
 {}
 
-/// Described values go by the descriptor, and then by the value.
+/// Described values compare and hash by the descriptor first, then by the value.
 pub fn described_values_go_by_content<T: Ord + Hash>(a: &Described<T>, b: &Described<T>)
     ensures equality { ⟦<Described<T> as PartialEq>⟧.eq a.now b.now
         ≡ (⟦<Descriptor as PartialEq>⟧.eq a.now.descriptor b.now.descriptor
@@ -126,7 +126,7 @@ pub fn described_values_go_by_content<T: Ord + Hash>(a: &Described<T>, b: &Descr
         ⟦<Described<T> as Hash>⟧.hash_input a.now ≡ ⟦<Described<T> as Hash>⟧.hash_input b.now }
 {}
 
-/// Arrays go by their elements, in order.
+/// Arrays compare and hash by their elements, in order.
 pub fn arrays_go_by_elements<T: Ord + Hash>(a: &Array<T>, b: &Array<T>)
     ensures equality { ComparesBy array_items (pointwise T.eq)
         ⟦<Array<T> as PartialEq>⟧.eq a.now b.now }
@@ -134,7 +134,7 @@ pub fn arrays_go_by_elements<T: Ord + Hash>(a: &Array<T>, b: &Array<T>)
     ensures hash { HashesBy array_items ⟦<Array<T> as Hash>⟧.hash_input a.now b.now }
 {}
 
-/// Transparent vectors go by their elements, in order.
+/// Transparent vectors compare and hash by their elements, in order.
 pub fn transparent_vecs_go_by_elements<T: Ord + Hash>(a: &TransparentVec<T>, b: &TransparentVec<T>)
     ensures equality { ComparesBy transparent_items (pointwise T.eq)
         ⟦<TransparentVec<T> as PartialEq>⟧.eq a.now b.now }
@@ -143,7 +143,8 @@ pub fn transparent_vecs_go_by_elements<T: Ord + Hash>(a: &TransparentVec<T>, b: 
     ensures hash { HashesBy transparent_items ⟦<TransparentVec<T> as Hash>⟧.hash_input a.now b.now }
 {}
 
-/// Maps go by the list of their pairs, so the same pairs in another order are another map.
+/// Maps compare and hash by the list of their entries: maps with the same entries in different
+/// order differ.
 pub fn maps_go_by_pairs<K: Ord + Hash, V: Ord + Hash>(a: &OrderedMap<K, V>, b: &OrderedMap<K, V>)
     ensures equality { ComparesBy entries_of (pointwise (λ p q. K.eq p.0 q.0 && V.eq p.1 q.1))
         ⟦<OrderedMap<K, V> as PartialEq>⟧.eq a.now b.now }

@@ -1,7 +1,7 @@
-//! The types of AMQP data that Rust has no type for, and the one error of all calls.
+//! AMQP data types that have no counterpart in Rust, and the error type of all calls.
 //!
-//! Every other crate of the workspace stands on this one. A type here holds its content and no
-//! more: what was put in comes out unchanged, and equality, order and hash go by content.
+//! The other crates of the workspace depend on this one, except `amqp_calendar`. Each type stores
+//! its content unchanged. Equality, order and hash depend on the content only.
 #![tactic(auto)]
 
 mod array;

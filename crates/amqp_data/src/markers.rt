@@ -1,80 +1,82 @@
-//! The names by which a `Serialize` asks for a kind that serde has no method for.
+//! Marker names, with which a `Serialize` implementation selects a kind that serde has no method
+//! for.
 //!
-//! A newtype, struct or enum of such a name is written as the kind that the name says. Each name is
-//! two underscores and the constant's own name.
+//! A newtype, struct or enum with one of these names is written as the kind that the marker
+//! denotes. Each marker consists of two underscores and the name of the constant.
 
-/// A newtype over a string: a symbol.
+/// Marks a newtype over a string as a symbol.
 ///
 /// # Example
-/// Over the string `amqp`: `a304616d7170`.
+/// The string `amqp` is encoded as `a304616d7170`.
 pub const SYMBOL: &str = "__SYMBOL";
-/// A newtype over a borrowed string: a symbol.
+/// Marks a newtype over a borrowed string as a symbol.
 ///
 /// # Example
-/// Over the string `a:b`: `a303613a62`.
+/// The string `a:b` is encoded as `a303613a62`.
 pub const SYMBOL_REF: &str = "__SYMBOL_REF";
-/// A newtype over a long: a timestamp.
+/// Marks a newtype over a long as a timestamp.
 ///
 /// # Example
-/// Over the long 13: `83000000000000000d`.
+/// The long 13 is encoded as `83000000000000000d`.
 pub const TIMESTAMP: &str = "__TIMESTAMP";
-/// A newtype over a binary of 16 bytes: a uuid.
+/// Marks a newtype over a binary of 16 bytes as a uuid.
 ///
 /// # Example
-/// Over the bytes 00, 11, 22 up to FF: `9800112233445566778899aabbccddeeff`.
+/// The bytes 00, 11, 22 up to FF are encoded as `9800112233445566778899aabbccddeeff`.
 pub const UUID: &str = "__UUID";
-/// A newtype over a binary of 4 bytes: a decimal32.
+/// Marks a newtype over a binary of 4 bytes as a decimal32.
 ///
 /// # Example
-/// Over the bytes 01 to 04: `7401020304`.
+/// The bytes 01 to 04 are encoded as `7401020304`.
 pub const DECIMAL32: &str = "__DECIMAL32";
-/// A newtype over a binary of 8 bytes: a decimal64.
+/// Marks a newtype over a binary of 8 bytes as a decimal64.
 ///
 /// # Example
-/// Over the bytes 01 to 08: `840102030405060708`.
+/// The bytes 01 to 08 are encoded as `840102030405060708`.
 pub const DECIMAL64: &str = "__DECIMAL64";
-/// A newtype over a binary of 16 bytes: a decimal128.
+/// Marks a newtype over a binary of 16 bytes as a decimal128.
 ///
 /// # Example
-/// Over the bytes 00 to 0F: `94000102030405060708090a0b0c0d0e0f`.
+/// The bytes 00 to 0F are encoded as `94000102030405060708090a0b0c0d0e0f`.
 pub const DECIMAL128: &str = "__DECIMAL128";
-/// A newtype over a list: an array.
+/// Marks a newtype over a list as an array.
 ///
 /// # Example
-/// Over the list of `true` and `false`: `e00402560100`.
+/// The list of `true` and `false` is encoded as `e00402560100`.
 pub const ARRAY: &str = "__ARRAY";
-/// A newtype over a list: its elements one after another, with no header.
+/// Marks a newtype over a list as a transparent vector: its elements one after another, with no
+/// header.
 ///
 /// # Example
-/// Over the list of `true` and `false`: `4142`.
+/// The list of `true` and `false` is encoded as `4142`.
 pub const TRANSPARENT_VEC: &str = "__TRANSPARENT_VEC";
-/// A newtype over a binary that is one encoded value: that value.
+/// Marks a newtype over a binary that is one encoded value. It is written as that value.
 ///
 /// # Example
-/// Over the bytes 50 and 01: `5001`.
+/// The bytes 50 and 01 are encoded as `5001`.
 pub const LAZY_VALUE: &str = "__LAZY_VALUE";
-/// The key of a field that holds a descriptor.
+/// The key of a field that contains a descriptor.
 ///
 /// # Example
-/// With the ulong 1: `005301`, before the value.
+/// The ulong 1 is encoded as `005301`, before the value.
 pub const DESCRIPTOR: &str = "__DESCRIPTOR";
-/// An enum whose newtype variants are written bare.
+/// Marks an enum whose newtype variants are written as their value only, without the variant index.
 ///
 /// # Example
-/// The variant 1 of `true`: `41`, where in another enum it is `c10402520141`.
+/// The variant 1 with the value `true` is encoded as `41`. In another enum it is `c10402520141`.
 pub const VALUE: &str = "__VALUE";
-/// A struct that is a described value of one field.
+/// Marks a struct that is a described value with a single field.
 ///
 /// # Example
-/// The code 1 and `true`: `00530141`.
+/// The code 1 with the field `true` is encoded as `00530141`.
 pub const DESCRIBED_BASIC: &str = "__DESCRIBED_BASIC";
-/// A struct that is a described list of its fields.
+/// Marks a struct that is a described list of its fields.
 ///
 /// # Example
-/// The code 1 and `true`: `005301c0020141`.
+/// The code 1 with the field `true` is encoded as `005301c0020141`.
 pub const DESCRIBED_LIST: &str = "__DESCRIBED_LIST";
-/// A struct that is a described map from its fields' names.
+/// Marks a struct that is a described map with the field names as keys.
 ///
 /// # Example
-/// The code 1 and `x`, which is `true`: `005301c10502a1017841`.
+/// The code 1 with the field `x`, which is `true`, is encoded as `005301c10502a1017841`.
 pub const DESCRIBED_MAP: &str = "__DESCRIBED_MAP";

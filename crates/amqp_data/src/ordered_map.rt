@@ -1,4 +1,4 @@
-//! Maps (AMQP 1.0 part 1, section 1.6.23), in the order in which their keys were first inserted.
+//! Maps (AMQP 1.0 part 1, section 1.6.23) that keep their keys in insertion order.
 
 ghost use Rattle.std.specs.Prelude.{◌≡◌, ◌==◌, ◌<◌, ◌^◌, [], length, position};
 ghost use Rattle.std.specs.Prelude.{IsOk, IfOk, IfErr, OnOk, OnErr, IsSome, IfSome};
@@ -14,29 +14,30 @@ use std::alloc::Global;
 use std::hash::Hash;
 use std::{mem, vec};
 
-/// A map that keeps its order, as the list of its pairs. Equality, order and hash go by that list.
+/// A map that preserves order, as a list of entries. Equality, order and hash depend on that list.
 ///
-/// No two keys are equal: each call that adds a key keeps it so.
+/// No two keys are equal: each call that adds a key preserves this.
 ///
 /// # Encoding
-/// `c1` with a size and a count of one byte, `d1` with four each, then each key and its value. The
-/// count is twice the number of pairs.
+/// `c1` with a size and a count of one byte each, or `d1` with a size and a count of four bytes
+/// each, then each key followed by its value. The count is twice the number of entries.
 ///
 /// # Example
-/// A map of no pairs is written `c10100`.
+/// An empty map is encoded as `c10100`.
 #[derive(Debug, PartialEq, Eq, PartialOrd, Ord, Hash, Drop)]
 pub struct OrderedMap<K, V> {
     entries: Vec<(K, V)>,
 }
 
 impl<K, V> OrderedMap<K, V> {
-    /// A map of no pairs.
+    /// Creates an empty map.
     ///
     /// # Memory
-    /// Takes none, and keeps `alloc` for later insertions.
+    /// Allocates nothing. Keeps `alloc` for later insertions.
     ///
     /// # Example
-    /// Written `c10100`; once the ubyte 1 has `true`, `c10402500141`.
+    /// The map is encoded as `c10100`. After the ubyte 1 is inserted with the value `true`, it is
+    /// encoded as `c10402500141`.
     pub fn new(alloc: Global) -> Self
         ensures { entries_of result ≡ [] }
     {
@@ -45,30 +46,31 @@ impl<K, V> OrderedMap<K, V> {
         }
     }
 
-    /// How many pairs there are.
+    /// Returns the number of entries.
     ///
     /// # Example
-    /// Of the map that is written `c10402500141`: 1, where the count in these bytes is 2.
+    /// For the map encoded as `c10402500141`, returns 1. The count in these bytes is 2.
     pub fn len(&self) -> usize
         ensures { result ≡ length (entries_of self.now) }
     {
         self.entries.len()
     }
 
-    /// Whether there are no pairs.
+    /// Returns whether the map is empty.
     ///
     /// # Example
-    /// True of the map that is written `c10100`, false of the one that is written `c10402500141`.
+    /// Returns true for the map encoded as `c10100`, and false for the map encoded as
+    /// `c10402500141`.
     pub fn is_empty(&self) -> bool
         ensures { result ≡ (length (entries_of self.now) == 0) }
     {
         self.entries.is_empty()
     }
 
-    /// The pairs in order, as references.
+    /// Returns an iterator over references to the entries, in order.
     ///
     /// # Example
-    /// Of the map from 1 to `true`, written `c10402500141`: `(&1, &true)`, and then `None`.
+    /// For the map from 1 to `true`, encoded as `c10402500141`: `(&1, &true)`, then `None`.
     pub fn iter(&self) -> Iter<'_, K, V>
         ensures rest { entries_left result ≡ entries_of self.now }
         ensures fits { length (entries_left result) < 2 ^ 64 }
@@ -78,20 +80,20 @@ impl<K, V> OrderedMap<K, V> {
         }
     }
 
-    /// The pairs in order.
+    /// Returns the entries as a slice, in order.
     ///
     /// # Example
-    /// Of the map that is written `c10704500241500142`: `[(2, true), (1, false)]`.
+    /// For the map encoded as `c10704500241500142`, returns `[(2, true), (1, false)]`.
     pub fn as_slice(&self) -> &[(K, V)]
         ensures { result.now ≡ entries_of self.now }
     {
         &self.entries[..]
     }
 
-    /// Gives the pairs up, in order.
+    /// Consumes the map and returns the entries, in order.
     ///
     /// # Example
-    /// Of the map that is written `c10402500141`: the vector of the pair (1, `true`).
+    /// For the map encoded as `c10402500141`, returns the vector of the pair (1, `true`).
     pub fn into_inner(self) -> Vec<(K, V)>
         ensures { result.items ≡ entries_of self }
     {
@@ -100,14 +102,14 @@ impl<K, V> OrderedMap<K, V> {
 }
 
 impl<K: Hash + Eq, V> OrderedMap<K, V> {
-    /// A map of these pairs, which the caller knows to have distinct keys.
+    /// Creates a map from entries that the caller knows to have distinct keys.
     ///
     /// # Memory
-    /// Takes none.
+    /// Allocates nothing.
     ///
     /// # Example
-    /// Of the pairs (2, `true`) and (1, `false`) with ubytes as keys: written `c10704500241500142`,
-    /// in this order.
+    /// The pairs (2, `true`) and (1, `false`), with ubyte keys, are encoded as
+    /// `c10704500241500142`, in this order.
     pub fn from_distinct(entries: Vec<(K, V)>) -> Self
         requires { AreDistinct K.eq (keys_of entries.items) }
         ensures { entries_of result ≡ entries.items }
@@ -115,10 +117,10 @@ impl<K: Hash + Eq, V> OrderedMap<K, V> {
         OrderedMap { entries }
     }
 
-    /// The value of the key, if it is present. The keys are searched in order.
+    /// Returns the value of the key, if the key is present. The keys are searched in order.
     ///
     /// # Example
-    /// In the map from 1 to `true`: `Some(&true)` of the key 1, `None` of the key 2.
+    /// In the map from 1 to `true`, the key 1 gives `Some(&true)` and the key 2 gives `None`.
     pub fn get(&self, key: &K) -> Option<&V>
         ensures { option_copied result ≡ lookup (K.eq key.now) (entries_of self.now) }
     {
@@ -128,36 +130,36 @@ impl<K: Hash + Eq, V> OrderedMap<K, V> {
         }
     }
 
-    /// Gives the key this value, and hands out the value that it had.
+    /// Inserts a key with its value, and returns the previous value if the key was present.
     ///
-    /// A present key keeps its place, and the key that was passed is dropped. A new key goes last.
-    /// The keys are searched in order.
+    /// A key that is present keeps its position, and the key argument is dropped. A new key is
+    /// appended. The keys are searched in order.
     ///
     /// # Errors
-    /// `OutOfMemory` where memory for a new key is refused. Nothing is changed then, and the pair
-    /// is dropped.
+    /// Returns `Error::OutOfMemory` if an allocation for a new key fails. The map is then
+    /// unchanged, and the key and the value are dropped.
     ///
     /// # Memory
-    /// Takes none where the key is present.
+    /// Allocates nothing if the key is present.
     ///
     /// # Example
-    /// Into a map of no pairs, 1 and `true`: `Ok(None)`. Then 1 and `false`: `Ok(Some(true))`. With
-    /// ubytes as keys the map is then written `c10402500142`.
+    /// Into an empty map, inserting 1 and `true` returns `Ok(None)`. Then inserting 1 and `false`
+    /// returns `Ok(Some(true))`. With ubyte keys, the map is then encoded as `c10402500142`.
     pub fn insert(&mut self, key: K, value: V) -> Result<Option<V>, Error>
     where
         K: Drop,
         V: Drop,
-        // What `Ok` holds, and what it leaves.
+        // What `Ok` contains, and the entries after success.
         ensures replaced { IfOk result (λ old. old ≡ lookup (K.eq key) (entries_of self.old)) }
         ensures entries { OnOk result
             (entries_of self.new ≡ insert_pair K.eq (entries_of self.old) key value) }
 
-        // When it comes, and what a refusal leaves.
+        // When the call succeeds, and the entries after an error.
         ensures present_succeeds { IsSome (lookup (K.eq key) (entries_of self.old)) → IsOk result }
         ensures memory { IfErr result (λ e. e ≡ Error.OutOfMemory) }
         ensures unchanged { OnErr result (entries_of self.new ≡ entries_of self.old) }
 
-        // What holds either way.
+        // What holds in both cases.
         ensures distinct { AreDistinct K.eq (keys_of (entries_of self.old)) →
             AreDistinct K.eq (keys_of (entries_of self.new)) }
     {
@@ -170,7 +172,7 @@ impl<K: Hash + Eq, V> OrderedMap<K, V> {
         }
     }
 
-    // The place of the key.
+    // Returns the position of the key.
     fn find(&self, key: &K) -> Option<usize>
         ensures { result ≡ position (λ e. K.eq key.now e.0) (entries_of self.now) }
     {
@@ -178,11 +180,10 @@ impl<K: Hash + Eq, V> OrderedMap<K, V> {
     }
 }
 
-/// The pairs of a map that are left, as references, in order.
+/// An iterator over references to the remaining entries of a map, in order.
 ///
 /// # Example
-/// Over the map that is written `c10704500241500142`: `(&2, &true)`, then `(&1, &false)`, then
-/// `None`.
+/// For the map encoded as `c10704500241500142`: `(&2, &true)`, then `(&1, &false)`, then `None`.
 #[derive(Drop)]
 pub struct Iter<'a, K, V> {
     rest: &'a [(K, V)],

@@ -1,4 +1,5 @@
-//! Symbols: names that the sender and the receiver agree on (AMQP 1.0 part 1, section 1.6.21).
+//! Symbols: names from a domain known to the sender and the receiver (AMQP 1.0 part 1, section
+//! 1.6.21).
 
 ghost use Rattle.std.specs.Prelude.{◌≡◌, IfOk, IfErr, Some, string_bytes};
 ghost use Rattle.amqp_data.specs.Shown.{shown_symbol};
@@ -9,28 +10,28 @@ use std::alloc::Global;
 use std::fmt;
 use std::fmt::{Formatter, Write};
 
-/// A symbol with its own text.
+/// A symbol that owns its text.
 ///
 /// # Encoding
-/// `a3` with a length of one byte, `b3` with a length of four. Any text is taken, though AMQP has
-/// symbols of ASCII alone.
+/// `a3` with a length of one byte, or `b3` with a length of four bytes. Any text is accepted,
+/// although AMQP restricts symbols to ASCII.
 ///
 /// # Example
-/// `amqp` is written `a304616d7170`.
+/// `amqp` is encoded as `a304616d7170`.
 #[derive(Debug, PartialEq, Eq, PartialOrd, Ord, Hash, Drop)]
 pub struct Symbol(String);
 
 impl Symbol {
-    /// A symbol with a copy of the text.
+    /// Creates a symbol from a copy of `text`.
     ///
     /// # Errors
-    /// `OutOfMemory` where memory for the copy is refused.
+    /// Returns `Error::OutOfMemory` if an allocation fails.
     ///
     /// # Memory
-    /// Takes `alloc`.
+    /// Allocates the copy from `alloc`.
     ///
     /// # Example
-    /// Of `amqp`: a symbol that is written `a304616d7170` and shown `:amqp`.
+    /// `amqp` gives the symbol encoded as `a304616d7170` and displayed as `:amqp`.
     pub fn try_from_str(alloc: Global, text: &str) -> Result<Symbol, Error>
         ensures ok { IfOk result (λ symbol. symbol_text symbol ≡ text.now) }
         ensures memory { IfErr result (λ e. e ≡ Error.OutOfMemory) }
@@ -38,20 +39,20 @@ impl Symbol {
         Ok(Symbol(String::from_str(alloc, text)?))
     }
 
-    /// The text.
+    /// Returns the text.
     ///
     /// # Example
-    /// Of the symbol that is written `a304616d7170` and shown `:amqp`: `amqp`.
+    /// For the symbol encoded as `a304616d7170` and displayed as `:amqp`, returns `amqp`.
     pub fn as_inner(&self) -> &String
         ensures { string_bytes result.now ≡ symbol_text self.now }
     {
         &self.0
     }
 
-    /// Gives the text up.
+    /// Consumes the symbol and returns the text.
     ///
     /// # Example
-    /// Of the symbol that is written `a300` and shown `:`: a string of no bytes.
+    /// For the symbol encoded as `a300` and displayed as `:`, returns the empty string.
     pub fn into_inner(self) -> String
         ensures { string_bytes result ≡ symbol_text self }
     {
@@ -67,7 +68,7 @@ impl From<String> for Symbol {
     }
 }
 
-/// A colon and the text.
+/// Writes a colon and the text.
 ///
 /// # Example
 /// `:amqp`.
@@ -80,31 +81,31 @@ impl fmt::Display for Symbol {
     }
 }
 
-/// A symbol over a text that stands elsewhere.
+/// A symbol that borrows its text.
 ///
 /// # Encoding
-/// As a `Symbol` of the same text.
+/// The same as a `Symbol` with this text.
 ///
 /// # Example
-/// `SymbolRef::from("amqp")` is written `a304616d7170`, and `as_inner` of it is `amqp`.
+/// `SymbolRef::from("amqp")` is encoded as `a304616d7170`, and its `as_inner` returns `amqp`.
 #[derive(Debug, PartialEq, Eq, PartialOrd, Ord, Hash, Clone, Copy)]
 pub struct SymbolRef<'a>(&'a str);
 
 impl<'a> SymbolRef<'a> {
-    /// The text.
+    /// Returns the text.
     ///
     /// # Example
-    /// Of the one that is written `a304616d7170`: `amqp`.
+    /// For the symbol encoded as `a304616d7170`, returns `amqp`.
     pub fn as_inner(&self) -> &'a str
         ensures { result.now ≡ symbol_ref_text self.now }
     {
         self.0
     }
 
-    /// Gives the text up.
+    /// Consumes the symbol and returns the text.
     ///
     /// # Example
-    /// Of the one that is written `a303613a62`: `a:b`.
+    /// For the symbol encoded as `a303613a62`, returns `a:b`.
     pub fn into_inner(self) -> &'a str
         ensures { result.now ≡ symbol_ref_text self.entry }
     {

@@ -1,4 +1,4 @@
-//! Values one after another, with no header.
+//! Transparent vectors: values one after another, with no header.
 
 ghost use Rattle.std.specs.Prelude.{◌≡◌, IfOk, IfErr};
 ghost use Rattle.std.specs.Borrow.{sem};
@@ -14,55 +14,56 @@ use std::{slice, vec};
 
 /// Elements that are written one after another, with no header of their own.
 ///
-/// A message of several sections is one. It is written at the root, or directly inside another at
-/// the root, and nowhere else.
+/// For example, a message of several sections is a transparent vector. It is written only at the
+/// root, or directly inside another transparent vector at the root.
 ///
 /// # Encoding
-/// Each element in its own form.
+/// The encoding of each element, in order.
 ///
 /// # Example
-/// `true`, `false` and `true` are written `414241`.
+/// `true`, `false` and `true` are encoded as `414241`.
 #[derive(Debug, PartialEq, Eq, PartialOrd, Ord, Hash, Drop)]
 pub struct TransparentVec<T>(Vec<T>);
 
 impl<T> TransparentVec<T> {
-    /// A transparent vector of these elements.
+    /// Creates a transparent vector of `items`.
     ///
     /// # Memory
-    /// Takes none.
+    /// Allocates nothing.
     ///
     /// # Example
-    /// Of `true`, `false` and `true`: written `414241`. Of no elements: no byte.
+    /// `true`, `false` and `true` are encoded as `414241`. With no elements, the encoding is empty.
     pub fn new(items: Vec<T>) -> TransparentVec<T>
         ensures { transparent_items result ≡ items.items }
     {
         TransparentVec(items)
     }
 
-    /// Gives the elements up.
+    /// Consumes the transparent vector and returns the elements.
     ///
     /// # Example
-    /// Of what is written `4142`: the vector of `true` and `false`.
+    /// For the transparent vector encoded as `4142`, returns the vector of `true` and `false`.
     pub fn into_inner(self) -> Vec<T>
         ensures { result.items ≡ transparent_items self }
     {
         self.0
     }
 
-    /// The elements.
+    /// Returns the elements as a slice.
     ///
     /// # Example
-    /// Of what is written `414241`: `[true, false, true]`.
+    /// For the transparent vector encoded as `414241`, returns `[true, false, true]`.
     pub fn as_slice(&self) -> &[T]
         ensures { result.now ≡ transparent_items self.now }
     {
         self.0.as_slice()
     }
 
-    /// The elements, to add to, take from or change.
+    /// Returns a mutable reference to the vector of the elements.
     ///
     /// # Example
-    /// Of what is written `41`: the vector of `true`. With `false` pushed to it, `4142`.
+    /// For the transparent vector encoded as `41`, returns the vector of `true`. After `false` is
+    /// pushed to it, the encoding is `4142`.
     pub fn as_mut(&mut self) -> &mut Vec<T>
         ensures* writes_back { sem 𝓛 (lends_vec T.row self.entry result) }
         ensures items { result.now.items ≡ transparent_items self.old }
@@ -70,20 +71,20 @@ impl<T> TransparentVec<T> {
         &mut self.0
     }
 
-    /// The elements in order, as references.
+    /// Returns an iterator over references to the elements, in order.
     ///
     /// # Example
-    /// Of what is written `4142`: `&true`, then `&false`, then `None`.
+    /// For the transparent vector encoded as `4142`: `&true`, then `&false`, then `None`.
     pub fn iter(&self) -> slice::Iter<'_, T>
         ensures { GivesRefs (transparent_items self.now) result }
     {
         self.0.iter()
     }
 
-    /// The elements in order, as references to write by.
+    /// Returns an iterator over mutable references to the elements, in order.
     ///
     /// # Example
-    /// Of what is written `4142`: with each element negated by its reference, `4241`.
+    /// For the transparent vector encoded as `4142`, negating each element gives `4241`.
     pub fn iter_mut(&mut self) -> slice::IterMut<'_, T>
         ensures* writes_back { sem 𝓛 (lends_items T.row self.entry result) }
         ensures items { GivesMutRefs (transparent_items self.old) result }
@@ -91,16 +92,17 @@ impl<T> TransparentVec<T> {
         self.0.iter_mut()
     }
 
-    /// A transparent vector of what an iterator gives, which ends.
+    /// Collects the items of a finite iterator into a transparent vector.
     ///
     /// # Errors
-    /// `OutOfMemory` where memory for the elements is refused. What was gathered is dropped then.
+    /// Returns `Error::OutOfMemory` if an allocation fails. The items collected so far are then
+    /// dropped.
     ///
     /// # Memory
-    /// Takes `alloc`.
+    /// Allocates from `alloc`.
     ///
     /// # Example
-    /// Of an iterator over `true` and `false`: written `4142`.
+    /// An iterator over `true` and `false` gives the transparent vector encoded as `4142`.
     pub fn try_collect<I: Iterator<Item = T>>(
         alloc: Global,
         iter: I,

@@ -15,25 +15,27 @@ use std::fmt::{Formatter, Write};
 /// `98` and the bytes.
 ///
 /// # Example
-/// The bytes 00, 11, 22 up to FF are written `9800112233445566778899aabbccddeeff`.
+/// The bytes 00, 11, 22 up to FF are encoded as `9800112233445566778899aabbccddeeff`.
 #[derive(Debug, PartialEq, Eq, PartialOrd, Ord, Hash, Clone, Copy)]
 pub struct Uuid([u8; 16]);
 
 impl Uuid {
-    /// The 16 bytes.
+    /// Returns a reference to the 16 bytes.
     ///
     /// # Example
-    /// Of the one that is written `9800112233445566778899aabbccddeeff`: the bytes 00, 11 up to FF.
+    /// For the uuid encoded as `9800112233445566778899aabbccddeeff`, returns the bytes 00, 11 up to
+    /// FF.
     pub fn as_inner(&self) -> &[u8; 16]
         ensures { result.now ≡ uuid_bytes self.now }
     {
         &self.0
     }
 
-    /// The 16 bytes.
+    /// Consumes the uuid and returns the 16 bytes.
     ///
     /// # Example
-    /// Of the one that is shown `00010203-0405-0607-0809-0a0b0c0d0e0f`: the bytes 00 to 0F.
+    /// For the uuid displayed as `00010203-0405-0607-0809-0a0b0c0d0e0f`, returns the bytes 00 to
+    /// 0F.
     pub fn into_inner(self) -> [u8; 16]
         ensures { result ≡ uuid_bytes self }
     {
@@ -49,12 +51,14 @@ impl From<[u8; 16]> for Uuid {
     }
 }
 
+/// Creates a uuid from a slice of 16 bytes.
+///
 /// # Errors
-/// `InvalidValue` where there are not 16 bytes.
+/// Returns `Error::InvalidValue` if the slice does not have 16 bytes.
 ///
 /// # Example
-/// Of the bytes 00 to 0F: the uuid that is shown `00010203-0405-0607-0809-0a0b0c0d0e0f`.
-/// Of 00 to 0E: `InvalidValue`.
+/// The bytes 00 to 0F give the uuid displayed as `00010203-0405-0607-0809-0a0b0c0d0e0f`. The bytes
+/// 00 to 0E give `InvalidValue`.
 impl TryFrom<&[u8]> for Uuid {
     type Error = Error;
 
@@ -68,7 +72,7 @@ impl TryFrom<&[u8]> for Uuid {
     }
 }
 
-/// 8, 4, 4, 4 and 12 lower-case hexadecimal digits, with hyphens between them.
+/// Writes groups of 8, 4, 4, 4 and 12 lower-case hexadecimal digits, separated by hyphens.
 ///
 /// # Example
 /// `00112233-4455-6677-8899-aabbccddeeff`.
@@ -84,7 +88,7 @@ impl fmt::Display for Uuid {
     }
 }
 
-// Writes so many bytes from a place on, behind a hyphen.
+// Writes a hyphen and the digits of `count` bytes, from the offset `from`.
 fn write_group<W: Write>(
     bytes: &[u8; 16],
     from: usize,

@@ -1,4 +1,4 @@
--- What was taken of an encoded value, where it goes on and where it ends.
+-- The bytes consumed for an encoded value, after each step and at the end.
 use Rattle.std.proofs.Common.{◌≡◌, ℕ, ◌-◌, ◌<◌, ◌≤◌, false, IsTrue, List, [], ◌∷◌, ◌++◌, inl, inr, Option, None, Some, IfSome, Result, Ok, Err, IfOk, IfErr, OnErr, length, refl, sym, ap, ◌∙◌, arith, append_assoc, length-append}
 use Rattle.std.proofs.lemmas.List.{append-nil}
 use Rattle.std.specs.Io.KnownBytes.{Consumes}
@@ -49,7 +49,7 @@ pub grown : (taken after more bytes : List ℕ) → after ≡ (taken ++ more) ++
 grown taken after more bytes e = omega
     (arith, ap length e, length-append (taken ++ more) bytes, length-append taken more)
 
--- each answer excludes the cases of the others
+-- each result excludes the cases of the other results
 pub decided : {T : Type 0} (r : Result T Error) (P : T → List ℕ) (old new : Option (List ℕ)) (f g : ℕ)
     → IfOk r (λ v. IsFrame (P v) × Consumes old new (P v))
     → IfErr r (FrameRefuses old new f g (TakesIncomplete old new) (TakesMalformed old new)) → IfSome old (λ s. DecidedBy s r)
@@ -82,7 +82,7 @@ decided (Err UnexpectedEof) P (Some s) new f g ok err =
       (λ _. err.0, λ _. refl),
     ))
 
--- no refusal loses a byte
+-- no error loses a byte
 pub kept : {T : Type 0} (r : Result T Error) (old new : Option (List ℕ)) (f g : ℕ)
     → IfErr r (FrameRefuses old new f g (TakesIncomplete old new) (TakesMalformed old new)) → OnErr r (Takes old new)
 kept (Ok v) old new f g err = tt

@@ -1,4 +1,4 @@
--- What reads into the parts of a buffer took.
+-- The bytes consumed by reads into the parts of a buffer.
 use Rattle.std.proofs.Common.{◌≡◌, ℕ, ◌+◌, ◌-◌, ◌≤◌, ◌<◌, List, [], ◌∷◌, ◌++◌, Option, None, Some, Result, Ok, Err, OnOk, length, take, sym, ap, ◌∙◌, subst, arith, length-take, length-append, slice_set}
 use Rattle.std.proofs.lemmas.List.{take-append-le, drop_all, append-nil}
 use Rattle.std.specs.Io.KnownBytes.{Consumes, prepend_known}
@@ -7,7 +7,7 @@ use Rattle.std.proofs.Math.Seq.{take-append-add}
 use Rattle.amqp_frame.specs.Reader.{Takes}
 use borrow.Rule.Slice.PartMut.{put_mid, post_of}
 
--- a read of n bytes behind the first `at`
+-- a read of n bytes after the first `at` bytes
 pub fills-more : (a b c : Option (List ℕ)) (at n k : ℕ) (buf part : List ℕ) → at ≤ length buf → n ≤ length part
     → Consumes a b (take at buf) → Consumes b c (take n part) → Consumes a c (take (at + n) (put_mid at k buf part))
 fills-more a b c at n k buf part within fits was now =
@@ -19,7 +19,7 @@ fills-more a b c at n k buf part within fits was now =
     = ap (λ m. take (m + n) (put_mid at k buf part)) (sym prefix) ∙ joined ∙ ap (λ l. take at buf ++ l) rest in
     subst (Consumes a c) (sym whole) (Consumes-trans a b c _ _ was now)
 
--- a byte that was looked at, and then what was read
+-- a byte that was peeked, followed by the bytes that were read
 pub seen-first : (byte : ℕ) (a b : Option (List ℕ)) (part : List ℕ) → Consumes a b part
     → Consumes (prepend_known (byte ∷ []) a) (prepend_known [] b) (byte ∷ part)
 seen-first byte None b part h = tt

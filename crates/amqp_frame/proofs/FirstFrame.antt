@@ -1,5 +1,5 @@
--- The first encoded value of a byte string, or why there is none: one function from which the laws of the grammar
--- follow.
+-- The first encoded value of a byte string, or the reason why there is none, as one function. The
+-- laws of the grammar follow from it.
 use Rattle.std.proofs.Common.{◌≡◌, ℕ, zero, suc, ◌+◌, ◌<◌, ◌≤◌, Bool, true, false, cond, eqb, leb, IsTrue, List, [], ◌∷◌, ◌++◌, length, take, drop, refl, sym, ap, ◌∙◌, append_assoc, arith, length-append, length-take}
 use Rattle.std.proofs.lemmas.List.{take-append-drop, get_or-take}
 use Rattle.std.proofs.Math.Seq.{take-append_seam, drop-append_seam}
@@ -15,7 +15,7 @@ pub data Outcome : Type 0 where
   malformed : List ℕ → List ℕ → Outcome
   partial : Outcome
 
--- more bytes before what was taken
+-- prepends bytes to what was found
 abbrev pub shift : List ℕ → Outcome → Outcome
 shift d (whole f r) = whole (d ++ f) r
 shift d (malformed f r) = malformed (d ++ f) r
@@ -26,7 +26,7 @@ join next (whole d r) = shift (0 ∷ d) (next r)
 join next (malformed b r) = malformed (0 ∷ b) r
 join next partial = partial
 
--- a code and its payload of n bytes, and what follows
+-- a code with its payload of n bytes, and the rest
 abbrev pub split_after : ℕ → ℕ → List ℕ → Outcome
 split_after n c s = whole (c ∷ take n s) (drop n s)
 
@@ -73,7 +73,7 @@ primitive-not-zero (suc c) h = grind (arith, nat_tests)
 pub positive-not-zero : (c : ℕ) → 0 < c → eqb c 0 ≡ false
 positive-not-zero c h = grind (arith, nat_tests)
 
--- What the grammar says, the function finds.
+-- The function finds what the grammar states.
 
 pub cut-primitive : (c : ℕ) (p x : List ℕ) → IsTrue (is_primitive_code c) → length p ≡ payload_len (category c) p
     → primitive_cut c (p ++ x) ≡ whole (c ∷ p) x
@@ -129,7 +129,7 @@ cut-incomplete (IsIncomplete.in_value d b fd be) (suc n) h =
     let second : cut n b ≡ partial = cut-incomplete be n (omega arith) in
     rw (first, second) refl
 
--- What the function finds, the grammar says.
+-- The grammar holds for what the function finds.
 
 abbrev pub Means : List ℕ → Outcome → Type 0
 Means s (whole f r) = IsFrame f × (s ≡ f ++ r)

@@ -1,4 +1,4 @@
--- What the prefixes of a byte string can be.
+-- The possible prefixes of a byte string.
 use Rattle.std.proofs.Common.{◌≡◌, ℕ, ◌+◌, inl, inr, List, ◌++◌, length, sym, ap, ◌∙◌, arith}
 use Rattle.amqp_frame.specs.Frame.{IsFrame, IsIncomplete, IsMalformed, HasFrame, HasMalformed, ExactlyOne}
 use Rattle.amqp_frame.proofs.FirstFrame.{Outcome, cut, cut-frame, cut-malformed, cut-incomplete, cut-means, Means}

@@ -28,7 +28,7 @@ prefix-frame (c ∷ p) n some ok len fits =
     let e : 1 + n ≡ suc n = omega arith in
     rw e (IsFrame.primitive c (take n p) ok (omega arith))
 
--- where no encoded value can come
+-- no prefix is an encoded value if the rest is malformed or incomplete
 pub open-none : (s : List ℕ) (at n : ℕ) → 0 < n → Open (take at s) n → HasMalformed (drop at s) ⊎ IsIncomplete (drop at s)
     → ¬ HasFrame s
 open-none s at n pos o (inl (b, r, br, e)) has =
@@ -39,7 +39,7 @@ open-none s at n pos o (inr be) has =
     let whole : IsIncomplete s = rw (take-append-drop at s) at (open-incomplete (take at s) (drop at s) n pos be o) in
     frame-incomplete s has whole
 
--- an encoded value that is a prefix is that prefix
+-- an encoded value that is a prefix has the length of the one that was found
 pub only-length : (s prefix rest : List ℕ) (n : ℕ) → n ≤ length s → IsFrame (take n s) → IsFrame prefix
     → s ≡ prefix ++ rest → n ≡ length prefix
 only-length s prefix rest n within f g e =

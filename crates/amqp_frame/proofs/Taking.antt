@@ -1,4 +1,4 @@
--- One call of a reader after another.
+-- Sequences of calls of a reader.
 use Rattle.std.proofs.Common.{◌≡◌, ℕ, ◌+◌, ◌<◌, ◌≤◌, inl, inr, List, [], ◌++◌, Option, None, Some, Result, Ok, Err, IfErr, OnOk, IfSome, length, ◌-◌, take, drop, ap, ◌∙◌, arith, length-append, append_assoc}
 use Rattle.std.specs.Io.KnownBytes.{Consumes}
 use Rattle.std.proofs.KnownBytes.{Consumes-trans}
@@ -13,13 +13,13 @@ use Rattle.amqp_frame.specs.Reader.{Failed, RunsOut}
 use Rattle.amqp_frame.specs.Taking.{FrameRefuses, Moves}
 use Rattle.amqp_frame.proofs.FirstFrame.{body_len-prefix}
 
--- a failure in a later call is one of the whole run
+-- a failure in a later call is a failure of the sequence
 pub failed-later : (f g h : ℕ) → f ≤ g → g ≤ h → Failed g h → Failed f h
 failed-later f g h fg gh (inl rose) = inl (omega arith)
 failed-later f g h fg gh (inr last) =
     elim (cases_lt f g) [ inl below ↦ inl (omega arith) | inr over ↦ inr (omega arith) ]
 
--- a call that refuses, after bytes were taken
+-- an error of a later call is an error of the sequence, whose earlier calls consumed bytes
 pub refuses-later : (a b c : Option (List ℕ)) (f g h : ℕ) (taken : List ℕ) {E E' C C' : Type 0} → Consumes a b taken
     → f ≤ g → g ≤ h → (E → E') → (C → C') → (e : Error) → FrameRefuses b c g h E C e → FrameRefuses a c f h E' C' e
 refuses-later a b c f g h taken t fg gh at_end at_code OutOfMemory (more, r) =
@@ -45,7 +45,7 @@ runs-out-later None b c bytes n m t le r = tt
 runs-out-later (Some s) None c bytes n m t le r = absurd t
 runs-out-later (Some s) (Some x) c bytes n m t le r = (omega (arith, ap length t, length-append bytes x, r.0), r.1)
 
--- a payload is its head and its body
+-- fewer bytes remained than the payload has, and all of them were consumed
 abbrev pub FallsShort : Category → Option (List ℕ) → Option (List ℕ) → Type 0
 FallsShort k old new = IfSome old (λ s. (length s < payload_len k s) × (new ≡ Some []))
 
@@ -73,7 +73,7 @@ moves-payload (Ok x) k a b c before mid after head n t m len e (body, u, v, size
     (head ++ body, Consumes-trans a b c head body t u, whole, omega (arith, length-append head body))
 moves-payload (Err d) k a b c before mid after head n t m len e h = tt
 
--- what stands behind the bytes of before
+-- the bytes that follow `before`
 pub behind : (before head now : List ℕ) (at : ℕ) → now ≡ before ++ head → at ≡ length before
     → take (length now - at) (drop at now) ≡ head
 behind before head now at e is = rest-is now at ∙ (rw (is, e) (drop-append_seam before head))

@@ -1,4 +1,4 @@
--- The test of one encoded value, beside the grammar.
+-- The test of one encoded value agrees with the grammar.
 use Rattle.std.proofs.Common.{◌≡◌, ℕ, zero, suc, ◌≤◌, ◌&&◌, Bool, true, false, cond, eqb, List, [], ◌∷◌, ◌++◌, length, take, drop, refl, sym, ap, ◌∙◌, append_assoc, ◌+◌, nat_eq, Option, Some, None, IfSome, arith, length-take, take_all}
 use Rattle.std.proofs.lemmas.List.{append-nil, take-append-drop}
 use Rattle.std.proofs.lemmas.Bool.{eqb-true}
@@ -14,7 +14,7 @@ ends-payload : (n : ℕ) (p x : List ℕ) → ends n (length p) (p ++ x) ≡ end
 ends-payload n [] x = refl
 ends-payload n (b ∷ p) x = ends-payload n p x
 
--- an encoded value is one less to come
+-- an encoded value reduces the number of expected values by one
 ends-frame : {a : List ℕ} → IsFrame a → (n : ℕ) (x : List ℕ) → ends (suc n) 0 (a ++ x) ≡ ends n 0 x
 ends-frame (IsFrame.primitive c p ok len) n x =
     let more : payload_len (category c) (p ++ x) ≡ length p = payload_len-more (category c) p x (omega arith)
@@ -27,11 +27,11 @@ pub frame_passes : (bytes : List ℕ) → IsFrame bytes → is_frame bytes ≡ t
 unfolding is_frame
 frame_passes bytes f = rw (append-nil bytes) at (ends-frame f 0 [])
 
--- so many bytes, and then so many encoded values
+-- k bytes, followed by n encoded values
 abbrev Remains : ℕ → ℕ → List ℕ → Type 0
 Remains n k s = (k ≤ length s) × Frames n (drop k s)
 
--- 00 has two more to come in its place, any other code its payload
+-- after the code 00, two values are expected in place of one; after any other code, its payload
 after-code : (n c : ℕ) (s : List ℕ) (zero_code primitive : Bool) → eqb c 0 ≡ zero_code → is_primitive_code c ≡ primitive
     → ((m k : ℕ) → ends m k s ≡ true → Remains m k s)
     → cond zero_code (ends (suc (suc n)) 0 s) (primitive && ends n (payload_len (category c) s) s) ≡ true
@@ -79,7 +79,7 @@ same_nat m n h = grind (arith, nat_tests)
 nat_itself : (n : ℕ) → nat_eq n n ≡ true
 nat_itself n = grind (arith, nat_tests)
 
--- the encoded value that the bytes begin with, if there is one, is all of them
+-- r is the length of all the bytes if and only if the bytes pass the test
 pub all_of_them : (bytes : List ℕ) (r : Option ℕ) → IfSome r (λ n. (n ≤ length bytes) × IsFrame (take n bytes))
     → ((prefix rest : List ℕ) → IsFrame prefix → bytes ≡ prefix ++ rest → r ≡ Some (length prefix)) → (b : Bool)
     → is_frame bytes ≡ b → option_eq nat_eq r (Some (length bytes)) ≡ b
@@ -97,7 +97,7 @@ all_of_them bytes (Some n) found only false e = by (nat_eq n (length bytes)) ref
         absurd (no_false (sym e ∙ frame_passes bytes (rw all at found.1)))
     by false q = refl
 
--- such bytes are not none
+-- bytes that pass the test are not empty
 pub some_byte_passes : (bytes : List ℕ) → is_frame bytes ≡ true → 1 ≤ length bytes
 unfolding is_frame
 some_byte_passes [] h = absurd cc

@@ -1,15 +1,16 @@
--- The grammar of encoded values on whole byte strings (AMQP 1.0 part 1, sections 1.2 to 1.2.4).
+-- The grammar of encoded values, over complete byte strings (AMQP 1.0 part 1, sections 1.2 to
+-- 1.2.4).
 use Rattle.std.specs.Prelude.{◌≡◌, ℕ, ◌<◌, ◌⊎◌, IsTrue, IsFalse, List, [], ◌∷◌, ◌++◌, length}
 use Rattle.amqp_frame.specs.Code.{is_primitive_code, category, payload_len}
 
--- one encoded value: a primitive code with the payload of its category (sections 1.2.1 to 1.2.4), or 00 with two
--- more, the descriptor and the value (section 1.2)
+-- one encoded value: a primitive code with the payload of its category (sections 1.2.1 to 1.2.4),
+-- or 00 with two encoded values, the descriptor and the value (section 1.2)
 pub data IsFrame : List ℕ → Type 0 where
   primitive : (code : ℕ) (payload : List ℕ) → IsTrue (is_primitive_code code)
       → length payload ≡ payload_len (category code) payload → IsFrame (code ∷ payload)
   described : (descriptor value : List ℕ) → IsFrame descriptor → IsFrame value → IsFrame (0 ∷ descriptor ++ value)
 
--- incomplete: less than an encoded value, which more bytes can complete (sections 1.2.1 to 1.2.4)
+-- incomplete: not yet an encoded value, but more bytes can complete it (sections 1.2.1 to 1.2.4)
 pub data IsIncomplete : List ℕ → Type 0 where
   nothing : IsIncomplete []
   short : (code : ℕ) (payload : List ℕ) → IsTrue (is_primitive_code code)
@@ -18,7 +19,7 @@ pub data IsIncomplete : List ℕ → Type 0 where
   in_value : (descriptor bytes : List ℕ) → IsFrame descriptor → IsIncomplete bytes
       → IsIncomplete (0 ∷ descriptor ++ bytes)
 
--- malformed: a refused code stands where a value was to begin, and ends the bytes (section 1.2)
+-- malformed: the last byte is an invalid code in the position where a value begins (section 1.2)
 pub data IsMalformed : List ℕ → Type 0 where
   refused : (code : ℕ) → 0 < code → IsFalse (is_primitive_code code) → IsMalformed (code ∷ [])
   in_descriptor : (bytes : List ℕ) → IsMalformed bytes → IsMalformed (0 ∷ bytes)
@@ -33,6 +34,6 @@ HasFrame s = (prefix rest : List ℕ) × IsFrame prefix × (s ≡ prefix ++ rest
 abbrev pub HasMalformed : List ℕ → Type 0
 HasMalformed s = (prefix rest : List ℕ) × IsMalformed prefix × (s ≡ prefix ++ rest)
 
--- one of the three holds, and no other
+-- exactly one of the three holds
 abbrev pub ExactlyOne : Type 0 → Type 0 → Type 0 → Type 0
 ExactlyOne A B C = (A × ¬ B × ¬ C) ⊎ ((¬ A × B × ¬ C) ⊎ (¬ A × ¬ B × C))

@@ -1,5 +1,5 @@
--- Contracts of public items rest on all of these, but for `Moves` in Taking, which those of private functions alone
--- cite.
+-- Definitions used by the contracts of public items, except `Moves` in Taking, which is used only
+-- by the contracts of private functions.
 pub mod Code
 pub mod Frame
 pub mod Whole

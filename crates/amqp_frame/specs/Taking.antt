@@ -1,4 +1,5 @@
--- What a reader loses to an encoded value, or to one that did not come (AMQP 1.0 part 1, section 1.2).
+-- The bytes that a reader consumes for an encoded value, or before an error (AMQP 1.0 part 1,
+-- section 1.2).
 use Rattle.std.specs.Prelude.{◌≡◌, ℕ, ◌⊎◌, ◌↔◌, List, [], ◌++◌, Option, Some, IfSome, Result, IsOk, IsErrOf}
 use Rattle.std.specs.Io.KnownBytes.{Consumes}
 use Rattle.amqp_data.specs.declared.error.Error.{Error}
@@ -6,19 +7,19 @@ use Rattle.amqp_data.specs.declared.error.Error.TheVariants.{OutOfMemory, TooLon
 use Rattle.amqp_frame.specs.Frame.{IsIncomplete, IsMalformed, HasFrame, HasMalformed}
 use Rattle.amqp_frame.specs.Reader.{Takes, Failed}
 
--- bytes of which P holds went from a reader to the end of a list
+-- bytes that satisfy P were consumed from a reader and appended to a list
 abbrev pub Moves : Option (List ℕ) → Option (List ℕ) → List ℕ → List ℕ → (List ℕ → Type 0) → Type 0
 Moves old new before after P = (bytes : List ℕ) × Consumes old new bytes × (after ≡ before ++ bytes) × P bytes
 
--- what was left was incomplete, and all of it was taken
+-- the bytes that remained were incomplete, and all of them were consumed
 abbrev pub TakesIncomplete : Option (List ℕ) → Option (List ℕ) → Type 0
 TakesIncomplete old new = IfSome old (λ s. IsIncomplete s × (new ≡ Some []))
 
--- just a malformed prefix was taken, which ends with the refused code
+-- exactly a malformed prefix was consumed, which ends with the invalid code
 abbrev pub TakesMalformed : Option (List ℕ) → Option (List ℕ) → Type 0
 TakesMalformed old new = (prefix : List ℕ) × IsMalformed prefix × Consumes old new prefix
 
--- what a refusal says, error by error: at the input's end and at a refused code what the caller names
+-- the statement for each error: `at_end` for `UnexpectedEof`, `at_code` for `InvalidFormatCode`
 abbrev pub FrameRefuses : Option (List ℕ) → Option (List ℕ) → ℕ → ℕ → Type 0 → Type 0 → Error → Type 0
 FrameRefuses old new before after at_end at_code OutOfMemory = Takes old new
 FrameRefuses old new before after at_end at_code UnexpectedEof = at_end
@@ -28,7 +29,7 @@ FrameRefuses old new before after at_end at_code TooLong = ⊥
 FrameRefuses old new before after at_end at_code InvalidValue = ⊥
 FrameRefuses old new before after at_end at_code (Message words) = ⊥
 
--- out of memory and failed reads aside, the bytes that were left decide the answer
+-- except for `OutOfMemory` and `Io`, the bytes that remained determine the result
 abbrev pub DecidedBy : {T : Type 0} → List ℕ → Result T Error → Type 0
 DecidedBy s r =
     IsErrOf r OutOfMemory ⊎ (IsErrOf r Io ⊎ ((IsOk r ↔ HasFrame s)

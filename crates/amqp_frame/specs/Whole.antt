@@ -1,10 +1,10 @@
--- Whether bytes are one encoded value and nothing more, as a test: true exactly where `IsFrame` holds of them (AMQP 1.0
--- part 1, sections 1.2 to 1.2.4).
+-- A test of whether bytes are exactly one encoded value: true if and only if `IsFrame` holds for
+-- them (AMQP 1.0 part 1, sections 1.2 to 1.2.4).
 use Rattle.std.specs.Prelude.{ℕ, zero, suc, Bool, true, false, ◌&&◌, ◌==◌, if◌then◌else◌, List, [], ◌∷◌}
 use Rattle.amqp_frame.specs.Code.{is_primitive_code, category, payload_len}
 
--- the bytes end just where nothing is to come: so many encoded values are to come, after so many bytes of a payload;
--- 00 has a descriptor and a value to come in its place
+-- true if the list is the given number of payload bytes, then the given number of encoded values;
+-- the code 00 replaces one expected value by two, a descriptor and a value
 abbrev pub ends : ℕ → ℕ → List ℕ → Bool
 ends zero zero [] = true
 ends zero zero (b ∷ bs) = false

@@ -1,24 +1,26 @@
-//! The codes that begin an encoded value, and how long their payloads are.
+//! The format codes of encoded values, and the lengths of their payloads.
 
 ghost use Rattle.std.specs.Prelude.{◌≡◌, ◌≤◌, length};
 ghost use Rattle.amqp_frame.specs.Code.{is_primitive_code, category, size_width, body_len};
 
-/// How the length of a payload is told.
+/// How the length of a payload is determined.
 #[derive(Clone, Copy, Debug, PartialEq, Eq)]
 pub enum Category {
-    /// The code alone tells it (AMQP 1.0 part 1, section 1.2.1).
+    /// The format code determines the length (AMQP 1.0 part 1, section 1.2.1).
     Fixed(u8),
-    /// The payload begins with one byte that tells how many follow (sections 1.2.2 to 1.2.4).
+    /// The payload begins with a size of one byte, the number of bytes that follow (sections 1.2.2
+    /// to 1.2.4).
     OneByteSize,
-    /// The payload begins with four bytes that tell how many follow (sections 1.2.2 to 1.2.4).
+    /// The payload begins with a size of four bytes, the number of bytes that follow (sections
+    /// 1.2.2 to 1.2.4).
     FourByteSize,
 }
 
-/// Whether the code is accepted as that of a primitive type.
+/// Returns whether `code` is an accepted format code of a primitive type.
 ///
 /// # Example
 ///
-/// True of `40`, `a1` and `c0`, and false of `00`, `4f` and `ff`.
+/// True for `40`, `a1` and `c0`. False for `00`, `4f` and `ff`.
 #[tactic(auto, unfolding(crate::specs::Code::is_primitive_code))]
 pub fn is_primitive(code: u8) -> bool
     ensures { result ≡ is_primitive_code code }
@@ -26,11 +28,11 @@ pub fn is_primitive(code: u8) -> bool
     0x40 <= code && code < 0xFF && code % 16 < 15
 }
 
-/// The category of a code, by its high four bits.
+/// Returns the category of a format code, from its high four bits.
 ///
 /// # Example
 ///
-/// Of `70`: `Fixed(4)`. Of `a1`, `c0` and `e0`: `OneByteSize`. Of `b1`, `d0` and `f0`:
+/// `70` gives `Fixed(4)`. `a1`, `c0` and `e0` give `OneByteSize`. `b1`, `d0` and `f0` give
 /// `FourByteSize`.
 #[tactic(auto, unfolding(crate::specs::Code::category))]
 pub fn category_of(code: u8) -> Category
@@ -48,11 +50,11 @@ pub fn category_of(code: u8) -> Category
     }
 }
 
-/// How many bytes of a payload, from its first on, are its size.
+/// Returns the number of bytes at the start of a payload that are its size.
 ///
 /// # Example
 ///
-/// Of `Fixed(4)`: 0. Of `OneByteSize`: 1. Of `FourByteSize`: 4.
+/// `Fixed(4)` gives 0. `OneByteSize` gives 1. `FourByteSize` gives 4.
 #[tactic(auto, unfolding(crate::specs::Code::size_width))]
 pub fn size_width_of(category: Category) -> usize
     ensures width { result ≡ size_width category }
@@ -65,11 +67,11 @@ pub fn size_width_of(category: Category) -> usize
     }
 }
 
-/// How many bytes follow the size.
+/// Returns the number of bytes that follow the size.
 ///
 /// # Example
 ///
-/// Of `Fixed(4)`: 4. Of `OneByteSize` and `08`: 8. Of `FourByteSize` and `00000100`: 256.
+/// `Fixed(4)` gives 4. `OneByteSize` and `08` give 8. `FourByteSize` and `00000100` give 256.
 #[tactic(auto, unfolding(crate::specs::Code::size_width, crate::specs::Code::body_len))]
 pub fn body_len_of(category: Category, size: &[u8]) -> u32
     requires { length size.now ≡ size_width category }

@@ -1,4 +1,4 @@
-//! Where the first encoded value of a slice ends.
+//! The length of the first encoded value of a slice.
 
 ghost use Rattle.std.specs.Prelude.{◌≡◌, ◌≢◌, ◌≤◌, ◌<◌, ◌⊎◌, ◌++◌, ℕ, List, IfSome, IfNone, Some, length, take, slice_index};
 ghost use Rattle.amqp_frame.specs.Frame.{IsFrame, IsIncomplete, HasFrame, HasMalformed};
@@ -6,10 +6,11 @@ ghost use Rattle.amqp_frame.specs.Whole.{is_frame};
 
 use crate::code::{body_len_of, category_of, is_primitive, size_width_of};
 
-/// The length of the encoded value that the bytes begin with: none where no prefix of them is one.
+/// Returns the length of the encoded value at the start of `bytes`, or `None` if no prefix of
+/// `bytes` is an encoded value.
 ///
-/// Public names say frame for an encoded value, as the crate `serde_amqp` does. A frame of the
-/// transport, with its header of eight bytes (AMQP 1.0 part 2, section 2.3), is another thing.
+/// In public names, a frame is an encoded value, as in the crate `serde_amqp`. It is not a
+/// transport frame, which has a header of eight bytes (AMQP 1.0 part 2, section 2.3).
 ///
 /// # Encoding
 ///
@@ -18,11 +19,12 @@ use crate::code::{body_len_of, category_of, is_primitive, size_width_of};
 ///
 /// # Memory
 ///
-/// Takes none. Encoded values inside one another are counted, with no call for each.
+/// Allocates nothing. Nested encoded values are counted, without recursion.
 ///
 /// # Example
 ///
-/// `4010`: `Some(1)`. `00a1016145`: `Some(5)`. `10`, `a10561` and no bytes: `None`.
+/// `4010` gives `Some(1)`. `00a1016145` gives `Some(5)`. `10`, `a10561` and an empty slice give
+/// `None`.
 pub fn frame_len(bytes: &[u8]) -> Option<usize>
     ensures found { IfSome result (λ n. (n ≤ length bytes.now) × IsFrame (take n bytes.now)) }
     ensures only { (prefix rest : List ℕ) → IsFrame prefix → bytes.now ≡ prefix ++ rest →
@@ -49,26 +51,26 @@ pub fn frame_len(bytes: &[u8]) -> Option<usize>
     Some(at)
 }
 
-/// Whether the bytes are exactly one encoded value, with nothing before or after it.
+/// Returns whether the bytes are exactly one encoded value, with no bytes before or after it.
 ///
 /// # Encoding
 ///
-/// AMQP 1.0 part 1, sections 1.2 to 1.2.4, as [`frame_len`].
+/// AMQP 1.0 part 1, sections 1.2 to 1.2.4, as in [`frame_len`].
 ///
 /// # Memory
 ///
-/// Takes none.
+/// Allocates nothing.
 ///
 /// # Example
 ///
-/// `40` and `00a1016145` are; `4040`, `a10561` and no bytes are not.
+/// True for `40` and `00a1016145`. False for `4040`, `a10561` and an empty slice.
 pub fn is_frame(bytes: &[u8]) -> bool
     ensures { result ≡ is_frame bytes.now }
 {
     frame_len(bytes) == Some(bytes.len())
 }
 
-// The length of the primitive code that the bytes begin with, and of its payload.
+// Returns the length of the primitive format code at the start of `bytes` and its payload.
 fn primitive_len(bytes: &[u8]) -> Option<usize>
     requires some { 0 < length bytes.now }
     requires code { slice_index bytes.now 0 ≢ 0 }

@@ -1,4 +1,4 @@
-//! Laws of the definitions alone. A caller learns one by calling its function.
+//! Laws of the definitions. A caller's proof uses a law by calling its function.
 
 ghost use Rattle.std.specs.Prelude.{◌≡◌, ◌<◌, ◌↔◌, ℕ, IsTrue, List, [], ◌++◌, length};
 ghost use Rattle.std.specs.List.{AllByRecursion, concat};
@@ -6,46 +6,46 @@ ghost use Rattle.amqp_frame.specs.Cut.{IsCut};
 ghost use Rattle.amqp_frame.specs.Frame.{IsFrame, IsIncomplete, IsMalformed, HasFrame, HasMalformed, ExactlyOne};
 ghost use Rattle.amqp_frame.specs.Whole.{is_frame};
 
-/// Of the prefixes of a string at most one is an encoded value, so no encoded value is a proper
-/// prefix of another.
+/// At most one prefix of a byte string is an encoded value, so no encoded value is a proper prefix
+/// of another.
 pub fn one_frame()
     ensures { (a b x y : List ℕ) → IsFrame a → IsFrame b → a ++ x ≡ b ++ y → (a ≡ b) × (x ≡ y) }
 {}
 
-/// Of the prefixes of a string at most one is malformed.
+/// At most one prefix of a byte string is malformed.
 pub fn one_malformed()
     ensures { (a b x y : List ℕ) → IsMalformed a → IsMalformed b →
         a ++ x ≡ b ++ y → (a ≡ b) × (x ≡ y) }
 {}
 
-/// Every string has exactly one of three: an encoded value as a prefix, a malformed prefix, being
-/// itself incomplete.
+/// Exactly one of three cases holds for each byte string: a prefix is an encoded value, a prefix is
+/// malformed, or the string is incomplete.
 pub fn one_case()
     ensures { (s : List ℕ) → ExactlyOne (HasFrame s) (HasMalformed s) (IsIncomplete s) }
 {}
 
-/// An encoded value has a byte at least.
+/// An encoded value has at least one byte.
 pub fn some_byte()
     ensures { (frame : List ℕ) → IsFrame frame → 0 < length frame }
 {}
 
-/// The test of one encoded value holds of just those.
+/// The test `is_frame` is true if and only if the bytes are one encoded value.
 pub fn one_test()
     ensures { (bytes : List ℕ) → IsTrue (is_frame bytes) ↔ IsFrame bytes }
 {}
 
-/// Every string has a cut.
+/// Every byte string can be split into encoded values and a rest that does not begin with one.
 pub fn some_cut()
     ensures { (s : List ℕ) → (frames : List (List ℕ)) × (rest : List ℕ) × IsCut s frames rest }
 {}
 
-/// No string has two cuts.
+/// This split is unique.
 pub fn one_cut()
     ensures { (s rest last : List ℕ) (frames others : List (List ℕ)) →
         IsCut s frames rest → IsCut s others last → (frames ≡ others) × (rest ≡ last) }
 {}
 
-/// Encoded values joined are cut back into the single ones.
+/// A concatenation of encoded values is split into these values, with an empty rest.
 pub fn cut_back()
     ensures { (frames : List (List ℕ)) → AllByRecursion IsFrame frames →
         IsCut (concat frames) frames [] }

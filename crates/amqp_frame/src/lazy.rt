@@ -14,9 +14,9 @@ use bytes::Bytes;
 use std::alloc::Global;
 use std::marker::Model;
 
-/// The bytes of exactly one encoded value, not looked into.
+/// The bytes of exactly one encoded value, not decoded.
 ///
-/// Equality, order and hash go by the bytes. A contract sees a `LazyValue` as its bytes.
+/// Equality, order and hash depend on the bytes. In contracts, a `LazyValue` is its bytes.
 #[derive(Debug, Drop, PartialEq, Eq, PartialOrd, Ord, Hash)]
 pub struct LazyValue {
     bytes: Bytes,
@@ -36,10 +36,10 @@ impl Model for LazyValue {
 }
 
 impl LazyValue {
-    /// Takes exactly the next encoded value, and leaves what follows it.
+    /// Reads exactly one encoded value. The bytes after it remain in the reader.
     ///
-    /// Public names say frame for an encoded value, as the crate `serde_amqp` does. A frame of the
-    /// transport, with its header of eight bytes (AMQP 1.0 part 2, section 2.3), is another thing.
+    /// In public names, a frame is an encoded value, as in the crate `serde_amqp`. It is not a
+    /// transport frame, which has a header of eight bytes (AMQP 1.0 part 2, section 2.3).
     ///
     /// # Encoding
     ///
@@ -48,31 +48,32 @@ impl LazyValue {
     ///
     /// # Errors
     ///
-    /// [`Error::InvalidFormatCode`] where a refused code stands where a value was to begin; it is
-    /// the last byte taken. [`Error::UnexpectedEof`] where the input ends before the value does;
-    /// nothing is left. [`Error::Io`] where a read failed, and [`Error::OutOfMemory`]. After each
-    /// of them, what was taken and what is left are together what was left before.
+    /// Returns [`Error::InvalidFormatCode`] if the first byte of a value is an invalid code. That
+    /// code is the last byte consumed. Returns [`Error::UnexpectedEof`] if the input ends before
+    /// the value does. No bytes then remain. Returns [`Error::Io`] if a read fails, and
+    /// [`Error::OutOfMemory`] if an allocation fails. After any error, the consumed bytes followed
+    /// by the remaining bytes are the bytes that remained before the call.
     ///
     /// # Memory
     ///
-    /// Takes `alloc`. It grows with the bytes that come, by pieces of at most 4,096, and not with
-    /// the sizes that they claim. Encoded values inside one another are counted, with no call for
-    /// each.
+    /// Allocates a buffer from `alloc`. Its length grows with the bytes received, by at most 4,096
+    /// bytes at a time, and not with the sizes declared in the input. Nested encoded values are
+    /// counted, without recursion.
     ///
     /// # Example
     ///
-    /// From `500140` it takes `5001` and leaves `40`; from `00a1016145` it takes all five bytes.
+    /// From `500140`, reads `5001`, and `40` remains. From `00a1016145`, reads all five bytes.
     pub fn from_reader<R: Read>(alloc: Global, reader: &mut R) -> Result<LazyValue, Error>
-        // What `Ok` holds, and what is left then.
+        // What `Ok` contains, and the bytes that remain after success.
         ensures frame { IfOk result (λ value.
             IsFrame value × Consumes (R.left reader.old) (R.left reader.new) value) }
-        // When each answer comes.
+        // When each result is returned.
         ensures exact { IfSome (R.left reader.old) (λ s. DecidedBy s result) }
         ensures refused { IfErr result (FrameRefuses (R.left reader.old) (R.left reader.new)
             (R.failures reader.old) (R.failures reader.new)
             (TakesIncomplete (R.left reader.old) (R.left reader.new))
             (TakesMalformed (R.left reader.old) (R.left reader.new))) }
-        // What stays.
+        // The bytes that remain after an error, and the count of failures.
         ensures kept { OnErr result (Takes (R.left reader.old) (R.left reader.new)) }
         ensures count { R.failures reader.old ≤ R.failures reader.new }
     {
@@ -82,11 +83,11 @@ impl LazyValue {
         }
     }
 
-    /// The bytes.
+    /// Returns the bytes as a slice.
     ///
     /// # Memory
     ///
-    /// Takes none.
+    /// Allocates nothing.
     pub fn as_slice(&self) -> &[u8]
         ensures bytes { result.now ≡ self.now }
         ensures frame { IsFrame self.now }
@@ -94,11 +95,11 @@ impl LazyValue {
         self.bytes.as_slice()
     }
 
-    /// The shared buffer of the bytes.
+    /// Returns a reference to the shared buffer of the bytes.
     ///
     /// # Memory
     ///
-    /// Takes none.
+    /// Allocates nothing.
     pub fn as_bytes(&self) -> &Bytes
         ensures bytes { result.now ≡ self.now }
         ensures frame { IsFrame self.now }
@@ -106,11 +107,11 @@ impl LazyValue {
         &self.bytes
     }
 
-    /// The shared buffer of the bytes, handed out.
+    /// Consumes the lazy value and returns the shared buffer of the bytes.
     ///
     /// # Memory
     ///
-    /// Takes none.
+    /// Allocates nothing.
     pub fn into_bytes(self) -> Bytes
         ensures bytes { result ≡ self }
         ensures frame { IsFrame self }
@@ -118,15 +119,15 @@ impl LazyValue {
         self.bytes
     }
 
-    /// The bytes, copied.
+    /// Consumes the lazy value and returns a copy of the bytes.
     ///
     /// # Errors
     ///
-    /// [`Error::OutOfMemory`].
+    /// Returns [`Error::OutOfMemory`] if an allocation fails.
     ///
     /// # Memory
     ///
-    /// Takes `alloc`.
+    /// Allocates the copy from `alloc`.
     pub fn try_into_vec(self, alloc: Global) -> Result<Vec<u8>, Error>
         ensures bytes { IfOk result (λ copy. copy.items ≡ self) }
         ensures frame { IsFrame self }
@@ -144,19 +145,21 @@ impl From<LazyValue> for Bytes {
     }
 }
 
-/// Takes over a shared buffer of exactly one encoded value, with no copy of its bytes.
+/// Creates a lazy value from a shared buffer of exactly one encoded value, without copying its
+/// bytes.
 ///
 /// # Errors
 ///
-/// [`Error::InvalidValue`] where the bytes are not exactly one encoded value; the buffer is let go.
+/// Returns [`Error::InvalidValue`] if the bytes are not exactly one encoded value. The buffer is
+/// then dropped.
 ///
 /// # Memory
 ///
-/// Takes none.
+/// Allocates nothing.
 ///
 /// # Example
 ///
-/// `00a1016145` is taken; `4040`, `a10561` and no bytes are refused.
+/// `00a1016145` is accepted. `4040`, `a10561` and an empty buffer are rejected.
 impl TryFrom<Bytes> for LazyValue {
     ghost use Rattle.amqp_data.specs.declared.error.Error.TheVariants.{InvalidValue};
 

@@ -1,9 +1,9 @@
-//! Encoded values of AMQP data, cut off any reader.
+//! Reads encoded values of AMQP data from any reader.
 //!
 //! An encoded value is a format code with its payload, or 00 with a descriptor and a value (AMQP
-//! 1.0 part 1, section 1.2). Where it ends is told by its codes and sizes alone; what a payload
-//! holds is not looked at. No encoded value is a proper prefix of another, so a reader that cuts
-//! one off has no choice to make.
+//! 1.0 part 1, section 1.2). Its end is determined by its format codes and sizes only. The content
+//! of a payload is not examined. No encoded value is a proper prefix of another, so the end of the
+//! next encoded value is unique.
 #![tactic(auto)]
 
 mod code;

@@ -1,4 +1,4 @@
-//! The trait of what bytes are read from.
+//! The trait of readers.
 
 ghost use Rattle.std.specs.Prelude.{◌≡◌, ◌≤◌, ◌⊎◌, ℕ, Bool, List, Option, None, IfOk, OnOk, IfErr, OnErr, IfSome, IsErrOf, length, slice_get};
 ghost use Rattle.std.specs.Option.{option_to_list};
@@ -7,36 +7,40 @@ ghost use Rattle.amqp_frame.specs.Reader.{last_count, Failed, Takes, RunsOut, an
 
 use amqp_data::Error;
 
-/// Gives bytes one after another, and counts its failures.
+/// A source of bytes that counts its failures.
 ///
-/// For implementers: `left` is the bytes still to come, where the reader can tell them, and
-/// `failures` a `u64` that no call lowers. A call answers [`Error::Io`] only where it raised that
-/// count or found it at its last value, and at its last value always. So a reader whose count never
-/// rises never fails.
+/// # Implementer notes
+///
+/// `left` is the bytes that remain, if the reader knows them. `failures` is a `u64` that no call
+/// decreases. Required methods are `peek`, `next` and `read_exact`. A call returns [`Error::Io`]
+/// only if it increases `failures` or `failures` is at its maximum. At the maximum, every call
+/// returns [`Error::Io`]. A reader whose `failures` is always 0 therefore never returns
+/// [`Error::Io`].
 pub trait Read {
-    /// The bytes left, where the reader tells them.
+    /// The bytes that remain, if the reader knows them.
     ghost left: { Self → Option (List ℕ) };
 
-    /// How many reads failed.
+    /// The number of failures.
     ghost failures: { Self → ℕ };
 
-    /// What a call makes of the count, where the reader says more than the clauses do: from whether
-    /// it answered [`Error::Io`], the count before and the count after.
+    /// The effect of a call on `failures`, if the implementation states more than the clauses of
+    /// the trait: a relation between whether the call returns [`Error::Io`], the count before and
+    /// the count after.
     ghost counts: { Bool → ℕ → ℕ → Type 0 } = { λ _ _ _. Unit {0} };
 
-    /// Looks at the next byte, which stays: none at the end.
+    /// Returns the next byte without consuming it, or `None` at the end.
     ///
     /// # Errors
     ///
-    /// [`Error::Io`] where a read failed; no byte is lost.
+    /// Returns [`Error::Io`] if a read fails. No byte is lost.
     ///
     /// # Memory
     ///
-    /// Takes none.
+    /// Allocates nothing.
     ///
     /// # Example
     ///
-    /// Of `5001`: 50, and again 50.
+    /// With `5001` remaining, returns 50, and 50 again.
     fn peek(&mut self) -> Result<Option<u8>, Error>
         ensures ok { IfOk result (λ byte. IfSome (left self.old) (λ s. byte ≡ slice_get s 0)) }
         ensures io { IfErr result (λ e.
@@ -46,19 +50,19 @@ pub trait Read {
         ensures counts { counts (answers_io result) (failures self.old) (failures self.new) }
         ensures count { failures self.old ≤ failures self.new };
 
-    /// Takes the next byte: none at the end.
+    /// Consumes and returns the next byte, or returns `None` at the end.
     ///
     /// # Errors
     ///
-    /// [`Error::Io`] where a read failed; no byte is lost.
+    /// Returns [`Error::Io`] if a read fails. No byte is lost.
     ///
     /// # Memory
     ///
-    /// Takes none.
+    /// Allocates nothing.
     ///
     /// # Example
     ///
-    /// Of `5001`: 50, then 01, then `None`.
+    /// With `5001` remaining, returns 50, then 01, then `None`.
     fn next(&mut self) -> Result<Option<u8>, Error>
         ensures ok { IfOk result (λ byte.
             Consumes (left self.old) (left self.new) (option_to_list byte)) }
@@ -70,21 +74,21 @@ pub trait Read {
         ensures counts { counts (answers_io result) (failures self.old) (failures self.new) }
         ensures count { failures self.old ≤ failures self.new };
 
-    /// Takes as many bytes as `buf` has.
+    /// Reads the exact number of bytes required to fill `buf`.
     ///
     /// # Errors
     ///
-    /// [`Error::UnexpectedEof`] where fewer are left, and then all of them are taken. [`Error::Io`]
-    /// where a read failed; what came before it is taken.
+    /// Returns [`Error::UnexpectedEof`] if fewer bytes remain. All of them are then consumed.
+    /// Returns [`Error::Io`] if a read fails. The bytes read before the failure are then consumed.
     ///
     /// # Memory
     ///
-    /// Takes none.
+    /// Allocates nothing.
     ///
     /// # Example
     ///
-    /// Of `5001`, for two bytes: 50 and 01. For three: [`Error::UnexpectedEof`], and nothing is
-    /// left.
+    /// With `5001` remaining, a buffer of two bytes receives 50 and 01. A buffer of three bytes
+    /// gives [`Error::UnexpectedEof`], and no bytes remain.
     fn read_exact(&mut self, buf: &mut [u8]) -> Result<(), Error>
         ensures ok { OnOk result (Consumes (left self.old) (left self.new) buf.new) }
         ensures end { IsErrOf result Error.UnexpectedEof →

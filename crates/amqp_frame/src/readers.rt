@@ -1,4 +1,4 @@
-//! Readers of slices, and of what `std` reads.
+//! Readers over slices and over `std` readers.
 
 ghost use Rattle.std.specs.Prelude.{◌≡◌, ◌≤◌, ◌<◌, ◌+◌, ◌⊎◌, None, Some, IfOk, OnOk, IfErr, OnErr, IsErrOf, IsOkUnless, Ok, length, take};
 ghost use Rattle.std.specs.Option.{option_to_list};
@@ -9,18 +9,18 @@ use crate::read::Read;
 use amqp_data::Error;
 use std::io;
 
-/// The bytes of a slice, one after another; no call answers [`Error::Io`].
+/// A reader over the bytes of a slice. No call returns [`Error::Io`].
 #[derive(Drop)]
 pub struct SliceReader<'a> {
     rest: &'a [u8],
 }
 
 impl<'a> SliceReader<'a> {
-    /// Reads the slice from its first byte on.
+    /// Creates a reader over `bytes`, starting at the first byte.
     ///
     /// # Memory
     ///
-    /// Takes none.
+    /// Allocates nothing.
     pub fn new(bytes: &'a [u8]) -> SliceReader<'a>
         ensures left { ⟦<SliceReader<'a> as Read>⟧.left result ≡ Some bytes.now }
         ensures failures { ⟦<SliceReader<'a> as Read>⟧.failures result ≡ 0 }
@@ -60,24 +60,24 @@ impl Read for SliceReader<'_> {
     }
 }
 
-/// The bytes that a `std` reader gives.
+/// A reader over the bytes of a `std` reader.
 ///
-/// Each failed read counts one failure, an interrupted one too; no read is tried again. A call that
-/// does not fail counts none.
+/// Each failed read, including an interrupted one, counts as one failure and is not retried. A call
+/// that does not return [`Error::Io`] counts none.
 #[derive(Drop)]
 pub struct IoReader<R> {
     inner: R,
-    // A byte that was looked at and not taken.
+    // The byte that was peeked and not consumed.
     seen: Option<u8>,
     failures: u64,
 }
 
 impl<R: io::Read> IoReader<R> {
-    /// Reads from `inner`, with no failure counted yet.
+    /// Creates a reader over `inner`, with a failure count of zero.
     ///
     /// # Memory
     ///
-    /// Takes none.
+    /// Allocates nothing.
     pub fn new(inner: R) -> IoReader<R>
         ensures left { ⟦<IoReader<R> as Read>⟧.left result ≡ R.remaining inner }
         ensures failures { ⟦<IoReader<R> as Read>⟧.failures result ≡ 0 }
@@ -134,7 +134,7 @@ impl<R: io::Read> Read for IoReader<R> {
     }
 }
 
-// One read, whose failure is counted.
+// Reads once, and counts a failure.
 fn read_some<R: io::Read>(inner: &mut R, buf: &mut [u8], failures: &mut u64) -> Result<usize, Error>
     requires { failures.old < last_count }
     ensures ok { IfOk result (λ n.
@@ -155,7 +155,7 @@ fn read_some<R: io::Read>(inner: &mut R, buf: &mut [u8], failures: &mut u64) -> 
     }
 }
 
-// The next byte: none at the end.
+// Reads the next byte. Returns `None` at the end.
 fn read_byte<R: io::Read>(inner: &mut R, failures: &mut u64) -> Result<Option<u8>, Error>
     requires { failures.old < last_count }
     ensures ok { IfOk result (λ byte.

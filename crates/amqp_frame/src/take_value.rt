@@ -1,4 +1,4 @@
-//! The bytes of the next encoded value, taken from a reader and kept.
+//! Reads the bytes of the next encoded value into a buffer.
 
 ghost use Rattle.std.specs.Prelude.{◌≡◌, ◌≤◌, ◌<◌, [], ◌∷◌, ◌++◌, IfOk, OnOk, IfErr, IfSome, Some, length};
 ghost use Rattle.std.specs.Io.KnownBytes.{Consumes};
@@ -13,11 +13,11 @@ use amqp_data::Error;
 use bytes::Bytes;
 use std::alloc::Global;
 
-// How many bytes are asked for at once, at most, so that a false size takes no more memory than
-// there are bytes.
+// The maximum number of bytes requested at once. It bounds the memory allocated for a declared size
+// that exceeds the input.
 const PIECE: usize = 4096;
 
-/// Takes the next encoded value, code by code, with a count of those that are still open.
+/// Reads the next encoded value, one format code at a time, and counts the values still expected.
 ///
 /// # Encoding
 ///
@@ -25,13 +25,13 @@ const PIECE: usize = 4096;
 ///
 /// # Errors
 ///
-/// [`Error::InvalidFormatCode`] at a refused code, which is the last byte taken.
-/// [`Error::UnexpectedEof`] where the input ends before the value does, and nothing is left.
-/// [`Error::Io`] where a read failed, and [`Error::OutOfMemory`].
+/// Returns [`Error::InvalidFormatCode`] at an invalid code, which is the last byte consumed.
+/// Returns [`Error::UnexpectedEof`] if the input ends before the value does. No bytes then remain.
+/// Returns [`Error::Io`] if a read fails, and [`Error::OutOfMemory`] if an allocation fails.
 ///
 /// # Example
 ///
-/// From `500140` it takes `5001` and leaves `40`.
+/// From `500140`, reads `5001`, and `40` remains.
 pub fn take_value<R: Read>(alloc: Global, reader: &mut R) -> Result<Bytes, Error>
     ensures frame { IfOk result (λ bytes.
         IsFrame bytes × Consumes (R.left reader.old) (R.left reader.new) bytes) }
@@ -59,7 +59,7 @@ pub fn take_value<R: Read>(alloc: Global, reader: &mut R) -> Result<Bytes, Error
     Ok(bytes)
 }
 
-// Takes one byte.
+// Reads one byte and appends it to `taken`.
 fn take_byte<R: Read>(reader: &mut R, taken: &mut Vec<u8>) -> Result<u8, Error>
     ensures bytes { IfOk result (λ byte. taken.new.items ≡ taken.old.items ++ byte ∷ []) }
     ensures ok { IfOk result (λ byte.
@@ -76,7 +76,7 @@ fn take_byte<R: Read>(reader: &mut R, taken: &mut Vec<u8>) -> Result<u8, Error>
     Ok(byte)
 }
 
-// Takes a payload of this category.
+// Reads a payload of this category and appends it to `taken`.
 fn take_payload<R: Read>(
     reader: &mut R,
     taken: &mut Vec<u8>,
@@ -98,7 +98,7 @@ fn take_payload<R: Read>(
     take_bytes(reader, taken, body)
 }
 
-// Takes `count` bytes, in pieces.
+// Reads `count` bytes, one piece at a time, and appends them to `taken`.
 fn take_bytes<R: Read>(reader: &mut R, taken: &mut Vec<u8>, count: u32) -> Result<(), Error>
     ensures ok { OnOk result (Moves (R.left reader.old) (R.left reader.new)
         taken.old.items taken.new.items
@@ -117,7 +117,7 @@ fn take_bytes<R: Read>(reader: &mut R, taken: &mut Vec<u8>, count: u32) -> Resul
     Ok(())
 }
 
-// Takes `len` bytes at once.
+// Reads `len` bytes at once and appends them to `taken`.
 fn take_piece<R: Read>(reader: &mut R, taken: &mut Vec<u8>, len: usize) -> Result<(), Error>
     requires { len ≤ 4096 }
     ensures ok { OnOk result (Moves (R.left reader.old) (R.left reader.new)

@@ -1,5 +1,5 @@
-//! Every proper prefix of the encoded value of every shape is incomplete: `frame_len` finds no
-//! encoded value in it, and `decode_value` answers that the bytes end too soon.
+//! Tests that every proper prefix of the encoded value of every shape is incomplete: `frame_len`
+//! finds no encoded value in it, and `decode_value` returns `Error::UnexpectedEof`.
 
 use super::wrong;
 use crate::attach::{Attach, DescribedAttach};
@@ -41,8 +41,8 @@ fn maps(rt: &HostRuntime) -> bool {
     is_cut(rt, 5, numbered(a, 1000)) && is_cut(rt, 6, numbered(a, 10000))
 }
 
-/// Whether each proper prefix of the shape's bytes is incomplete, and the bytes are one encoded
-/// value.
+/// Returns whether each proper prefix of the bytes of a shape is incomplete, and the bytes are one
+/// encoded value.
 fn is_cut<T: Serialize + Drop>(rt: &HostRuntime, shape: u32, value: Result<T, Error>) -> bool {
     let Ok(value) = value else {
         return wrong(rt, "value of shape", shape);

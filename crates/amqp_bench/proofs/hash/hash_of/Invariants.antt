@@ -1,4 +1,4 @@
--- The bytes so far and those that are left make the whole.
+-- The hash so far, continued over the remaining bytes, is the hash of all bytes.
 use Rattle.std.proofs.Common.{◌≡◌, drop}
 use Rattle.amqp_bench.specs.Hash.{hash_from}
 use Rattle.amqp_bench.proofs.hash.hash_of.Given as goal

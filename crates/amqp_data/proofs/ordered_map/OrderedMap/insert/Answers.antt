@@ -4,7 +4,7 @@ use Rattle.amqp_data.specs.Pairs.{AreDistinct, insert_pair}
 use Rattle.amqp_data.proofs.PairLemmas.{lookup_none, lookup_found, insert_new, insert_found, distinct_after}
 use Rattle.amqp_data.proofs.ordered_map.OrderedMap.insert.Goals as goal
 
--- a present key: the pair at its place takes the value
+-- a key that is present: the value at its position is replaced
 replaced : (g : _) (c : goal.After-drop-key g)
     → slice_set c.args.self.now.entries.items c.in-Some.at (c.index_mut.result.now.0, c.replace.new.dest)
     ≡ insert_pair g.K.PartialEq.eq c.args.self.now.entries.items c.args.key c.args.value
@@ -29,7 +29,7 @@ returns-in-Some-clause-distinct g c distinct =
     let kept = distinct_after eq g.met.K.Eq.laws.symm c.args.key c.args.value c.args.self.now.entries.items distinct in
     subst (λ es. AreDistinct eq (keys_of es)) (sym (replaced g c)) kept
 
--- a new key: its pair goes last
+-- a new key: its pair is appended
 pushed : (g : _) (c : goal.In_ok-push-in-None g)
     → c.push.new.self.items ≡ insert_pair g.K.PartialEq.eq c.args.self.now.entries.items c.args.key c.args.value
 pushed g c =
@@ -49,7 +49,7 @@ returns-in_ok-push-in-None-clause-distinct g c distinct =
     let kept = distinct_after eq g.met.K.Eq.laws.symm c.args.key c.args.value c.args.self.now.entries.items distinct in
     subst (λ es. AreDistinct eq (keys_of es)) (sym (pushed g c)) kept
 
--- a refusal: the key was not present
+-- an error: the key was not present
 pub returns-in_err-push-in-None-clause-present_succeeds : goal.returns-in_err-push-in-None-clause-present_succeeds
 returns-in_err-push-in-None-clause-present_succeeds g c =
     let none = lookup_none g.K.PartialEq.eq c.args.key c.args.self.now.entries.items c.in-None.ensures in

@@ -11,7 +11,7 @@ loop-item-preserved g c =
     let goes = c.in-Some.ensures.goes.on finite in
     (goes.0, goes.1, search (rules, same))
 
--- the whole run gave what was pushed
+-- the complete run yields the items that were pushed
 pub returns-clause-items : goal.returns-clause-items
 returns-clause-items g c =
     let (can, finite, same) = c.loop-item.invariant in
