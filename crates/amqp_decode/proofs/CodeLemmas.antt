@@ -168,7 +168,7 @@ zero-described code.Array8 e = absurd cc
 zero-described code.Array32 e = absurd cc
 
 module _ (byte : ℕ) where
-  -- The primitive code of a byte that a format code has.
+  -- The primitive code of the byte of a format code, except 00.
   pub named : (c : EncodingCodes) → (byte ≡ 0 → ⊥) → code_of c ≡ byte → primitive_of byte ≡ Some c
   named c some e = by_test (is_primitive c) refl
     where
@@ -176,7 +176,7 @@ module _ (byte : ℕ) where
       by_test true is = ap primitive_of (sym e) ∙ primitive-found c is
       by_test false is = absurd (some (sym e ∙ zero-described c is))
 
-  -- A byte that no format code has.
+  -- A byte that no format code has is not a primitive code.
   pub unnamed : ((c : EncodingCodes) → code_of c ≡ byte → ⊥) → primitive_of byte ≡ None
   unnamed fails = by_code (primitive_of byte) refl
     where
@@ -188,7 +188,7 @@ pub primitive-zero : primitive_of 0 ≡ None
 unfolding primitive_of
 primitive-zero = refl
 
--- The primitive code of a byte, from the result of its conversion.
+-- The primitive code of a byte, given the result of the conversion to a format code.
 pub named-ok : (byte : ℕ) (r : Result EncodingCodes Error) → (byte ≡ 0 → ⊥) → GivesName byte r → IfOk r (λ c. primitive_of byte ≡ Some c)
 named-ok byte (Ok c) some h = named byte c some h.1
 named-ok byte (Err e) some h = tt

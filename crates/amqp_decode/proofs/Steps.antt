@@ -72,7 +72,7 @@ module _ (d : ℕ) (c : EncodingCodes) (s content rest : List ℕ) where
   item-err (Ok v) lt e h = tt
   item-err (Err f) lt e h = λ other. item-none lt e (h other)
 
--- A scalar that the match on the code found.
+-- A scalar that `read_fixed` found is the value of the payload.
 not-zero : (n : ℕ) → (n ≡ 0 → ⊥) → (n == 0) ≡ false
 not-zero zero some = absurd (some refl)
 not-zero (suc n) some = grind (arith, common_steps)

@@ -32,7 +32,7 @@ bad_in arr ws error.TooLong = (fits (length (content arr ws)) && (is_count (coun
 bad_in arr ws error.InvalidValue = (one_in arr ws && (uniform_arrays_each ws && inside_each ws)) ≡ false
 bad_in arr ws e = ⊥
 
--- No position accepts this tree.
+-- No position accepts a tree with a mixed array, or with something transparent inside.
 spoiled : (p : Position) (t : Tree) → placed t ≡ inside t → (uniform_arrays t && inside t) ≡ false → (uniform_arrays t && suits p t) ≡ false
 spoiled p t e h = elim (one_false (uniform_arrays t) (inside t) h) [
   | inl a ↦ left_false (uniform_arrays t) (suits p t) a
@@ -92,7 +92,7 @@ bad_only p i no_trees h = (tt, refl)
 bad_only p i (more t no_trees) h = (bad_one p i t h, refl)
 bad_only p i (more t (more v ts)) h = (tt, refl)
 
--- If the marker does not accept the shape, there is no tree, and the same errors are permitted.
+-- The same if the pending marker does not accept the shape: there is no tree.
 none_bad : (u : Pending) (o : Option Tree) (e : WalkError) → refuses_none e → meant u o ≡ None → at_position (position_of u) (meant u o) (Err e) (pending.Plain (without_prefix (position_of u)))
 none_bad u o e r h = stands_none u (position_of u) o (Err e) (pending.Plain (without_prefix (position_of u))) refl h (r, refl)
 

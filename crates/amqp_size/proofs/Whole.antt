@@ -26,7 +26,7 @@ use Rattle.amqp_size.specs.declared.serializer.SizeSerializer.{SizeSerializer}
 use Rattle.amqp_size.specs.declared.open_compound.OpenCompound.{OpenCompound}
 use Rattle.amqp_size.proofs.Lengths.{length-counted, length-list_form, length-variant}
 
--- A result that is permitted for the tree under the pending marker.
+-- A result for the tree under the pending marker is a result for the tree that is serialized.
 pub stands : (u : Pending) (q : Position) (o : Option Tree) (x : Tree) (r : Result ℕ WalkError) (after : Pending) → position_of u ≡ q → meant u o ≡ Some x → at_position q (Some x) r after → at_position (position_of u) (meant u o) r after
 stands u q o x r after a b h = subst (λ w. at_position w (meant u o) r after) (sym a) (subst (λ w. at_position q w r after) (sym b) h)
 

@@ -59,7 +59,7 @@ long_after n x t h = elim (one_false (is_length (n + length (encoding t))) (with
       (right_false (is_length (length (encoding (described x t)))) (descriptor_fits x && within_limits t) (right_false (descriptor_fits x) (within_limits t) b))
 ]
 
--- What the position after a descriptor requires of the value.
+-- The position `q` after a descriptor accepts the values whose described values `p` accepts.
 pub record Behind (p q : Position) : Type 0 where
   pub without_prefix_is : without_prefix q ≡ without_prefix p
   pub own : is_element q ≡ false
@@ -116,7 +116,7 @@ described_accepts (pending.Scalar m p) w x e t r after h =
     subst (λ o. accepts p o r after) (sym (no_scalar_described m x t)) (subst (λ v. accepts (position_of v) (meant v t) r after) (sym (some_pending (pending.Nothing p) w e)) h)
 described_accepts (pending.Nothing p) w x e t r after h = subst (λ v. accepts (position_of v) (meant v t) r after) (sym (some_pending (pending.Nothing p) w e)) h
 
--- A described value whose descriptor fails.
+-- An error of the descriptor is permitted for the described value.
 refused_behind : (p : Position) (y : Descriptor) (d v : Tree) (e : WalkError) → descriptor_of (Some d) ≡ Some y → refused position.Descriptor d e → refused p (described y v) e
 refused_behind p y d v error.TooLong q h =
     long_at p (described y v) (right_false (is_length (length (encoding (described y v)))) (descriptor_fits y && within_limits v) (left_false (descriptor_fits y) (within_limits v) (sym (of_tree d y q).0 ∙ h)))

@@ -1,4 +1,4 @@
--- Neither a descriptor nor a described value has a slot in the table.
+-- A descriptor has no slot in the table, and a described value has only those of its value.
 use Rattle.std.proofs.Common.{◌≡◌, ℕ, ◌+◌, inl, inr, List, [], ◌++◌, Option, Some, None, true, Result, Ok, Err, is_some, refl, ap, sym, ◌∙◌, subst, append-nil}
 use Rattle.std.specs.Prelude.{IfErr, IfOk}
 use Rattle.amqp_size.specs.declared.walk_error.WalkError.{WalkError}

@@ -93,7 +93,7 @@ fills_are (n ∷ new) (h ∷ hs) pre post at a b =
     ap (fills new (at + 1)) (set_at pre h (hs ++ post) n at (sym b) ∙ sym (append_assoc pre (n ∷ []) (hs ++ post)))
     ∙ fills_are new hs (pre ++ (n ∷ [])) post (at + 1) (omega arith) (simp length-append (omega arith)) ∙ append_assoc pre (n ∷ []) (new ++ post)
 
--- A tree with nothing transparent inside is placed.
+-- A tree that its position accepts is placed, and within the limits if it is within those there.
 inside_placed : (t : Tree) → inside t ≡ true → placed t ≡ true
 inside_placed (scalar s) h = refl
 inside_placed (list ts) h = h

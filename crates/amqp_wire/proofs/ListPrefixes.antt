@@ -39,7 +39,7 @@ drop_prefix (x ∷ a) b = drop_prefix a b
 pub drop_past : {X : Type 0} (xs : List X) (i n : ℕ) (a b : List X) → drop i xs ≡ a ++ b → n ≡ i + length a → drop n xs ≡ b
 drop_past xs i n a b h e = ap (λ m. drop m xs) e ∙ drop_both xs i (length a) ∙ ap (drop (length a)) h ∙ drop_prefix a b
 
--- If two lists are equal after each has one more element, they are equal.
+-- Two lists are equal if they are equal with one more element each.
 pub same_prefix : {X : Type 0} (xs ys : List X) (x y : X) → xs ++ (x ∷ []) ≡ ys ++ (y ∷ []) → xs ≡ ys
 same_prefix [] [] x y h = refl
 same_prefix [] (b ∷ []) x y h = cc

@@ -189,7 +189,7 @@ pub record Took (before self : Measurer) (held : MeasurerCompound) (p : Option T
   pub permits : size_permits before.size p answer self.size
   pub part : listed (meant before.size.pending p) before.table.headers.items self.table.headers.items
 
--- The result of an accepted part is a length.
+-- If the compound accepts a part, the result of the part is a length.
 pub took : (before self : Measurer) (held : MeasurerCompound) (p : Option Tree) (part answer : Result ℕ WalkError) (res : Result (Unit {0}) WalkError) (u : Unit {0}) (X : WalkError → Type 0) →
     answered held part answer → counts_tree before p part self → res ≡ Ok u → IfErr answer (λ e. (res ≡ Err e) × X e) → Took before self held p answer
 took before self held p part (Ok n) res u X a l q k =

@@ -63,7 +63,7 @@ go_wrong : (o : Option Tree) (n : ℕ) (u v : Pending) (e : WalkError) → at_po
 go_wrong None n u v e h w = absurd h
 go_wrong (Some t) n u v e h w = no_refusal t n u v e h w
 
--- All headers are consumed, and no more.
+-- No more headers are consumed than the table has.
 go_whole : (o : Option Tree) (n : ℕ) (u : Pending) (hs : List Header) (s after : Output) → at_position Root o (Ok n) u → listed o [] hs → Ready s n hs → Kept s after → wrote Root s o after → nat_le after.taken (length after.table.items) ≡ true
 go_whole None n u hs s after h l r k w = absurd h
 go_whole (Some t) n u hs s after h l r k w =
