@@ -172,7 +172,7 @@ abbrev pub is_array : Shape → Bool
 is_array shape.Array = true
 is_array s = false
 
--- The parts are collected in one body.
+-- The compound collects its parts in one body.
 abbrev pub is_gathered : Shape → Bool
 is_gathered shape.Transparent = false
 is_gathered shape.Single = false

@@ -11,10 +11,10 @@ use crate::position::BasePosition;
 use crate::walk_error::WalkError;
 use amqp_data::EncodingCodes;
 
-/// Returns the length of a descriptor with this constructor and length.
+/// Accepts a ulong or a symbol as a descriptor, and returns its length.
 ///
 /// # Errors
-/// Returns `InvalidValue` if it is neither a ulong nor a symbol.
+/// Returns `InvalidValue` if the constructor is that of another type.
 pub(crate) fn descriptor_len(code: u8, ordinary: usize) -> Result<usize, WalkError>
     ensures { (t : Tree) → constructor t ≡ Some code → MatchResult result
         (λ n. (is_some (descriptor_of (Some t)) ≡ true) × (n ≡ ordinary))

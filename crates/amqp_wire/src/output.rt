@@ -199,7 +199,7 @@ impl Output {
         }
     }
 
-    /// Like `put_payload`, for any width.
+    /// Like `put_payload`, for any width up to 8.
     #[inline(never)]
     fn put_bits(&mut self, form: Form) -> Result<(), WalkError>
         requires { form.width ≤ 8 }
