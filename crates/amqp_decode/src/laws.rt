@@ -35,8 +35,8 @@ pub fn own_bytes()
         IsOrdinary t → depth_of t ≤ d → Spells d (encoding t) (image t) }
 {}
 
-/// Two trees with the same encoding have the same image, if both are ranged and writable and
-/// contain no lazy and no transparent part.
+/// Two trees with the same encoding have the same image, if both are writable, their contents are
+/// in the ranges of their types, and no part of them is lazy or transparent.
 pub fn same_bytes_same_image()
     ensures { (t u : Tree) → IsRanged t → IsRanged u → writable t ≡ true → writable u ≡ true →
         IsOrdinary t → IsOrdinary u → encoding t ≡ encoding u → image t ≡ image u }
