@@ -1,4 +1,4 @@
--- The codes and their bytes.
+-- Format codes and their bytes.
 use Rattle.std.proofs.Common.{◌≡◌, ℕ, Bool, true, false, IsTrue, List, [], ◌∷◌, Option, Some, None, Result, Ok, Err, if◌then◌else◌, ◌==◌, refl, sym, ap, ◌∙◌, arith, subst}
 use Rattle.std.specs.Prelude.{IfOk, IfErr}
 use Rattle.amqp_data.specs.FormatCode.{code_of, GivesName}
@@ -8,7 +8,7 @@ use Rattle.amqp_data.specs.declared.format_code.EncodingCodes.TheVariants as cod
 use Rattle.amqp_value.proofs.SameLemmas.{numbers}
 use Rattle.amqp_decode.specs.Codes.{primitive_codes, is_primitive, code_among, primitive_of}
 
--- a primitive code is that of its byte
+-- The primitive code with the byte of a primitive code is that code.
 pub primitive-found : (c : EncodingCodes) → IsTrue (is_primitive c) → primitive_of (code_of c) ≡ Some c
 unfolding primitive_of
 primitive-found code.DescribedType ok = absurd cc
@@ -52,7 +52,7 @@ primitive-found code.Map32 ok = refl
 primitive-found code.Array8 ok = refl
 primitive-found code.Array32 ok = refl
 
--- and its byte is not 00
+-- The byte of a primitive code is not 00.
 pub primitive-nonzero : (c : EncodingCodes) → IsTrue (is_primitive c) → (code_of c == 0) ≡ false
 primitive-nonzero code.DescribedType ok = absurd cc
 primitive-nonzero code.Null ok = refl
@@ -95,7 +95,7 @@ primitive-nonzero code.Map32 ok = refl
 primitive-nonzero code.Array8 ok = refl
 primitive-nonzero code.Array32 ok = refl
 
--- each of these codes holds
+-- The predicate holds for each of these codes.
 abbrev Each : (EncodingCodes → Type 0) → List EncodingCodes → Type 0
 Each P [] = Unit {0}
 Each P (c ∷ cs) = P c × Each P cs
@@ -116,7 +116,7 @@ among-says : (P : EncodingCodes → Type 0) (cs : List EncodingCodes) (byte : �
 among-says P [] byte all = tt
 among-says P (c ∷ cs) byte all = first-says P byte c (code_among cs byte) all.0 (among-says P cs byte all.1)
 
--- the code of a byte has that byte, and is primitive
+-- The code that is found for a byte has that byte and is primitive.
 pub primitive-says : (byte : ℕ) (c : EncodingCodes) → primitive_of byte ≡ Some c → (code_of c ≡ byte) × IsTrue (is_primitive c)
 unfolding primitive_of
 primitive-says byte c e = subst (Means (λ z. IsTrue (is_primitive z)) byte) e (among-says (λ z. IsTrue (is_primitive z)) primitive_codes byte each)
@@ -124,7 +124,7 @@ primitive-says byte c e = subst (Means (λ z. IsTrue (is_primitive z)) byte) e (
     each : Each (λ z. IsTrue (is_primitive z)) primitive_codes
     each = (refl, (refl, (refl, (refl, (refl, (refl, (refl, (refl, (refl, (refl, (refl, (refl, (refl, (refl, (refl, (refl, (refl, (refl, (refl, (refl, (refl, (refl, (refl, (refl, (refl, (refl, (refl, (refl, (refl, (refl, (refl, (refl, (refl, (refl, (refl, (refl, (refl, (refl, (refl, tt)))))))))))))))))))))))))))))))))))))))
 
--- the code that is not primitive is 00
+-- The byte of the code that is not primitive is 00.
 zero-described : (c : EncodingCodes) → is_primitive c ≡ false → code_of c ≡ 0
 zero-described code.DescribedType e = refl
 zero-described code.Null e = absurd cc
@@ -168,7 +168,7 @@ zero-described code.Array8 e = absurd cc
 zero-described code.Array32 e = absurd cc
 
 module _ (byte : ℕ) where
-  -- what the name of a byte says of its primitive code
+  -- The primitive code of the byte of a format code, except 00.
   pub named : (c : EncodingCodes) → (byte ≡ 0 → ⊥) → code_of c ≡ byte → primitive_of byte ≡ Some c
   named c some e = by_test (is_primitive c) refl
     where
@@ -176,7 +176,7 @@ module _ (byte : ℕ) where
       by_test true is = ap primitive_of (sym e) ∙ primitive-found c is
       by_test false is = absurd (some (sym e ∙ zero-described c is))
 
-  -- a byte that no name has
+  -- A byte that no format code has is not a primitive code.
   pub unnamed : ((c : EncodingCodes) → code_of c ≡ byte → ⊥) → primitive_of byte ≡ None
   unnamed fails = by_code (primitive_of byte) refl
     where
@@ -188,7 +188,7 @@ pub primitive-zero : primitive_of 0 ≡ None
 unfolding primitive_of
 primitive-zero = refl
 
--- what a byte's name says, with its refusal
+-- The primitive code of a byte, given the result of the conversion to a format code.
 pub named-ok : (byte : ℕ) (r : Result EncodingCodes Error) → (byte ≡ 0 → ⊥) → GivesName byte r → IfOk r (λ c. primitive_of byte ≡ Some c)
 named-ok byte (Ok c) some h = named byte c some h.1
 named-ok byte (Err e) some h = tt
@@ -197,7 +197,7 @@ pub unnamed-err : (byte : ℕ) (r : Result EncodingCodes Error) → GivesName by
 unnamed-err byte (Ok c) h = tt
 unnamed-err byte (Err e) h = unnamed byte (λ c is. let no = h.0 c is in absurd cc)
 
--- two primitive codes with one byte are one
+-- Two primitive codes with the same byte are equal.
 pub code-is : (c e : EncodingCodes) → IsTrue (is_primitive c) → IsTrue (is_primitive e) → code_of c ≡ code_of e → c ≡ e
 code-is c e pc pe same =
     let found : Some c ≡ Some e = sym (primitive-found c pc) ∙ ap primitive_of same ∙ primitive-found e pe in

@@ -1,4 +1,4 @@
--- Which values are descriptors.
+-- The values that are descriptors.
 use Rattle.std.proofs.Common.{◌≡◌, ℕ, None, refl, ap, ◌∙◌, subst}
 use Rattle.amqp_data.specs.declared.symbol.Symbol.{Symbol}
 use Rattle.amqp_ser.specs.Tree.{Tree}
@@ -17,7 +17,7 @@ Such = (v : Value) × IsOther v
 abbrev plain : Such → Value
 plain e = e.0
 
--- one level of the tree
+-- One level of the tree.
 abbrev layer : Value-F Such → Tree
 layer y = tree_step (map-Value Value Tree tree_of (map-Value Such Value plain y))
 
@@ -34,6 +34,6 @@ built : (y : Value-F Such) → IsOther (made y)
 built y = λ not_ulong not_symbol.
     ap tree_descriptor (fold-roll-Value Tree tree_step (map-Value Such Value plain y)) ∙ core y not_ulong not_symbol
 
--- a value that is neither a ulong nor a symbol is none
+-- A value that is neither a ulong nor a symbol is not a descriptor.
 pub other-value : (v : Value) → IsOther v
 other-value = ind-Value IsOther (λ x y is. subst (λ z. IsOther (roll-Value z)) is (built y))

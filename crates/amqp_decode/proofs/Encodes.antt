@@ -1,4 +1,4 @@
--- The bytes of a tree spell its image.
+-- The encoding of a tree encodes its image.
 use Rattle.std.proofs.Common.{◌≡◌, ℕ, zero, suc, ◌+◌, ◌*◌, ◌<◌, ◌≤◌, Bool, true, false, ◌&&◌, IsTrue, List, [], ◌∷◌, ◌++◌, length, Option, Some, None, refl, sym, ap, ◌∙◌, subst, arith, length-append, if◌then◌else◌, nat_le}
 use Rattle.std.proofs.lemmas.List.{append-nil}
 use Rattle.std.proofs.lemmas.Bool.{and_parts}
@@ -25,7 +25,7 @@ use Rattle.amqp_decode.proofs.CodeLemmas.{code-is}
 use Rattle.amqp_decode.proofs.Means.{pick}
 use Rattle.amqp_decode.proofs.ScalarBytes.{widest, widest-code, widest-primitive, scalar-parse_content, scalar-bytes, descriptor-bytes, four-number}
 
--- the images of trees, as a list
+-- The images of trees, as a list.
 abbrev images_list : Trees → List Tree
 images_list no_trees = []
 images_list (more t ts) = image t ∷ images_list ts
@@ -34,11 +34,11 @@ images-listed : (ts : Trees) → trees_of (images_list ts) ≡ images ts
 images-listed no_trees = refl
 images-listed (more t ts) = ap (more (image t)) (images-listed ts)
 
--- a payload and what its content stands for
+-- A payload whose content encodes the tree.
 abbrev HeldTree : ℕ → EncodingCodes → List ℕ → Tree → Type 0
 HeldTree d c p t = (content : List ℕ) × IsPayload (category (code_of c)) p content × SpellsContent d c content t
 
--- the code that a tree has as an array's element, 00 where it has none
+-- The code of a tree as an array element, or 00 if it has none.
 abbrev own_code : Tree → EncodingCodes
 own_code (scalar s) = widest s
 own_code (list ts) = code.List32
@@ -77,7 +77,7 @@ wide-payload n body ok =
 wide-counted : (n : ℕ) (body : List ℕ) → n < 4294967296 → IsCounted FourBytes (to_be_bytes w32 n ++ body) n body
 wide-counted n body lt = IsCounted.in_four_bytes (to_be_bytes w32 n) n body (four-number n lt)
 
--- a compound with its size and count in one byte each, or in four
+-- A compound whose size and count have one byte each, or four.
 module _ (d n : ℕ) (body : List ℕ) (t : Tree) (ok : fits (length body) ≡ true) where
   either-frame : (short : Bool) (c8 c32 : EncodingCodes) → IsTrue (is_primitive c8) → IsTrue (is_primitive c32)
       → category (code_of c8) ≡ OneByteSize → category (code_of c32) ≡ FourByteSize
@@ -88,7 +88,7 @@ module _ (d n : ℕ) (body : List ℕ) (t : Tree) (ok : fits (length body) ≡ t
       (λ _. Spells.primitive d c8 ((length body + 1) ∷ n ∷ body) (n ∷ body) t p8 (subst (λ k. IsPayload k ((length body + 1) ∷ n ∷ body) (n ∷ body)) (sym is8) (short-payload n body)) h8)
       (λ _. Spells.primitive d c32 (wide n body) (to_be_bytes w32 n ++ body) t p32 (subst (λ k. IsPayload k (wide n body) (to_be_bytes w32 n ++ body)) (sym is32) (wide-payload n body ok)) h32)
 
--- each encoded value has a byte at least
+-- Each encoded value has at least one byte.
 some-byte : {d : ℕ} {a : List ℕ} {t : Tree} → Spells d a t → 0 < length a
 some-byte (Spells.primitive d c p s t ok is h) = omega arith
 some-byte (Spells.described d a b l t is sp) = omega arith
@@ -145,7 +145,7 @@ array-bytes d n c items ts fit lt ok el =
     (SpellsContent.an_array d code.Array8 OneByte _ n c items ts refl (IsCounted.in_one_byte n (code_of c ∷ items)) ok el)
     (array-parse_content d n c items ts lt ok el)
 
--- what is known of a tree that is written
+-- What is assumed of a tree that is encoded.
 abbrev IsGood : Tree → Type 0
 IsGood t = IsRanged t × (within_limits t ≡ true) × (uniform_arrays t ≡ true) × IsOrdinary t
 
@@ -196,7 +196,7 @@ variant-good i t g =
     let w = and_parts (fits (length (scalar_form (uint i) ++ encoding t))) (within_limits t) g.1 in
     (w.0, g.0.0, (g.0.1, w.1, g.2, g.3))
 
--- each element has this code
+-- Each element has this code.
 abbrev EachOwn : EncodingCodes → Trees → Type 0
 EachOwn c no_trees = Unit {0}
 EachOwn c (more t ts) = (own_code t ≡ c) × EachOwn c ts
@@ -208,7 +208,7 @@ each-own c (more t ts) ok h =
     let own = own-code t (code_of c) (same-is (code_of c) (constructor t) s.0) in
     (code-is (own_code t) c own.1 ok own.0, each-own c ts ok s.1)
 
--- the one code of an array's elements
+-- The elements of an array have one code.
 one-own : (t : Tree) (ts : Trees) → one_constructor (more t ts) ≡ true
     → (c : EncodingCodes) × IsTrue (is_primitive c) × (code_list (constructor t) ≡ code_of c ∷ []) × EachOwn c (more t ts)
 one-own t ts h = by_con (constructor t) refl h

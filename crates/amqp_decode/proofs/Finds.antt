@@ -1,4 +1,4 @@
--- What the relation says, the function finds.
+-- The function finds every tree that the relation permits.
 use Rattle.std.proofs.Common.{◌≡◌, ℕ, zero, suc, ◌*◌, ◌/◌, ◌%◌, ◌<◌, ◌≤◌, true, eqb, leb, List, [], ◌∷◌, ◌++◌, length, Some, refl, sym, ◌∙◌, append_assoc, arith, length-append}
 use Rattle.std.proofs.Math.Seq.{take-append_seam, drop-append_seam}
 use Rattle.std.proofs.lemmas.List.{append-nil}
@@ -23,7 +23,7 @@ number-four (IsNumber.four_bytes a b c e) x =
     let h : cut 4 ((a ∷ b ∷ c ∷ e ∷ []) ++ x) ≡ Some (a ∷ b ∷ c ∷ e ∷ [], x) = cut-seam (a ∷ b ∷ c ∷ e ∷ []) x in
     rw h refl
 
--- the content of a payload, which comes first
+-- The content of the payload at the start.
 pub payload-found : {k : Category} {p content : List ℕ} → IsPayload k p content → (x : List ℕ) → content_at k (p ++ x) ≡ Some (content, x)
 unfolding sized_at
 payload-found (IsPayload.of_width content) x = cut-seam content x

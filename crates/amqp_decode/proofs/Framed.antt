@@ -1,4 +1,4 @@
--- What spells a tree is an encoded value.
+-- Bytes that encode a tree are one encoded value.
 use Rattle.std.proofs.Common.{◌≡◌, ℕ, IsTrue, List, ◌++◌, length, refl, arith, length-append}
 use Rattle.std.specs.Int.{from_be_bytes, w32}
 use Rattle.amqp_data.specs.FormatCode.{code_of}

@@ -1,4 +1,4 @@
--- What the function finds, the relation says.
+-- The relation permits every tree that the function finds.
 use Rattle.std.proofs.Common.{◌≡◌, ℕ, zero, suc, ◌*◌, ◌/◌, ◌%◌, ◌≤◌, Bool, true, false, IsTrue, List, [], ◌∷◌, ◌++◌, length, take, drop, Option, Some, None, refl, sym, ap, ◌∙◌, subst, append_assoc, arith, length-take, if◌then◌else◌, ◌==◌, nat_le}
 use Rattle.std.proofs.lemmas.List.{append-nil, take-append-drop}
 use Rattle.std.proofs.lemmas.Bool.{leb-true}
@@ -22,12 +22,12 @@ use Rattle.amqp_decode.specs.declared.payload_shape.PayloadShape.{PayloadShape}
 use Rattle.amqp_decode.specs.declared.payload_shape.PayloadShape.TheVariants as shape
 use Rattle.amqp_decode.proofs.CodeLemmas.{primitive-says}
 
--- what is found stands for the bytes before the rest
+-- The bytes before the rest encode the result, if there is one.
 abbrev pub Says : {A : Type 0} → (List ℕ → A → Type 0) → List ℕ → Option (A × List ℕ) → Type 0
 Says S s None = Unit {0}
 Says S s (Some r) = (a : List ℕ) × (s ≡ a ++ r.1) × S a r.0
 
--- what is found is so
+-- The property holds for the result, if there is one.
 abbrev pub IfFound : {A : Type 0} → (A → Type 0) → Option A → Type 0
 IfFound P None = Unit {0}
 IfFound P (Some a) = P a
@@ -42,7 +42,7 @@ module _ {A B : Type 0} (S : List ℕ → A → Type 0) (T : List ℕ → B → 
   says-and_then s None f h k = tt
   says-and_then s (Some r) f h k = k r h.0 h.1 h.2
 
--- a first step that is a test
+-- A first step that is a test.
 pub and_then-says : {A B : Type 0} (P : Option B → Type 0) (o : Option A) (f : A → Option B) → P None → ((a : A) → o ≡ Some a → P (f a)) → P (and_then o f)
 and_then-says P None f none some = none
 and_then-says P (Some a) f none some = some a refl
@@ -54,12 +54,12 @@ found-and_then P (Some x) h a e =
     subst P same h
 
 module _ {A : Type 0} (S T : List ℕ → A → Type 0) where
-  -- more bytes before them
+  -- More bytes before the bytes that are read.
   pub says-under : (s a rest : List ℕ) (o : Option (A × List ℕ)) → s ≡ a ++ rest → Says S rest o → ((b : List ℕ) (x : A) → S b x → T (a ++ b) x) → Says T s o
   says-under s a rest None e h k = tt
   says-under s a rest (Some r) e h k = (a ++ h.0, (e ∙ ap (λ z. a ++ z) h.1 ∙ sym (append_assoc a h.0 r.1)), k h.0 r.0 h.2)
 
--- with a byte before them
+-- One byte before the bytes that are read.
 pub optionally_described : {A : Type 0} (S : List ℕ → A → Type 0) (c : ℕ) (s : List ℕ) (o : Option (A × List ℕ)) → Says (λ b t. S (c ∷ b) t) s o → Says S (c ∷ s) o
 optionally_described S c s None h = tt
 optionally_described S c s (Some r) h = (c ∷ h.0, ap (λ z. c ∷ z) h.1, h.2)
@@ -165,7 +165,7 @@ descriptor-from (Some (tree.uuid bs)) d e = absurd cc
 descriptor-from (Some (tree.binary bs)) d e = absurd cc
 descriptor-from (Some (tree.string bs)) d e = absurd cc
 
--- a first byte that has this primitive code
+-- A first byte that has this primitive code.
 under-code : {A : Type 0} (S : List ℕ → A → Type 0) (byte : ℕ) (c : EncodingCodes) (s : List ℕ) (o : Option (A × List ℕ)) → code_of c ≡ byte
     → Says (λ b t. S (code_of c ∷ b) t) s o → Says S (byte ∷ s) o
 under-code S byte c s o is h = subst (λ z. Says S (z ∷ s) o) is (optionally_described S (code_of c) s o h)
@@ -181,7 +181,7 @@ descriptor-says (byte ∷ s) =
     (λ p a e h. and_then-says (Says (λ b d. IsDescriptor (code_of c ∷ b) d) s) (and_then (and_then (scalar_in c p.0) scalar_tree) tree_descriptor) (λ d. Some (d, p.1)) tt
     (λ d found. (a, e, IsDescriptor.spelled c a p.0 d named.1 h (descriptor-from (scalar_in c p.0) d found))))))
 
--- so many of what f reads, one after another
+-- A number of values that `f` reads, one after another.
 module _ (f : FrameReader) (S : List ℕ → Tree → Type 0) (E : ℕ → List ℕ → List Tree → Type 0)
     (nil : E 0 [] []) (more : (n : ℕ) (a b : List ℕ) (t : Tree) (ts : List Tree) → S a t → E n b ts → E (suc n) (a ++ b) (t ∷ ts)) (sound : (s : List ℕ) → Says S s (f s)) where
   abbrev Gathers : ℕ → List Tree → List ℕ → List Tree → Type 0
@@ -202,7 +202,7 @@ module _ (f : FrameReader) (S : List ℕ → Tree → Type 0) (E : ℕ → List 
       subst (λ z. E n z ts) (sym whole) (subst (λ z. E n h.0 z) (sym h.2.1 ∙ same) h.2.2)
   fills n body (Some (us, x ∷ xs)) h ts found = absurd cc
 
-  -- they fill the body
+  -- The values fill the body.
   pub gathered-says : (n : ℕ) (body : List ℕ) (ts : List Tree) → and_then (gather f n body []) all ≡ Some ts → E n body ts
   gathered-says n body ts found = fills n body (gather f n body []) (gather-says n body []) ts found
 
@@ -210,7 +210,7 @@ module _ (d : ℕ) (f : FrameReader) (sound : (s : List ℕ) → Says (Spells d)
   abbrev Inserts : ℕ → Pairs → List ℕ → Pairs → Type 0
   Inserts n done b ps = SpellsEntries d n b done ps
 
-  -- a value after a key
+  -- A value after a key.
   abbrev AfterKey : Pairs → ℕ → Tree → List ℕ → Pairs → Type 0
   AfterKey done n k b ps = (v : Tree) × (prefix back : List ℕ) × (b ≡ prefix ++ back) × Spells d prefix v × SpellsEntries d n back (insert_tree done k v) ps
 
@@ -236,12 +236,12 @@ module _ (d : ℕ) (f : FrameReader) (sound : (s : List ℕ) → Says (Spells d)
       subst (λ z. SpellsEntries d n z no_pairs ps) (sym whole) (subst (λ z. SpellsEntries d n h.0 no_pairs z) same h.2)
   fills-map n body (Some (qs, x ∷ xs)) h ps found = absurd cc
 
-  -- they fill the body
+  -- The entries fill the body.
   pub inserted-says : (n : ℕ) (body : List ℕ) (ps : Pairs) → and_then (insert f n body no_pairs) all ≡ Some ps → SpellsEntries d n body no_pairs ps
   inserted-says n body ps found = fills-map n body (insert f n body no_pairs) (insert-says n body no_pairs) ps found
 
 module _ (d : ℕ) (f : FrameReader) (h : ContentReader) (frames : (s : List ℕ) → Says (Spells d) s (f s)) (contents : (c : EncodingCodes) (s : List ℕ) → IfFound (SpellsContent d c s) (h c s)) where
-  -- a payload and what its content stands for
+  -- A payload whose content encodes the tree.
   abbrev IsItem : EncodingCodes → List ℕ → Tree → Type 0
   IsItem c a t = (content : List ℕ) × IsPayload (category (code_of c)) a content × SpellsContent d c content t
 

@@ -1,4 +1,5 @@
--- What bytes spell is its own image: it has no variant, nothing lazy or transparent, and no map with a key twice.
+-- A tree that bytes encode is its own image: it has no variant, no lazy or transparent part, and no
+-- map with a key twice.
 use Rattle.std.proofs.Common.{◌≡◌, ℕ, if◌then◌else◌, Bool, true, false, List, refl, ap, ◌∙◌}
 use Rattle.amqp_data.specs.declared.format_code.EncodingCodes.{EncodingCodes}
 use Rattle.amqp_ser.specs.Same.{same_tree}
@@ -10,7 +11,7 @@ use Rattle.amqp_value.specs.Plain.{IsPlain, ArePlain, HasPlainPairs, LacksImage}
 use Rattle.amqp_value.proofs.ImageLemmas.{image-plain}
 use Rattle.amqp_decode.specs.Spells.{Spells, SpellsContent, SpellsElements, SpellsItems, SpellsEntries}
 
--- a plain tree without variants
+-- A plain tree without variants.
 abbrev Stays : Tree → Type 0
 Stays t = IsPlain t × (read_as_map t ≡ t)
 
@@ -47,7 +48,7 @@ module _ (k v : Tree) (hk : Stays k) (hv : Stays v) where
   stay-either true l w ps is h rest = (h.0, hv, h.2, h.3)
   stay-either false l w ps is h rest = (h.0, h.1, lacks-inserted (image l) ps ((λ i. same_tree (own k hk i) (own l h.0 i)) ∙ is) h.2, rest)
 
-  -- one pair more
+  -- One more entry.
   stay-inserted : (ps : Pairs) → PairsStay ps → PairsStay (insert_tree ps k v)
   stay-inserted no_pairs h = (hk, hv, tt, tt)
   stay-inserted (pair l w ps) h = stay-either (same_tree k l) l w ps refl h (stay-inserted ps h.3)

@@ -1,4 +1,4 @@
--- The bytes of a scalar spell it.
+-- The encoding of a scalar encodes it.
 use Rattle.std.proofs.Common.{◌≡◌, ℕ, suc, ℤ, ◌<◌, ◌≤◌, ◌^◌, true, false, IsTrue, List, [], ◌∷◌, ◌++◌, length, slice_index, Some, refl, sym, ap, ◌∙◌, subst, arith, ◌==◌, nat_le, nat_lt}
 use Rattle.std.proofs.lemmas.Bool.Decides.{nat_tests}
 use Rattle.std.proofs.lemmas.Nat.{from_be_bytes-to_be_bytes_2, from_be_bytes-to_be_bytes_4, from_be_bytes-to_be_bytes_8}
@@ -27,7 +27,7 @@ use Rattle.amqp_decode.specs.Spells.{IsNumber, IsPayload, IsDescriptor, Spells, 
 use Rattle.amqp_decode.specs.declared.payload_shape.PayloadShape.TheVariants as shape
 use Rattle.amqp_decode.proofs.Means.{pick, is_number}
 
--- the code that a scalar has in an array
+-- The code of a scalar in an array.
 abbrev pub widest : Scalar → EncodingCodes
 widest null = code.Null
 widest (bool b) = code.Boolean
@@ -59,7 +59,7 @@ one-byte n lt =
     let same : slice_index (to_be_bytes w8 n) 0 ≡ n = omega arith in
     ap Some same
 
--- a signed number in one, two, four and eight bytes
+-- A signed number in one, two, four and eight bytes.
 module _ (z : ℤ) where
   back : (w : Width) (n : ℕ) → FitsSigned w z → n ≡ cast_unsigned w z → cast_signed w n ≡ z
   back w n f e = ap (cast_signed w) e ∙ to_z-of_z {w = w} {z = z} f
@@ -93,7 +93,7 @@ scalar-number c is = (utf8.scalar_fits c is, by_range (utf8.scalar_cases c is))
         let last : nat_le c 0x10FFFF ≡ true = grind (arith, nat_tests) in
         rw (past, some, last) refl
 
--- the payload of a code has a content that stands for the scalar
+-- The content of the payload of this code encodes the scalar.
 abbrev pub HeldBy : EncodingCodes → List ℕ → Scalar → Type 0
 HeldBy c p s = (content : List ℕ) × IsPayload (category (code_of c)) p content × (shape_of_code c ≡ shape.Scalar) × (scalar_in c content ≡ Some s)
 
@@ -135,7 +135,7 @@ scalar-parse_content (binary bs) r ok = (bs, IsPayload.of_four_bytes (to_be_byte
 scalar-parse_content (string bs) r ok = (bs, IsPayload.of_four_bytes (to_be_bytes w32 (length bs)) bs (long-number bs ok), refl, rw (is_utf8-from_IsUtf8 bs r) refl)
 scalar-parse_content (symbol bs) r ok = (bs, IsPayload.of_four_bytes (to_be_bytes w32 (length bs)) bs (long-number bs ok), refl, rw (is_utf8-from_IsUtf8 bs r) refl)
 
--- a code, a payload and its content spell the scalar
+-- A code, a payload and its content encode the scalar.
 pub as-frame : (d : ℕ) (c : EncodingCodes) (p : List ℕ) (s : Scalar) → IsTrue (is_primitive c) → HeldBy c p s → Spells (suc d) (code_of c ∷ p) (tree.scalar s)
 as-frame d c p s ok h = Spells.primitive (suc d) c p h.0 (tree.scalar s) ok h.1 (SpellsContent.a_scalar d c h.0 s h.2 h.3)
 
@@ -185,7 +185,7 @@ widest-primitive (binary bs) = refl
 widest-primitive (string bs) = refl
 widest-primitive (symbol bs) = refl
 
--- the ordinary form of a scalar
+-- The form of a scalar outside an array.
 as-widest : (d : ℕ) (s : Scalar) → IsRangedScalar s → scalar_fits s ≡ true → Spells (suc d) (scalar_code s ∷ scalar_payload s) (tree.scalar s)
 as-widest d s r ok =
     subst (λ n. Spells (suc d) (n ∷ scalar_payload s) (tree.scalar s)) (widest-code s) (as-frame d (widest s) (scalar_payload s) s (widest-primitive s) (scalar-parse_content s r ok))
@@ -266,7 +266,7 @@ scalar-bytes d (char c) r ok = as-widest d (char c) r ok
 scalar-bytes d (timestamp z) r ok = as-widest d (timestamp z) r ok
 scalar-bytes d (uuid bs) r ok = as-widest d (uuid bs) r ok
 
--- a descriptor in its ordinary form
+-- The form of a descriptor.
 pub descriptor-bytes : (d : Descriptor) → IsRangedDescriptor d → descriptor_fits d ≡ true → IsDescriptor (descriptor_form d) d
 unfolding category scalar_in
 descriptor-bytes (tree.name bs) r ok =

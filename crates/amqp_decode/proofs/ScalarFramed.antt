@@ -1,4 +1,4 @@
--- A scalar of fixed width, from its code on.
+-- A scalar of fixed width, with its format code.
 use Rattle.std.proofs.Common.{rules, ◌≡◌, ℕ, ℤ, true, false, IsTrue, List, [], ◌∷◌, Some, refl}
 use Rattle.std.specs.Int.{w8, w32, w64, from_be_bytes, cast_signed}
 use Rattle.amqp_data.specs.FormatCode.{code_of}

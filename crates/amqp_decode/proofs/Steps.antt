@@ -1,4 +1,4 @@
--- What the functions are at each step of the reader.
+-- The parsing functions at each step of the reader.
 use Rattle.std.proofs.Common.{◌≡◌, ℕ, zero, suc, ◌+◌, ◌-◌, ◌/◌, ◌%◌, ◌<◌, Bool, true, false, List, [], ◌∷◌, ◌++◌, length, map, Option, Some, None, Result, Ok, Err, if◌then◌else◌, ◌==◌, refl, sym, ap, ◌∙◌, arith}
 use Rattle.std.proofs.lemmas.Grind.{common_steps}
 use Rattle.std.specs.Prelude.{IfOk, IfErr}
@@ -45,7 +45,7 @@ pub parse-empty : (d : ℕ) (s : List ℕ) → 0 < d → length s ≡ 0 → pars
 parse-empty d [] lt e = rw (parse-at d [] lt) refl
 parse-empty d (b ∷ s) lt e = absurd (omega arith)
 
--- the payload of a code, whose content is read at depth d
+-- The payload of a code, whose content is read at depth `d`.
 pub item-zero : (d : ℕ) (c : EncodingCodes) (s : List ℕ) → d ≡ 0 → payload_in (parse_content d) c s ≡ None
 unfolding parse_content
 item-zero (suc d) c s e = absurd (omega arith)
@@ -72,7 +72,7 @@ module _ (d : ℕ) (c : EncodingCodes) (s content rest : List ℕ) where
   item-err (Ok v) lt e h = tt
   item-err (Err f) lt e h = λ other. item-none lt e (h other)
 
--- a scalar that the code's match found
+-- A scalar that `read_fixed` found is the value of the payload.
 not-zero : (n : ℕ) → (n ≡ 0 → ⊥) → (n == 0) ≡ false
 not-zero zero some = absurd (some refl)
 not-zero (suc n) some = grind (arith, common_steps)
@@ -112,7 +112,7 @@ module _ (f : FrameReader) where
       → gather f (n - (i + 1)) rest (map tree_of (vs ++ v ∷ [])) ≡ gather f (n - i) s (map tree_of vs)
   values-and_then n i s rest v vs lt e = ap (gather f (n - (i + 1)) rest) (trees-push vs v) ∙ gather-and_then n i s rest (tree_of v) (map tree_of vs) lt e
 
-  -- an element that is not read leaves no list
+  -- If an element cannot be read, there is no list.
   pub list-none : (n i : ℕ) (s body : List ℕ) (done : List Tree) → i < n → gather f (n - i) s done ≡ gather f n body [] → f s ≡ None → parse_list f (n, body) ≡ None
   list-none n i s body done lt same e =
       let no : gather f n body [] ≡ None = sym same ∙ gather-none n i s done lt e in
@@ -143,7 +143,7 @@ module _ (f : FrameReader) where
       let same : n - i ≡ suc (n - (i + 1)) = omega arith in
       ap (λ m. insert f m s done) same ∙ value-none (n - (i + 1)) s mid k done ek ev
 
-  -- pairs that are not read leave no map
+  -- If the entries cannot be read, there is no map.
   pub map-none : (n : ℕ) (body : List ℕ) → insert f (n / 2) body no_pairs ≡ None → parse_map f (n, body) ≡ None
   map-none n body e = by_parity (n % 2 == 0)
     where
@@ -151,7 +151,7 @@ module _ (f : FrameReader) where
       by_parity true = rw e refl
       by_parity false = refl
 
--- an item that is not read leaves no array
+-- If an array element cannot be read, there is no array.
 pub array-none : (h : ContentReader) (c : ℕ) (code : EncodingCodes) (n i : ℕ) (s body rest : List ℕ) (done : List Tree) → i < n → primitive_of c ≡ Some code → body ≡ c ∷ rest
     → gather (payload_in h code) (n - i) s done ≡ gather (payload_in h code) n rest [] → payload_in h code s ≡ None → parse_array h (n, body) ≡ None
 array-none h c code zero i s body rest done lt ok is same e = absurd (omega arith)

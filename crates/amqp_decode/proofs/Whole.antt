@@ -1,4 +1,4 @@
--- A whole encoded value.
+-- A complete encoded value.
 use Rattle.std.proofs.Common.{◌≡◌, ℕ, ◌+◌, List, [], ◌∷◌, ◌++◌, length, Option, Some, None, refl, sym, ap, ◌∙◌, subst, arith}
 use Rattle.std.proofs.lemmas.List.{append-nil}
 use Rattle.amqp_ser.specs.Tree.{Tree}
@@ -36,7 +36,7 @@ module _ (d : ℕ) (s : List ℕ) (t : Tree) where
   pub spelled : parse d s ≡ Some (t, []) → Spells d s t
   spelled e = spelled-from (parse d s) (parse-says d s) e
 
--- an encoded value spells one tree, at whatever depth
+-- Bytes encode at most one tree, at whatever depths.
 pub one-tree : (d e : ℕ) (s : List ℕ) (t u : Tree) → Spells d s t → Spells e s u → t ≡ u
 one-tree d e s t u st su = ap (tree_or t) (sym (finds st (d + e) (omega arith) []) ∙ finds su (d + e) (omega arith) [])
 

@@ -1,4 +1,4 @@
--- Worked rows: bytes and the trees that they spell, computed.
+-- Computed examples: bytes and the trees that they encode.
 use Rattle.std.proofs.Common.{ℕ, pos, negsuc, List, [], ◌∷◌, true, codes, refl}
 use Rattle.amqp_ser.specs.Tree.{null, bool, uint, ubyte, int, binary, code, Tree, scalar, list, array, map, described, no_pairs, pair, trees_of}
 use Rattle.amqp_frame.specs.Code.{category}
@@ -15,7 +15,7 @@ Row hexadecimal t = Spells 3 (bytes hexadecimal) t
 abbrev Refused : List ℕ → Type 0
 Refused hexadecimal = (t : Tree) → Spells 3 (bytes hexadecimal) t → ⊥
 
--- every spelling
+-- Every form.
 zero_in_no_byte : Row (codes "43") (scalar (uint 0))
 unfolding parse parse_content sized_at counted_in descriptor_at scalar_in primitive_of category
 zero_in_no_byte = spelled 3 (bytes (codes "43")) _ refl
@@ -88,7 +88,7 @@ fourth_level : Refused (codes "c00801c00501c0020145")
 unfolding parse parse_content sized_at counted_in descriptor_at scalar_in primitive_of category
 fourth_level = none-spelled 3 (bytes (codes "c00801c00501c0020145")) refl
 
--- bytes that spell nothing
+-- Bytes that encode no tree.
 byte_of_two : Refused (codes "5602")
 unfolding parse parse_content sized_at counted_in descriptor_at scalar_in primitive_of category
 byte_of_two = none-spelled 3 (bytes (codes "5602")) refl

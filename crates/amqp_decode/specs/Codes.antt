@@ -1,4 +1,4 @@
--- The format codes by what they begin (AMQP 1.0 part 1, sections 1.2 and 1.6).
+-- Format codes, and what their payloads contain (AMQP 1.0 part 1, sections 1.2 and 1.6).
 use Rattle.std.specs.Prelude.{ℕ, Bool, true, false, ◌==◌, if◌then◌else◌, List, [], ◌∷◌, Option, Some, None}
 use Rattle.amqp_data.specs.FormatCode.{code_of}
 use Rattle.amqp_data.specs.declared.format_code.EncodingCodes.{EncodingCodes}
@@ -7,7 +7,7 @@ use Rattle.amqp_decode.specs.declared.payload_shape.Count.TheVariants.{Absent, O
 use Rattle.amqp_decode.specs.declared.payload_shape.PayloadShape.{PayloadShape}
 use Rattle.amqp_decode.specs.declared.payload_shape.PayloadShape.TheVariants as shape
 
--- the codes of primitive types: all but 00 (section 1.6)
+-- The codes of primitive types: all except 00 (section 1.6).
 abbrev pub primitive_codes : List EncodingCodes
 primitive_codes =
     Null ∷ BooleanTrue ∷ BooleanFalse ∷ Uint0 ∷ Ulong0 ∷ List0 ∷ Ubyte ∷ Byte ∷ SmallUint ∷ SmallUlong ∷ SmallInt
@@ -19,16 +19,17 @@ abbrev pub is_primitive : EncodingCodes → Bool
 is_primitive DescribedType = false
 is_primitive _ = true
 
--- the first of the codes that has this byte
+-- The first of the codes that has this byte.
 abbrev pub code_among : List EncodingCodes → ℕ → Option EncodingCodes
 code_among [] byte = None
 code_among (code ∷ codes) byte = if code_of code == byte then Some code else code_among codes byte
 
--- the primitive code that has this byte, if there is one
+-- The primitive code that has this byte, if there is one.
 unfoldable pub primitive_of : ℕ → Option EncodingCodes
 primitive_of byte = code_among primitive_codes byte
 
--- what the payload of a code holds; a list, a map or an array begins with its count, but for the list of no elements
+-- What the payload of a code contains. A list, a map or an array begins with its count, except the
+-- list without elements.
 abbrev pub shape_of_code : EncodingCodes → PayloadShape
 shape_of_code DescribedType = shape.Described
 shape_of_code List0 = shape.List Absent

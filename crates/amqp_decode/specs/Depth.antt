@@ -1,9 +1,10 @@
--- How deep a tree is, and which trees have no part that stands for others (AMQP 1.0 part 1, sections 1.2 and 1.6).
+-- The depth of a tree, and the trees without lazy and transparent parts (AMQP 1.0 part 1, sections
+-- 1.2 and 1.6).
 use Rattle.std.specs.Prelude.{ℕ, suc, max}
 use Rattle.amqp_ser.specs.Tree.{Tree, Trees, Pairs, scalar, list, array, map, described, variant, lazy, transparent, no_trees, more, no_pairs, pair}
 
--- a scalar or an empty compound has depth 1, another one more than its deepest part, a described value one more than its
--- value; a variant is a map
+-- A scalar or an empty compound has depth 1, any other compound has one more than its deepest part,
+-- and a described value has one more than its value. A variant is a map.
 abbrev mutual
   pub depth_of : Tree → ℕ
   depth_of (scalar s) = 1
@@ -23,7 +24,7 @@ abbrev mutual
   depth_of_pairs no_pairs = 0
   depth_of_pairs (pair k v ps) = max (depth_of k) (max (depth_of v) (depth_of_pairs ps))
 
--- nothing lazy or transparent at any depth
+-- No part is lazy or transparent, at any depth.
 abbrev mutual
   pub IsOrdinary : Tree → Type 0
   IsOrdinary (scalar s) = Unit {0}

@@ -1,4 +1,5 @@
--- The scalar that the content of a code's payload stands for (AMQP 1.0 part 1, sections 1.6.1 to 1.6.21).
+-- The scalar that the content of a code's payload encodes (AMQP 1.0 part 1, sections 1.6.1 to
+-- 1.6.21).
 use Rattle.std.specs.Prelude.{ℕ, Bool, true, false, ◌==◌, ◌&&◌, ◌||◌, nat_lt, nat_le, if◌then◌else◌, List, [], ◌∷◌, length, Option, Some, None}
 use Rattle.std.specs.Int.{w8, w16, w32, w64, from_be_bytes, cast_signed}
 use Rattle.std.specs.Str.{is_utf8}
@@ -6,41 +7,42 @@ use Rattle.amqp_data.specs.declared.format_code.EncodingCodes.{EncodingCodes}
 use Rattle.amqp_data.specs.declared.format_code.EncodingCodes.TheVariants as code
 use Rattle.amqp_ser.specs.Tree.{Tree, scalar, Scalar, null, bool, ubyte, ushort, uint, ulong, byte, short, int, long, float, double, decimal32, decimal64, decimal128, char, timestamp, uuid, binary, string, symbol}
 
--- the second step where there was a first
+-- The second step, if the first one has a result.
 abbrev pub and_then : {A B : Type 0} → Option A → (A → Option B) → Option B
 and_then None f = None
 and_then (Some a) f = f a
 
--- a scalar of what was read
+-- A scalar, if the content was read.
 abbrev pub scalar_from : {A : Type 0} → (A → Scalar) → Option A → Option Scalar
 scalar_from k None = None
 scalar_from k (Some a) = Some (k a)
 
--- one byte
+-- Exactly one byte.
 abbrev pub single : List ℕ → Option ℕ
 single (b ∷ []) = Some b
 single _ = None
 
--- so many bytes
+-- Exactly `n` bytes.
 abbrev pub exact : ℕ → List ℕ → Option (List ℕ)
 exact n bs = if length bs == n then Some bs else None
 
--- a truth value, as the byte 00 or 01
+-- A boolean, encoded as the byte 00 or 01.
 abbrev pub truth : ℕ → Option Scalar
 truth b = if b == 0 then Some (bool false) else if b == 1 then Some (bool true) else None
 
--- a character, by a number that is a Unicode scalar value
+-- A character, given by a number that is a Unicode scalar value.
 abbrev pub is_scalar_value : ℕ → Bool
 is_scalar_value n = nat_lt n 0xD800 || (nat_le 0xE000 n && nat_le n 0x10FFFF)
 
 abbrev pub character : ℕ → Option Scalar
 character n = if is_scalar_value n then Some (char n) else None
 
--- a text in UTF-8
+-- A text in UTF-8.
 abbrev pub text : (List ℕ → Scalar) → List ℕ → Option Scalar
 text k bs = if is_utf8 bs then Some (k bs) else None
 
--- numbers are big-endian, signed ones in two's complement; codes of other shapes have none
+-- Numbers are big-endian, and signed ones are in two's complement. Codes of other shapes encode no
+-- scalar.
 unfoldable pub scalar_in : EncodingCodes → List ℕ → Option Scalar
 scalar_in code.Null bs = Some null
 scalar_in code.BooleanTrue bs = Some (bool true)
@@ -76,6 +78,6 @@ scalar_in code.Sym8 bs = text symbol bs
 scalar_in code.Sym32 bs = text symbol bs
 scalar_in _ bs = None
 
--- a scalar as a tree
+-- A scalar as a tree.
 abbrev pub scalar_tree : Scalar → Option Tree
 scalar_tree s = Some (scalar s)

@@ -1,4 +1,4 @@
--- Which data tree an encoded value stands for, in any spelling (AMQP 1.0 part 1, sections 1.2 to 1.2.4 and 1.6).
+-- The data tree that bytes encode, in any form (AMQP 1.0 part 1, sections 1.2 to 1.2.4 and 1.6).
 use Rattle.std.specs.Prelude.{◌≡◌, ℕ, suc, ◌*◌, IsTrue, List, [], ◌∷◌, ◌++◌, length, Some}
 use Rattle.std.specs.Int.{from_be_bytes, w32}
 use Rattle.amqp_data.specs.FormatCode.{code_of}
@@ -15,24 +15,24 @@ use Rattle.amqp_decode.specs.declared.payload_shape.Count.{Count}
 use Rattle.amqp_decode.specs.declared.payload_shape.Count.TheVariants.{Absent, OneByte, FourBytes}
 use Rattle.amqp_decode.specs.declared.payload_shape.PayloadShape.TheVariants as shape
 
--- a number in four bytes
+-- A number in four bytes.
 pub data IsNumber : List ℕ → ℕ → Type 0 where
   four_bytes : (a b c d : ℕ) → IsNumber (a ∷ b ∷ c ∷ d ∷ []) (from_be_bytes w32 (a ∷ b ∷ c ∷ d ∷ []))
 
--- a payload of a category and its content: all of it (section 1.2.1), or what follows a size of one or four bytes
--- (sections 1.2.2 to 1.2.4)
+-- A payload of a category, and its content: all of it (section 1.2.1), or what follows a size of
+-- one or four bytes (sections 1.2.2 to 1.2.4).
 pub data IsPayload : Category → List ℕ → List ℕ → Type 0 where
   of_width : (content : List ℕ) → IsPayload (Fixed (length content)) content content
   of_one_byte : (content : List ℕ) → IsPayload OneByteSize (length content ∷ content) content
   of_four_bytes : (size content : List ℕ) → IsNumber size (length content) → IsPayload FourByteSize (size ++ content) content
 
--- a content's count and what follows it (sections 1.2.3 and 1.2.4)
+-- The count in a content, and what follows it (sections 1.2.3 and 1.2.4).
 pub data IsCounted : Count → List ℕ → ℕ → List ℕ → Type 0 where
   in_none : (body : List ℕ) → IsCounted Absent body 0 body
   in_one_byte : (n : ℕ) (body : List ℕ) → IsCounted OneByte (n ∷ body) n body
   in_four_bytes : (bytes : List ℕ) (n : ℕ) (body : List ℕ) → IsNumber bytes n → IsCounted FourBytes (bytes ++ body) n body
 
--- a descriptor is a ulong or a symbol (section 1.5)
+-- A descriptor is a ulong or a symbol (section 1.5).
 abbrev pub descriptor_scalar : Descriptor → Scalar
 descriptor_scalar (tree.name bs) = tree.symbol bs
 descriptor_scalar (tree.code n) = tree.ulong n
@@ -43,15 +43,16 @@ pub data IsDescriptor : List ℕ → Descriptor → Type 0 where
       → IsDescriptor (code_of code ∷ payload) d
 
 mutual
-  -- the bytes stand for the tree, which is at most so deep: a scalar or an empty compound has depth 1, another one more
-  -- than its deepest part, a described value one more than its value
+  -- The bytes encode the tree, and its depth is at most `depth`. A scalar or an empty compound has
+  -- depth 1, any other compound has one more than its deepest part, and a described value has one
+  -- more than its value.
   pub data Spells : ℕ → List ℕ → Tree → Type 0 where
     primitive : (depth : ℕ) (code : EncodingCodes) (payload content : List ℕ) (t : Tree) → IsTrue (is_primitive code)
         → IsPayload (category (code_of code)) payload content → SpellsContent depth code content t → Spells depth (code_of code ∷ payload) t
     described : (depth : ℕ) (a b : List ℕ) (d : Descriptor) (t : Tree)
         → IsDescriptor a d → Spells depth b t → Spells (suc depth) (0 ∷ (a ++ b)) (tree.described d t)
 
-  -- the content of the code's payload stands for the tree: elements, pairs and items fill it
+  -- The content of a payload of this code encodes the tree. Elements and entries fill it.
   pub data SpellsContent : ℕ → EncodingCodes → List ℕ → Tree → Type 0 where
     a_scalar : (depth : ℕ) (code : EncodingCodes) (content : List ℕ) (s : Scalar)
         → shape_of_code code ≡ shape.Scalar → scalar_in code content ≡ Some s → SpellsContent (suc depth) code content (tree.scalar s)
@@ -67,20 +68,21 @@ mutual
         → shape_of_code code ≡ shape.Array count → IsCounted count content n (code_of constructor ∷ items) → IsTrue (is_primitive constructor)
         → SpellsItems depth constructor n items ts → SpellsContent (suc depth) code content (tree.array (trees_of ts))
 
-  -- so many encoded values one after another
+  -- A number of encoded values, one after another.
   pub data SpellsElements : ℕ → ℕ → List ℕ → List Tree → Type 0 where
     no_element : (depth : ℕ) → SpellsElements depth 0 [] []
     element : (depth n : ℕ) (a b : List ℕ) (t : Tree) (ts : List Tree)
         → Spells depth a t → SpellsElements depth n b ts → SpellsElements depth (suc n) (a ++ b) (t ∷ ts)
 
-  -- so many payloads of one code
+  -- A number of payloads of one code.
   pub data SpellsItems : ℕ → EncodingCodes → ℕ → List ℕ → List Tree → Type 0 where
     no_item : (depth : ℕ) (code : EncodingCodes) → SpellsItems depth code 0 [] []
     item : (depth : ℕ) (code : EncodingCodes) (n : ℕ) (payload content b : List ℕ) (t : Tree) (ts : List Tree)
         → IsPayload (category (code_of code)) payload content → SpellsContent depth code content t → SpellsItems depth code n b ts
         → SpellsItems depth code (suc n) (payload ++ b) (t ∷ ts)
 
-  -- so many keys and values in turn, inserted into the pairs that are there: a present key keeps its place
+  -- A number of keys and values, alternately, inserted into the entries that exist. The entry of a
+  -- key that exists keeps its position.
   pub data SpellsEntries : ℕ → ℕ → List ℕ → Pairs → Pairs → Type 0 where
     no_entry : (depth : ℕ) (done : Pairs) → SpellsEntries depth 0 [] done done
     entry : (depth n : ℕ) (a b rest : List ℕ) (k v : Tree) (done ps : Pairs)

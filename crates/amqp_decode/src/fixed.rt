@@ -1,4 +1,4 @@
-//! The common scalars of no width and of fixed width, by one match on the code.
+//! Reads the common scalars of no width and of fixed width, with one match on the code.
 
 ghost use Rattle.std.specs.Prelude.{◌≡◌, ◌∷◌, IfSome, Some};
 ghost use Rattle.amqp_value.specs.TreeOf.{tree_of};
@@ -38,8 +38,11 @@ const ULONG: u8 = EncodingCodes::Ulong as u8;
 
 const LONG: u8 = EncodingCodes::Long as u8;
 
-/// The scalar of the code whose payload comes first, and the bytes after it, where it is null, a
-/// truth value by its code alone, or a whole number of 8, 32 or 64 bits, but for the byte.
+/// Reads the scalar of this code whose payload is at the start of `bytes`, and returns it with the
+/// bytes after it.
+///
+/// Supports null, `true` and `false` without payload, ubyte, uint, ulong, int and long. Returns
+/// `None` for any other code, and if the bytes end too early.
 #[inline(always)]
 pub fn read_fixed(code: u8, bytes: &[u8]) -> Option<(Value, &[u8])>
     ensures found { IfSome result (λ r. (f : FrameReader) (h : ContentReader) →
@@ -76,7 +79,7 @@ pub fn read_fixed(code: u8, bytes: &[u8]) -> Option<(Value, &[u8])>
     }
 }
 
-// The same of the numbers of four and of eight bytes.
+// Like `read_fixed`, for the numbers of four and of eight bytes.
 #[inline(always)]
 fn read_wide(code: u8, bytes: &[u8]) -> Option<(Value, &[u8])>
     ensures found { IfSome result (λ r. (f : FrameReader) (h : ContentReader) →
@@ -104,7 +107,7 @@ fn read_wide(code: u8, bytes: &[u8]) -> Option<(Value, &[u8])>
     }
 }
 
-// So many bytes, and those after them.
+// Splits off the first `N` bytes.
 #[inline(always)]
 fn split_fixed<const N: usize>(bytes: &[u8]) -> Option<([u8; N], &[u8])>
     ensures { IfSome result (λ r.

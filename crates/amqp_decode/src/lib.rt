@@ -1,8 +1,9 @@
-//! The untyped value that the bytes of one encoded value stand for.
+//! Decodes the bytes of one encoded value into an untyped value.
 //!
-//! Every spelling of AMQP data is taken, short or long, inside arrays too, not only the one that
-//! this library writes. What bytes stand for is one relation, and `decode_value` answers by it in
-//! both directions: with the value that the bytes spell, or with a refusal where they spell none.
+//! Every form of AMQP data is accepted, short or long, also inside arrays, and not only the form
+//! that this library writes. One relation defines which bytes encode which tree. `decode_value`
+//! returns the value that the bytes encode by this relation, and an error if they encode none or an
+//! allocation fails.
 #![tactic(auto)]
 
 mod decode;

@@ -1,4 +1,4 @@
-//! Pieces of a payload.
+//! Reads payloads.
 
 ghost use Rattle.std.specs.Prelude.{◌≡◌, IfOk, IfErr, Some, None};
 ghost use Rattle.amqp_data.specs.FormatCode.{code_of};
@@ -8,7 +8,7 @@ ghost use Rattle.amqp_decode.specs.Parsed.{cut, number_at, sized_at, content_at,
 use crate::payload_shape::Count;
 use amqp_data::{EncodingCodes, Error};
 
-// So many bytes, and those after them.
+// Splits off the first `len` bytes.
 #[inline(always)]
 fn cut_at(bytes: &[u8], len: usize) -> Result<(&[u8], &[u8]), Error>
     ensures ok { IfOk result (λ r. cut len bytes.now ≡ Some (r.0.now, r.1.now)) }
@@ -22,7 +22,8 @@ fn cut_at(bytes: &[u8], len: usize) -> Result<(&[u8], &[u8]), Error>
     }
 }
 
-// The number in four bytes, or in one, and the bytes after it.
+// Reads a number of four bytes if `wide`, otherwise of one byte, and returns it with the bytes
+// after it.
 #[inline(always)]
 fn read_number(wide: bool, bytes: &[u8]) -> Result<(u32, &[u8]), Error>
     ensures ok { IfOk result (λ r. number_at wide bytes.now ≡ Some (r.0, r.1.now)) }
@@ -41,7 +42,7 @@ fn read_number(wide: bool, bytes: &[u8]) -> Result<(u32, &[u8]), Error>
     }
 }
 
-// As many bytes as the number before them says, and those after them.
+// Reads a size and that many bytes, and returns them with the bytes after them.
 #[tactic(auto, unfolding(crate::specs::Parsed::sized_at))]
 #[inline(always)]
 fn read_sized(wide: bool, bytes: &[u8]) -> Result<(&[u8], &[u8]), Error>
@@ -53,10 +54,11 @@ fn read_sized(wide: bool, bytes: &[u8]) -> Result<(&[u8], &[u8]), Error>
     cut_at(rest, len as usize)
 }
 
-/// The content of the code's payload, which comes first, and the bytes after it.
+/// Reads the payload of this code at the start of `bytes`, and returns its content with the bytes
+/// after the payload.
 ///
 /// # Errors
-/// `UnexpectedEof` where the bytes end before the payload does.
+/// Returns `UnexpectedEof` if the bytes end before the payload does.
 #[tactic(auto, unfolding(amqp_frame::specs::Code::category))]
 #[inline(always)]
 pub fn read_payload(code: EncodingCodes, bytes: &[u8]) -> Result<(&[u8], &[u8]), Error>
@@ -76,10 +78,10 @@ pub fn read_payload(code: EncodingCodes, bytes: &[u8]) -> Result<(&[u8], &[u8]),
     }
 }
 
-/// The count of elements, and what follows it.
+/// Reads the count of elements, and returns it with the bytes after it.
 ///
 /// # Errors
-/// `UnexpectedEof` where the content ends before the count does.
+/// Returns `UnexpectedEof` if the content ends before the count does.
 #[tactic(auto, unfolding(crate::specs::Parsed::counted_in))]
 #[inline(always)]
 pub fn read_count(count: Count, content: &[u8]) -> Result<(u32, &[u8]), Error>

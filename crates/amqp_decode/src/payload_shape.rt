@@ -1,37 +1,37 @@
-//! What the payload of a code holds.
+//! What the payload of a format code contains.
 
 ghost use Rattle.std.specs.Prelude.{◌≡◌, ◌≢◌, IfOk, IfErr, Some, None};
 ghost use Rattle.amqp_decode.specs.Codes.{primitive_of, shape_of_code};
 
 use amqp_data::{EncodingCodes, Error};
 
-/// How the count of elements is written.
+/// The width of a count of elements.
 #[derive(Clone, Copy, Debug, PartialEq, Eq)]
 pub enum Count {
-    /// Not at all: there are no elements.
+    /// No count: there are no elements.
     Absent,
-    /// In one byte.
+    /// One byte.
     OneByte,
-    /// In four bytes.
+    /// Four bytes.
     FourBytes,
 }
 
-/// What the payload of a code holds (AMQP 1.0 part 1, sections 1.2 and 1.6).
+/// What the payload of a format code contains (AMQP 1.0 part 1, sections 1.2 and 1.6).
 #[derive(Clone, Copy, Debug, PartialEq, Eq)]
 pub enum PayloadShape {
-    /// A descriptor and a value, with no payload of their own.
+    /// A descriptor and a value, without a payload of their own.
     Described,
     /// Null or a scalar.
     Scalar,
-    /// A count and elements, each with its code.
+    /// A count and elements, each with its format code.
     List(Count),
-    /// A count and elements, keys and values in turn.
+    /// A count, then keys and values alternately.
     Map(Count),
-    /// A count, a code, and elements without theirs.
+    /// A count, a constructor, and elements without format codes.
     Array(Count),
 }
 
-/// What the payload of the code holds.
+/// Returns what the payload of this code contains.
 #[inline(always)]
 pub fn payload_shape(code: EncodingCodes) -> PayloadShape
     ensures { result ≡ shape_of_code code }
@@ -49,7 +49,7 @@ pub fn payload_shape(code: EncodingCodes) -> PayloadShape
     }
 }
 
-/// Whether the values of the code have no payload, so that an array's elements of it take no bytes.
+/// Returns whether the values of this code have no payload. As array elements they have no bytes.
 pub fn has_no_payload(code: EncodingCodes) -> bool {
     matches!(
         code,
@@ -62,11 +62,11 @@ pub fn has_no_payload(code: EncodingCodes) -> bool {
     )
 }
 
-/// The primitive code of a byte.
+/// Returns the format code of a primitive type with this byte.
 ///
 /// # Errors
-/// `InvalidValue` for the code of a described value, `InvalidFormatCode` where no name has this
-/// code.
+/// Returns `InvalidValue` for the code of described values, and `InvalidFormatCode` if no format
+/// code has this byte.
 #[inline(always)]
 pub fn primitive_code(byte: u8) -> Result<EncodingCodes, Error>
     ensures ok { IfOk result (λ code. primitive_of byte ≡ Some code) }

@@ -1,4 +1,4 @@
-//! A value from its encoded bytes, first part by part.
+//! Reads an encoded value, recursively, from its first byte on.
 
 ghost use Rattle.std.specs.Prelude.{◌≡◌, ◌∷◌, ℕ, IfOk, OnOk, IfErr, Some, None};
 ghost use Rattle.amqp_data.specs.declared.error.Error.TheVariants.{OutOfMemory};
@@ -15,8 +15,8 @@ use amqp_gather::Gathered;
 use amqp_value::Value;
 use std::alloc::Global;
 
-// The value that the bytes spell first; the bytes after it are left. Elements that take no bytes
-// are at most so many in an array: more of them are out of memory.
+// Reads the first encoded value of `bytes`, and leaves the bytes after it. An array of more than
+// `elements` elements without bytes fails with `OutOfMemory`.
 #[cycle(read)]
 pub fn read_frame(
     alloc: Global,
@@ -30,7 +30,8 @@ pub fn read_frame(
     read_frame_on(alloc, bytes, depth, elements, &mut Vec::new(alloc))
 }
 
-// The same, with the elements so far of the lists around it on the stack, which is left as it was.
+// Like `read_frame`. The stack contains the elements read so far of the enclosing lists, and is
+// unchanged if the call succeeds.
 #[cycle(read)]
 #[inline(always)]
 fn read_frame_on(
@@ -60,7 +61,7 @@ fn read_frame_on(
     }
 }
 
-// The same from its code on, where what stands inside is at most so deep.
+// Like `read_frame_on`, after the format code has been read. `depth` limits the values inside.
 #[cycle(read)]
 #[inline(never)]
 fn read_frame_over(
@@ -91,7 +92,8 @@ fn read_frame_over(
     read_content(alloc, code, content, depth, elements, stack)
 }
 
-// The value of the code's payload, which comes first; the bytes after it are left.
+// Reads the payload of this code at the start of `bytes`, as an array element, and leaves the bytes
+// after it.
 #[cycle(read)]
 fn read_item(
     alloc: Global,
@@ -118,7 +120,7 @@ fn read_item(
     read_content(alloc, code, content, depth - 1, elements, stack)
 }
 
-// The value of the content of a code's payload, where what stands inside is at most so deep.
+// Reads a value from the content of a payload of this code. `depth` limits the values inside.
 #[cycle(read)]
 #[inline(always)]
 fn read_content(
@@ -153,8 +155,7 @@ fn read_content(
     }
 }
 
-// The list of so many encoded values, which fill the body. They wait on the stack till all are
-// there.
+// Reads `count` elements that must fill `body`. They are kept on the stack until all are read.
 #[cycle(read)]
 #[inline(never)]
 fn read_list(
@@ -182,7 +183,7 @@ fn read_list(
     Ok(Value::List(take_from(alloc, stack, start)?))
 }
 
-// The map of so many encoded values, keys and values in turn, which fill the body.
+// Reads `count` keys and values, alternately, that must fill `body`.
 #[cycle(read)]
 #[inline(never)]
 fn read_map(
@@ -213,7 +214,7 @@ fn read_map(
     }
 }
 
-// The array of the values of so many payloads, which fill the body after their constructor.
+// Reads a constructor and `count` payloads of it that must fill `body`.
 #[cycle(read)]
 #[inline(never)]
 fn read_array(

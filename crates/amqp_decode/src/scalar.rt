@@ -1,4 +1,4 @@
-//! Scalars and descriptors.
+//! Reads scalars and descriptors.
 
 ghost use Rattle.std.specs.Prelude.{◌≡◌, IfOk, IfErr, Some, None, true, false, string_bytes};
 ghost use Rattle.std.specs.Str.{is_utf8};
@@ -18,7 +18,7 @@ use amqp_data::{
 use amqp_value::Value;
 use std::alloc::Global;
 
-// The one byte of the content.
+// Returns the only byte of the content.
 #[inline(always)]
 fn byte_of(content: &[u8]) -> Result<u8, Error>
     ensures ok { IfOk result (λ b. single content.now ≡ Some b) }
@@ -30,7 +30,7 @@ fn byte_of(content: &[u8]) -> Result<u8, Error>
     }
 }
 
-// The bytes of the content, so many.
+// Returns the content as an array of `N` bytes.
 #[inline(always)]
 fn bytes_of<const N: usize>(content: &[u8]) -> Result<[u8; N], Error>
     ensures ok { IfOk result (λ b. exact N content.now ≡ Some b) }
@@ -42,7 +42,7 @@ fn bytes_of<const N: usize>(content: &[u8]) -> Result<[u8; N], Error>
     }
 }
 
-// The content as a text.
+// Returns the content as a text, which must be UTF-8.
 fn text_of(alloc: Global, content: &[u8]) -> Result<String, Error>
     ensures ok { IfOk result (λ s. string_bytes s ≡ content.now) }
     ensures valid { IfOk result (λ s. is_utf8 content.now ≡ true) }
@@ -54,7 +54,7 @@ fn text_of(alloc: Global, content: &[u8]) -> Result<String, Error>
     }
 }
 
-// The content as a binary.
+// Returns the content as a binary.
 fn binary_of(alloc: Global, content: &[u8]) -> Result<Vec<u8>, Error>
     ensures ok { IfOk result (λ v. v.items ≡ content.now) }
     ensures err { IfErr result (λ e. e ≡ OutOfMemory) }
@@ -64,7 +64,7 @@ fn binary_of(alloc: Global, content: &[u8]) -> Result<Vec<u8>, Error>
     Ok(bytes)
 }
 
-// The truth value that the byte is.
+// Converts 00 or 01 to a boolean.
 #[inline(always)]
 fn truth_of(byte: u8) -> Result<Value, Error>
     ensures ok { IfOk result (λ v. and_then (truth byte) scalar_tree ≡ Some (tree_of v)) }
@@ -77,7 +77,7 @@ fn truth_of(byte: u8) -> Result<Value, Error>
     }
 }
 
-// The character of the number.
+// Converts a Unicode scalar value to a character.
 #[inline(always)]
 fn character_of(number: u32) -> Result<Value, Error>
     ensures ok { IfOk result (λ v. and_then (character number) scalar_tree ≡ Some (tree_of v)) }
@@ -89,11 +89,12 @@ fn character_of(number: u32) -> Result<Value, Error>
     }
 }
 
-/// The scalar that the content of the code's payload is.
+/// Reads a scalar from the content of a payload of this code.
 ///
 /// # Errors
-/// `InvalidValue` where the code is of another shape, and for a content that is no truth value, no
-/// character or no text.
+/// Returns `InvalidValue` if the code is not that of a scalar, and if the content is not a valid
+/// boolean, character or text. Returns `UnexpectedEof` if the content of a scalar of fixed width
+/// has another length. Returns `OutOfMemory` if an allocation fails.
 #[tactic(auto, unfolding(crate::specs::Scalars::scalar_in))]
 #[inline(always)]
 pub fn read_scalar(alloc: Global, code: EncodingCodes, content: &[u8]) -> Result<Value, Error>
@@ -157,7 +158,7 @@ pub fn read_scalar(alloc: Global, code: EncodingCodes, content: &[u8]) -> Result
     }
 }
 
-// The descriptor that a ulong or a symbol is.
+// Converts a ulong or a symbol to a descriptor.
 fn into_descriptor(value: Value) -> Result<Descriptor, Error>
     ensures ok { IfOk result (λ d. tree_descriptor (tree_of value) ≡ Some (descriptor_content d)) }
     ensures err { IfErr result (λ e. tree_descriptor (tree_of value) ≡ None) }
@@ -169,10 +170,11 @@ fn into_descriptor(value: Value) -> Result<Descriptor, Error>
     }
 }
 
-/// The descriptor, which comes first, and the bytes after it.
+/// Reads the descriptor at the start of `bytes`, and returns it with the bytes after it.
 ///
 /// # Errors
-/// `InvalidValue` where it is neither a ulong nor a symbol.
+/// Returns `InvalidValue` if the scalar is neither a ulong nor a symbol, and the errors of
+/// `primitive_code`, `read_payload` and `read_scalar`.
 #[tactic(auto, unfolding(crate::specs::Parsed::descriptor_at))]
 pub fn read_descriptor(alloc: Global, bytes: &[u8]) -> Result<(Descriptor, &[u8]), Error>
     ensures ok { IfOk result (λ r.

@@ -1,4 +1,4 @@
--- A descriptor, and the value after it.
+-- A descriptor and the value after it.
 use Rattle.std.proofs.Common.{◌≡◌, ℕ, ◌+◌, ◌<◌, Option, Some, None, Bool, true, false, ◌&&◌, Result, Ok, Err, length, refl, ap, sym, ◌∙◌, subst, arith, length-append, is_some}
 use Rattle.amqp_size.specs.declared.walk_error.WalkError.{WalkError}
 use Rattle.amqp_size.specs.declared.walk_error.WalkError.TheVariants as error
@@ -24,7 +24,7 @@ use Rattle.amqp_size.specs.WholePending as pending
 use Rattle.amqp_size.specs.declared.scalar_mark.ScalarMark.{ScalarMark}
 use Rattle.amqp_size.specs.declared.scalar_mark.ScalarMark.TheVariants as scalar_mark
 
--- the bytes and the limit of a descriptor are those of its scalar
+-- The bytes and the limit of a descriptor are those of its scalar.
 of_scalar : (s : Scalar) (x : Descriptor) → scalar_descriptor s ≡ Some x → (scalar_fits s ≡ descriptor_fits x) × (scalar_form s ≡ descriptor_form x)
 of_scalar (ulong n) x h = let e : code n ≡ x = cc in (ap descriptor_fits e, ap descriptor_form e)
 of_scalar (symbol bs) x h = let e : name bs ≡ x = cc in (ap descriptor_fits e, ap descriptor_form e)
@@ -48,7 +48,7 @@ of_scalar (uuid bs) x h = cc
 of_scalar (binary bs) x h = cc
 of_scalar (string bs) x h = cc
 
--- so a tree that is a descriptor
+-- The same for a tree that is a descriptor.
 pub of_tree : (t : Tree) (x : Descriptor) → descriptor_of (Some t) ≡ Some x → (within_limits t ≡ descriptor_fits x) × ((encoding t ≡ descriptor_form x) × (uniform_arrays t ≡ true))
 of_tree (scalar s) x h = let e = of_scalar s x h in (e.0, (e.1, refl))
 of_tree (list ts) x h = cc
@@ -63,7 +63,7 @@ pub some_of : (o : Option Descriptor) → is_some o ≡ true → (x : Descriptor
 some_of None h = cc
 some_of (Some x) h = (x, refl)
 
--- a descriptor that was counted
+-- A tree that is measured at the position of a descriptor is a descriptor within its limit.
 pub counted_descriptor : (d : Option Tree) (n : ℕ) (after : Pending) → at_position position.Descriptor d (Ok n) after →
     (x : Descriptor) × ((descriptor_of d ≡ Some x) × ((n ≡ length (descriptor_form x)) × (descriptor_fits x ≡ true)))
 counted_descriptor None n after h = absurd h
@@ -93,7 +93,7 @@ value_step p k b x same limit fitting len then (Some t) (Err error.TooLong) afte
 value_step p k b x same limit fitting len then (Some t) (Err error.InvalidValue) after h = (ap (λ s. uniform_arrays t && s) (sym (fitting t)) ∙ h.0, h.1 ∙ ap pending.Plain (sym same))
 value_step p k b x same limit fitting len then (Some t) (Err e) after h = absurd h.0
 
--- the limits of a described value at a position
+-- The limits of a described value at a position.
 nested : (a b f w : Bool) → f ≡ true → (a ≡ true → b ≡ true) → (a && w) ≡ (a && (b && (f && w)))
 nested true b f w q r = sym (ap (λ x. x && (f && w)) (r refl) ∙ ap (λ x. x && w) q)
 nested false b f w q r = refl
@@ -136,11 +136,11 @@ no_transparent_described x (Some t) = refl
 some_pending : (u v : Pending) → Some u ≡ Some v → v ≡ u
 some_pending u v q = cc
 
--- an answer under the position that is meant, and one where nothing is
+-- Equal pending positions permit the same results.
 answered : (u v : Pending) (t : Option Tree) (r : Result ℕ WalkError) (after : Pending) → v ≡ u → at_position (position_of v) (meant v t) r after → at_position (position_of u) (meant u t) r after
 answered u v t r after q h = subst (λ w. at_position (position_of w) (meant w t) r after) q h
 
--- what is answered on a value is an answer on the described one
+-- A result that is permitted for the value is permitted for the described value.
 pub described_step : (u v : Pending) (n : ℕ) (x : Descriptor) → described_pending u n ≡ Some v → n ≡ length (descriptor_form x) → descriptor_fits x ≡ true →
     (t : Option Tree) (r : Result ℕ WalkError) (after : Pending) → at_position (position_of v) (meant v t) r after → at_position (position_of u) (meant u (as_described (Some x) t)) r after
 described_step (pending.Plain position.Root) v n x s e f t r after h =
@@ -168,7 +168,7 @@ described_step (pending.Scalar m p) v n x s e f t r after h =
     subst (λ o. at_position p o r after) (sym (no_scalar_described m x t)) (answered (pending.Nothing p) v t r after (some_pending _ v s) h)
 described_step (pending.Nothing p) v n x s e f t r after h = answered (pending.Nothing p) v t r after (some_pending _ v s) h
 
--- the serializer comes back to the position of the described value
+-- After the value, the serializer is at the position of the described value.
 pub described_rest : (u v : Pending) (n : ℕ) → described_pending u n ≡ Some v → without_prefix (position_of u) ≡ without_prefix (position_of v)
 described_rest (pending.Plain position.Root) v n s = sym (ap (λ w. without_prefix (position_of w)) (some_pending _ v s))
 described_rest (pending.Plain position.Inside) v n s = sym (ap (λ w. without_prefix (position_of w)) (some_pending _ v s))
@@ -181,7 +181,8 @@ described_rest (pending.Transparent p) v n s = sym (ap (λ w. without_prefix (po
 described_rest (pending.Scalar m p) v n s = sym (ap (λ w. without_prefix (position_of w)) (some_pending _ v s))
 described_rest (pending.Nothing p) v n s = sym (ap (λ w. without_prefix (position_of w)) (some_pending _ v s))
 
--- no value may come after a descriptor that passes the limit, and a described value is no descriptor
+-- No value is accepted after a descriptor that exceeds the limit, and a described value is not a
+-- descriptor.
 past_here : (x : Descriptor) (n : ℕ) → n ≡ length (descriptor_form x) → 18446744073709551615 < 0 + (n + 1) → (t : Tree) → within_limits (described x t) ≡ false
 past_here x n e h t =
     let len = length-described x t n e in

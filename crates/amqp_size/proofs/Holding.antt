@@ -21,7 +21,7 @@ use Rattle.amqp_size.proofs.Part.{end_taken}
 use Rattle.amqp_size.proofs.Transparent.{taken_transparent, refused_transparent, over_transparent}
 use Rattle.amqp_size.proofs.Single.{refused_single, second_single, first_single}
 
--- between steps the serializer stands where it was opened
+-- Between steps the serializer is at the position of the compound.
 pub at_rest : (start : SizeSerializer) (kind : Kind) (held : OpenCompound) (ps : List (Option Tree)) → Holding start kind held ps → without_prefix held.position ≡ without_prefix (position_of start.pending)
 at_rest start kind held ps (inl h) = ap without_prefix h.position
 at_rest start kind held ps (inr (inl h)) = ap without_prefix h.position
@@ -36,7 +36,7 @@ not_single q = cc
 no_list : kinds.Single ≡ kinds.List → ⊥
 no_list q = cc
 
--- the relation of each shape
+-- The relation of each shape.
 pub gathered_of : (start : SizeSerializer) (kind : Kind) (held : OpenCompound) (ps : List (Option Tree)) → Holding start kind held ps → is_gathered held.shape ≡ true → HoldsGathered start kind held ps
 gathered_of start kind held ps (inl h) g = h
 gathered_of start kind held ps (inr (inl h)) g = absurd (not_gathered held.shape shapes.Transparent h.shape refl g)
@@ -65,7 +65,7 @@ map_of start held ps (inl h) = h
 map_of start held ps (inr (inl h)) = absurd (no_maps.0 h.kind_is)
 map_of start held ps (inr (inr h)) = absurd (no_maps.1 h.kind_is)
 
--- a refused part
+-- A part that fails.
 pub refused_any : (start : SizeSerializer) (kind : Kind) (held : OpenCompound) (ps : List (Option Tree)) → Holding start kind held ps → (p : Option Tree) (e : WalkError) (after : Pending) →
     at_position (position_of held.inner) (meant held.inner p) (Err e) after → (others : List (Option Tree)) →
     at_position (position_of start.pending) (meant start.pending (whole kind (ps ++ (p ∷ others)))) (Err e) (pending.Plain (without_prefix held.position))
@@ -75,7 +75,7 @@ refused_any start kind held ps (inr (inl h)) p e after r others =
     refused_transparent start kind held ps h p e after (subst (λ u. at_position (position_of u) (meant u p) (Err e) after) h.inner r) others
 refused_any start kind held ps (inr (inr h)) p e after r others = refused_single start kind held ps h p e after r others
 
--- what is known of a part's counting
+-- What holds after a part is added or fails.
 pub record Taking (held new : OpenCompound) (size : ℕ) (after : Pending) (res : Result (Unit {0}) WalkError) : Type 0 where
   pub position : new.position ≡ held.position
   pub shape : new.shape ≡ held.shape
@@ -126,7 +126,7 @@ gathers : (start : SizeSerializer) (kind : Kind) (held new : OpenCompound) (ps :
 gathers start kind held new ps p (Ok u) m = inl m
 gathers start kind held new ps p (Err e) m = m
 
--- a part that was counted
+-- A part that is measured.
 pub taken_any : (start : SizeSerializer) (kind : Kind) (held new : OpenCompound) (ps : List (Option Tree)) → Holding start kind held ps → (p : Option Tree) (size : ℕ) (after : Pending) →
     at_position (position_of held.inner) (meant held.inner p) (Ok size) after → (res : Result (Unit {0}) WalkError) → Taking held new size after res →
     MatchResult res (λ _. Holding start kind new (ps ++ (p ∷ [])))

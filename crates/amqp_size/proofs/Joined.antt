@@ -10,7 +10,7 @@ use Rattle.amqp_size.specs.SizeSerializer.{content, inner_of, one_in}
 use Rattle.amqp_size.specs.AddPart.{constructor_len}
 use Rattle.amqp_size.specs.WholePosition.{First}
 
--- the rest of the bytes
+-- The bytes of the remaining parts.
 abbrev pub rest_of : Bool → Trees → List ℕ
 rest_of false us = encoding_each us
 rest_of true us = payload_each us
@@ -23,7 +23,7 @@ pub some_con : (o : Option ℕ) → same_constructor o o ≡ true → (c : ℕ) 
 some_con None h = cc
 some_con (Some c) h = (c, refl)
 
--- the bytes of the parts, one more and others
+-- The length of the bytes of all parts: those so far, one more, and the remaining ones.
 pub content-join : (arr : Bool) (ts : Trees) (t : Tree) (us : Trees) → one_in arr ts ≡ true →
     length (content arr (join ts (more t us))) ≡ length (form (inner_of arr ts) t) + constructor_len (inner_of arr ts) (next (inner_of arr ts) t) + length (content arr ts) + length (rest_of arr us)
 content-join false ts t us h = simp (encoding_each-join, length-append) (omega arith)

@@ -1,4 +1,4 @@
--- A whole whose parts have their trees has a tree, unless it was refused when it was opened.
+-- A compound whose parts have trees has a tree, unless its shape is `Refused`.
 use Rattle.std.proofs.Common.{◌≡◌, ℕ, List, [], ◌∷◌, Option, Some, None, true, false, Ok, refl, ap, sym, ◌∙◌, subst, inl, inr}
 use Rattle.amqp_ser.specs.Tree.{Tree, Trees, list, array, map, variant, transparent}
 use Rattle.amqp_ser.specs.Compounds.{as_kind, as_map, all_trees, complete, whole}
@@ -55,7 +55,7 @@ not_single start kind held ps h k =
     let q : held.shape ≡ shapes.Single = h.shape ∙ ap (shape_of start.pending) k in
     let e : false ≡ true = sym (ap is_gathered q) ∙ h.gathered in cc
 
--- of each shape
+-- For each shape.
 gathered_none : (start : SizeSerializer) (kind : Kind) (held : OpenCompound) (ps : List (Option Tree)) → HoldsGathered start kind held ps → complete kind ps ≡ true → meant start.pending (whole kind ps) ≡ None → held.shape ≡ shapes.Refused
 gathered_none start kind held ps h done n = h.shape ∙ refused_when_opened start.pending kind ps h.ts h.trees done (not_single start kind held ps h) n
 
@@ -74,7 +74,7 @@ single_none : (start : SizeSerializer) (kind : Kind) (held : OpenCompound) (ps :
 single_none start kind held ps h done n =
     one_part start held ps h.parts (subst (λ k. complete k ps ≡ true) h.kind_is done) (ap (λ k. meant start.pending (whole k ps)) (sym h.kind_is) ∙ n)
 
--- of every shape
+-- For every shape.
 pub open_none : (start : SizeSerializer) (kind : Kind) (held : OpenCompound) (ps : List (Option Tree)) → Holding start kind held ps → complete kind ps ≡ true → meant start.pending (whole kind ps) ≡ None → held.shape ≡ shapes.Refused
 open_none start kind held ps (inl h) done n = gathered_none start kind held ps h done n
 open_none start kind held ps (inr (inl h)) done n = absurd (transparent_none start kind held ps h n)

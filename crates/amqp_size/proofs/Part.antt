@@ -1,4 +1,4 @@
--- One part more.
+-- One more part.
 use Rattle.std.proofs.Common.{◌≡◌, ℕ, ◌+◌, ◌≤◌, List, [], ◌∷◌, ◌++◌, Option, Some, None, Bool, true, false, not, ◌&&◌, Result, Ok, Err, MatchResult, IfOk, IfErr, length, refl, ap, sym, ◌∙◌, subst, arith, nat_le, if◌then◌else◌, is_some}
 use Rattle.amqp_size.specs.declared.walk_error.WalkError.{WalkError}
 use Rattle.amqp_size.specs.declared.walk_error.WalkError.TheVariants as error
@@ -43,7 +43,7 @@ next_inner true (more v ts) t h =
     let c = some_con (constructor v) (left_true (same_constructor (constructor v) (constructor v)) (each_constructor (constructor v) ts) h) in
     ap (λ o. next (element o) t) c.1 ∙ sym (ap element c.1)
 
--- what suits its position has nothing transparent inside
+-- A tree that its position accepts has nothing transparent inside.
 pub suited_inside : (arr : Bool) (ts : Trees) (t : Tree) → one_in arr ts ≡ true → suits (inner_of arr ts) t ≡ true → inside t ≡ true
 suited_inside false ts t h s = s
 suited_inside true no_trees t h s = right_true (is_some (constructor t)) (inside t) s
@@ -71,7 +71,7 @@ new_inner : (arr : Bool) (ts : Trees) (t : Tree) (old after : Pending) → one_i
 new_inner false ts t old after h e q = e
 new_inner true ts t old after h e q = q ∙ ap pending.Plain (next_inner true ts t h)
 
--- what is added to the sum
+-- What is added to the total size.
 added : (start : SizeSerializer) (kind : Kind) (held : OpenCompound) (ps : List (Option Tree)) (h : HoldsGathered start kind held ps) (t : Tree) (size : ℕ) (after : Pending) → Counted (inner_of (is_array held.shape) h.ts) t size after →
     size + constructor_len_in (is_array held.shape) held.inner after + held.sum ≡
     length (form (inner_of (is_array held.shape) h.ts) t) + constructor_len (inner_of (is_array held.shape) h.ts) (next (inner_of (is_array held.shape) h.ts) t) + length (content (is_array held.shape) h.ts)
@@ -84,7 +84,7 @@ added start kind held ps h t size after k =
     let sum = h.fed.sum in
     omega arith
 
--- a part that was taken
+-- A part that is accepted.
 pub taken_part : (start : SizeSerializer) (kind : Kind) (held new : OpenCompound) (ps : List (Option Tree)) (h : HoldsGathered start kind held ps) (t : Tree) (size : ℕ) (after : Pending) →
     Counted (inner_of (is_array held.shape) h.ts) t size after →
     new.position ≡ held.position → new.shape ≡ held.shape →
@@ -124,7 +124,7 @@ taken_part start kind held new ps h t size after k a b d e few f was small =
       };
     }
 
--- what is known after a part was counted, or passed a limit
+-- What holds after a part is measured or exceeds a limit.
 pub end_taken : (start : SizeSerializer) (kind : Kind) (held new : OpenCompound) (ps : List (Option Tree)) (h : HoldsGathered start kind held ps) (p : Option Tree) (size : ℕ) (after : Pending) →
     at_position (inner_of (is_array held.shape) h.ts) p (Ok size) after → new.position ≡ held.position → new.shape ≡ held.shape → (held.count ≤ 4294967295 → new.count ≤ 4294967295) → new.sum ≤ limit_of new.shape →
     (res : Result (Unit {0}) WalkError) → IfOk res (λ _. new.before_last ≡ held.sum) → IfErr res (λ _. new ≡ held) →
@@ -158,7 +158,7 @@ one_less us ts (Some t) e a w i =
       ),
     )
 
--- the last part taken back
+-- The last part is removed.
 pub undone : (start : SizeSerializer) (held new : OpenCompound) (ps : List (Option Tree)) (p : Option Tree) → HoldsGathered start kinds.Map held (ps ++ (p ∷ [])) → paired ps ≡ true →
     new.position ≡ held.position → new.shape ≡ held.shape → new.sum ≡ held.before_last → new.count ≡ held.count → new.inner ≡ held.inner → new.sum ≤ limit_of new.shape → HoldsGathered start kinds.Map new ps
 undone start held new ps p h even a b d e f small =

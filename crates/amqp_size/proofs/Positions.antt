@@ -1,4 +1,4 @@
--- What positions ask of a tree, and what a refusal there means.
+-- What positions require of a tree, and what an error at a position says about it.
 use Rattle.std.proofs.Common.{◌≡◌, ℕ, ◌+◌, Option, Some, None, Bool, true, false, Err, length, refl, ◌∙◌, is_some}
 use Rattle.amqp_size.specs.declared.walk_error.WalkError.{WalkError}
 use Rattle.amqp_size.specs.declared.walk_error.WalkError.TheVariants as error
@@ -18,7 +18,7 @@ use Rattle.amqp_size.specs.WholePending as pending
 use Rattle.amqp_size.specs.declared.shape.Shape.{Shape}
 use Rattle.amqp_size.specs.declared.shape.Shape.TheVariants as shape
 
--- past a limit anywhere
+-- A tree that exceeds a limit exceeds it at every position.
 pub long_at : (p : Position) (t : Tree) → within_limits t ≡ false → within_limits_at p t ≡ false
 long_at Root t h = h
 long_at Inside t h = h
@@ -37,7 +37,7 @@ no_descriptor (variant i t) h = refl
 no_descriptor (lazy bs) h = refl
 no_descriptor (transparent ts) h = refl
 
--- what has something transparent inside suits no position, but for the root
+-- Only the root accepts a tree with something transparent inside.
 pub not_inside : (p : Position) (t : Tree) → placed t ≡ inside t → inside t ≡ false → suits p t ≡ false
 not_inside Root t e h = e ∙ h
 not_inside Inside t e h = h
@@ -46,7 +46,7 @@ not_inside (Element c) t e h = right_false (same_constructor (Some c) (construct
 not_inside Descriptor t e h = no_descriptor t h
 not_inside (Value n b) t e h = right_false (takes_described b) (inside t) h
 
--- the positions of parts stand after no descriptor
+-- The positions of parts are not after descriptors.
 within_element : (o : Option ℕ) (t : Tree) → within_limits_at (element o) t ≡ within_limits t
 within_element None t = refl
 within_element (Some c) t = refl
@@ -77,7 +77,7 @@ refused-none p t error.TooLong h = tt
 refused-none p t error.InvalidValue h = tt
 refused-none p t e h = absurd h
 
--- any refusal is one of no tree, and leaves the serializer at rest
+-- Every permitted error is also permitted if there is no tree, and resets the serializer.
 pub refusal : (p : Position) (o : Option Tree) (e : WalkError) (after : Pending) → at_position p o (Err e) after → refuses_none e × (after ≡ pending.Plain (without_prefix p))
 refusal p None e after h = h
 refusal p (Some t) e after h = (refused-none p t e h.0, h.1)

@@ -1,4 +1,4 @@
--- A part that is refused, and one that passes a limit.
+-- A part that fails, and a part that exceeds a limit.
 use Rattle.std.proofs.Common.{◌≡◌, ℕ, ◌+◌, List, ◌∷◌, ◌++◌, Option, Some, None, Bool, true, false, ◌&&◌, Err, length, refl, ap, sym, ◌∙◌, subst, arith, ◌⊎◌, inl, inr, is_some}
 use Rattle.amqp_size.specs.declared.walk_error.WalkError.{WalkError}
 use Rattle.amqp_size.specs.declared.walk_error.WalkError.TheVariants as error
@@ -28,7 +28,8 @@ not_some (Some c) d h = cc
 not_inside_join : (ts : Trees) (t : Tree) (us : Trees) → inside t ≡ false → inside_each (join ts (more t us)) ≡ false
 not_inside_join ts t us h = inside-join ts (more t us) ∙ right_false (inside_each ts) (inside t && inside_each us) (left_false (inside t) (inside_each us) h)
 
--- the parts are bad where one part does not suit its position: it has another constructor, or a transparent tree
+-- If the position rejects one part, the parts are invalid: it has another constructor, or a
+-- transparent tree inside.
 not_suited : (arr : Bool) (ts : Trees) (t : Tree) (us : Trees) → one_in arr ts ≡ true → suits (inner_of arr ts) t ≡ false →
     (one_in arr (join ts (more t us)) ≡ false) ⊎ (inside_each (join ts (more t us)) ≡ false)
 not_suited false ts t us h s = inr (not_inside_join ts t us s)
@@ -45,7 +46,7 @@ not_suited true (more v ts) t us h s =
       | inr b ↦ inr (not_inside_join (more v ts) t us b)
     ]
 
--- a bad part makes bad parts
+-- With one invalid part, the parts are invalid.
 pub part_bad : (arr : Bool) (ts : Trees) (t : Tree) (us : Trees) (e : WalkError) → one_in arr ts ≡ true → refused (inner_of arr ts) t e → bad_in arr (join ts (more t us)) e
 part_bad arr ts t us error.TooLong o h =
     let w : within_limits_each (join ts (more t us)) ≡ false = within_limits-join ts (more t us) ∙ right_false (within_limits_each ts) (within_limits t && within_limits_each us) (left_false (within_limits t) (within_limits_each us) (sym (within_inner arr ts t) ∙ h)) in
@@ -73,7 +74,7 @@ over_bad arr ts t us n o m h = elim h [
       right_false (fits (length (content arr (join ts (more t us))))) _ (left_false (is_count (counts arr (join ts (more t us)))) (within_limits_each (join ts (more t us))) few)
 ]
 
--- a refused part
+-- A part that fails.
 pub refused_part : (start : SizeSerializer) (kind : Kind) (held : OpenCompound) (ps : List (Option Tree)) (h : HoldsGathered start kind held ps) (p : Option Tree) (e : WalkError) (after : Pending) →
     at_position (inner_of (is_array held.shape) h.ts) p (Err e) after → (others : List (Option Tree)) →
     at_position (position_of start.pending) (meant start.pending (whole kind (ps ++ (p ∷ others)))) (Err e) (pending.Plain (without_prefix held.position))
@@ -88,7 +89,7 @@ refused_part start kind held ps h (Some t) e after r others =
     same : (t v : Tree) → Some t ≡ Some v → t ≡ v
     same t v q = cc
 
--- a part that passes a limit
+-- A part that exceeds a limit.
 pub over_part : (start : SizeSerializer) (kind : Kind) (held : OpenCompound) (ps : List (Option Tree)) (h : HoldsGathered start kind held ps) (t : Tree) →
     passes_limit (is_array held.shape) held.count (length (form (inner_of (is_array held.shape) h.ts) t) + constructor_len (inner_of (is_array held.shape) h.ts) (next (inner_of (is_array held.shape) h.ts) t) + length (content (is_array held.shape) h.ts)) →
     (others : List (Option Tree)) →

@@ -27,10 +27,10 @@ root_size (Some t) (Err e) after h = absurd h.0
 pub at_root : (s : SizeSerializer) (o : Option Tree) (r : Result ℕ WalkError) (after : SizeSerializer) → s.pending ≡ Plain Root → size_permits s o r after → at_position Root o r after.pending
 at_root s o r after q h = subst (λ u. at_position (position_of u) (meant u o) r after.pending) q h
 
--- its answer is the length of the bytes
+-- The result is the length of the bytes.
 pub is_size : (s : SizeSerializer) (o : Option Tree) (r : Result ℕ WalkError) (after : SizeSerializer) → s.pending ≡ Plain Root → size_permits s o r after → IsSizeOf o (told r)
 is_size s o r after q h = (root_size o r after.pending (at_root s o r after q h)).0
 
--- it is fresh afterwards
+-- Afterwards the serializer is at the root again.
 pub fresh : (s : SizeSerializer) (o : Option Tree) (r : Result ℕ WalkError) (after : SizeSerializer) → s.pending ≡ Plain Root → size_permits s o r after → after.pending ≡ Plain Root
 fresh s o r after q h = (root_size o r after.pending (at_root s o r after q h)).1

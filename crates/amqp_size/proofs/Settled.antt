@@ -1,4 +1,5 @@
--- Where a value was counted, the position is after no descriptor: no number stands beside it.
+-- After a value is measured, the position is not after a descriptor: no length is stored next to
+-- it.
 use Rattle.std.proofs.Common.{◌≡◌, ℕ, ◌+◌, ◌<◌, Option, Some, None, Bool, true, false, Ok, refl, ap, ◌∙◌}
 use Rattle.amqp_size.specs.declared.walk_error.WalkError.TheVariants as error
 use Rattle.amqp_ser.specs.Tree.{Tree}
@@ -59,12 +60,12 @@ same_pending (kept_pending.Transparent p) h k e = cc
 same_pending (kept_pending.Scalar m p) h k e = cc
 same_pending (kept_pending.Nothing p) h k e = cc
 
--- so another number beside it changes nothing
+-- Therefore another length next to the position changes nothing.
 pub settled : (p : Position) (o : Option Tree) (n : ℕ) (u : KeptPending) (h k : ℕ) → at_position p o (Ok n) (pending_at u h) → pending_at u k ≡ pending_at u h
 settled p None n u h k c = absurd c
 settled p (Some t) n u h k c = same_pending u h k (ap alone c.position ∙ next_alone p t)
 
--- a descriptor that is too long for a value after it
+-- A descriptor is too long for a value after it.
 pub too_long : (p q : Position) (n : ℕ) → described_position p n ≡ Some q → 18446744073709551615 < prefix_len_of p + (n + 1) → undescribed (pending.Plain p) n error.TooLong
 too_long position.Root q n d l = (refl, l)
 too_long position.Inside q n d l = (refl, l)

@@ -47,19 +47,19 @@ two (Some t) None o = refl
 two (Some t) (Some u) None = refl
 two (Some t) (Some u) (Some us) = refl
 
--- one part is the whole, and more have none
+-- A single compound of two or more parts has no tree.
 pub whole_two : (p q : Option Tree) (ps : List (Option Tree)) → whole kinds.Single (p ∷ (q ∷ ps)) ≡ None
 unfolding whole
 whole_two p q ps = two p q (all_trees ps)
 
--- the refusal of no tree
+-- The errors that are permitted if there is no tree.
 no_whole : (start : SizeSerializer) (held : OpenCompound) (kind : Kind) (qs : List (Option Tree)) (e : WalkError) → without_prefix held.position ≡ without_prefix (position_of start.pending) → kind ≡ kinds.Single → whole kinds.Single qs ≡ None → refuses_none e →
     at_position (position_of start.pending) (meant start.pending (whole kind qs)) (Err e) (pending.Plain (without_prefix held.position))
 no_whole start held kind qs e a k q r =
     stands_none start.pending (position_of start.pending) (whole kind qs) (Err e) (pending.Plain (without_prefix held.position)) refl
     (ap (λ k. meant start.pending (whole k qs)) k ∙ ap (meant start.pending) q ∙ meant_none start.pending) (r, ap pending.Plain a)
 
--- a refused value
+-- A value that fails.
 pub refused_single : (start : SizeSerializer) (kind : Kind) (held : OpenCompound) (ps : List (Option Tree)) → HoldsSingle start kind held ps → (p : Option Tree) (e : WalkError) (after : Pending) →
     at_position (position_of held.inner) (meant held.inner p) (Err e) after → (others : List (Option Tree)) →
     at_position (position_of start.pending) (meant start.pending (whole kind (ps ++ (p ∷ others)))) (Err e) (pending.Plain (without_prefix held.position))
@@ -73,7 +73,7 @@ refused_single start kind held [] h p e after r (q ∷ qs) = no_whole start held
 refused_single start kind held (v ∷ []) h p e after r others = no_whole start held kind (v ∷ (p ∷ others)) e h.position h.kind_is (whole_two v p others) (refusal (position_of held.inner) (meant held.inner p) e after r).0
 refused_single start kind held (v ∷ (w ∷ ps)) h p e after r others = absurd h.parts
 
--- a second value
+-- A second value.
 pub second_single : (start : SizeSerializer) (kind : Kind) (held : OpenCompound) (ps : List (Option Tree)) → HoldsSingle start kind held ps → 1 ≤ held.count → (p : Option Tree) (others : List (Option Tree)) →
     at_position (position_of start.pending) (meant start.pending (whole kind (ps ++ (p ∷ others)))) (Err error.InvalidValue) (pending.Plain (without_prefix held.position))
 second_single start kind held [] h some p others = absurd (none h.parts.0 some)
@@ -83,7 +83,7 @@ second_single start kind held [] h some p others = absurd (none h.parts.0 some)
 second_single start kind held (v ∷ []) h some p others = no_whole start held kind (v ∷ (p ∷ others)) error.InvalidValue h.position h.kind_is (whole_two v p others) tt
 second_single start kind held (v ∷ (w ∷ ps)) h some p others = absurd h.parts
 
--- the first value
+-- The first value.
 pub first_single : (start : SizeSerializer) (kind : Kind) (held new : OpenCompound) (ps : List (Option Tree)) → HoldsSingle start kind held ps → (p : Option Tree) (size : ℕ) (after : Pending) →
     at_position (position_of held.inner) (meant held.inner p) (Ok size) after → held.count ≡ 0 → new.count ≡ 1 → new.sum ≡ size → new.inner ≡ after → new.position ≡ held.position → new.shape ≡ held.shape →
     HoldsSingle start kind new (ps ++ (p ∷ []))

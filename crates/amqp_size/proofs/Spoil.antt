@@ -1,4 +1,4 @@
--- Parts that spoil every whole that they are in.
+-- Parts for which every compound that contains them fails.
 use Rattle.std.proofs.Common.{◌≡◌, ℕ, ◌+◌, ◌<◌, List, [], ◌∷◌, ◌++◌, Option, Some, None, Bool, true, false, not, ◌&&◌, Err, length, refl, ap, sym, ◌∙◌, subst, arith, length-append, inl, inr}
 use Rattle.std.proofs.lemmas.Bool.{not-true, not-false}
 use Rattle.amqp_size.specs.declared.walk_error.WalkError.{WalkError}
@@ -26,13 +26,13 @@ use Rattle.amqp_size.specs.declared.open_compound.OpenCompound.{OpenCompound}
 use Rattle.amqp_size.proofs.Positions.{long_at, not_inside, meant_none}
 use Rattle.amqp_size.proofs.Whole.{stands_none, refused_shape}
 
--- parts of which the whole is refused with this error
+-- The compound of these parts may fail with this error.
 abbrev pub bad_in : Bool → Trees → WalkError → Type 0
 bad_in arr ws error.TooLong = (fits (length (content arr ws)) && (is_count (counts arr ws) && within_limits_each ws)) ≡ false
 bad_in arr ws error.InvalidValue = (one_in arr ws && (uniform_arrays_each ws && inside_each ws)) ≡ false
 bad_in arr ws e = ⊥
 
--- a tree that spoils any position
+-- No position accepts a tree with a mixed array, or with something transparent inside.
 spoiled : (p : Position) (t : Tree) → placed t ≡ inside t → (uniform_arrays t && inside t) ≡ false → (uniform_arrays t && suits p t) ≡ false
 spoiled p t e h = elim (one_false (uniform_arrays t) (inside t) h) [
   | inl a ↦ left_false (uniform_arrays t) (suits p t) a
@@ -44,7 +44,7 @@ odd_none no_trees h = cc
 odd_none (more k no_trees) h = refl
 odd_none (more k (more v ts)) h = let e = odd_none ts (not-true (even ts) (not-false (not (even ts)) h)) in rw e refl
 
--- the refusal of no map, whatever the error
+-- If there is no map, every error is permitted that is permitted for no tree.
 none_map : (p : Position) (ws : Trees) (e : WalkError) → refuses_none e → even ws ≡ false → at_position p (as_map (in_pairs ws)) (Err e) (pending.Plain (without_prefix p))
 none_map p ws e r q = subst (λ o. at_position p (as_map o) (Err e) (pending.Plain (without_prefix p))) (sym (odd_none ws q)) (r, refl)
 
@@ -92,7 +92,7 @@ bad_only p i no_trees h = (tt, refl)
 bad_only p i (more t no_trees) h = (bad_one p i t h, refl)
 bad_only p i (more t (more v ts)) h = (tt, refl)
 
--- the refusal of no tree, by a shape that its marker does not take
+-- The same if the pending marker does not accept the shape: there is no tree.
 none_bad : (u : Pending) (o : Option Tree) (e : WalkError) → refuses_none e → meant u o ≡ None → at_position (position_of u) (meant u o) (Err e) (pending.Plain (without_prefix (position_of u)))
 none_bad u o e r h = stands_none u (position_of u) o (Err e) (pending.Plain (without_prefix (position_of u))) refl h (r, refl)
 
@@ -129,7 +129,7 @@ spoiled_only p i ws error.TooLong h = long_only p i ws h
 spoiled_only p i ws error.InvalidValue h = bad_only p i ws h
 spoiled_only p i ws e h = absurd h
 
--- a whole of spoiled parts
+-- A compound of such parts may fail with the error.
 spoiled_whole : (u : Pending) (k : Kind) (ws : Trees) (e : WalkError) → is_gathered (shape_of u k) ≡ true → bad_in (is_array (shape_of u k)) ws e → at_position (position_of u) (meant u (as_kind k (Some ws))) (Err e) (pending.Plain (without_prefix (position_of u)))
 spoiled_whole u kinds.Single ws e g h = cc
 spoiled_whole (pending.Plain p) kinds.List ws e g h = spoiled_list p ws e h
@@ -153,14 +153,14 @@ spoiled_whole (pending.Nothing p) kinds.Map ws e g h = shapeless false (pending.
 spoiled_whole (pending.Nothing p) (kinds.Variant i) ws e g h = shapeless false (pending.Nothing p) (kinds.Variant i) ws e h refl
 spoiled_whole (pending.Nothing p) (kinds.NewtypeVariant i) ws e g h = shapeless false (pending.Nothing p) (kinds.NewtypeVariant i) ws e h refl
 
--- a whole that one part spoils
+-- A compound with one such part may fail with the error.
 pub spoiled_rest : (u : Pending) (k : Kind) (ts : Trees) (e : WalkError) → is_gathered (shape_of u k) ≡ true → refuses_none e → (p : Option Tree) (o : Option Trees) → ((t : Tree) (us : Trees) → p ≡ Some t → bad_in (is_array (shape_of u k)) (join ts (more t us)) e) →
     at_position (position_of u) (meant u (as_kind k (joined (Some ts) (prepend p o)))) (Err e) (pending.Plain (without_prefix (position_of u)))
 spoiled_rest u k ts e g r None o bad = none_bad u (as_kind k None) e r (ap (meant u) (kind_none k) ∙ meant_none u)
 spoiled_rest u k ts e g r (Some t) None bad = none_bad u (as_kind k None) e r (ap (meant u) (kind_none k) ∙ meant_none u)
 spoiled_rest u k ts e g r (Some t) (Some us) bad = spoiled_whole u k (join ts (more t us)) e g (bad t us refl)
 
--- where the next part spoils every whole
+-- If the next part is one, every compound that continues with it may fail with the error.
 pub with_rest : (start : SizeSerializer) (kind : Kind) (held : OpenCompound) (ps : List (Option Tree)) (h : HoldsGathered start kind held ps) (p : Option Tree) (e : WalkError) → refuses_none e →
     ((t : Tree) (us : Trees) → p ≡ Some t → bad_in (is_array held.shape) (join h.ts (more t us)) e) → (others : List (Option Tree)) →
     at_position (position_of start.pending) (meant start.pending (whole kind (ps ++ (p ∷ others)))) (Err e) (pending.Plain (without_prefix held.position))

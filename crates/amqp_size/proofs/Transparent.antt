@@ -51,7 +51,7 @@ transparent_shape (pending.Nothing p) kinds.Map h = cc
 transparent_shape (pending.Nothing p) (kinds.Variant i) h = cc
 transparent_shape (pending.Nothing p) (kinds.NewtypeVariant i) h = cc
 
--- the tree of one that was fed
+-- The tree of a transparent vector with these elements.
 pub transparent_whole : (start : SizeSerializer) (kind : Kind) (held : OpenCompound) (ps : List (Option Tree)) (h : HoldsTransparent start kind held ps) (qs : List (Option Tree)) (ws : Trees) → all_trees qs ≡ Some ws →
     meant start.pending (whole kind qs) ≡ Some (transparent ws)
 unfolding whole
@@ -59,7 +59,7 @@ transparent_whole start kind held ps h qs ws e =
     let inv = transparent_shape start.pending kind h.shaped in
     ap (λ u. meant u (whole kind qs)) inv.0 ∙ ap (λ k. meant (pending.Transparent (position_of start.pending)) (as_kind k (all_trees qs))) inv.1 ∙ ap (λ o. meant (pending.Transparent (position_of start.pending)) (as_kind kinds.List o)) e
 
--- an element that was taken
+-- An element that is accepted.
 pub taken_transparent : (start : SizeSerializer) (kind : Kind) (held new : OpenCompound) (ps : List (Option Tree)) → HoldsTransparent start kind held ps → (t : Tree) (size : ℕ) (after : Pending) → Counted Root t size after →
     new.position ≡ held.position → new.shape ≡ held.shape → new.sum ≡ size + held.sum → new.inner ≡ held.inner → HoldsTransparent start kind new (ps ++ (Some t ∷ []))
 taken_transparent start kind held new ps h t size after k a b d f =
@@ -81,7 +81,7 @@ taken_transparent start kind held new ps h t size after k a b d f =
       placed_parts = placed-join h.ts (more t no_trees) ∙ both (placed_each h.ts) (placed t && true) h.placed_parts (both (placed t) true k.suited refl);
     }
 
--- it stands at the root alone
+-- Only the root accepts it.
 root_alone : (p : Position) (ts : Trees) → (p ≡ Root) ⊎ (suits p (transparent ts) ≡ false)
 root_alone Root ts = inl refl
 root_alone Inside ts = inr refl
@@ -90,7 +90,7 @@ root_alone (Element c) ts = inr refl
 root_alone Descriptor ts = inr refl
 root_alone (Value n b) ts = inr (right_false (takes_described b) false refl)
 
--- elements of which the whole is refused with this error
+-- The transparent vector of these elements may fail with this error.
 abbrev pub bad_each : Trees → WalkError → Type 0
 bad_each ws error.TooLong = (is_length (length (encoding_each ws)) && within_limits_each ws) ≡ false
 bad_each ws error.InvalidValue = (uniform_arrays_each ws && placed_each ws) ≡ false
@@ -119,7 +119,7 @@ after ts None o ws q = cc
 after ts (Some t) None ws q = cc
 after ts (Some t) (Some us) ws q = (t, (us, (refl, cc)))
 
--- where the next element spoils every whole
+-- If the next element is invalid, every vector that continues with it may fail with the error.
 spoils : (start : SizeSerializer) (kind : Kind) (held : OpenCompound) (ps : List (Option Tree)) (h : HoldsTransparent start kind held ps) (p : Option Tree) (e : WalkError) → refuses_none e → ((t : Tree) (us : Trees) → p ≡ Some t → bad_each (join h.ts (more t us)) e) →
     (others : List (Option Tree)) → at_position (position_of start.pending) (meant start.pending (whole kind (ps ++ (p ∷ others)))) (Err e) (pending.Plain (without_prefix held.position))
 spoils start kind held ps h p e r bad others =

@@ -26,7 +26,7 @@ use Rattle.amqp_size.specs.declared.serializer.SizeSerializer.{SizeSerializer}
 use Rattle.amqp_size.specs.declared.open_compound.OpenCompound.{OpenCompound}
 use Rattle.amqp_size.proofs.Lengths.{length-counted, length-list_form, length-variant}
 
--- an answer on the tree that is meant
+-- A result for the tree under the pending marker is a result for the tree that is serialized.
 pub stands : (u : Pending) (q : Position) (o : Option Tree) (x : Tree) (r : Result ℕ WalkError) (after : Pending) → position_of u ≡ q → meant u o ≡ Some x → at_position q (Some x) r after → at_position (position_of u) (meant u o) r after
 stands u q o x r after a b h = subst (λ w. at_position w (meant u o) r after) (sym a) (subst (λ w. at_position q w r after) (sym b) h)
 
@@ -138,7 +138,7 @@ no_transparent_variant : (i : ℕ) (o : Option Tree) → marked mark.Transparent
 no_transparent_variant i None = refl
 no_transparent_variant i (Some t) = refl
 
--- no compound is a scalar, but for a single one
+-- No compound is a scalar, except a single one.
 no_scalar : (p : Position) (m : ScalarMark) (k : Kind) (o : Option Trees) → shape_of (pending.Scalar m p) k ≡ shape.Refused → marked (the_mark m) (as_kind k o) ≡ None
 no_scalar p m kinds.List None h = refl
 no_scalar p m kinds.Map None h = refl
@@ -175,7 +175,7 @@ refused_shape (pending.Transparent p) kinds.Single o h = cc
 refused_shape (pending.Scalar m p) k o h = no_scalar p m k o h
 refused_shape (pending.Nothing p) k o h = refl
 
--- a map that has ended: its tree and its lengths
+-- A map that has ended: its tree and its lengths.
 pub record MapEnd (start : SizeSerializer) (kind : Kind) (held : OpenCompound) (ps : List (Option Tree)) : Type 0 where
   pub pairs : Pairs
   pub is : meant start.pending (whole kind ps) ≡ Some (map pairs)
@@ -205,7 +205,7 @@ map_end start kind held ps h done s =
       wide = omega arith;
     }
 
--- a variant of fields that has ended
+-- A variant with fields that has ended.
 pub record FieldsEnd (i : ℕ) (start : SizeSerializer) (kind : Kind) (ps : List (Option Tree)) (size : ℕ) : Type 0 where
   pub ts : Trees
   pub is : meant start.pending (whole kind ps) ≡ Some (variant i (list ts))

@@ -1,9 +1,9 @@
--- A code and the bytes of a number after it.
+-- A format code and the bytes of a number after it.
 use Rattle.std.specs.Prelude.{ℕ, List, ◌∷◌}
 use Rattle.std.specs.Int.{bytes_high_first}
 use Rattle.amqp_size.specs.declared.form.Form.{Form}
 
--- the bytes after the code: the lowest of the bits, the highest byte first
+-- The bytes after the code: the low bytes of `bits`, in big-endian order.
 abbrev pub form_payload : Form → List ℕ
 form_payload f = bytes_high_first f.width f.bits
 

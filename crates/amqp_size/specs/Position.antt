@@ -1,4 +1,4 @@
--- Where a tree stands, and what that asks of it.
+-- The position of a tree, and what the position requires of it.
 use Rattle.std.specs.Prelude.{ℕ, ◌+◌, List, length, Option, Some, None, Bool, true, false, ◌&&◌, is_some}
 use Rattle.amqp_ser.specs.Tree.{Tree}
 use Rattle.amqp_ser.specs.Encoding.{encoding, payload, constructor}
@@ -37,7 +37,7 @@ the_mark scalar_mark.Decimal128 = mark.Decimal128
 the_mark scalar_mark.Uuid = mark.Uuid
 the_mark scalar_mark.Lazy = mark.Lazy
 
--- the tree that stands there, if this one is fed
+-- The tree of the value, if this tree is serialized under the pending marker.
 abbrev pub meant : Pending → Option Tree → Option Tree
 meant (pending.Plain p) t = t
 meant (pending.Array p) t = marked mark.Array t
@@ -45,14 +45,14 @@ meant (pending.Transparent p) t = marked mark.Transparent t
 meant (pending.Scalar m p) t = marked (the_mark m) t
 meant (pending.Nothing p) t = None
 
--- where a described value stands
+-- The position of a described value, without the descriptors.
 abbrev pub base_position : BasePosition → Position
 base_position base.Root = Root
 base_position base.Inside = Inside
 base_position base.First = First
 base_position (base.Element c) = Element c
 
--- where the serializer stands between steps and after a refusal
+-- The position of the serializer between steps and after an error.
 abbrev pub without_prefix : Position → Position
 without_prefix Root = Root
 without_prefix Inside = Inside
@@ -61,15 +61,15 @@ without_prefix (Element c) = Element c
 without_prefix Descriptor = Descriptor
 without_prefix (Value h b) = base_position b
 
--- a described value may stand there: it is no array's element
+-- A described value is accepted: not as an array element.
 abbrev pub takes_described : BasePosition → Bool
 takes_described base.Root = true
 takes_described base.Inside = true
 takes_described base.First = false
 takes_described (base.Element c) = false
 
--- a tree may stand there: transparent trees at the root alone, array elements of one constructor, and a ulong or a
--- symbol as a descriptor
+-- The position accepts the tree: transparent trees only at the root, array elements of one
+-- constructor, and a ulong or a symbol as a descriptor.
 abbrev pub suits : Position → Tree → Bool
 suits Root t = placed t
 suits Inside t = inside t
@@ -82,7 +82,7 @@ abbrev pub element : Option ℕ → Position
 element None = First
 element (Some c) = Element c
 
--- the position of what comes after it
+-- The position after the tree.
 abbrev pub next : Position → Tree → Position
 next Root t = Root
 next Inside t = Inside
@@ -91,7 +91,7 @@ next (Element c) t = Element c
 next Descriptor t = Descriptor
 next (Value h b) t = base_position b
 
--- the bytes there: by itself, or as an array's element after the constructor
+-- The bytes at this position: the complete encoding, or the payload of an array element.
 abbrev pub form : Position → Tree → List ℕ
 form Root t = encoding t
 form Inside t = encoding t
@@ -100,7 +100,7 @@ form (Element c) t = payload t
 form Descriptor t = encoding t
 form (Value h b) t = encoding t
 
--- the length there, with the descriptors before it
+-- The length at this position, including the descriptors before the value.
 abbrev pub extent : Position → Tree → ℕ
 extent Root t = length (encoding t)
 extent Inside t = length (encoding t)
@@ -109,7 +109,7 @@ extent (Element c) t = length (payload t)
 extent Descriptor t = length (encoding t)
 extent (Value h b) t = h + length (encoding t)
 
--- within the limits, with the descriptors before it
+-- The tree is within the limits, including the descriptors before it.
 abbrev pub within_limits_at : Position → Tree → Bool
 within_limits_at Root t = within_limits t
 within_limits_at Inside t = within_limits t
@@ -126,7 +126,8 @@ element_constructor (Element c) = Some c
 element_constructor Descriptor = None
 element_constructor (Value h b) = None
 
--- the position after a descriptor of this length: the value's. A described value is no descriptor
+-- The position of the value after a descriptor of this length. A described value is not a
+-- descriptor.
 abbrev pub described_position : Position → ℕ → Option Position
 described_position Root n = Some (Value (n + 1) base.Root)
 described_position Inside n = Some (Value (n + 1) base.Inside)
@@ -139,7 +140,7 @@ abbrev pub plainly : Option Position → Option Pending
 plainly None = None
 plainly (Some p) = Some (pending.Plain p)
 
--- no marker takes a described value
+-- No marker accepts a described value.
 abbrev pub described_pending : Pending → ℕ → Option Pending
 described_pending (pending.Plain p) n = plainly (described_position p n)
 described_pending (pending.Array p) n = Some (pending.Nothing p)
@@ -147,7 +148,7 @@ described_pending (pending.Transparent p) n = Some (pending.Nothing p)
 described_pending (pending.Scalar m p) n = Some (pending.Nothing p)
 described_pending (pending.Nothing p) n = Some (pending.Nothing p)
 
--- the length before a value there
+-- The length of the descriptors before a value at this position.
 abbrev pub prefix_len_of : Position → ℕ
 prefix_len_of Root = 0
 prefix_len_of Inside = 0
@@ -156,7 +157,7 @@ prefix_len_of (Element c) = 0
 prefix_len_of Descriptor = 0
 prefix_len_of (Value h b) = h
 
--- what is opened there
+-- What a compound of this kind is encoded as.
 abbrev pub shape_of : Pending → Kind → Shape
 shape_of u kind.Single = shape.Single
 shape_of (pending.Plain p) kind.List = shape.List
@@ -171,20 +172,20 @@ abbrev pub is_array : Shape → Bool
 is_array shape.Array = true
 is_array s = false
 
--- its parts are gathered into one body
+-- The compound collects its parts in one body.
 abbrev pub is_gathered : Shape → Bool
 is_gathered shape.Transparent = false
 is_gathered shape.Single = false
 is_gathered s = true
 
--- where the first part stands
+-- The position of the first part.
 abbrev pub inner_pending : Shape → Pending → Pending
 inner_pending shape.Array u = pending.Plain First
 inner_pending shape.Transparent u = pending.Plain Root
 inner_pending shape.Single u = u
 inner_pending s u = pending.Plain Inside
 
--- the longest sum of its parts
+-- The greatest total size of the parts.
 abbrev pub limit_of : Shape → ℕ
 limit_of shape.Transparent = 18446744073709551615
 limit_of shape.Single = 18446744073709551615

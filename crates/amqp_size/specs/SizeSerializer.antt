@@ -1,4 +1,4 @@
--- What the size serializer may answer, and what an open compound was fed.
+-- The permitted results of the size serializer, and the parts of an open compound.
 use Rattle.std.specs.Prelude.{◌≡◌, ℕ, List, [], ◌∷◌, ◌++◌, ◌⊎◌, Option, Some, None, Bool, true, false, ◌&&◌, Result, Ok, Err, length}
 use Rattle.amqp_size.specs.declared.walk_error.WalkError.{WalkError}
 use Rattle.amqp_size.specs.declared.walk_error.WalkError.TheVariants as error
@@ -20,7 +20,7 @@ use Rattle.amqp_size.specs.declared.shape.Shape.TheVariants as shapes
 use Rattle.amqp_size.specs.declared.serializer.SizeSerializer.{SizeSerializer}
 use Rattle.amqp_size.specs.declared.open_compound.OpenCompound.{OpenCompound}
 
--- a tree that may stand there was counted
+-- The tree is accepted at this position and measured.
 pub record Counted (p : Position) (t : Tree) (n : ℕ) (after : Pending) : Type 0 where
   pub within_limits_it : within_limits_at p t ≡ true
   pub uniform_arrays_it : uniform_arrays t ≡ true
@@ -28,7 +28,7 @@ pub record Counted (p : Position) (t : Tree) (n : ℕ) (after : Pending) : Type 
   pub len : n ≡ extent p t
   pub position : after ≡ Plain (next p t)
 
--- too long only where a limit is passed, invalid only for another cause
+-- `TooLong` only if a limit is exceeded, and `InvalidValue` only for another reason.
 abbrev pub refused : Position → Tree → WalkError → Type 0
 refused p t error.TooLong = within_limits_at p t ≡ false
 refused p t error.InvalidValue = (uniform_arrays t && suits p t) ≡ false
@@ -43,7 +43,7 @@ at_position p (Some t) (Err e) after = refused p t e × (after ≡ Plain (withou
 abbrev pub size_permits : SizeSerializer → Option Tree → Result ℕ WalkError → SizeSerializer → Type 0
 size_permits s t r after = at_position (position_of s.pending) (meant s.pending t) r after.pending
 
--- the bytes of the parts, in an array or not
+-- The bytes of the parts, in an array or not.
 abbrev pub content : Bool → Trees → List ℕ
 content false ts = encoding_each ts
 content true ts = array_constructor ts ++ payload_each ts
@@ -52,12 +52,12 @@ abbrev pub first_position : Trees → Position
 first_position no_trees = First
 first_position (more t ts) = element (constructor t)
 
--- the position of the next part
+-- The position of the next part.
 abbrev pub inner_of : Bool → Trees → Position
 inner_of false ts = Inside
 inner_of true ts = first_position ts
 
--- how many parts were counted: an array's alone
+-- The number of parts, which is counted only in an array.
 abbrev pub counts : Bool → Trees → ℕ
 counts false ts = 0
 counts true ts = count ts
@@ -66,7 +66,7 @@ abbrev pub one_in : Bool → Trees → Bool
 one_in false ts = true
 one_in true ts = one_constructor ts
 
--- what a compound was fed
+-- The parts of an open compound.
 pub record FedTrees (held : OpenCompound) (ts : Trees) : Type 0 where
   pub sum : held.sum ≡ length (content (is_array held.shape) ts)
   pub fits_sum : fits held.sum ≡ true
@@ -78,13 +78,13 @@ pub record FedTrees (held : OpenCompound) (ts : Trees) : Type 0 where
   pub inside_parts : inside_each ts ≡ true
   pub one : one_in (is_array held.shape) ts ≡ true
 
--- what a compound was fed before its last part
+-- The parts of an open compound before the last one.
 pub record BeforeLast (held : OpenCompound) (qs : List (Option Tree)) : Type 0 where
   pub us : Trees
   pub trees : all_trees qs ≡ Some us
   pub sum : held.before_last ≡ length (content (is_array held.shape) us)
 
--- an open compound that gathers its parts into one body, of those that it was fed
+-- An open compound that collects its parts in one body, with its parts.
 pub record HoldsGathered (start : SizeSerializer) (kind : Kind) (held : OpenCompound) (ps : List (Option Tree)) : Type 0 where
   pub ts : Trees
   pub trees : all_trees ps ≡ Some ts
@@ -94,7 +94,7 @@ pub record HoldsGathered (start : SizeSerializer) (kind : Kind) (held : OpenComp
   pub gathered : is_gathered held.shape ≡ true
   pub back : paired ps ≡ false → (qs : List (Option Tree)) (q : Option Tree) → ps ≡ qs ++ (q ∷ []) → BeforeLast held qs
 
--- an open transparent vector, of the parts that it was fed
+-- An open transparent vector, with its parts.
 pub record HoldsTransparent (start : SizeSerializer) (kind : Kind) (held : OpenCompound) (ps : List (Option Tree)) : Type 0 where
   pub ts : Trees
   pub trees : all_trees ps ≡ Some ts
@@ -108,20 +108,20 @@ pub record HoldsTransparent (start : SizeSerializer) (kind : Kind) (held : OpenC
   pub within_limits_parts : within_limits_each ts ≡ true
   pub placed_parts : placed_each ts ≡ true
 
--- the one part of a single compound stands where the compound was opened
+-- The part of a single compound has the position of the compound.
 abbrev pub single_parts : SizeSerializer → OpenCompound → List (Option Tree) → Type 0
 single_parts start held [] = (held.count ≡ 0) × (held.inner ≡ start.pending)
 single_parts start held (p ∷ []) = (held.count ≡ 1) × at_position (position_of start.pending) (meant start.pending p) (Ok held.sum) held.inner
 single_parts start held (p ∷ (q ∷ ps)) = ⊥
 
--- an open single compound, of the part that it was fed
+-- An open single compound, with its part.
 pub record HoldsSingle (start : SizeSerializer) (kind : Kind) (held : OpenCompound) (ps : List (Option Tree)) : Type 0 where
   pub kind_is : kind ≡ kinds.Single
   pub position : without_prefix held.position ≡ without_prefix (position_of start.pending)
   pub shape : held.shape ≡ shapes.Single
   pub parts : single_parts start held ps
 
--- an open compound, of the parts that it was fed
+-- An open compound, with its parts.
 abbrev pub Holding : SizeSerializer → Kind → OpenCompound → List (Option Tree) → Type 0
 Holding start kind held ps = HoldsGathered start kind held ps ⊎ (HoldsTransparent start kind held ps ⊎ HoldsSingle start kind held ps)
 
@@ -141,6 +141,6 @@ none_at (pending.Transparent p) n after h = h
 none_at (pending.Scalar m p) n after h = h
 none_at (pending.Nothing p) n after h = h
 
--- where there is no tree there is no length
+-- If there is no tree, no length is returned.
 pub no_count_on_none : (s : SizeSerializer) (n : ℕ) (after : SizeSerializer) → size_permits s None (Ok n) after → ⊥
 no_count_on_none s n after h = none_at s.pending n after.pending h

@@ -1,4 +1,4 @@
--- Positions as they are kept, in single bytes, and the number that stands beside them.
+-- Positions as they are stored, in single bytes, with the length of descriptors next to them.
 use Rattle.std.specs.Prelude.{ℕ}
 use Rattle.amqp_size.specs.declared.position.Position.{Position as KeptPosition}
 use Rattle.amqp_size.specs.declared.position.Position.TheVariants as kept
@@ -8,7 +8,7 @@ use Rattle.amqp_size.specs.declared.shape.Shape.{Shape}
 use Rattle.amqp_size.specs.WholePosition.{Position, Root, Inside, First, Element, Descriptor, Value}
 use Rattle.amqp_size.specs.WholePending.{Pending, Plain, Array, Transparent, Scalar, Nothing}
 
--- after this many bytes, where it stands after descriptors
+-- The position after `h` bytes of descriptors, if it is after descriptors.
 abbrev pub position_at : KeptPosition → ℕ → Position
 position_at kept.Root h = Root
 position_at kept.Inside h = Inside
@@ -24,12 +24,13 @@ pending_at (kept_pending.Transparent p) h = Transparent (position_at p h)
 pending_at (kept_pending.Scalar p m) h = Scalar m (position_at p h)
 pending_at (kept_pending.Nothing p) h = Nothing (position_at p h)
 
--- a serializer: where the next value stands
+-- A serializer: the position of the next value.
 pub record SizeState : Type 0 where
   pub pending : Pending
 
--- an open compound: where it stands, what it is, where its next part stands, the bytes before the value where one of the
--- two is after descriptors, and what its parts came to
+-- An open compound: its position, its shape, the position of the next part, the length of the
+-- descriptors before the value (if one of the two positions is after descriptors), and the sizes
+-- and the count of its parts.
 pub record OpenState : Type 0 where
   pub position : Position
   pub shape : Shape

@@ -1,4 +1,4 @@
--- The same, and the marker that it stands under.
+-- The position of a value with the lengths of its descriptors, and the pending marker.
 use Rattle.amqp_size.specs.declared.scalar_mark.ScalarMark.{ScalarMark}
 use Rattle.amqp_size.specs.WholePosition.{Position}
 

@@ -1,4 +1,4 @@
--- Where a value stands, with the bytes of the descriptors before it.
+-- The position of a value, with the length of the descriptors before it.
 use Rattle.std.specs.Prelude.{ℕ}
 use Rattle.amqp_size.specs.declared.position.BasePosition.{BasePosition}
 

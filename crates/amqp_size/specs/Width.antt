@@ -5,28 +5,28 @@ use Rattle.amqp_ser.specs.Limits.{is_short}
 use Rattle.amqp_ser.specs.Scalars.{sized}
 use Rattle.amqp_ser.specs.Encoding.{wide, list_form, map_form, array_form}
 
--- a uint by itself
+-- A uint outside an array.
 abbrev pub uint_width : ℕ → ℕ
 uint_width n = if nat_eq n 0 then 1 else if nat_le n 255 then 2 else 5
 
--- a text or a binary of n bytes
+-- A text or a binary of `n` bytes.
 abbrev pub text_width : ℕ → ℕ
 text_width n = if is_short n then n + 2 else n + 5
 
--- a map, and any body behind a size and a count
+-- A map, and any body after a size and a count.
 abbrev pub map_width : ℕ → ℕ
 map_width n = if is_short n then n + 3 else n + 9
 
--- a list: of no bytes it is one byte
+-- A list. Without elements it is one byte.
 abbrev pub list_width : ℕ → ℕ
 list_width n = if nat_eq n 0 then 1 else map_width n
 
--- an array of this content and this many elements
+-- An array with this content and this number of elements.
 abbrev pub array_width : ℕ → ℕ → ℕ
 array_width n count = if is_short n && nat_le count 255 then n + 3 else n + 9
 
--- a text or a binary of these bytes, a list, a map and an array of this count and body: by itself, or as the
--- payload of an array's element
+-- A text or a binary of these bytes, and a list, a map or an array of this count and body: the
+-- complete form, or the payload of an array element.
 abbrev pub text_at : Bool → ℕ → ℕ → List ℕ → List ℕ
 text_at false c8 c32 bs = sized c8 c32 bs
 text_at true c8 c32 bs = to_be_bytes w32 (length bs) ++ bs

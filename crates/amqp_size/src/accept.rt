@@ -1,4 +1,4 @@
-//! The answers on trees, by where they stand.
+//! The sizes of trees at each position, and the trees that a position rejects.
 
 ghost use Rattle.std.specs.Prelude.{◌≡◌, ◌+◌, ◌&&◌, ℕ, List, Some, Err, true, length};
 ghost use Rattle.amqp_ser.specs.Tree.{Tree, Trees, lazy, transparent};
@@ -22,7 +22,7 @@ impl SizeSerializer {
     ghost use Rattle.amqp_size.specs.State.{position_at};
     ghost use Rattle.amqp_size.specs.SizeSerializer.{at_position};
 
-    /// Comes to rest where it stands: markers and descriptors are behind it.
+    /// Clears the pending marker and descriptor.
     #[inline(always)]
     pub(crate) fn reset(&mut self)
         ensures { self.new.pending ≡ Plain (without_prefix (position_of self.old.pending)) }
@@ -34,8 +34,16 @@ impl SizeSerializer {
         }
     }
 
-    /// The answer on a writable tree with this constructor and these lengths, by a serializer at
-    /// rest at its position.
+    /// Returns the size, at this position, of a writable tree with this constructor.
+    ///
+    /// `ordinary` is the length outside an array, and `wide` is the length of the payload in an
+    /// array. The serializer must have been reset.
+    ///
+    /// # Errors
+    /// Returns `InvalidValue` if the position does not accept the tree: as an array element with
+    /// another constructor, as a descriptor that is neither a ulong nor a symbol, or as an array
+    /// element after a descriptor. Returns `TooLong` if the length with the descriptors exceeds
+    /// `usize::MAX`.
     #[inline(always)]
     pub(crate) fn accept(
         &mut self,
@@ -57,7 +65,7 @@ impl SizeSerializer {
             Position::Root => Ok(ordinary),
             Position::Inside => Ok(ordinary),
             Position::First => {
-                // The first element leaves its constructor for the array: `end_part` picks it up.
+                // `end_part` reads the constructor of an array's first element from here.
                 self.pending = Pending::Plain(Position::Element(code));
                 Ok(wide)
             }
@@ -73,7 +81,10 @@ impl SizeSerializer {
         }
     }
 
-    /// The answer on a text or a binary with this constructor and length.
+    /// Like `accept`, for a text or a binary of `n` bytes with this constructor.
+    ///
+    /// # Errors
+    /// Also returns `TooLong` if `n` exceeds `LONGEST`.
     #[inline(always)]
     pub(crate) fn text(
         &mut self,
@@ -90,7 +101,7 @@ impl SizeSerializer {
             length (encoding t) ≡ text_width n → length (payload t) ≡ n + 4 →
             at_position (position_at position prefix_len) (Some t) result self.new.pending }
     {
-        // A short text passes no limit: it is looked at once.
+        // A short text is within the limit: one comparison is enough.
         if n <= 254 {
             return self.accept(position, prefix_len, code, text_width(n), n + 4);
         }
@@ -100,8 +111,9 @@ impl SizeSerializer {
         self.accept(position, prefix_len, code, text_width(n), n + 4)
     }
 
-    /// The answer on a lazy tree of so many bytes: it has no constructor, so it is no array's
-    /// element, and it is no descriptor.
+    /// Like `accept`, for a lazy tree of `len` bytes.
+    ///
+    /// A lazy tree has no constructor, so it is neither an array element nor a descriptor.
     #[inline(never)]
     pub(crate) fn lazy(
         &mut self,
@@ -121,7 +133,10 @@ impl SizeSerializer {
         }
     }
 
-    /// The answer on a variant whose payload has this length.
+    /// Like `accept`, for the variant of this index whose value has `size` bytes.
+    ///
+    /// # Errors
+    /// Also returns `TooLong` if the index and the value exceed `LONGEST` bytes.
     #[inline]
     pub(crate) fn variant(
         &mut self,
@@ -154,8 +169,10 @@ impl SizeSerializer {
         )
     }
 
-    /// The answer on a transparent vector whose elements have this length: it stands at the root
-    /// alone.
+    /// Returns the size of a transparent vector whose elements have `sum` bytes.
+    ///
+    /// # Errors
+    /// Returns `InvalidValue` if the position is not the root.
     #[inline(always)]
     pub(crate) fn transparent(
         &mut self,

@@ -1,4 +1,4 @@
-//! The names that users of the crate know for the compounds of the size serializer.
+//! Type aliases for the open compounds of the size serializer.
 
 use crate::serializer::SizeSerializer;
 use amqp_ser::{
@@ -6,23 +6,23 @@ use amqp_ser::{
     SerializeTupleStruct, SerializeTupleVariant,
 };
 
-/// A list that is counted.
+/// A list that is being measured.
 pub type SeqSerializer<'a> = SerializeSeq<'a, SizeSerializer>;
 
-/// A tuple that is counted.
+/// A tuple that is being measured.
 pub type TupleSerializer<'a> = SerializeTuple<'a, SizeSerializer>;
 
-/// A map that is counted.
+/// A map that is being measured.
 pub type MapSerializer<'a> = SerializeMap<'a, SizeSerializer>;
 
-/// A tuple struct that is counted.
+/// A tuple struct that is being measured.
 pub type TupleStructSerializer<'a> = SerializeTupleStruct<'a, SizeSerializer>;
 
-/// A struct that is counted.
+/// A struct that is being measured.
 pub type StructSerializer<'a> = SerializeStruct<'a, SizeSerializer>;
 
-/// A variant of fields without names that is counted.
+/// A variant with unnamed fields that is being measured.
 pub type VariantSerializer<'a> = SerializeTupleVariant<'a, SizeSerializer>;
 
-/// A variant of named fields that is counted.
+/// A variant with named fields that is being measured.
 pub type StructVariantSerializer<'a> = SerializeStructVariant<'a, SizeSerializer>;

@@ -1,4 +1,4 @@
-//! What may be a descriptor, and where a value may stand after one.
+//! The sizes of descriptors and of described values.
 
 ghost use Rattle.std.specs.Prelude.{◌≡◌, ◌+◌, ◌⊎◌, Some, MatchResult, is_some, true, false};
 ghost use Rattle.amqp_ser.specs.Tree.{Tree};
@@ -11,7 +11,10 @@ use crate::position::BasePosition;
 use crate::walk_error::WalkError;
 use amqp_data::EncodingCodes;
 
-/// The answer on a descriptor with this constructor and length: only a ulong or a symbol is one.
+/// Accepts a ulong or a symbol as a descriptor, and returns its length.
+///
+/// # Errors
+/// Returns `InvalidValue` if the constructor is that of another type.
 pub(crate) fn descriptor_len(code: u8, ordinary: usize) -> Result<usize, WalkError>
     ensures { (t : Tree) → constructor t ≡ Some code → MatchResult result
         (λ n. (is_some (descriptor_of (Some t)) ≡ true) × (n ≡ ordinary))
@@ -24,7 +27,11 @@ pub(crate) fn descriptor_len(code: u8, ordinary: usize) -> Result<usize, WalkErr
     }
 }
 
-/// The answer on the value after descriptors, with them.
+/// Returns the length of a described value, its descriptors included.
+///
+/// # Errors
+/// Returns `InvalidValue` if `base` does not accept a described value, and `TooLong` if the length
+/// exceeds `usize::MAX`.
 pub(crate) fn described_len(
     prefix_len: usize,
     base: BasePosition,

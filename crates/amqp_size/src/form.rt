@@ -1,4 +1,4 @@
-//! The forms of values of fixed width: the one table of their codes and widths.
+//! Format codes and widths of the values of fixed width. This is the only table of them.
 
 ghost use Rattle.std.specs.Prelude.{◌≡◌, ◌≤◌, length};
 ghost use Rattle.amqp_ser.specs.Fixed.{fixed_scalar};
@@ -7,17 +7,17 @@ ghost use Rattle.amqp_ser.specs.Scalars.{scalar_code, scalar_form, scalar_payloa
 use amqp_data::EncodingCodes;
 use amqp_ser::Fixed;
 
-/// A code and the lowest bytes of a number after it, the highest first.
+/// A format code and the low bytes of a number, in big-endian order.
 ///
 /// # Encoding
-/// AMQP 1.0 part 1, section 1.2.1: the code's high four bits tell the width.
+/// AMQP 1.0 part 1, section 1.2.1: the high four bits of the code determine the width.
 #[derive(Clone, Copy, Debug)]
 pub struct Form {
     /// The format code, or the constructor in an array.
     pub code: u8,
-    /// How many bytes follow: 0, 1, 2, 4 or 8.
+    /// The number of bytes after the code: 0, 1, 2, 4 or 8.
     pub width: usize,
-    /// The number that has these bytes at its low end.
+    /// The number whose low bytes follow the code.
     pub bits: u64,
 }
 
@@ -33,7 +33,7 @@ impl Form {
         Form { code, width, bits }
     }
 
-    /// The form by itself, the shortest that there is.
+    /// Returns the shortest form, which is used outside an array.
     #[inline(always)]
     pub fn ordinary(fixed: Fixed) -> Form
         ensures bytes { form_bytes result ≡ scalar_form (fixed_scalar fixed) }
@@ -60,7 +60,7 @@ impl Form {
         }
     }
 
-    /// The constructor and the payload of an array's element.
+    /// Returns the constructor and the payload of an array element.
     #[inline(always)]
     pub fn in_array(fixed: Fixed) -> Form
         ensures code { result.code ≡ scalar_code (fixed_scalar fixed) }

@@ -1,8 +1,8 @@
-//! The length of a value's bytes, counted without memory.
+//! Measures the encoding of a value without allocating.
 //!
-//! `serialized_size` succeeds exactly where the value's tree can be written, and gives the length
-//! of what writing gives. `SizeSerializer` is the serializer behind it. The widths of all headers
-//! stand in this crate alone.
+//! `serialized_size` succeeds if and only if the tree of the value is writable, and returns the
+//! length of its encoding. `SizeSerializer` is the serializer that it uses. The lengths of all
+//! headers are computed in this crate only.
 #![tactic(auto)]
 
 mod accept;

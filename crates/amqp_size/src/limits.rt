@@ -1,8 +1,8 @@
-//! The limits of lengths and counts: 32 bits count the bytes after a size, and the count is among
-//! them.
+//! The limits of lengths and counts. A size field has at most 32 bits and counts the bytes after
+//! it, including the count.
 //!
-//! A list, a map and an array are held to them part by part, by `OpenCompound::add_part`; a text and
-//! a binary at once, by `SizeSerializer::text`.
+//! `OpenCompound::add_part` checks a list, a map or an array element by element;
+//! `SizeSerializer::text` checks a text or a binary in one step.
 
 ghost use Rattle.std.specs.Prelude.{◌≡◌, true, false, MatchResult};
 ghost use Rattle.amqp_ser.specs.Limits.{fits};
@@ -15,7 +15,10 @@ pub const LONGEST: usize = 4294967291;
 /// The most elements of an array: 2^32 - 1.
 pub const MOST: usize = 4294967295;
 
-/// A length that is within the limit of texts and bodies.
+/// Returns `n` unchanged.
+///
+/// # Errors
+/// Returns `TooLong` if `n` exceeds `LONGEST`.
 pub(crate) fn within_limit(n: usize) -> Result<usize, Error>
     ensures { MatchResult result (λ same. (fits n ≡ true) × (same ≡ n))
         (λ e. (fits n ≡ false) × (e ≡ Error.TooLong)) }

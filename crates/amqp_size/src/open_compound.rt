@@ -1,4 +1,4 @@
-//! A compound whose parts are still counted.
+//! A compound that is being measured.
 
 ghost use Rattle.std.specs.Prelude.{◌≡◌, ◌<◌, ◌+◌, ◌≤◌, ℕ, Some, true, false, MatchResult, IfOk, IfErr, if◌then◌else◌};
 ghost use Rattle.amqp_size.specs.Position.{limit_of};
@@ -10,14 +10,14 @@ use crate::shape::Shape;
 use crate::walk_error::WalkError;
 use std::marker::Model;
 
-/// A compound whose parts are still counted: how many bytes they have, and where the next one
-/// stands.
+/// A compound that is being measured: the size of its parts so far and the position of the next
+/// one.
 #[derive(Debug, Drop)]
 pub struct OpenCompound {
     position: Position,
     shape: Shape,
     inner: Pending,
-    /// How many bytes stand before the value, where one of the two positions is after descriptors.
+    /// Length of the descriptors before the value, if `position` or `inner` is after a descriptor.
     prefix_len: usize,
     sum: usize,
     before_last: usize,
@@ -50,7 +50,7 @@ impl OpenCompound {
     ghost use Rattle.amqp_size.specs.AddPart.{constructor_len_in, passes_limit, undescribed};
     ghost use Rattle.amqp_size.specs.Position.{position_of, without_prefix, element_constructor, is_array, is_gathered, inner_pending, described_pending};
 
-    /// A compound of this shape, opened there, with no part yet.
+    /// Returns an empty compound of this shape at this position.
     #[inline(always)]
     pub(crate) fn new(pending: Pending, prefix_len: usize, shape: Shape) -> OpenCompound
         ensures position { result.position ≡ position_of (pending_at pending prefix_len) }
@@ -71,7 +71,7 @@ impl OpenCompound {
         }
     }
 
-    /// How many bytes the parts have.
+    /// Returns the total size of the parts so far.
     #[inline(always)]
     pub fn sum(&self) -> usize
         ensures sum { result ≡ self.now.sum }
@@ -80,7 +80,7 @@ impl OpenCompound {
         self.sum
     }
 
-    /// What was opened.
+    /// Returns what the compound is encoded as.
     #[inline(always)]
     pub fn shape(&self) -> Shape
         ensures { result ≡ self.now.shape }
@@ -88,7 +88,7 @@ impl OpenCompound {
         self.shape
     }
 
-    /// The constructor of an array's elements, once there is one.
+    /// Returns the constructor of the array's elements, if there is one yet.
     #[inline(always)]
     pub fn constructor(&self) -> Option<u8>
         ensures { result ≡ element_constructor (position_of self.now.inner) }
@@ -96,7 +96,7 @@ impl OpenCompound {
         self.inner.position().constructor()
     }
 
-    /// Where the compound stands.
+    /// Returns the position of the compound.
     #[inline(always)]
     pub(crate) fn position(&self) -> Position
         ensures { position_at result self.now.prefix_len ≡ self.now.position }
@@ -104,7 +104,8 @@ impl OpenCompound {
         self.position
     }
 
-    /// Where the next part stands; of a single compound that was fed, what comes after it.
+    /// Returns the position of the next part. For a single compound that has its value, this is the
+    /// position after the value.
     #[inline(always)]
     pub(crate) fn inner(&self) -> Pending
         ensures { pending_at result self.now.prefix_len ≡ self.now.inner }
@@ -112,7 +113,8 @@ impl OpenCompound {
         self.inner
     }
 
-    /// How many bytes stand before the value, where one of the two is after descriptors.
+    /// Returns the length of the descriptors before the value, if `position` or `inner` is after a
+    /// descriptor.
     #[inline(always)]
     pub(crate) fn prefix_len(&self) -> usize
         ensures { result ≡ self.now.prefix_len }
@@ -120,7 +122,7 @@ impl OpenCompound {
         self.prefix_len
     }
 
-    /// How many elements an array has.
+    /// Returns the number of elements of an array.
     #[inline(always)]
     pub(crate) fn count(&self) -> usize
         ensures { result ≡ self.now.count }
@@ -128,7 +130,7 @@ impl OpenCompound {
         self.count
     }
 
-    /// Takes the last part back.
+    /// Restores the total size before the last part.
     #[inline(always)]
     pub(crate) fn undo(&mut self)
         ensures sum { self.new.sum ≡ self.old.before_last }
@@ -141,7 +143,11 @@ impl OpenCompound {
         self.sum = self.before_last;
     }
 
-    /// Counts a part of this size, after which the serializer stands there.
+    /// Adds a part of this size. `after` is the position of the serializer after the part.
+    ///
+    /// # Errors
+    /// Returns `TooLong` if a limit is exceeded, and `InvalidValue` for a second value of a single
+    /// compound. The compound is then unchanged.
     #[inline(always)]
     pub(crate) fn add_part(&mut self, size: usize, after: Pending) -> Result<(), WalkError>
         ensures gathered { is_gathered self.old.shape ≡ true → MatchResult result
@@ -181,7 +187,10 @@ impl OpenCompound {
         }
     }
 
-    /// Counts bytes, and a part that stands where the last one did.
+    /// Adds a part of this size and leaves the position of the next part unchanged.
+    ///
+    /// # Errors
+    /// Returns `TooLong` if the total size would exceed `limit`. The compound is then unchanged.
     #[inline(always)]
     fn add(&mut self, size: usize, limit: usize) -> Result<(), WalkError>
         requires enough { self.old.sum ≤ limit }
@@ -204,7 +213,10 @@ impl OpenCompound {
         Ok(())
     }
 
-    /// Counts an element of an array, and the constructor before the first.
+    /// Adds an array element, and the constructor if it is the first element.
+    ///
+    /// # Errors
+    /// Returns `TooLong` if a limit is exceeded. The compound is then unchanged.
     #[inline(always)]
     fn add_element(&mut self, size: usize, after: Pending) -> Result<(), WalkError>
         requires { self.old.shape ≡ Shape.Array }
@@ -226,7 +238,7 @@ impl OpenCompound {
         ensures shape { self.new.shape ≡ self.old.shape }
         ensures small { self.new.sum ≤ limit_of self.new.shape }
     {
-        // The serializer stands at the constructor that the first element left there.
+        // After the first element, `after` contains its constructor.
         let opened = match (self.inner, after) {
             (Pending::Plain(Position::First), Pending::Plain(Position::Element(_))) => 1,
             _ => 0,
@@ -245,7 +257,10 @@ impl OpenCompound {
         Ok(())
     }
 
-    /// Keeps the one value of a single compound, and what comes after it.
+    /// Sets the value of a single compound and the position after it.
+    ///
+    /// # Errors
+    /// Returns `InvalidValue` if the compound has a value. The compound is then unchanged.
     #[inline(always)]
     fn add_single(&mut self, size: usize, after: Pending) -> Result<(), WalkError>
         requires { self.old.shape ≡ Shape.Single }
@@ -267,7 +282,13 @@ impl OpenCompound {
         Ok(())
     }
 
-    /// Counts a descriptor of this size before the value of a single compound.
+    /// Adds a descriptor of this size before the value of a single compound.
+    ///
+    /// Under a marker it succeeds, but no value is accepted afterwards.
+    ///
+    /// # Errors
+    /// Returns `InvalidValue` at the position of a descriptor, and `TooLong` if the length of the
+    /// descriptors exceeds `usize::MAX`. The compound is then unchanged.
     #[inline(always)]
     pub(crate) fn describe(&mut self, size: usize) -> Result<(), WalkError>
         ensures kept { MatchResult result

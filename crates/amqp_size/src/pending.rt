@@ -1,4 +1,4 @@
-//! Where a value stands, and the marker that it stands under.
+//! The position of a value, with the pending marker.
 
 ghost use Rattle.std.specs.Prelude.{◌≡◌, ℕ, Option};
 ghost use Rattle.amqp_ser.specs.Tree.{Tree};
@@ -11,23 +11,23 @@ use crate::scalar_mark::ScalarMark;
 use crate::shape::Shape;
 use amqp_ser::{Kind, Mark};
 
-/// Where a value stands, and the marker that it stands under.
+/// The position of a value, with the pending marker.
 #[derive(Clone, Copy, Debug)]
 pub enum Pending {
-    /// Under no marker.
+    /// No marker.
     Plain(Position),
-    /// Under the marker of arrays.
+    /// The array marker.
     Array(Position),
-    /// Under the marker of transparent vectors.
+    /// The transparent vector marker.
     Transparent(Position),
-    /// Under a scalar's marker.
+    /// A scalar marker.
     Scalar(Position, ScalarMark),
-    /// Under markers that no value satisfies.
+    /// Markers that accept no value.
     Nothing(Position),
 }
 
 impl Pending {
-    /// The position itself.
+    /// Returns the position without the marker.
     #[inline(always)]
     pub fn position(self) -> Position
         ensures { (h : ℕ) → position_at result h ≡ position_of (pending_at self h) }
@@ -41,7 +41,7 @@ impl Pending {
         }
     }
 
-    /// Where a serializer stands after a refusal there.
+    /// Returns the position after an error: without the marker and without descriptors.
     #[inline(always)]
     pub fn without_prefix(self) -> Position
         ensures { (h k : ℕ) →
@@ -50,7 +50,7 @@ impl Pending {
         self.position().without_prefix()
     }
 
-    /// What is opened there.
+    /// Returns what a compound of this kind is encoded as.
     #[inline(always)]
     pub fn shape(self, kind: Kind) -> Shape
         ensures { (h : ℕ) → result ≡ shape_of (pending_at self h) kind }
@@ -71,7 +71,7 @@ impl Pending {
         }
     }
 
-    /// Where the first part of what is opened there stands.
+    /// Returns the position of the first part of a compound of this shape, with the pending marker.
     #[inline(always)]
     pub fn inner(self, shape: Shape) -> Pending
         ensures { (h : ℕ) → pending_at result h ≡ inner_pending shape (pending_at self h) }
@@ -84,7 +84,7 @@ impl Pending {
         }
     }
 
-    /// What a list becomes under a marker.
+    /// Returns what a list is encoded as under this marker.
     #[inline(always)]
     fn marked_list(self) -> Shape
         ensures { (h : ℕ) → result ≡ shape_of (pending_at self h) Kind.List }
@@ -97,7 +97,7 @@ impl Pending {
         }
     }
 
-    /// The position under one marker more.
+    /// Adds a marker.
     #[inline(always)]
     pub fn marked(self, mark: Mark) -> Pending
         ensures meant { (h : ℕ) (t : Option Tree) →

@@ -1,4 +1,4 @@
-//! Where a value stands.
+//! The position of a value.
 
 ghost use Rattle.std.specs.Prelude.{◌≡◌, ◌+◌, ℕ, Some, MatchResult};
 ghost use Rattle.amqp_size.specs.State.{position_at};
@@ -6,7 +6,7 @@ ghost use Rattle.amqp_size.specs.Position.{without_prefix, base_position, takes_
 
 use crate::walk_error::WalkError;
 
-/// Where a described value stands.
+/// The position of a described value.
 #[derive(Clone, Copy, Debug)]
 pub enum BasePosition {
     /// At the root.
@@ -19,7 +19,7 @@ pub enum BasePosition {
     Element(u8),
 }
 
-/// Where a value stands.
+/// The position of a value.
 #[derive(Clone, Copy, Debug)]
 pub enum Position {
     /// At the root.
@@ -30,15 +30,15 @@ pub enum Position {
     First,
     /// An element of an array with this constructor.
     Element(u8),
-    /// Before a described value.
+    /// The descriptor of a described value.
     Descriptor,
-    /// After the code of described values and the descriptors: how many bytes those are stands
-    /// beside the position.
+    /// The value after one or more descriptors. The length of the descriptors, with the code `00`
+    /// before each of them, is stored next to the position.
     Value(BasePosition),
 }
 
 impl BasePosition {
-    /// The position itself.
+    /// Converts the position to a [`Position`].
     #[inline(always)]
     pub fn position(self) -> Position
         ensures { (h : ℕ) → position_at result h ≡ base_position self }
@@ -51,7 +51,7 @@ impl BasePosition {
         }
     }
 
-    /// Whether a described value may stand there: it is no array's element.
+    /// Returns whether a described value is accepted: not as an array element.
     #[inline(always)]
     pub fn takes_described(self) -> bool
         ensures { result ≡ takes_described self }
@@ -61,7 +61,7 @@ impl BasePosition {
 }
 
 impl Position {
-    /// Where a serializer stands between steps and after a refusal.
+    /// Returns the position without descriptors: the position between steps and after an error.
     #[inline(always)]
     pub fn without_prefix(self) -> Position
         ensures { (h k : ℕ) → position_at result k ≡ without_prefix (position_at self h) }
@@ -72,7 +72,10 @@ impl Position {
         }
     }
 
-    /// The position after a descriptor.
+    /// Returns the position after a descriptor.
+    ///
+    /// # Errors
+    /// Returns `InvalidValue` at the position of a descriptor.
     #[inline(always)]
     pub(crate) fn after_descriptor(self) -> Result<Position, WalkError>
         ensures { MatchResult result
@@ -91,7 +94,7 @@ impl Position {
         }
     }
 
-    /// How many bytes stand before a value there, where this many stand after descriptors.
+    /// Returns `prefix_len` after a descriptor, and 0 at any other position.
     #[inline(always)]
     pub(crate) fn prefix_len(self, prefix_len: usize) -> usize
         ensures { result ≡ prefix_len_of (position_at self prefix_len) }
@@ -102,7 +105,7 @@ impl Position {
         }
     }
 
-    /// The constructor of an array's elements, once there is one.
+    /// Returns the constructor of the array's elements, if there is one yet.
     #[inline(always)]
     pub fn constructor(self) -> Option<u8>
         ensures { (h : ℕ) → result ≡ element_constructor (position_at self h) }

@@ -3,18 +3,18 @@
 /// The marker of a scalar.
 #[derive(Clone, Copy, Debug)]
 pub enum ScalarMark {
-    /// A symbol, over a string.
+    /// A symbol, serialized as a string.
     Symbol,
-    /// A timestamp, over a long.
+    /// A timestamp, serialized as a long.
     Timestamp,
-    /// A decimal32, over a binary of 4 bytes.
+    /// A decimal32, serialized as a binary of 4 bytes.
     Decimal32,
-    /// A decimal64, over a binary of 8 bytes.
+    /// A decimal64, serialized as a binary of 8 bytes.
     Decimal64,
-    /// A decimal128, over a binary of 16 bytes.
+    /// A decimal128, serialized as a binary of 16 bytes.
     Decimal128,
-    /// A uuid, over a binary of 16 bytes.
+    /// A uuid, serialized as a binary of 16 bytes.
     Uuid,
-    /// A lazy value, over a binary that is one encoded value.
+    /// A lazy value, serialized as a binary that contains one encoded value.
     Lazy,
 }

@@ -1,4 +1,4 @@
-//! The serializer that counts, and the length of a value's bytes.
+//! The serializer that measures values, and `serialized_size`.
 
 ghost use Rattle.std.specs.Prelude.{◌≡◌, ◌+◌, ◌≤◌, ◌++◌, ◌∷◌, ◌&&◌, ◌⊎◌, [], List, Option, Some, None, Result, Ok, Err, MatchResult, IfOk, IfErr, IsErr, is_some, true, false, length, ℕ};
 ghost use Rattle.amqp_ser.specs.Tree.{Tree};
@@ -20,23 +20,24 @@ use amqp_frame::is_frame;
 use amqp_ser::{Fixed, Kind, Mark, Serialize, Serializer};
 use std::marker::Model;
 
-/// Counts the bytes of values; it is fresh after each call, refused ones too.
+/// A serializer that counts the bytes of encodings. It can be used again after each call, also
+/// after a call that failed.
 ///
 /// # Errors
-/// Its calls refuse by [`WalkError`], of one byte, which `?` turns into `Error`; never as out of
-/// memory.
-///
-/// # Example
-/// One serializer counts the array of the ubytes 1 and 2 as 6, and then their list as 7.
+/// Methods return a [`WalkError`] of one byte, which `?` converts to `Error`. It is never
+/// `OutOfMemory`.
 ///
 /// # Memory
-/// Takes none.
+/// None.
+///
+/// # Example
+/// One serializer measures the array of the ubytes 1 and 2 as 6 bytes, and then their list as 7.
 #[derive(Debug, Drop)]
 pub struct SizeSerializer {
-    /// Where the next value stands. An array's first element leaves its constructor here
-    /// (`accept`), and the array picks it up (`end_part`): no answer carries it.
+    /// Position of the next value. `accept` stores the constructor of an array's first element
+    /// here, and `end_part` reads it; the returned size does not contain it.
     pub(crate) pending: Pending,
-    /// How many bytes stand before the value, where it is after descriptors.
+    /// Length of the descriptors before the value, if it is after a descriptor.
     pub(crate) prefix_len: usize,
 }
 
@@ -49,7 +50,7 @@ impl Model for SizeSerializer {
 }
 
 impl SizeSerializer {
-    /// A serializer at the root.
+    /// Creates a serializer at the root.
     #[inline(always)]
     pub fn new() -> SizeSerializer
         ensures { result.pending ≡ Plain whole_position.Root }
@@ -296,7 +297,7 @@ impl Serializer for SizeSerializer {
         ensures one_alone { held.old.shape ≡ Shape.Single → 1 ≤ held.old.count →
             IfOk part (λ _. result ≡ Err InvalidValue) }
     {
-        // Picks up what the part left: an array's first element its constructor, in `accept`.
+        // `accept` has stored the constructor of an array's first element in `pending`.
         let after = self.pending;
         self.pending = Pending::Plain(held.position().without_prefix());
         let size = part?;
@@ -394,7 +395,7 @@ impl Serializer for SizeSerializer {
             ),
             Shape::Transparent => self.transparent(position, prefix_len, sum),
             Shape::Single => {
-                // What the one value left goes on to the compound around this one.
+                // The enclosing compound reads the position after the value from `pending`.
                 self.pending = held.inner();
                 self.prefix_len = prefix_len;
                 Ok(sum)
@@ -404,14 +405,15 @@ impl Serializer for SizeSerializer {
     }
 }
 
-/// The length of the value's bytes, exactly where its tree can be written.
+/// Returns the length of the encoding of `value`. It succeeds if and only if the tree of the value
+/// is writable.
 ///
 /// # Errors
-/// `TooLong` only where a limit is passed, `InvalidValue` only where the tree cannot be written for
-/// another cause; one of them where the value has no tree.
+/// Returns `TooLong` only if a limit is exceeded, and `InvalidValue` only if the tree is not
+/// writable for another reason. Returns one of them if the value has no tree.
 ///
 /// # Memory
-/// Takes none.
+/// None.
 ///
 /// # Example
 /// The list of the strings `a` and `bc` has the length 10: `c00802a10161a1026263`.

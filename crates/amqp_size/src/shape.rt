@@ -1,22 +1,22 @@
-//! What a compound becomes where it stands.
+//! What an open compound is encoded as.
 
-/// What a compound becomes where it stands.
+/// What an open compound is encoded as.
 #[derive(Clone, Copy, Debug)]
 pub enum Shape {
     /// A list.
     List,
     /// A map.
     Map,
-    /// The variant of this index and the list of its fields.
+    /// The variant of this index with a list of fields.
     Variant(u32),
-    /// The variant of this index and its one value.
+    /// The variant of this index with one value.
     NewtypeVariant(u32),
     /// An array.
     Array,
-    /// The elements one after another.
+    /// The elements one after another, without a header.
     Transparent,
-    /// One value that stands for itself.
+    /// One value, encoded as itself.
     Single,
-    /// A compound that its marker does not take.
+    /// A compound that the pending marker does not accept.
     Refused,
 }

@@ -1,20 +1,20 @@
-//! Why a walk over a value refuses it.
+//! Why a pass over a value fails.
 
 ghost use Rattle.std.specs.Prelude.{◌≡◌};
 ghost use Rattle.amqp_size.specs.Refused.{error_of};
 
 use amqp_data::Error;
 
-/// Why a walk over a value refuses it: one byte, so that an answer is not as large as an error with
-/// a text.
+/// Why a pass over a value fails. It has one byte, so that a result is smaller than an error with a
+/// text.
 #[derive(Clone, Copy, Debug, PartialEq, Eq)]
 pub enum WalkError {
-    /// A growth of memory was refused.
+    /// An allocation failed.
     OutOfMemory,
-    /// A length or a count is past its limit.
+    /// A length or a count exceeds its limit.
     TooLong,
-    /// A value of the wrong kind, a tree that cannot be written for another cause than a limit, or
-    /// a misuse of a compound.
+    /// A value of the wrong kind, a tree that is not writable for another reason than a limit, or
+    /// misuse of a compound.
     InvalidValue,
 }
 

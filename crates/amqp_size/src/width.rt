@@ -1,6 +1,7 @@
 //! The lengths of texts, lists, maps and arrays: the arithmetic of all headers.
 //!
-//! The public calls answer for lengths and counts of any size, and refuse past the limits.
+//! `text_len`, `list_len`, `map_len` and `array_len` accept lengths and counts of any size, and
+//! return an error above the limits.
 
 ghost use Rattle.std.specs.Prelude.{◌≡◌, ◌≤◌, ◌&&◌, ℕ, List, length, true, false, MatchResult, IfOk};
 ghost use Rattle.amqp_ser.specs.Limits.{fits, is_count};
@@ -10,7 +11,7 @@ use crate::limits::within_limit;
 pub use crate::limits::{LONGEST, MOST};
 use amqp_data::Error;
 
-/// The length of a uint by itself.
+/// Returns the length of a uint outside an array.
 pub fn uint_width(n: u32) -> usize
     ensures { result ≡ uint_width n }
 {
@@ -23,7 +24,7 @@ pub fn uint_width(n: u32) -> usize
     }
 }
 
-/// The length of a text or a binary of n bytes.
+/// Returns the length of a text or a binary of `n` bytes outside an array.
 pub(crate) fn text_width(n: usize) -> usize
     requires { n ≤ 4294967291 }
     ensures { result ≡ text_width n }
@@ -31,7 +32,7 @@ pub(crate) fn text_width(n: usize) -> usize
     if n <= 254 { n + 2 } else { n + 5 }
 }
 
-/// The length of a map whose body has n bytes.
+/// Returns the length of a map whose body has `n` bytes.
 pub(crate) fn map_width(n: usize) -> usize
     requires { n ≤ 4294967291 }
     ensures { result ≡ map_width n }
@@ -39,7 +40,7 @@ pub(crate) fn map_width(n: usize) -> usize
     if n <= 254 { n + 3 } else { n + 9 }
 }
 
-/// The length of a list whose body has n bytes.
+/// Returns the length of a list whose body has `n` bytes.
 pub fn list_width(n: usize) -> usize
     requires { n ≤ 4294967291 }
     ensures { result ≡ list_width n }
@@ -47,7 +48,7 @@ pub fn list_width(n: usize) -> usize
     if n == 0 { 1 } else { map_width(n) }
 }
 
-/// The length of an array of this content and this many elements.
+/// Returns the length of an array of `count` elements whose content has `n` bytes.
 pub(crate) fn array_width(n: usize, count: usize) -> usize
     requires { n ≤ 4294967291 }
     ensures { result ≡ array_width n count }
@@ -59,17 +60,18 @@ pub(crate) fn array_width(n: usize, count: usize) -> usize
     }
 }
 
-/// The length of a text, a symbol or a binary of this many bytes: the whole form, or the payload in
-/// an array.
+/// Returns the length of a text, a symbol or a binary of this many bytes: the complete form, or the
+/// payload in an array.
 ///
 /// # Errors
-/// `TooLong` exactly where that is past 4,294,967,291.
+/// Returns `TooLong` if and only if `text` exceeds 4,294,967,291.
 ///
 /// # Memory
-/// Takes none.
+/// None.
 ///
 /// # Example
-/// 254 bytes have the length 256, 255 bytes 260; in an array none have 4.
+/// 254 bytes have the length 256, and 255 bytes the length 260. No bytes in an array have the
+/// length 4.
 pub fn text_len(text: usize, in_array: bool) -> Result<usize, Error>
     ensures limit { MatchResult result (λ _. fits text ≡ true)
         (λ e. (fits text ≡ false) × (e ≡ Error.TooLong)) }
@@ -80,17 +82,18 @@ pub fn text_len(text: usize, in_array: bool) -> Result<usize, Error>
     Ok(if in_array { n + 4 } else { text_width(n) })
 }
 
-/// The length of a list whose elements have this many bytes together: the whole form, or the
-/// payload in an array.
+/// Returns the length of a list whose elements have this many bytes together: the complete form, or
+/// the payload in an array.
 ///
 /// # Errors
-/// `TooLong` exactly where that is past 4,294,967,291.
+/// Returns `TooLong` if and only if `elements` exceeds 4,294,967,291.
 ///
 /// # Memory
-/// Takes none.
+/// None.
 ///
 /// # Example
-/// No bytes have the length 1, 254 bytes 257, 255 bytes 264; in an array no bytes have 8.
+/// No bytes have the length 1, 254 bytes the length 257, and 255 bytes the length 264. No bytes in
+/// an array have the length 8.
 pub fn list_len(elements: usize, in_array: bool) -> Result<usize, Error>
     ensures limit { MatchResult result (λ _. fits elements ≡ true)
         (λ e. (fits elements ≡ false) × (e ≡ Error.TooLong)) }
@@ -101,17 +104,18 @@ pub fn list_len(elements: usize, in_array: bool) -> Result<usize, Error>
     Ok(if in_array { n + 8 } else { list_width(n) })
 }
 
-/// The length of a map whose keys and values have this many bytes together: the whole form, or the
-/// payload in an array.
+/// Returns the length of a map whose keys and values have this many bytes together: the complete
+/// form, or the payload in an array.
 ///
 /// # Errors
-/// `TooLong` exactly where that is past 4,294,967,291.
+/// Returns `TooLong` if and only if `entries` exceeds 4,294,967,291.
 ///
 /// # Memory
-/// Takes none.
+/// None.
 ///
 /// # Example
-/// No bytes have the length 3, 254 bytes 257, 255 bytes 264; in an array no bytes have 8.
+/// No bytes have the length 3, 254 bytes the length 257, and 255 bytes the length 264. No bytes in
+/// an array have the length 8.
 pub fn map_len(entries: usize, in_array: bool) -> Result<usize, Error>
     ensures limit { MatchResult result (λ _. fits entries ≡ true)
         (λ e. (fits entries ≡ false) × (e ≡ Error.TooLong)) }
@@ -122,18 +126,19 @@ pub fn map_len(entries: usize, in_array: bool) -> Result<usize, Error>
     Ok(if in_array { n + 8 } else { map_width(n) })
 }
 
-/// The length of an array whose content, the constructor among it, has this many bytes: the whole
-/// form, or the payload in an array.
+/// Returns the length of an array whose content, including the constructor, has this many bytes:
+/// the complete form, or the payload in an array.
 ///
 /// # Errors
-/// `TooLong` exactly where that is past 4,294,967,291 or the count past 4,294,967,295.
+/// Returns `TooLong` if and only if `content` exceeds 4,294,967,291 or `count` exceeds
+/// 4,294,967,295.
 ///
 /// # Memory
-/// Takes none.
+/// None.
 ///
 /// # Example
-/// One byte and 255 elements have the length 4, one byte and 256 elements 10; in an array no
-/// element has 8.
+/// One byte and 255 elements have the length 4, one byte and 256 elements the length 10. No content
+/// and no elements in an array have the length 8.
 pub fn array_len(content: usize, count: usize, in_array: bool) -> Result<usize, Error>
     ensures limit { MatchResult result (λ _. (fits content && is_count count) ≡ true)
         (λ e. ((fits content && is_count count) ≡ false) × (e ≡ Error.TooLong)) }

@@ -1,4 +1,4 @@
--- A binary has no header in the table, whatever its marker makes of it.
+-- A binary has no header in the table, under any marker.
 use Rattle.std.proofs.Common.{◌≡◌, ℕ, List, [], Some, None, Bool, true, false, inr, Result, Ok, Err, length, nat_eq, refl, sym, ◌∙◌, subst, append-nil, if◌then◌else◌}
 use Rattle.amqp_frame.specs.Whole.{is_frame}
 use Rattle.amqp_frame.proofs.Whole.{some_byte_passes}

@@ -1,4 +1,4 @@
--- A compound's bytes: its head and those of its parts.
+-- The bytes of a compound: its header, then those of its parts.
 use Rattle.std.proofs.Common.{◌≡◌, ℕ, ◌+◌, ◌*◌, ◌≤◌, List, [], ◌∷◌, ◌++◌, Option, Some, None, Bool, true, false, ◌&&◌, length, refl, ap, sym, ◌∙◌, subst, arith, append_assoc, append-nil, nat_le, nat_eq, if◌then◌else◌}
 use Rattle.std.proofs.lemmas.Bool.Decides.{nat_tests}
 use Rattle.std.specs.Int.{w32, to_be_bytes}
@@ -43,7 +43,7 @@ few_when_short : (n m : ℕ) (b : Bool) → is_short n ≡ b → (is_short n ≡
 few_when_short n m true e h = le_true m 255 (h e)
 few_when_short n m false e h = refl
 
--- the short form where there are few parts
+-- A body of few parts has the short form.
 counted_is : (c8 c32 n : ℕ) (body : List ℕ) → (is_short (length body) ≡ true → n ≤ 255) → counted c8 c32 n body ≡ counted_header c8 c32 (length body) n ++ body
 counted_is c8 c32 n body h =
     let short = c8 ∷ (length body + 1) ∷ n ∷ [] in

@@ -1,4 +1,4 @@
--- A compound's headers and those of its parts.
+-- The headers of a compound and of its parts.
 use Rattle.std.proofs.Common.{◌≡◌, ℕ, false, ◌*◌, [], ◌∷◌, ◌++◌, Option, Some, None, ◌&&◌, length, refl, ap, sym, ◌∙◌, subst, arith, append_assoc, append-nil}
 use Rattle.amqp_ser.specs.Tree.{Tree, Trees, Pairs, uint, list, array, map, variant, transparent, no_trees, more, no_pairs, pair, count, pair_count}
 use Rattle.amqp_ser.specs.Scalars.{scalar_form}
@@ -19,7 +19,7 @@ use Rattle.amqp_wire.specs.Dense.{is_opaque, dense, dense_each, dense_pairs}
 use Rattle.amqp_wire.specs.Positions.{is_single}
 use Rattle.amqp_wire.proofs.Positions.{is_not}
 
--- keys and values in turn, as trees and as pairs
+-- Keys and values, alternately: as trees and as entries.
 pub record Paired (ts : Trees) (prs : Pairs) : Type 0 where
   pub bytes : encoding_pairs prs ≡ encoding_each ts
   pub counted : pair_count prs * 2 ≡ count ts
@@ -67,7 +67,7 @@ only_entries i (more u no_trees) t h =
     ∙ ap (λ es. header (length (scalar_form (uint i) ++ (encoding u ++ []))) 2 None ∷ es) (sym (append-nil (headers_of u))))
 only_entries i (more u (more v ts)) t h = cc
 
--- the table of the whole is that of its heads and that of its parts
+-- The table of a compound is its own headers, then those of its parts.
 pub split : (u : Pending) (k : Kind) (ts : Trees) (t : Tree) → is_single k ≡ false → meant u (as_kind k (Some ts)) ≡ Some t → headers_of t ≡ compound_headers (shape_of u k) ts ++ headers_of_each ts
 split u kinds.Single ts t b h = cc
 split (pending.Plain p) kinds.List ts t b h = let q : list ts ≡ t = cc in subst (λ x. headers_of x ≡ compound_headers shape.List ts ++ headers_of_each ts) q refl

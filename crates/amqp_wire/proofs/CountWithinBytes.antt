@@ -1,4 +1,5 @@
--- Each part of a compound has at least a byte where none is transparent, so its parts are no more than its bytes.
+-- Each part of a compound without transparent parts has at least one byte. Therefore the compound
+-- has no more parts than bytes.
 use Rattle.std.proofs.Common.{◌≡◌, ℕ, ◌+◌, ◌*◌, ◌≤◌, List, [], ◌∷◌, ◌++◌, Bool, true, false, ◌&&◌, length, arith, length-append, nat_le, nat_lt, nat_eq, if◌then◌else◌}
 use Rattle.std.specs.Int.{w8, w32, w64, to_be_bytes}
 use Rattle.amqp_ser.specs.Tree.{Scalar, null, bool, ubyte, ushort, uint, ulong, byte, short, int, long, float, double, decimal32, decimal64, decimal128, char, timestamp, uuid, binary, string, symbol, Tree, Trees, scalar, list, array, map, described, variant, lazy, transparent, no_trees, more, count, pair_count}

@@ -1,4 +1,4 @@
--- The bytes of a described value: its code and its descriptor before it.
+-- The bytes of a described value: its format code and its descriptor before the value.
 use Rattle.std.proofs.Common.{◌≡◌, ◌+◌, ◌≤◌, [], ◌∷◌, ◌++◌, Option, Some, None, true, false, ◌&&◌, Result, Ok, Err, is_some, length, refl, ap, sym, ◌∙◌, subst, arith, append_assoc, length-append, drop}
 use Rattle.std.specs.Vec.{vec_capacity}
 use Rattle.amqp_size.specs.declared.walk_error.WalkError.{WalkError}
@@ -42,18 +42,18 @@ descriptor_dense (variant i t) h = absurd (no_false h)
 descriptor_dense (lazy bs) h = absurd (no_false h)
 descriptor_dense (transparent ts) h = absurd (no_false h)
 
--- the bytes there are the tree's own
+-- Outside an array, the bytes are the encoding of the tree.
 own_bytes : (p : Position) (t : Tree) → is_element p ≡ false → bytes_at (is_element p) t ≡ encoding t
 own_bytes p t h = ap (λ a. bytes_at a t) h
 
--- where a described value fits, there is room for its code
+-- If a described value fits, there is capacity for its format code.
 described_room : (p : Position) (s : Output) (x : Descriptor) (v : Tree) → is_element p ≡ false → FitsOutput p s (described x v) → length s.out.items + 1 ≤ vec_capacity s.out
 described_room p s x v b m =
     let r = m.room in
     let own : length (bytes_at (is_element p) (described x v)) ≡ length (0x00 ∷ (descriptor_form x ++ encoding v)) = ap length (own_bytes p (described x v) b) in
     omega arith
 
--- the table and the room of a described value are also its descriptor's
+-- The table and the capacity of a described value suffice for its descriptor.
 descriptor_meets : (p : Position) (start before : Output) (x : Descriptor) (t v : Tree) → is_element p ≡ false → Kept start before → before.out.items ≡ start.out.items ++ (0x00 ∷ []) → before.taken ≡ start.taken → descriptor_of (Some t) ≡ Some x → FitsOutput p start (described x v) → FitsOutput position.Descriptor before t
 descriptor_meets p start before x t v b k out taken o m =
     let f = of_tree t x o in
@@ -72,7 +72,7 @@ descriptor_meets p start before x t v b k out taken o m =
           let w : length (descriptor_form x ++ encoding v) ≡ length (descriptor_form x) + length (encoding v) = length-append (descriptor_form x) (encoding v) in omega arith;
     }
 
--- after the descriptor they are the value's
+-- After the descriptor they are those of the value.
 value_meets : (p q : Position) (start mid : Output) (x : Descriptor) (v : Tree) → Behind p q → Kept start mid → mid.out.items ≡ start.out.items ++ (0x00 ∷ descriptor_form x) → mid.taken ≡ start.taken → FitsOutput p start (described x v) → FitsOutput q mid v
 value_meets p q start mid x v b k out taken m =
     let f = b.fits x v m.dense_it in
@@ -90,11 +90,12 @@ value_meets p q start mid x v b k out taken m =
           let w : length (descriptor_form x ++ encoding v) ≡ length (descriptor_form x) + length (encoding v) = length-append (descriptor_form x) (encoding v) in omega arith;
     }
 
--- the code and the descriptor stand before the value, where this is the described value's position
+-- The format code and the descriptor are written before the value, at the position of the described
+-- value.
 abbrev stands_headed : Position → Output → Output → Descriptor → Type 0
 stands_headed p start mid x = (v : Tree) → FitsOutput p start (described x v) → (mid.out.items ≡ start.out.items ++ (0x00 ∷ descriptor_form x)) × (mid.taken ≡ start.taken)
 
--- a value after its descriptor is the described value
+-- A value written after its descriptor is the described value.
 described_wrote : (p q : Position) (start mid after : Output) (x : Descriptor) (o : Option Tree) → Behind p q → Kept start mid → stands_headed p start mid x → wrote q mid o after → wrote p start (as_described (Some x) o) after
 described_wrote p q start mid after x None b k f h = h
 described_wrote p q start mid after x (Some v) b k f h = λ m.
@@ -126,7 +127,7 @@ described_permits start mid x e k f o (Ok u) after p =
 described_permits start mid x e k f o (Err v) after p =
     (kept-more start.output mid.output after.output k p.0, (described_accepts start.pending mid.pending x e o (Err v) after.pending p.1.0, tt))
 
--- what stands before the value, once the descriptor is written
+-- What is written before the value, after the descriptor.
 head_written : (p : Position) (start before mid : Output) (x : Descriptor) (t : Tree) → ((v : Tree) → dense_at p (described x v) ≡ true → is_element p ≡ false) → Kept start before →
     (length start.out.items + 1 ≤ vec_capacity start.out → (before.out.items ≡ start.out.items ++ (0x00 ∷ [])) × (before.taken ≡ start.taken)) → descriptor_of (Some t) ≡ Some x → (FitsOutput position.Descriptor before t → Written position.Descriptor before t mid) → stands_headed p start mid x
 head_written p start before mid x t own k header_bytes o f v m =
@@ -151,13 +152,13 @@ own_there u w x v e = go (position_of u)
     go position.Descriptor h = refl
     go (position.Value n b) h = refl
 
--- what is taken as a descriptor is one
+-- A tree that is accepted as a descriptor is one.
 one_taken : (d : Option Tree) (after : Pending) (o : Option Descriptor) → descriptor_of d ≡ o → takes position.Descriptor d after → (x : Descriptor) × ((o ≡ Some x) × ((t : Tree) × (d ≡ Some t)))
 one_taken None after o q h = absurd h
 one_taken (Some t) after None q h = absurd (no_false (sym (ap is_some q) ∙ h.suited))
 one_taken (Some t) after (Some x) q h = (x, (refl, (t, refl)))
 
--- the value to come is described
+-- The next value is described.
 pub value_described : (start before now : Writer) (held new : WriterCompound) (d : Option Tree) (part : Result (Unit {0}) WalkError) → AwaitsDescriptor start before held → writer_permits before d part now → part ≡ Ok tt →
     after_descriptor held.inner ≡ Some new.inner → new.position ≡ held.position → new.shape ≡ held.shape →
     (mid : Writer) × (writer_has mid kinds.Single (record { pending = pending.Plain (without_prefix held.position); output = now.output }) new [] × ((t : Option Tree) (r : Result (Unit {0}) WalkError) (after : Writer) → writer_permits mid t r after → writer_permits start (as_described (descriptor_of d) t) r after))
@@ -181,7 +182,7 @@ value_described start before now held new d part w p e to same is =
       ),
     )
 
--- a refused descriptor: the refusal is one of the described value
+-- The error of a descriptor is permitted for the described value.
 refused_pending : (start before : Writer) (held : WriterCompound) (d : Option Tree) (e : WalkError) (after : Pending) → AwaitsDescriptor start before held → at_position position.Descriptor d (Err e) after → (o : Option Descriptor) → descriptor_of d ≡ o → (t : Option Tree) →
     at_position (position_of start.pending) (meant start.pending (as_described o t)) (Err e) (pending.Plain (without_prefix (position_of start.pending)))
 refused_pending start before held d e after w h None q t =
@@ -195,7 +196,7 @@ described_refused start before cut held d part e after w is h k t =
     let here = subst (λ u. at_position (position_of u) (meant u d) (Err e) after) w.at (subst (λ r. accepts (position_of before.pending) (meant before.pending d) r after) is h) in
     (k, (subst (λ q. at_position (position_of start.pending) (meant start.pending (as_described (descriptor_of d) t)) (Err e) (pending.Plain q)) (sym w.position) (refused_pending start before held d e after w here (descriptor_of d) refl t), tt))
 
--- a described value is no descriptor
+-- A described value is not a descriptor.
 pub nested_refused : (start before : Writer) (cut : Output) (held : WriterCompound) (d : Option Tree) (part : Result (Unit {0}) WalkError) (after : Pending) (e : WalkError) → AwaitsDescriptor start before held → part ≡ Ok tt → accepts (position_of before.pending) (meant before.pending d) part after → held.inner ≡ pending.Plain position.Descriptor → e ≡ error.InvalidValue → Kept start.output cut →
     (t : Option Tree) → writer_permits start (as_described (descriptor_of d) t) (Err e) (record { pending = pending.Plain (without_prefix held.position); output = cut })
 nested_refused start before cut held d part after e w is h at q k t =
@@ -211,7 +212,7 @@ nested_refused start before cut held d part after e w is h at q k t =
       ),
     )
 
--- a compound with no part yet is ready for a descriptor
+-- A compound without parts is ready for a descriptor.
 pub ready : (start s : Writer) (held new : WriterCompound) → WrittenSingle start s.output held [] → new.position ≡ held.position → new.inner ≡ held.inner → new.shape ≡ held.shape → stands_at new s.output → (after : Writer) → Kept s.output after.output → after.pending ≡ pending.Plain position.Descriptor →
     (length s.output.out.items + 1 ≤ vec_capacity s.output.out → (after.output.out.items ≡ s.output.out.items ++ (0x00 ∷ [])) × (after.output.taken ≡ s.output.taken)) → AwaitsDescriptor start after new
 ready start s held new h same inner is at after k d f =

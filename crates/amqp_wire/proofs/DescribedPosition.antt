@@ -1,4 +1,5 @@
--- Where the value after a descriptor stands: what is answered there is an answer on the described value.
+-- The position of the value after a descriptor. A result that is permitted there is permitted for
+-- the described value.
 use Rattle.std.proofs.Common.{◌≡◌, ℕ, ◌+◌, ◌<◌, inl, inr, Option, Some, None, true, false, ◌&&◌, Result, Ok, Err, length, is_some, refl, ap, sym, ◌∙◌, subst, arith}
 use Rattle.amqp_size.specs.declared.walk_error.WalkError.{WalkError}
 use Rattle.amqp_size.specs.declared.walk_error.WalkError.TheVariants as error
@@ -32,7 +33,7 @@ some_position p q h = cc
 some_pending : (u v : Pending) → Some u ≡ Some v → u ≡ v
 some_pending u v h = cc
 
--- a value too long behind so many bytes, behind a descriptor too
+-- A value that is too long after `h` bytes is also too long after a descriptor.
 longer : (h : ℕ) (x : Descriptor) (t : Tree) → is_length (h + length (encoding t)) ≡ false → is_length (h + length (encoding (described x t))) ≡ false
 longer h x t a =
     let len = length-described x t (length (descriptor_form x)) refl in
@@ -58,7 +59,7 @@ long_after n x t h = elim (one_false (is_length (n + length (encoding t))) (with
       (right_false (is_length (length (encoding (described x t)))) (descriptor_fits x && within_limits t) (right_false (descriptor_fits x) (within_limits t) b))
 ]
 
--- what that position asks of the value
+-- The position `q` after a descriptor accepts the values whose described values `p` accepts.
 pub record Behind (p q : Position) : Type 0 where
   pub without_prefix_is : without_prefix q ≡ without_prefix p
   pub own : is_element q ≡ false
@@ -82,7 +83,7 @@ plain_behind p w e = go (after_descriptor_at p) refl e
     go None a h = absurd (no_some w h)
     go (Some q) a h = (q, (a, some_pending (pending.Plain q) w h))
 
--- the writer comes back to the position of the described value
+-- After the value, the writer is at the position of the described value.
 pub behind_without_prefix : (u w : Pending) → after_descriptor u ≡ Some w → without_prefix (position_of w) ≡ without_prefix (position_of u)
 behind_without_prefix (pending.Plain p) w e = let q = plain_behind p w e in ap (λ v. without_prefix (position_of v)) (sym q.1.1) ∙ (behind p q.0 q.1.0).without_prefix_is
 behind_without_prefix (pending.Array p) w e = ap (λ v. without_prefix (position_of v)) (sym (some_pending _ w e))
@@ -101,7 +102,8 @@ value_accepts p q x (Some t) (Ok u) after b h = record { uniform_arrays_it = h.u
 value_accepts p q x None (Err e) after b h = (h.0, h.1 ∙ ap pending.Plain b.without_prefix_is)
 value_accepts p q x (Some t) (Err e) after b h = (value_refused p q x t e b h.0, h.1 ∙ ap pending.Plain b.without_prefix_is)
 
--- what is answered on a value is an answer on the described one, whatever is written
+-- A result that is permitted for the value is permitted for the described value, whatever is
+-- written.
 pub described_accepts : (u w : Pending) (x : Descriptor) → after_descriptor u ≡ Some w → (t : Option Tree) (r : Result (Unit {0}) WalkError) (after : Pending) → accepts (position_of w) (meant w t) r after → accepts (position_of u) (meant u (as_described (Some x) t)) r after
 described_accepts (pending.Plain p) w x e t r after h =
     let q = plain_behind p w e in
@@ -114,7 +116,7 @@ described_accepts (pending.Scalar m p) w x e t r after h =
     subst (λ o. accepts p o r after) (sym (no_scalar_described m x t)) (subst (λ v. accepts (position_of v) (meant v t) r after) (sym (some_pending (pending.Nothing p) w e)) h)
 described_accepts (pending.Nothing p) w x e t r after h = subst (λ v. accepts (position_of v) (meant v t) r after) (sym (some_pending (pending.Nothing p) w e)) h
 
--- a described value with a refused descriptor
+-- An error of the descriptor is permitted for the described value.
 refused_behind : (p : Position) (y : Descriptor) (d v : Tree) (e : WalkError) → descriptor_of (Some d) ≡ Some y → refused position.Descriptor d e → refused p (described y v) e
 refused_behind p y d v error.TooLong q h =
     long_at p (described y v) (right_false (is_length (length (encoding (described y v)))) (descriptor_fits y && within_limits v) (left_false (descriptor_fits y) (within_limits v) (sym (of_tree d y q).0 ∙ h)))

@@ -1,4 +1,4 @@
--- A descriptor takes no slot in the table, and neither does the described value itself.
+-- A descriptor has no slot in the table, and a described value has only those of its value.
 use Rattle.std.proofs.Common.{◌≡◌, ℕ, ◌+◌, inl, inr, List, [], ◌++◌, Option, Some, None, true, Result, Ok, Err, is_some, refl, ap, sym, ◌∙◌, subst, append-nil}
 use Rattle.std.specs.Prelude.{IfErr, IfOk}
 use Rattle.amqp_size.specs.declared.walk_error.WalkError.{WalkError}
@@ -39,7 +39,7 @@ descriptor_entries (variant i t) h = absurd (no_false h)
 descriptor_entries (lazy bs) h = absurd (no_false h)
 descriptor_entries (transparent ts) h = absurd (no_false h)
 
--- a descriptor that was counted is one, and left the table as it was
+-- A tree that is measured at the position of a descriptor is one, and leaves the table unchanged.
 pub counted_alone : (d : Option Tree) (n : ℕ) (after : Pending) (b a : List Header) → at_position position.Descriptor d (Ok n) after → listed d b a → ((x : Descriptor) × (descriptor_of d ≡ Some x)) × (a ≡ b)
 counted_alone None n after b a h l = absurd h
 counted_alone (Some t) n after b a h l =
@@ -60,7 +60,7 @@ of_value p x (Some t) m after b a k h = (h.0, both (is_opaque t) (dense t) (insi
 none_listed : (v : Pending) (p : Position) (t : Option Tree) (b a : List Header) → Some (pending.Nothing p) ≡ Some v → listed (meant v t) b a → ⊥
 none_listed v p t b a e h = let q : pending.Nothing p ≡ v = cc in subst (λ w. listed (meant w t) b a) (sym q) h
 
--- a described value has the headers of the value
+-- A described value has the headers of its value.
 pub described_listed : (u v : Pending) (n : ℕ) (x : Descriptor) (t : Option Tree) (l : ℕ) (after : Pending) (b a : List Header) → described_pending u n ≡ Some v → at_position (position_of u) (meant u (as_described (Some x) t)) (Ok l) after → listed (meant v t) b a → listed (meant u (as_described (Some x) t)) b a
 described_listed (pending.Plain p) v n x t l after b a e k h =
     let q = plain_position p v n e in
@@ -70,7 +70,7 @@ described_listed (pending.Transparent p) v n x t l after b a e k h = absurd (non
 described_listed (pending.Scalar m p) v n x t l after b a e k h = absurd (none_listed v p t b a e h)
 described_listed (pending.Nothing p) v n x t l after b a e k h = absurd (none_listed v p t b a e h)
 
--- the value to come is described
+-- The next value is described.
 pub described_value : (start before self after : Measurer) (held new : MeasurerCompound) (d : Option Tree) (part : Result ℕ WalkError) (res : Result (Unit {0}) WalkError) (u : Unit {0}) (X : WalkError → Type 0) →
     HoldsSingle start.size kinds.Single held.size [] → before.size.pending ≡ pending.Plain position.Descriptor → before.table.headers.items ≡ start.table.headers.items → counts_tree before d part self → after.table ≡ self.table →
     IfErr part (λ e. (res ≡ Err e) × X e) → res ≡ Ok u → IfOk part (λ n. described_pending held.size.inner n ≡ Some new.size.inner) →
@@ -103,7 +103,7 @@ described_value start before self after held new d (Ok n) res u X h at same l ta
       elim p.1 [ inl y ↦ inl (y.0, y.1 ∙ ap pending.Plain (sym (described_rest start.size.pending mid.pending n e))) | inr z ↦ inr (g (Err v) a.size z) ],
     )
 
--- the refusal of a descriptor is one of the described value
+-- The error of a descriptor is permitted for the described value.
 pub refusal_of_descriptor : (start before self after : Measurer) (held new : OpenCompound) (d : Option Tree) (part : Result ℕ WalkError) (res : Result (Unit {0}) WalkError) (e : WalkError) →
     HoldsSingle start.size kinds.Single held [] → counts_tree before d part self →
     (size_permits before.size d part self.size → size_has start.size kinds.Single after.size new [] × ((t : Option Tree) → size_permits start.size (as_described (descriptor_of d) t) (Err e) after.size)) →

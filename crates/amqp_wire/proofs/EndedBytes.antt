@@ -55,7 +55,7 @@ meant_tree (pending.Nothing p) kinds.Map ps ts b h e n = absurd (n refl)
 meant_tree (pending.Nothing p) (kinds.Variant i) ps ts b h e n = absurd (n refl)
 meant_tree (pending.Nothing p) (kinds.NewtypeVariant i) ps ts b h e n = absurd (n refl)
 
--- a whole that was not refused when it was opened: its tree, and its bytes
+-- A compound that its marker accepts, after its end: its tree and its bytes.
 pub record Ended (start : Writer) (kind : Kind) (s : Output) (ps : List (Option Tree)) : Type 0 where
   pub t : Tree
   pub is : meant start.pending (whole kind ps) ≡ Some t
@@ -84,7 +84,7 @@ all_written start kind s held ps single h done opened =
           };
     }
 
--- an answer on that tree is one on the whole
+-- A result that is permitted for that tree is permitted for the compound.
 pub concluded : (start : Writer) (kind : Kind) (s : Output) (ps : List (Option Tree)) (p : Position) (t : Tree) (r : Result (Unit {0}) WalkError) (after : Writer) → Kept start.output s → after.output ≡ s → p ≡ position_of start.pending → meant start.pending (whole kind ps) ≡ Some t →
     accepts p (Some t) r after.pending → (FitsOutput (position_of start.pending) start.output t → Written (position_of start.pending) start.output t s) → writer_permits start (whole kind ps) r after
 concluded start kind s ps p t (Ok u) after k same q is h w = (
@@ -97,7 +97,7 @@ concluded start kind s ps p t (Ok u) after k same q is h w = (
 concluded start kind s ps p t (Err e) after k same q is h w =
     (subst (Kept start.output) (sym same) k, (subst (λ o. at_position (position_of start.pending) o (Err e) after.pending) (sym is) (subst (λ x. at_position x (Some t) (Err e) after.pending) q h), tt))
 
--- a compound that its marker does not take
+-- A compound that its marker does not accept.
 pub not_opened : (start : Writer) (kind : Kind) (s : Output) (held : WriterCompound) (ps : List (Option Tree)) → WrittenParts start kind s held ps → held.shape ≡ shape.Refused → writer_permits start (whole kind ps) (Err walk_error.InvalidValue) (record { pending = pending.Plain (without_prefix held.position); output = s })
 not_opened start kind s held ps h r = (
   h.kept,

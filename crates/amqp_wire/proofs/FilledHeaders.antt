@@ -1,4 +1,4 @@
--- The headers that are made of what was counted.
+-- The headers that are made from the measured sizes and counts.
 use Rattle.std.proofs.Common.{◌≡◌, ℕ, ◌+◌, ◌≤◌, List, [], ◌∷◌, ◌++◌, Option, Some, None, Bool, true, false, ◌&&◌, ◌*◌, is_some, length, refl, ap, sym, ◌∙◌, subst, arith, length-append, append_assoc}
 use Rattle.std.proofs.lemmas.List.{set_at}
 use Rattle.amqp_ser.specs.Tree.{Tree, Trees, Pairs, uint, scalar, list, array, map, described, variant, lazy, transparent, no_trees, more, count, pair_count}
@@ -52,7 +52,7 @@ constructor_of_first : (ts : Trees) → element_constructor (first_position ts) 
 constructor_of_first no_trees = refl
 constructor_of_first (more t ts) = constructor_of_element (constructor t)
 
--- what was counted makes the headers
+-- The measured sizes and counts make the headers of the compound.
 pub made_right : (s : Shape) (ts : Trees) (n m : ℕ) (c : Option ℕ) → n ≡ length (content (is_array s) ts) → m ≡ count ts → c ≡ element_constructor (inner_of (is_array s) ts) → headers_from s (header n m c) ≡ compound_headers s ts
 made_right shape.List ts n m c a b d = ap (λ x. header x m c ∷ []) a ∙ ap (λ x. header (length (encoding_each ts)) x c ∷ []) b ∙ ap (λ x. header (length (encoding_each ts)) (count ts) x ∷ []) d
 made_right shape.Map ts n m c a b d = ap (λ x. header x m c ∷ []) a ∙ ap (λ x. header (length (encoding_each ts)) x c ∷ []) b ∙ ap (λ x. header (length (encoding_each ts)) (count ts) x ∷ []) d
@@ -71,7 +71,7 @@ made_right shape.Transparent ts n m c a b d = refl
 made_right shape.Single ts n m c a b d = refl
 made_right shape.Refused ts n m c a b d = refl
 
--- they have room in four bytes
+-- The lengths of the headers fit in four bytes.
 pub made_small : (s : Shape) (ts : Trees) (n m : ℕ) (c : Option ℕ) → headers_from s (header n m c) ≡ compound_headers s ts → small_headers s (compound_headers s ts) → headers_fit s n
 made_small s ts n m c e h = go s (subst (small_headers s) (sym e) h)
   where
@@ -93,7 +93,7 @@ fills_are (n ∷ new) (h ∷ hs) pre post at a b =
     ap (fills new (at + 1)) (set_at pre h (hs ++ post) n at (sym b) ∙ sym (append_assoc pre (n ∷ []) (hs ++ post)))
     ∙ fills_are new hs (pre ++ (n ∷ [])) post (at + 1) (omega arith) (simp length-append (omega arith)) ∙ append_assoc pre (n ∷ []) (new ++ post)
 
--- the position of a tree asks that it is placed and within its limits
+-- A tree that its position accepts is placed, and within the limits if it is within those there.
 inside_placed : (t : Tree) → inside t ≡ true → placed t ≡ true
 inside_placed (scalar s) h = refl
 inside_placed (list ts) h = h
@@ -180,7 +180,7 @@ dense_array : (ts : Trees) → one_constructor ts ≡ true → dense_each positi
 dense_array no_trees e s = refl
 dense_array (more t ts) e s = elements (constructor t) (more t ts) e s
 
--- a compound of solid parts is solid where it can stand
+-- A compound with dense parts is dense if it is accepted at its position.
 pub dense_whole : (u : Pending) (k : Kind) (ts : Trees) (t : Tree) → is_single k ≡ false → meant u (as_kind k (Some ts)) ≡ Some t → dense_each position.Root ts ≡ true → placed t ≡ true → uniform_arrays t ≡ true → dense t ≡ true
 dense_whole u kinds.Single ts t b h s = cc
 dense_whole (pending.Plain p) kinds.List ts t b h s = let q : list ts ≡ t = cc in subst (λ x. placed x ≡ true → uniform_arrays x ≡ true → dense x ≡ true) q (λ i a. dense_list ts i s)
@@ -201,7 +201,7 @@ dense_whole (pending.Scalar m p) (kinds.Variant i) ts t b h s = is_not _ t (refu
 dense_whole (pending.Scalar m p) (kinds.NewtypeVariant i) ts t b h s = is_not _ t (refused_shape (pending.Scalar m p) (kinds.NewtypeVariant i) (Some ts) refl) h
 dense_whole (pending.Nothing p) k ts t b h s = is_not _ t refl h
 
--- the parts of a compound have a count of four bytes
+-- The number of parts of a compound fits in four bytes.
 pub few_parts : (start : SizeSerializer) (kind : Kind) (held : OpenCompound) (ps : List (Option Tree)) (h : HoldsGathered start kind held ps) → dense_each position.Root h.ts ≡ true → count h.ts ≤ 4294967295
 few_parts start kind held ps h s = go (is_array held.shape) h.fed.sum h.fed.counted
   where

@@ -1,4 +1,4 @@
--- What an open compound of each kind holds.
+-- The open compounds of each kind.
 use Rattle.std.proofs.Common.{◌≡◌, inl, inr, List, Option, Some, true, false, refl, ap, sym, ◌∙◌, subst}
 use Rattle.amqp_ser.specs.Tree.{Tree, Trees}
 use Rattle.amqp_ser.specs.Compounds.{all_trees}

@@ -1,4 +1,4 @@
--- Prefixes and ends of lists.
+-- Prefixes and suffixes of lists.
 use Rattle.std.proofs.Common.{◌≡◌, ℕ, suc, zero, ◌+◌, List, [], ◌∷◌, ◌++◌, length, refl, ap, sym, ◌∙◌, arith, append_assoc, drop, take}
 use Rattle.amqp_wire.specs.Writer.{Extends}
 
@@ -35,11 +35,11 @@ drop_prefix : {X : Type 0} (a b : List X) → drop (length a) (a ++ b) ≡ b
 drop_prefix [] b = refl
 drop_prefix (x ∷ a) b = drop_prefix a b
 
--- past a prefix, what follows it
+-- After a prefix is dropped, what follows it is left.
 pub drop_past : {X : Type 0} (xs : List X) (i n : ℕ) (a b : List X) → drop i xs ≡ a ++ b → n ≡ i + length a → drop n xs ≡ b
 drop_past xs i n a b h e = ap (λ m. drop m xs) e ∙ drop_both xs i (length a) ∙ ap (drop (length a)) h ∙ drop_prefix a b
 
--- two lists with one element more
+-- Two lists are equal if they are equal with one more element each.
 pub same_prefix : {X : Type 0} (xs ys : List X) (x y : X) → xs ++ (x ∷ []) ≡ ys ++ (y ∷ []) → xs ≡ ys
 same_prefix [] [] x y h = refl
 same_prefix [] (b ∷ []) x y h = cc

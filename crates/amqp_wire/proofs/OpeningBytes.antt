@@ -1,4 +1,4 @@
--- Heads written one after another.
+-- Headers written one after another.
 use Rattle.std.proofs.Common.{◌≡◌, ℕ, Bool, false, ◌+◌, ◌<◌, List, ◌∷◌, ◌++◌, Result, Ok, Err, length, ap, sym, ◌∙◌, subst, arith, append_assoc, length-append, drop, refl, is_err}
 use Rattle.std.specs.Prelude.{IfOk}
 use Rattle.amqp_size.specs.declared.walk_error.WalkError.{WalkError}
@@ -58,7 +58,7 @@ pub array_arm : (b : Bool) (kind : Shape) (s a : Output) (ts : Trees) (r : Resul
     ((h : Header) (rest : List Header) → drop s.taken s.table.items ≡ h ∷ rest → small h → leads s 1 (header_bytes b header_kind.Array h ++ code_list h.constructor) r a) → PartsFitOutput b kind s ts → opens b kind s (compound_headers kind ts) r a
 array_arm b kind s a ts r e f = subst (λ w. PartsFitOutput b w s ts → opens b w s (compound_headers w ts) r a) (sym e) (λ m. f _ _ m.listed m.small)
 
--- where there is room it is all written
+-- If the capacity suffices, all bytes before the parts are written.
 pub opened_well : (b : Bool) (kind : Shape) (s m a : Output) (ts : Trees) (r : Result (Unit {0}) WalkError) → PartsFitOutput b kind s ts → opens b kind s (compound_headers kind ts) r m → (is_err r ≡ false → a ≡ m) → opens b kind s (compound_headers kind ts) (Ok tt) a
 opened_well b kind s m a ts (Ok u) w h same = let e = same refl in (ap (λ (o : Output). o.out.items) e ∙ h.0, ap (λ (o : Output). o.taken) e ∙ h.1)
 opened_well b kind s m a ts (Err x) w h same = let room = w.room in absurd (omega arith)

@@ -60,7 +60,7 @@ after-join shape.Refused ts t us n = absurd (n refl)
 not_refused : (a : Bool) (kind : Shape) (s : Output) (ts : Trees) → PartsFitOutput a kind s ts → kind ≡ shape.Refused → ⊥
 not_refused a kind s ts m e = (subst (λ w. PartsFitOutput a w s ts) e m).small
 
--- the table and the room of a compound are also those of its parts
+-- The table and the capacity of a compound suffice for each of its parts.
 pub part_meets : (a : Bool) (kind : Shape) (start s : Output) (ts : Trees) (t : Tree) (us : Trees) → PartsFitOutput a kind start (join ts (more t us)) → Kept start s → WrittenSoFar a kind start s ts (more t us) → FitsOutput (part_position kind) s t
 part_meets a kind start s ts t us m k b =
     let all = join ts (more t us) in
@@ -140,7 +140,7 @@ room_of p kind s ts t e h m =
       room = omega arith;
     }
 
--- the table and the room of the whole are those of its parts
+-- The table and the capacity of the tree are those of the compound's parts.
 pub room_for : (u : Pending) (k : Kind) (s : Output) (ts : Trees) (t : Tree) → is_single k ≡ false → meant u (as_kind k (Some ts)) ≡ Some t → FitsOutput (position_of u) s t → PartsFitOutput (is_element (position_of u)) (shape_of u k) s ts
 room_for u k s ts t b q m = room_of (position_of u) (shape_of u k) s ts t (split u k ts t b q) (spelled (position_of u) u k ts t b q m.within_limits_it m.dense_it) m
 
@@ -152,7 +152,7 @@ pub whole_of : (kind : Kind) (ps : List (Option Tree)) (ts : Trees) → all_tree
 unfolding whole
 whole_of kind ps ts h = ap (as_kind kind) h
 
--- the refusal of a part is one of the whole
+-- An error of a part is permitted for the compound.
 pub part_refused : (start : Writer) (kind : Kind) (s cut : Output) (held : WriterCompound) (ps : List (Option Tree)) (p : Option Tree) (e : WalkError) (after : Pending) → is_single kind ≡ false → (h : WrittenParts start kind s held ps) → Kept start.output cut →
     at_position (part_at (shape_of start.pending kind) h.ts) p (Err e) after →
     (others : List (Option Tree)) → writer_permits start (whole kind (ps ++ (p ∷ others))) (Err e) (record { pending = pending.Plain (without_prefix held.position); output = cut })
@@ -166,7 +166,7 @@ part_refused start kind s cut held ps p e after single h k r others = (
   ),
 )
 
--- the bytes of all parts have one form
+-- All parts have the same form.
 meets_at : (kind : Shape) (s : Output) (ts : Trees) (t : Tree) → FitsOutput (part_position kind) s t → FitsOutput (part_at kind ts) s t
 meets_at kind s ts t m =
     let f = same_form kind ts t in
@@ -181,7 +181,7 @@ meets_at kind s ts t m =
 wrote_at : (kind : Shape) (s after : Output) (ts : Trees) (t : Tree) → Written (part_at kind ts) s t after → Written (part_position kind) s t after
 wrote_at kind s after ts t w = record { out = w.out ∙ ap (λ a. s.out.items ++ bytes_at a t) (same_form kind ts t).1; taken = w.taken }
 
--- one part more
+-- One more part.
 pub part_written : (start : Writer) (kind : Kind) (s after : Output) (held new : WriterCompound) (ps : List (Option Tree)) (t : Tree) (h : WrittenParts start kind s held ps) → Kept s after → (left : Pending) → Taken (part_at (shape_of start.pending kind) h.ts) t left → new.inner ≡ inner_after held.shape held.inner left →
     (FitsOutput (part_at (shape_of start.pending kind) h.ts) s t → Written (part_at (shape_of start.pending kind) h.ts) s t after) →
     new.position ≡ held.position → new.shape ≡ held.shape → new.before_last.taken ≡ s.taken → new.before_last.len ≡ length s.out.items → WrittenParts start kind after new (ps ++ (Some t ∷ []))
@@ -211,7 +211,7 @@ part_written start kind s after held new ps t h k left w inner f position shape 
           };
     }
 
--- the same compound over an output that went back to where it was
+-- The same compound after the output is restored to the same bytes.
 pub part_back : (start : Writer) (kind : Kind) (s cut : Output) (held new : WriterCompound) (ps : List (Option Tree)) → WrittenParts start kind s held ps → Kept s cut → cut.out.items ≡ s.out.items → cut.taken ≡ s.taken →
     new.position ≡ held.position → new.shape ≡ held.shape → new.inner ≡ held.inner → new.before_last ≡ held.before_last → WrittenParts start kind cut new ps
 part_back start kind s cut held new ps h k out at position shape inner last =
@@ -239,7 +239,7 @@ part_back start kind s cut held new ps h k out at position shape inner last =
           };
     }
 
--- what was written since is given back
+-- The bytes written since a position are removed.
 pub kept_back : (old s cut : Output) (n : ℕ) → Kept old s → cut.table ≡ s.table → vec_capacity cut.out ≡ vec_capacity s.out → n ≡ length old.out.items → cut.out.items ≡ take n s.out.items →
     (cut.out.items ≡ old.out.items) × Kept old cut
 kept_back old s cut n k table cap e out =
@@ -259,7 +259,7 @@ even_prefix ps p h = odd ps true h
     odd [] b h = ap not h
     odd (q ∷ qs) b h = ap not (odd qs (paired qs) refl) ∙ ap not h
 
--- the last part is given back
+-- The last part is removed.
 pub part_undone : (start : Writer) (s cut : Output) (held : WriterCompound) (ps : List (Option Tree)) (p : Option Tree) → WrittenParts start kinds.Map s held (ps ++ (p ∷ [])) → paired ps ≡ true →
     cut.table ≡ s.table → vec_capacity cut.out ≡ vec_capacity s.out → cut.taken ≡ held.before_last.taken → cut.out.items ≡ take held.before_last.len s.out.items → WrittenParts start kinds.Map cut held ps
 part_undone start s cut held ps p h even table cap taken out =
@@ -277,7 +277,7 @@ part_undone start s cut held ps p h even table cap taken out =
       back = λ odd qs q e. let no : true ≡ false = sym even ∙ odd in cc;
     }
 
--- a compound that was opened
+-- A compound that has just been opened.
 pub now_open : (start : Writer) (kind : Kind) (s : Output) (held : WriterCompound) → is_single kind ≡ false → Kept start.output s →
     ((ts : Trees) → PartsFitOutput (is_element (position_of start.pending)) (shape_of start.pending kind) start.output ts → opens (is_element (position_of start.pending)) (shape_of start.pending kind) start.output (compound_headers (shape_of start.pending kind) ts) (Ok tt) s) →
     held.position ≡ position_of start.pending → held.shape ≡ shape_of start.pending kind → held.inner ≡ inner_pending (shape_of start.pending kind) start.pending → WrittenParts start kind s held []

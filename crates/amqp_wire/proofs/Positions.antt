@@ -1,4 +1,4 @@
--- Where the parts of a compound stand, and what the whole of parts that may stand there is.
+-- The positions of the parts of a compound, and the tree of parts that are accepted there.
 use Rattle.std.proofs.Common.{◌≡◌, ℕ, Option, Some, None, Bool, true, false, ◌&&◌, Err, refl, ap, sym, ◌∙◌, subst}
 use Rattle.amqp_size.specs.declared.walk_error.WalkError.{WalkError}
 use Rattle.amqp_ser.specs.Tree.{Tree, Trees, list, array, map, variant, transparent, no_trees, more}
@@ -29,11 +29,11 @@ use Rattle.amqp_wire.specs.Dense.{fit}
 use Rattle.amqp_wire.specs.Positions.{part_position, part_at, suited_parts, is_single, inner_after}
 use Rattle.amqp_wire.proofs.HeldKinds.{never_single}
 
--- nothing else opens a single compound
+-- Only the kind `Single` has the shape `Single`.
 pub not_single : (u : Pending) (k : Kind) → is_single k ≡ false → shape_of u k ≡ shape.Single → ⊥
 not_single u k c e = never_single k (single_kind u k e) c
 
--- maps have no constructor of their elements
+-- The elements of a map have no common constructor.
 pub map_inside : (u : Pending) (ts : Trees) → part_at (shape_of u kinds.Map) ts ≡ position.Inside
 map_inside (pending.Plain p) ts = refl
 map_inside (pending.Array p) ts = refl
@@ -41,7 +41,7 @@ map_inside (pending.Transparent p) ts = refl
 map_inside (pending.Scalar m p) ts = refl
 map_inside (pending.Nothing p) ts = refl
 
--- where the first part stands
+-- The position of the first part.
 pub first_inner : (u : Pending) (k : Kind) → is_single k ≡ false → inner_pending (shape_of u k) u ≡ pending.Plain (part_at (shape_of u k) no_trees)
 first_inner u k b = go (shape_of u k) (not_single u k b)
   where
@@ -63,7 +63,7 @@ first_same : (ts : Trees) (t : Tree) → (fit (first_position ts) t ≡ fit posi
 first_same no_trees t = (refl, refl)
 first_same (more v ts) t = element_same (constructor v) t
 
--- the bytes of all parts of a compound have one form
+-- All parts of a compound have the same form.
 pub same_form : (s : Shape) (ts : Trees) (t : Tree) → (fit (part_at s ts) t ≡ fit (part_position s) t) × (is_element (part_at s ts) ≡ is_element (part_position s))
 same_form shape.List ts t = (refl, refl)
 same_form shape.Map ts t = (refl, refl)
@@ -74,7 +74,7 @@ same_form shape.Transparent ts t = (refl, refl)
 same_form shape.Single ts t = (refl, refl)
 same_form shape.Refused ts t = (refl, refl)
 
--- with no part yet
+-- Without parts.
 pub no_parts : (s : Shape) → suited_parts s no_trees ≡ true
 no_parts shape.List = refl
 no_parts shape.Map = refl
@@ -85,7 +85,7 @@ no_parts shape.Transparent = refl
 no_parts shape.Single = refl
 no_parts shape.Refused = refl
 
--- after one part more
+-- After one more part.
 next_part : (s : Shape) (ts : Trees) (t : Tree) → suited_parts s ts ≡ true → next (part_at s ts) t ≡ part_at s (join ts (more t no_trees))
 next_part shape.List ts t h = refl
 next_part shape.Map ts t h = refl
@@ -128,7 +128,8 @@ suited_more shape.Transparent ts t h a i =
 suited_more shape.Single ts t h a i = one_more ts t h a i
 suited_more shape.Refused ts t h a i = one_more ts t h a i
 
--- the refusal of one part is one of the whole: of what is gathered, and of a transparent vector
+-- An error of a part is permitted for the compound, whether it is collected in one body or a
+-- transparent vector.
 gathered_spoils : (s : Shape) (u : Pending) (k : Kind) (ts : Trees) (p : Option Tree) (e : WalkError) (after : Pending) (o : Option Trees) → shape_of u k ≡ s → is_gathered s ≡ true → inner_of (is_array s) ts ≡ part_at s ts → one_in (is_array s) ts ≡ true →
     at_position (part_at s ts) p (Err e) after → at_position (position_of u) (meant u (as_kind k (joined (Some ts) (prepend p o)))) (Err e) (pending.Plain (without_prefix (position_of u)))
 gathered_spoils s u k ts None e after o q g i one r =
@@ -168,7 +169,7 @@ part_spoils u k ts p e after o b = go (shape_of u k) refl
     go shape.Single q h r = absurd (not_single u k b q)
     go shape.Refused q h r = gathered_spoils shape.Refused u k ts p e after o q refl refl refl r
 
--- what such a compound is: its constructor, and that it may stand inside others
+-- A compound with parts that are accepted: its constructor, and that it is accepted inside others.
 pub record Whole (code : ℕ) (t : Tree) : Type 0 where
   pub constructor_is : constructor t ≡ Some code
   pub uniform_arrays_it : uniform_arrays t ≡ true

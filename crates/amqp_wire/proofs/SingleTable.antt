@@ -16,7 +16,7 @@ pub not_empty : {X : Type 0} (xs : List X) (x : X) → xs ++ (x ∷ []) ≡ [] �
 not_empty [] x e = cc
 not_empty (y ∷ xs) x e = cc
 
--- one part more is the one part only where there was none
+-- A list with one more element has exactly one element only if it was empty.
 pub only_last : {X : Type 0} (xs : List X) (x y : X) → xs ++ (x ∷ []) ≡ y ∷ [] → (xs ≡ []) × (x ≡ y)
 only_last [] x y e = (refl, cc)
 only_last (z ∷ []) x y e = cc
@@ -33,7 +33,7 @@ lone_more start table after ps p h e f =
 pub lone_back : (start : Measurer) (table cut : List Header) (ps : List (Option Tree)) → SingleTable start table ps → cut ≡ table → SingleTable start cut ps
 lone_back start table cut ps h e = subst (λ x. SingleTable start x ps) (sym e) h
 
--- the whole has the headers of its one part
+-- The compound has the headers of its part.
 pub lone_whole : (start : Measurer) (table : List Header) (ps : List (Option Tree)) → SingleTable start table ps → complete kinds.Single ps ≡ true → listed (meant start.size.pending (whole kinds.Single ps)) start.table.headers.items table
 lone_whole start table [] h e = absurd (no_false e)
 lone_whole start table (p ∷ []) h e = subst (λ o. listed (meant start.size.pending o) start.table.headers.items table) (sym (whole_single p)) (h.one p refl)

@@ -24,7 +24,7 @@ use Rattle.amqp_wire.proofs.CountWithinBytes.{no_false}
 use Rattle.amqp_wire.proofs.SingleTable.{not_empty, only_last}
 use Rattle.amqp_wire.proofs.PartBytes.{kept-more}
 
--- the same table and room, where nothing was written since
+-- The same table and capacity, if nothing was written in between.
 meets_same : (a : Position) (start s : Output) (t : Tree) → Kept start s → SameOutput start s → FitsOutput a start t → FitsOutput a s t
 meets_same a start s t k e m =
     record {
@@ -59,7 +59,7 @@ alone_open start s held k e position inner is =
       one = λ p q. let no : [] ≡ p ∷ [] = q in cc;
     }
 
--- one part more
+-- One more part.
 pub alone_more : (start before : Writer) (after : Output) (held new : WriterCompound) (ps : List (Option Tree)) (p : Option Tree) → WrittenSingle start before.output held ps → before.pending ≡ held.inner → Kept before.output after →
     (left : Pending) → takes (position_of before.pending) (meant before.pending p) left → new.inner ≡ inner_after held.shape held.inner left → wrote (position_of before.pending) before.output (meant before.pending p) after → new.position ≡ held.position → new.shape ≡ held.shape → WrittenSingle start after new (ps ++ (p ∷ []))
 alone_more start before after held new ps p h at k left t inner w position is =
@@ -77,7 +77,7 @@ alone_more start before after held new ps p h at k left t inner w position is =
           );
     }
 
--- the same compound over an output that went back to where it was
+-- The same compound after the output is restored to the same bytes.
 pub alone_back : (start : Writer) (s cut : Output) (held new : WriterCompound) (ps : List (Option Tree)) → WrittenSingle start s held ps → Kept s cut → SameOutput s cut → new.position ≡ held.position → new.shape ≡ held.shape → new.inner ≡ held.inner → WrittenSingle start cut new ps
 alone_back start s cut held new ps h k e position is inner =
     record {
@@ -108,19 +108,19 @@ refused_whole start before held [] p e after h at w (q ∷ others) = no_whole st
 refused_whole start before held (v ∷ []) p e after h at w others = no_whole start held (v ∷ (p ∷ others)) before.pending (meant before.pending p) e after h.position w (whole_two v p others)
 refused_whole start before held (v ∷ (u ∷ ps)) p e after h at w others = no_whole start held (v ∷ (u ∷ (ps ++ (p ∷ others)))) before.pending (meant before.pending p) e after h.position w (whole_two v u (ps ++ (p ∷ others)))
 
--- the refusal of a part is one of the whole
+-- An error of the part is permitted for the compound.
 pub alone_refused : (start before : Writer) (cut : Output) (held : WriterCompound) (ps : List (Option Tree)) (p : Option Tree) (e : WalkError) (after : Pending) → WrittenSingle start before.output held ps → before.pending ≡ held.inner → Kept start.output cut →
     at_position (position_of before.pending) (meant before.pending p) (Err e) after → (others : List (Option Tree)) → writer_permits start (whole kinds.Single (ps ++ (p ∷ others))) (Err e) (record { pending = pending.Plain (without_prefix held.position); output = cut })
 alone_refused start before cut held ps p e after h at k w others = (k, (refused_whole start before held ps p e after h at w others, tt))
 
--- the whole is its one part
+-- The tree of the compound is that of its part.
 pub alone_written : (start : Writer) (s : Output) (held : WriterCompound) (ps : List (Option Tree)) → WrittenSingle start s held ps → complete kinds.Single ps ≡ true → writer_permits start (whole kinds.Single ps) (Ok tt) (record { pending = held.inner; output = s })
 alone_written start s held [] h done = absurd (no_false done)
 alone_written start s held (p ∷ []) h done =
     (h.kept, subst (λ o. takes (position_of start.pending) (meant start.pending o) held.inner × wrote (position_of start.pending) start.output (meant start.pending o) s) (sym (whole_single p)) (h.one p refl))
 alone_written start s held (p ∷ (q ∷ ps)) h done = absurd (no_false done)
 
--- what is answered where the compound was opened is answered there
+-- A result that is permitted at the position of the compound is permitted for it.
 pub same_permits : (start : Writer) (s : Output) (held : WriterCompound) (o : Option Tree) (r : Result (Unit {0}) WalkError) (after : Writer) → WrittenSingle start s held [] → writer_permits (record { pending = held.inner; output = s }) o r after → writer_permits start o r after
 same_permits start s held o r after h p =
     let n = h.none refl in (

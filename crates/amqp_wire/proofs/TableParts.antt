@@ -38,19 +38,19 @@ more_trees ps t ts e = all_trees-append ps (Some t ∷ []) ∙ ap (λ o. joined 
 same_trees : (ps : List (Option Tree)) (ts us : Trees) → all_trees ps ≡ Some ts → all_trees ps ≡ Some us → ts ≡ us
 same_trees ps ts us a b = let e : Some ts ≡ Some us = sym a ∙ b in cc
 
--- a compound has parts of a count of four bytes
+-- The number of parts of a compound fits in four bytes.
 pub few_fed : (start : SizeSerializer) (kind : Kind) (held : OpenCompound) (ps : List (Option Tree)) → HoldsGathered start kind held ps → (ts : Trees) → all_trees ps ≡ Some ts → dense_each Root ts ≡ true → count ts ≤ 4294967295
 few_fed start kind held ps h ts e s =
     let same = same_trees ps ts h.ts e h.trees in
     let l = few_parts start kind held ps h (ap (dense_each Root) (sym same) ∙ s) in
     let n = ap count same in omega arith
 
--- a table with a tree's headers at its end
+-- A table with the headers of a tree at its end.
 pub listed_extends : (o : Option Tree) (b a : List Header) → listed o b a → Extends b a
 listed_extends None b a h = absurd h
 listed_extends (Some t) b a h = (headers_of t, h.0)
 
--- one part more
+-- One more part.
 pub part_listed : (start : Measurer) (kind : Kind) (table after : List Header) (held new : MeasurerCompound) (ps : List (Option Tree)) (p : Option Tree) (ts : Trees) → all_trees ps ≡ Some ts →
     PartsTable start kind table held ps → listed p table after → held.missed ≡ false → new.at ≡ held.at → new.before_last ≡ length table →
     (held.parts + 1 ≤ 4294967295 → new.parts ≡ held.parts + 1) → PartsTable start kind after new (ps ++ (p ∷ []))
@@ -83,7 +83,7 @@ part_listed start kind table after held new ps (Some t) ts e h l m at last parts
           };
     }
 
--- the same compound over a table that was cut back
+-- The same compound after the table is truncated to the same headers.
 pub table_back : (start : Measurer) (kind : Kind) (table cut : List Header) (held new : MeasurerCompound) (ps : List (Option Tree)) → PartsTable start kind table held ps → cut ≡ table →
     new.at ≡ held.at → new.missed ≡ held.missed → new.before_last ≡ held.before_last → new.parts ≡ held.parts → PartsTable start kind cut new ps
 table_back start kind table cut held new ps h same at missed last parts =
@@ -104,14 +104,14 @@ table_back start kind table cut held new ps h same at missed last parts =
           };
     }
 
--- the trees without the last part
+-- The trees without the last part.
 prefix_trees : (ps : List (Option Tree)) (p : Option Tree) (us ts : Trees) → all_trees ps ≡ Some us → all_trees (ps ++ (p ∷ [])) ≡ Some ts → (t : Tree) × (join us (more t no_trees) ≡ ts)
 prefix_trees ps None us ts a b =
     let e : joined (Some us) None ≡ Some ts = ap (λ o. joined o None) (sym a) ∙ sym (all_trees-append ps (None ∷ [])) ∙ b in cc
 prefix_trees ps (Some t) us ts a b =
     let e : Some (join us (more t no_trees)) ≡ Some ts = sym (more_trees ps t us a) ∙ b in (t, cc)
 
--- the last part is given back
+-- The last part is removed.
 pub table_undone : (start : Measurer) (table cut : List Header) (held new : MeasurerCompound) (ps : List (Option Tree)) (p : Option Tree) (us ts : Trees) → all_trees ps ≡ Some us → all_trees (ps ++ (p ∷ [])) ≡ Some ts →
     PartsTable start kinds.Map table held (ps ++ (p ∷ [])) → count ts ≤ 4294967295 → paired ps ≡ true → cut ≡ take held.before_last table →
     new.at ≡ held.at → new.missed ≡ held.missed → new.parts ≡ held.parts - 1 → PartsTable start kinds.Map cut new ps
@@ -131,7 +131,7 @@ table_undone start table cut held new ps p us ts a d h few even c at missed part
       back = λ odd qs r e. let no : true ≡ false = sym even ∙ odd in cc;
     }
 
--- an answer on the whole, with the table of the whole
+-- A result for the compound, with the table of the compound.
 whole_listed : (start after : Measurer) (kind : Kind) (ts : Trees) (n m len : ℕ) (c : Option ℕ) (o : Option Tree) → is_single kind ≡ false → meant start.size.pending (as_kind kind (Some ts)) ≡ o → dense_each Root ts ≡ true →
     headers_from (shape_of start.size.pending kind) (header n m c) ≡ compound_headers (shape_of start.size.pending kind) ts → at_position (position_of start.size.pending) o (Ok len) after.size.pending →
     (headers_fit (shape_of start.size.pending kind) n → after.table.headers.items ≡ start.table.headers.items ++ (compound_headers (shape_of start.size.pending kind) ts ++ headers_of_each ts)) →
@@ -144,7 +144,7 @@ whole_listed start after kind ts n m len c (Some x) single w s right h f =
     let small = (spelled Root u kind ts x single w (within_there (position_of u) x h.within_limits_it) solids).small in
     (f (made_small sh ts n m c right small) ∙ ap (λ es. start.table.headers.items ++ es) (sym (split u kind ts x single w)), solids)
 
--- what was counted makes the headers of the compound
+-- The measured sizes and counts make the headers of the compound.
 counted_right : (start : Measurer) (kind : Kind) (held : MeasurerCompound) (ps : List (Option Tree)) (ts : Trees) (n m : ℕ) (c : Option ℕ) → is_single kind ≡ false → Holding start.size kind held.size ps → all_trees ps ≡ Some ts → dense_each Root ts ≡ true →
     (held.size.sum ≤ 4294967291 → n ≡ held.size.sum) → (count ts ≤ 4294967295 → m ≡ count ts) → c ≡ element_constructor (position_of held.size.inner) → headers_from (shape_of start.size.pending kind) (header n m c) ≡ compound_headers (shape_of start.size.pending kind) ts
 counted_right start kind held ps ts n m c single h e s a b d = elim h [ inl w ↦ gathered w | inr w ↦ elim w [ inl v ↦ transparent v | inr v ↦ absurd (never_single kind v.kind_is single) ] ]
@@ -163,7 +163,7 @@ counted_right start kind held ps ts n m c single h e s a b d = elim h [ inl w �
     transparent : HoldsTransparent start.size kind held.size ps → headers_from sh (header n m c) ≡ compound_headers sh ts
     transparent w = subst (λ x. headers_from x (header n m c) ≡ compound_headers x ts) (sym w.shaped) refl
 
--- the headers of the compound stand in their slots
+-- The headers of the compound are in their slots.
 pub all_listed : (start : Measurer) (kind : Kind) (table : List Header) (after : Measurer) (held : MeasurerCompound) (ps : List (Option Tree)) (n m len : ℕ) (c : Option ℕ) → is_single kind ≡ false → Holding start.size kind held.size ps → PartsTable start kind table held ps → held.missed ≡ false →
     (held.size.sum ≤ 4294967291 → n ≡ held.size.sum) → m ≡ held.parts → c ≡ element_constructor (position_of held.size.inner) →
     (headers_fit held.size.shape n → held.at + header_count held.size.shape ≤ length table → after.table.headers.items ≡ fills (headers_from held.size.shape (header n m c)) held.at table) →
@@ -189,7 +189,7 @@ pub record Took (before self : Measurer) (held : MeasurerCompound) (p : Option T
   pub permits : size_permits before.size p answer self.size
   pub part : listed (meant before.size.pending p) before.table.headers.items self.table.headers.items
 
--- a part that was taken was answered
+-- If the compound accepts a part, the result of the part is a length.
 pub took : (before self : Measurer) (held : MeasurerCompound) (p : Option Tree) (part answer : Result ℕ WalkError) (res : Result (Unit {0}) WalkError) (u : Unit {0}) (X : WalkError → Type 0) →
     answered held part answer → counts_tree before p part self → res ≡ Ok u → IfErr answer (λ e. (res ≡ Err e) × X e) → Took before self held p answer
 took before self held p part (Ok n) res u X a l q k =
@@ -197,7 +197,7 @@ took before self held p part (Ok n) res u X a l q k =
     record { present = a.1; permits = l2.0; part = l2.1 }
 took before self held p part (Err e) res u X a l q k = let no : Err e ≡ Ok u = sym k.0 ∙ q in cc
 
--- the refusal of a part is one of the whole
+-- An error of a part is permitted for the compound.
 pub refusal_of_part : (start before self after : Measurer) (kind : Kind) (held new : MeasurerCompound) (ps : List (Option Tree)) (p : Option Tree) (part answer : Result ℕ WalkError) (res : Result (Unit {0}) WalkError) (e : WalkError) →
     Holding start.size kind held.size ps → answered held part answer → counts_tree before p part self →
     (size_permits before.size p answer self.size → size_has start.size kind after.size new.size ps × ((rest : List (Option Tree)) → size_permits start.size (whole kind (ps ++ (p ∷ rest))) (Err e) after.size)) →

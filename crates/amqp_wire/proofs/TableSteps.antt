@@ -28,7 +28,7 @@ appended_extends : (n : ℕ) (b : List Header) (m : Bool) (a : List Header) → 
 appended_extends n b true a h = h
 appended_extends n b false a h = (h.0, h.1.1)
 
--- the slots are there where no growth was refused
+-- The slots exist if no allocation failed.
 appended_listed : (n : ℕ) (b : List Header) (m : Bool) (a : List Header) → appended n b m a → m ≡ false → (hs : List Header) × ((length hs ≡ n) × (a ≡ b ++ hs))
 appended_listed n b true a h e = let no : true ≡ false = e in cc
 appended_listed n b false a h e = h
@@ -73,7 +73,7 @@ pub tabled_extends : (b : Bool) (start : Measurer) (kind : Kind) (table : List H
 tabled_extends true start kind table held ps h = h.extends
 tabled_extends false start kind table held ps h = h.extends
 
--- one part more
+-- One more part.
 pub part_tabled : (b : Bool) (start : Measurer) (kind : Kind) (u : Pending) (table after : List Header) (held new : MeasurerCompound) (ps : List (Option Tree)) (p : Option Tree) → is_single kind ≡ b → Holding start.size kind held.size ps → u ≡ held.size.inner →
     tabled_as b start kind table held ps → listed (meant u p) table after → held.missed ≡ false → new.at ≡ held.at → new.before_last ≡ length table → (held.parts + 1 ≤ 4294967295 → new.parts ≡ held.parts + 1) → tabled_as b start kind after new (ps ++ (p ∷ []))
 part_tabled true start kind u table after held new ps p k h e t l m at last parts =
@@ -86,7 +86,7 @@ part_tabled false start kind u table after held new ps p k h e t l m at last par
     let q = held_plain start.size kind held.size ps k h in
     part_listed start kind table after held new ps p ts.0 ts.1 t (subst (λ x. listed (meant x p) table after) (e ∙ q.1) l) m at last parts
 
--- the headers of the whole stand in their slots
+-- The headers of the compound are in their slots.
 pub whole_tabled : (b : Bool) (start : Measurer) (kind : Kind) (table : List Header) (after : Measurer) (held : MeasurerCompound) (ps : List (Option Tree)) (n m len : ℕ) (c : Option ℕ) → is_single kind ≡ b → Holding start.size kind held.size ps → tabled_as b start kind table held ps → held.missed ≡ false →
     complete kind ps ≡ true → (held.size.sum ≤ 4294967291 → n ≡ held.size.sum) → m ≡ held.parts → c ≡ element_constructor (position_of held.size.inner) →
     (headers_fit held.size.shape n → held.at + header_count held.size.shape ≤ length table → after.table.headers.items ≡ fills (headers_from held.size.shape (header n m c)) held.at table) →
@@ -101,7 +101,7 @@ whole_tabled true start kind table after held ps n m len c k h t miss done a b d
 whole_tabled false start kind table after held ps n m len c k h t miss done a b d f none p =
     all_listed start kind table after held ps n m len c k h t miss a b d f p
 
--- the same answers where the serializer stands at the same position over the same table
+-- The same results are permitted if the serializer is at the same position with the same table.
 pub permits_same : (start s : Measurer) (o : Option Tree) (r : Result ℕ WalkError) (after : Measurer) → s.size.pending ≡ start.size.pending → s.table.headers.items ≡ start.table.headers.items → measurer_permits s o r after → measurer_permits start o r after
 permits_same start s o (Ok n) after e f h = (
   subst (λ x. Extends x after.table.headers.items) f h.0,

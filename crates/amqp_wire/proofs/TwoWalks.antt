@@ -1,4 +1,5 @@
--- Both walks over one value: what the first counted and listed is written by the second, in the room that it said.
+-- Both passes over one value: the second writes what the first has measured and listed, in the
+-- capacity that the first returned.
 use Rattle.std.proofs.Common.{◌≡◌, ℕ, ◌≤◌, List, [], ◌++◌, Option, Some, None, Bool, true, false, ◌&&◌, Result, Ok, Err, length, drop, refl, ap, sym, ◌∙◌, subst, arith, append-nil, nat_le}
 use Rattle.std.specs.Vec.{vec_capacity}
 use Rattle.amqp_ser.specs.Tree.{Tree}
@@ -22,7 +23,7 @@ use Rattle.amqp_wire.specs.declared.writer.Writer.{Writer}
 use Rattle.amqp_size.proofs.Root.{at_root}
 use Rattle.amqp_wire.proofs.CountWithinBytes.{no_false}
 
--- the first walk went well: the length and the headers of a tree that may be written
+-- The first pass succeeded: the length and the headers of a writable tree.
 record Ready (s : Output) (n : ℕ) (hs : List Header) : Type 0 where
   table : s.table.items ≡ hs
   taken : s.taken ≡ 0
@@ -62,7 +63,7 @@ go_wrong : (o : Option Tree) (n : ℕ) (u v : Pending) (e : WalkError) → at_po
 go_wrong None n u v e h w = absurd h
 go_wrong (Some t) n u v e h w = no_refusal t n u v e h w
 
--- all headers are taken, and no more
+-- No more headers are consumed than the table has.
 go_whole : (o : Option Tree) (n : ℕ) (u : Pending) (hs : List Header) (s after : Output) → at_position Root o (Ok n) u → listed o [] hs → Ready s n hs → Kept s after → wrote Root s o after → nat_le after.taken (length after.table.items) ≡ true
 go_whole None n u hs s after h l r k w = absurd h
 go_whole (Some t) n u hs s after h l r k w =
@@ -72,7 +73,7 @@ go_whole (Some t) n u hs s after h l r k w =
     let same : length after.table.items ≡ length (headers_of t) = ap (λ v. length v.items) k.table ∙ ap length r.table ∙ ap length l.0 in
     le_true after.taken (length after.table.items) (omega arith)
 
--- the bytes are the tree's
+-- The bytes are those of the tree.
 pub walked : (measurer counted : Measurer) (o : Option Tree) (n : ℕ) (start done : Writer) (x : Unit {0}) → measurer.size.pending ≡ Plain Root → measurer.table.headers.items ≡ [] → measurer_permits measurer o (Ok n) counted →
     start.pending ≡ Plain Root → start.output.table.items ≡ counted.table.headers.items → start.output.taken ≡ 0 → start.output.out.items ≡ [] → n ≤ vec_capacity start.output.out →
     writer_permits start o (Ok x) done → AreBytesOf o (Ok done.output.out.items)
@@ -80,12 +81,12 @@ walked measurer counted o n start done x p e h q t k b room w =
     go_well o n counted.size.pending counted.table.headers.items start.output done.output (at_root measurer.size o (Ok n) counted.size p h.1.0)
     (listed_root measurer o counted.table.headers.items p e h.1.1) (record { table = t; taken = k; out = b; room = room }) (writes_root start o (Ok x) done.output q w.1.1)
 
--- the second walk refuses nothing
+-- The second pass returns no error.
 pub never_refused : (measurer counted : Measurer) (o : Option Tree) (n : ℕ) (start done : Writer) (x : WalkError) → measurer.size.pending ≡ Plain Root → measurer_permits measurer o (Ok n) counted → start.pending ≡ Plain Root → writer_permits start o (Err x) done → ⊥
 never_refused measurer counted o n start done x p h q w =
     go_wrong o n counted.size.pending done.pending x (at_root measurer.size o (Ok n) counted.size p h.1.0) (accepts_root start o (Err x) done.pending q w.1.0)
 
--- and the table and the room suffice
+-- The table and the capacity suffice.
 pub never_short : (measurer counted : Measurer) (o : Option Tree) (n : ℕ) (start done : Writer) (x : Unit {0}) → measurer.size.pending ≡ Plain Root → measurer.table.headers.items ≡ [] → measurer_permits measurer o (Ok n) counted →
     start.pending ≡ Plain Root → start.output.table.items ≡ counted.table.headers.items → start.output.taken ≡ 0 → start.output.out.items ≡ [] → n ≤ vec_capacity start.output.out →
     writer_permits start o (Ok x) done → nat_le done.output.taken (length done.output.table.items) ≡ true
@@ -93,7 +94,7 @@ never_short measurer counted o n start done x p e h q t k b room w =
     go_whole o n counted.size.pending counted.table.headers.items start.output done.output (at_root measurer.size o (Ok n) counted.size p h.1.0)
     (listed_root measurer o counted.table.headers.items p e h.1.1) (record { table = t; taken = k; out = b; room = room }) w.0 (writes_root start o (Ok x) done.output q w.1.1)
 
--- what the first walk answered, where no growth was refused
+-- The result of the first pass, if no allocation failed.
 pub kept_answer : (refused : Bool) (r a : Result ℕ WalkError) (n : ℕ) → (refused ≡ true → r ≡ Err walk_error.OutOfMemory) → (refused ≡ false → r ≡ a) → r ≡ Ok n → a ≡ Ok n
 kept_answer true r a n m u q = let e = m refl in cc
 kept_answer false r a n m u q = sym (u refl) ∙ q

@@ -25,7 +25,7 @@ more_written : (start : Writer) (kind : Kind) (s after : Output) (held new : Wri
 more_written start kind s after held new ps None h k left t = absurd t
 more_written start kind s after held new ps (Some t) h k left r = part_written start kind s after held new ps t h k left r
 
--- one part more
+-- One more part.
 pub part_more : (b : Bool) (start : Writer) (kind : Kind) (before : Writer) (after : Output) (held new : WriterCompound) (ps : List (Option Tree)) (p : Option Tree) (part : Result (Unit {0}) WalkError) → is_single kind ≡ b → part ≡ Ok tt → written_as b start kind before.output held ps → before.pending ≡ held.inner → Kept before.output after →
     (left : Pending) → accepts (position_of before.pending) (meant before.pending p) part left → new.inner ≡ inner_after held.shape held.inner left → writes_tree (position_of before.pending) before.output (meant before.pending p) part after →
     new.position ≡ held.position → new.shape ≡ held.shape → new.before_last.taken ≡ before.output.taken → new.before_last.len ≡ length before.output.out.items → written_as b start kind after new (ps ++ (p ∷ []))
@@ -35,7 +35,7 @@ part_more false start kind before after held new ps p part k e h at kept left t 
     more_written start kind before.output after held new ps p h kept left (subst (λ u. takes (position_of u) (meant u p) left) (at ∙ h.inner) (subst (λ x. accepts (position_of before.pending) (meant before.pending p) x left) e t)) inner
     (subst (λ u. wrote (position_of u) before.output (meant u p) after) (at ∙ h.inner) (subst (λ x. writes_tree (position_of before.pending) before.output (meant before.pending p) x after) e w)) position is taken len
 
--- the same compound over an output that went back to where it was
+-- The same compound after the output is restored to the same bytes.
 pub back : (b : Bool) (start : Writer) (kind : Kind) (s cut : Output) (held new : WriterCompound) (ps : List (Option Tree)) → written_as b start kind s held ps → Kept s cut → SameOutput s cut →
     new.position ≡ held.position → new.shape ≡ held.shape → new.inner ≡ held.inner → new.before_last ≡ held.before_last → written_as b start kind cut new ps
 back true start kind s cut held new ps h k e position is inner last = alone_back start s cut held new ps h k e position is inner
@@ -49,7 +49,7 @@ pub position_since : (b : Bool) (start : Writer) (kind : Kind) (s : Output) (hel
 position_since true start kind s held ps h = h.position
 position_since false start kind s held ps h = ap without_prefix h.position
 
--- the refusal of a part is one of the whole
+-- An error of a part is permitted for the compound.
 pub part_no : (b : Bool) (start : Writer) (kind : Kind) (before : Writer) (cut : Output) (held : WriterCompound) (ps : List (Option Tree)) (p : Option Tree) (part : Result (Unit {0}) WalkError) (e : WalkError) (after : Pending) → is_single kind ≡ b → part ≡ Err e → written_as b start kind before.output held ps → before.pending ≡ held.inner → Kept start.output cut →
     accepts (position_of before.pending) (meant before.pending p) part after → (others : List (Option Tree)) → writer_permits start (whole kind (ps ++ (p ∷ others))) (Err e) (record { pending = pending.Plain (without_prefix held.position); output = cut })
 part_no true start kind before cut held ps p part e after k is h at kept w others =
@@ -66,7 +66,7 @@ opens_alone start kind held k position inner is =
 pub opens_other : (start : Writer) (kind : Kind) (s : Output) (held : WriterCompound) → is_single kind ≡ false → WrittenParts start kind s held [] → written_as (is_single kind) start kind s held []
 opens_other start kind s held n h = subst (λ b. written_as b start kind s held []) (sym n) h
 
--- what was opened, by its shape
+-- The open compound, by its shape.
 pub gathered_one : (b : Bool) (start : Writer) (kind : Kind) (s : Output) (held : WriterCompound) (ps : List (Option Tree)) → is_single kind ≡ b → written_as b start kind s held ps → (held.shape ≡ shape.Single → ⊥) → (is_single kind ≡ false) × WrittenParts start kind s held ps
 gathered_one true start kind s held ps k h n = absurd (n h.shape)
 gathered_one false start kind s held ps k h n = (k, h)

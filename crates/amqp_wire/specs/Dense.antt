@@ -1,11 +1,12 @@
--- Trees of which no list or map has more parts than bytes, and whose parts can all stand where they do.
+-- Trees in which no list or map has more parts than bytes, and every part is accepted at its
+-- position.
 use Rattle.std.specs.Prelude.{ℕ, ◌*◌, List, Bool, true, false, ◌&&◌, length, nat_le, is_some}
 use Rattle.amqp_ser.specs.Tree.{Tree, Trees, Pairs, scalar, list, array, map, described, variant, lazy, transparent, no_trees, more, no_pairs, pair, count, pair_count}
 use Rattle.amqp_ser.specs.Encoding.{encoding_each, encoding_pairs, constructor}
 use Rattle.amqp_size.specs.WholePosition.{Position}
 use Rattle.amqp_size.specs.WholePosition as position
 
--- no more parts than bytes
+-- There are no more parts than bytes.
 abbrev pub count_fits : ℕ → List ℕ → Bool
 count_fits n body = nat_le n (length body)
 
@@ -13,7 +14,7 @@ abbrev pub is_opaque : Tree → Bool
 is_opaque (transparent ts) = false
 is_opaque t = true
 
--- a transparent tree stands at the root alone, and an array's element has a constructor
+-- A transparent tree is only at the root, and an array element has a constructor.
 abbrev pub fit : Position → Tree → Bool
 fit position.Root t = true
 fit position.Inside t = is_opaque t
@@ -22,7 +23,7 @@ fit (position.Element c) t = is_some (constructor t)
 fit position.Descriptor t = is_opaque t
 fit (position.Value n b) t = is_opaque t
 
--- an encoded value has at least a byte
+-- No list or map in the tree has more parts than bytes, and a lazy value has at least one byte.
 abbrev mutual
   pub dense : Tree → Bool
   dense (scalar s) = true
@@ -42,6 +43,6 @@ abbrev mutual
   dense_pairs no_pairs = true
   dense_pairs (pair k v ps) = (is_opaque k && dense k) && ((is_opaque v && dense v) && dense_pairs ps)
 
--- as it stands there
+-- The tree fits this position and is dense.
 abbrev pub dense_at : Position → Tree → Bool
 dense_at p t = fit p t && dense t

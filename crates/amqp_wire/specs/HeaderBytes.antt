@@ -1,4 +1,4 @@
--- The bytes that stand before a compound's parts (AMQP 1.0 part 1, sections 1.2.3 and 1.2.4).
+-- The bytes before the parts of a compound (AMQP 1.0 part 1, sections 1.2.3 and 1.2.4).
 use Rattle.std.specs.Prelude.{ℕ, List, [], ◌∷◌, ◌++◌, Bool, true, false, ◌&&◌, ◌+◌, ◌≤◌, nat_eq, nat_le, if◌then◌else◌}
 use Rattle.std.specs.Int.{w32, to_be_bytes}
 use Rattle.amqp_ser.specs.Tree.{Tree, Trees, uint}
@@ -21,7 +21,7 @@ is_element (Element c) = true
 is_element Descriptor = false
 is_element (Value h b) = false
 
--- the bytes by themselves, or as an array's element after the constructor
+-- The complete bytes, or the payload after the constructor for an array element.
 abbrev pub pick : Bool → List ℕ → List ℕ → List ℕ
 pick false whole payload = whole
 pick true whole payload = payload
@@ -29,11 +29,12 @@ pick true whole payload = payload
 abbrev pub bytes_at : Bool → Tree → List ℕ
 bytes_at a t = pick a (encoding t) (payload t)
 
--- the length of a text or a binary, with the code of a length of one byte and that of four
+-- The length of a text or a binary: `c8` is the code with a length of one byte, `c32` that with
+-- four bytes.
 abbrev pub text_header : Bool → ℕ → ℕ → ℕ → List ℕ
 text_header a c8 c32 n = pick a (if is_short n then c8 ∷ n ∷ [] else c32 ∷ to_be_bytes w32 n) (to_be_bytes w32 n)
 
--- a size and a count, with the code of a size of one byte and that of four
+-- A size and a count: `c8` is the code with one byte for each, `c32` that with four bytes.
 abbrev pub counted_header : ℕ → ℕ → ℕ → ℕ → List ℕ
 counted_header c8 c32 n m = if is_short n && nat_le m 255 then c8 ∷ (n + 1) ∷ m ∷ [] else c32 ∷ (to_be_bytes w32 (n + 4) ++ to_be_bytes w32 m)
 
@@ -45,7 +46,7 @@ whole_header header_kind.Array n m = counted_header 0xe0 0xf0 n m
 abbrev pub header_bytes : Bool → HeaderKind → Header → List ℕ
 header_bytes a y h = pick a (whole_header y h.len h.count) (to_be_bytes w32 (h.len + 4) ++ to_be_bytes w32 h.count)
 
--- the bytes before the parts, from the headers
+-- The bytes before the parts, given the headers.
 abbrev pub opening : Bool → Shape → List Header → List ℕ
 opening a shape.List (h ∷ hs) = header_bytes a header_kind.List h
 opening a shape.Map (h ∷ hs) = header_bytes a header_kind.Map h
@@ -54,13 +55,13 @@ opening a (shape.NewtypeVariant i) (h ∷ hs) = header_bytes a header_kind.Map h
 opening a shape.Array (h ∷ hs) = header_bytes a header_kind.Array h ++ code_list h.constructor
 opening a s hs = []
 
--- the bytes of the parts after them
+-- The bytes of the parts, after the opening.
 abbrev pub after_opening : Shape → Trees → List ℕ
 after_opening shape.Array ts = payload_each ts
 after_opening shape.Refused ts = []
 after_opening s ts = encoding_each ts
 
--- a length that leaves room for the count in four bytes
+-- With the four bytes of the count, the length fits in 32 bits.
 abbrev pub small : Header → Type 0
 small h = h.len ≤ 4294967291
 

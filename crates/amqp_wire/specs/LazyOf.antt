@@ -1,4 +1,4 @@
--- The answers that may be given on a tree, or on none: its bytes, where they are one encoded value.
+-- The permitted results for a tree, or for none: the bytes, if they are one encoded value.
 use Rattle.std.specs.Prelude.{◌≡◌, ◌⊎◌, ℕ, List, true, Option, Some, None, Result, Ok, Err}
 use Rattle.amqp_data.specs.declared.error.Error.{Error}
 use Rattle.amqp_data.specs.declared.error.Error.TheVariants as error
@@ -8,12 +8,14 @@ use Rattle.amqp_ser.specs.Encoding.{encoding}
 use Rattle.amqp_ser.specs.SizeAndBytes.{refuses_none, refuses_tree}
 use Rattle.amqp_ser.specs.Writable.{writable}
 
--- too long only where a limit is passed, invalid only for another cause or where the bytes are not one encoded value
+-- `TooLong` only if a limit is exceeded; `InvalidValue` only for another reason or if the bytes are
+-- not one encoded value.
 abbrev pub refuses_lazy : Tree → Error → Type 0
 refuses_lazy t error.InvalidValue = refuses_tree t error.InvalidValue ⊎ ¬ IsFrame (encoding t)
 refuses_lazy t e = refuses_tree t e
 
--- exactly where the tree is writable and its bytes are one encoded value, these bytes, out of memory aside
+-- The bytes, if and only if the tree is writable and they are one encoded value, unless memory runs
+-- out.
 abbrev pub IsLazyOf : Option Tree → Result (List ℕ) Error → Type 0
 IsLazyOf None (Ok bs) = ⊥
 IsLazyOf (Some t) (Ok bs) = (writable t ≡ true) × (bs ≡ encoding t) × IsFrame (encoding t)

@@ -1,7 +1,8 @@
--- What the contracts of the public items, `to_vec` and `to_lazy_value`, rest on, besides definitions of `amqp_ser`.
+-- Definitions that the contracts of the public items `to_vec` and `to_lazy_value` use, besides
+-- those of `amqp_ser`.
 pub mod ResultBytes
 pub mod LazyOf
--- What private clauses alone cite: the law of the two walks.
+-- Definitions that only private clauses use: the law of the two passes.
 pub mod TreeHeaders
 pub mod Dense
 pub mod HeaderBytes

@@ -1,4 +1,5 @@
--- What the first walk may answer: a tree's length, with its headers at the end of the table.
+-- The permitted results of the first pass: the length of a tree, with its headers at the end of the
+-- table.
 use Rattle.std.specs.Prelude.{◌≡◌, ℕ, ◌+◌, ◌≤◌, ◌⊎◌, List, [], ◌∷◌, ◌++◌, Option, Some, None, Bool, true, false, Result, Ok, Err, length, slice_set}
 use Rattle.amqp_size.specs.declared.walk_error.WalkError.{WalkError}
 use Rattle.amqp_size.specs.declared.walk_error.WalkError.TheVariants.{OutOfMemory}
@@ -17,22 +18,22 @@ use Rattle.amqp_wire.specs.declared.header.Header.{Header}
 use Rattle.amqp_wire.specs.declared.measurer.Measurer.{Measurer}
 use Rattle.amqp_wire.specs.declared.measurer.MeasurerCompound.{MeasurerCompound}
 
--- slots at the end, or the word that a growth was refused
+-- `n` slots are appended, or the flag says that an allocation failed.
 abbrev pub appended : ℕ → List Header → Bool → List Header → Type 0
 appended n b true a = Extends b a
 appended n b false a = (hs : List Header) × ((length hs ≡ n) × (a ≡ b ++ hs))
 
--- headers written one after another
+-- The headers are stored one after another, from this index on.
 abbrev pub fills : List Header → ℕ → List Header → List Header
 fills [] at xs = xs
 fills (h ∷ hs) at xs = fills hs (at + 1) (slice_set xs at h)
 
--- a tree's headers stand at the end
+-- The headers of the tree are at the end of the table.
 abbrev pub listed : Option Tree → List Header → List Header → Type 0
 listed None b a = ⊥
 listed (Some t) b a = (a ≡ b ++ headers_of t) × (dense t ≡ true)
 
--- out of memory is no answer on the tree
+-- `OutOfMemory` says nothing about the tree.
 abbrev pub counts_tree : Measurer → Option Tree → Result ℕ WalkError → Measurer → Type 0
 counts_tree s o (Ok n) after = size_permits s.size o (Ok n) after.size × listed (meant s.size.pending o) s.table.headers.items after.table.headers.items
 counts_tree s o (Err e) after = ((e ≡ OutOfMemory) × (after.size.pending ≡ Plain (without_prefix (position_of s.size.pending)))) ⊎ size_permits s.size o (Err e) after.size
@@ -40,12 +41,12 @@ counts_tree s o (Err e) after = ((e ≡ OutOfMemory) × (after.size.pending ≡ 
 abbrev pub measurer_permits : Measurer → Option Tree → Result ℕ WalkError → Measurer → Type 0
 measurer_permits s o r after = Extends s.table.headers.items after.table.headers.items × counts_tree s o r after
 
--- the table has the slots of a compound, and the headers of its parts
+-- The table contains the slots of the compound, and then the headers of its parts.
 abbrev pub lists_parts : Measurer → Kind → MeasurerCompound → List Header → List (Option Tree) → Type 0
 lists_parts start kind held table ps = held.missed ≡ false → (ts : Trees) → all_trees ps ≡ Some ts →
     (hs : List Header) × ((length hs ≡ header_count (shape_of start.size.pending kind)) × (table ≡ start.table.headers.items ++ (hs ++ headers_of_each ts)))
 
--- the table before the last part
+-- The table before the last part.
 pub record TableBeforeLast (start : Measurer) (kind : Kind) (table : List Header) (held : MeasurerCompound) (qs : List (Option Tree)) : Type 0 where
   pub old : List Header
   pub since : Extends start.table.headers.items old
@@ -61,7 +62,7 @@ pub record PartsTable (start : Measurer) (kind : Kind) (table : List Header) (he
   pub listed : lists_parts start kind held table ps
   pub back : paired ps ≡ false → (qs : List (Option Tree)) (q : Option Tree) → ps ≡ qs ++ (q ∷ []) → TableBeforeLast start kind table held qs
 
--- the table of a single compound has the headers of its part alone
+-- The table of a single compound contains only the headers of its part.
 pub record SingleTable (start : Measurer) (table : List Header) (ps : List (Option Tree)) : Type 0 where
   pub extends : Extends start.table.headers.items table
   pub none : ps ≡ [] → table ≡ start.table.headers.items
@@ -77,15 +78,15 @@ measurer_has start kind s held ps = size_has start.size kind s.size held.size ps
 abbrev pub measurer_awaits : Measurer → Kind → Measurer → MeasurerCompound → List (Option Tree) → Type 0
 measurer_awaits start kind s held ps = (size_awaits start.size kind s.size held.size ps × tabled_as (is_single kind) start kind s.table.headers.items held ps) × (held.before_current ≡ length s.table.headers.items)
 
--- a descriptor takes no slot
+-- A descriptor has no slot.
 abbrev pub measurer_awaits_descriptor : Measurer → Measurer → MeasurerCompound → Type 0
 measurer_awaits_descriptor start s held = (size_awaits_descriptor start.size s.size held.size × (s.table.headers.items ≡ start.table.headers.items)) × (held.before_current ≡ length s.table.headers.items)
 
--- a part's answer, or the refusal of the compound's slot
+-- The result of the part, or `OutOfMemory` if the compound has no slot.
 abbrev pub answered : MeasurerCompound → Result ℕ WalkError → Result ℕ WalkError → Type 0
 answered held part (Ok n) = (part ≡ Ok n) × (held.missed ≡ false)
 answered held part (Err e) = (e ≡ OutOfMemory) ⊎ (part ≡ Err e)
 
--- where there is no tree there is no length
+-- If there is no tree, no length is returned.
 pub no_length_of_none : (s : Measurer) (n : ℕ) (after : Measurer) → measurer_permits s None (Ok n) after → ⊥
 no_length_of_none s n after h = no_count_on_none s.size n after.size h.1.0

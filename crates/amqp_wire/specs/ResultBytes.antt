@@ -1,4 +1,4 @@
--- The bytes of a vector, or the refusal in its place.
+-- The bytes of a vector, or the error.
 use Rattle.std.specs.Prelude.{ℕ, List, Result, Ok, Err, Vec}
 use Rattle.std.specs.declared.alloc.Global.{Global}
 use Rattle.amqp_data.specs.declared.error.Error.{Error}

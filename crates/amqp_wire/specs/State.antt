@@ -1,4 +1,5 @@
--- The second walk, where it stands: it keeps no number beside a position, and none is needed.
+-- The state of the second pass. No length of descriptors is stored next to a position, and none is
+-- needed.
 use Rattle.amqp_size.specs.WholePosition.{Position}
 use Rattle.amqp_size.specs.WholePending.{Pending}
 use Rattle.amqp_size.specs.declared.shape.Shape.{Shape}
@@ -9,7 +10,7 @@ pub record WriterState : Type 0 where
   pub pending : Pending
   pub output : Output
 
--- an open compound
+-- An open compound.
 pub record WriterCompoundState : Type 0 where
   pub position : Position
   pub shape : Shape

@@ -1,4 +1,5 @@
--- The table of a tree: the headers of its compounds, in the order of their opening (AMQP 1.0 part 1, section 1.2).
+-- The table of a tree: the headers of its compounds, in the order in which they are opened (AMQP
+-- 1.0 part 1, section 1.2).
 use Rattle.std.specs.Prelude.{ℕ, List, [], ◌∷◌, ◌++◌, ◌+◌, ◌*◌, ◌≤◌, length, Option, None}
 use Rattle.amqp_ser.specs.Tree.{Tree, Trees, Pairs, uint, scalar, list, array, map, described, variant, lazy, transparent, no_trees, more, no_pairs, pair, count, pair_count}
 use Rattle.amqp_ser.specs.Scalars.{scalar_form}
@@ -11,7 +12,7 @@ use Rattle.amqp_wire.specs.declared.header.Header.{Header}
 abbrev pub header : ℕ → ℕ → Option ℕ → Header
 header n m c = record { len = n; count = m; constructor = c }
 
--- the constructor of an array's elements, that of the first
+-- The constructor of an array's elements is that of the first one.
 abbrev pub first_constructor : Trees → Option ℕ
 first_constructor no_trees = None
 first_constructor (more t ts) = constructor t
@@ -35,7 +36,8 @@ abbrev mutual
   headers_of_pairs no_pairs = []
   headers_of_pairs (pair k v ps) = headers_of k ++ (headers_of v ++ headers_of_pairs ps)
 
--- the headers of a compound of these parts: two where its fields stand in a list inside the map of a variant
+-- The headers of a compound with these parts. A variant with fields has two: one for its map, and
+-- one for the list of fields in it.
 abbrev pub compound_headers : Shape → Trees → List Header
 compound_headers shape.List ts = header (length (encoding_each ts)) (count ts) None ∷ []
 compound_headers shape.Map ts = header (length (encoding_each ts)) (count ts) None ∷ []
@@ -44,7 +46,7 @@ compound_headers (shape.NewtypeVariant i) ts = header (length (scalar_form (uint
 compound_headers shape.Array ts = header (length (array_constructor ts ++ payload_each ts)) (count ts) (first_constructor ts) ∷ []
 compound_headers s ts = []
 
--- how many slots it takes in the table: a transparent vector and a single compound take none
+-- The number of slots in the table. A transparent vector and a single compound have none.
 abbrev pub header_count : Shape → ℕ
 header_count (shape.Variant i) = 2
 header_count shape.Transparent = 0
@@ -52,7 +54,7 @@ header_count shape.Single = 0
 header_count shape.Refused = 0
 header_count s = 1
 
--- its headers, from the one of its parts
+-- The headers of a compound, given the header of its parts.
 abbrev pub headers_from : Shape → Header → List Header
 headers_from (shape.Variant i) h = header (uint_width i + list_width h.len) 2 None ∷ h ∷ []
 headers_from (shape.NewtypeVariant i) h = header (uint_width i + h.len) 2 None ∷ []
@@ -61,7 +63,7 @@ headers_from shape.Single h = []
 headers_from shape.Refused h = []
 headers_from s h = h ∷ []
 
--- their lengths have four bytes
+-- The lengths of the headers fit in four bytes.
 abbrev pub headers_fit : Shape → ℕ → Type 0
 headers_fit (shape.Variant i) n = uint_width i + list_width n ≤ 4294967295
 headers_fit (shape.NewtypeVariant i) n = uint_width i + n ≤ 4294967295

@@ -1,4 +1,5 @@
--- What the second walk may answer: where the table and the room are a tree's, its bytes.
+-- The permitted results of the second pass: the bytes of the tree, if the table and the capacity
+-- are those of the tree.
 use Rattle.std.specs.Prelude.{◌≡◌, ℕ, ◌+◌, ◌<◌, ◌≤◌, List, [], ◌∷◌, ◌++◌, Option, Some, None, Bool, true, false, Result, Ok, Err, length, drop}
 use Rattle.std.specs.Vec.{vec_capacity}
 use Rattle.amqp_size.specs.declared.walk_error.WalkError.{WalkError}
@@ -24,27 +25,27 @@ use Rattle.amqp_wire.specs.declared.output.Output.{Output}
 use Rattle.amqp_wire.specs.declared.writer.Writer.{Writer}
 use Rattle.amqp_wire.specs.declared.writer_compound.WriterCompound.{WriterCompound}
 
--- it goes on from there
+-- The second list is the first one with elements appended.
 abbrev pub Extends : {X : Type 0} → List X → List X → Type 0
 Extends {X} a b = (rest : List X) × (b ≡ a ++ rest)
 
--- what stays through every call
+-- What no call changes.
 pub record Kept (s after : Output) : Type 0 where
   pub table : after.table ≡ s.table
   pub capacity : vec_capacity s.out ≤ vec_capacity after.out
   pub grown : Extends s.out.items after.out.items
 
--- these bytes are written, or there was no room
+-- These bytes are appended, or the capacity is too small.
 abbrev pub puts : Output → List ℕ → Result (Unit {0}) WalkError → Output → Type 0
 puts s bytes (Ok u) after = after.out.items ≡ s.out.items ++ bytes
 puts s bytes (Err e) after = vec_capacity s.out < length s.out.items + length bytes
 
--- the next header was taken
+-- The next header is consumed, or the table has none left.
 abbrev pub nexts : Output → Option Header → Output → Type 0
 nexts s None after = length s.table.items ≤ s.taken
 nexts s (Some h) after = (drop s.taken s.table.items ≡ h ∷ drop after.taken after.table.items) × (after.taken ≡ s.taken + 1)
 
--- so many headers were taken and these bytes written, or there was no room
+-- `n` headers are consumed and these bytes appended, or the capacity is too small.
 abbrev pub leads : Output → ℕ → List ℕ → Result (Unit {0}) WalkError → Output → Type 0
 leads s n bytes (Ok u) after = (after.out.items ≡ s.out.items ++ bytes) × (after.taken ≡ s.taken + n)
 leads s n bytes (Err e) after = vec_capacity s.out < length s.out.items + length bytes
@@ -52,7 +53,7 @@ leads s n bytes (Err e) after = vec_capacity s.out < length s.out.items + length
 abbrev pub opens : Bool → Shape → Output → List Header → Result (Unit {0}) WalkError → Output → Type 0
 opens a shape s hs r after = leads s (length hs) (opening a shape hs) r after
 
--- the table and the room are this tree's
+-- The table and the capacity are those of this tree.
 pub record FitsOutput (p : Position) (s : Output) (t : Tree) : Type 0 where
   pub within_limits_it : within_limits t ≡ true
   pub dense_it : dense_at p t ≡ true
@@ -64,7 +65,7 @@ pub record Written (p : Position) (s : Output) (t : Tree) (after : Output) : Typ
   pub out : after.out.items ≡ s.out.items ++ bytes_at (is_element p) t
   pub taken : after.taken ≡ s.taken + length (headers_of t)
 
--- a tree that may stand there was taken
+-- The tree is accepted at this position.
 pub record Taken (p : Position) (t : Tree) (after : Pending) : Type 0 where
   pub uniform_arrays_it : uniform_arrays t ≡ true
   pub suited : suits p t ≡ true
@@ -74,7 +75,8 @@ abbrev pub takes : Position → Option Tree → Pending → Type 0
 takes p None after = ⊥
 takes p (Some t) after = Taken p t after
 
--- whatever the table and the room are, the first walk's answer, but for limits that its lengths pass
+-- The result of the first pass, whatever the table and the capacity are, except for limits that the
+-- lengths exceed.
 abbrev pub accepts : Position → Option Tree → Result (Unit {0}) WalkError → Pending → Type 0
 accepts p o (Ok u) after = takes p o after
 accepts p o (Err e) after = at_position p o (Err e) after
@@ -83,7 +85,7 @@ abbrev pub wrote : Position → Output → Option Tree → Output → Type 0
 wrote p s None after = Unit {0}
 wrote p s (Some t) after = FitsOutput p s t → Written p s t after
 
--- where the table and the room are the tree's, its bytes
+-- If the table and the capacity are those of the tree, its bytes are written.
 abbrev pub writes_tree : Position → Output → Option Tree → Result (Unit {0}) WalkError → Output → Type 0
 writes_tree p s o (Ok u) after = wrote p s o after
 writes_tree p s o (Err e) after = Unit {0}
@@ -91,7 +93,7 @@ writes_tree p s o (Err e) after = Unit {0}
 abbrev pub writer_permits : Writer → Option Tree → Result (Unit {0}) WalkError → Writer → Type 0
 writer_permits s o r after = Kept s.output after.output × (accepts (position_of s.pending) (meant s.pending o) r after.pending × writes_tree (position_of s.pending) s.output (meant s.pending o) r after.output)
 
--- the table and the room are those of a compound of these parts
+-- The table and the capacity are those of a compound with these parts.
 pub record PartsFitOutput (a : Bool) (shape : Shape) (s : Output) (ts : Trees) : Type 0 where
   pub within_limits_parts : within_limits_each ts ≡ true
   pub dense_parts : dense_each (part_position shape) ts ≡ true
@@ -100,7 +102,7 @@ pub record PartsFitOutput (a : Bool) (shape : Shape) (s : Output) (ts : Trees) :
   pub listed : drop s.taken s.table.items ≡ compound_headers shape ts ++ (headers_of_each ts ++ rest)
   pub room : length s.out.items + (length (opening a shape (compound_headers shape ts)) + length (after_opening shape ts)) ≤ vec_capacity s.out
 
--- the parts so far, of all the parts, are written
+-- The parts so far, `ts`, of all the parts are written.
 pub record WrittenSoFar (a : Bool) (shape : Shape) (start s : Output) (ts us : Trees) : Type 0 where
   pub out : s.out.items ≡ start.out.items ++ (opening a shape (compound_headers shape (join ts us)) ++ after_opening shape ts)
   pub taken : s.taken ≡ start.taken + length (compound_headers shape (join ts us)) + length (headers_of_each ts)
@@ -108,7 +110,7 @@ pub record WrittenSoFar (a : Bool) (shape : Shape) (start s : Output) (ts us : T
 abbrev pub meets_parts : Writer → Kind → Output → Trees → Type 0
 meets_parts start kind s ts = (us : Trees) → PartsFitOutput (is_element (position_of start.pending)) (shape_of start.pending kind) start.output (join ts us) → WrittenSoFar (is_element (position_of start.pending)) (shape_of start.pending kind) start.output s ts us
 
--- where the output stood before the last part
+-- The output before the last part.
 pub record OutputBeforeLast (start : Writer) (kind : Kind) (s : Output) (held : WriterCompound) (qs : List (Option Tree)) : Type 0 where
   pub old : Output
   pub since : Kept start.output old
@@ -131,11 +133,11 @@ pub record WrittenParts (start : Writer) (kind : Kind) (s : Output) (held : Writ
   pub met : meets_parts start kind s ts
   pub back : paired ps ≡ false → (qs : List (Option Tree)) (q : Option Tree) → ps ≡ qs ++ (q ∷ []) → OutputBeforeLast start kind s held qs
 
--- nothing was written since
+-- Nothing is written in between.
 abbrev pub SameOutput : Output → Output → Type 0
 SameOutput s after = (after.out.items ≡ s.out.items) × (after.taken ≡ s.taken)
 
--- a single compound writes its part alone, where it was opened
+-- A single compound writes only its part, at the position of the compound.
 pub record WrittenSingle (start : Writer) (s : Output) (held : WriterCompound) (ps : List (Option Tree)) : Type 0 where
   pub kept : Kept start.output s
   pub position : without_prefix held.position ≡ without_prefix (position_of start.pending)
@@ -150,14 +152,14 @@ written_as false start kind s held ps = WrittenParts start kind s held ps
 abbrev pub writer_has : Writer → Kind → Writer → WriterCompound → List (Option Tree) → Type 0
 writer_has start kind s held ps = written_as (is_single kind) start kind s.output held ps × (s.pending ≡ Plain (without_prefix held.position))
 
--- where the output stands, which is gone back to where the part is refused
+-- The position of the output, which is restored if the part fails.
 abbrev pub stands_at : WriterCompound → Output → Type 0
 stands_at held s = (held.before_current.taken ≡ s.taken) × (held.before_current.len ≡ length s.out.items)
 
 abbrev pub writer_awaits : Writer → Kind → Writer → WriterCompound → List (Option Tree) → Type 0
 writer_awaits start kind s held ps = (written_as (is_single kind) start kind s.output held ps × (s.pending ≡ held.inner)) × stands_at held s.output
 
--- the code of described values is written, where there is room for one
+-- The format code of described values is written, if there is capacity for it.
 abbrev pub headed : Writer → Output → Type 0
 headed start s = length start.output.out.items + 1 ≤ vec_capacity start.output.out →
     (s.out.items ≡ start.output.out.items ++ (0x00 ∷ [])) × (s.taken ≡ start.output.taken)
@@ -178,6 +180,6 @@ takes_none (pending.Transparent p) after h = h
 takes_none (pending.Scalar m p) after h = h
 takes_none (pending.Nothing p) after h = h
 
--- where there is no tree nothing is taken
+-- If there is no tree, no value is accepted.
 pub nothing_of_none : (s : Writer) (u : Unit {0}) (after : Writer) → writer_permits s None (Ok u) after → ⊥
 nothing_of_none s u after h = takes_none s.pending after.pending h.1.0

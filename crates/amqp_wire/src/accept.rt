@@ -1,4 +1,4 @@
-//! Which trees the writer takes, by where they stand.
+//! Which trees the writer accepts at each position.
 
 ghost use Rattle.std.specs.Prelude.{◌≡◌, Some, true};
 ghost use Rattle.amqp_ser.specs.Encoding.{constructor};
@@ -14,7 +14,7 @@ use crate::writer::Writer;
 use amqp_size::{Pending, Position, WalkError};
 
 impl Writer {
-    /// Comes to rest where it stands: markers and descriptors are behind it.
+    /// Clears the pending marker and descriptor.
     #[inline(always)]
     pub(crate) fn reset(&mut self)
         ensures pending { self.new.pending ≡ Plain (without_prefix (position_of self.old.pending)) }
@@ -27,7 +27,7 @@ impl Writer {
         }
     }
 
-    /// Comes to rest where it stands under a marker.
+    /// Like `reset`, under a marker.
     #[inline(never)]
     fn reset_marked(&mut self)
         ensures pending { self.new.pending ≡ Plain (without_prefix (position_of self.old.pending)) }
@@ -36,7 +36,11 @@ impl Writer {
         self.pending = Pending::Plain(self.pending.without_prefix());
     }
 
-    /// Whether a tree with this constructor is taken there, by a writer at rest.
+    /// Checks that this position accepts a tree with this constructor. The writer must have been
+    /// reset.
+    ///
+    /// # Errors
+    /// Returns `InvalidValue` if the position rejects the tree.
     #[inline(always)]
     pub(crate) fn accept(&mut self, position: Position, code: u8) -> Result<(), WalkError>
         ensures output { self.new.output ≡ self.old.output }
@@ -58,7 +62,7 @@ impl Writer {
         }
     }
 
-    /// The same in an array or at a descriptor's position.
+    /// Like `accept`, in an array or at the position of a descriptor.
     #[inline(never)]
     fn accept_elsewhere(&mut self, position: Position, code: u8) -> Result<(), WalkError>
         ensures output { self.new.output ≡ self.old.output }
@@ -76,7 +80,10 @@ impl Writer {
         }
     }
 
-    /// Whether transparent trees are taken there: at the root alone.
+    /// Checks that this position accepts a transparent vector: only the root does.
+    ///
+    /// # Errors
+    /// Returns `InvalidValue` at any other position.
     #[inline(always)]
     pub(crate) fn accept_transparent(&mut self, position: Position) -> Result<(), WalkError>
         ensures output { self.new.output ≡ self.old.output }

@@ -1,4 +1,4 @@
-//! A value's bytes as one encoded value.
+//! Encodes a value as a lazy value.
 
 ghost use Rattle.amqp_wire.specs.LazyOf.{IsLazyOf};
 
@@ -9,24 +9,25 @@ use amqp_ser::Serialize;
 use bytes::Bytes;
 use std::alloc::Global;
 
-/// The value's bytes as a lazy value, exactly where its tree can be written as one encoded value.
+/// Returns the encoding of `value` as a lazy value.
 ///
-/// A transparent vector is none, unless it holds just one; any other tree that can be written is
-/// one.
+/// Unless an allocation fails, it succeeds if and only if the tree of the value is writable and its
+/// encoding is one encoded value. The encoding of a transparent vector is one encoded value only if
+/// the vector contains exactly one; the encoding of any other writable tree always is.
 ///
 /// # Encoding
-/// The bytes of [`to_vec`], in the buffer that it made.
+/// The bytes of [`to_vec`], in the buffer that it allocated.
 ///
 /// # Errors
-/// `OutOfMemory` where a growth was refused. `TooLong` only where a limit is passed, `InvalidValue`
-/// only where the tree cannot be written for another cause or its bytes are not exactly one encoded
-/// value; one of them where the value has no tree.
+/// Returns `OutOfMemory` if an allocation fails. Returns `TooLong` only if a limit is exceeded, and
+/// `InvalidValue` only if the tree is not writable for another reason or its bytes are not exactly
+/// one encoded value. Returns one of them if the value has no tree.
 ///
 /// # Memory
-/// Takes `alloc`: as `to_vec`, and once more so that the buffer can be shared.
+/// Allocates from `alloc` as `to_vec` does, and once more so that the buffer can be shared.
 ///
 /// # Example
-/// Of the string `Hello, World!` it holds `a10d48656c6c6f2c20576f726c6421`.
+/// The string `Hello, World!` gives `a10d48656c6c6f2c20576f726c6421`.
 pub fn to_lazy_value<T: Serialize>(alloc: Global, value: &T) -> Result<LazyValue, Error>
     ensures { IsLazyOf (T.tree value.now) result }
 {

@@ -1,9 +1,9 @@
-//! The bytes of a value, in two walks and one reservation.
+//! Encodes a value in two passes, with one allocation for the bytes.
 //!
-//! `to_vec` walks over a value twice. The first walk counts its bytes and lists what stands before
-//! each compound; then the bytes are reserved at once, and the second walk writes into the
-//! reservation and takes no memory. It writes exactly the tree's bytes exactly where the tree can
-//! be written, out of memory aside.
+//! `to_vec` makes two passes over a value. The first pass measures the encoding and lists the
+//! headers of all compounds. Then the buffer is allocated, and the second pass writes into it
+//! without allocating. Unless an allocation fails, `to_vec` succeeds if and only if the tree of the
+//! value is writable, and returns the encoding of the tree.
 #![tactic(auto)]
 
 mod accept;

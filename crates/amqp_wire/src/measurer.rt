@@ -1,4 +1,4 @@
-//! The first walk: the length of a value's bytes, and what stands before each compound.
+//! The first pass: measures an encoding and lists the headers of its compounds.
 
 ghost use Rattle.std.specs.Prelude.{◌≡◌, ◌≤◌, ◌++◌, ◌∷◌, [], List, Option, Result, Ok, Err, MatchResult, IfErr, IsErr, true, false, ℕ};
 ghost use Rattle.amqp_ser.specs.Tree.{Tree};
@@ -10,33 +10,33 @@ use amqp_size::width::LONGEST;
 use amqp_size::{OpenCompound, SizeSerializer, WalkError};
 use std::alloc::Global;
 
-/// Counts the bytes of values, and lists the headers of their compounds.
+/// A serializer that measures encodings and lists the headers of their compounds.
 ///
 /// # Memory
-/// Takes some for each compound, and none for a scalar.
+/// Allocates for the headers of each compound. A scalar allocates nothing.
 #[derive(Drop)]
 pub struct Measurer {
     size: SizeSerializer,
     table: Table,
 }
 
-/// A compound whose parts are still counted.
+/// A compound that is being measured.
 #[derive(Drop)]
 pub struct MeasurerCompound {
     size: OpenCompound,
-    /// Where its headers stand in the table.
+    /// Index of its first header in the table.
     at: usize,
-    /// It has no slot there.
+    /// Whether it has no slot in the table.
     missed: bool,
-    /// How long the table was before the part that is next or under way.
+    /// Length of the table before the part that is next or in progress.
     before_current: usize,
-    /// How long it was before the last part that was taken.
+    /// Length of the table before the last accepted part.
     before_last: usize,
-    /// How many parts were taken.
+    /// Number of accepted parts.
     parts: u32,
 }
 
-/// The length of a body, where it is within the limit.
+/// Returns `sum` if it is within `LONGEST`. The result never exceeds `LONGEST`.
 #[inline(always)]
 fn limited(sum: usize) -> u32
     ensures same { sum ≤ 4294967291 → result ≡ sum }
@@ -49,7 +49,7 @@ impl Measurer {
     ghost use Rattle.amqp_size.specs.WholePending.{Plain};
     ghost use Rattle.amqp_size.specs.WholePosition.{Root};
 
-    /// A first walk that has met nothing.
+    /// Creates a measurer at the root, with an empty table.
     #[inline(always)]
     pub fn new(alloc: Global) -> Measurer
         ensures table { result.table.headers.items ≡ [] }
@@ -62,7 +62,7 @@ impl Measurer {
         }
     }
 
-    /// Whether a growth was ever refused.
+    /// Returns whether an allocation has ever failed.
     #[inline(always)]
     pub fn is_refused(&self) -> bool
         ensures { result ≡ self.now.table.refused }
@@ -70,7 +70,7 @@ impl Measurer {
         self.table.is_refused()
     }
 
-    /// The headers.
+    /// Returns the headers.
     #[inline(always)]
     pub fn into_headers(self) -> Vec<Header>
         ensures { result ≡ self.table.headers }
@@ -83,7 +83,7 @@ impl Measurer {
 impl MeasurerCompound {
     ghost use Rattle.amqp_wire.specs.Measurer.{answered};
 
-    /// The answer on a part, or the refusal of the compound's slot.
+    /// Returns the result of a part, or `OutOfMemory` if the compound has no slot in the table.
     #[inline(always)]
     fn answer(&self, part: Result<usize, WalkError>) -> Result<usize, WalkError>
         ensures { answered self.now part result }
@@ -301,9 +301,8 @@ impl Serializer for Measurer {
             return Err(WalkError::OutOfMemory);
         }
         let shape = size.shape();
-        // An array's first element left its constructor in the place of `self.size`, where
-        // `end_part` of the size serializer picked it up for `size`. Only then can the header be
-        // filled in.
+        // The constructor of an array is known only after its first element: `end_part` of the size
+        // serializer stores it in `size`. Therefore the header is filled in here.
         let header = Header {
             len: limited(size.sum()),
             count: parts,

@@ -1,4 +1,4 @@
-//! What is written before a compound's parts.
+//! Writes the headers of compounds.
 
 ghost use Rattle.std.specs.Prelude.{◌≡◌, ◌+◌, ◌<◌, ◌≤◌, ◌++◌, ◌∷◌, List, length, drop, MatchResult, IfOk, is_err, true, false};
 ghost use Rattle.std.specs.Vec.{vec_capacity};
@@ -10,14 +10,14 @@ use amqp_data::EncodingCodes;
 use amqp_ser::Fixed;
 use amqp_size::{Shape, WalkError};
 
-/// The codes of a header.
+/// The kind of a header, which determines its format codes.
 #[derive(Clone, Copy, Debug)]
 pub enum HeaderKind {
-    /// Those of lists.
+    /// The codes of lists.
     List,
-    /// Those of maps.
+    /// The codes of maps.
     Map,
-    /// Those of arrays.
+    /// The codes of arrays.
     Array,
 }
 
@@ -29,7 +29,8 @@ impl Output {
     ghost use Rattle.amqp_ser.specs.Encoding.{code_list};
     ghost use Rattle.std.specs.Int.{w32, to_be_bytes};
 
-    /// Writes a size and a count, in one byte each where both have room there.
+    /// Appends a code, a size and a count: `short` with one byte each if both fit, otherwise `long`
+    /// with four bytes each.
     #[inline(always)]
     fn put_counted(&mut self, short: u8, long: u8, len: u32, count: u32) -> Result<(), WalkError>
         ensures kept { Kept self.old self.new }
@@ -45,7 +46,7 @@ impl Output {
         self.put(&[long, a, b, c, d, e, f, g, h])
     }
 
-    /// Writes a header by itself.
+    /// Appends a header outside an array.
     #[inline(always)]
     fn put_whole_header(
         &mut self,
@@ -85,7 +86,7 @@ impl Output {
         }
     }
 
-    /// Writes a header. Its numbers come one by one, so that they come in registers.
+    /// Appends a header. Its numbers are separate parameters so that they are passed in registers.
     #[inline(never)]
     fn put_header(
         &mut self,
@@ -109,7 +110,7 @@ impl Output {
         }
     }
 
-    /// Takes the next header and writes it, and gives its constructor.
+    /// Consumes and appends the next header, and returns its constructor.
     #[inline(always)]
     fn put_next_header(
         &mut self,
@@ -150,7 +151,7 @@ impl Output {
         }
     }
 
-    /// Opens a variant of one value.
+    /// Opens a variant with one value.
     fn open_newtype_variant(&mut self, in_array: bool, index: u32) -> Result<(), WalkError>
         ensures kept { Kept self.old self.new }
         ensures opened { (h : Header) (rest : List Header) →
@@ -165,7 +166,7 @@ impl Output {
         }
     }
 
-    /// Opens a variant of fields.
+    /// Opens a variant with a list of fields.
     fn open_variant(&mut self, in_array: bool, index: u32) -> Result<(), WalkError>
         ensures kept { Kept self.old self.new }
         ensures opened { (h g : Header) (rest : List Header) →
@@ -198,11 +199,11 @@ impl Output {
         }
     }
 
-    /// Opens a compound: writes what stands before its parts.
+    /// Opens a compound: appends the bytes before its parts.
     ///
     /// # Errors
-    /// `InvalidValue` for a shape that has no header of its own or is refused, and where no header
-    /// is left; `TooLong` where there is no room for it.
+    /// Returns `InvalidValue` for `Shape::Single` and `Shape::Refused`, and if the table has no
+    /// header left. Returns `TooLong` if the remaining capacity is too small.
     #[inline(never)]
     pub fn open(&mut self, in_array: bool, shape: Shape) -> Result<(), WalkError>
         ensures kept { Kept self.old self.new }

@@ -1,4 +1,4 @@
-//! Bytes in room that stands ready.
+//! The output of the second pass, in a buffer whose capacity is allocated in advance.
 
 ghost use Rattle.std.specs.Prelude.{◌≡◌, ◌≤◌, ◌++◌, ◌∷◌, [], length, take, drop, nat_le, IfErr, false};
 ghost use Rattle.std.specs.Vec.{vec_capacity};
@@ -8,16 +8,16 @@ use amqp_data::EncodingCodes;
 use amqp_ser::Fixed;
 use amqp_size::{Form, WalkError};
 
-/// How far an output has come.
+/// A position in an output.
 #[derive(Clone, Copy, Debug)]
 pub struct Checkpoint {
-    /// How many headers were taken.
+    /// The number of headers consumed.
     pub taken: usize,
-    /// How many bytes were written.
+    /// The number of bytes written.
     pub len: usize,
 }
 
-/// Headers to take, and bytes in room that stands ready.
+/// A table of headers to consume, and a buffer whose capacity is allocated in advance.
 #[derive(Drop)]
 pub struct Output {
     table: Vec<Header>,
@@ -33,7 +33,7 @@ impl Output {
     ghost use Rattle.amqp_size.specs.Width.{text_at};
     ghost use Rattle.amqp_size.specs.Form.{form_bytes, form_payload};
 
-    /// An output with no byte yet.
+    /// Creates an output that has consumed no header and appends to `out`.
     #[inline(always)]
     pub fn new(table: Vec<Header>, out: Vec<u8>) -> Output
         ensures table { result.table ≡ table }
@@ -47,7 +47,7 @@ impl Output {
         }
     }
 
-    /// The bytes.
+    /// Returns the bytes.
     #[inline(always)]
     pub fn into_bytes(self) -> Vec<u8>
         ensures { result ≡ self.out }
@@ -60,7 +60,7 @@ impl Output {
         out
     }
 
-    /// How far it has come.
+    /// Returns the current position.
     #[inline(always)]
     pub fn checkpoint(&self) -> Checkpoint
         ensures taken { result.taken ≡ self.now.taken }
@@ -72,7 +72,7 @@ impl Output {
         }
     }
 
-    /// Goes back to where it was.
+    /// Restores the position of a checkpoint.
     #[inline(always)]
     pub fn restore(&mut self, checkpoint: Checkpoint)
         ensures table { self.new.table ≡ self.old.table }
@@ -84,7 +84,7 @@ impl Output {
         self.out.truncate(checkpoint.len);
     }
 
-    /// Takes no header more, until it goes back.
+    /// Invalidates the output until a checkpoint is restored.
     #[inline(always)]
     pub fn spoil(&mut self)
         ensures kept { Kept self.old self.new }
@@ -93,7 +93,7 @@ impl Output {
         self.taken = usize::MAX;
     }
 
-    /// Whether the table and the room sufficed.
+    /// Returns whether the output is valid: no more headers are consumed than the table has.
     #[inline(always)]
     pub fn is_whole(&self) -> bool
         ensures { result ≡ nat_le self.now.taken (length self.now.table.items) }
@@ -101,7 +101,7 @@ impl Output {
         self.taken <= self.table.len()
     }
 
-    /// Takes the next header.
+    /// Consumes and returns the next header, or returns `None` at the end of the table.
     #[inline(always)]
     pub fn next(&mut self) -> Option<Header>
         ensures table { self.new.table ≡ self.old.table }
@@ -116,10 +116,10 @@ impl Output {
         Some(header)
     }
 
-    /// Writes bytes, where there is room.
+    /// Appends bytes.
     ///
     /// # Errors
-    /// `TooLong` where there is no room for them.
+    /// Returns `TooLong` if the remaining capacity is too small.
     #[inline(always)]
     pub fn put(&mut self, bytes: &[u8]) -> Result<(), WalkError>
         ensures kept { Kept self.old self.new }
@@ -136,10 +136,10 @@ impl Output {
         }
     }
 
-    /// Writes a few bytes one by one, where there is room.
+    /// Like `put`, but appends byte by byte, for a few bytes.
     ///
     /// # Errors
-    /// `TooLong` where there is no room for them.
+    /// Returns `TooLong` if the remaining capacity is too small.
     #[inline(always)]
     pub fn put_few(&mut self, bytes: &[u8]) -> Result<(), WalkError>
         ensures kept { Kept self.old self.new }
@@ -156,7 +156,7 @@ impl Output {
         Ok(())
     }
 
-    /// Writes a form by itself.
+    /// Appends the code and the bytes of a form.
     #[inline(always)]
     fn put_form(&mut self, form: Form) -> Result<(), WalkError>
         requires { form.width ≤ 8 }
@@ -179,7 +179,7 @@ impl Output {
         }
     }
 
-    /// Writes the bytes after a form's code.
+    /// Appends the bytes of a form, without its code.
     #[inline(always)]
     fn put_payload(&mut self, form: Form) -> Result<(), WalkError>
         requires { form.width ≤ 8 }
@@ -199,7 +199,7 @@ impl Output {
         }
     }
 
-    /// Writes the bytes after a form's code, whatever its width.
+    /// Like `put_payload`, for any width up to 8.
     #[inline(never)]
     fn put_bits(&mut self, form: Form) -> Result<(), WalkError>
         requires { form.width ≤ 8 }
@@ -212,13 +212,13 @@ impl Output {
         self.put(&bytes[8 - form.width..])
     }
 
-    /// Writes a value of fixed width.
+    /// Appends a value of fixed width.
     ///
     /// # Errors
-    /// `TooLong` where there is no room for it.
+    /// Returns `TooLong` if the remaining capacity is too small.
     ///
     /// # Example
-    /// `Fixed::Uint(0)` is `43`, and in an array `00000000`.
+    /// `Fixed::Uint(0)` is `43`, and `00000000` in an array.
     #[inline(always)]
     pub fn put_fixed(&mut self, in_array: bool, fixed: Fixed) -> Result<(), WalkError>
         ensures kept { Kept self.old self.new }
@@ -235,8 +235,8 @@ impl Output {
         }
     }
 
-    /// Writes the length of a text or a binary, with the code of a length of one byte or that of
-    /// four.
+    /// Appends the length of a text or a binary of `n` bytes. Outside an array, the code is `short`
+    /// before a length of one byte, and `long` before a length of four bytes.
     #[inline(always)]
     fn put_length(&mut self, in_array: bool, short: u8, long: u8, n: usize) -> Result<(), WalkError>
         requires { n ≤ 4294967291 }
@@ -256,13 +256,13 @@ impl Output {
         }
     }
 
-    /// Writes null.
+    /// Appends null.
     ///
     /// # Errors
-    /// `TooLong` where there is no room for it. In an array it takes none.
+    /// Returns `TooLong` if the remaining capacity is too small. In an array null has no bytes.
     ///
     /// # Example
-    /// `40`, and in an array no byte.
+    /// `40`, and no byte in an array.
     #[inline(always)]
     pub fn put_null(&mut self, in_array: bool) -> Result<(), WalkError>
         ensures kept { Kept self.old self.new }
@@ -276,13 +276,14 @@ impl Output {
         self.put_few(&[EncodingCodes::Null as u8])
     }
 
-    /// Writes a text or a binary, with the code of a length of one byte or that of four.
+    /// Appends a text or a binary. Outside an array, the code is `short` before a length of one
+    /// byte, and `long` before a length of four bytes.
     ///
     /// # Errors
-    /// `TooLong` where there is no room for it.
+    /// Returns `TooLong` if the remaining capacity is too small.
     ///
     /// # Example
-    /// The string `a` is `a10161`, and in an array `0000000161`.
+    /// The string `a` is `a10161`, and `0000000161` in an array.
     #[inline(always)]
     pub fn put_text(
         &mut self,
@@ -301,13 +302,13 @@ impl Output {
         self.put(bytes)
     }
 
-    /// Writes bytes after their code, or alone in an array.
+    /// Appends a code and bytes. In an array, appends only the bytes.
     ///
     /// # Errors
-    /// `TooLong` where there is no room for them.
+    /// Returns `TooLong` if the remaining capacity is too small.
     ///
     /// # Example
-    /// The code `74` and 01, 02, 03, 04 are `7401020304`, and in an array `01020304`.
+    /// The code `74` and 01, 02, 03, 04 are `7401020304`, and `01020304` in an array.
     #[inline(always)]
     pub fn put_exact(&mut self, in_array: bool, code: u8, bytes: &[u8]) -> Result<(), WalkError>
         ensures kept { Kept self.old self.new }

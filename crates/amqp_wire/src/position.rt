@@ -1,4 +1,4 @@
-//! Where a value stands, for what is written there.
+//! Positions of values in the second pass.
 
 ghost use Rattle.std.specs.Prelude.{◌≡◌, Some, MatchResult, true};
 ghost use Rattle.amqp_size.specs.State.{position_at, pending_at};
@@ -15,7 +15,7 @@ ghost use Rattle.amqp_size.specs.WholePosition.{Descriptor};
 use amqp_data::EncodingCodes;
 use amqp_size::{BasePosition, Pending, Position, Shape, WalkError};
 
-/// Whether an array's element stands there.
+/// Returns whether this is the position of an array element.
 #[inline(always)]
 pub fn is_element(position: Position) -> bool
     ensures { result ≡ is_element (position_at position 0) }
@@ -23,11 +23,11 @@ pub fn is_element(position: Position) -> bool
     matches!(position, Position::First | Position::Element(_))
 }
 
-/// Where what comes after a tree with this constructor stands, if the tree is taken there.
+/// Returns the position after a tree with this constructor.
 ///
 /// # Errors
-/// `InvalidValue` where an array has another constructor, for a descriptor that is no ulong and no
-/// symbol, and for a described value as an array's element.
+/// Returns `InvalidValue` if the array has another constructor, if a descriptor is neither a ulong
+/// nor a symbol, and if an array element is a described value.
 #[inline(always)]
 pub fn pending_after(position: Position, code: u8) -> Result<Pending, WalkError>
     ensures { (t : Tree) → constructor t ≡ Some code → uniform_arrays t ≡ true → inside t ≡ true →
@@ -63,11 +63,12 @@ pub fn pending_after(position: Position, code: u8) -> Result<Pending, WalkError>
     }
 }
 
-/// Where the value after a descriptor stands. No marker takes a described value, and it is no
-/// descriptor.
+/// Returns the position of the value after a descriptor.
+///
+/// No marker accepts a described value, and a described value is not a descriptor.
 ///
 /// # Errors
-/// `InvalidValue` where a descriptor is to stand.
+/// Returns `InvalidValue` at the position of a descriptor.
 #[inline(always)]
 pub fn after_descriptor(pending: Pending) -> Result<Pending, WalkError>
     ensures { MatchResult result
@@ -89,8 +90,11 @@ pub fn after_descriptor(pending: Pending) -> Result<Pending, WalkError>
     }
 }
 
-/// Where the next part stands, from where this one stood and what came after it: an array takes its
-/// constructor from the first, and what a single compound leaves stands behind it.
+/// Returns the position of the next part. `inner` is the position of the last part, and `after` is
+/// the position after it.
+///
+/// An array gets its constructor from its first element. A single compound keeps the position after
+/// its value.
 #[inline(always)]
 pub fn inner_after(shape: Shape, inner: Pending, after: Pending) -> Pending
     ensures { pending_at result 0 ≡ inner_after shape (pending_at inner 0) (pending_at after 0) }

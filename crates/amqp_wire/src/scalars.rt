@@ -1,4 +1,4 @@
-//! The bytes of scalars and of lazy values, where they are taken.
+//! Writes scalars and lazy values at positions that accept them.
 
 ghost use Rattle.std.specs.Prelude.{◌≡◌, ◌∷◌, Bool, Some, length};
 ghost use Rattle.amqp_ser.specs.Fixed.{fixed_scalar};
@@ -97,7 +97,7 @@ impl Writer {
         }
     }
 
-    /// Writes bytes of one length after their code.
+    /// Writes a code and the bytes after it. In an array, writes only the bytes.
     #[inline(never)]
     pub(crate) fn exact(
         &mut self,
@@ -125,7 +125,7 @@ impl Writer {
         }
     }
 
-    /// Writes an encoded value as it is.
+    /// Writes an encoded value unchanged.
     #[inline(never)]
     pub(crate) fn lazy(&mut self, position: Position, bytes: &[u8]) -> Result<(), WalkError>
         ensures kept { Kept self.old.output self.new.output }

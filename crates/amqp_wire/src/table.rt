@@ -1,4 +1,4 @@
-//! The headers of compounds, in the order of their opening.
+//! The headers of compounds, in the order in which the compounds are opened.
 
 ghost use Rattle.std.specs.Prelude.{◌≡◌, ◌+◌, ◌≤◌, ◌++◌, ◌∷◌, ◌||◌, [], false, length, take, slice_set};
 
@@ -14,11 +14,11 @@ use std::alloc::Global;
 #[derive(Drop)]
 pub struct Table {
     headers: Vec<Header>,
-    /// A growth was refused, whatever came of it later.
+    /// Whether an allocation has ever failed, even if a later one succeeded.
     refused: bool,
 }
 
-/// A number that has four bytes, where it has.
+/// Returns `n` as a `u32` if it fits.
 #[inline(always)]
 fn narrow(n: usize) -> u32
     ensures { n ≤ 4294967295 → result ≡ n }
@@ -30,7 +30,7 @@ impl Table {
     ghost use Rattle.amqp_wire.specs.TreeHeaders.{header_count, headers_from, headers_fit};
     ghost use Rattle.amqp_wire.specs.Measurer.{appended, fills};
 
-    /// A table of no headers.
+    /// Creates an empty table.
     #[inline(always)]
     pub fn new(alloc: Global) -> Table
         ensures empty { result.headers.items ≡ [] }
@@ -42,7 +42,7 @@ impl Table {
         }
     }
 
-    /// Whether a growth was ever refused.
+    /// Returns whether an allocation has ever failed.
     #[inline(always)]
     pub fn is_refused(&self) -> bool
         ensures { result ≡ self.now.refused }
@@ -50,7 +50,7 @@ impl Table {
         self.refused
     }
 
-    /// How many headers there are.
+    /// Returns the number of headers.
     #[inline(always)]
     pub fn len(&self) -> usize
         ensures { result ≡ length self.now.headers.items }
@@ -58,7 +58,7 @@ impl Table {
         self.headers.len()
     }
 
-    /// The headers.
+    /// Returns the headers.
     #[inline(always)]
     pub fn into_headers(self) -> Vec<Header>
         ensures { result ≡ self.headers }
@@ -70,7 +70,7 @@ impl Table {
         headers
     }
 
-    /// Keeps the first headers alone.
+    /// Keeps the first `len` headers and drops the others.
     #[inline(always)]
     pub fn truncate(&mut self, len: usize)
         ensures cut { self.new.headers.items ≡ take len self.old.headers.items }
@@ -79,7 +79,7 @@ impl Table {
         self.headers.truncate(len);
     }
 
-    /// Takes a slot at the end, and says whether its growth was refused.
+    /// Appends one slot, and returns whether the allocation failed.
     #[inline(always)]
     fn append(&mut self) -> bool
         ensures appended { appended 1 self.old.headers.items result self.new.headers.items }
@@ -99,7 +99,7 @@ impl Table {
         }
     }
 
-    /// Takes the slots of a compound, and says whether a growth was refused.
+    /// Appends the slots of a compound, and returns whether an allocation failed.
     #[inline(always)]
     pub fn open(&mut self, shape: Shape) -> bool
         ensures appended { appended (header_count shape) self.old.headers.items result
@@ -119,7 +119,7 @@ impl Table {
         }
     }
 
-    /// Writes a header into its slot.
+    /// Stores a header in its slot.
     #[inline(always)]
     fn put(&mut self, at: usize, header: Header)
         ensures put { at + 1 ≤ length self.old.headers.items →
@@ -132,7 +132,7 @@ impl Table {
         }
     }
 
-    /// Writes the headers of a compound into its slots, from the header of its parts.
+    /// Stores the headers of a compound in its slots. `header` is the header of its parts.
     #[inline(always)]
     pub fn fill(&mut self, at: usize, shape: Shape, header: Header)
         requires { header.len ≤ 4294967291 }

@@ -1,5 +1,5 @@
-//! Serializers of this crate alone: what is left of a refusal, in both passes. The bytes of values
-//! are in `test_bytes`.
+//! Tests of the serializers of this crate: what an ignored error leaves behind, in both passes.
+//! `test_bytes` tests the bytes of values.
 
 mod feeding;
 mod goes_on;

@@ -1,4 +1,4 @@
-//! A value's bytes.
+//! Encodes a value.
 
 ghost use Rattle.std.specs.Prelude.{◌≡◌, Err, true, false};
 ghost use Rattle.amqp_ser.specs.SizeAndBytes.{AreBytesOf};
@@ -11,23 +11,24 @@ use amqp_ser::Serialize;
 use amqp_size::WalkError;
 use std::alloc::Global;
 
-/// The value's bytes, exactly where its tree can be written.
+/// Returns the encoding of `value`. Unless an allocation fails, it succeeds if and only if the tree
+/// of the value is writable.
 ///
 /// # Encoding
-/// The shortest form of each value that this profile writes; in an array the form of its
+/// The shortest form of each value that this profile writes. In an array, the form of the array's
 /// constructor (AMQP 1.0 part 1, sections 1.2 to 1.6).
 ///
 /// # Errors
-/// `OutOfMemory` where a growth was refused. `TooLong` only where a limit is passed, `InvalidValue`
-/// only where the tree cannot be written for another cause; one of them where the value has no
-/// tree.
+/// Returns `OutOfMemory` if an allocation fails. Returns `TooLong` only if a limit is exceeded, and
+/// `InvalidValue` only if the tree is not writable for another reason. Returns one of them if the
+/// value has no tree.
 ///
 /// # Memory
-/// Takes `alloc`: once for the bytes, and for a table of 12 bytes a compound; for a scalar there is
-/// no table.
+/// Allocates from `alloc` once for the bytes, and for a table of 12 bytes for each compound. A
+/// scalar needs no table.
 ///
 /// # Example
-/// The list of the strings `a` and `bc`: `c00802a10161a1026263`.
+/// The list of the strings `a` and `bc` is `c00802a10161a1026263`.
 pub fn to_vec<T: Serialize>(alloc: Global, value: &T) -> Result<Vec<u8>, Error>
     ensures { AreBytesOf (T.tree value.now) (result_bytes result) }
 {
@@ -43,8 +44,7 @@ pub fn to_vec<T: Serialize>(alloc: Global, value: &T) -> Result<Vec<u8>, Error>
     Ok(writer.into_bytes())
 }
 
-// The first walk's answer, but out of memory where a growth of the table was refused, whatever came
-// of that later.
+// Returns `OutOfMemory` if the table ever failed to grow; otherwise the result of the first pass.
 #[inline(always)]
 fn unless_refused(measurer: &Measurer, answer: Result<usize, WalkError>) -> Result<usize, WalkError>
     ensures marked { measurer.now.table.refused ≡ true → result ≡ Err WalkError.OutOfMemory }

@@ -1,8 +1,9 @@
-//! The second walk: the bytes, into room that stands ready.
+//! The second pass: writes the bytes into a buffer whose capacity is allocated in advance.
 //!
-//! It takes and refuses what the first walk does, call by call, whatever the table and the room
-//! are: those are a tree's only where nothing is refused. Where they fall short, what is written is
-//! not kept.
+//! Each call accepts and rejects the same values as in the first pass, whatever the table and the
+//! capacity are, but does not check the limits of compounds. The table and the capacity are those
+//! of a tree only if no call returns an error. If they do not suffice, what is written is
+//! discarded.
 
 ghost use Rattle.std.specs.Prelude.{◌≡◌, ◌++◌, ◌∷◌, [], List, Option, Some, None, Result, Ok, Err, MatchResult, IfErr, IsErr, nat_le, length};
 ghost use Rattle.amqp_ser.specs.Tree.{Tree};
@@ -17,14 +18,15 @@ use amqp_ser::{Fixed, Kind, Mark, Serializer};
 use amqp_size::{Pending, Position, ScalarMark, Shape, WalkError};
 use std::marker::Model;
 
-/// Writes values into room that stands ready, with the headers of a table.
+/// A serializer that writes into a buffer whose capacity is allocated in advance, with the headers
+/// of a table.
 ///
 /// # Memory
-/// Takes none.
+/// None.
 #[derive(Drop)]
 pub struct Writer {
-    /// Where the next value stands. An array's first element leaves its constructor here
-    /// (`pending_after`), and the array picks it up (`end_part`): no answer carries it.
+    /// Position of the next value. The constructor of an array's first element is stored here
+    /// (`pending_after`), and `end_part` reads it; no result contains it.
     pub(crate) pending: Pending,
     pub(crate) output: Output,
 }
@@ -49,7 +51,7 @@ impl Writer {
     ghost use Rattle.amqp_wire.specs.TreeHeaders.{compound_headers};
     ghost use Rattle.amqp_wire.specs.Writer.{Kept, opens, PartsFitOutput};
 
-    /// A writer at the root.
+    /// Creates a writer at the root.
     #[inline(always)]
     pub fn new(table: Vec<Header>, out: Vec<u8>) -> Writer
         ensures table { result.output.table ≡ table }
@@ -63,7 +65,7 @@ impl Writer {
         }
     }
 
-    /// The bytes, where the table and the room sufficed.
+    /// Returns the bytes, which are complete if `is_whole` returns `true`.
     #[inline(always)]
     pub fn into_bytes(self) -> Vec<u8>
         ensures { result ≡ self.output.out }
@@ -72,7 +74,7 @@ impl Writer {
         output.into_bytes()
     }
 
-    /// Whether the table and the room sufficed.
+    /// Returns whether the table and the capacity sufficed.
     #[inline(always)]
     pub fn is_whole(&self) -> bool
         ensures { result ≡ nat_le self.now.output.taken (length self.now.output.table.items) }
@@ -80,7 +82,7 @@ impl Writer {
         self.output.is_whole()
     }
 
-    /// Spoils the output where the table or the room fell short: what is written is not kept then.
+    /// Invalidates the output if `put` is an error: what is written is then discarded.
     #[inline(always)]
     pub(crate) fn spoil_unless_put(&mut self, put: Result<(), WalkError>)
         ensures kept { Kept self.old.output self.new.output }
@@ -92,7 +94,7 @@ impl Writer {
         }
     }
 
-    /// Writes what stands before a compound's parts.
+    /// Writes the bytes before the parts of a compound.
     #[inline(always)]
     pub(crate) fn open(&mut self, position: Position, shape: Shape)
         ensures kept { Kept self.old.output self.new.output }
@@ -106,7 +108,7 @@ impl Writer {
         self.spoil_unless_put(put);
     }
 
-    /// Writes the code of described values.
+    /// Writes the format code of described values.
     #[inline(always)]
     pub(crate) fn put_described(&mut self)
         ensures kept { Kept self.old.output self.new.output }
@@ -225,7 +227,8 @@ impl Serializer for Writer {
                 EncodingCodes::Uuid as u8,
                 v,
             ),
-            // The same test as in the first walk: `accepts` is asked of this one too, call by call.
+            // The same test as in the first pass: `accepts` is required of each call in this pass
+            // too.
             Pending::Scalar(position, ScalarMark::Lazy) if is_frame(v) => self.lazy(position, v),
             _ => Err(WalkError::InvalidValue),
         }

@@ -1,19 +1,19 @@
-//! A compound whose parts are still written.
+//! A compound that is being written.
 
 use crate::output::Checkpoint;
 use amqp_size::{Pending, Position, Shape};
 use std::marker::Model;
 
-/// A compound whose parts are still written.
+/// A compound that is being written.
 #[derive(Drop)]
 pub struct WriterCompound {
     pub(crate) position: Position,
     pub(crate) shape: Shape,
-    /// Where the next part stands; of a single compound that was fed, what comes after it.
+    /// Position of the next part. For a single compound that has its value, the position after it.
     pub(crate) inner: Pending,
-    /// Where the output stood before the part that is next or under way.
+    /// Position of the output before the part that is next or in progress.
     pub(crate) before_current: Checkpoint,
-    /// Where it stood before the last part that was taken.
+    /// Position of the output before the last accepted part.
     pub(crate) before_last: Checkpoint,
 }
 

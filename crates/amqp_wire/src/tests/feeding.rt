@@ -1,4 +1,4 @@
-//! Structs that are serialized by hand and ignore refusals: their lengths and bytes.
+//! Structs that are serialized by hand and ignore errors: their lengths and bytes.
 
 ghost use Rattle.std.specs.Prelude.{◌∷◌, [], Some};
 ghost use Rattle.amqp_ser.specs.Compounds.{whole};
@@ -13,12 +13,12 @@ use amqp_ser::{Mark, Serialize, Serializer};
 use amqp_size::SizeSerializer;
 use std::alloc::Global;
 
-/// Calls that are made to each serializer in turn.
+/// Calls that are made on each serializer in turn.
 pub(super) trait Feed {
     fn feed<S: Serializer>(&self, serializer: &mut S) -> Result<S::Ok, S::Error>;
 }
 
-/// The number of headers, and the bytes, if all three passes agree on their number.
+/// Returns the number of headers, and the bytes, if all three passes have the same length.
 fn fed<F: Feed>(alloc: Global, calls: &F) -> Result<(usize, Vec<u8>), Error> {
     let size = calls.feed(&mut SizeSerializer::new());
     let mut measurer = Measurer::new(alloc);
@@ -37,18 +37,18 @@ fn fed<F: Feed>(alloc: Global, calls: &F) -> Result<(usize, Vec<u8>), Error> {
     Ok((headers, bytes))
 }
 
-/// Prints the row's name and what was got, and answers false.
+/// Prints the name of the row and the actual result, and returns `false`.
 fn differs(rt: &HostRuntime, name: &str, got: &Result<(usize, Vec<u8>), Error>) -> bool {
     println!(rt; "{name}: got {got:?}").is_err() && false
 }
 
-/// Whether the calls give these bytes.
+/// Returns whether the calls write these bytes.
 pub(super) fn is<F: Feed>(rt: &HostRuntime, name: &str, calls: &F, bytes: &[u8]) -> bool {
     let got = fed(rt.alloc(), calls);
     matches!(&got, Ok((_, written)) if written.as_slice() == bytes) || differs(rt, name, &got)
 }
 
-/// Whether the calls give so many headers and these bytes.
+/// Returns whether the calls write these bytes with this number of headers.
 pub(super) fn has<F: Feed>(
     rt: &HostRuntime,
     name: &str,
@@ -61,7 +61,7 @@ pub(super) fn has<F: Feed>(
         || differs(rt, name, &got)
 }
 
-/// Whether the calls were built, and give so many headers and these bytes.
+/// Like `has`. Returns `false` if the calls could not be built.
 pub(super) fn built<F: Feed + Drop>(
     rt: &HostRuntime,
     name: &str,
@@ -75,7 +75,7 @@ pub(super) fn built<F: Feed + Drop>(
     }
 }
 
-/// Whether the calls are refused as invalid.
+/// Returns whether the calls fail with `InvalidValue`.
 fn invalid<F: Feed>(rt: &HostRuntime, name: &str, calls: &F) -> bool {
     let got = fed(rt.alloc(), calls);
     matches!(&got, Err(Error::InvalidValue)) || differs(rt, name, &got)
@@ -180,7 +180,7 @@ impl Feed for MarkedBasic {
     }
 }
 
-/// A struct of one field.
+/// A struct with one field.
 #[derive(Drop)]
 struct Plain {
     a: u8,

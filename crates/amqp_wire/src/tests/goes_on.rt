@@ -1,5 +1,5 @@
-//! Random values that continue after refusals: both passes refuse at the same calls, and the bytes
-//! are those of the parts that were accepted.
+//! Random values that continue after errors: both passes return errors at the same calls, and the
+//! bytes are those of the accepted parts.
 
 use crate::measurer::Measurer;
 use crate::writer::Writer;
@@ -8,7 +8,7 @@ use amqp_ser::{Fixed, Kind, Mark, Serializer};
 use amqp_size::{SizeSerializer, WalkError};
 use std::alloc::Global;
 
-/// How the parts of a compound are found: by numbers that follow one another from a seed.
+/// Returns the seed of a part of a compound, from the seed of the compound.
 fn child(seed: u64, part: u64) -> u64 {
     let mixed = seed ^ part.wrapping_add(1).wrapping_mul(0x9e3779b97f4a7c15);
     mixed
@@ -16,7 +16,7 @@ fn child(seed: u64, part: u64) -> u64 {
         .wrapping_add(1442695040888963407)
 }
 
-/// A number below a bound, from a seed.
+/// Returns a number below `bound`, from a seed.
 fn pick(seed: u64, at: u32, bound: u64) -> u64 {
     let high = seed
         .wrapping_mul(2862933555777941757)
@@ -25,7 +25,7 @@ fn pick(seed: u64, at: u32, bound: u64) -> u64 {
     if bound == 0 { 0 } else { (mixed >> 33) % bound }
 }
 
-/// The parts that were refused, by their seeds, in a first run; in a second run they are left out.
+/// The seeds of the parts that failed in a first run. A second run leaves these parts out.
 #[derive(Drop)]
 pub struct Refused {
     seeds: [u64; 128],
@@ -62,7 +62,7 @@ impl Refused {
     }
 }
 
-/// A value without parts.
+/// Serializes a value without parts.
 fn leaf<S: Serializer>(serializer: &mut S, seed: u64) -> Result<S::Ok, S::Error> {
     match pick(seed, 1, 12) {
         0 => serializer.serialize_u8(1),
@@ -92,7 +92,7 @@ fn leaf<S: Serializer>(serializer: &mut S, seed: u64) -> Result<S::Ok, S::Error>
     }
 }
 
-/// Serializes one part, and says whether it was accepted: the seed decides whether an error is
+/// Serializes one part, and returns whether it was accepted. The seed decides whether an error is
 /// returned.
 #[cycle(scripts)]
 fn feed<S: Serializer>(
@@ -120,7 +120,7 @@ fn feed<S: Serializer>(
     }
 }
 
-/// A list, an array, a transparent vector or a variant of fields.
+/// Serializes a list, an array, a transparent vector or a variant with fields.
 #[cycle(scripts)]
 fn sequence<S: Serializer>(
     serializer: &mut S,
@@ -142,7 +142,7 @@ fn sequence<S: Serializer>(
     serializer.end(held)
 }
 
-/// A map; a key whose value is refused stays or is taken back.
+/// Serializes a map. The key of a value that fails is kept or removed.
 #[cycle(scripts)]
 fn pairs<S: Serializer>(
     serializer: &mut S,
@@ -171,7 +171,7 @@ fn pairs<S: Serializer>(
     serializer.end(held)
 }
 
-/// Serializes the one part, at the first of three attempts that is accepted, and ends.
+/// Serializes the one part, in up to three attempts until one is accepted, and ends the compound.
 #[cycle(scripts)]
 fn feed_one<S: Serializer>(
     serializer: &mut S,
@@ -194,7 +194,7 @@ fn feed_one<S: Serializer>(
     Err(serializer.misuse(&mut held))
 }
 
-/// One value alone, after a descriptor or not.
+/// Serializes a single compound, with or without descriptors.
 #[cycle(scripts)]
 fn alone<S: Serializer>(
     serializer: &mut S,
@@ -221,7 +221,7 @@ fn alone<S: Serializer>(
     feed_one(serializer, held, refused, seed, depth)
 }
 
-/// A variant of one value.
+/// Serializes a variant with one value.
 #[cycle(scripts)]
 fn only<S: Serializer>(
     serializer: &mut S,
@@ -233,7 +233,7 @@ fn only<S: Serializer>(
     feed_one(serializer, held, refused, seed, depth)
 }
 
-/// Any value of a depth, from a seed.
+/// Serializes any value of this depth, from a seed.
 #[cycle(scripts)]
 fn value<S: Serializer>(
     serializer: &mut S,
@@ -267,7 +267,7 @@ fn value<S: Serializer>(
     }
 }
 
-/// The bytes of both passes, without the parts that are left out.
+/// Returns the bytes after both passes, without the parts that are left out.
 fn walked(
     alloc: Global,
     seed: u64,
@@ -289,8 +289,8 @@ fn walked(
     Ok(writer.into_bytes())
 }
 
-/// Whether both passes refuse this value as the length does, or write it as if the refused parts had
-/// been left out.
+/// Returns whether both passes write the value as if the failed parts had been left out, or the
+/// first pass fails with the same error as the measured size.
 fn agrees(alloc: Global, seed: u64, depth: u32) -> bool {
     let mut refused = Refused::new();
     match value(&mut SizeSerializer::new(), &mut refused, seed, depth) {

@@ -1,4 +1,4 @@
-//! Transparent vectors and described array elements in places that refuse them: the compound
+//! Transparent vectors and described array elements at positions that reject them: the compound
 //! continues without them.
 
 use super::feeding::{Feed, built, is};

@@ -1,12 +1,12 @@
-//! Refusals that are ignored, by hand: parts that the second pass alone would take, or refuse at
-//! another call.
+//! Errors that are ignored, in calls written by hand: parts that only the second pass would accept,
+//! or would reject at another call.
 
 use super::feeding::{Feed, built, is};
 use amqp_data::{Array, TransparentVec, markers};
 use amqp_ser::{Kind, Mark, Serializer};
 use std::alloc::Global;
 
-/// A map whose first key is an array of two kinds.
+/// A map whose first key is an array with elements of two kinds.
 #[derive(Drop)]
 struct MixedKey(Array<Option<u8>>);
 
@@ -22,7 +22,7 @@ impl Feed for MixedKey {
     }
 }
 
-/// An array of a null. A number after it is refused.
+/// Serializes an array of a null. A number after it is rejected.
 fn nulls<S: Serializer>(serializer: &mut S) -> Result<S::Ok, S::Error> {
     serializer.mark(Mark::Array);
     let mut array = serializer.serialize_seq(None)?;
@@ -33,7 +33,7 @@ fn nulls<S: Serializer>(serializer: &mut S) -> Result<S::Ok, S::Error> {
     array.end()
 }
 
-/// The list of that array and of an empty list.
+/// A list of that array and of an empty list.
 struct MixedArray;
 
 impl Feed for MixedArray {
@@ -50,7 +50,7 @@ impl Feed for MixedArray {
     }
 }
 
-/// A described null. A transparent vector before it is refused.
+/// A described null. A transparent vector before it is rejected.
 #[derive(Drop)]
 struct DescribedVector(TransparentVec<u8>);
 
@@ -66,7 +66,7 @@ impl Feed for DescribedVector {
     }
 }
 
-/// A described value that ignores each refusal.
+/// Serializes a described value and ignores each error.
 fn described<S: Serializer>(serializer: &mut S) -> Result<S::Ok, S::Error> {
     let mut fields = serializer.serialize_tuple_struct(markers::DESCRIBED_BASIC, 2)?;
     let descriptor = fields.serialize_field(&1u64);
@@ -77,7 +77,7 @@ fn described<S: Serializer>(serializer: &mut S) -> Result<S::Ok, S::Error> {
     fields.end()
 }
 
-/// An array of a number. That value before it is refused.
+/// An array of a number. A described value before it is rejected.
 struct DescribedElement;
 
 impl Feed for DescribedElement {

@@ -1,11 +1,11 @@
-//! Parts that are refused, and that a type ignores.
+//! Parts that fail, whose errors the type ignores.
 
 ghost use Rattle.std.specs.Prelude.{None};
 
 use super::feeding::{Feed, has};
 use amqp_ser::{Mark, Serialize, Serializer};
 
-/// A number that is marked as a symbol: it has no tree.
+/// A number with the symbol marker: it has no tree.
 pub struct NoTree;
 
 impl Serialize for NoTree {
@@ -17,7 +17,7 @@ impl Serialize for NoTree {
     }
 }
 
-/// A list of a string and a list. A list between them is refused after its first part.
+/// A list of a string and a list. A list between them fails after its first element.
 struct RefusedElement;
 
 impl Feed for RefusedElement {
@@ -32,7 +32,7 @@ impl Feed for RefusedElement {
     }
 }
 
-/// A map of two entries. The value of an entry between them is refused.
+/// A map of two entries. The value of an entry between them fails.
 struct RefusedValue;
 
 impl Feed for RefusedValue {
@@ -47,7 +47,8 @@ impl Feed for RefusedValue {
     }
 }
 
-/// The headers are those of the list and of the list of b, and of the map and of its first key.
+/// The headers are those of the outer list and of the list of `b`, and those of the map and of its
+/// first key.
 pub(super) fn parts(rt: &HostRuntime) -> bool {
     has(
         rt,

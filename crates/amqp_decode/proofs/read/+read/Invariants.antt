@@ -6,7 +6,8 @@ use Rattle.amqp_value.specs.declared.value.Value.{Value}
 use Rattle.amqp_decode.specs.Parsed.{parse, parse_content, payload_in, gather, insert}
 use Rattle.amqp_decode.proofs.read.+read.Given as goal
 
--- what stands in a compound has a lesser depth, and calls for encoded values and items of that same depth
+-- The values in a compound have a smaller depth. They are read by calls for encoded values and for
+-- array elements of that depth.
 abbrev pub decreases-read_item : goal.decreases-read_item
 decreases-read_item l = 9 * l.depth
 
@@ -31,7 +32,7 @@ decreases-read_content l = 9 * l.depth + 3
 abbrev pub decreases-read_frame_over : goal.decreases-read_frame_over
 decreases-read_frame_over l = 9 * l.depth + 4
 
--- what is left, after what is there, gives the whole
+-- The remaining bytes, after the elements so far, give the complete list.
 abbrev pub invariant-read_list-loop : goal.invariant-read_list-loop
 invariant-read_list-loop l =
     (done : List Value) × (l.stack.items ≡ l.initial.stack.items ++ done)

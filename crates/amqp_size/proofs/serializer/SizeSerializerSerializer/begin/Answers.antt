@@ -84,7 +84,7 @@ opened start kind new a b f d e shapes.Single q = inr (inr (record {
   parts = (e, f ∙ ap (λ s. inner_pending s start.pending) q);
 }))
 
--- an open compound that was fed nothing
+-- An open compound without parts.
 pub returns : goal.returns
 returns c =
     let e = c.new.ensures in

@@ -15,7 +15,7 @@ use Rattle.amqp_size.specs.declared.serializer.SizeSerializer.{SizeSerializer}
 use Rattle.amqp_size.proofs.Described.{counted_descriptor, described_step, described_rest, described_refusal}
 use Rattle.amqp_size.proofs.serializer.SizeSerializerSerializer.end_descriptor.Goals as goal
 
--- what is known after a descriptor was counted, or passed the limit
+-- What holds after a descriptor is measured or exceeds the limit.
 known : (start now : SizeSerializer) (held new : OpenCompound) (n : ℕ) (x : Descriptor) (d : Option Tree) (res : Result (Unit {0}) WalkError) → HoldsSingle start kinds.Single held [] → now.pending ≡ Plain (without_prefix held.position) →
     descriptor_of d ≡ Some x → n ≡ length (descriptor_form x) → descriptor_fits x ≡ true → without_prefix new.position ≡ without_prefix held.position → new.shape ≡ held.shape → new.count ≡ held.count →
     MatchResult res (λ _. described_pending held.inner n ≡ Some new.inner) (λ e. (new ≡ held) × undescribed held.inner n e) →

@@ -14,7 +14,7 @@ use Rattle.amqp_size.proofs.Settled.{settled}
 use Rattle.amqp_size.proofs.Holding.{Taking, refused_any, taken_any}
 use Rattle.amqp_size.proofs.serializer.SizeSerializerSerializer.end_part.Goals as goal
 
--- what holds after a part, from what was proved of it
+-- What holds after a part, given what is proved about it.
 known : (start : SizeSerializer) (kind : Kind) (held new : OpenCompound) (ps : List (Option Tree)) (p : Option Tree) (res : Result (Unit {0}) WalkError) (position : Pending) → Holding start kind held ps →
     position ≡ Plain (without_prefix held.position) → new.position ≡ held.position → IfErr res (λ _. new ≡ held) →
     MatchResult res (λ _. Holding start kind new (ps ++ (p ∷ [])))

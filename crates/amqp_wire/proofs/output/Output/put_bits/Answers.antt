@@ -3,7 +3,7 @@ use Rattle.std.specs.Int.{bytes_high_first}
 use Rattle.amqp_wire.specs.Writer.{puts}
 use Rattle.amqp_wire.proofs.output.Output.put_bits.Goals as goal
 
--- the last w of eight bytes
+-- The last `w` of eight bytes.
 low_bytes : (w n : ℕ) → w ≤ 8 → take (8 - (8 - w)) (drop (8 - w) (bytes_high_first 8 n)) ≡ bytes_high_first w n
 low_bytes zero n h = refl
 low_bytes (suc zero) n h = refl

@@ -2,7 +2,7 @@ use Rattle.std.proofs.Common.{◌≡◌, ◌++◌, take}
 use Rattle.std.specs.Vec.{vec_capacity}
 use Rattle.amqp_wire.proofs.output.Output.put_few.Given as goal
 
--- the bytes before this one are written
+-- The bytes before this one are written.
 abbrev pub invariant-loop-byte : goal.invariant-loop-byte
 invariant-loop-byte l =
     record {

@@ -1,7 +1,7 @@
 use Rattle.std.proofs.Common.{◌+◌, ◌*◌}
 use Rattle.amqp_wire.proofs.tests.goes_on.+scripts.Given as goal
 
--- a value takes one level of the depth, and its parts have the levels that are left
+-- A value uses one level of the depth, and its parts have the remaining levels.
 abbrev pub decreases-value : goal.decreases-value
 decreases-value g l = l.depth * 4
 

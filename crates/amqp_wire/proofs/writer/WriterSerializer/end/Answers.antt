@@ -20,7 +20,7 @@ use Rattle.amqp_wire.proofs.Positions.{ended}
 use Rattle.amqp_wire.proofs.WrittenSteps.{gathered_one, single_one}
 use Rattle.amqp_wire.proofs.writer.WriterSerializer.end.Goals as goal
 
--- a compound that was opened, and is no single value: the answer on its tree is one on the whole
+-- A result for the tree of an open compound that is not single is one for the compound.
 compound_ended : (sh : Shape) (start : Writer) (kind : Kind) (s : Output) (held : WriterCompound) (ps : List (Option Tree)) (r : Result (Unit {0}) WalkError) (after : Writer) → held.shape ≡ sh → (sh ≡ shape.Single → ⊥) → (sh ≡ shape.Refused → ⊥)
     → written_as (is_single kind) start kind s held ps → complete kind ps ≡ true → after.output ≡ s → ((t : Tree) → ended sh t → accepts held.position (Some t) r after.pending) → writer_permits start (whole kind ps) r after
 compound_ended sh start kind s held ps r after is several opened h done same answer =
