@@ -1,4 +1,4 @@
-//! The value inside a lazy value.
+//! The value that the bytes of a lazy value spell.
 
 ghost use Rattle.std.specs.Prelude.{◌≡◌, None, false, true};
 ghost use Rattle.amqp_frame.specs.Whole.{is_frame};
@@ -12,7 +12,7 @@ use amqp_frame::is_frame;
 use amqp_value::Value;
 use std::alloc::Global;
 
-/// The value that the bytes spell, where they are one encoded value.
+/// Returns the value that the bytes spell, if they are one encoded value.
 #[inline(never)]
 pub fn lazy_value(alloc: Global, bytes: &[u8]) -> Result<Value, Error>
     ensures image { IsImageOf (of_frame bytes.now) result }
@@ -24,8 +24,9 @@ pub fn lazy_value(alloc: Global, bytes: &[u8]) -> Result<Value, Error>
     }
 }
 
-// The refusal of bytes that were not read: what was wrong with them where they are one encoded
-// value, and otherwise invalid; out of memory stays what it is.
+// Returns the error for bytes that were not decoded. `OutOfMemory` is unchanged. If the bytes are
+// one encoded value, `InvalidFormatCode` and `UnexpectedEof` are unchanged. Otherwise the result is
+// `InvalidValue`.
 fn refusal(e: Error, bytes: &[u8]) -> Error
     ensures memory { e ≡ Error.OutOfMemory → result ≡ Error.OutOfMemory }
     ensures code { e ≡ Error.InvalidFormatCode → is_frame bytes.now ≡ true → result ≡ e }
