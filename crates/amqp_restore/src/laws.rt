@@ -75,8 +75,8 @@ pub fn short_lists_return()
         StandAs (if b then p ∷ ps else []) (trees_of (if b then t ∷ ts else [])) }
 {}
 
-/// The image of a map from names to fields is the map from the names to the images of the present
-/// fields.
+/// The image of a map from distinct names to fields is the map from the names to the images of the
+/// present fields.
 ///
 /// # Memory
 /// None.

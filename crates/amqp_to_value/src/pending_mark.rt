@@ -33,8 +33,8 @@ impl PendingMark {
         }
     }
 
-    /// Returns this pending marker with a descriptor inside. No marker permits a described value, and a
-    /// described value is not a descriptor.
+    /// Returns this pending marker with a descriptor inside. No marker permits a described value,
+    /// and a described value is not a descriptor.
     #[inline(always)]
     pub fn with_descriptor(self) -> PendingMark
         ensures { (d : Descriptor) (t : Option Tree) →
