@@ -207,9 +207,9 @@ impl de::Deserializer for Deserializer {
 /// Reads a `T` from the value.
 ///
 /// # Errors
-/// Returns `Error::OutOfMemory` if an allocation fails. Otherwise returns the error of `T`,
-/// `Error::InvalidValue` or `Error::Message`, if and only if no `T` is read from the value. The
-/// value is dropped.
+/// Returns `Error::OutOfMemory` if an allocation fails. Otherwise returns an error if and only if
+/// the value cannot be read as a `T`: `Error::InvalidValue` or `Error::Message`, as `T` chooses.
+/// The value is dropped.
 pub fn from_value<T: Deserialize>(alloc: Global, value: Value) -> Result<T, Error>
     ensures read { Answers (λ e. e ≡ OutOfMemory) (T.reads (tree_of value)) result }
     ensures law { Restores T.image T.restorable T.same

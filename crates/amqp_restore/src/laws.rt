@@ -1,4 +1,4 @@
-//! Laws of the images of lists, described values, variants and maps.
+//! Laws of the images of lists, described values, variants and maps that contain nothing lazy.
 //!
 //! The body of each function is empty; its contract is the law.
 

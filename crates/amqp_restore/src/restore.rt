@@ -18,7 +18,8 @@ use std::alloc::Global;
 /// to what it writes. The body calls `returns` of the type of each field or element, and the
 /// functions of `laws` for lists and described values.
 pub trait Restore: Serialize + Deserialize {
-    /// States that a restorable value has a tree, whose image is the image declared for the value.
+    /// States that a restorable value has a tree, which contains nothing lazy, and that the tree's
+    /// image is the image declared for the value.
     ///
     /// # Memory
     /// None.
@@ -28,7 +29,7 @@ pub trait Restore: Serialize + Deserialize {
 
 /// Converts a value to its untyped value and reads it from that.
 ///
-/// A restorable value round-trips: the result is the same value, as `T::same` compares them.
+/// A restorable value round-trips: `T::same` is true of the result and the value.
 ///
 /// # Errors
 /// For a restorable value, returns only `Error::OutOfMemory`, if an allocation fails.

@@ -28,7 +28,7 @@ pub record DescriptorsState : Type 0 where
   pub kept : List Descriptor
   -- The descriptors after those.
   pub later : List Descriptor
-  -- Whether the later descriptors belong to the next value; otherwise a failed value left them.
+  -- Whether the later descriptors belong to the next value.
   pub next : Bool
   -- The capacity of the stack, in descriptors.
   pub room : ℕ

@@ -14,16 +14,16 @@ use std::alloc::Global;
 /// Returns the untyped value that represents the argument: its tree is the image of the argument's
 /// tree.
 ///
-/// Each kind of tree becomes the variant of that kind. An enum variant becomes the map of one
-/// entry, from its index as a uint to its payload. A transparent vector becomes the list of its
+/// Each kind of tree becomes the `Value` variant of that kind. An enum variant becomes the map of
+/// one entry, from its index as a uint to its payload. A transparent vector becomes the list of its
 /// elements. The entries of a map are inserted in order: a repeated key keeps its position and gets
 /// the new value. So no map in the result has a key twice, and the result is sound. A lazy value,
 /// at any depth, becomes the value that its bytes spell, which is at most 256 deep.
 ///
 /// # Errors
-/// Returns `Error::OutOfMemory` if an allocation fails. Returns another error if and only if the
-/// argument has no tree, or a lazy value in it spells no value. The error is that of `decode_value`
-/// for the bytes of a lazy value, and otherwise `Error::InvalidValue`.
+/// Returns `Error::OutOfMemory` if an allocation fails. Otherwise returns an error if and only if
+/// the argument has no tree, or a lazy value in it spells no value: the error of `decode_value` for
+/// the bytes of a lazy value, and `Error::InvalidValue` in other cases.
 ///
 /// # Memory
 /// Allocates from `alloc`.

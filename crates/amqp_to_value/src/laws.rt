@@ -19,7 +19,7 @@ ghost use Rattle.amqp_to_value.specs.Opened.{Opened};
 
 use amqp_value::Value;
 
-/// A tree that contains nothing lazy is opened as itself, and as no other tree.
+/// A tree that contains nothing lazy is read as itself, and as no other tree.
 ///
 /// # Memory
 /// None.

@@ -12,7 +12,11 @@ use amqp_frame::is_frame;
 use amqp_value::Value;
 use std::alloc::Global;
 
-/// Returns the value that the bytes spell, if they are one encoded value.
+/// Returns the value that the bytes spell, which must be one encoded value.
+///
+/// # Errors
+/// Returns `Error::OutOfMemory` if an allocation fails. Otherwise returns `Error::InvalidValue` if
+/// the bytes are not one encoded value, and the error of `decode_value` if they spell no value.
 #[inline(never)]
 pub fn lazy_value(alloc: Global, bytes: &[u8]) -> Result<Value, Error>
     ensures image { IsImageOf (of_frame bytes.now) result }
@@ -25,7 +29,7 @@ pub fn lazy_value(alloc: Global, bytes: &[u8]) -> Result<Value, Error>
 }
 
 // Returns the error for bytes that were not decoded. `OutOfMemory` is unchanged. If the bytes are
-// one encoded value, `InvalidFormatCode` and `UnexpectedEof` are unchanged. Otherwise the result is
+// one encoded value, `InvalidFormatCode` and `UnexpectedEof` are unchanged. Any other error becomes
 // `InvalidValue`.
 fn refusal(e: Error, bytes: &[u8]) -> Error
     ensures memory { e ≡ Error.OutOfMemory → result ≡ Error.OutOfMemory }

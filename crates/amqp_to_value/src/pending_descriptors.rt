@@ -14,9 +14,9 @@ use std::mem;
 
 /// Stack of descriptors awaiting values, outermost first; `Null` is a placeholder for each value.
 ///
-/// The first `kept` descriptors belong to open compounds. If `next` is true, those after them
-/// belong to the next value. Otherwise they are left over, and opening the next compound drops
-/// them.
+/// The first `kept` descriptors are kept for open compounds. If `next` is true, those after them
+/// belong to the next value. Otherwise those after them are not needed once the next compound is
+/// opened.
 #[derive(Drop)]
 pub struct PendingDescriptors {
     stack: Vec<Box<Described<Value>>>,

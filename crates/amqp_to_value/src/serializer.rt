@@ -21,10 +21,10 @@ use amqp_value::Value;
 use std::alloc::Global;
 use std::mem;
 
-/// A serializer that returns untyped values. After each call, failed or not, no marker is pending.
+/// A serializer that returns untyped values.
 ///
-/// A binary under the marker `LAZY_VALUE` must be one encoded value; it becomes the value that its
-/// bytes spell.
+/// After each call, failed or not, no marker or descriptor is pending. A binary under the marker
+/// `LAZY_VALUE` must be one encoded value; it becomes the value that its bytes spell.
 ///
 /// # Memory
 /// Between calls, keeps the capacity that described values needed and the descriptors of one failed
@@ -58,7 +58,7 @@ pub type VariantSerializer<'a> = SerializeTupleVariant<'a, Serializer>;
 pub type StructVariantSerializer<'a> = SerializeStructVariant<'a, Serializer>;
 
 impl Serializer {
-    /// Returns a serializer with no pending marker.
+    /// Returns a serializer with no pending marker or descriptor.
     ///
     /// # Memory
     /// None. `alloc` is kept for the values.

@@ -123,7 +123,7 @@ mutual
   uniform_arrays_pairs-as_map (pair k v ps) = λ i. uniform_arrays-as_map k i && (uniform_arrays-as_map v i && uniform_arrays_pairs-as_map ps i)
 
 mutual
-  -- One tree has nothing transparent inside if and only if the other has not.
+  -- Both trees have nothing transparent inside, or neither.
   pub inside-as_map : (t : Tree) → inside (read_as_map t) ≡ inside t
   inside-as_map (scalar s) = refl
   inside-as_map (list ts) = inside_each-as_map ts

@@ -182,8 +182,8 @@ pub fn sound_parts_make_a_sound_value()
     ensures array { (a : Array Value) → AreSound (array_items a) → IsSound (Value.Array a) }
 {}
 
-/// Sound entries stay sound if an entry with a sound key and value is inserted. Entries with sound
-/// keys and values are sound if the keys are distinct.
+/// The empty list of entries is sound. Sound entries stay sound if an entry with a sound key and
+/// value is inserted. Entries with sound keys and values are sound if the keys are distinct.
 ///
 /// # Memory
 /// None.

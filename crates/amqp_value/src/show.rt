@@ -12,12 +12,13 @@ use amqp_data::{Descriptor, write_hexadecimal};
 use std::fmt;
 use std::fmt::{Display, Formatter, Write};
 
-/// Writes numbers in decimal; binaries, decimals and the bits of floats as `0x[..]`, two digits per
-/// byte; symbols after a colon. Strings are in `"` and characters in `'`, with escapes. Lists and
-/// arrays are in brackets and maps in braces. A described value follows its name or code.
+/// Writes numbers in decimal, and binaries, decimals and the bits of floats as `0x[..]` with two
+/// digits per byte. Symbols follow a colon. Strings are in `"` and characters in `'`, with escapes.
+/// Lists and arrays are in brackets and maps in braces. A described value follows its descriptor,
+/// which is a name or a code.
 ///
 /// # Example
-/// The list of the string `a`, the symbol `k` and null with the descriptor code 131 is written
+/// The list of the string `a`, the symbol `k` and null with the descriptor code 131 is written as
 /// `["a", :k, 0x83 -> null]`.
 impl Display for Value {
     ghost output = { λ v. Some (text_of (tree_of v)) };

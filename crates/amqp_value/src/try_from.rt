@@ -21,12 +21,12 @@ use std::alloc::{AllocError, AllocFailed};
 /// `Unfit(Null)`.
 #[derive(Debug, PartialEq, Eq, Drop)]
 pub enum ConvertFault {
-    /// A value that cannot be converted: the value itself if it is not of the container's type;
-    /// otherwise the first such element, key or value, in order, a key before its value. The rest
-    /// is dropped.
+    /// The value that cannot be converted: the argument, if it is not of the container's type;
+    /// otherwise the first element, key or value that cannot be converted, in order, a key before
+    /// its value. The rest is dropped.
     Unfit(Value),
-    /// An allocation failed, which happens only if the first element or entry can be converted. The
-    /// value is dropped.
+    /// An allocation failed, which can happen only if the first element or entry can be converted.
+    /// The argument is dropped.
     Memory,
 }
 

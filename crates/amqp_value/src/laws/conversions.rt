@@ -10,8 +10,7 @@ use crate::Value;
 use amqp_data::{ByteBuf, Dec32, Dec64, Dec128, F32Bits, F64Bits, Symbol, Timestamp, Uuid};
 use amqp_ser::Serialize;
 
-/// A scalar round-trips through `From` and `TryFrom`, and the value between them has the scalar's
-/// tree.
+/// A scalar round-trips through `From` and `TryFrom`, and the `Value` has the scalar's tree.
 ///
 /// # Memory
 /// None.

@@ -11,7 +11,8 @@ use amqp_data::Array;
 ///
 /// # Errors
 /// Returns `Unfit` with a value that is not a `List`, or with the first item that cannot be
-/// converted. Returns `Memory` if an allocation fails, only if the first item can be converted.
+/// converted. Returns `Memory` if an allocation fails, which can happen only if the first item can
+/// be converted.
 ///
 /// # Memory
 /// Allocates once from the list's own allocator, or not at all if there are no items.
@@ -36,7 +37,8 @@ impl<T: TryFrom<Value, Error = Value> + Drop> TryFrom<Value> for Vec<T> {
 ///
 /// # Errors
 /// Returns `Unfit` with a value that is not an `Array`, or with the first element that cannot be
-/// converted. Returns `Memory` if an allocation fails, only if the first element can be converted.
+/// converted. Returns `Memory` if an allocation fails, which can happen only if the first element
+/// can be converted.
 ///
 /// # Memory
 /// Allocates once from the array's own allocator, or not at all if there are no elements.

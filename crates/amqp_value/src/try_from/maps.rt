@@ -19,7 +19,8 @@ use std::hash::Hash;
 ///
 /// # Errors
 /// Returns `Unfit` with a value that is not a `Map`, or with the first key or value that cannot be
-/// converted. Returns `Memory` if an allocation fails, only if the first entry can be converted.
+/// converted. Returns `Memory` if an allocation fails, which can happen only if the first entry can
+/// be converted.
 ///
 /// # Memory
 /// Allocates from the map's own allocator as the new map grows.
@@ -49,7 +50,8 @@ where
 ///
 /// # Errors
 /// Returns `Unfit` with a value that is not a `Map`, or with the first key or value that cannot be
-/// converted. Returns `Memory` if an allocation fails, only if the first entry can be converted.
+/// converted. Returns `Memory` if an allocation fails, which can happen only if the first entry can
+/// be converted.
 ///
 /// # Memory
 /// Allocates from the map's own allocator as the new map grows.
@@ -79,7 +81,8 @@ where
 ///
 /// # Errors
 /// Returns `Unfit` with a value that is not a `Map`, or with the first key or value that cannot be
-/// converted. Returns `Memory` if an allocation fails, only if the first entry can be converted.
+/// converted. Returns `Memory` if an allocation fails, which can happen only if the first entry can
+/// be converted.
 ///
 /// # Memory
 /// Allocates from the map's own allocator as the new map grows. The hash has a fixed seed.
@@ -109,7 +112,8 @@ where
 ///
 /// # Errors
 /// Returns `Unfit` with a value that is not a `Map`, or with the first key or value that cannot be
-/// converted. Returns `Memory` if an allocation fails, only if the first entry can be converted.
+/// converted. Returns `Memory` if an allocation fails, which can happen only if the first entry can
+/// be converted.
 ///
 /// # Memory
 /// Allocates from the map's own allocator as the new map grows. The hash has a fixed seed.

@@ -17,8 +17,9 @@ use std::hash::Hash;
 /// A map into which entries are inserted.
 ///
 /// # Implementer notes
-/// `empty` and `put` are required. `holds` relates the entries that were inserted so far, in order,
-/// to the map: it holds of no entries and `empty`, and `put` adds one entry at the end.
+/// `empty` and `put` are required. No entries and the result of `empty` satisfy `holds`. If some
+/// entries and a map satisfy it, so do those entries with one more at the end and the map after a
+/// `put` of that entry that returns `true`.
 pub(super) trait Inserts<K, V>: Sized + Drop {
     /// States that the map is the result of inserting these entries in order.
     ghost holds: { List (K × V) → Self → Type 0 };
