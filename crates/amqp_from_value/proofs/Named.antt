@@ -1,4 +1,4 @@
--- The value of a name, by its place in the list of pairs.
+-- The value of a name, by its index in the list of pairs.
 use Rattle.std.proofs.Common.{◌≡◌, ℕ, zero, suc, ◌<◌, Bool, true, false, List, [], ◌∷◌, length, get_or, map, position, Some, None, refl, ap, arith}
 use Rattle.std.proofs.lemmas.List.Quantifiers.{position-Some}
 use Rattle.std.specs.List.{remove}
@@ -15,7 +15,7 @@ module _ (n : List ℕ) where
   abbrev named : Value × Value → Bool
   named e = is_name n (tree_of e.0)
 
-  -- the pair at place i is the first of this name
+  -- The pair at index `i` is the first with this name.
   abbrev IsFirst : List (Value × Value) → ℕ → Value × Value → Type 0
   IsFirst es i d = (i < length es) × (named (get_or es i d) ≡ true) × ((j : ℕ) → j < i → named (get_or es j d) ≡ false)
 
@@ -41,7 +41,7 @@ module _ (n : List ℕ) where
   without_first (e ∷ es) (suc i) d first =
       rw (first.2 0 (omega arith)) (ap (λ r. both e ∷ r) (without_first es i d (tail_first e es i d first)))
 
-  -- by the place that a search gives
+  -- The results for the index that a search returns.
   pub absent : (es : List (Value × Value)) → position named es ≡ None → (value_at n (map both es) ≡ None) × (map both es ≡ without n (map both es))
   absent es none = let fails = fail_by_position named es none in (value_absent es fails, without_absent es fails)
 

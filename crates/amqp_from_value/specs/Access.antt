@@ -1,4 +1,4 @@
--- The trees of what the accessors of a `Value`'s parts hold.
+-- The trees of the contents of the accessors of a `Value`.
 use Rattle.std.specs.Prelude.{List, Option}
 use Rattle.amqp_ser.specs.Tree.{Tree}
 use Rattle.amqp_de.specs.Enums.{value_of}

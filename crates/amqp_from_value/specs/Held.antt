@@ -1,4 +1,4 @@
--- The trees of what a deserializer of a `Value` holds.
+-- The trees of the contents of a deserializer of a `Value`.
 use Rattle.std.specs.Prelude.{List, map}
 use Rattle.std.specs.Vec.Iter.{into_iter_items}
 use Rattle.amqp_ser.specs.Tree.{Tree}

@@ -1,4 +1,4 @@
-//! The accessors of a value's parts.
+//! The accessors of the contents of a value.
 
 ghost use Rattle.std.specs.Prelude.{◌≡◌, None, map};
 ghost use Rattle.amqp_data.specs.Pairs.{entries_of};
@@ -10,7 +10,7 @@ use amqp_de::{ContentOf, de};
 use amqp_value::Value;
 use std::alloc::Global;
 
-/// The elements of a list or an array, read one after another by the calls of
+/// An accessor of the elements of a list or an array, read with the methods of
 /// `amqp_de::de::SeqAccess`.
 #[derive(Drop)]
 pub struct SeqAccess {
@@ -20,10 +20,10 @@ pub struct SeqAccess {
 impl SeqAccess {
     ghost use Rattle.amqp_from_value.specs.Access.{seq_left};
 
-    /// An accessor of these elements.
+    /// Returns an accessor of these elements.
     ///
     /// # Memory
-    /// Takes none.
+    /// None.
     pub fn new(alloc: Global, values: Vec<Value>) -> SeqAccess
         ensures { seq_left result ≡ map tree_of values.items }
     {
@@ -47,7 +47,7 @@ impl de::SeqAccess for SeqAccess {
     }
 }
 
-/// The keys and values of a map, read one after another by the calls of `amqp_de::de::MapAccess`.
+/// An accessor of the entries of a map, read with the methods of `amqp_de::de::MapAccess`.
 #[derive(Drop)]
 pub struct MapAccess {
     entries: Entries,
@@ -57,10 +57,10 @@ pub struct MapAccess {
 impl MapAccess {
     ghost use Rattle.amqp_from_value.specs.Access.{map_left, map_owed};
 
-    /// An accessor of these pairs, which owes no value.
+    /// Returns an accessor of these entries, with no pending value.
     ///
     /// # Memory
-    /// Takes none.
+    /// None.
     pub fn new(alloc: Global, pairs: OrderedMap<Value, Value>) -> MapAccess
         ensures left { map_left result ≡ map (λ p. (tree_of p.0, tree_of p.1)) (entries_of pairs) }
         ensures owed { map_owed result ≡ None }
@@ -100,5 +100,5 @@ impl de::MapAccess for MapAccess {
     }
 }
 
-/// What comes with a variant's index, read by the calls of `amqp_de::de::VariantAccess`.
+/// An accessor of the content of a variant, read with the methods of `amqp_de::de::VariantAccess`.
 pub type VariantAccess = ContentOf<Deserializer>;

@@ -14,21 +14,21 @@ use std::alloc::Global;
 use std::collections::VecDeque;
 use std::vec::IntoIter;
 
-/// Reads a type out of a value.
+/// A deserializer of a `Value`.
 #[derive(Drop)]
 pub struct Deserializer {
     alloc: Global,
     value: Value,
 }
 
-/// The elements of a list or an array that were not taken yet.
+/// The remaining elements of a list or an array.
 #[derive(Drop)]
 pub struct Elements {
     alloc: Global,
     values: IntoIter<Value>,
 }
 
-/// The pairs of a map that were not taken yet.
+/// The remaining entries of a map.
 #[derive(Drop)]
 pub struct Entries {
     alloc: Global,
@@ -38,10 +38,10 @@ pub struct Entries {
 impl Deserializer {
     ghost use Rattle.amqp_from_value.specs.Held.{held};
 
-    /// A deserializer that holds the value.
+    /// Returns a deserializer of the value.
     ///
     /// # Memory
-    /// Takes none.
+    /// None.
     pub fn new(alloc: Global, value: Value) -> Deserializer
         ensures { held result ≡ tree_of value }
     {
@@ -52,10 +52,10 @@ impl Deserializer {
 impl Elements {
     ghost use Rattle.amqp_from_value.specs.Held.{elements_left};
 
-    /// The elements of a list or an array.
+    /// Returns the elements of a list or an array.
     ///
     /// # Memory
-    /// Takes none.
+    /// None.
     pub fn new(alloc: Global, values: Vec<Value>) -> Elements
         ensures { elements_left result ≡ map tree_of values.items }
     {
@@ -69,10 +69,10 @@ impl Elements {
 impl Entries {
     ghost use Rattle.amqp_from_value.specs.Held.{unread_entries};
 
-    /// The keys and values of a map.
+    /// Returns the entries of a map.
     ///
     /// # Memory
-    /// Takes none.
+    /// None.
     pub fn new(alloc: Global, pairs: OrderedMap<Value, Value>) -> Entries
         ensures { unread_entries result ≡ map (λ p. (tree_of p.0, tree_of p.1)) (entries_of pairs) }
     {
@@ -204,11 +204,12 @@ impl de::Deserializer for Deserializer {
     }
 }
 
-/// Reads a `T` out of the value.
+/// Reads a `T` from the value.
 ///
 /// # Errors
-/// `OutOfMemory`; otherwise what `T` refuses with, and only where the value is not read as a `T`:
-/// `InvalidValue` or `Message`. The value is dropped then.
+/// Returns `Error::OutOfMemory` if an allocation fails. Otherwise returns an error if and only if
+/// the value cannot be read as a `T`: `Error::InvalidValue` or `Error::Message`, as `T` chooses.
+/// The value is dropped.
 pub fn from_value<T: Deserialize>(alloc: Global, value: Value) -> Result<T, Error>
     ensures read { Answers (λ e. e ≡ OutOfMemory) (T.reads (tree_of value)) result }
     ensures law { Restores T.image T.restorable T.same

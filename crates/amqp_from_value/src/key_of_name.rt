@@ -1,4 +1,4 @@
-//! Which key of a map stands for a field's name: the string of the same characters, and no symbol.
+//! The keys of a map that match a field's name: strings with the same characters, never symbols.
 
 ghost use Rattle.std.specs.Prelude.{◌≡◌, position};
 ghost use Rattle.amqp_value.specs.TreeOf.{tree_of};
@@ -7,7 +7,7 @@ ghost use Rattle.amqp_de.specs.Fields.{is_name};
 use amqp_value::Value;
 use std::collections::VecDeque;
 
-/// Whether the key is the string of this name.
+/// Returns whether the key is the string `name`.
 fn is_name(key: &Value, name: &str) -> bool
     ensures { result ≡ is_name name.now (tree_of key.now) }
 {
@@ -17,7 +17,7 @@ fn is_name(key: &Value, name: &str) -> bool
     }
 }
 
-/// The place of the first key that is the string of this name.
+/// Returns the index of the first entry whose key is the string `name`.
 pub(crate) fn find(pairs: &VecDeque<(Value, Value)>, name: &str) -> Option<usize>
     ensures { result ≡ position (λ e. is_name name.now (tree_of e.0)) pairs.now.items }
 {

@@ -1,7 +1,7 @@
-//! Reading a type out of an untyped value.
+//! Deserialization from an untyped value.
 //!
-//! `from_value` reads any `amqp_de::de::Deserialize` out of a `Value`. `Deserializer` is what it
-//! reads from; `SeqAccess`, `MapAccess` and `VariantAccess` read a value's parts one after another.
+//! `from_value` reads any `amqp_de::de::Deserialize` type from a `Value`, using a `Deserializer`.
+//! `SeqAccess`, `MapAccess` and `VariantAccess` read the elements, entries and variants of a value.
 #![tactic(auto)]
 
 mod access;

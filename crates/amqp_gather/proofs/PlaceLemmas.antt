@@ -1,4 +1,4 @@
--- Where a pair that is inserted goes.
+-- The position at which an entry is inserted.
 use Rattle.std.proofs.Common.{◌≡◌, ℕ, suc, ◌<◌, Bool, true, false, true≢false, cond, if◌then◌else◌, List, [], ◌∷◌, ◌++◌, length, get_or, slice_set, Option, Some, None, option_map, refl, sym, ap, ◌∙◌, arith}
 use Rattle.amqp_data.specs.Pairs.{insert_pair}
 use Rattle.amqp_gather.specs.Places.{place, merged, places}
@@ -10,7 +10,7 @@ module _ {K V : Type 0} (eq : K → K → Bool) (k : K) (v : V) where
   inside_step false None e es i is h rest = cc
   inside_step false (Some j) e es i is h rest = let z : suc j ≡ i = cc in let below = rest is j refl in omega (arith, z, below)
 
-  -- a place lies within the pairs
+  -- A position is less than the number of entries.
   pub place-inside : (es : List (K × V)) (i : ℕ) → place eq k es ≡ Some i → i < length es
   place-inside [] i h = cc
   place-inside (e ∷ es) i h = inside_step (eq k e.0) (place eq k es) e es i refl h (λ is j found. place-inside es j (is ∙ found))
@@ -22,7 +22,7 @@ module _ {K V : Type 0} (eq : K → K → Bool) (k : K) (v : V) where
   set_step false None e es i d h rest = cc
   set_step false (Some j) e es i d h rest = let z : i ≡ suc j = cc in rw z (ap (λ r. e ∷ r) (rest j refl))
 
-  -- the pair at the place takes the value
+  -- Replacing the value at the position of the key inserts the entry.
   pub set-place : (es : List (K × V)) (i : ℕ) (d : K × V) → place eq k es ≡ Some i → slice_set es i ((get_or es i d).0, v) ≡ insert_pair eq es k v
   set-place [] i d h = cc
   set-place (e ∷ es) i d h = set_step (eq k e.0) (place eq k es) e es i d h (λ j found. set-place es j d found)
@@ -34,7 +34,7 @@ module _ {K V : Type 0} (eq : K → K → Bool) (k : K) (v : V) where
   new_step false None e es h rest = ap (λ r. e ∷ r) (rest refl)
   new_step false (Some j) e es h rest = cc
 
-  -- a key without a place goes last
+  -- Inserting a key that is not present appends the entry.
   pub new-last : (es : List (K × V)) → place eq k es ≡ None → insert_pair eq es k v ≡ es ++ (k, v) ∷ []
   new-last [] h = refl
   new-last (e ∷ es) h = new_step (eq k e.0) (place eq k es) e es h (new-last es)
@@ -46,7 +46,7 @@ module _ {K V : Type 0} (eq : K → K → Bool) (k : K) (v : V) where
   keeps_step false None e es i q h rest = cc
   keeps_step false (Some j) e es i q h rest = ap (λ p. cond (eq q e.0) (Some 0) (option_map suc p)) (rest j refl)
 
-  -- a present key leaves every place as it was
+  -- Inserting a key that is present changes no position.
   pub place-present : (es : List (K × V)) (i : ℕ) (q : K) → place eq k es ≡ Some i → place eq q (insert_pair eq es k v) ≡ place eq q es
   place-present [] i q h = cc
   place-present (e ∷ es) i q h = keeps_step (eq k e.0) (place eq k es) e es i q h (λ j found. place-present es j q found)
@@ -78,11 +78,11 @@ module _ {K V : Type 0} (eq : K → K → Bool) (symmetric : (x y : K) → eq x 
   place_last (e ∷ es) q h =
       last_step (eq k e.0) (eq q e.0) (eq k q) (place eq k es) (place eq q es) e.0 q (length es) refl refl refl h (place eq q (es ++ (k, v) ∷ [])) (place_last es q)
 
-  -- a new key has the last place
+  -- Inserting a key that is not present gives it the last position.
   pub place-new : (es : List (K × V)) (q : K) → place eq k es ≡ None → place eq q (insert_pair eq es k v) ≡ cond (eq k q) (Some (length es)) (place eq q es)
   place-new es q h = ap (place eq q) (new-last eq k v es h) ∙ place_last es q h
 
--- ---- one pair after others
+-- ---- One entry after others.
 module _ {K V : Type 0} (eq : K → K → Bool) where
   pub merged-push : (es : List (K × V)) (e : K × V) (done : List (K × V)) → merged eq (es ++ e ∷ []) done ≡ insert_pair eq (merged eq es done) e.0 e.1
   merged-push [] e done = refl

@@ -1,4 +1,4 @@
--- What calls answer, as trees.
+-- The results of calls, as trees.
 use Rattle.std.proofs.Common.{◌≡◌, ℕ, ◌+◌, ◌<◌, List, [], ◌∷◌, ◌++◌, length, get_or, take, if◌then◌else◌, is_ok, Result, Ok, Err, OnOk, add-one, ap, ◌∙◌}
 use Rattle.std.proofs.Math.Seq.{take-suc}
 use Rattle.amqp_ser.specs.Tree.{no_pairs}

@@ -36,24 +36,24 @@ pub equal-congruent : (a b c : Value) → equal a b ≡ true → equal a c ≡ e
 equal-congruent a b c is =
     equal-is_same a c ∙ ap (λ t. same_tree t (tree_of c)) (same-equal (tree_of a) (tree_of b) (sym (equal-is_same a b) ∙ is)) ∙ sym (equal-is_same b c)
 
--- the pairs that are inserted in turn, as trees
+-- The trees of the entries that are inserted in order.
 pub merged_inserted : (es done : List (Value × Value)) → pairs_trees (merged equal es done) ≡ inserted es (pairs_trees done)
 merged_inserted [] done = refl
 merged_inserted (e ∷ es) done = merged_inserted es (insert_pair equal done e.0 e.1) ∙ ap (inserted es) (pairs_trees-insert done e.0 e.1)
 
--- and their keys are distinct
+-- Inserting entries in order keeps the keys distinct.
 pub merged-distinct : (es done : List (Value × Value)) → AreDistinct equal (keys_of done) → AreDistinct equal (keys_of (merged equal es done))
 merged-distinct [] done h = h
 merged-distinct (e ∷ es) done h = merged-distinct es (insert_pair equal done e.0 e.1) (distinct_after equal equal-symmetric e.0 e.1 done h)
 
--- the map of places, at a key that it has
+-- Looking up a present key finds its position.
 pub find-present : (index : BTreeMap (Bor Value) ℕ) (key : Bor Value) (i : ℕ) → get compare_at index key ≡ Some i
     → (done : List (Value × Value)) → Indexes done index → (Some i ≡ place equal key.now done) × ((v : Value) → Indexes (insert_pair equal done key.now v) index)
 find-present index key i has done h =
     let p : place equal key.now done ≡ Some i = sym (h.0 key) ∙ has in
     (sym p, λ v. (λ q. h.0 q ∙ sym (place-present equal key.now v done i q.now p), h.1 ∙ sym (length-present equal key.now v done i p)))
 
--- and after a new key was added
+-- Adding a new key to the index keeps the positions right.
 pub find-new : (index new : BTreeMap (Bor Value) ℕ) (key : Bor Value) → get compare_at index key ≡ None
     → ((q : Bor Value) → get compare_at new q ≡ cond (is_eq (compare_at key q)) (Some (btree_map_len index)) (get compare_at index q))
     → btree_map_len new ≡ btree_map_len index + 1
@@ -67,14 +67,14 @@ find-new index new key none up longer done h =
       ),
     )
 
--- the order of the keys
+-- The order of the keys.
 abbrev pub key_order : Value → Value → Ordering
 key_order a b = ord.ghosts.cmp a b
 
 apart : (k l : Value) → key_order l k ≡ Less → equal k l ≡ false
 apart k l less = equal-symmetric k l ∙ laws.matches_eq-law l k ∙ ap is_eq less
 
--- none of the pairs has the key
+-- No entry has the key.
 abbrev Misses : Value → List (Value × Value) → Type 0
 Misses k [] = Unit {0}
 Misses k (e ∷ es) = (equal k e.0 ≡ false) × Misses k es
@@ -87,7 +87,7 @@ misses-push : (k : Value) (es : List (Value × Value)) (e : Value × Value) → 
 misses-push k [] e h other = (other, tt)
 misses-push k (x ∷ es) e h other = (h.0, misses-push k es e h.1 other)
 
--- none of the pairs has a key of these
+-- No entry of the second list has a key of the first.
 abbrev AllMiss : List (Value × Value) → List (Value × Value) → Type 0
 AllMiss [] done = Unit {0}
 AllMiss (e ∷ es) done = Misses e.0 done × AllMiss es done
@@ -128,7 +128,7 @@ merged-neighbours es d h =
     let inside : k + 1 < length es = subst (λ n. k + 1 < n) (length-keys es) below in
     (λ i. key_order (get_or-keys es k d i) (get_or-keys es (k + 1) d i)) ∙ less_from_test _ (h k inside))) (all_miss-nothing es)
 
--- keys that ascend are distinct, so that each pair goes last
+-- Ascending keys are distinct, so each entry is appended.
 pub merged-ascending : (es : List (Value × Value)) → ((k : ℕ) (d : Value × Value) → k + 1 < length es → true ≡ is_lt (key_order (get_or es k d).0 (get_or es (k + 1) d).0)) → merged equal es [] ≡ es
 merged-ascending [] h = refl
 merged-ascending (e ∷ es) h = merged-neighbours (e ∷ es) e (λ k. h k e)

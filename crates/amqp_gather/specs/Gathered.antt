@@ -1,4 +1,4 @@
--- The pairs that were gathered, as trees.
+-- The collected entries, as trees.
 use Rattle.std.specs.Prelude.{List, [], ◌∷◌}
 use Rattle.amqp_ser.specs.Tree.{Pairs, no_pairs}
 use Rattle.amqp_value.specs.Image.{insert_tree}
@@ -6,12 +6,12 @@ use Rattle.amqp_value.specs.TreeOf.{tree_of}
 use Rattle.amqp_value.specs.declared.value.Value.{Value}
 use Rattle.amqp_gather.specs.declared.gathered.Gathered.{Gathered}
 
--- the pairs, inserted in turn into those that are there: a present key keeps its place and takes the value, and a
--- new key goes last
+-- The entries inserted in order into the entries `done`: a repeated key keeps its position and gets
+-- the new value, and a new key is appended.
 abbrev pub inserted : List (Value × Value) → Pairs → Pairs
 inserted [] done = done
 inserted (e ∷ es) done = inserted es (insert_tree done (tree_of e.0) (tree_of e.1))
 
--- the pairs that were gathered, of which the last of each key stands, at the place of the key's first
+-- The collected entries: each key once, at its first position and with its last value.
 abbrev pub gathered : Gathered → Pairs
 gathered g = inserted g.pairs.items no_pairs

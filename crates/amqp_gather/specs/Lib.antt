@@ -1,4 +1,4 @@
--- What contracts of public items rest on.
+-- Contracts of public items depend on these.
 pub mod Gathered
--- What contracts of private functions alone cite.
+-- Only contracts of private functions use these.
 pub mod Places

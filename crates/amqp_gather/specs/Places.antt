@@ -1,4 +1,4 @@
--- Pairs that are inserted in turn, by the place of each key among those that are there.
+-- Entries that are inserted in order, by the position of each key among the entries before it.
 use Rattle.std.specs.Prelude.{◌≡◌, ℕ, suc, Bool, cond, List, [], ◌∷◌, length, Option, None, Some, option_map}
 use Rattle.std.specs.BTreeMap.{BTreeMap, get, btree_map_len}
 use Rattle.std.specs.declared.cmp.Ordering.{Ordering}
@@ -9,28 +9,28 @@ use Rattle.amqp_value.specs.contracts.value.ValuePartialEq.TheImpl as eq
 use Rattle.amqp_value.specs.declared.value.Value.{Value}
 
 module _ {K V : Type 0} (eq : K → K → Bool) where
-  -- the place of the first pair whose key equals k
+  -- The position of the first entry whose key equals `k`.
   abbrev pub place : K → List (K × V) → Option ℕ
   place k [] = None
   place k (e ∷ es) = cond (eq k e.0) (Some 0) (option_map suc (place k es))
 
-  -- the pairs, inserted in turn into those that are there
+  -- The entries inserted in order into the entries `done`.
   abbrev pub merged : List (K × V) → List (K × V) → List (K × V)
   merged [] done = done
   merged (e ∷ es) done = merged es (insert_pair eq done e.0 e.1)
 
-  -- the place that each of them finds its key at
+  -- The position of the key of each entry when the entry is inserted, or none for a new key.
   abbrev pub places : List (K × V) → List (K × V) → List (Option ℕ)
   places [] done = []
   places (e ∷ es) done = place e.0 done ∷ places es (insert_pair eq done e.0 e.1)
 
--- `==` of values, and `cmp` of what references point to
+-- `==` of values, and `cmp` of the targets of references.
 abbrev pub equal : Value → Value → Bool
 equal a b = eq.ghosts.eq a b
 
 abbrev pub compare_at : Bor Value → Bor Value → Ordering
 compare_at a b = ord.ghosts.cmp a.now b.now
 
--- the map knows the place of each key of the pairs
+-- The index has the position of each key of the entries, and as many keys as there are entries.
 abbrev pub Indexes : List (Value × Value) → BTreeMap (Bor Value) ℕ → Type 0
 Indexes done index = ((q : Bor Value) → get compare_at index q ≡ place equal q.now done) × (btree_map_len index ≡ length done)

@@ -1,4 +1,4 @@
-//! Pairs in the order in which they came.
+//! Entries in the order in which they were inserted.
 
 ghost use Rattle.std.specs.Prelude.{◌≡◌, [], OnOk, IfErr, OnErr, IfOk, MatchResult};
 ghost use Rattle.amqp_ser.specs.Tree.{map, no_pairs};
@@ -12,18 +12,18 @@ use amqp_data::{Error, OrderedMap};
 use amqp_value::Value;
 use std::alloc::{AllocError, AllocFailed, Global};
 
-/// Pairs of a map, gathered one after another: a present key keeps its place and takes the value,
-/// and a new key goes last.
+/// The entries of a map, inserted one after another. A repeated key keeps its position and gets the
+/// new value, and a new key is appended.
 #[derive(Drop)]
 pub struct Gathered {
     pairs: Vec<(Value, Value)>,
 }
 
 impl Gathered {
-    /// No pairs.
+    /// Returns a collection without entries.
     ///
     /// # Memory
-    /// Takes none before the first pair.
+    /// None before the first insertion.
     pub fn new(alloc: Global) -> Gathered
         ensures { gathered result ≡ no_pairs }
     {
@@ -32,13 +32,14 @@ impl Gathered {
         }
     }
 
-    /// Takes one pair more.
+    /// Inserts an entry.
     ///
     /// # Errors
-    /// The pair comes back where memory for it is refused; those that are there stay.
+    /// Returns `AllocFailed` with the key and value if an allocation fails. The entries are
+    /// unchanged.
     ///
     /// # Memory
-    /// A vector's, as the pairs grow: a repeated key takes its room as a new one does.
+    /// That of a growing vector. A repeated key needs as much as a new one.
     pub fn insert(&mut self, key: Value, value: Value) -> Result<(), AllocFailed<(Value, Value)>>
         ensures ok { OnOk result (gathered self.new
             ≡ insert_tree (gathered self.old) (tree_of key) (tree_of value)) }
@@ -48,14 +49,15 @@ impl Gathered {
         self.pairs.push((key, value))
     }
 
-    /// The map of the pairs, in order.
+    /// Returns the map of the entries, in order.
     ///
     /// # Errors
-    /// `OutOfMemory` where memory for the places of keys that do not ascend is refused.
+    /// Returns `Error::OutOfMemory` if an allocation fails, which can happen only if the keys do
+    /// not ascend.
     ///
     /// # Memory
-    /// None where each key is greater than the one before it. Else a tree of the keys, a place for
-    /// each pair, and one block for the pairs.
+    /// None if each key is greater than the one before it. Otherwise a B-tree of the keys, a
+    /// position for each entry, and a vector of the entries of the map.
     pub fn into_value(self, alloc: Global) -> Result<Value, Error>
         ensures { MatchResult result
             (λ v. tree_of v ≡ map (gathered self))
@@ -66,7 +68,7 @@ impl Gathered {
     }
 }
 
-// The pairs, each key once.
+// Returns the entries, with each key once.
 fn once_each(alloc: Global, pairs: Vec<(Value, Value)>) -> Result<Vec<(Value, Value)>, AllocError>
     ensures { IfOk result (λ entries. entries.items ≡ merged equal pairs.items []) }
 {

@@ -1,7 +1,7 @@
-//! The pairs of a map that is read, gathered in time that no input can make worse than n log n.
+//! Collection of the entries of a map that is being read, in O(n log n) time for any input.
 //!
-//! A repeated key is found by `Value`'s order, and by no hash, so no choice of keys makes them
-//! meet.
+//! Repeated keys are found by the order of `Value` and not by a hash, so no input can cause
+//! collisions.
 #![tactic(auto)]
 
 mod gathered;

@@ -1,4 +1,4 @@
-//! Where each pair goes, found by the order of the keys.
+//! The position of each entry, found by the order of the keys.
 
 ghost use Rattle.std.specs.Prelude.{◌≡◌, [], List, IfOk, OnOk};
 ghost use Rattle.std.specs.Bool.{OnTrue};
@@ -10,7 +10,7 @@ use std::alloc::{AllocError, Global};
 use std::collections::BTreeMap;
 use std::mem;
 
-// Whether each key is greater than the one before it, so that the pairs stand as they are.
+// Returns whether each key is greater than the one before it, so that the entries need no change.
 pub fn ascends(pairs: &[(Value, Value)]) -> bool
     ensures { OnTrue result (merged equal pairs.now [] ≡ pairs.now) }
 {
@@ -22,7 +22,7 @@ pub fn ascends(pairs: &[(Value, Value)]) -> bool
     true
 }
 
-// The place at which each pair's key stands by then, if it does.
+// Returns, for each entry, the position of its key among the entries before it, if it is there.
 pub fn places_of(alloc: Global, pairs: &[(Value, Value)]) -> Result<Vec<Option<usize>>, AllocError>
     ensures { IfOk result (λ found. found.items ≡ places equal pairs.now []) }
 {
@@ -35,7 +35,7 @@ pub fn places_of(alloc: Global, pairs: &[(Value, Value)]) -> Result<Vec<Option<u
     Ok(found)
 }
 
-// The place of the key, which goes last where it has none.
+// Returns the position of the key in the index, or adds the key at the end and returns `None`.
 fn find_or_add<'a>(
     index: &mut BTreeMap<&'a Value, usize>,
     key: &'a Value,
@@ -52,7 +52,7 @@ fn find_or_add<'a>(
     Ok(None)
 }
 
-// The pairs, each at its place: at one that is there only the value is new.
+// Builds the entries with each key once. A repeated key keeps its position and gets the new value.
 pub fn rebuild(
     alloc: Global,
     pairs: Vec<(Value, Value)>,
@@ -72,7 +72,7 @@ pub fn rebuild(
     Ok(entries)
 }
 
-// Puts the value at the key's place, or the pair last.
+// Replaces the value at the position of the key, or appends the entry.
 fn put(
     entries: &mut Vec<(Value, Value)>,
     at: Option<usize>,

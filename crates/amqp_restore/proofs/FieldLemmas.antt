@@ -1,4 +1,4 @@
--- What stands for fields where absent ones are left out.
+-- The images of fields, of which absent ones are omitted.
 use Rattle.std.proofs.Common.{◌≡◌, ◌∙◌, ℕ, Bool, true, false, true≢false, List, [], ◌∷◌, Option, Some, None, map, refl, sym, ap, subst}
 use Rattle.std.proofs.lemmas.Cmp.{nat_list_eq_equiv}
 use Rattle.std.specs.Prelude.{◌||◌, ◌&&◌, not, if◌then◌else◌, bytes_eq}
@@ -47,7 +47,7 @@ pub may_stands : (b : Bool) (n : List ℕ) (p : Option Tree) (ps : List (Option 
 unfolding FieldsStandAs
 may_stands b n p ps t ns fs h k = may_by b n p ps t (those_there ns fs) h k
 
--- each part beside what it stands as
+-- A part and its image.
 abbrev Beside : Type 0
 Beside = Option Tree × Tree
 
@@ -64,7 +64,7 @@ abbrev beside : List (Option Tree) → List (Tree × Tree) → List (Beside × B
 beside (k ∷ v ∷ ps) (e ∷ es) = ((k, e.0), (v, e.1)) ∷ beside ps es
 beside _ _ = []
 
--- each key is one that stands as itself
+-- Each key is a string, which is its own image.
 abbrev pub Names : List (Tree × Tree) → Type 0
 Names = AllByRecursion (λ e. (n : List ℕ) × (e.0 ≡ scalar (string n)))
 
@@ -122,7 +122,7 @@ entries_stand ps es h n d =
     subst (λ (qs : List (Option Tree)). StandsAs (whole kind.Map qs) (tree.map (pairs_of es))) (the_parts ps es h)
     (subst (λ (es' : tree.Pairs). StandsAs (whole kind.Map (parts_of part part (beside ps es))) (tree.map es')) (the_entries ps es h) s)
 
--- the names of fields that are there
+-- The names of present fields.
 named_by : (b : Bool) (n : List ℕ) (t : Tree) (es : List (Tree × Tree)) → Names es → Names (if b then (scalar (string n), t) ∷ es else es)
 named_by true n t es h = ((n, refl), h)
 named_by false n t es h = h

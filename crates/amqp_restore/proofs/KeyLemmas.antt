@@ -1,4 +1,4 @@
--- What has the same image has the same contents, part by part; and keys that stay apart have distinct images.
+-- Equal images have equal contents, part by part. Keys that remain distinct have distinct images.
 use Rattle.std.proofs.Common.{◌≡◌, Bool, false, true≢false, List, [], ◌∷◌, Option, Some, None, map, refl, sym, ◌∙◌}
 use Rattle.std.proofs.lemmas.Cmp.{tied_itself}
 use Rattle.std.specs.Cmp.{IsEquivalence, IsTotalOrder}
@@ -11,7 +11,7 @@ use Rattle.amqp_value.specs.TreeOf.{pairs_of}
 use Rattle.amqp_de.specs.Maps.{pair_image, IsPair, SamePair, EachBefore, IsSoToAll, AreDistinct, Ascend}
 use Rattle.amqp_de.specs.Reads.{image_option, RestorableOption, SameOption}
 
--- no two keys have the same image
+-- No two keys have the same image.
 abbrev pub HaveDistinctImages : {K : Type 0} → (K → Tree) → List K → Type 0
 HaveDistinctImages g = EachBefore (λ k l. ¬ (g k ≡ g l))
 
@@ -28,7 +28,7 @@ module _ {T : Type 0} (g : T → Tree) (P : T → Type 0) (S : T → T → Type 
   items_told (x ∷ xs) [] a b e = absurd cc
   items_told (x ∷ xs) (y ∷ ys) a b e = (told x y a.0 b.0 (cc), items_told xs ys a.1 b.1 (cc))
 
-  -- keys that stay apart by what no key is to itself
+  -- Keys are distinct by a relation that no key has to itself.
   module _ (R : T → T → Type 0) (never : (x : T) → ¬ (R x x)) where
     far : (k l : T) → P k → P l → IsSoToAll S R k l → ¬ (g k ≡ g l)
     far k l a b apart e = never k (apart k k (told k k a a refl) (told k l a b e))

@@ -1,4 +1,4 @@
--- What stands for maps where their keys and values stand.
+-- The image of a map, from the images of its keys and values.
 use Rattle.std.proofs.Common.{◌≡◌, ◌∙◌, Bool, true, false, List, [], ◌∷◌, Option, Some, None, map, refl, sym, ap}
 use Rattle.std.specs.Prelude.{◌||◌}
 use Rattle.std.specs.List.{AllByRecursion}
@@ -17,7 +17,7 @@ use Rattle.amqp_de.specs.Maps.{pair_image, IsPair}
 use Rattle.amqp_restore.proofs.KeyLemmas.{HaveDistinctImages}
 use Rattle.amqp_restore.specs.Stands.{StandsAs}
 
--- trees that differ are not the same
+-- Trees that differ are not the same.
 unlike : (t u : Tree) (b : Bool) → same_tree t u ≡ b → ¬ (t ≡ u) → same_tree t u ≡ false
 unlike t u true e n = absurd (n (same-equal t u e))
 unlike t u false e n = e
@@ -27,7 +27,7 @@ lacks_more no_pairs k v l h n = (unlike l k (same_tree l k) refl (λ e. n (sym e
 lacks_more (pair m w ps) k v l h n = (h.0, lacks_more ps k v l h.1 n)
 
 module _ {K V : Type 0} (f : K → Option Tree) (g : K → Tree) (h : V → Option Tree) (i : V → Tree) where
-  -- each key and each value stands
+  -- Each key and each value has the image of that of the entry.
   abbrev Match : Pairs → List (K × V) → Type 0
   Match no_pairs [] = Unit {0}
   Match (pair k v ps) (e ∷ es) = StandsAs (Some k) (g e.0) × StandsAs (Some v) (i e.1) × Match ps es
@@ -54,7 +54,7 @@ module _ {K V : Type 0} (f : K → Option Tree) (g : K → Tree) (h : V → Opti
   parts_match (Some k) (Some v) None e es a b m = absurd m
   parts_match (Some k) (Some v) (Some ts) e es a b m = pair_matches k v (in_pairs ts) e es a b m
 
-  -- no key of these pairs is the image of a key to come
+  -- No key of `done` is the image of a key of the entries.
   abbrev Free : Pairs → List (K × V) → Type 0
   Free done [] = Unit {0}
   Free done (e ∷ es) = Lacks done (g e.0) × Free done es
@@ -68,7 +68,7 @@ module _ {K V : Type 0} (f : K → Option Tree) (g : K → Tree) (h : V → Opti
   free_at_first [] = tt
   free_at_first (e ∷ es) = (tt, free_at_first es)
 
-  -- pairs of distinct images all go last
+  -- Pairs whose keys have distinct images are all appended.
   inserted : (ps : Pairs) (es : List (K × V)) (done : Pairs) → Match ps es → Free done es → HaveDistinctImages g (keys_of es) →
       joined done (pairs_of (map (pair_image g i) es)) ≡ images_onto ps done
   inserted no_pairs [] done m r d = joined_none done

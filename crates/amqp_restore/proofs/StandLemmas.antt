@@ -1,4 +1,4 @@
--- What stands for compounds where their parts stand.
+-- The images of compounds, from the images of their parts.
 use Rattle.std.proofs.Common.{◌≡◌, ℕ, ◌∙◌, false, List, [], ◌∷◌, Option, Some, None, map, refl, ap}
 use Rattle.std.specs.Prelude.{◌||◌}
 use Rattle.std.specs.List.{AllByRecursion}
@@ -14,7 +14,7 @@ use Rattle.amqp_value.specs.Image.{images, variant_map}
 use Rattle.amqp_de.specs.Reads.{image_option, RestorableOption}
 use Rattle.amqp_restore.specs.Stands.{StandsAs, StandAs}
 
--- there are trees in which nothing lazy stands, and these are their images
+-- There are trees, they contain nothing lazy, and these are their images.
 abbrev StandTrees : Option Trees → Trees → Type 0
 StandTrees None us = ⊥
 StandTrees (Some ts) us = (us ≡ images ts) × (has_lazy_each ts ≡ false)

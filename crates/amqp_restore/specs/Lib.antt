@@ -1,2 +1,2 @@
--- What the contracts of public items rest on.
+-- Contracts of public items depend on these.
 pub mod Stands

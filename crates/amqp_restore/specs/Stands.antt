@@ -1,28 +1,29 @@
--- Which tree is the image of what is written (AMQP 1.0 part 1, section 1.6).
+-- The relation of a serialized tree to its image (AMQP 1.0 part 1, section 1.6).
 use Rattle.std.specs.Prelude.{◌≡◌, ℕ, List, [], ◌∷◌, Option, Some, None, Bool, false}
 use Rattle.amqp_ser.specs.Tree.{Tree, Trees, no_trees, more}
 use Rattle.amqp_to_value.specs.HasLazy.{has_lazy}
 use Rattle.amqp_value.specs.Image.{image}
 use Rattle.amqp_de.specs.Present.{those_there}
 
--- there is a tree in which nothing lazy stands, and this is its image
+-- There is a tree, it contains nothing lazy, and this is its image.
 abbrev pub StandsAs : Option Tree → Tree → Type 0
 StandsAs None u = ⊥
 StandsAs (Some t) u = (u ≡ image t) × (has_lazy t ≡ false)
 
--- each has such a tree, and these are their images
+-- Each has such a tree, and these are the images.
 abbrev pub StandAs : List (Option Tree) → Trees → Type 0
 StandAs [] no_trees = Unit {0}
 StandAs (p ∷ ps) (more u us) = StandsAs p u × StandAs ps us
 StandAs [] (more u us) = ⊥
 StandAs (p ∷ ps) no_trees = ⊥
 
--- keys and values in turn: each key is the entry's, and each value has such a tree
+-- Keys and values in turn: each key is that of the entry, and each value has such a tree with the
+-- entry's image.
 abbrev pub EntriesStandAs : List (Option Tree) → List (Tree × Tree) → Type 0
 EntriesStandAs [] [] = Unit {0}
 EntriesStandAs (k ∷ v ∷ ps) (e ∷ es) = (k ≡ Some e.0) × StandsAs v e.1 × EntriesStandAs ps es
 EntriesStandAs _ _ = ⊥
 
--- the parts of a map stand as its fields that are there
+-- The keys and values of a map have the images of the fields that are present.
 unfoldable pub FieldsStandAs : List (Option Tree) → List (List ℕ) → List (Bool × Tree) → Type 0
 FieldsStandAs ps ns fs = EntriesStandAs ps (those_there ns fs)

@@ -1,4 +1,4 @@
-//! Types that hold others come back.
+//! Round trips of types that contain values of other types.
 
 use crate::laws;
 use crate::restore::Restore;

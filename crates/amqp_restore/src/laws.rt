@@ -1,6 +1,6 @@
-//! Which trees are the images of lists, described values and variants.
+//! Laws of the images of lists, described values, variants and maps that contain nothing lazy.
 //!
-//! Each function does nothing: its contract is the law.
+//! The body of each function is empty; its contract is the law.
 
 ghost use Rattle.std.specs.Prelude.{◌≡◌, ℕ, Bool, true, List, [], ◌∷◌, Option, Some, if◌then◌else◌};
 ghost use Rattle.amqp_ser.specs.Composites.{as_described};
@@ -17,7 +17,7 @@ ghost use Rattle.amqp_restore.specs.Stands.{StandsAs, StandAs, FieldsStandAs};
 /// The image of a list is the list of its elements' images.
 ///
 /// # Memory
-/// Takes none.
+/// None.
 pub fn lists_return()
     ensures { (ps : List (Option Tree)) (us : Trees) → StandAs ps us →
         StandsAs (whole kind.List ps) (list us) }
@@ -26,7 +26,7 @@ pub fn lists_return()
 /// The image of an array is the array of its elements' images.
 ///
 /// # Memory
-/// Takes none.
+/// None.
 pub fn arrays_return()
     ensures { (ps : List (Option Tree)) (us : Trees) → StandAs ps us →
         StandsAs (marked mark.Array (whole kind.List ps)) (array us) }
@@ -35,7 +35,7 @@ pub fn arrays_return()
 /// The image of a transparent vector is the list of its elements' images.
 ///
 /// # Memory
-/// Takes none.
+/// None.
 pub fn transparent_vectors_return()
     ensures { (ps : List (Option Tree)) (us : Trees) → StandAs ps us →
         StandsAs (marked mark.Transparent (whole kind.List ps)) (list us) }
@@ -44,17 +44,17 @@ pub fn transparent_vectors_return()
 /// The image of a described value is the image of the value, after the same descriptor.
 ///
 /// # Memory
-/// Takes none.
+/// None.
 pub fn described_return()
     ensures { (d : Descriptor) (p : Option Tree) (u : Tree) → StandsAs p u →
         StandsAs (as_described (Some d) p) (described d u) }
 {}
 
-/// The image of a variant is the map from its index to the image of what it has: one value, or a
-/// list of fields.
+/// The image of a variant is the map from its index to the image of its content, which is one value
+/// or a list of fields.
 ///
 /// # Memory
-/// Takes none.
+/// None.
 pub fn variants_return()
     ensures value { (index : ℕ) (p : Option Tree) (u : Tree) → StandsAs p u →
         StandsAs (whole (kind.NewtypeVariant index) (p ∷ [])) (variant_map index u) }
@@ -62,11 +62,11 @@ pub fn variants_return()
         StandsAs (whole (kind.Variant index) ps) (variant_map index (list us)) }
 {}
 
-/// The image of a list that is written without the absent fields at its end is the list of the
-/// images of those before.
+/// The image of a list that is serialized without the absent fields at its end is the list of the
+/// images of the fields before those.
 ///
 /// # Memory
-/// Takes none.
+/// None.
 pub fn short_lists_return()
     ensures whole { (ps : List (Option Tree)) (fs : List (Bool × Tree)) →
         StandAs ps (trees_of (up_to_last fs)) → StandsAs (whole kind.List ps) (short_list fs) }
@@ -75,11 +75,11 @@ pub fn short_lists_return()
         StandAs (if b then p ∷ ps else []) (trees_of (if b then t ∷ ts else [])) }
 {}
 
-/// The image of a map from names to fields is the map from the names to the images of the fields
-/// that are there.
+/// The image of a map from distinct names to fields is the map from the names to the images of the
+/// present fields.
 ///
 /// # Memory
-/// Takes none.
+/// None.
 pub fn named_maps_return()
     ensures whole { (ps : List (Option Tree)) (ns : List (List ℕ)) (fs : List (Bool × Tree)) →
         distinct_names ns ≡ true → FieldsStandAs ps ns fs →

@@ -1,4 +1,4 @@
-//! What is turned into an untyped value and read back is the same.
+//! Proofs that values round-trip through their untyped values.
 #![tactic(auto)]
 
 mod holders;

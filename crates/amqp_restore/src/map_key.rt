@@ -1,4 +1,4 @@
-//! Types whose values are told apart by what stands for them: the keys of maps that come back.
+//! Types that can be keys of maps that round-trip: their images determine their contents.
 
 ghost use Rattle.std.specs.Prelude.{◌≡◌};
 
@@ -11,15 +11,16 @@ use amqp_value::Value;
 use std::collections::BTreeMap;
 use std::hash::Hash;
 
-/// A type whose restorable values have the same contents where the same stands for them.
+/// A type whose restorable values have the same contents if they have the same image.
 ///
 /// # Implementer notes
-/// The call does nothing: its clause is the law. Call in it that of each part's type.
+/// `images_tell_contents` is required and does nothing. Its contract is the law. The body calls
+/// `images_tell_contents` of the type of each field or element.
 pub trait MapKey: Deserialize {
-    /// Restorable values of the same image have the same contents.
+    /// States that restorable values with the same image have the same contents.
     ///
     /// # Memory
-    /// Takes none.
+    /// None.
     fn images_tell_contents()
         ensures { (x y : Self) → Self.restorable x → Self.restorable y →
             Self.image x ≡ Self.image y → Self.same x y };

@@ -1,4 +1,4 @@
-//! Maps come back: keys that stay apart by their contents have distinct images.
+//! Round trips of maps. Keys that remain distinct by their contents have distinct images.
 
 use crate::map_key::MapKey;
 use crate::restore::Restore;

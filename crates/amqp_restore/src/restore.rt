@@ -1,4 +1,4 @@
-//! Types whose values come back out of their untyped value.
+//! Types whose values round-trip through their untyped values.
 
 ghost use Rattle.std.specs.Prelude.{◌≡◌, MatchResult};
 ghost use Rattle.amqp_data.specs.declared.error.Error.TheVariants.{OutOfMemory};
@@ -11,29 +11,31 @@ use amqp_ser::Serialize;
 use amqp_to_value::to_value;
 use std::alloc::Global;
 
-/// A type that is read from what it is written as.
+/// A type that can be read from the untyped value that it is converted to.
 ///
 /// # Implementer notes
-/// The call does nothing: its clause ties what is read to what is written. Call in it that of each
-/// part's type, and the laws of `laws` for lists and described values.
+/// `returns` is required and does nothing. Its contract is the law: it relates what the type reads
+/// to what it writes. The body calls `returns` of the type of each field or element, and the
+/// functions of `laws` for lists and described values.
 pub trait Restore: Serialize + Deserialize {
-    /// A restorable value has a tree, and the tree's image is what stands for the value.
+    /// States that a restorable value has a tree, which contains nothing lazy, and that the tree's
+    /// image is the image declared for the value.
     ///
     /// # Memory
-    /// Takes none.
+    /// None.
     fn returns()
         ensures { (x : Self) → Self.restorable x → StandsAs (Self.tree x) (Self.image x) };
 }
 
-/// Turns a value into its untyped value, and reads it out of that.
+/// Converts a value to its untyped value and reads it from that.
 ///
-/// A restorable value comes back as the same.
+/// A restorable value round-trips: `T::same` is true of the result and the value.
 ///
 /// # Errors
-/// Of a restorable value `OutOfMemory` alone.
+/// For a restorable value, returns only `Error::OutOfMemory`, if an allocation fails.
 ///
 /// # Memory
-/// Takes `alloc`.
+/// Allocates from `alloc`.
 pub fn restored<T: Restore>(alloc: Global, value: &T) -> Result<T, Error>
     ensures { T.restorable value.now →
         MatchResult result (λ y. T.same y value.now) (λ e. e ≡ OutOfMemory) }

@@ -1,4 +1,4 @@
-//! Null and the scalars come back.
+//! Round trips of null and the scalars.
 
 use crate::restore::Restore;
 use amqp_data::{ByteBuf, Dec32, Dec64, Dec128, F32Bits, F64Bits, Symbol, Timestamp, Uuid};

@@ -1,4 +1,4 @@
-//! Tuples come back.
+//! Round trips of tuples.
 
 use crate::laws;
 use crate::restore::Restore;

@@ -1,4 +1,4 @@
--- What an answer leaves of the serializer, and what a compound has after it.
+-- The state of the serializer after a result, and the contents of a compound after it.
 use Rattle.std.proofs.Common.{◌≡◌, ◌≤◌, false, List, [], ◌∷◌, ◌++◌, Option, Some, None, Result, Ok, Err, length, refl, ap, sym, ◌∙◌, subst, append_assoc}
 use Rattle.amqp_data.specs.declared.error.Error.{Error}
 use Rattle.amqp_data.specs.declared.error.Error.TheVariants as error
@@ -17,7 +17,7 @@ use Rattle.amqp_to_value.specs.declared.serializer.Serializer.{Serializer}
 use Rattle.amqp_to_value.proofs.PendingDescriptorLemmas.{refuses_in, standing_left, stands_in}
 use Rattle.amqp_to_value.proofs.LazyLemmas.{spoils}
 
--- a value in all that it stood in
+-- A value inside its pending descriptors is a permitted result.
 pub finished : (start after : Serializer) (t : Option Tree) (v w : Value) (others ds : List Descriptor) → others ≡ start.descriptors.kept → ds ≡ standing start.descriptors
     → after.pending ≡ pending.Mark mark.Other → after.descriptors.kept ≡ others → after.descriptors.next ≡ false → length (others ++ ds) ≤ after.descriptors.room
     → tree_of w ≡ under_descriptors ds (tree_of v) → StandsFor v (meant start.pending t) → value_permits start t (Ok w) after
@@ -26,14 +26,14 @@ finished start after t v w others ds e f fresh is none room d s = (
   (((fresh, none), is ∙ e), subst (λ n. n ≤ after.descriptors.room) (λ i. length (e i ++ f i)) room),
 )
 
--- a refusal
+-- An error that is permitted for the tree is a permitted result.
 pub finished_not : (start after : Serializer) (t : Option Tree) (e : Error) (old : DescriptorsState) → old.kept ≡ start.descriptors.kept → standing old ≡ standing start.descriptors
     → after.pending ≡ pending.Mark mark.Other → after.descriptors.kept ≡ old.kept → after.descriptors.later ≡ old.later → after.descriptors.next ≡ false → refuses e (meant start.pending t) → value_permits start t (Err e) after
 finished_not start after t e old p q fresh is left none r =
     let more = standing_left old in
     (refuses_in (standing start.descriptors) (meant start.pending t) e r, (((fresh, none), is ∙ p), (more.0, left ∙ more.1 ∙ ap (λ ds. ds ++ more.0) q)))
 
--- what is kept stays so by an answer
+-- A result leaves the kept descriptors unchanged.
 pub kept_same : (ds : List Descriptor) (start after : Serializer) (r : Result Value Error) → start.descriptors.kept ≡ ds → Leaves start.descriptors.kept (standing start.descriptors) r after → IsKept ds after
 kept_same ds start after (Ok v) h k = (k.0.0, k.0.1 ∙ h)
 kept_same ds start after (Err e) h k = (k.0.0, k.0.1 ∙ h)
@@ -41,7 +41,7 @@ kept_same ds start after (Err e) h k = (k.0.0, k.0.1 ∙ h)
 pub kept_on : (ds : List Descriptor) (start after : Serializer) (r : Result Value Error) → IsKept ds start → Leaves start.descriptors.kept (standing start.descriptors) r after → IsKept ds after
 kept_on ds start after r h k = kept_same ds start after r h.1 k
 
--- after a part, what the compound stands in is put aside again
+-- After a part, the descriptors of the compound are saved again.
 pub parted_again : (start now : Serializer) → IsKept (start.descriptors.kept ++ standing start.descriptors) now
     → now.descriptors.kept ++ now.descriptors.later ≡ start.descriptors.kept ++ (standing start.descriptors ++ now.descriptors.later)
 parted_again start now k = ap (λ ds. ds ++ now.descriptors.later) k.1 ∙ append_assoc start.descriptors.kept (standing start.descriptors) now.descriptors.later
@@ -57,18 +57,18 @@ saved_after start before now descriptors r same left next parted =
     let kept = kept_same (start.descriptors.kept ++ standing start.descriptors) before now r same left in
     aside_again start now descriptors now.descriptors.later kept.0 next (parted (standing start.descriptors ++ now.descriptors.later) (parted_again start now kept))
 
--- nothing is permitted on none but a refusal
+-- An error that is permitted for no tree is permitted for none under markers and descriptors.
 pub none_too : (s : Serializer) (e : Error) → refuses e None → refuses e (meant_by s None)
 none_too s e r = subst (refuses e) (sym (ap (described_by (standing s.descriptors)) (meant_none s.pending) ∙ described_none (standing s.descriptors))) r
 
 pub none_refused : (s : Serializer) → refuses error.InvalidValue (meant_by s None)
 none_refused s = none_too s error.InvalidValue tt
 
--- what refuses a tree or none, refuses none
+-- An error that is permitted for a tree or none is permitted for none.
 pub refuses_too : (e : Error) (o : Option Tree) → refuses e o → refuses e None
 refuses_too e o r = spoils e o None (λ h. tt) r
 
--- two parts make no single compound
+-- A single compound of two parts has no tree.
 two_trees : (t u : Tree) (o : Option Trees) → as_kind kinds.Single (prepend (Some t) (prepend (Some u) o)) ≡ None
 two_trees t u None = refl
 two_trees t u (Some ts) = refl
@@ -79,7 +79,7 @@ two_parts None q rest = refl
 two_parts (Some t) None rest = refl
 two_parts (Some t) (Some u) rest = two_trees t u (all_trees rest)
 
--- a refusal of the one value of a single compound, and of a second
+-- Errors of the value of a single compound, and of a second value.
 pub single_refused : (s : Serializer) (p : Option Tree) (e : Error) (rest : List (Option Tree)) → refuses e (meant_by s p) → refuses e (meant_by s (whole kinds.Single (p ∷ rest)))
 unfolding whole
 single_refused s None e rest r = r

@@ -1,4 +1,4 @@
--- A single compound after the answer on a descriptor.
+-- A single compound after the result on its descriptor.
 use Rattle.std.proofs.Common.{◌≡◌, ◌+◌, true, List, [], ◌∷◌, ◌++◌, Option, Some, None, Result, Ok, Err, length, refl, ap, sym, ◌∙◌, subst, append_assoc, arith}
 use Rattle.std.proofs.lemmas.List.{length-append}
 use Rattle.amqp_data.specs.declared.error.Error.{Error}
@@ -18,7 +18,7 @@ use Rattle.amqp_to_value.proofs.AnswerLemmas.{none_refused, none_too}
 use Rattle.amqp_to_value.proofs.LazyLemmas.{read_refused}
 use Rattle.amqp_to_value.proofs.PendingDescriptorLemmas.{standing_none}
 
--- a value in a descriptor's place is the descriptor that the tree is
+-- A value that represents a scalar gives the same descriptor as the scalar.
 same_scalar : (v : Value) (s : Scalar) → StandsFor v (Some (scalar s)) → descriptor_of (Some (scalar s)) ≡ descriptor_of (Some (tree_of v))
 same_scalar v s h = ap (λ u. descriptor_of (Some (image u))) (sym h.1) ∙ ap (λ u. descriptor_of (Some u)) (sym h.2)
 
@@ -32,12 +32,12 @@ same_descriptor v None h = absurd h
 same_descriptor v (Some (scalar s)) h = scalar_descriptor v s h
 same_descriptor v (Some t) h = absurd h
 
--- what is answered there
+-- The result on a descriptor is permitted for `as_descriptor` of its tree.
 pub descriptor_answer : (start s : Serializer) (d : Option Tree) (r : Result Value Error) → IsKeepingDescriptor start s → IsImageOf (meant_by s d) r → IsImageOf (as_descriptor d) r
 descriptor_answer start s d r keeping is =
     subst (λ o. IsImageOf o r) (ap (λ ds. described_by ds (meant s.pending d)) (standing_none s.descriptors keeping.1) ∙ ap (λ u. meant u d) keeping.0) is
 
--- where there is no descriptor there is no described value
+-- If there is no descriptor, `InvalidValue` is permitted for the described value.
 pub no_descriptor : (start : Serializer) (d t : Option Tree) → descriptor_of d ≡ None → refuses error.InvalidValue (meant_by start (as_described (descriptor_of d) t))
 no_descriptor start d t none = subst (λ o. refuses error.InvalidValue (meant_by start (as_described o t))) (sym none) (none_refused start)
 
@@ -54,7 +54,7 @@ descriptor_refused start None e r t = none_too start e r
 descriptor_refused start (Some (scalar s)) e r t = scalar_refused start s e r t
 descriptor_refused start (Some u) e r t = none_too start e r
 
--- one descriptor more
+-- A descriptor that is appended is the innermost.
 described_by-last : (ds : List Descriptor) (d : Descriptor) (t : Option Tree) → described_by (ds ++ (d ∷ [])) t ≡ described_by ds (as_described (Some d) t)
 described_by-last [] d t = refl
 described_by-last (e ∷ ds) d t = ap (as_described (Some e)) (described_by-last ds d t)
@@ -66,7 +66,8 @@ leaves-prefix others own d (Ok v) s k =
     (k.0, omega arith)
 leaves-prefix others own d (Err e) s k = (k.0, ((d ∷ []) ++ k.1.0, k.1.1 ∙ append_assoc own (d ∷ []) k.1.0))
 
--- what is permitted after one descriptor more, is permitted before it on the described value
+-- A result that is permitted after one more descriptor is permitted for the described value before
+-- it.
 pub permitted_before : (start : Serializer) (inner : PendingMark) (x : Descriptor) (d t : Option Tree) (r : Result Value Error) (after : Serializer) → descriptor_of d ≡ Some x
     → as_described (Some x) (meant inner t) ≡ meant start.pending (as_described (Some x) t)
     → value_permits (record { alloc = start.alloc; pending = inner; descriptors = record { kept = start.descriptors.kept; later = standing start.descriptors ++ (x ∷ []); next = true; room = 0 } }) t r after

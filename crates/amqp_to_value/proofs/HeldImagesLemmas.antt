@@ -1,4 +1,4 @@
--- Parts fed one after another.
+-- Parts that are added one after another.
 use Rattle.std.proofs.Common.{◌≡◌, ℕ, List, [], ◌∷◌, ◌++◌, Option, Some, None, Result, Ok, Err, MatchResult, refl, ap, sym, ◌∙◌, subst}
 use Rattle.std.specs.declared.alloc.AllocError.{AllocError}
 use Rattle.amqp_data.specs.declared.error.Error.{Error}
@@ -15,7 +15,7 @@ pub join_then : (ts : Trees) (t : Tree) → join ts (more t no_trees) ≡ then t
 join_then no_trees t = refl
 join_then (more u ts) t = ap (more u) (join_then ts t)
 
--- the trees of one part more
+-- The trees after one more part.
 pub all_trees-then : (ps : List (Option Tree)) (ts : Trees) (t : Tree) → all_trees ps ≡ Some ts → all_trees (ps ++ (Some t ∷ [])) ≡ Some (then ts t)
 all_trees-then ps ts t h = all_trees-append ps (Some t ∷ []) ∙ ap (λ o. joined o (Some (more t no_trees))) h ∙ ap Some (join_then ts t)
 
@@ -27,17 +27,18 @@ all_of-push : (vs : List Value) (v : Value) → all_of (vs ++ (v ∷ [])) ≡ th
 all_of-push [] v = refl
 all_of-push (w ∷ vs) v = ap (more (tree_of w)) (all_of-push vs v)
 
--- a value put last
+-- The trees after one more value at the end.
 pub all_of-then : (vs : List Value) (v : Value) (ts : Trees) (t : Tree) → all_of vs ≡ images ts → tree_of v ≡ image t → all_of (vs ++ (v ∷ [])) ≡ images (then ts t)
 all_of-then vs v ts t h e = all_of-push vs v ∙ (λ i. then (h i) (e i)) ∙ sym (images-then ts t)
 
--- a key or a value more
+-- The state after one more key or value.
 pub fed_onto-then : (ts : Trees) (t : Tree) (done : Pairs) → fed_onto (then ts t) done ≡ feed (fed_onto ts done) (image t)
 fed_onto-then no_trees t done = refl
 fed_onto-then (more k no_trees) t done = refl
 fed_onto-then (more k (more v ts)) t done = fed_onto-then ts t (insert_tree done (image k) (image v))
 
--- what is held at the end: a pending key where the trees are no pairs, otherwise the images of the pairs
+-- The state at the end: a pending key if the trees are not pairs, and otherwise the images of the
+-- pairs.
 abbrev pub Ends : Option Pairs → Pairs × Option Tree → Pairs → Type 0
 Ends None h done = (k : Tree) × (h.1 ≡ Some k)
 Ends (Some ps) h done = h ≡ (images_onto ps done, None)
@@ -58,7 +59,7 @@ not_ended (Some ps) h k e is = absurd (none-some k (sym (ap (λ x. x.1) e) ∙ i
     none-some : (k : Tree) → None ≡ Some k → ⊥
     none-some k q = cc
 
--- a map whose last key has no value is none
+-- A map whose last key has no value has no tree, so `InvalidValue` is permitted.
 pub pending_end : (ts : Trees) (k : Tree) → (fed_onto ts no_pairs).1 ≡ Some k → refuses_opened error.InvalidValue (as_map (in_pairs ts))
 pending_end ts k is = not_ended (in_pairs ts) (fed_onto ts no_pairs) k (ends ts no_pairs) is
 
@@ -71,7 +72,7 @@ ended None h ps r e is compound_tree = absurd (none-some e.0 (sym (ap (λ x. x.1
 ended (Some qs) h ps (Ok v) e is compound_tree = compound_tree ∙ ap (λ x. map x.0) (sym is ∙ e)
 ended (Some qs) h ps (Err e) k is compound_tree = subst (λ x. refuses_opened x (Some (map qs))) (sym compound_tree) tt
 
--- a map of pairs alone
+-- The result for a map without a pending key.
 pub paired_end : (ts : Trees) (ps : Pairs) (r : Result Value Error) → fed_onto ts no_pairs ≡ (ps, None)
     → MatchResult r (λ v. tree_of v ≡ map ps) (λ e. e ≡ error.OutOfMemory) → IsOpenedImage (as_map (in_pairs ts)) r
 paired_end ts ps r is compound_tree = ended (in_pairs ts) (fed_onto ts no_pairs) ps r (ends ts no_pairs) is compound_tree
@@ -86,27 +87,27 @@ even_end (Some qs) h done ps e is = ap (λ x. x.1) e
 fed_key : (h : Pairs × Option Tree) (t : Tree) → h.1 ≡ None → ((feed h t).0, None) ≡ h
 fed_key h t is = ap (λ o. ((feed (h.0, o) t).0, None)) is ∙ ap (λ o. (h.0, o)) (sym is)
 
--- a key that is taken back
+-- Removing the pending key restores the state before it.
 pub key_back : (ts : Trees) (ps : Pairs) (t : Tree) (old new : Pairs × Option Tree) → in_pairs ts ≡ Some ps → old ≡ fed_onto (then ts t) no_pairs → new ≡ (old.0, None) → new ≡ fed_onto ts no_pairs
 key_back ts ps t old new p was is =
     is ∙ ap (λ h. (h.0, None)) (was ∙ fed_onto-then ts t no_pairs)
     ∙ fed_key (fed_onto ts no_pairs) (image t) (even_end (in_pairs ts) (fed_onto ts no_pairs) no_pairs ps (ends ts no_pairs) p)
 
--- one element more, or none
+-- One element is added, or none on an error.
 pub item_taken : (r : Result (Unit {0}) AllocError) (old new : List Value) (v : Value) (ts : Trees) (t : Tree)
     → MatchResult r (λ _. new ≡ old ++ (v ∷ [])) (λ _. new ≡ old) → all_of old ≡ images ts → tree_of v ≡ image t
     → MatchResult r (λ _. all_of new ≡ images (then ts t)) (λ _. all_of new ≡ images ts)
 item_taken (Ok u) old new v ts t is h e = ap all_of is ∙ all_of-then old v ts t h e
 item_taken (Err e) old new v ts t is h k = ap all_of is ∙ h
 
--- one key or value more, or none
+-- One key or value is added, or none on an error.
 pub pair_taken : (r : Result (Unit {0}) AllocError) (old new : Pairs × Option Tree) (v : Value) (ts : Trees) (t : Tree)
     → MatchResult r (λ _. new ≡ feed old (tree_of v)) (λ _. new ≡ old) → old ≡ fed_onto ts no_pairs → tree_of v ≡ image t
     → MatchResult r (λ _. new ≡ fed_onto (then ts t) no_pairs) (λ _. new ≡ fed_onto ts no_pairs)
 pair_taken (Ok u) old new v ts t is h e = is ∙ (λ i. feed (h i) (e i)) ∙ sym (fed_onto-then ts t no_pairs)
 pair_taken (Err e) old new v ts t is h k = is ∙ h
 
--- parts that are not one make no variant of one value
+-- If there is not exactly one value, `InvalidValue` is permitted for a variant of one value.
 pub not_one : (vs : List Value) (ts : Trees) (i : ℕ) → all_of vs ≡ images ts → ((v : Value) → vs ≡ v ∷ [] → ⊥) → refuses_opened error.InvalidValue (as_variant i (only ts))
 not_one vs no_trees i h none = tt
 not_one [] (more t no_trees) i h none = cc

@@ -1,4 +1,4 @@
--- Where a lazy part spells no value there is none of the whole, wherever it stands.
+-- If a lazy tree spells no value, every tree that contains it cannot be read.
 use Rattle.std.proofs.Common.{◌≡◌, ℕ, Bool, true, false, List, [], ◌∷◌, ◌++◌, Option, Some, None, refl, sym, subst, if◌then◌else◌}
 use Rattle.amqp_data.specs.declared.error.Error.{Error}
 use Rattle.amqp_data.specs.declared.error.Error.TheVariants as error
@@ -19,12 +19,12 @@ use Rattle.amqp_to_value.specs.PendingMark.{as_descriptor, meant}
 use Rattle.amqp_to_value.specs.declared.pending_mark.PendingMark.{PendingMark}
 use Rattle.amqp_to_value.specs.declared.pending_mark.PendingMark.TheVariants as pending
 
--- no tree, or one with a lazy part that spells no value
+-- There is no tree, or a lazy tree in it spells no value.
 abbrev pub Lacks : Option Tree → Type 0
 Lacks None = Unit {0}
 Lacks (Some t) = IsUnreadable t
 
--- a fault refuses it
+-- A fault is permitted in this case.
 pub faulted : (e : Error) (o : Option Tree) → IsFault e → Lacks o → refuses e o
 faulted error.OutOfMemory o f h = tt
 faulted error.InvalidValue None f h = f
@@ -35,7 +35,8 @@ faulted error.InvalidFormatCode (Some t) f h = (f, h)
 faulted error.UnexpectedEof (Some t) f h = (f, h)
 faulted e o f h = absurd f
 
--- what refuses one that lacks a value, refuses another
+-- If `q` cannot be read whenever `o` cannot, an error that is permitted for `o` is permitted for
+-- `q`.
 pub spoils : (e : Error) (o q : Option Tree) → (Lacks o → Lacks q) → refuses e o → refuses e q
 spoils error.OutOfMemory o q h r = tt
 spoils error.InvalidValue None q h r = faulted error.InvalidValue q r (h tt)
@@ -47,17 +48,17 @@ spoils error.UnexpectedEof (Some t) q h r = faulted error.UnexpectedEof q r.0 (h
 spoils e None q h r = absurd r
 spoils e (Some t) q h r = absurd r.0
 
--- a tree that can be read is refused as out of memory alone
+-- For a tree that can be read, only out of memory is permitted.
 pub read_refused : (e : Error) (t u : Tree) → Opened t u → refuses e (Some t) → e ≡ error.OutOfMemory
 read_refused error.OutOfMemory t u o r = refl
 read_refused e t u o r = absurd (r.1 u o)
 
--- after descriptors
+-- An unreadable tree is unreadable inside descriptors.
 pub unreadable_in : (ds : List Descriptor) (t : Tree) → IsUnreadable t → IsUnreadable (under_descriptors ds t)
 unreadable_in [] t h = h
 unreadable_in (d ∷ ds) t h = λ u o. unreadable_in ds t h o.0 o.2
 
--- trees of which one cannot be read
+-- At least one of these trees cannot be read.
 abbrev AreUnreadable : Trees → Type 0
 AreUnreadable ts = (us : Trees) → AreOpened ts us → ⊥
 
@@ -65,7 +66,7 @@ lazy_join : (us : Trees) (t : Tree) (ts : Trees) → IsUnreadable t → AreUnrea
 lazy_join no_trees t ts h = λ vs o. h o.0 o.3
 lazy_join (more u us) t ts h = λ vs o. lazy_join us t ts h o.1 o.4
 
--- keys and values in turn are read where the pairs are
+-- The keys and values in turn can be read if the pairs can.
 abbrev PairsAlike : Option Pairs → Trees → Type 0
 PairsAlike None ts = Unit {0}
 PairsAlike (Some ps) ts = (qs : Pairs) → HasOpenedPairs ps qs → (us : Trees) × AreOpened ts us
@@ -109,7 +110,7 @@ joined_lacks k None b t h = subst Lacks (sym (kind_none k)) tt
 joined_lacks k (Some us) None t h = subst Lacks (sym (kind_none k)) tt
 joined_lacks k (Some us) (Some ts) t h = kind_lacks k (join us (more t ts)) (lazy_join us t ts h)
 
--- a marker leaves it so
+-- An unreadable tree is unreadable under a marker.
 marked_lacks : (m : Mark) (t : Tree) → IsUnreadable t → Lacks (marked_tree m t)
 marked_lacks m (scalar s) h = absurd (h (scalar s) refl)
 marked_lacks mark.Array (list ts) h = λ u o. h (list o.0) (o.0, refl, o.2)
@@ -140,7 +141,7 @@ meant_lacks pending.Descriptor (Some t) h = descriptor_lacks t h
 meant_lacks (pending.Mark m) None h = tt
 meant_lacks (pending.Mark m) (Some t) h = marked_lacks m t h
 
--- a whole lacks a value where a part does
+-- A compound is unreadable if a part is.
 pub part_lacks : (u : PendingMark) (k : Kind) (ps : List (Option Tree)) (t : Tree) (rest : List (Option Tree))
     → IsUnreadable t → Lacks (meant u (whole k (ps ++ (Some t ∷ rest))))
 unfolding whole
@@ -148,12 +149,12 @@ part_lacks u k ps t rest h =
     subst (λ o. Lacks (meant u (as_kind k o))) (sym (all_trees-append ps (Some t ∷ rest)))
     (meant_lacks u _ (joined_lacks k (all_trees ps) (all_trees rest) t h))
 
--- bytes that spell nothing
+-- Bytes that spell no value make no readable lazy tree.
 frame_lacks : (b : Bool) (bs : List ℕ) → ((t : Tree) → Spells 256 bs t → ⊥) → Lacks (if b then Some (lazy bs) else None)
 frame_lacks true bs h = h
 frame_lacks false bs h = tt
 
--- the refusal of bytes that were not read
+-- The error for bytes that were not decoded is permitted.
 pub lazy_refused : (bs : List ℕ) (e r : Error) → (e ≡ error.OutOfMemory → r ≡ error.OutOfMemory) → ((e ≡ error.OutOfMemory → ⊥) → IsFault r)
     → ((e ≡ error.OutOfMemory → ⊥) → (t : Tree) → Spells 256 bs t → ⊥) → refuses r (of_frame bs)
 lazy_refused bs error.OutOfMemory r memory fault none = subst (λ x. refuses x (of_frame bs)) (sym (memory refl)) tt

@@ -1,4 +1,4 @@
--- Trees whose lazy parts are read: parts and what is made of them.
+-- Trees whose lazy trees are read, and the compounds of such trees.
 use Rattle.std.proofs.Common.{◌≡◌, ℕ, List, [], ◌∷◌, Option, Some, None, Result, Ok, Err, refl, ap, sym, ◌∙◌, subst}
 use Rattle.amqp_data.specs.declared.error.Error.{Error}
 use Rattle.amqp_data.specs.declared.error.Error.TheVariants as error
@@ -12,19 +12,19 @@ use Rattle.amqp_to_value.specs.PendingDescriptors.{under_descriptors}
 use Rattle.amqp_to_value.specs.declared.parts.Parts.{Parts}
 use Rattle.amqp_to_value.specs.declared.parts.Parts.TheVariants as held
 
--- one tree more
+-- One more tree at the end.
 pub opened-then : (ts us : Trees) (t u : Tree) → AreOpened ts us → Opened t u → AreOpened (then ts t) (then us u)
 opened-then no_trees us t u e o = (u, no_trees, ap (λ x. then x u) e, o, refl)
 opened-then (more x ts) us t u h o = (h.0, then h.1 u, ap (λ x. then x u) h.2, h.3, opened-then ts h.1 t u h.4 o)
 
--- the last one
+-- The last tree.
 pub opened-last : (ts : Trees) (t : Tree) (us : Trees) → AreOpened (then ts t) us → (ys : Trees) × (y : Tree) × (us ≡ then ys y) × AreOpened ts ys
 opened-last no_trees t us h = (no_trees, h.0, h.2 ∙ ap (more h.0) h.4, refl)
 opened-last (more x ts) t us h =
     let r = opened-last ts t h.1 h.4 in
     (more h.0 r.0, r.1, h.2 ∙ ap (more h.0) r.2, (h.0, r.0, refl, h.3, r.3))
 
--- keys and values in turn
+-- The pairs of keys and values in turn, before and after they are read.
 abbrev PairsOpened : Option Pairs → Option Pairs → Type 0
 PairsOpened None None = Unit {0}
 PairsOpened (Some ps) (Some qs) = HasOpenedPairs ps qs
@@ -53,11 +53,11 @@ some_too None q ps h e = absurd (none-some ps e)
 some_too (Some os) None ps h e = absurd h
 some_too (Some os) (Some qs) ps h e = (qs, refl)
 
--- where the trees are pairs, so are they once they are read
+-- If the trees are pairs, they are still pairs after they are read.
 pub still_pairs : (ts us : Trees) (ps : Pairs) → AreOpened ts us → in_pairs ts ≡ Some ps → (qs : Pairs) × (in_pairs us ≡ Some qs)
 still_pairs ts us ps h e = some_too (in_pairs ts) (in_pairs us) ps (pairs_opened ts us h) e
 
--- a tree that is read, or none
+-- A tree before and after it is read, or none.
 abbrev pub IsOpened : Option Tree → Option Tree → Type 0
 IsOpened None None = Unit {0}
 IsOpened (Some t) (Some u) = Opened t u
@@ -75,7 +75,7 @@ one_opened i no_trees us e = subst (λ x. IsOpened None (as_variant i (only x)))
 one_opened i (more t no_trees) us h = subst (λ x. IsOpened (Some (variant i t)) (as_variant i (only x))) (sym (h.2 ∙ ap (more h.0) h.4)) (h.0, refl, h.3)
 one_opened i (more t (more v ts)) us h = subst (λ x. IsOpened None (as_variant i (only x))) (sym (h.2 ∙ ap (more h.0) h.4.2)) tt
 
--- a compound of parts that are read
+-- A compound of parts that are read.
 pub compound_opened : (p : Parts) (ts us : Trees) → AreOpened ts us → IsOpened (compound_tree p (Some ts)) (compound_tree p (Some us))
 compound_opened (held.List v) ts us h = (us, refl, h)
 compound_opened (held.Array v) ts us h = (us, refl, h)
@@ -85,7 +85,7 @@ compound_opened (held.Variant i v) ts us h = (list us, refl, (us, refl, h))
 compound_opened (held.NewtypeVariant i v) ts us h = one_opened i ts us h
 compound_opened held.Refused ts us h = tt
 
--- what is answered on the tree that is read, is answered on the tree
+-- A result that is permitted for the tree after it is read is permitted for the tree.
 pub opened_answer : (o q : Option Tree) (r : Result Value Error) → IsOpened o q → IsOpenedImage q r → IsImageOf o r
 opened_answer None None (Ok v) h g = absurd g
 opened_answer None (Some u) (Ok v) h g = absurd h
@@ -98,12 +98,12 @@ opened_answer (Some t) None (Err error.InvalidValue) h g = absurd h
 opened_answer (Some t) (Some u) (Err error.InvalidValue) h g = absurd g
 opened_answer o q (Err e) h g = absurd g
 
--- after descriptors
+-- A described tree is read as the described tree that its content is read as.
 pub opened_in : (ds : List Descriptor) (t u : Tree) → Opened t u → Opened (under_descriptors ds t) (under_descriptors ds u)
 opened_in [] t u o = o
 opened_in (d ∷ ds) t u o = (under_descriptors ds u, refl, opened_in ds t u o)
 
--- and back
+-- A tree as which a described tree is read has the same descriptors.
 pub opened_inside : (ds : List Descriptor) (t u : Tree) → Opened (under_descriptors ds t) u → (w : Tree) × (u ≡ under_descriptors ds w) × Opened t w
 opened_inside [] t u o = (u, refl, o)
 opened_inside (d ∷ ds) t u o =

@@ -1,4 +1,4 @@
--- What an open compound has after the answer on a part.
+-- The contents of an open compound after the result on a part.
 use Rattle.std.proofs.Common.{◌≡◌, ◌≤◌, false, List, [], ◌∷◌, ◌++◌, Option, Some, None, Ok, Err, length, ap, sym, ◌∙◌, subst, append-nil}
 use Rattle.amqp_data.specs.declared.error.Error.{Error}
 use Rattle.amqp_data.specs.declared.error.Error.TheVariants as error
@@ -23,7 +23,7 @@ use Rattle.amqp_to_value.proofs.PendingDescriptorLemmas.{refuses_in, stood}
 use Rattle.amqp_to_value.proofs.AnswerLemmas.{single_refused, kept_on, parted_again, refuses_too, second_refused}
 use Rattle.amqp_to_value.proofs.ValueSerializerLemmas.{plain_answer, refused}
 
--- what a single compound means before its value
+-- The intended tree of a single compound before its value.
 same_meant : (start before : Serializer) (u : PendingMark) (p : Option Tree) → IsReady start before (body.Single u None) → meant_by before p ≡ meant_by start p
 same_meant start before u p ready = λ i. described_by (ready.2 i) (meant (ready.0 i) p)
 
@@ -40,19 +40,19 @@ refusal start before k (body.Parts parts) ps p e h ready r rest =
     refuses_in (standing start.descriptors) (meant start.pending (whole k (ps ++ (p ∷ rest)))) e
     (refused start.pending k ps p e (plain_answer before (start.descriptors.kept ++ (standing start.descriptors)) p (Err e) ready r) rest)
 
--- what a refused part leaves of what is put aside
+-- The descriptors that a failed part leaves.
 pub left_by_refusal : (start before now : Serializer) (b : OpenBody) (e : Error) → IsReady start before b → Leaves before.descriptors.kept (standing before.descriptors) (Err e) now
     → IsFresh now × (more : List Descriptor) × (now.descriptors.kept ++ now.descriptors.later ≡ start.descriptors.kept ++ (standing start.descriptors ++ more))
 left_by_refusal start before now (body.Single u None) e ready k = (k.0.0, k.1.0, (λ i. (k.0.1 ∙ ready.1) i ++ (k.1.1 ∙ ap (λ ds. ds ++ k.1.0) ready.2) i))
 left_by_refusal start before now (body.Single u (Some v)) e ready k = (k.0.0, now.descriptors.later, parted_again start now (kept_on _ before now (Err e) ready k))
 left_by_refusal start before now (body.Parts parts) e ready k = (k.0.0, now.descriptors.later, parted_again start now (kept_on _ before now (Err e) ready k))
 
--- after a refused part
+-- After a failed part, the descriptors are saved and the error is permitted for the compound.
 pub part_refused : (start before after : Serializer) (k : Kind) (b : OpenBody) (ps : List (Option Tree)) (p : Option Tree) (e : Error) → HasParts start.pending k b ps → IsReady start before b
     → refuses e (meant_by before p) → IsSaved start after → IsSaved start after × ((rest : List (Option Tree)) → value_permits start (whole k (ps ++ (p ∷ rest))) (Err e) after)
 part_refused start before after k b ps p e h ready r saved = (saved, λ rest. (refusal start before k b ps p e h ready r rest, saved))
 
--- after a second value of a single compound
+-- After a second value of a single compound, `InvalidValue` is permitted for the compound.
 pub second_part : (start after : Serializer) (k : Kind) (u : PendingMark) (v : Value) (ps : List (Option Tree)) (p : Option Tree) → HasParts start.pending k (body.Single u (Some v)) ps
     → IsSaved start after → IsSaved start after × ((rest : List (Option Tree)) → value_permits start (whole k (ps ++ (p ∷ rest))) (Err error.InvalidValue) after)
 second_part start after k u v [] p h saved = absurd h.2
@@ -60,7 +60,8 @@ second_part start after k u v (q ∷ []) p h saved =
     (saved, λ rest. (subst (λ x. refuses error.InvalidValue (meant_by start (whole x (q ∷ (p ∷ rest))))) (sym h.0) (second_refused start q p error.InvalidValue rest tt), saved))
 second_part start after k u v (q ∷ (s ∷ ps)) p h saved = absurd h.2
 
--- the value of a single compound stands in what the compound stands in, for which there is room
+-- The value of a single compound is inside the descriptors of the compound, for which there is
+-- capacity.
 pub record Stood (start after : Serializer) (p : Option Tree) (v : Value) : Type 0 where
   pub tree : Tree
   pub read : Tree

@@ -1,4 +1,4 @@
--- Values after their descriptors.
+-- Values inside their descriptors.
 use Rattle.std.proofs.Common.{◌≡◌, if◌then◌else◌, Bool, true, false, true≢false, ℕ, ◌+◌, ◌≤◌, ◌<◌, List, [], ◌∷◌, ◌++◌, Option, Some, None, Result, Ok, Err, MatchResult, Box, Global, length, take, drop, refl, ap, sym, ◌∙◌, subst, append-nil, append_assoc, arith, rules}
 use Rattle.std.proofs.lemmas.List.{map-append, take-map, drop-map, take-append-drop, take-append-le, drop-append-le, length-append}
 use Rattle.std.proofs.Math.Seq.{take-append_seam, drop-append_seam}
@@ -18,7 +18,7 @@ use Rattle.amqp_to_value.specs.ValueSerializer.{described_none}
 use Rattle.amqp_to_value.proofs.LazyLemmas.{Lacks, spoils, unreadable_in}
 use Rattle.amqp_to_value.proofs.OpenedLemmas.{opened_in, opened_inside}
 
--- what comes after the kept ones begins with what the next value stands in
+-- The descriptors after the kept ones begin with those of the next value.
 pub standing_left : (p : DescriptorsState) → (more : List Descriptor) × (p.later ≡ standing p ++ more)
 standing_left p = by p.next refl
   where
@@ -32,7 +32,7 @@ standing_next p is = ap (λ b. if b then p.later else []) is
 pub standing_none : (p : DescriptorsState) → p.next ≡ false → standing p ≡ []
 standing_none p is = ap (λ b. if b then p.later else []) is
 
--- one descriptor more, the innermost
+-- One more descriptor, the innermost.
 pub described_in-last : (ds : List Descriptor) (d : Descriptor) (t : Tree) → under_descriptors (ds ++ (d ∷ [])) t ≡ under_descriptors ds (described d t)
 described_in-last [] d t = refl
 described_in-last (e ∷ ds) d t = ap (described e) (described_in-last ds d t)
@@ -45,14 +45,14 @@ described_by-Some : (ds : List Descriptor) (t : Tree) → described_by ds (Some 
 described_by-Some [] t = refl
 described_by-Some (d ∷ ds) t = rw (described_by-Some ds t) refl
 
--- a value in what it stands in
+-- A value inside descriptors represents the described tree.
 pub stands_in : (ds : List Descriptor) (o : Option Tree) (v w : Value) → tree_of w ≡ under_descriptors ds (tree_of v) → StandsFor v o → StandsFor w (described_by ds o)
 stands_in ds None v w is s = absurd s
 stands_in ds (Some t) v w is s =
     subst (StandsFor w) (sym (described_by-Some ds t))
     (under_descriptors ds s.0, opened_in ds t s.0 s.1, is ∙ ap (under_descriptors ds) s.2 ∙ sym (image-described_in ds s.0))
 
--- and back
+-- A value that represents a described tree has the same descriptors.
 pub stood : (ds : List Descriptor) (o : Option Tree) (v : Value) → StandsFor v (described_by ds o)
     → (t : Tree) × (u : Tree) × (o ≡ Some t) × Opened t u × (tree_of v ≡ under_descriptors ds (image u))
 stood ds None v s = absurd (subst (StandsFor v) (described_none ds) s)
@@ -65,15 +65,15 @@ lacks_in : (ds : List Descriptor) (o : Option Tree) → Lacks o → Lacks (descr
 lacks_in ds None h = subst Lacks (sym (described_none ds)) tt
 lacks_in ds (Some t) h = subst Lacks (sym (described_by-Some ds t)) (unreadable_in ds t h)
 
--- a refusal there
+-- An error that is permitted for a tree is permitted for the described tree.
 pub refuses_in : (ds : List Descriptor) (o : Option Tree) (e : Error) → refuses e o → refuses e (described_by ds o)
 refuses_in ds o e r = spoils e o (described_by ds o) (lacks_in ds o) r
 
--- what is kept stands before
+-- All descriptors are the kept ones followed by the later ones.
 pub all_contents : (bs : List (Box (Described Value) Global)) (kept : ℕ) (others later : List Descriptor) → descriptors_of (take kept bs) ≡ others → descriptors_of (drop kept bs) ≡ later → descriptors_of bs ≡ others ++ later
 all_contents bs kept others later o l = ap descriptors_of (sym (take-append-drop kept bs)) ∙ map-append _ (take kept bs) (drop kept bs) ∙ (λ i. o i ++ l i)
 
--- those up to a place, and those after it
+-- The descriptors before an index, and those from it on.
 pub parted : (bs : List (Box (Described Value) Global)) (others own : List Descriptor) (n : ℕ) → descriptors_of bs ≡ others ++ own → n ≡ length others
     → (descriptors_of (take n bs) ≡ others) × (descriptors_of (drop n bs) ≡ own)
 parted bs others own n is e = (
@@ -81,18 +81,18 @@ parted bs others own n is e = (
   sym (drop-map _ n bs) ∙ (λ i. drop (e i) (is i)) ∙ drop-append_seam others own,
 )
 
--- the first of them
+-- The descriptors before an index.
 pub prefix : (bs cs : List (Box (Described Value) Global)) (ds later : List Descriptor) (n : ℕ) → descriptors_of bs ≡ ds ++ later → n ≡ length ds → cs ≡ take n bs → descriptors_of cs ≡ ds
 prefix bs cs ds later n is e f = ap descriptors_of f ∙ (parted bs ds later n is e).0
 
--- a value that was taken out of what is put aside again
+-- A value without its descriptors, which are pushed back onto the stack.
 pub put_again : (r : Result Value Error) (cs ns : List (Box (Described Value) Global)) (others own : List Descriptor) (t : Tree) (n : ℕ) (next : Bool) → descriptors_of cs ≡ others → n ≡ length others → next ≡ false
     → MatchResult r (λ v. (tree_of v ≡ t) × (descriptors_of ns ≡ descriptors_of cs ++ own)) (λ _. ⊥)
     → MatchResult r (λ v. (tree_of v ≡ t) × (descriptors_of (take n ns) ≡ others) × (descriptors_of (drop n ns) ≡ own) × (next ≡ false)) (λ _. ⊥)
 put_again (Ok v) cs ns others own t n next is e idle h = let all = parted ns others own n (h.1 ∙ ap (λ ds. ds ++ own) is) e in (h.0, all.0, all.1, idle)
 put_again (Err e) cs ns others own t n next is e' idle h = h
 
--- the last of those from the first on, and the others
+-- The last of the described values from index `first` on, and the others.
 module _ (bs : List (Box (Described Value) Global)) (b : Box (Described Value) Global) (first : ℕ) (le : first ≤ length bs) where
   pub take-prefix : take first (bs ++ (b ∷ [])) ≡ take first bs
   take-prefix = take-append-le first bs (b ∷ []) le
@@ -106,7 +106,7 @@ module _ (bs : List (Box (Described Value) Global)) (b : Box (Described Value) G
 tree_of-Described : (b : Box (Described Value) Global) → tree_of (DescribedValue b) ≡ described (descriptor_content b.value.descriptor) (tree_of b.value.value)
 tree_of-Described b = search (rules, the_lemmas)
 
--- a value that is put into the last of them
+-- A value that is put into the last described value.
 pub wrapped : (prefix all initial : List (Box (Described Value) Global)) (b w : Box (Described Value) Global) (first : ℕ) (v : Value) (whole : Tree) → all ≡ prefix ++ (b ∷ []) → first < length all
     → w.value.descriptor ≡ b.value.descriptor → w.value.value ≡ v
     → (take first all ≡ take first initial) × (under_descriptors (descriptors_of (drop first all)) (tree_of v) ≡ whole)
@@ -121,7 +121,7 @@ wrapped prefix all initial b w first v whole is lt same inner h =
           ∙ h.1,
     )
 
--- a described value, taken apart
+-- The descriptor and the content of a described value.
 module _ (b : Box (Described Value) Global) (d : Descriptor) (t : Tree) (is : tree_of (DescribedValue b) ≡ described d t) where
   abbrev head : Tree → Descriptor
   head (described e u) = e
@@ -145,14 +145,14 @@ untagged : (y : Value-F Value) → NoBox (roll-Value y) → tagged (tree_step (m
 untagged (Value-F.Described b) none = absurd (none b (search (rules, the_lemmas)))
 untagged _ none = refl
 
--- a value that is not described has no described tree
+-- The tree of a value that is not described is no described tree.
 pub not_described : (v : Value) → NoBox v → (d : Descriptor) (t : Tree) → tree_of v ≡ described d t → ⊥
 not_described v none d t is =
     let rolled = roll-out-Value v in
     let no = untagged (out-Value v) (subst NoBox (sym rolled) none) in
     true≢false (ap tagged (sym is ∙ ap tree_of (sym rolled) ∙ fold-roll-Value Tree tree_step (out-Value v)) ∙ no)
 
--- one descriptor of the rest is put last
+-- One of the remaining descriptors is pushed onto the stack.
 pub unwrapped : (rest : List Descriptor) (old new : List (Box (Described Value) Global)) (b w : Box (Described Value) Global) (v : Value) (all : List Descriptor) (t : Tree) (at count len len' cap cap' : ℕ)
     → length rest + at ≡ count → at < count → len + length rest ≤ cap → len' ≡ len + 1 → cap ≤ cap'
     → descriptors_of old ++ rest ≡ all → new ≡ old ++ (w ∷ []) → w.value.descriptor ≡ b.value.descriptor → v ≡ b.value.value → tree_of (DescribedValue b) ≡ under_descriptors rest t
@@ -168,7 +168,7 @@ unwrapped (d ∷ rest) old new b w v all t at count len len' cap cap' n lt room 
       ap tree_of inner ∙ p.1,
     )
 
--- the rest is not empty before the last
+-- The remaining descriptors are not empty before the last step.
 pub more_rest : (rest : List Descriptor) (at count : ℕ) (t : Tree) → length rest + at ≡ count → at < count → (d : Descriptor) × (u : Tree) × (under_descriptors rest t ≡ described d u)
 more_rest [] at count t n lt = absurd (omega arith)
 more_rest (d ∷ rest) at count t n lt = (d, under_descriptors rest t, refl)

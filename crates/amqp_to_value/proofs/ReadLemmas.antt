@@ -1,4 +1,4 @@
--- Trees without lazy parts, which are what they are read as.
+-- Trees without lazy trees are read as themselves.
 use Rattle.std.proofs.Common.{◌≡◌, false, true, true≢false, Bool, ◌||◌, Some, refl, ap, sym, ◌∙◌, subst, if◌then◌else◌, List, ℕ, None}
 use Rattle.amqp_ser.specs.Tree.{Tree, Trees, Pairs, scalar, list, array, map, described, variant, lazy, transparent, no_trees, more, no_pairs, pair}
 use Rattle.amqp_value.specs.Plain.{IsPlain, ArePlain, HasPlainPairs}
@@ -26,7 +26,7 @@ second true b h = absurd (true≢false h)
 second false b h = h
 
 mutual
-  -- each is read as itself
+  -- Each tree without lazy trees is read as itself.
   pub opened-itself : (t : Tree) → has_lazy t ≡ false → Opened t t
   opened-itself (scalar s) h = refl
   opened-itself (list ts) h = (ts, refl, opened-themselves ts h)
@@ -56,7 +56,7 @@ mutual
       )
 
 mutual
-  -- a plain tree has no lazy part
+  -- A plain tree contains nothing lazy.
   pub plain_not_lazy : (t : Tree) → IsPlain t → has_lazy t ≡ false
   plain_not_lazy (scalar s) h = refl
   plain_not_lazy (list ts) h = each_not_lazy ts h
@@ -78,7 +78,7 @@ mutual
       ∙ ap (λ b. b || has_lazy_pairs ps) (plain_not_lazy v h.1) ∙ pairs_not_lazy ps h.3
 
 mutual
-  -- no tree is read as two
+  -- A tree is read as at most one tree.
   pub one-opened : (t u w : Tree) → Opened t u → Opened t w → u ≡ w
   one-opened (scalar s) u w a b = a ∙ sym b
   one-opened (list ts) u w a b = a.1 ∙ ap list (each-opened ts a.0 b.0 a.2 b.2) ∙ sym b.1
@@ -99,18 +99,18 @@ mutual
   pairs-opened (pair k v ps) qs rs a b =
       a.3 ∙ (λ i. pair (one-opened k a.0 b.0 a.4 b.4 i) (one-opened v a.1 b.1 a.5 b.5 i) (pairs-opened ps a.2 b.2 a.6 b.6 i)) ∙ sym b.3
 
--- a tree without lazy parts is read as itself alone
+-- A tree without lazy trees is read only as itself.
 pub opened-same : (t u : Tree) → has_lazy t ≡ false → Opened t u → u ≡ t
 opened-same t u h o = one-opened t u t o (opened-itself t h)
 
--- a value that stands for such a tree has its image
+-- A value that represents a tree without lazy trees has its image.
 pub stands-image : (t : Tree) (v : Value) → has_lazy t ≡ false → StandsFor v (Some t) → tree_of v ≡ image t
 stands-image t v h s = s.2 ∙ ap image (opened-same t s.0 h s.1)
 
 pub own : (a b : Value) → IsSound a → StandsFor b (Some (tree_of a)) → tree_of b ≡ tree_of a
 own a b sound s = stands-image (tree_of a) b (plain_not_lazy (tree_of a) (sound-plain a sound)) s ∙ image-sound a sound
 
--- a value that the bytes spell stands for them as a lazy value
+-- A value that the bytes spell represents them as a lazy value.
 pub lazy_read : (v : Value) (bs : List ℕ) → Spells 256 bs (tree_of v) → StandsFor v (of_frame bs)
 lazy_read v bs h =
     subst (λ b. StandsFor v (if b then Some (lazy bs) else None)) (sym (frame_passes bs (spells-frame h)))

@@ -1,4 +1,4 @@
--- Scalars under a marker: each is read as itself.
+-- Scalars under a marker are read as themselves.
 use Rattle.std.proofs.Common.{ℕ, Bool, true, false, if◌then◌else◌, List, Option, Some, None, Result, refl}
 use Rattle.amqp_data.specs.declared.error.Error.{Error}
 use Rattle.amqp_ser.specs.Fixed.{fixed_scalar}
@@ -16,7 +16,7 @@ use Rattle.amqp_to_value.specs.declared.pending_mark.PendingMark.{PendingMark}
 use Rattle.amqp_to_value.specs.declared.pending_mark.PendingMark.TheVariants as pending
 use Rattle.amqp_to_value.proofs.OpenedLemmas.{IsOpened, opened_answer}
 
--- a scalar, or none
+-- A scalar, or none.
 abbrev IsScalar : Option Tree → Type 0
 IsScalar None = Unit {0}
 IsScalar (Some (scalar s)) = Unit {0}

@@ -1,4 +1,4 @@
--- What a tree is answered with is sound.
+-- The value that is returned for a tree is sound.
 use Rattle.std.proofs.Common.{Option, Some, None, Result, Ok, Err, IfOk}
 use Rattle.amqp_data.specs.declared.error.Error.{Error}
 use Rattle.amqp_ser.specs.Tree.{Tree}

@@ -1,4 +1,4 @@
--- What an open compound holds after one part more, or one less.
+-- The contents of an open compound after one part more or one part less.
 use Rattle.std.proofs.Common.{◌≡◌, List, [], ◌∷◌, ◌++◌, Option, Some, None, Result, ok_or, false, true, true≢false, refl, ap, sym, ◌∙◌, subst}
 use Rattle.amqp_data.specs.declared.error.Error.{Error}
 use Rattle.amqp_data.specs.declared.error.Error.TheVariants as error
@@ -32,7 +32,8 @@ use Rattle.amqp_to_value.proofs.OpenedLemmas.{compound_opened, opened-last, open
 none-some : (t : Tree) → None ≡ Some t → ⊥
 none-some t q = cc
 
--- what is meant with nothing before it
+-- If nothing is pending, a result that is permitted for the intended tree is permitted for the
+-- tree.
 pub plain_answer : (s : Serializer) (ds : List Descriptor) (p : Option Tree) (r : Result Value Error) → IsKept ds s → IsImageOf (meant_by s p) r → IsImageOf p r
 plain_answer s ds p r kept is =
     subst (λ o. IsImageOf o r) (ap (λ ds. described_by ds (meant s.pending p)) (standing_none s.descriptors kept.0.1) ∙ ap (λ u. meant u p) kept.0.0 ∙ unmarked p) is
@@ -41,7 +42,7 @@ joined_none : (o : Option Trees) → joined o None ≡ None
 joined_none None = refl
 joined_none (Some ts) = refl
 
--- one part without a tree leaves the whole without one
+-- If one part has no tree, the compound has none.
 without : (u : PendingMark) (kind : Kind) (ps rest : List (Option Tree)) → meant u (whole kind (ps ++ (None ∷ rest))) ≡ None
 unfolding whole
 without u kind ps rest =
@@ -51,11 +52,11 @@ whole_lacks : (u : PendingMark) (kind : Kind) (ps : List (Option Tree)) (p : Opt
 whole_lacks u kind ps None rest h = subst Lacks (sym (without u kind ps rest)) tt
 whole_lacks u kind ps (Some t) rest h = part_lacks u kind ps t rest h
 
--- the refusal of a part is permitted on every continuation
+-- An error of a part is permitted for the compound, whatever parts follow.
 pub refused : (u : PendingMark) (kind : Kind) (ps : List (Option Tree)) (p : Option Tree) (e : Error) → refuses e p → (rest : List (Option Tree)) → refuses e (meant u (whole kind (ps ++ (p ∷ rest))))
 refused u kind ps p e r rest = spoils e p (meant u (whole kind (ps ++ (p ∷ rest)))) (whole_lacks u kind ps p rest) r
 
--- a kind of several parts
+-- A kind other than `Single` is not single.
 pub not_single : (k : Kind) → (k ≡ kinds.Single → ⊥) → is_single k ≡ false
 not_single kinds.Single h = absurd (h refl)
 not_single kinds.List h = refl
@@ -63,16 +64,16 @@ not_single kinds.Map h = refl
 not_single (kinds.Variant i) h = refl
 not_single (kinds.NewtypeVariant i) h = refl
 
--- no part yet
+-- A compound without parts.
 pub nothing_held : (u : PendingMark) (k : Kind) (parts : Parts) → HoldsImages parts no_trees → ((o : Option Trees) → meant u (as_kind k o) ≡ compound_tree parts o) → HoldsParts u k parts []
 nothing_held u k parts fed makes = record { ts = no_trees; trees = refl; us = no_trees; opened = refl; fed = fed; makes = makes }
 
 module _ (u : PendingMark) (kind : Kind) (old new : Parts) (ps : List (Option Tree)) (h : HoldsParts u kind old ps) (makes : (o : Option Trees) → compound_tree new o ≡ compound_tree old o) where
-  -- the same parts
+  -- The parts are the same.
   kept : HoldsImages new h.us → HoldsParts u kind new ps
   kept fed = record { ts = h.ts; trees = h.trees; us = h.us; opened = h.opened; fed = fed; makes = λ o. h.makes o ∙ sym (makes o) }
 
-  -- one part more
+  -- One part is added.
   pub part_taken : (p : Option Tree) (v : Value) → StandsFor v p → ((ts : Trees) (t : Tree) → HoldsImages old ts → tree_of v ≡ image t → HoldsImages new (then ts t)) → HoldsParts u kind new (ps ++ (p ∷ []))
   part_taken None v s step = absurd s
   part_taken (Some t) v s step = record {
@@ -84,12 +85,12 @@ module _ (u : PendingMark) (kind : Kind) (old new : Parts) (ps : List (Option Tr
     makes = λ o. h.makes o ∙ sym (makes o);
   }
 
-  -- no part more
+  -- No part is added.
   pub part_left : (p : Option Tree) (v : Value) → StandsFor v p → ((ts : Trees) (t : Tree) → HoldsImages old ts → tree_of v ≡ image t → HoldsImages new ts) → HoldsParts u kind new ps
   part_left None v s step = absurd s
   part_left (Some t) v s step = kept (step h.us s.0 h.fed s.2)
 
--- a compound of the kind map takes keys and values in turn
+-- A compound of kind map takes keys and values in turn.
 takes_pairs : (u : PendingMark) (o : Parts) → ((ts : Option Trees) → meant u (as_kind kinds.Map ts) ≡ compound_tree o ts) → TakesPairs o
 takes_pairs u (parts.Map g) m = tt
 takes_pairs u parts.Refused m = tt
@@ -99,13 +100,13 @@ takes_pairs u (parts.Transparent v) m = absurd (none-some _ (sym (meant_none u) 
 takes_pairs u (parts.Variant i v) m = absurd (none-some _ (sym (meant_none u) ∙ m (Some (more (scalar null) no_trees))))
 takes_pairs u (parts.NewtypeVariant i v) m = absurd (none-some _ (sym (meant_none u) ∙ m (Some (more (scalar null) no_trees))))
 
--- the last of the parts
+-- The last of the parts.
 last_part : (o : Option Trees) (p : Option Tree) (ts : Trees) → joined o (prepend p (Some no_trees)) ≡ Some ts → (us : Trees) × (t : Tree) × (o ≡ Some us) × (ts ≡ then us t)
 last_part None p ts h = cc
 last_part (Some us) None ts h = cc
 last_part (Some us) (Some t) ts h = let e : join us (more t no_trees) ≡ ts = cc in (us, t, refl, sym e ∙ join_then us t)
 
--- a key that is taken back
+-- Removing the pending key restores the parts before it.
 pub undone : (u : PendingMark) (old new : Parts) (ps : List (Option Tree)) (p : Option Tree) → HoldsParts u kinds.Map old (ps ++ (p ∷ [])) → paired ps ≡ true
     → ((o : Option Trees) → compound_tree new o ≡ compound_tree old o)
     → ((ts : Trees) (qs : Pairs) (t : Tree) → in_pairs ts ≡ Some qs → TakesPairs old → HoldsImages old (then ts t) → HoldsImages new ts)
@@ -125,7 +126,7 @@ undone u old new ps p h even makes back =
       makes = λ o. h.makes o ∙ sym (makes o);
     }
 
--- the value of a single compound
+-- The value of a single compound.
 single_answer : (u : PendingMark) (o : Option Value) (r : Result Value Error) (ps : List (Option Tree)) → HasValue u o ps → complete kinds.Single ps ≡ true → r ≡ ok_or o error.InvalidValue
     → IsImageOf (meant u (whole kinds.Single ps)) r
 unfolding whole
@@ -142,7 +143,7 @@ single_value u w k o r ps h c e =
     subst (λ x. IsImageOf (meant u (whole x ps)) r) (sym h.0)
     (single_answer u o r ps h.2 (subst (λ x. complete x ps ≡ true) h.0 c) e)
 
--- the value of a compound of parts
+-- The value of a compound that is built from parts.
 pub parts_value : (u : PendingMark) (k : Kind) (parts : Parts) (r : Result Value Error) (ps : List (Option Tree)) → HoldsParts u k parts ps
     → ((ts : Trees) → HoldsImages parts ts → IsOpenedImage (compound_tree parts (Some ts)) r) → IsImageOf (meant u (whole k ps)) r
 unfolding whole

@@ -1,4 +1,5 @@
--- What a compound holds of the trees that it was fed, once their lazy parts are read.
+-- What an open compound contains, in terms of the trees that were serialized into it, after their
+-- lazy trees are read.
 use Rattle.std.specs.Prelude.{◌≡◌, Bool, true, false, Option, Some, None, Result, Ok, Err, option_map}
 use Rattle.amqp_data.specs.declared.error.Error.{Error}
 use Rattle.amqp_data.specs.declared.error.Error.TheVariants as error
@@ -16,16 +17,16 @@ use Rattle.amqp_to_value.specs.declared.map_builder.MapBuilder.{MapBuilder}
 use Rattle.amqp_to_value.specs.declared.parts.Parts.{Parts}
 use Rattle.amqp_to_value.specs.declared.parts.Parts.TheVariants as held
 
--- these trees and one more
+-- These trees and one more at the end.
 abbrev pub then : Trees → Tree → Trees
 then no_trees t = more t no_trees
 then (more u ts) t = more u (then ts t)
 
--- the images of a map's pairs, and of the key whose value comes next
+-- The images of a map's entries, and of the key whose value is pending.
 abbrev pub held_pairs : MapBuilder → Pairs × Option Tree
 held_pairs g = (gathered g.pairs, option_map tree_of g.key)
 
--- one part more: a key, or the value of the pending key
+-- Adds a key, or the value of the pending key.
 abbrev pub feed : Pairs × Option Tree → Tree → Pairs × Option Tree
 feed held t = by held.1
   where
@@ -33,13 +34,13 @@ feed held t = by held.1
     by None = (held.0, Some t)
     by (Some k) = (insert_tree held.0 k t, None)
 
--- what is held after keys and values in turn
+-- The entries and the pending key after keys and values in turn.
 abbrev pub fed_onto : Trees → Pairs → Pairs × Option Tree
 fed_onto no_trees done = (done, None)
 fed_onto (more k no_trees) done = (done, Some (image k))
 fed_onto (more k (more v ts)) done = fed_onto ts (insert_tree done (image k) (image v))
 
--- the images of these trees are held, in order
+-- The compound contains the images of these trees, in order.
 abbrev pub HoldsImages : Parts → Trees → Type 0
 HoldsImages (held.List v) ts = all_of v.items ≡ images ts
 HoldsImages (held.Array v) ts = all_of v.items ≡ images ts
@@ -49,12 +50,12 @@ HoldsImages (held.Variant i v) ts = all_of v.items ≡ images ts
 HoldsImages (held.NewtypeVariant i v) ts = all_of v.items ≡ images ts
 HoldsImages held.Refused ts = Unit {0}
 
--- one value that stands for itself
+-- Whether the compound is a single value.
 abbrev pub is_single : Kind → Bool
 is_single kind.Single = true
 is_single k = false
 
--- the tree that a compound makes of its parts
+-- The tree that a compound makes from its parts.
 abbrev pub compound_tree : Parts → Option Trees → Option Tree
 compound_tree (held.List v) ts = as_kind kind.List ts
 compound_tree (held.Array v) ts = marked mark.Array (as_kind kind.List ts)
@@ -64,7 +65,8 @@ compound_tree (held.Variant i v) ts = as_kind (kind.Variant i) ts
 compound_tree (held.NewtypeVariant i v) ts = as_kind (kind.NewtypeVariant i) ts
 compound_tree held.Refused ts = None
 
--- the answers on a tree without lazy parts, or on none: the image, out of memory on any, and invalid on none
+-- The errors that are permitted for a tree without lazy trees, or for none: out of memory for any,
+-- and invalid for none.
 abbrev pub refuses_opened : Error → Option Tree → Type 0
 refuses_opened error.OutOfMemory t = Unit {0}
 refuses_opened error.InvalidValue None = Unit {0}
@@ -75,7 +77,7 @@ IsOpenedImage None (Ok v) = ⊥
 IsOpenedImage (Some t) (Ok v) = tree_of v ≡ image t
 IsOpenedImage t (Err e) = refuses_opened e t
 
--- a compound of keys and values in turn
+-- The compound takes keys and values in turn.
 abbrev pub TakesPairs : Parts → Type 0
 TakesPairs (held.Map g) = Unit {0}
 TakesPairs held.Refused = Unit {0}

@@ -1,5 +1,6 @@
--- Contracts of public items rest on all of these, but for `descriptors_of` and `under_descriptors` in PendingDescriptors, and `feed` and
--- `TakesPairs`, `refuses_opened` and `IsOpenedImage` in HeldImages, which private clauses alone cite. HasLazy is cited by laws.
+-- Contracts of public items depend on all of these, except for `descriptors_of` and
+-- `under_descriptors` in PendingDescriptors, and `feed`, `TakesPairs`, `refuses_opened` and
+-- `IsOpenedImage` in HeldImages, which only private clauses use. Laws use HasLazy.
 pub mod PendingDescriptors
 pub mod HasLazy
 pub mod Opened

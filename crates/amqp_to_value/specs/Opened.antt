@@ -1,9 +1,11 @@
--- A tree whose lazy parts are read: each is the value that its bytes spell (AMQP 1.0 part 1, sections 1.2 and 1.6).
+-- A tree whose lazy trees are read: each becomes the value that its bytes spell (AMQP 1.0 part 1,
+-- sections 1.2 and 1.6).
 use Rattle.std.specs.Prelude.{◌≡◌}
 use Rattle.amqp_decode.specs.Spells.{Spells}
 use Rattle.amqp_ser.specs.Tree.{Tree, Trees, Pairs, scalar, list, array, map, described, variant, lazy, transparent, no_trees, more, no_pairs, pair}
 
--- the second tree is the first with each lazy part replaced by a tree that its bytes spell, which is at most 256 deep
+-- The second tree is the first with each lazy tree replaced by a tree that its bytes spell, which
+-- is at most 256 deep.
 abbrev mutual
   pub Opened : Tree → Tree → Type 0
   Opened (scalar s) u = u ≡ scalar s
@@ -15,16 +17,16 @@ abbrev mutual
   Opened (lazy bs) u = Spells 256 bs u
   Opened (transparent ts) u = (us : Trees) × (u ≡ transparent us) × AreOpened ts us
 
-  -- the same of trees, one by one
+  -- The same for trees, one by one.
   pub AreOpened : Trees → Trees → Type 0
   AreOpened no_trees us = us ≡ no_trees
   AreOpened (more t ts) us = (v : Tree) × (vs : Trees) × (us ≡ more v vs) × Opened t v × AreOpened ts vs
 
-  -- the same of the keys and the values of pairs
+  -- The same for the keys and values of pairs.
   pub HasOpenedPairs : Pairs → Pairs → Type 0
   HasOpenedPairs no_pairs qs = qs ≡ no_pairs
   HasOpenedPairs (pair k v ps) qs = (l : Tree) × (w : Tree) × (rs : Pairs) × (qs ≡ pair l w rs) × Opened k l × Opened v w × HasOpenedPairs ps rs
 
--- some lazy part in the tree spells no value
+-- Some lazy tree in the tree spells no value.
 abbrev pub IsUnreadable : Tree → Type 0
 IsUnreadable t = (u : Tree) → ¬ Opened t u

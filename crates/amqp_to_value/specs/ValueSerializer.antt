@@ -1,4 +1,4 @@
--- What the value serializer may answer, and what its compounds were fed.
+-- The results that are permitted for the value serializer, and the contents of its open compounds.
 use Rattle.std.specs.Prelude.{◌≡◌, ◌≤◌, false, List, [], ◌∷◌, ◌++◌, length, Option, Some, None, Result, Ok, Err}
 use Rattle.std.proofs.Common.{refl, ap, ◌∙◌, subst}
 use Rattle.amqp_data.specs.declared.error.Error.{Error}
@@ -22,27 +22,28 @@ use Rattle.amqp_to_value.specs.declared.open_value.OpenBody.TheVariants as body
 use Rattle.amqp_to_value.specs.declared.parts.Parts.{Parts}
 use Rattle.amqp_to_value.specs.declared.serializer.Serializer.{Serializer}
 
--- under no marker, and after no descriptor
+-- No marker and no descriptor is pending.
 abbrev pub IsFresh : Serializer → Type 0
 IsFresh s = (s.pending ≡ pending.Mark mark.Other) × (s.descriptors.next ≡ false)
 
--- the tree that is meant: under its marker, after its descriptors
+-- The intended tree: under the pending marker, inside the pending descriptors.
 abbrev pub meant_by : Serializer → Option Tree → Option Tree
 meant_by s t = described_by (standing s.descriptors) (meant s.pending t)
 
--- all the descriptors that it holds
+-- All the descriptors on the stack.
 abbrev pub all_held : Serializer → List Descriptor
 all_held s = s.descriptors.kept ++ s.descriptors.later
 
--- fresh, and these descriptors are kept, no more and no fewer
+-- The serializer is fresh, and exactly these descriptors are kept.
 abbrev pub IsKept : List Descriptor → Serializer → Type 0
 IsKept ds s = IsFresh s × (s.descriptors.kept ≡ ds)
 
--- these are left after them, with some that are needed no more
+-- These descriptors are left after the kept ones, possibly with others that are no longer needed.
 abbrev pub IsLeft : List Descriptor → Serializer → Type 0
 IsLeft ds s = (more : List Descriptor) × (s.descriptors.later ≡ ds ++ more)
 
--- what is kept stays as it was; a value uses up its own descriptors, and leaves their room, and a refusal leaves them
+-- The kept descriptors are unchanged. A value uses its own descriptors and leaves their capacity,
+-- and an error leaves the descriptors.
 abbrev pub Leaves : List Descriptor → List Descriptor → Result Value Error → Serializer → Type 0
 Leaves others own (Ok v) s = IsKept others s × (length (others ++ own) ≤ s.descriptors.room)
 Leaves others own (Err e) s = IsKept others s × IsLeft own s
@@ -50,17 +51,17 @@ Leaves others own (Err e) s = IsKept others s × IsLeft own s
 abbrev pub value_permits : Serializer → Option Tree → Result Value Error → Serializer → Type 0
 value_permits s t r after = IsImageOf (meant_by s t) r × Leaves s.descriptors.kept (standing s.descriptors) r after
 
--- an open compound, of the parts that it was fed
+-- An open compound that contains these parts.
 pub record HoldsParts (pending : PendingMark) (kind : Kind) (held : Parts) (ps : List (Option Tree)) : Type 0 where
   pub ts : Trees
   pub trees : all_trees ps ≡ Some ts
-  -- the same, once their lazy parts are read
+  -- The same trees, after their lazy trees are read.
   pub us : Trees
   pub opened : AreOpened ts us
   pub fed : HoldsImages held us
   pub makes : (o : Option Trees) → meant pending (as_kind kind o) ≡ compound_tree held o
 
--- a single compound has no value and no part, or the value of its one part
+-- A single compound has no value and no part, or one part and its value.
 abbrev pub HasValue : PendingMark → Option Value → List (Option Tree) → Type 0
 HasValue u None [] = Unit {0}
 HasValue u None (p ∷ ps) = ⊥
@@ -68,24 +69,25 @@ HasValue u (Some v) [] = ⊥
 HasValue u (Some v) (p ∷ []) = StandsFor v (meant u p)
 HasValue u (Some v) (p ∷ (q ∷ ps)) = ⊥
 
--- a compound, opened under this, may have been fed these parts
+-- The compound, opened under this pending marker, can contain these parts.
 abbrev pub HasParts : PendingMark → Kind → OpenBody → List (Option Tree) → Type 0
 HasParts u k (body.Single w v) ps = (k ≡ kind.Single) × (w ≡ u) × HasValue u v ps
 HasParts u k (body.Parts parts) ps = (is_single k ≡ false) × HoldsParts u k parts ps
 
--- what the compound stands in is put aside
+-- The descriptors of the compound are saved.
 abbrev pub IsSaved : Serializer → Serializer → Type 0
 IsSaved start s = IsKept start.descriptors.kept s × IsLeft (standing start.descriptors) s
 
--- it is kept, for the time of a part
+-- The descriptors of the compound are kept while a part is serialized.
 abbrev pub IsKeeping : Serializer → Serializer → Type 0
 IsKeeping start s = IsKept (start.descriptors.kept ++ standing start.descriptors) s
 
--- the same, for the time of a descriptor
+-- The same while a descriptor is serialized.
 abbrev pub IsKeepingDescriptor : Serializer → Serializer → Type 0
 IsKeepingDescriptor start s = (s.pending ≡ pending.Descriptor) × (s.descriptors.next ≡ false) × (s.descriptors.kept ≡ start.descriptors.kept ++ standing start.descriptors)
 
--- before its value a single compound has the serializer stand as at its opening
+-- Before its value, a single compound has the serializer in the state in which the compound was
+-- opened.
 abbrev pub IsReady : Serializer → Serializer → OpenBody → Type 0
 IsReady start s (body.Single u None) = (s.pending ≡ start.pending) × (s.descriptors.kept ≡ start.descriptors.kept) × (standing s.descriptors ≡ standing start.descriptors)
 IsReady start s (body.Single u (Some v)) = IsKeeping start s
@@ -97,7 +99,7 @@ value_has start k s held ps = (held.saved ≡ saved_of start.descriptors.kept (s
 abbrev pub value_awaits : Serializer → Kind → Serializer → OpenValue → List (Option Tree) → Type 0
 value_awaits start k s held ps = (held.saved ≡ saved_of start.descriptors.kept (standing start.descriptors)) × HasParts start.pending k held.body ps × IsReady start s held.body
 
--- a single compound is ready for a descriptor
+-- A single compound can take a descriptor.
 abbrev pub value_awaits_descriptor : Serializer → Serializer → OpenValue → Type 0
 value_awaits_descriptor start s held = (held.saved ≡ saved_of start.descriptors.kept (standing start.descriptors)) × HasParts start.pending kind.Single held.body [] × IsKeepingDescriptor start s
 
@@ -110,7 +112,7 @@ meant_none (pending.Mark m) = refl
 meant_none pending.Descriptor = refl
 meant_none pending.Nothing = refl
 
--- where there is no tree there is no value
+-- If there is no tree, there is no value.
 pub no_value_of_none : (s : Serializer) (v : Value) (after : Serializer) → value_permits s None (Ok v) after → ⊥
 no_value_of_none s v after h =
     let none : meant_by s None ≡ None = ap (described_by (standing s.descriptors)) (meant_none s.pending) ∙ described_none (standing s.descriptors) in subst (StandsFor v) none h.0

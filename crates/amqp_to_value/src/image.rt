@@ -1,4 +1,4 @@
-//! The value that a value stands for.
+//! Conversion of a serializable value to its untyped value.
 
 ghost use Rattle.std.specs.Prelude.{IfOk, Option, Result};
 ghost use Rattle.amqp_ser.specs.Tree.{Tree};
@@ -11,24 +11,25 @@ use amqp_ser::Serialize;
 use amqp_value::Value;
 use std::alloc::Global;
 
-/// The untyped value that stands for the value: its tree is the image of the value's tree.
+/// Returns the untyped value that represents the argument: its tree is the image of the argument's
+/// tree.
 ///
-/// Each kind of tree is its variant. A variant of an enum is the map of one pair, from its index as
-/// a uint to its payload, and a transparent vector is the list of its elements. The pairs of a map
-/// are inserted in order: a present key keeps its place and takes the new value, so no map in the
-/// value has a key twice: the value is sound. A lazy value, wherever it stands, is the value that
-/// its bytes spell, at most 256 deep.
+/// Each kind of tree becomes the `Value` variant of that kind. An enum variant becomes the map of
+/// one entry, from its index as a uint to its payload. A transparent vector becomes the list of its
+/// elements. The entries of a map are inserted in order: a repeated key keeps its position and gets
+/// the new value. So no map in the result has a key twice, and the result is sound. A lazy value,
+/// at any depth, becomes the value that its bytes spell, which is at most 256 deep.
 ///
 /// # Errors
-/// `OutOfMemory` where a growth of memory is refused. Any other error only where the value has no
-/// tree, or a lazy value in it spells none, and then there is one: for the bytes of a lazy value
-/// that of `decode_value`, and else `InvalidValue`.
+/// Returns `Error::OutOfMemory` if an allocation fails. Otherwise returns an error if and only if
+/// the argument has no tree, or a lazy value in it spells no value: the error of `decode_value` for
+/// the bytes of a lazy value, and `Error::InvalidValue` in other cases.
 ///
 /// # Memory
-/// Takes `alloc`.
+/// Allocates from `alloc`.
 ///
 /// # Example
-/// The vector of the strings `a` and `bc` gives the list of the two, which is written
+/// The vector of the strings `a` and `bc` gives the list of the two, which is encoded as
 /// `c00802a10161a1026263`. The vector of the lazy values `43` and `5001` gives the list of the uint
 /// 0 and the ubyte 1.
 #[tactic(auto, using(crate::proofs::SoundLemmas::answer_sound))]
@@ -40,25 +41,29 @@ pub fn to_value<T: Serialize>(alloc: Global, value: &T) -> Result<Value, Error>
     value.serialize(&mut serializer)
 }
 
-/// A type into which whatever has a tree can be turned.
+/// A type to which any serializable value can be converted.
+///
+/// # Implementer notes
+/// `gives` and `try_from_serializable` are required. The result of `try_from_serializable` must be
+/// one that `gives` permits for the tree of the argument, or for no tree if the argument has none.
 pub trait TryFromSerializable: Sized {
     ghost use Rattle.amqp_data.specs.declared.error.Error.{Error};
 
-    /// What may be answered on a tree, or on none.
+    /// The results that are permitted for a tree, or for none.
     ghost gives: { Option Tree → Result Self Error → Type 0 };
 
-    /// Turns the value into this type, as the type permits on the value's tree.
+    /// Converts the value to this type.
     ///
     /// # Errors
-    /// `OutOfMemory` where a growth of memory is refused, and what else the type says.
+    /// Returns `Error::OutOfMemory` if an allocation fails, and the errors that the type documents.
     ///
     /// # Memory
-    /// Takes `alloc`.
+    /// Allocates from `alloc`.
     fn try_from_serializable<T: Serialize>(alloc: Global, value: &T) -> Result<Self, Error>
         ensures { gives (T.tree value.now) result };
 }
 
-/// As `to_value`.
+/// Like `to_value`.
 impl TryFromSerializable for Value {
     ghost gives = { IsImageOf };
 

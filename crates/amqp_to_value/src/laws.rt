@@ -1,7 +1,7 @@
-//! What a value keeps of the tree that it stands for, and what a tree with lazy parts is read as.
+//! Laws of the value that represents a tree, and of trees with lazy values.
 //!
-//! A law is a function that does nothing: its clause is the law. A caller's proof learns it by a
-//! call.
+//! The body of each function is empty; its contract is the law. A proof calls the function to use
+//! the law.
 
 ghost use Rattle.std.specs.Prelude.{◌≡◌, List, ℕ, Some, false, true};
 ghost use Rattle.amqp_decode.specs.Spells.{Spells};
@@ -19,20 +19,20 @@ ghost use Rattle.amqp_to_value.specs.Opened.{Opened};
 
 use amqp_value::Value;
 
-/// A tree in which nothing lazy stands is read as itself, and as no other tree.
+/// A tree that contains nothing lazy is read as itself, and as no other tree.
 ///
 /// # Memory
-/// Takes none.
+/// None.
 pub fn trees_without_lazy_parts_are_read_as_themselves()
     ensures itself { (t : Tree) → has_lazy t ≡ false → Opened t t }
     ensures alone { (t u : Tree) → has_lazy t ≡ false → Opened t u → u ≡ t }
 {}
 
-/// A value that stands for a tree in which nothing lazy stands is its image, and the other way
-/// round.
+/// A value represents a tree that contains nothing lazy if and only if the value's tree is the
+/// image of that tree.
 ///
 /// # Memory
-/// Takes none.
+/// None.
 pub fn trees_without_lazy_parts_stand_as_their_images()
     ensures image { (t : Tree) (v : Value) → has_lazy t ≡ false → StandsFor v (Some t) →
         tree_of v ≡ image t }
@@ -40,19 +40,19 @@ pub fn trees_without_lazy_parts_stand_as_their_images()
         StandsFor v (Some t) }
 {}
 
-/// The values that stand for one tree have the same tree.
+/// All values that represent a tree have the same tree.
 ///
 /// # Memory
-/// Takes none.
+/// None.
 pub fn one_value_stands_for_a_tree()
     ensures { (t : Tree) (v w : Value) → StandsFor v (Some t) → StandsFor w (Some t) →
         tree_of v ≡ tree_of w }
 {}
 
-/// A value stands for a lazy value exactly where the bytes spell it, at most 256 deep.
+/// A value represents a lazy value if and only if the bytes spell it, at most 256 deep.
 ///
 /// # Memory
-/// Takes none.
+/// None.
 pub fn lazy_values_stand_as_what_they_spell()
     ensures spelled { (bytes : List ℕ) (v : Value) → StandsFor v (Some (lazy bytes)) →
         Spells 256 bytes (tree_of v) }
@@ -60,19 +60,21 @@ pub fn lazy_values_stand_as_what_they_spell()
         StandsFor v (Some (lazy bytes)) }
 {}
 
-/// A value that stands for a plain tree has that tree, each variant read as its map.
+/// The tree of a value that represents a plain tree is that tree with each variant replaced by its
+/// map.
 ///
 /// # Memory
-/// Takes none.
+/// None.
 pub fn plain_trees_come_back()
     ensures { (t : Tree) (v : Value) → IsPlain t → StandsFor v (Some t) →
         tree_of v ≡ read_as_map t }
 {}
 
-/// A value that stands for a plain tree is written as the same bytes, or refused too.
+/// A value that represents a plain tree has the same encoding as the tree, and is writable if and
+/// only if the tree is.
 ///
 /// # Memory
-/// Takes none.
+/// None.
 pub fn plain_trees_keep_their_bytes()
     ensures writable { (t : Tree) (v : Value) → IsPlain t → StandsFor v (Some t) →
         writable (tree_of v) ≡ writable t }
@@ -80,10 +82,10 @@ pub fn plain_trees_keep_their_bytes()
         encoding (tree_of v) ≡ encoding t }
 {}
 
-/// A value that stands for a sound one has its tree, and is equal to it.
+/// A value that represents the tree of a sound value has that tree and is equal to the sound value.
 ///
 /// # Memory
-/// Takes none.
+/// None.
 pub fn sound_values_come_back_equal()
     ensures tree { (a b : Value) → IsSound a → StandsFor b (Some (tree_of a)) →
         tree_of b ≡ tree_of a }
@@ -91,11 +93,11 @@ pub fn sound_values_come_back_equal()
         ⟦<Value as PartialEq>⟧.eq b a ≡ true }
 {}
 
-/// A value that stands for a scalar is equal to each value of that scalar, as the one that `From`
-/// gives.
+/// A value that represents a scalar is equal to every value with the tree of that scalar, such as
+/// the one that `From` returns.
 ///
 /// # Memory
-/// Takes none.
+/// None.
 pub fn scalars_keep_their_content()
     ensures { (s : Scalar) (a b : Value) → tree_of a ≡ scalar s → StandsFor b (Some (scalar s))
         → ⟦<Value as PartialEq>⟧.eq b a ≡ true }

@@ -1,4 +1,4 @@
-//! The value inside a lazy value.
+//! The value that the bytes of a lazy value spell.
 
 ghost use Rattle.std.specs.Prelude.{◌≡◌, None, false, true};
 ghost use Rattle.amqp_frame.specs.Whole.{is_frame};
@@ -12,7 +12,11 @@ use amqp_frame::is_frame;
 use amqp_value::Value;
 use std::alloc::Global;
 
-/// The value that the bytes spell, where they are one encoded value.
+/// Returns the value that the bytes spell, which must be one encoded value.
+///
+/// # Errors
+/// Returns `Error::OutOfMemory` if an allocation fails. Otherwise returns `Error::InvalidValue` if
+/// the bytes are not one encoded value, and the error of `decode_value` if they spell no value.
 #[inline(never)]
 pub fn lazy_value(alloc: Global, bytes: &[u8]) -> Result<Value, Error>
     ensures image { IsImageOf (of_frame bytes.now) result }
@@ -24,8 +28,9 @@ pub fn lazy_value(alloc: Global, bytes: &[u8]) -> Result<Value, Error>
     }
 }
 
-// The refusal of bytes that were not read: what was wrong with them where they are one encoded
-// value, and otherwise invalid; out of memory stays what it is.
+// Returns the error for bytes that were not decoded. `OutOfMemory` is unchanged. If the bytes are
+// one encoded value, `InvalidFormatCode` and `UnexpectedEof` are unchanged. Any other error becomes
+// `InvalidValue`.
 fn refusal(e: Error, bytes: &[u8]) -> Error
     ensures memory { e ≡ Error.OutOfMemory → result ≡ Error.OutOfMemory }
     ensures code { e ≡ Error.InvalidFormatCode → is_frame bytes.now ≡ true → result ≡ e }

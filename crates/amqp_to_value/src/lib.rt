@@ -1,10 +1,12 @@
-//! The untyped value that a value stands for.
+//! Conversion of any serializable value to an untyped value.
 //!
-//! `to_value` gives the value whose tree is the image of what it is given. `Serializer` is the
-//! serializer behind it, and takes values piece by piece. A lazy value is read by `amqp_decode`: it
-//! is the value that its bytes spell. The bytes of a plain value and of its image are the same. Of
-//! a transparent vector the image is a list, of two keys with one image a map keeps one, and a lazy
-//! value may be spelled longer than what it stands for is written.
+//! `to_value` returns the value whose tree is the image of the tree of its argument. It uses
+//! `Serializer`, which can also be used on its own, element by element. `amqp_decode` decodes the
+//! bytes of a lazy value.
+//!
+//! A plain value and its image have the same encoding. Of other values the encodings can differ:
+//! the image of a transparent vector is a list, a map keeps one of two keys with the same image,
+//! and the bytes of a lazy value can be longer than the encoding of the value that they spell.
 #![tactic(auto)]
 
 mod image;

@@ -1,4 +1,4 @@
-//! The pairs of a map that is still fed.
+//! The entries of a map that is being serialized.
 
 ghost use Rattle.std.specs.Prelude.{◌≡◌, MatchResult, None};
 ghost use Rattle.amqp_ser.specs.Tree.{Trees, no_pairs};
@@ -11,7 +11,7 @@ use amqp_gather::Gathered;
 use amqp_value::Value;
 use std::alloc::{AllocError, Global};
 
-/// The pairs of a map, in order, and the key whose value comes next.
+/// The entries of a map, in order, and the key whose value is pending.
 #[derive(Drop)]
 pub struct MapBuilder {
     pairs: Gathered,
@@ -19,7 +19,7 @@ pub struct MapBuilder {
 }
 
 impl MapBuilder {
-    /// No pairs.
+    /// Returns a builder without entries.
     pub fn new(alloc: Global) -> MapBuilder
         ensures { held_pairs result ≡ (no_pairs, None) }
     {
@@ -29,11 +29,11 @@ impl MapBuilder {
         }
     }
 
-    /// Takes a key, or the value of the pending key.
+    /// Adds a key, or the value of the pending key.
     ///
     /// # Errors
-    /// `AllocError` where memory for the pair is refused: the part is dropped, and the key still
-    /// pending.
+    /// Returns `AllocError` if an allocation fails. The argument is dropped, and the entries and
+    /// the pending key are unchanged.
     #[inline(never)]
     pub fn add_part(&mut self, part: Value) -> Result<(), AllocError>
         ensures { MatchResult result
@@ -56,7 +56,7 @@ impl MapBuilder {
         }
     }
 
-    /// Takes the pending key back.
+    /// Removes the pending key.
     #[inline(always)]
     pub fn undo(&mut self)
         ensures { held_pairs self.new ≡ ((held_pairs self.old).0, None) }
@@ -64,11 +64,11 @@ impl MapBuilder {
         self.key = None;
     }
 
-    /// The map of the pairs, none where a key is pending.
+    /// Returns the map of the entries.
     ///
     /// # Errors
-    /// `InvalidValue` where a key is pending, `OutOfMemory` where memory for the places of keys
-    /// that do not ascend is refused.
+    /// Returns `Error::InvalidValue` if a key is pending. Returns `Error::OutOfMemory` if an
+    /// allocation fails, which can happen only if the keys do not ascend.
     #[inline(never)]
     pub fn into_value(self, alloc: Global) -> Result<Value, Error>
         ensures { (ts : Trees) → held_pairs self ≡ fed_onto ts no_pairs →

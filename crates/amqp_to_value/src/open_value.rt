@@ -1,4 +1,4 @@
-//! A compound that is still fed.
+//! A compound that is being serialized.
 
 ghost use Rattle.std.specs.Prelude.{◌≡◌, ◌++◌, ◌∷◌, [], List, Option, Some, true};
 ghost use Rattle.amqp_ser.specs.Composites.{as_described};
@@ -19,24 +19,25 @@ use amqp_ser::Kind;
 use amqp_value::Value;
 use std::alloc::Global;
 
-/// A compound, and what it stands in.
+/// An open compound and the position of its pending descriptors.
 #[derive(Drop)]
 pub struct OpenValue {
     pub saved: Saved,
     pub body: OpenBody,
 }
 
-/// What a compound is fed.
+/// The content of an open compound.
 #[derive(Drop)]
 pub enum OpenBody {
-    /// One value, that stands for itself where the compound was opened, under this.
+    /// A single value that replaces the compound, and the marker pending when the compound was
+    /// opened.
     Single(PendingMark, Option<Value>),
-    /// Parts of which the compound is made.
+    /// The parts from which the compound is built.
     Parts(Parts),
 }
 
 impl OpenBody {
-    /// A compound of this kind under a marker, without parts.
+    /// Returns an empty compound of this kind under the pending marker.
     #[inline(always)]
     pub fn new(alloc: Global, pending: PendingMark, kind: Kind) -> OpenBody
         ensures { HasParts pending kind result [] }
@@ -47,7 +48,7 @@ impl OpenBody {
         }
     }
 
-    /// The value to come is a described one.
+    /// Marks the value of a single compound as described.
     #[inline(always)]
     pub fn describe(&mut self)
         ensures { (pending : PendingMark) → HasParts pending kind.Single self.old [] →
@@ -60,7 +61,7 @@ impl OpenBody {
         }
     }
 
-    /// Takes a map's pending key back.
+    /// Removes the pending key of a map.
     #[inline(always)]
     pub fn undo(&mut self)
         ensures { (pending : PendingMark) (ps : List (Option Tree)) (p : Option Tree) →
@@ -72,10 +73,11 @@ impl OpenBody {
         }
     }
 
-    /// The value of the compound.
+    /// Returns the value of the compound.
     ///
     /// # Errors
-    /// `InvalidValue` where the parts make no value, `OutOfMemory` where memory for it is refused.
+    /// Returns `Error::InvalidValue` if the parts do not form a value, and `Error::OutOfMemory` if
+    /// an allocation fails.
     #[inline(always)]
     pub fn into_value(self, alloc: Global) -> Result<Value, Error>
         ensures { (pending : PendingMark) (kind : Kind) (ps : List (Option Tree)) →
@@ -89,7 +91,8 @@ impl OpenBody {
     }
 }
 
-/// Sets the one value, in a call of its own: what was there is let go.
+/// Sets the single value and drops the previous one. Never inlined, to keep the drop out of the
+/// caller.
 #[inline(never)]
 pub fn set_first(first: &mut Option<Value>, value: Value)
     ensures { first.new ≡ Some value }

@@ -1,4 +1,4 @@
-//! The parts of a compound that is still fed.
+//! The parts of an open compound.
 
 ghost use Rattle.std.specs.Prelude.{◌≡◌, false, ◌++◌, ◌∷◌, [], List, Option, Some, None, MatchResult, MatchOption};
 ghost use Rattle.amqp_ser.specs.Tree.{Tree, Trees, Pairs, no_trees};
@@ -15,27 +15,28 @@ use amqp_ser::{Kind, Mark};
 use amqp_value::Value;
 use std::alloc::{AllocError, Global};
 
-/// What a compound makes of its parts, with the values of those that it was fed.
+/// The kind of an open compound, with the values that it contains so far.
 #[derive(Drop)]
 pub enum Parts {
     /// A list of these elements.
     List(Vec<Value>),
     /// An array of these elements.
     Array(Vec<Value>),
-    /// A list of these elements, that stand one after another.
+    /// A transparent vector of these elements, whose value is a list.
     Transparent(Vec<Value>),
     /// A map.
     Map(MapBuilder),
-    /// The variant of this index and the list of its fields.
+    /// The variant with this index and these fields.
     Variant(u32, Vec<Value>),
-    /// The variant of this index and its one value.
+    /// The variant with this index and this one value.
     NewtypeVariant(u32, Vec<Value>),
-    /// A compound that its marker does not take: it keeps nothing.
+    /// A compound that the pending marker does not permit. Its parts are dropped.
     Refused,
 }
 
 impl Parts {
-    /// What a compound of this kind is under a marker. A single one is none of these.
+    /// Returns the empty parts of a compound of this kind, other than `Kind::Single`, under a
+    /// marker.
     #[inline(always)]
     pub fn new(alloc: Global, pending: PendingMark, kind: Kind) -> Parts
         ensures makes { is_single kind ≡ false → (o : Option Trees) →
@@ -61,11 +62,11 @@ impl Parts {
         }
     }
 
-    /// Takes one part more.
+    /// Adds a part.
     ///
     /// # Errors
-    /// `AllocError` where memory for the part is refused: it is dropped, and the parts are as they
-    /// were.
+    /// Returns `AllocError` if an allocation fails. The argument is dropped, and the parts are
+    /// unchanged.
     #[inline(always)]
     pub fn add_part(&mut self, part: Value) -> Result<(), AllocError>
         ensures makes { (o : Option Trees) → compound_tree self.new o ≡ compound_tree self.old o }
@@ -88,7 +89,7 @@ impl Parts {
         }
     }
 
-    /// Takes a map's pending key back.
+    /// Removes the pending key of a map.
     #[inline(always)]
     pub fn undo(&mut self)
         ensures makes { (o : Option Trees) → compound_tree self.new o ≡ compound_tree self.old o }
@@ -100,10 +101,11 @@ impl Parts {
         }
     }
 
-    /// The value of the compound.
+    /// Returns the value of the compound.
     ///
     /// # Errors
-    /// `InvalidValue` where the parts make no value, `OutOfMemory` where memory for it is refused.
+    /// Returns `Error::InvalidValue` if the parts do not form a value, and `Error::OutOfMemory` if
+    /// an allocation fails.
     #[inline(always)]
     pub fn into_value(self, alloc: Global) -> Result<Value, Error>
         ensures { (ts : Trees) → HoldsImages self ts →
@@ -124,7 +126,7 @@ impl Parts {
     }
 }
 
-// Puts a value last.
+// Appends a value, or drops it if an allocation fails.
 #[inline(always)]
 fn gather(items: &mut Vec<Value>, value: Value) -> Result<(), AllocError>
     ensures { MatchResult result
@@ -139,13 +141,13 @@ fn gather(items: &mut Vec<Value>, value: Value) -> Result<(), AllocError>
     Ok(())
 }
 
-/// Lets a value go, in a call of its own: what that takes is not in the way of values that stay.
+/// Drops a value. Never inlined, to keep the drop out of the path of values that are kept.
 #[inline(never)]
 pub fn let_go(value: Value) {
     drop(value);
 }
 
-// The one value, where there is one and no more.
+// Returns the value if there is exactly one.
 #[inline(never)]
 fn only(mut items: Vec<Value>) -> Option<Value>
     ensures { MatchOption result ((v : Value) → items.items ≡ v ∷ [] → ⊥)
@@ -155,7 +157,7 @@ fn only(mut items: Vec<Value>) -> Option<Value>
     if items.is_empty() { Some(last) } else { None }
 }
 
-// The map of one pair that stands for a variant.
+// Returns the map of one entry that represents a variant.
 #[inline(never)]
 fn variant(alloc: Global, index: u32, payload: Value) -> Result<Value, Error>
     ensures { MatchResult result

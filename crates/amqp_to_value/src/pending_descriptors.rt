@@ -1,4 +1,4 @@
-//! Descriptors whose values are still to come.
+//! Descriptors whose values are pending.
 
 ghost use Rattle.std.specs.Prelude.{◌≡◌, ℕ, ◌+◌, ◌≤◌, ◌++◌, ◌∷◌, [], List, length, take, drop, true, false, vec_capacity, vec_len, MatchResult};
 ghost use Rattle.amqp_ser.specs.Carried.{descriptor_content};
@@ -12,9 +12,11 @@ use std::alloc::Global;
 use std::marker::Model;
 use std::mem;
 
-/// Described values without their values, of which null keeps the room, the outermost first: those
-/// that open compounds keep, and then those that the next value stands in. Where it stands in none,
-/// what is left there is needed no more once the next compound is opened.
+/// Stack of descriptors awaiting values, outermost first; `Null` is a placeholder for each value.
+///
+/// The first `kept` descriptors are kept for open compounds. If `next` is true, those after them
+/// belong to the next value. Otherwise those after them are not needed once the next compound is
+/// opened.
 #[derive(Drop)]
 pub struct PendingDescriptors {
     stack: Vec<Box<Described<Value>>>,
@@ -33,7 +35,7 @@ impl Model for PendingDescriptors {
     } };
 }
 
-/// What a compound stands in: where the first is, and where the last ends.
+/// The range of the descriptors of an open compound in the stack: the first index and the end.
 #[derive(Clone, Copy)]
 pub struct Saved {
     first: usize,
@@ -41,7 +43,7 @@ pub struct Saved {
 }
 
 impl PendingDescriptors {
-    /// Nothing.
+    /// Returns an empty stack.
     #[inline(always)]
     pub fn new(alloc: Global) -> PendingDescriptors
         ensures { result.next ≡ false }
@@ -53,13 +55,13 @@ impl PendingDescriptors {
         }
     }
 
-    /// Nothing that was put aside.
+    /// Returns an empty range.
     #[inline(always)]
     pub fn vacant(&self) -> Saved {
         Saved { first: 0, end: 0 }
     }
 
-    /// Puts aside what the next value stands in. What a refused value left is let go.
+    /// Returns the range of the next value's descriptors. Drops those left over from failed values.
     #[inline(always)]
     pub fn save(&mut self) -> Saved
         ensures saved { result ≡ saved_of self.old.kept (standing self.old) }
@@ -76,7 +78,8 @@ impl PendingDescriptors {
         Saved { first, end }
     }
 
-    /// Keeps what was put aside, before a part of the compound that stands in it.
+    /// Keeps the saved descriptors while an element, key, value or field of their compound is
+    /// serialized.
     #[inline(always)]
     pub fn keep(&mut self, saved: Saved)
         ensures { (others own later : List Content) → self.old.kept ≡ others →
@@ -86,7 +89,7 @@ impl PendingDescriptors {
         self.kept = saved.end;
     }
 
-    /// Keeps it no more, after the part.
+    /// Ends the effect of `keep` after the element, key, value or field.
     #[inline(always)]
     pub fn release(&mut self, saved: Saved)
         ensures parted { (others own rest : List Content) →
@@ -98,7 +101,7 @@ impl PendingDescriptors {
         self.kept = saved.first;
     }
 
-    /// The next value stands again in what was put aside. What came later is let go.
+    /// Assigns the saved descriptors to the next value. Later ones are dropped.
     #[inline(always)]
     pub fn restore(&mut self, saved: Saved)
         ensures { (others own later : List Content) → self.old.kept ≡ others →
@@ -110,10 +113,11 @@ impl PendingDescriptors {
         self.next = true;
     }
 
-    /// What was put aside, and one described value more, the innermost. What came later is let go.
+    /// Appends a descriptor to the saved ones, innermost, and returns the new range. Drops later
+    /// ones.
     ///
     /// # Errors
-    /// `OutOfMemory` where memory for the described value is refused.
+    /// Returns `Error::OutOfMemory` if an allocation fails.
     #[inline(always)]
     pub fn describe(
         &mut self,
@@ -147,7 +151,8 @@ impl PendingDescriptors {
         })
     }
 
-    /// The value in all that it stands in, which is used up; its room stays.
+    /// Returns the value inside its descriptors, which are removed. The stack keeps capacity for
+    /// them.
     #[inline(always)]
     pub fn wrap(&mut self, value: Value) -> Value
         ensures kept { self.new.kept ≡ self.old.kept }
@@ -162,7 +167,8 @@ impl PendingDescriptors {
         wrap_from(&mut self.stack, self.kept, value)
     }
 
-    /// What a refused value stood in is left, for the compound that fed the value.
+    /// Leaves the descriptors of a failed value in the stack, for the compound that serialized the
+    /// value.
     #[inline(always)]
     pub fn leave(&mut self)
         ensures kept { self.new.kept ≡ self.old.kept }
@@ -172,10 +178,10 @@ impl PendingDescriptors {
         self.next = false;
     }
 
-    /// The value alone: what it stood in is put aside again, for which there is room.
+    /// Returns the value without its descriptors, which are pushed back onto the stack.
     ///
     /// # Errors
-    /// None for a value that stands in what was put aside, where there is room for that.
+    /// None if the value has the saved descriptors and the stack has capacity for them.
     #[inline(always)]
     pub fn unwrap(&mut self, saved: Saved, value: Value) -> Result<Value, Error>
         ensures { (others own : List Content) (t : Tree) → self.old.kept ≡ others →
@@ -195,7 +201,7 @@ impl PendingDescriptors {
         inner
     }
 }
-// The value in those from the first on, which are used up.
+// Returns the value inside the descriptors from index `first` on, which are removed.
 #[inline(never)]
 fn wrap_from(stack: &mut Vec<Box<Described<Value>>>, first: usize, value: Value) -> Value
     ensures used { stack.new.items ≡ take first stack.old.items }
@@ -214,7 +220,7 @@ fn wrap_from(stack: &mut Vec<Box<Described<Value>>>, first: usize, value: Value)
     value
 }
 
-// The value in as many described values, which are kept last.
+// Returns the value inside `count` descriptors, which are pushed onto the stack.
 #[inline(never)]
 fn unwrap_from(
     stack: &mut Vec<Box<Described<Value>>>,

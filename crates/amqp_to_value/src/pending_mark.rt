@@ -1,4 +1,4 @@
-//! The markers that stand before a tree.
+//! The markers that apply to the next tree.
 
 ghost use Rattle.std.specs.Prelude.{◌≡◌, Option, Some};
 ghost use Rattle.amqp_ser.specs.Composites.{as_described};
@@ -8,19 +8,19 @@ ghost use Rattle.amqp_to_value.specs.PendingMark.{meant};
 
 use amqp_ser::Mark;
 
-/// What the next tree stands under.
+/// The pending marker of the next tree, or the requirement that the tree is a descriptor.
 #[derive(Clone, Copy)]
 pub enum PendingMark {
     /// One marker, or none, which is `Mark::Other`.
     Mark(Mark),
-    /// No marker, in the place of a descriptor: a ulong or a symbol.
+    /// No marker. The tree must be a descriptor: a ulong or a symbol.
     Descriptor,
     /// Markers that no tree satisfies together.
     Nothing,
 }
 
 impl PendingMark {
-    /// The same with one marker more, inside.
+    /// Returns this pending marker with `mark` added inside.
     #[inline(always)]
     pub fn with(self, mark: Mark) -> PendingMark
         ensures { (t : Option Tree) → meant result t ≡ meant self (marked mark t) }
@@ -33,8 +33,8 @@ impl PendingMark {
         }
     }
 
-    /// The same with a descriptor, inside: no marker is satisfied by a described value, and it is
-    /// no descriptor.
+    /// Returns this pending marker with a descriptor inside. No marker permits a described value,
+    /// and a described value is not a descriptor.
     #[inline(always)]
     pub fn with_descriptor(self) -> PendingMark
         ensures { (d : Descriptor) (t : Option Tree) →

@@ -1,4 +1,4 @@
-//! The values of scalars.
+//! Conversions of scalars to values.
 
 ghost use Rattle.std.specs.Prelude.{◌≡◌, Some, None, IfErr, MatchResult};
 ghost use Rattle.amqp_ser.specs.Carried.{descriptor_content};
@@ -19,10 +19,10 @@ use amqp_ser::{Fixed, Mark};
 use amqp_value::Value;
 use std::alloc::Global;
 
-/// The value of a scalar of fixed width.
+/// Returns the value of a scalar of fixed width.
 ///
 /// # Example
-/// Of `Fixed::Bool(true)`: `Value::Bool(true)`.
+/// `Fixed::Bool(true)` gives `Value::Bool(true)`.
 #[inline(always)]
 pub fn fixed_value(fixed: Fixed) -> Value
     ensures { tree_of result ≡ scalar (fixed_scalar fixed) }
@@ -44,14 +44,14 @@ pub fn fixed_value(fixed: Fixed) -> Value
     }
 }
 
-/// The value of a scalar of fixed width under a marker.
+/// Returns the value of a scalar of fixed width under a marker.
 ///
 /// # Errors
-/// `InvalidValue` where the marker does not take it.
+/// Returns `Error::InvalidValue` if the marker does not permit the scalar.
 ///
 /// # Example
-/// Of the long 13 under `Mark::Timestamp`: `Value::Timestamp` of 13 milliseconds. Of `true`:
-/// `InvalidValue`.
+/// Under `Mark::Timestamp`, the long 13 gives `Value::Timestamp` of 13 milliseconds, and `true`
+/// gives `InvalidValue`.
 #[inline(always)]
 pub fn marked_fixed(pending: PendingMark, fixed: Fixed) -> Result<Value, Error>
     ensures image { IsOpenedImage (meant pending (Some (scalar (fixed_scalar fixed)))) result }
@@ -67,14 +67,14 @@ pub fn marked_fixed(pending: PendingMark, fixed: Fixed) -> Result<Value, Error>
     }
 }
 
-/// The value of a text under a marker.
+/// Returns the value of a text under a marker.
 ///
 /// # Errors
-/// `InvalidValue` where the marker does not take it, `OutOfMemory` where memory for the copy is
-/// refused.
+/// Returns `Error::InvalidValue` if the marker does not permit a text, and `Error::OutOfMemory` if
+/// an allocation fails.
 ///
 /// # Example
-/// Of `a` under `Mark::Symbol`: `Value::Symbol` of it; under `Mark::Other`: `Value::String`.
+/// `a` gives a `Value::Symbol` under `Mark::Symbol`, and a `Value::String` under `Mark::Other`.
 #[inline(always)]
 pub fn marked_text(alloc: Global, pending: PendingMark, text: &str) -> Result<Value, Error>
     ensures { IsOpenedImage (meant pending (Some (scalar (string text.now)))) result }
@@ -86,14 +86,15 @@ pub fn marked_text(alloc: Global, pending: PendingMark, text: &str) -> Result<Va
     }
 }
 
-/// The value of a binary under a marker.
+/// Returns the value of a binary under a marker.
 ///
 /// # Errors
-/// `InvalidValue` where the marker does not take it, or takes another length, and under
-/// `Mark::Lazy`; `OutOfMemory` where memory for the copy is refused.
+/// Returns `Error::InvalidValue` if the marker does not permit a binary, or one of this length, and
+/// `Error::OutOfMemory` if an allocation fails. Under `Mark::Lazy`, returns the errors of
+/// `lazy_value`.
 ///
 /// # Example
-/// Of 4 bytes under `Mark::Decimal32`: `Value::Decimal32` of them. Of 5: `InvalidValue`.
+/// Under `Mark::Decimal32`, 4 bytes give a `Value::Decimal32` of them, and 5 give `InvalidValue`.
 #[inline(never)]
 pub fn marked_bytes(alloc: Global, pending: PendingMark, bytes: &[u8]) -> Result<Value, Error>
     ensures image { IsImageOf (meant pending (Some (scalar (binary bytes.now)))) result }
@@ -111,13 +112,13 @@ pub fn marked_bytes(alloc: Global, pending: PendingMark, bytes: &[u8]) -> Result
     }
 }
 
-/// The descriptor that a value is: a name where it is a symbol, a code where it is a ulong.
+/// Converts a value to a descriptor: a symbol to a name, and a ulong to a code.
 ///
 /// # Errors
-/// `InvalidValue` where it is neither.
+/// Returns `Error::InvalidValue` if the value is neither.
 ///
 /// # Example
-/// Of the ulong 1: `Descriptor::Code(1)`. Of the uint 1: `InvalidValue`.
+/// The ulong 1 gives `Descriptor::Code(1)`, and the uint 1 gives `InvalidValue`.
 #[inline(never)]
 pub fn descriptor_from(value: Value) -> Result<Descriptor, Error>
     ensures { MatchResult result

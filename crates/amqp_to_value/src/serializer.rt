@@ -1,4 +1,4 @@
-//! The serializer whose answers are untyped values.
+//! The serializer that returns untyped values.
 
 ghost use Rattle.std.specs.Prelude.{◌≡◌, ◌++◌, ◌∷◌, [], List, Option, Result, Err, MatchResult, IfErr, IsErr};
 ghost use Rattle.amqp_ser.specs.Tree.{Tree};
@@ -21,14 +21,14 @@ use amqp_value::Value;
 use std::alloc::Global;
 use std::mem;
 
-/// Makes untyped values; it is fresh after each call, refused ones too.
+/// A serializer that returns untyped values.
 ///
-/// A binary under the marker `LAZY_VALUE` is the value that its bytes spell, which are one encoded
-/// value.
+/// After each call, failed or not, no marker or descriptor is pending. A binary under the marker
+/// `LAZY_VALUE` must be one encoded value; it becomes the value that its bytes spell.
 ///
 /// # Memory
-/// Between calls it keeps the room that described values took, and the descriptors of one refused
-/// value: they are let go when the next compound is opened, or with the serializer.
+/// Between calls, keeps the capacity that described values needed and the descriptors of one failed
+/// value. These descriptors are dropped when the next compound is opened, or with the serializer.
 #[derive(Drop)]
 pub struct Serializer {
     alloc: Global,
@@ -36,32 +36,32 @@ pub struct Serializer {
     descriptors: PendingDescriptors,
 }
 
-/// A list whose elements are still gathered.
+/// A list that is being serialized.
 pub type SeqSerializer<'a> = SerializeSeq<'a, Serializer>;
 
-/// A tuple whose elements are still gathered.
+/// A tuple that is being serialized.
 pub type TupleSerializer<'a> = SerializeTuple<'a, Serializer>;
 
-/// A map whose keys and values are still gathered.
+/// A map that is being serialized.
 pub type MapSerializer<'a> = SerializeMap<'a, Serializer>;
 
-/// A tuple struct whose fields are still gathered.
+/// A tuple struct that is being serialized.
 pub type TupleStructSerializer<'a> = SerializeTupleStruct<'a, Serializer>;
 
-/// A struct whose fields are still gathered.
+/// A struct that is being serialized.
 pub type StructSerializer<'a> = SerializeStruct<'a, Serializer>;
 
-/// A tuple variant whose fields are still gathered.
+/// A tuple variant that is being serialized.
 pub type VariantSerializer<'a> = SerializeTupleVariant<'a, Serializer>;
 
-/// A struct variant whose fields are still gathered.
+/// A struct variant that is being serialized.
 pub type StructVariantSerializer<'a> = SerializeStructVariant<'a, Serializer>;
 
 impl Serializer {
-    /// A serializer under no marker.
+    /// Returns a serializer with no pending marker or descriptor.
     ///
     /// # Memory
-    /// Takes none, and keeps `alloc` for the values.
+    /// None. `alloc` is kept for the values.
     #[inline(always)]
     pub fn new(alloc: Global) -> Serializer
         ensures { IsFresh result }
@@ -73,7 +73,7 @@ impl Serializer {
         }
     }
 
-    // What the next tree stands under, which is used up.
+    // Returns the pending marker of the next tree, and clears it.
     #[inline(always)]
     fn take_pending(&mut self) -> PendingMark
         ensures pending { result ≡ self.old.pending }
@@ -83,7 +83,7 @@ impl Serializer {
         mem::replace(&mut self.pending, PendingMark::Mark(Mark::Other))
     }
 
-    // Answers with the value in all that it stands in; a refusal puts that aside.
+    // Returns the value inside its pending descriptors. On an error, leaves them in the stack.
     #[inline(always)]
     fn finish(&mut self, answer: Result<Value, Error>) -> Result<Value, Error>
         ensures { (start : Serializer) (t : Option Tree) →
@@ -159,7 +159,7 @@ impl amqp_ser::Serializer for Serializer {
     #[inline(always)]
     fn begin(&mut self, kind: Kind) -> OpenValue
         ensures opened { value_has self.old kind self.new result [] }
-        // What refused values left is let go.
+        // Descriptors left over from failed values are dropped.
         ensures held { all_held self.new
             ≡ self.old.descriptors.kept ++ standing self.old.descriptors }
     {

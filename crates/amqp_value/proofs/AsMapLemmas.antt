@@ -1,4 +1,5 @@
--- A tree whose variants are read as maps has the same bytes, the same constructor, and is writable alike.
+-- A tree whose variants are replaced by maps has the same encoding and constructor, and is writable
+-- if and only if the original is.
 use Rattle.std.proofs.Common.{◌≡◌, ℕ, ◌*◌, ◌+◌, Option, Bool, true, false, ◌&&◌, ◌∷◌, ◌++◌, length, refl, ap, ◌∙◌, append-nil}
 use Rattle.amqp_ser.specs.Tree.{uint, Tree, Trees, Pairs, scalar, list, array, map, described, variant, lazy, transparent, no_trees, more, no_pairs, pair, count, pair_count}
 use Rattle.amqp_ser.specs.Limits.{fits, is_count, is_length}
@@ -19,7 +20,7 @@ pub pair_count-as_map : (ps : Pairs) → pair_count (pairs_as_map ps) ≡ pair_c
 pair_count-as_map no_pairs = refl
 pair_count-as_map (pair k v ps) = ap (λ n. n + 1) (pair_count-as_map ps)
 
--- the constructor
+-- The constructors are equal.
 pub constructor-as_map : (t : Tree) → constructor (read_as_map t) ≡ constructor t
 constructor-as_map (scalar s) = refl
 constructor-as_map (list ts) = refl
@@ -35,7 +36,7 @@ array_constructor-as_map no_trees = refl
 array_constructor-as_map (more t ts) = ap code_list (constructor-as_map t)
 
 mutual
-  -- the bytes
+  -- The encodings are equal.
   pub encoding-as_map : (t : Tree) → encoding (read_as_map t) ≡ encoding t
   encoding-as_map (scalar s) = refl
   encoding-as_map (list ts) = λ i. list_form (count-as_map ts i) (encoding_each-as_map ts i)
@@ -46,7 +47,7 @@ mutual
   encoding-as_map (lazy bs) = refl
   encoding-as_map (transparent ts) = encoding_each-as_map ts
 
-  -- the bytes after an array's constructor
+  -- The payloads after an array's constructor are equal.
   pub payload-as_map : (t : Tree) → payload (read_as_map t) ≡ payload t
   payload-as_map (scalar s) = refl
   payload-as_map (list ts) = λ i. wide (count-as_map ts i) (encoding_each-as_map ts i)
@@ -70,7 +71,7 @@ mutual
   encoding_pairs-as_map (pair k v ps) = λ i. encoding-as_map k i ++ (encoding-as_map v i ++ encoding_pairs-as_map ps i)
 
 mutual
-  -- the limits
+  -- One tree is within the limits if and only if the other is.
   pub within_limits-as_map : (t : Tree) → within_limits (read_as_map t) ≡ within_limits t
   within_limits-as_map (scalar s) = refl
   within_limits-as_map (list ts) = λ i. fits (length (encoding_each-as_map ts i)) && within_limits_each-as_map ts i
@@ -102,7 +103,7 @@ one_constructor-as_map no_trees = refl
 one_constructor-as_map (more t ts) = each_constructor-as_map (constructor (read_as_map t)) (more t ts) ∙ ap (λ c. each_constructor c (more t ts)) (constructor-as_map t)
 
 mutual
-  -- one constructor in each array
+  -- The arrays of one tree have one constructor each if and only if those of the other do.
   pub uniform_arrays-as_map : (t : Tree) → uniform_arrays (read_as_map t) ≡ uniform_arrays t
   uniform_arrays-as_map (scalar s) = refl
   uniform_arrays-as_map (list ts) = uniform_arrays_each-as_map ts
@@ -122,7 +123,7 @@ mutual
   uniform_arrays_pairs-as_map (pair k v ps) = λ i. uniform_arrays-as_map k i && (uniform_arrays-as_map v i && uniform_arrays_pairs-as_map ps i)
 
 mutual
-  -- nothing transparent inside
+  -- Both trees have nothing transparent inside, or neither.
   pub inside-as_map : (t : Tree) → inside (read_as_map t) ≡ inside t
   inside-as_map (scalar s) = refl
   inside-as_map (list ts) = inside_each-as_map ts
@@ -142,7 +143,7 @@ mutual
   inside_pairs-as_map (pair k v ps) = λ i. inside-as_map k i && (inside-as_map v i && inside_pairs-as_map ps i)
 
 mutual
-  -- transparent trees at the root alone
+  -- One tree has transparent trees only at permitted positions if and only if the other does.
   pub placed-as_map : (t : Tree) → placed (read_as_map t) ≡ placed t
   placed-as_map (transparent ts) = placed_each-as_map ts
   placed-as_map (scalar s) = refl
@@ -157,6 +158,6 @@ mutual
   placed_each-as_map no_trees = refl
   placed_each-as_map (more t ts) = λ i. placed-as_map t i && placed_each-as_map ts i
 
--- writable alike
+-- One tree is writable if and only if the other is.
 pub writable-as_map : (t : Tree) → writable (read_as_map t) ≡ writable t
 writable-as_map t = λ i. within_limits-as_map t i && (uniform_arrays-as_map t i && placed-as_map t i)

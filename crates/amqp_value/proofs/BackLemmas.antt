@@ -1,4 +1,4 @@
--- The trees of scalars, and how each comes back out of its value.
+-- The trees of scalars, and the round trip of each scalar through its value.
 use Rattle.std.proofs.Common.{◌≡◌, ℕ, ℤ, Bool, Option, Some, ok_or, String, Global, string_bytes, ap, ◌∙◌, rules}
 use Rattle.amqp_data.specs.Fixed.{f32_bits, f64_bits, dec32_bytes, dec64_bytes, dec128_bytes, milliseconds_of, uuid_bytes}
 use Rattle.amqp_data.specs.Items.{byte_buf_bytes}
@@ -20,7 +20,7 @@ use Rattle.amqp_value.specs.TreeOf.{tree_of}
 use Rattle.amqp_value.specs.declared.value.Value.{Value, the_lemmas}
 use Rattle.amqp_value.specs.declared.value.Value.TheVariants as kind
 
--- a scalar whose value has its tree and holds it comes back
+-- A scalar round-trips if its value has the scalar's tree and contains the scalar.
 pub comes_back : {T : Type 0} (made : T → Value) (tree : T → Tree) (content : Value → Option T) → ((x : T) → tree_of (made x) ≡ tree x) → ((x : T) → content (made x) ≡ Some x)
     → ComesBack (λ x. Some (tree x)) (λ x v. v ≡ made x) (GivesBack content)
 comes_back made tree content trees contents x v is = (

@@ -1,4 +1,4 @@
--- The one code of an array's elements.
+-- The elements of an array have one code.
 use Rattle.std.proofs.Common.{◌≡◌, ℕ, Bool, true, false, true≢false, ◌&&◌, nat_eq, Option, Some, None, is_some, refl, sym, ap, arith}
 use Rattle.std.proofs.lemmas.Bool.{and_parts}
 use Rattle.amqp_ser.specs.Tree.{Tree, Trees, scalar, list, array, map, described, variant, lazy, transparent, no_trees, more}
@@ -8,7 +8,7 @@ use Rattle.amqp_value.specs.Image.{image}
 use Rattle.amqp_value.specs.FormatCode.{code_or_zero, AllHaveCode, HasOneCode}
 use Rattle.amqp_value.proofs.SameLemmas.{numbers}
 
--- what has a constructor has an image of the same one
+-- If a tree has a constructor, its image has the same one.
 constructor-image : (t : Tree) (c : ℕ) → constructor t ≡ Some c → constructor (image t) ≡ Some c
 constructor-image (scalar s) c h = h
 constructor-image (list ts) c h = h
@@ -19,7 +19,7 @@ constructor-image (variant n t) c h = h
 constructor-image (lazy bs) c h = h
 constructor-image (transparent ts) c h = absurd (true≢false (sym (ap is_some h)))
 
--- what has the same constructor
+-- A constructor that is the same as `c` is `c`.
 pub same-is : (c : ℕ) (d : Option ℕ) → same_constructor (Some c) d ≡ true → d ≡ Some c
 same-is c None h = absurd (true≢false (sym h))
 same-is c (Some d) h = ap Some (sym (numbers c d h))
@@ -35,7 +35,7 @@ by_con : (o : Option ℕ) (t : Tree) (ts : Trees) → constructor t ≡ o → ea
 by_con None t ts is h = absurd (true≢false (sym (and_parts (same_constructor None (constructor t)) (each_constructor None ts) h).0))
 by_con (Some c) t ts is h = (c, ap code_list is, each-code c (more t ts) h)
 
--- the elements of an array that can be written have one code
+-- The elements of a non-empty writable array have one code.
 pub array-code : (t : Tree) (ts : Trees) → writable (array (more t ts)) ≡ true → HasOneCode (more t ts)
 array-code t ts h =
     let a = array (more t ts) in

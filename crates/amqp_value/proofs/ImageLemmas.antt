@@ -1,4 +1,4 @@
--- The image of a plain tree is the tree with its variants read as maps.
+-- The image of a plain tree is the tree with each variant replaced by its map.
 use Rattle.std.proofs.Common.{◌≡◌, false, refl, sym, ap, ◌∙◌}
 use Rattle.amqp_ser.specs.Tree.{Tree, Trees, Pairs, scalar, list, array, map, described, variant, lazy, transparent, no_trees, more, no_pairs, pair}
 use Rattle.amqp_ser.specs.Same.{same_tree}
@@ -7,7 +7,7 @@ use Rattle.amqp_value.specs.Image.{variant_map, image, images, images_onto, inse
 use Rattle.amqp_value.specs.Plain.{IsPlain, ArePlain, HasPlainPairs, LacksImage}
 use Rattle.amqp_value.specs.AsMap.{read_as_map, each_as_map, pairs_as_map}
 
--- pairs, and others after them
+-- The pairs, followed by the other pairs.
 abbrev pub joined : Pairs → Pairs → Pairs
 joined no_pairs qs = qs
 joined (pair k v ps) qs = pair k v (joined ps qs)
@@ -20,7 +20,7 @@ pub joined_none : (ps : Pairs) → joined ps no_pairs ≡ ps
 joined_none no_pairs = refl
 joined_none (pair k v ps) = ap (pair k v) (joined_none ps)
 
--- trees before others, and pairs before others
+-- Images of trees followed by other trees, and of pairs followed by other pairs.
 pub images-join : (ts us : Trees) → images (join ts us) ≡ join (images ts) (images us)
 images-join no_trees us = refl
 images-join (more t ts) us = ap (more (image t)) (images-join ts us)
@@ -29,17 +29,17 @@ pub images_onto-joined : (ps qs done : Pairs) → images_onto (joined ps qs) don
 images_onto-joined no_pairs qs done = refl
 images_onto-joined (pair k v ps) qs done = images_onto-joined ps qs (insert_tree done (image k) (image v))
 
--- the key is none of these
+-- No key of the pairs is this key.
 abbrev pub Lacks : Pairs → Tree → Type 0
 Lacks no_pairs k = Unit {0}
 Lacks (pair l w ps) k = (same_tree k l ≡ false) × Lacks ps k
 
--- the keys of the first are no images of the second's
+-- No key of `done` is the image of a key of the other pairs.
 abbrev Apart : Pairs → Pairs → Type 0
 Apart done no_pairs = Unit {0}
 Apart done (pair k v ps) = Lacks done (image k) × Apart done ps
 
--- a new key goes last
+-- A new key is appended.
 pub insert_tree-new : (done : Pairs) (k v : Tree) → Lacks done k → insert_tree done k v ≡ joined done (pair k v no_pairs)
 insert_tree-new no_pairs k v h = refl
 insert_tree-new (pair l w ps) k v h = rw h.0 (ap (pair l w) (insert_tree-new ps k v h.1))
@@ -71,7 +71,7 @@ mutual
   images-plain no_trees h = refl
   images-plain (more t ts) h = λ i. more (image-plain t h.0 i) (images-plain ts h.1 i)
 
-  -- distinct images of keys all go last
+  -- Keys with distinct images are all appended.
   pub images_onto-plain : (ps done : Pairs) → HasPlainPairs ps → Apart done ps → images_onto ps done ≡ joined done (pairs_as_map ps)
   images_onto-plain no_pairs done h a = sym (joined_none done)
   images_onto-plain (pair k v ps) done h a =

@@ -1,11 +1,11 @@
--- What is computed of two values level by level is what is computed of their trees.
+-- A function of two values that is computed level by level is a function of their trees.
 use Rattle.std.proofs.Common.{◌≡◌, sym, ap, ◌∙◌, subst}
 use Rattle.amqp_ser.specs.Tree.{Tree}
 use Rattle.amqp_value.specs.TreeOf.{tree_of, tree_step}
 use Rattle.amqp_value.specs.declared.value.Value.{Value, out-Value, roll-Value, out-roll-Value, roll-out-Value, ind-Value, map-Value, fold-roll-Value}
 use Rattle.amqp_value.specs.declared.value.Value.TheOpen.{Value-F}
 
--- one level of the tree
+-- One level of the tree.
 abbrev pub layer : Value-F Value → Tree
 layer x = tree_step (map-Value Value Tree tree_of x)
 
@@ -31,7 +31,7 @@ module _ {R : Type 0} (of_values : Value → Value → R) (of_trees : Tree → T
         ∙ ap (λ u. level x u) (out-roll-Value z)
 
     module _ (y : Value-F Such) where
-      -- a value whose parts have the property
+      -- A value whose contents have the property.
       abbrev built : Value
       built = roll-Value (map-Value Such Value plain y)
 

@@ -1,4 +1,4 @@
--- Equality of maps, pair by pair.
+-- Equality of maps, entry by entry.
 use Rattle.std.proofs.Common.{◌≡◌, Bool, true, false, ◌&&◌, List, [], ◌∷◌, refl, sym, ap, ◌∙◌}
 use Rattle.std.specs.Cmp.Lexicographic.{pointwise}
 use Rattle.amqp_data.specs.Pairs.{entries_of}
@@ -10,7 +10,7 @@ use Rattle.amqp_value.specs.declared.value.Value.TheVariants as kind
 use Rattle.amqp_value.proofs.Sameness.{equal, equal-is_same}
 use Rattle.amqp_value.proofs.TreeLemmas.{tree_of-Map}
 
--- two pairs are equal
+-- Two entries are equal.
 abbrev pub pairs_equal : Value × Value → Value × Value → Bool
 pairs_equal p q = equal p.0 q.0 && equal p.1 q.1
 

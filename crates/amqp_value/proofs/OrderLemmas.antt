@@ -19,11 +19,11 @@ use Rattle.amqp_value.specs.contracts.value.ValueOrd.TheImpl.Laws as laws
 use Rattle.amqp_value.proofs.LevelLemmas.{layer, Such, plain, both, agree}
 use denote.Enum.Compared.{by}
 
--- `cmp` of values
+-- `cmp` of values.
 abbrev pub compare : Value → Value → Ordering
 compare a b = ord.ghosts.cmp a b
 
--- one level of it: one line for each variant
+-- One level of `cmp`, with one line for each variant.
 abbrev level : Value-F Value → Value-F Value → Ordering
 level x z = by Less Greater (row.enum).parts (
   λ a b. ordering_then (descriptor_ord.ghosts.cmp a.0.value.descriptor b.0.value.descriptor) (compare a.0.value.value b.0.value.value),
@@ -158,6 +158,6 @@ core (Value-F.Map m) (Value-F.Map n) = entries m.entries.items n.entries.items
 core (Value-F.Array v) (Value-F.Array w) = lists v.0.items w.0.items
 core _ _ = refl
 
--- two values compare as their trees do
+-- Two values compare as their trees do.
 pub compare-is_order : (a b : Value) → compare a b ≡ cmp_tree (tree_of a) (tree_of b)
 compare-is_order = agree compare cmp_tree level opened core

@@ -1,4 +1,4 @@
--- Trees of different kinds compare by the places of their kinds.
+-- Trees of different kinds compare by the ranks of their kinds.
 use Rattle.std.proofs.Common.{◌≡◌, ℕ, true, cond, ◌<◌, ◌==◌, nat_lt, ap, ◌∙◌, arith}
 use Rattle.std.proofs.lemmas.Grind.{common_steps}
 use Rattle.std.specs.Ordering.{nat_cmp}

@@ -1,4 +1,4 @@
--- Trees are the same exactly where they are equal.
+-- Trees are the same if and only if they are equal.
 use Rattle.std.proofs.Common.{◌≡◌, ℕ, ℤ, Bool, true, false, true≢false, ◌&&◌, ◌==◌, List, [], ◌∷◌, refl, sym, ap, arith}
 use Rattle.std.specs.Ordering.{int_eq}
 use Rattle.std.proofs.lemmas.Bool.{and_parts}
@@ -55,7 +55,7 @@ descriptors (code a) (name b) h = absurd (true≢false (sym h))
 descriptors (code a) (code b) h = ap code (numbers a b h)
 
 mutual
-  -- trees that are the same are equal
+  -- Trees that are the same are equal.
   pub same-equal : (t u : Tree) → same_tree t u ≡ true → t ≡ u
   same-equal (scalar a) (scalar b) h = ap scalar (scalars a b h)
   same-equal (list ts) (list us) h = ap list (sames-equal ts us h)
@@ -124,7 +124,7 @@ descriptor_itself (name a) = bytes_itself a
 descriptor_itself (code a) = number_itself a
 
 mutual
-  -- a tree is the same as itself
+  -- A tree is the same as itself.
   pub same-itself : (t : Tree) → same_tree t t ≡ true
   same-itself (scalar s) = scalar_itself s
   same-itself (list ts) = sames-itself ts

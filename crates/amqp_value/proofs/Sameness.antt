@@ -1,4 +1,4 @@
--- `==` of values is sameness of their trees.
+-- `==` of values is `same_tree` of their trees.
 use Rattle.std.proofs.Common.{◌≡◌, Bool, true, false, ◌&&◌, ◌==◌, List, [], ◌∷◌, map, string_bytes, refl}
 use Rattle.std.specs.Ordering.{int_eq}
 use Rattle.std.specs.Cmp.Lexicographic.{pointwise}
@@ -18,11 +18,11 @@ use Rattle.std.specs.contracts.prelude.BoolPartialEq.TheImpl as bool_eq
 use Rattle.amqp_value.proofs.LevelLemmas.{layer, Such, plain, both, agree}
 use denote.Enum.Compared.{by}
 
--- `==` of values
+-- `==` of values.
 abbrev pub equal : Value → Value → Bool
 equal a b = eq.ghosts.eq a b
 
--- one level of it: one line for each variant
+-- One level of `==`, with one line for each variant.
 abbrev level : Value-F Value → Value-F Value → Bool
 level x z = by false false (row.enum).parts (
   λ a b. descriptor_eq.ghosts.eq a.0.value.descriptor b.0.value.descriptor && equal a.0.value.value b.0.value.value,
@@ -163,6 +163,6 @@ core (Value-F.Map m) (Value-F.Map n) = entries m.entries.items n.entries.items
 core (Value-F.Array v) (Value-F.Array w) = lists v.0.items w.0.items
 core _ _ = refl
 
--- two values are equal exactly where their trees are the same
+-- Two values are equal if and only if their trees are the same.
 pub equal-is_same : (a b : Value) → equal a b ≡ same_tree (tree_of a) (tree_of b)
 equal-is_same = agree equal same_tree level opened core

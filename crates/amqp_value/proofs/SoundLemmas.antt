@@ -1,4 +1,4 @@
--- What makes a value sound, and that a sound value is plain: it is its own image.
+-- Conditions under which a value is sound. A sound value is plain and is its own image.
 use Rattle.std.proofs.Common.{◌≡◌, Bool, true, false, true≢false, if◌then◌else◌, List, [], ◌∷◌, Box, Vec, Global, map, refl, sym, ap, ◌∙◌, subst}
 use Rattle.std.specs.Map.{keys_of}
 use Rattle.amqp_data.specs.Items.{array_items}
@@ -28,7 +28,7 @@ different t u true other is =
     absurd (true≢false (sym (same-itself t) ∙ subst (λ x. same_tree t x ≡ false) (same-equal u t is) other))
 different t u false other is = refl
 
--- of two trees that are not the same, neither is the other
+-- If the first tree is not the same as the second, the second is not the same as the first.
 other_way : (t u : Tree) → same_tree t u ≡ false → same_tree u t ≡ false
 other_way t u other = different t u (same_tree u t) other refl
 
@@ -38,7 +38,7 @@ module _ (k v : Tree) where
   still_lacks true l m w ps h rest = h
   still_lacks false l m w ps h rest = (h.0, rest)
 
-  -- another key than the one that is inserted is still lacked
+  -- An absent key remains absent when another key is inserted.
   lacks_inserted : (l : Tree) (ps : Pairs) → same_tree l k ≡ false → LacksKey l ps → LacksKey l (insert_tree ps k v)
   lacks_inserted l no_pairs other h = (other, tt)
   lacks_inserted l (pair m w ps) other h = still_lacks (same_tree k m) l m w ps h (lacks_inserted l ps other h.1)
@@ -48,13 +48,13 @@ module _ (k v : Tree) where
   distinct_either true l w ps is h hv rest = (h.0, h.1, hv, h.3)
   distinct_either false l w ps is h hv rest = (lacks_inserted l ps (other_way k l is) h.0, h.1, h.2, rest)
 
-  -- a pair that is inserted leaves the keys distinct
+  -- The keys remain distinct when a pair is inserted.
   distinct_inserted : (ps : Pairs) → AreDistinctPairs ps → HasDistinctKeys k → HasDistinctKeys v → AreDistinctPairs (insert_tree ps k v)
   distinct_inserted no_pairs h hk hv = (tt, hk, hv, tt)
   distinct_inserted (pair l w ps) h hk hv = distinct_either (same_tree k l) l w ps refl h hv (distinct_inserted ps h.3 hk hv)
 
 mutual
-  -- the image of any tree has distinct keys
+  -- The image of any tree has distinct keys.
   pub image-distinct : (t : Tree) → HasDistinctKeys (image t)
   image-distinct (scalar s) = tt
   image-distinct (list ts) = images-distinct ts
@@ -74,7 +74,7 @@ mutual
   images_onto-distinct (pair k v ps) done h =
       images_onto-distinct ps (insert_tree done (image k) (image v)) (distinct_inserted (image k) (image v) done h (image-distinct k) (image-distinct v))
 
--- nothing that the tree of a value lacks: no variant, nothing lazy or transparent
+-- The tree contains no variant and nothing lazy or transparent, like the tree of every value.
 abbrev mutual
   IsUntyped : Tree → Type 0
   IsUntyped (scalar s) = Unit {0}
@@ -111,7 +111,7 @@ entries : (es : List (Such × Such)) → HasUntypedPairs (pairs_trees (map both 
 entries [] = tt
 entries (e ∷ es) = (e.0.1, e.1.1, entries es)
 
--- one level of the tree
+-- One level of the tree.
 abbrev layer : Value-F Such → Tree
 layer y = tree_step (map-Value Value Tree tree_of (map-Value Such Value plain y))
 
@@ -202,22 +202,22 @@ mutual
   pairs_distinct (pair k v ps) u h =
       (lacks_keys k ps (own_image k u.0 h.0) u.2 h.3 h.2, distinct_if_plain k u.0 h.0, distinct_if_plain v u.1 h.1, pairs_distinct ps u.2 h.3)
 
--- a sound value is plain, and a plain one is sound
+-- A sound value is plain, and a plain value is sound.
 pub sound-plain : (v : Value) → IsSound v → IsPlain (tree_of v)
 sound-plain v = plain_if_distinct (tree_of v) (tree_of-untyped v)
 
 pub plain-sound : (v : Value) → IsPlain (tree_of v) → IsSound v
 plain-sound v = distinct_if_plain (tree_of v) (tree_of-untyped v)
 
--- a sound value is its own image
+-- A sound value is its own image.
 pub image-sound : (v : Value) → IsSound v → image (tree_of v) ≡ tree_of v
 image-sound v h = own_image (tree_of v) (tree_of-untyped v) (sound-plain v h)
 
--- what stands for a tree is sound
+-- A value whose tree is an image is sound.
 pub sound-image : (t : Tree) (v : Value) → tree_of v ≡ image t → IsSound v
 sound-image t v is = subst HasDistinctKeys (sym is) (image-distinct t)
 
--- values one after another, and entries
+-- The trees of sound values and of sound entries have distinct keys.
 sound-all : (vs : List Value) → AreSound vs → HaveDistinctKeys (all_of vs)
 sound-all [] h = tt
 sound-all (v ∷ vs) h = (h.0, sound-all vs h.1)
@@ -234,7 +234,7 @@ pub sound-inserted : (es : List (Value × Value)) (k v : Value) → AreSoundEntr
 sound-inserted es k v h hk hv =
     subst AreDistinctPairs (sym (pairs_trees-insert es k v)) (distinct_inserted (tree_of k) (tree_of v) (pairs_trees es) h hk hv)
 
--- values of one level
+-- Each kind of value is sound if its contents are.
 pub sound-scalar : (v : Value) (s : tree.Scalar) → tree_of v ≡ scalar s → IsSound v
 sound-scalar v s is = subst HasDistinctKeys (sym is) tt
 

@@ -1,4 +1,4 @@
--- The trees of the values that hold others, and of the parts that they are made of.
+-- The trees of values that contain values, and of the parts from which they are built.
 use Rattle.std.proofs.Common.{◌≡◌, Bool, true, false, true≢false, if◌then◌else◌, List, [], ◌∷◌, ◌++◌, Some, Box, Vec, Global, map, refl, sym, ap, ◌∙◌, rules}
 use Rattle.amqp_data.specs.Items.{array_items}
 use Rattle.amqp_data.specs.Pairs.{entries_of, insert_pair}
@@ -32,7 +32,7 @@ tree_of-Map m = search (rules, the_lemmas)
 pub tree_of-Array : (a : array.Array Value) → tree_of (ArrayValue a) ≡ tree.array (all_of (array_items a))
 tree_of-Array a = search (rules, the_lemmas)
 
--- values before others, and entries before others
+-- The trees of values followed by other values, and of entries followed by other entries.
 pub all_of-append : (vs ws : List Value) → all_of (vs ++ ws) ≡ join (all_of vs) (all_of ws)
 all_of-append [] ws = refl
 all_of-append (v ∷ vs) ws = ap (more (tree_of v)) (all_of-append vs ws)
@@ -41,17 +41,17 @@ pub pairs_trees-append : (es fs : List (Value × Value)) → pairs_trees (es ++ 
 pairs_trees-append [] fs = refl
 pairs_trees-append (e ∷ es) fs = ap (pair (tree_of e.0) (tree_of e.1)) (pairs_trees-append es fs)
 
--- parts that all have trees
+-- If every part has a tree, all of them have trees.
 pub all_trees-Some : {X : Type 0} (f : X → Tree) (xs : List X) → all_trees (map (λ x. Some (f x)) xs) ≡ Some (trees_of (map f xs))
 all_trees-Some f [] = refl
 all_trees-Some f (x ∷ xs) = ap (prepend (Some (f x))) (all_trees-Some f xs)
 
--- make a list
+-- The parts make a list.
 pub whole-List : {X : Type 0} (f : X → Tree) (xs : List X) → whole kind.List (map (λ x. Some (f x)) xs) ≡ Some (tree.list (trees_of (map f xs)))
 unfolding whole
 whole-List f xs = ap (as_kind kind.List) (all_trees-Some f xs)
 
--- keys and values in turn
+-- The keys and values in turn.
 abbrev in_turn : List (Tree × Tree) → List Tree
 in_turn [] = []
 in_turn (e ∷ es) = e.0 ∷ e.1 ∷ in_turn es
@@ -68,12 +68,12 @@ module _ {K V : Type 0} (f : K → Tree) (g : V → Tree) where
   in_pairs-in_turn [] = refl
   in_pairs-in_turn (e ∷ es) = ap (prepend_pair e.0 e.1) (in_pairs-in_turn es)
 
-  -- make a map
+  -- The parts make a map.
   pub whole-Map : (es : List (K × V)) → whole kind.Map (parts_of (λ k. Some (f k)) (λ v. Some (g v)) es) ≡ Some (tree.map (pairs_of (map both es)))
   unfolding whole
   whole-Map es = ap (as_kind kind.Map) (parts_of-Some es) ∙ ap as_map (in_pairs-in_turn (map both es))
 
--- what containers of values are serialized as, is what they are as values
+-- A container of values is serialized as the tree of the value that contains it.
 pub list-tree : (v : Vec Value Global) → whole kind.List (map (λ x. Some (tree_of x)) v.items) ≡ Some (tree_of (ListValue v))
 list-tree v = whole-List tree_of v.items ∙ ap Some (sym (tree_of-List v))
 
@@ -92,7 +92,7 @@ module _ (k v : Value) (e : Value × Value) (es : List (Value × Value)) (rest :
   present_or_not false true is = absurd (true≢false (sym is))
   present_or_not false false is = ap (pair (tree_of e.0) (tree_of e.1)) rest
 
--- a pair that is inserted among others, as a tree is
+-- Inserting a pair of values inserts the pair of their trees.
 pub pairs_trees-insert : (es : List (Value × Value)) (k v : Value) → pairs_trees (insert_pair equal es k v) ≡ insert_tree (pairs_trees es) (tree_of k) (tree_of v)
 pairs_trees-insert [] k v = refl
 pairs_trees-insert (e ∷ es) k v = present_or_not k v e es (pairs_trees-insert es k v) _ _ (equal-is_same k e.0)

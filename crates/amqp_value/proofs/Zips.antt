@@ -1,4 +1,5 @@
--- Lists whose items are related place by place, and what an iterator of a vector has given.
+-- Lists whose items are related index by index, and the items that an iterator of a vector has
+-- returned.
 use Rattle.std.proofs.Common.{◌≡◌, Bool, List, [], ◌∷◌, ◌++◌, ◌∙◌, ap, sym, subst, refl, fold, Some, true, Result, Ok, Err, is_ok, OnOk, true≢false}
 use Rattle.std.specs.Iterator.{Yields}
 use Rattle.std.specs.List.{AllZip}
@@ -21,7 +22,7 @@ taken_prefix : {X A : Type 0} (s : IntoIter X A) (xs : List X) (t : IntoIter X A
 taken_prefix s [] t y = ap into_iter_items y
 taken_prefix s (x ∷ xs) t y = y.1.0 ∙ ap (λ ys. x ∷ ys) (taken_prefix y.0 xs t y.2)
 
--- the items given so far, this one, and those that are left
+-- The items so far, this item and the remaining items make all the items.
 pub taken_one : {X A : Type 0} (s : IntoIter X A) (xs : List X) (t : IntoIter X A) (x : X) (u : IntoIter X A) → Yields into_iter_steps s xs t → into_iter_steps t (Some x) u → into_iter_items s ≡ xs ++ x ∷ into_iter_items u
 taken_one s xs t x u y z = taken_prefix s xs t y ∙ ap (λ r. xs ++ r) z.0
 
@@ -42,13 +43,13 @@ prefix Fits [] x rest done y fit here = (y, here)
 prefix Fits (w ∷ xs) x rest [] y fit here = absurd fit
 prefix Fits (w ∷ xs) x rest (d ∷ done) y fit here = (d, fit.0)
 
--- those so far fit, and so does this one
+-- If the items so far fit and this item fits, the first item fits.
 pub first_fits : {A B Z : Type 0} (Fits : A → B → Type 0) (all : List A) (s : IntoIter A Z) (xs : List A) (t : IntoIter A Z) (x : A) (u : IntoIter A Z) (done : List B) (y : B)
     → into_iter_items s ≡ all → Yields into_iter_steps s xs t → into_iter_steps t (Some x) u → AllZip Fits xs done → Fits x y → FirstFits Fits all
 first_fits Fits all s xs t x u done y is yields step fit here =
     subst (FirstFits Fits) (sym (taken_one s xs t x u yields step) ∙ is) (prefix Fits xs x (into_iter_items u) done y fit here)
 
--- out of memory, once this part fits
+-- Out of memory is a permitted result if this item fits.
 pub wants_memory : {A B R Z : Type 0} (Fits : A → B → Type 0) (Fails : A → Value → Type 0) (Made : List B → R → Type 0) (all : List A) (s : IntoIter A Z) (xs : List A) (t : IntoIter A Z) (x : A) (u : IntoIter A Z) (done : List B) (y : B) (r : Result R ConvertFault)
     → into_iter_items s ≡ all → Yields into_iter_steps s xs t → into_iter_steps t (Some x) u → AllZip Fits xs done → Fits x y → r ≡ Err Memory → ConvertsAll Fits Fails Made all r
 wants_memory Fits Fails Made all s xs t x u done y r is yields step fit here e =
@@ -58,11 +59,11 @@ pub fold_push : {A B : Type 0} (f : B → A → B) (b : B) (xs : List A) (x : A)
 fold_push f b [] x = refl
 fold_push f b (y ∷ xs) x = fold_push f (f b y) xs x
 
--- a collection made by `f`, item by item, takes one more
+-- A collection that is built by `f`, item by item, is extended with one more item.
 pub fold_pushed : {A B : Type 0} (f : B → A → B) (b : B) (xs : List A) (x : A) (old new : B) → new ≡ f old x → old ≡ fold f b xs → new ≡ fold f b (xs ++ x ∷ [])
 fold_pushed f b xs x old new put is = put ∙ ap (λ c. f c x) is ∙ sym (fold_push f b xs x)
 
--- a pair that does not fit, where the fault says which value it was
+-- The conversion stops at a pair that does not fit, and the error contains the key or value.
 pub pair_stops : {K X A R : Type 0} (kg : Value → Result K Value → Type 0) (vg : Value → Result X Value → Type 0) (Made : List (K × X) → R → Type 0)
     (all : List (Value × Value)) (s : IntoIter (Value × Value) A) (xs : List (Value × Value)) (t : IntoIter (Value × Value) A) (p : Value × Value) (u : IntoIter (Value × Value) A) (done : List (K × X)) (fault : ConvertFault) (r : Result R ConvertFault)
     → into_iter_items s ≡ all → Yields into_iter_steps s xs t → into_iter_steps t (Some p) u → AllZip (PairFits kg vg) xs done → PairGives kg vg p (Err fault) → r ≡ Err fault → PairsGive kg vg Made all r
@@ -73,7 +74,7 @@ pub on_ok : {T E : Type 0} (r : Result T E) (P : Type 0) → OnOk r P → is_ok 
 on_ok (Ok x) P h e = h
 on_ok (Err x) P h e = absurd (true≢false (sym e))
 
--- one pair more is inserted, its key and value converted
+-- One more entry is inserted, with its key and value converted.
 pub one_more_converted : {K X : Type 0} (eq : Value → Value → Bool) (kc : K → Value → Type 0) (xc : X → Value → Type 0) (es : List (K × X)) (k : K) (x : X) (key value : Value) (old new : OrderedMap Value Value)
     → IsMapOf eq kc xc es old → kc k key → xc x value → entries_of new ≡ insert_pair eq (entries_of old) key value → IsMapOf eq kc xc (es ++ (k, x) ∷ []) new
 one_more_converted eq kc xc es k x key value old new is kf xf put = (

@@ -1,8 +1,9 @@
--- A tree with each variant read as the map of one pair that it is written as (AMQP 1.0 part 1, section 1.6.23).
+-- A tree with each variant replaced by the map of one entry as which it is encoded (AMQP 1.0 part
+-- 1, section 1.6.23).
 use Rattle.amqp_ser.specs.Tree.{Tree, Trees, Pairs, scalar, list, array, map, described, variant, lazy, transparent, no_trees, more, no_pairs, pair}
 use Rattle.amqp_value.specs.Image.{variant_map}
 
--- each variant, at every depth, as its map; all else stands as it is
+-- The tree with each variant, at every depth, replaced by its map.
 abbrev mutual
   pub read_as_map : Tree → Tree
   read_as_map (scalar s) = scalar s

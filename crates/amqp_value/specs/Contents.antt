@@ -1,4 +1,5 @@
--- What a value of one kind contains: none where it is of another (AMQP 1.0 part 1, section 1.6).
+-- The content of a value of a given type, or none if the value is of another type (AMQP 1.0 part 1,
+-- section 1.6).
 use Rattle.std.specs.Prelude.{◌≡◌, ℕ, ℤ, Bool, Option, Some, None, Result, ok_or, String, Vec}
 use Rattle.std.specs.Global.{Global}
 use Rattle.amqp_data.specs.declared.array.Array.{Array}
@@ -17,7 +18,7 @@ use Rattle.amqp_value.specs.declared.value.Value.{Value, out-Value}
 use Rattle.amqp_value.specs.declared.value.Value.TheVariants as kind
 use Rattle.amqp_value.specs.declared.value.Value.TheOpen.{Value-F}
 
--- the content, or the value itself, unchanged
+-- The result is the content if there is one, and otherwise the value itself, unchanged.
 abbrev pub GivesBack : {T : Type 0} → (Value → Option T) → Value → Result T Value → Type 0
 GivesBack content value result = result ≡ ok_or (content value) value
 
@@ -101,7 +102,7 @@ abbrev pub symbol_in : Value → Option Symbol
 symbol_in (kind.Symbol x) = Some x
 symbol_in _ = None
 
--- kinds that contain values again are told by one level of the value
+-- For types that contain values, the content is taken from one level of the value.
 abbrev open_described : Value-F Value → Option (Described Value)
 open_described (Value-F.Described d) = Some d.value
 open_described _ = None

@@ -1,19 +1,21 @@
--- The image of a tree: the tree of the untyped value that stands for it (AMQP 1.0 part 1, section 1.6).
+-- The image of a tree: the tree of the untyped value that represents it (AMQP 1.0 part 1, section
+-- 1.6).
 use Rattle.std.specs.Prelude.{ℕ, if◌then◌else◌}
 use Rattle.amqp_ser.specs.Tree.{uint, Tree, Trees, Pairs, scalar, list, array, map, described, variant, lazy, transparent, no_trees, more, no_pairs, pair}
 use Rattle.amqp_ser.specs.Same.{same_tree}
 
--- the map that a variant is: of one pair, from its index to its payload
+-- The map of one entry that represents a variant, from its index to its payload.
 abbrev pub variant_map : ℕ → Tree → Tree
 variant_map i t = map (pair (scalar (uint i)) t no_pairs)
 
--- a present key keeps its place and takes the value, and a new key goes last
+-- A repeated key keeps its position and gets the new value, and a new key is appended.
 abbrev pub insert_tree : Pairs → Tree → Tree → Pairs
 insert_tree no_pairs k v = pair k v no_pairs
 insert_tree (pair l w ps) k v = if same_tree k l then pair l v ps else pair l w (insert_tree ps k v)
 
--- each kind is itself, but a variant is its map, transparent trees are a list, and the pairs of a map are
--- inserted in turn; a lazy tree stands as it is, and what it is read as is for those who read bytes
+-- Each kind is unchanged, except that a variant becomes its map, transparent trees become a list,
+-- and the entries of a map are inserted in order. A lazy tree is unchanged; what it is read as is
+-- defined where bytes are decoded.
 abbrev mutual
   pub image : Tree → Tree
   image (scalar s) = scalar s
@@ -25,12 +27,12 @@ abbrev mutual
   image (lazy bs) = lazy bs
   image (transparent ts) = list (images ts)
 
-  -- the images of the trees, in order
+  -- The images of the trees, in order.
   pub images : Trees → Trees
   images no_trees = no_trees
   images (more t ts) = more (image t) (images ts)
 
-  -- the images of the pairs, inserted in turn into those that are there
+  -- The images of the entries, inserted in order into the entries `done`.
   pub images_onto : Pairs → Pairs → Pairs
   images_onto no_pairs done = done
   images_onto (pair k v ps) done = images_onto ps (insert_tree done (image k) (image v))

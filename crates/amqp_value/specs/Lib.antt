@@ -1,5 +1,5 @@
--- Contracts of public items rest on all of these, but for `all_of` in TreeOf and `PairGives` in Converts, which those of
--- private functions alone cite.
+-- Contracts of public items depend on all of these, except for `all_of` in TreeOf and `PairGives`
+-- in Converts, which only contracts of private functions use.
 pub mod Image
 pub mod Plain
 pub mod AsMap

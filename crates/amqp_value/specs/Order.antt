@@ -1,4 +1,4 @@
--- How two trees compare: by kind, in the sequence of the variants of `Value`, and then by content.
+-- The order of two trees: by kind, in the order of the variants of `Value`, and then by content.
 use Rattle.std.specs.Prelude.{ℕ, List}
 use Rattle.std.specs.Ordering.{nat_cmp, int_cmp, bool_cmp, ordering_then}
 use Rattle.std.specs.declared.cmp.Ordering.{Ordering}
@@ -6,7 +6,7 @@ use Rattle.std.specs.declared.cmp.Ordering.TheVariants.{Less, Equal, Greater}
 use Rattle.std.specs.Cmp.Lexicographic.{slice_cmp}
 use Rattle.amqp_ser.specs.Tree.{Scalar, null, bool, ubyte, ushort, uint, ulong, byte, short, int, long, float, double, decimal32, decimal64, decimal128, char, timestamp, uuid, binary, string, symbol, Descriptor, name, code, Tree, Trees, Pairs, scalar, list, array, map, described, variant, lazy, transparent, no_trees, more, no_pairs, pair}
 
--- the place of each kind in the sequence
+-- The position of each kind of scalar in that order.
 abbrev pub scalar_rank : Scalar → ℕ
 scalar_rank null = 1
 scalar_rank (bool a) = 2
@@ -30,7 +30,7 @@ scalar_rank (binary a) = 19
 scalar_rank (string a) = 20
 scalar_rank (symbol a) = 21
 
--- the last three are no kinds of a `Value`
+-- The last three kinds are not variants of `Value`.
 abbrev pub rank : Tree → ℕ
 rank (described d t) = 0
 rank (scalar s) = scalar_rank s
@@ -41,11 +41,12 @@ rank (variant i t) = 25
 rank (lazy bs) = 26
 rank (transparent ts) = 27
 
--- bytes from the first on, as unsigned numbers; a prefix of others is less
+-- Bytes are compared from the first on, as unsigned numbers; a prefix is less than what it begins.
 abbrev pub cmp_bytes : List ℕ → List ℕ → Ordering
 cmp_bytes = slice_cmp nat_cmp
 
--- numbers by their value, false before true, bits and characters as unsigned numbers, all else by bytes
+-- Numbers are compared by value, `false` is less than `true`, bits and characters are compared as
+-- unsigned numbers, and everything else byte by byte.
 abbrev pub cmp_scalar : Scalar → Scalar → Ordering
 cmp_scalar (bool a) (bool b) = bool_cmp a b
 cmp_scalar (ubyte a) (ubyte b) = nat_cmp a b
@@ -69,15 +70,16 @@ cmp_scalar (string a) (string b) = cmp_bytes a b
 cmp_scalar (symbol a) (symbol b) = cmp_bytes a b
 cmp_scalar a b = nat_cmp (scalar_rank a) (scalar_rank b)
 
--- names before codes
+-- Names are less than codes.
 abbrev pub cmp_descriptor : Descriptor → Descriptor → Ordering
 cmp_descriptor (name a) (name b) = cmp_bytes a b
 cmp_descriptor (name a) (code n) = Less
 cmp_descriptor (code m) (name b) = Greater
 cmp_descriptor (code m) (code n) = nat_cmp m n
 
--- trees of one kind by their contents: parts from the first on, a described tree by its descriptor first,
--- a pair by its key first; a prefix of other parts is less
+-- Trees of one kind are compared by their contents: elements and entries from the first on, a
+-- described tree by its descriptor first, an entry by its key first; a prefix is less than what it
+-- begins.
 abbrev mutual
   pub cmp_tree : Tree → Tree → Ordering
   cmp_tree (scalar a) (scalar b) = cmp_scalar a b

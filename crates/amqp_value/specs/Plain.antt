@@ -1,15 +1,15 @@
--- Plain trees, which have the same bytes as their image.
+-- Plain trees, which have the same encoding as their image.
 use Rattle.std.specs.Prelude.{◌≡◌, false}
 use Rattle.amqp_ser.specs.Tree.{Tree, Trees, Pairs, scalar, list, array, map, described, variant, lazy, transparent, no_trees, more, no_pairs, pair}
 use Rattle.amqp_ser.specs.Same.{same_tree}
 use Rattle.amqp_value.specs.Image.{image}
 
--- no key of the pairs has this image
+-- No key of the entries has this image.
 abbrev pub LacksImage : Tree → Pairs → Type 0
 LacksImage k no_pairs = Unit {0}
 LacksImage k (pair l w ps) = (same_tree (image l) k ≡ false) × LacksImage k ps
 
--- nothing lazy or transparent, and no map with two keys of one image, at any depth
+-- At every depth, nothing is lazy or transparent, and no map has two keys with the same image.
 abbrev mutual
   pub IsPlain : Tree → Type 0
   IsPlain (scalar s) = Unit {0}

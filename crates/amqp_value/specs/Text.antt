@@ -1,4 +1,4 @@
--- The text of a tree, for people: one recursion over all kinds.
+-- The text of a tree for logs and diagnostics, defined by recursion over all kinds.
 use Rattle.std.specs.Prelude.{ℕ, zero, suc, true, false, List, [], ◌++◌, codes, encode_utf8, if◌then◌else◌, ◌==◌, nat_lt}
 use Rattle.std.specs.Fmt.{decimal, digits, signed_decimal}
 use Rattle.std.specs.Int.{w32, w64, to_be_bytes}
@@ -10,33 +10,33 @@ use Rattle.amqp_data.specs.Shown.{shown_symbol, shown_uuid}
 use Rattle.amqp_ser.specs.Tree as tree
 use Rattle.amqp_ser.specs.Tree.{Scalar, Descriptor, Tree, Trees, Pairs, no_trees, more, no_pairs, pair}
 
--- a code in hexadecimal without leading zeros, as `\u{7f}`
+-- An escaped code in hexadecimal without leading zeros, such as `\u{7f}`.
 abbrev pub code_escaped : ℕ → List ℕ
 code_escaped c = codes "\\u{" ++ (digits 16 false c ++ codes "}")
 
--- a character between quotes of either kind: control characters and the backslash are escaped
+-- A character between quotes of either kind. Control characters and the backslash are escaped.
 abbrev pub escaped : ℕ → List ℕ
 escaped c =
     if c == 0 then codes "\\0" else if c == 9 then codes "\\t" else if c == 10 then codes "\\n" else if c == 13 then codes "\\r"
     else if c == 92 then codes "\\\\" else if nat_lt c 32 then code_escaped c else if c == 127 then code_escaped c else encode_utf8 c
 
--- a character of a string: the double quote is escaped too
+-- A character of a string. The double quote is escaped too.
 abbrev pub string_escaped : ℕ → List ℕ
 string_escaped c = if c == 34 then codes "\\\"" else escaped c
 
--- a character by itself: the single quote is escaped too
+-- A single character. The single quote is escaped too.
 abbrev pub char_escaped : ℕ → List ℕ
 char_escaped c = if c == 39 then codes "\\'" else escaped c
 
--- a string, by its UTF-8 bytes
+-- A string, given by its UTF-8 bytes, in double quotes.
 abbrev pub quoted : List ℕ → List ℕ
 quoted s = codes "\"" ++ (flat_map string_escaped (chars s) ++ codes "\"")
 
--- a character
+-- A character in single quotes.
 abbrev pub quoted_char : ℕ → List ℕ
 quoted_char c = codes "'" ++ (char_escaped c ++ codes "'")
 
--- bytes, two digits each
+-- Bytes, with two digits each.
 abbrev pub bytes_text : List ℕ → List ℕ
 bytes_text bytes = codes "0x[" ++ (hex bytes ++ codes "]")
 
@@ -64,18 +64,18 @@ scalar_text (tree.binary bytes) = bytes_text bytes
 scalar_text (tree.string s) = quoted s
 scalar_text (tree.symbol s) = shown_symbol s
 
--- a name, or a code in hexadecimal without leading zeros
+-- A name, or a code in hexadecimal without leading zeros.
 abbrev pub descriptor_text : Descriptor → List ℕ
 descriptor_text (tree.name s) = shown_symbol s
 descriptor_text (tree.code n) = codes "0x" ++ digits 16 false n
 
--- what stands before the nth item: nothing before the first, else a comma and a space
+-- The separator before the nth item: nothing before the first, otherwise a comma and a space.
 abbrev pub separator : ℕ → List ℕ
 separator zero = []
 separator (suc n) = codes ", "
 
--- no value has a variant, a lazy or a transparent tree: a variant's text is that of its map, lazy bytes are bytes, and
--- transparent trees a list
+-- A variant has the text of its map, lazy bytes have that of bytes, and transparent trees that of a
+-- list. The tree of a `Value` contains none of these.
 abbrev mutual
   pub text_of : Tree → List ℕ
   text_of (tree.scalar s) = scalar_text s
@@ -87,12 +87,12 @@ abbrev mutual
   text_of (tree.lazy bytes) = bytes_text bytes
   text_of (tree.transparent ts) = codes "[" ++ (items_text ts 0 ++ codes "]")
 
-  -- the items, of which the first is the nth of all
+  -- The text of the items, numbered from n on.
   pub items_text : Trees → ℕ → List ℕ
   items_text no_trees n = []
   items_text (more t ts) n = separator n ++ (text_of t ++ items_text ts (suc n))
 
-  -- the pairs, of which the first is the nth of all
+  -- The text of the entries, numbered from n on.
   pub pairs_text : Pairs → ℕ → List ℕ
   pairs_text no_pairs n = []
   pairs_text (pair k v ps) n = separator n ++ (text_of k ++ (codes ": " ++ (text_of v ++ pairs_text ps (suc n))))

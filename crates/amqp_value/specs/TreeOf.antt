@@ -1,4 +1,5 @@
--- The tree of an untyped value: the same kinds, recursively (AMQP 1.0 part 1, section 1.6).
+-- The tree of an untyped value, which has the same kinds at every depth (AMQP 1.0 part 1, section
+-- 1.6).
 use Rattle.std.specs.Prelude.{List, [], ◌∷◌, map, string_bytes}
 use Rattle.amqp_data.specs.Fixed.{f32_bits, f64_bits, dec32_bytes, dec64_bytes, dec128_bytes, milliseconds_of, uuid_bytes}
 use Rattle.amqp_data.specs.Items.{byte_buf_bytes, array_items}
@@ -10,12 +11,12 @@ use Rattle.amqp_ser.specs.Tree.{Tree, Trees, Pairs, trees_of, no_pairs, pair, sc
 use Rattle.amqp_value.specs.declared.value.Value.{Value, fold-Value}
 use Rattle.amqp_value.specs.declared.value.Value.TheOpen.{Value-F}
 
--- the pairs of a list of them, in order
+-- The pairs of the list, in order.
 abbrev pub pairs_of : List (Tree × Tree) → Pairs
 pairs_of [] = no_pairs
 pairs_of (p ∷ ps) = pair p.0 p.1 (pairs_of ps)
 
--- one level, where each value inside is its tree
+-- The tree of one level, in which each value is already replaced by its tree.
 abbrev pub tree_step : Value-F Tree → Tree
 tree_step (Value-F.Described d) = tree.described (descriptor_content d.value.descriptor) d.value.value
 tree_step Value-F.Null = scalar tree.null
@@ -46,10 +47,10 @@ tree_step (Value-F.Array a) = tree.array (trees_of (array_items a))
 abbrev pub tree_of : Value → Tree
 tree_of = fold-Value Tree tree_step
 
--- the trees of the values, in order
+-- The trees of the values, in order.
 abbrev pub all_of : List Value → Trees
 all_of vs = trees_of (map tree_of vs)
 
--- the trees of the keys and values, in order
+-- The trees of the keys and values, in order.
 abbrev pub pairs_trees : List (Value × Value) → Pairs
 pairs_trees es = pairs_of (map (λ e. (tree_of e.0, tree_of e.1)) es)

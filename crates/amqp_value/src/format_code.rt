@@ -1,4 +1,4 @@
-//! The format code of a value's kind.
+//! The format code of a value's type.
 
 ghost use Rattle.std.specs.Prelude.{◌≡◌};
 ghost use Rattle.amqp_value.specs.FormatCode.{code_of_kind};
@@ -8,12 +8,12 @@ use crate::Value;
 use amqp_data::EncodingCodes;
 
 impl Value {
-    /// The code of the value's kind: the constructor that it has as an array's element, which is
-    /// the widest one of its kind. A described value has none there, and its code is the `00` that
-    /// it begins with.
+    /// Returns the format code of the value's type: the constructor that the value has as an
+    /// element of an array, which is the widest code of its type. A described value cannot be an
+    /// element; its code is the `00` that it begins with.
     ///
     /// # Example
-    /// Of a `Bool`: `56`. Of a `List`: `d0`. Of a `Described`: `00`.
+    /// A `Bool` has `56`, a `List` has `d0` and a `Described` has `00`.
     pub fn format_code(&self) -> u8
         ensures { result ≡ code_of_kind (tree_of self.now) }
     {

@@ -1,7 +1,7 @@
-//! Values of the types that they stand for.
+//! Conversions to `Value`.
 //!
-//! A scalar is taken as it is. A container takes memory, so its call is named `try_` and takes an
-//! allocator.
+//! `From` converts scalars. The conversions that allocate are functions of `Value` that take an
+//! allocator. Their names begin with `try_`.
 
 mod containers;
 mod scalars;

@@ -1,5 +1,5 @@
-//! Laws of trees, of equality and order, of conversions and of images. Each function does nothing:
-//! its contract is the law.
+//! Laws of trees, equality, order, conversions and images. The body of each function is empty; its
+//! contract is the law.
 
 ghost use Rattle.std.specs.Prelude.{◌≡◌, [], ℕ, ℤ, Bool, Box, List, Some, String, Vec, true};
 ghost use Rattle.std.specs.Global.{Global};
@@ -31,10 +31,10 @@ pub use order::{
     maps_go_by_pairs_in_order, order_agrees_with_equality, order_is_of_contents,
 };
 
-/// The tree of a scalar value is that of what it holds.
+/// The tree of a scalar value is the tree of its content.
 ///
 /// # Memory
-/// Takes none.
+/// None.
 pub fn trees_of_scalar_values()
     ensures null { ⟦<Value as Serialize>⟧.tree Value.Null ≡ ⟦<() as Serialize>⟧.tree tt }
     ensures bool { (b : Bool) →
@@ -79,10 +79,10 @@ pub fn trees_of_scalar_values()
         ⟦<Value as Serialize>⟧.tree (Value.Symbol s) ≡ ⟦<Symbol as Serialize>⟧.tree s }
 {}
 
-/// The tree of a value of parts is that of what it holds.
+/// The tree of a described value, list, map or array is the tree of its content.
 ///
 /// # Memory
-/// Takes none.
+/// None.
 pub fn trees_of_compound_values()
     ensures described { (b : Box (Described Value) Global) →
         ⟦<Value as Serialize>⟧.tree (Value.Described b) ≡ ⟦<Described<Value> as Serialize>⟧.tree
@@ -96,36 +96,36 @@ pub fn trees_of_compound_values()
         ⟦<Value as Serialize>⟧.tree (Value.Array a) ≡ ⟦<Array<Value> as Serialize>⟧.tree a }
 {}
 
-/// Two values are equal exactly where their contents are the same, whatever memory holds them.
+/// Two values are equal if and only if their trees are the same, wherever they are allocated.
 ///
 /// # Memory
-/// Takes none.
+/// None.
 pub fn equality_is_of_contents()
     ensures { (a b : Value) → ⟦<Value as PartialEq>⟧.eq a b ≡ same_tree (tree_of a) (tree_of b) }
 {}
 
-/// Trees are the same exactly where they are equal.
+/// Two trees are the same, as `same_tree` computes it, if and only if they are equal.
 ///
 /// # Memory
-/// Takes none.
+/// None.
 pub fn sameness_is_equality()
     ensures equal { (t u : Tree) → same_tree t u ≡ true → t ≡ u }
     ensures same { (t : Tree) → same_tree t t ≡ true }
 {}
 
-/// The image of a plain tree is the tree itself, each variant read as its map.
+/// The image of a plain tree is the tree itself with each variant replaced by its map.
 ///
 /// # Memory
-/// Takes none.
+/// None.
 pub fn image_of_a_plain_tree()
     ensures { (t : Tree) → IsPlain t → image t ≡ read_as_map t }
 {}
 
-/// A variant is written as its map: the bytes, the constructor, and each cause for which a tree is
-/// refused are those of the tree whose variants are read as maps.
+/// A variant is encoded as its map. Replacing each variant in a tree by its map changes neither the
+/// encoding nor the constructor nor any of the conditions on writable trees.
 ///
 /// # Memory
-/// Takes none.
+/// None.
 pub fn variants_are_written_as_maps()
     ensures bytes { (t : Tree) → encoding (read_as_map t) ≡ encoding t }
     ensures constructor { (t : Tree) → constructor (read_as_map t) ≡ constructor t }
@@ -134,10 +134,11 @@ pub fn variants_are_written_as_maps()
     ensures places { (t : Tree) → placed (read_as_map t) ≡ placed t }
 {}
 
-/// The image of a plain tree is written as the same bytes, or refused too, and for the same cause.
+/// The image of a plain tree has the same encoding and constructor as the tree, and meets the same
+/// conditions on writable trees.
 ///
 /// # Memory
-/// Takes none.
+/// None.
 pub fn image_is_written_as_the_same_bytes()
     ensures writable { (t : Tree) → IsPlain t → writable (image t) ≡ writable t }
     ensures bytes { (t : Tree) → IsPlain t → encoding (image t) ≡ encoding t }
@@ -147,11 +148,11 @@ pub fn image_is_written_as_the_same_bytes()
     ensures places { (t : Tree) → IsPlain t → placed (image t) ≡ placed t }
 {}
 
-/// A sound value is its own image: its maps have distinct keys, at every depth. It is also plain,
-/// and no other value is.
+/// The tree of a sound value, which has distinct keys in each map at every depth, is its own image.
+/// A value is sound if and only if its tree is plain.
 ///
 /// # Memory
-/// Takes none.
+/// None.
 pub fn sound_values_are_their_own_images()
     ensures image { (v : Value) → IsSound v → image (tree_of v) ≡ tree_of v }
     ensures plain { (v : Value) → IsSound v → IsPlain (tree_of v) }
@@ -161,15 +162,16 @@ pub fn sound_values_are_their_own_images()
 /// A value whose tree is the image of a tree is sound.
 ///
 /// # Memory
-/// Takes none.
+/// None.
 pub fn images_are_sound()
     ensures { (t : Tree) (v : Value) → tree_of v ≡ image t → IsSound v }
 {}
 
-/// A scalar is sound, and a value of parts is sound where they are, and the entries of a map are.
+/// A scalar is sound. A described value, a list or an array is sound if the values in it are sound.
+/// A map is sound if its entries are.
 ///
 /// # Memory
-/// Takes none.
+/// None.
 pub fn sound_parts_make_a_sound_value()
     ensures scalar { (v : Value) (s : Scalar) → tree_of v ≡ scalar s → IsSound v }
     ensures described { (b : Box (Described Value) Global) → IsSound b.value.value →
@@ -180,11 +182,11 @@ pub fn sound_parts_make_a_sound_value()
     ensures array { (a : Array Value) → AreSound (array_items a) → IsSound (Value.Array a) }
 {}
 
-/// Entries of sound keys and values stay sound as one more is inserted, and are sound where their
-/// keys are distinct.
+/// The empty list of entries is sound. Sound entries stay sound if an entry with a sound key and
+/// value is inserted. Entries with sound keys and values are sound if the keys are distinct.
 ///
 /// # Memory
-/// Takes none.
+/// None.
 pub fn sound_entries_stay_sound()
     ensures none { AreSoundEntries [] }
     ensures insert { (es : List (Value × Value)) (k v : Value) → AreSoundEntries es → IsSound k →

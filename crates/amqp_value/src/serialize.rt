@@ -1,4 +1,4 @@
-//! The tree of a value: the same kinds, recursively.
+//! Serialization of a value, whose tree has the same kinds at every depth.
 
 ghost use Rattle.std.specs.Prelude.{Some};
 ghost use Rattle.amqp_value.specs.TreeOf.{tree_of};
@@ -40,7 +40,7 @@ impl Serialize for Value {
     }
 }
 
-/// Serializes a compound, with the room for its answer cleared where a compound comes alone.
+/// Serializes a compound. The stack space of its result is cleared only if there is a compound.
 #[inline(always)]
 fn apart<T: Serialize, S: Serializer>(compound: &T, serializer: &mut S) -> Result<S::Ok, S::Error>
     ensures { S.permits serializer.old (T.tree compound.now) result serializer.new }
@@ -48,7 +48,7 @@ fn apart<T: Serialize, S: Serializer>(compound: &T, serializer: &mut S) -> Resul
     serialize_compound(compound, serializer)
 }
 
-/// Serializes a compound in a call of its own, so that a scalar clears no room for it.
+/// Serializes a compound in a separate function, so that a scalar clears no stack space for it.
 #[inline(never)]
 fn serialize_compound<T: Serialize, S: Serializer>(
     compound: &T,

@@ -1,4 +1,4 @@
-//! The text of a value, for logs and diagnostics: it is not for reading back.
+//! The text of a value, for logs and diagnostics. It is not meant to be parsed.
 
 ghost use Rattle.std.specs.Prelude.{◌++◌, Some, codes};
 ghost use Rattle.std.specs.Fmt.{WritesOnOk};
@@ -12,13 +12,14 @@ use amqp_data::{Descriptor, write_hexadecimal};
 use std::fmt;
 use std::fmt::{Display, Formatter, Write};
 
-/// Numbers stand in decimal; binaries, decimals and the bits of floats as `0x[..]`, two digits a
-/// byte; symbols behind a colon. Strings stand in `"` and characters in `'`, with escapes. Lists
-/// and arrays stand in brackets, maps in braces, and a described value behind its name or code.
+/// Writes numbers in decimal, and binaries, decimals and the bits of floats as `0x[..]` with two
+/// digits per byte. Symbols follow a colon. Strings are in `"` and characters in `'`, with escapes.
+/// Lists and arrays are in brackets and maps in braces. A described value follows its descriptor,
+/// which is a name or a code.
 ///
 /// # Example
-/// The list of the string `a`, the symbol `k` and the code 131 before null is `["a", :k, 0x83 ->
-/// null]`.
+/// The list of the string `a`, the symbol `k` and null with the descriptor code 131 is written as
+/// `["a", :k, 0x83 -> null]`.
 impl Display for Value {
     ghost output = { λ v. Some (text_of (tree_of v)) };
 
@@ -110,7 +111,7 @@ fn show_pairs<W: Write>(pairs: &[(Value, Value)], f: &mut Formatter<W>) -> fmt::
     Ok(())
 }
 
-// Writes what stands before the item at this index.
+// Writes the separator before the item at this index.
 fn separate<W: Write>(index: usize, f: &mut Formatter<W>) -> fmt::Result
     ensures { WritesOnOk W.write_str_gives f.old result (separator index) f.new }
 {

@@ -1,7 +1,7 @@
-//! Types out of the values that stand for them.
+//! Conversions from `Value`.
 //!
-//! A scalar is handed out, or the value comes back as it was. A container converts its parts one by
-//! one.
+//! The conversion to a scalar returns the content, or the value itself if it is of another type.
+//! The conversion to a container converts the elements one by one.
 
 ghost use Rattle.std.specs.Prelude.{◌≡◌};
 ghost use Rattle.amqp_value.specs.declared.try_from.ConvertFault.TheVariants.{Memory};
@@ -14,16 +14,19 @@ mod scalars;
 use crate::Value;
 use std::alloc::{AllocError, AllocFailed};
 
-/// Why a value is not converted to a container.
+/// The error of a conversion to a container.
 ///
 /// # Example
-/// As a `Vec<u8>`, the ubyte 1: `Unfit(Ubyte(1))`. The list of the ubyte 1 and null: `Unfit(Null)`.
+/// To a `Vec<u8>`, the ubyte 1 gives `Unfit(Ubyte(1))`, and the list of the ubyte 1 and null gives
+/// `Unfit(Null)`.
 #[derive(Debug, PartialEq, Eq, Drop)]
 pub enum ConvertFault {
-    /// The value, where it is of another kind than the container's; else the first part that does
-    /// not fit, in order, a key before its value. What stood around the part is dropped.
+    /// The value that cannot be converted: the argument, if it is not of the container's type;
+    /// otherwise the first element, key or value that cannot be converted, in order, a key before
+    /// its value. The rest is dropped.
     Unfit(Value),
-    /// A growth of memory was refused, once the first part fitted. The whole value is dropped.
+    /// An allocation failed, which can happen only if the first element or entry can be converted.
+    /// The argument is dropped.
     Memory,
 }
 

@@ -1,4 +1,4 @@
-//! The value of a text and of each container, whose parts are converted one by one.
+//! Conversions of a text and of containers, which convert each element.
 
 ghost use Rattle.std.specs.Prelude.{◌≡◌, List, [], ◌∷◌, ◌++◌, MatchResult, IsSomeAnd, IfErr};
 ghost use Rattle.std.specs.List.{AllZip};
@@ -15,16 +15,16 @@ use std::alloc::Global;
 use std::collections::BTreeMap;
 
 impl Value {
-    /// The string with a copy of the text.
+    /// Returns a `String` with a copy of the text.
     ///
     /// # Errors
-    /// `OutOfMemory` where the copy finds no room.
+    /// Returns `Error::OutOfMemory` if an allocation fails.
     ///
     /// # Memory
-    /// Takes `alloc`, once.
+    /// Allocates once from `alloc`.
     ///
     /// # Example
-    /// Of `a`: a `String`, written `a10161`.
+    /// `a` gives a `String` that is encoded as `a10161`.
     pub fn try_from_str(alloc: Global, text: &str) -> Result<Value, Error>
         ensures { MatchResult result
             (λ v. tree_of v ≡ scalar (string text.now))
@@ -33,16 +33,16 @@ impl Value {
         Ok(Value::String(String::from_str(alloc, text)?))
     }
 
-    /// The described value, with its value converted.
+    /// Returns a `Described` with the same descriptor and the value converted.
     ///
     /// # Errors
-    /// `OutOfMemory` where it finds no room. The argument is dropped then.
+    /// Returns `Error::OutOfMemory` if an allocation fails. The argument is dropped.
     ///
     /// # Memory
-    /// Takes `alloc`, once.
+    /// Allocates once from `alloc`.
     ///
     /// # Example
-    /// Of the code 1 and `true`: a `Described`, written `00530141`.
+    /// The code 1 and `true` give a `Described` that is encoded as `00530141`.
     pub fn try_from_described<T: Into<Value> + Drop>(
         alloc: Global,
         described: Described<T>,
@@ -60,16 +60,16 @@ impl Value {
         Ok(Value::Described(Box::new(alloc, described)?))
     }
 
-    /// The list of the items, each converted.
+    /// Returns a `List` of the items, each converted.
     ///
     /// # Errors
-    /// `OutOfMemory` where it finds no room. The argument is dropped then.
+    /// Returns `Error::OutOfMemory` if an allocation fails. The argument is dropped.
     ///
     /// # Memory
-    /// Takes `alloc`, once, and nothing where there are no items.
+    /// Allocates once from `alloc`, or not at all if there are no items.
     ///
     /// # Example
-    /// Of `[1u8, 2u8]`: a `List`, written `c0050250015002`.
+    /// `[1u8, 2u8]` gives a `List` that is encoded as `c0050250015002`.
     pub fn try_from_vec<T: Into<Value> + Drop>(alloc: Global, items: Vec<T>) -> Result<Value, Error>
         ensures { MatchResult result
             (λ v. IsSomeAnd (list_in v) (λ list. AllZip T.converts items.items list.items))
@@ -78,16 +78,16 @@ impl Value {
         Ok(Value::List(convert_items(alloc, items)?))
     }
 
-    /// The array of the elements, each converted.
+    /// Returns an `Array` of the elements, each converted.
     ///
     /// # Errors
-    /// `OutOfMemory` where it finds no room. The argument is dropped then.
+    /// Returns `Error::OutOfMemory` if an allocation fails. The argument is dropped.
     ///
     /// # Memory
-    /// Takes `alloc`, once, and nothing where there are no elements.
+    /// Allocates once from `alloc`, or not at all if there are no elements.
     ///
     /// # Example
-    /// Of `[1u8, 2u8]`: an `Array`, written `e00402500102`.
+    /// `[1u8, 2u8]` gives an `Array` that is encoded as `e00402500102`.
     pub fn try_from_array<T: Into<Value> + Drop>(
         alloc: Global,
         array: Array<T>,
@@ -101,18 +101,20 @@ impl Value {
         Ok(Value::Array(Array::from(items)))
     }
 
-    /// The map of the pairs, each key and value converted, inserted in the order of the keys.
+    /// Returns a `Map` of the entries, each key and value converted, inserted in the order of the
+    /// keys.
     ///
-    /// Keys that are converted to equal values are one key, which has the last one's value.
+    /// If several keys are converted to equal values, the map has one such key, with the last
+    /// value.
     ///
     /// # Errors
-    /// `OutOfMemory` where it finds no room. The argument is dropped then.
+    /// Returns `Error::OutOfMemory` if an allocation fails. The argument is dropped.
     ///
     /// # Memory
-    /// Takes `alloc`, as the pairs grow.
+    /// Allocates from `alloc` as the map grows.
     ///
     /// # Example
-    /// Of `1u8` to `true`: a `Map`, written `c10402500141`.
+    /// `1u8` to `true` gives a `Map` that is encoded as `c10402500141`.
     pub fn try_from_btree_map<K: Into<Value> + Ord + Drop, V: Into<Value> + Drop>(
         alloc: Global,
         map: BTreeMap<K, V>,
@@ -129,18 +131,20 @@ impl Value {
         Ok(Value::Map(pairs))
     }
 
-    /// The map of the pairs, each key and value converted, inserted in their order.
+    /// Returns a `Map` of the entries, each key and value converted, inserted in their order.
     ///
-    /// Keys that are converted to equal values are one key, which has the last one's value.
+    /// If several keys are converted to equal values, the map has one such key, with the last
+    /// value.
     ///
     /// # Errors
-    /// `OutOfMemory` where it finds no room. The argument is dropped then.
+    /// Returns `Error::OutOfMemory` if an allocation fails. The argument is dropped.
     ///
     /// # Memory
-    /// Takes `alloc`, as the pairs grow.
+    /// Allocates from `alloc` as the map grows.
     ///
     /// # Example
-    /// Of 2 to `true` and 1 to `false`, with ubytes as keys: a `Map`, written `c10704500241500142`.
+    /// The ubyte keys 2 to `true` and 1 to `false` give a `Map` that is encoded as
+    /// `c10704500241500142`.
     pub fn try_from_ordered_map<K: Into<Value> + Drop, V: Into<Value> + Drop>(
         alloc: Global,
         map: OrderedMap<K, V>,
@@ -171,7 +175,7 @@ fn convert_items<T: Into<Value> + Drop>(alloc: Global, items: Vec<T>) -> Result<
     Ok(values)
 }
 
-// Inserts a pair, its key and value converted.
+// Converts a key and its value, and inserts them.
 fn insert_converted<K: Into<Value> + Drop, V: Into<Value> + Drop>(
     pairs: &mut OrderedMap<Value, Value>,
     key: K,

@@ -1,4 +1,4 @@
-//! The value of each scalar type.
+//! Conversions of scalars to `Value`.
 
 ghost use Rattle.std.specs.Prelude.{◌≡◌};
 ghost use Rattle.amqp_value.specs.declared.value.Value.TheVariants as kind;

@@ -10,11 +10,10 @@ use crate::Value;
 use amqp_data::{ByteBuf, Dec32, Dec64, Dec128, F32Bits, F64Bits, Symbol, Timestamp, Uuid};
 use amqp_ser::Serialize;
 
-/// `TryFrom` after `From` gives the scalar back, and the value between them has the scalar's tree,
-/// as the one that `to_value` gives has.
+/// A scalar round-trips through `From` and `TryFrom`, and the `Value` has the scalar's tree.
 ///
 /// # Memory
-/// Takes none.
+/// None.
 pub fn scalars_come_back()
     ensures bools { ComesBack ⟦<bool as Serialize>⟧.tree ⟦<Value as From<bool>>⟧.from_gives
         ⟦<bool as TryFrom<Value>>⟧.try_from_gives }
@@ -58,11 +57,11 @@ pub fn scalars_come_back()
         ⟦<Symbol as TryFrom<Value>>⟧.try_from_gives }
 {}
 
-/// The elements of an array that is written, and their images, all have one format code, and it is
-/// the array's constructor.
+/// The elements of a non-empty writable array, and their images, all have one format code, which is
+/// the constructor in the array.
 ///
 /// # Memory
-/// Takes none.
+/// None.
 pub fn elements_have_one_format_code()
     ensures { (first : Tree) (rest : Trees) → writable (array (more first rest)) ≡ true →
         HasOneCode (more first rest) }

@@ -15,37 +15,38 @@ use crate::Value;
 use amqp_data::{Described, F32Bits, F64Bits, OrderedMap};
 use std::hash::Hash;
 
-/// Two values compare as their contents do: by kind, and then by content.
+/// Two values compare as their trees do: by kind first, and then by content.
 ///
 /// # Memory
-/// Takes none.
+/// None.
 pub fn order_is_of_contents()
     ensures contents { (a b : Value) → ⟦<Value as Ord>⟧.cmp a b ≡ cmp_tree (tree_of a) (tree_of b) }
     ensures kinds { (a b : Value) → rank (tree_of a) < rank (tree_of b) →
         ⟦<Value as Ord>⟧.cmp a b ≡ Less }
 {}
 
-/// Two values are equal exactly where neither is less.
+/// Two values are equal if and only if `cmp` returns `Equal`.
 ///
 /// # Memory
-/// Takes none.
+/// None.
 pub fn order_agrees_with_equality()
     ensures { (a b : Value) → ⟦<Value as PartialEq>⟧.eq a b ≡ is_eq (⟦<Value as Ord>⟧.cmp a b) }
 {}
 
-/// Equal values hash alike.
+/// Equal values have the same hash input.
 ///
 /// # Memory
-/// Takes none.
+/// None.
 pub fn equal_values_hash_alike()
     ensures { (a b : Value) → ⟦<Value as PartialEq>⟧.eq a b ≡ true
         → ⟦<Value as Hash>⟧.hash_input a ≡ ⟦<Value as Hash>⟧.hash_input b }
 {}
 
-/// Maps go by their pairs in order, so the same pairs in another order are another map.
+/// Maps are compared entry by entry, in order. If two maps have the same two entries in opposite
+/// orders, and the keys differ, the maps are not equal.
 ///
 /// # Memory
-/// Takes none.
+/// None.
 pub fn maps_go_by_pairs_in_order()
     ensures pairs { (m n : OrderedMap Value Value)
         → ⟦<Value as PartialEq>⟧.eq (kind.Map m) (kind.Map n)
@@ -57,10 +58,10 @@ pub fn maps_go_by_pairs_in_order()
         → ⟦<Value as PartialEq>⟧.eq (kind.Map m) (kind.Map n) ≡ false }
 {}
 
-/// Bits compare as unsigned numbers.
+/// Floating-point numbers compare as the unsigned integers of their bits.
 ///
 /// # Memory
-/// Takes none.
+/// None.
 pub fn bits_compare_as_unsigned_numbers()
     ensures floats { (a b : F32Bits) →
         ⟦<Value as Ord>⟧.cmp (kind.Float a) (kind.Float b) ≡ nat_cmp (f32_bits a) (f32_bits b) }
@@ -71,7 +72,7 @@ pub fn bits_compare_as_unsigned_numbers()
 /// Any described value is less than null.
 ///
 /// # Memory
-/// Takes none.
+/// None.
 pub fn described_values_come_before_null()
     ensures { (d : Box (Described Value) Global) →
         ⟦<Value as Ord>⟧.cmp (kind.Described d) kind.Null ≡ Less }

@@ -1,4 +1,4 @@
-//! Vectors out of lists, and arrays out of arrays.
+//! Conversions of a `List` to a vector and of an `Array` to an array.
 
 ghost use Rattle.std.specs.Prelude.{◌≡◌, [], ◌∷◌, ◌++◌, MatchResult};
 ghost use Rattle.amqp_value.specs.Converts.{ArrayGives, ItemsGive, ListGives};
@@ -7,18 +7,19 @@ use super::ConvertFault;
 use crate::Value;
 use amqp_data::Array;
 
-/// Takes a `List`, and gives all its items, converted in order.
+/// Converts the items of a `List` in order.
 ///
 /// # Errors
-/// `Unfit` of a value of another kind, or of the first item that does not fit; `Memory`, once an
-/// item fits.
+/// Returns `Unfit` with a value that is not a `List`, or with the first item that cannot be
+/// converted. Returns `Memory` if an allocation fails, which can happen only if the first item can
+/// be converted.
 ///
 /// # Memory
-/// Takes the list's own allocator, once, and nothing where there are no items.
+/// Allocates once from the list's own allocator, or not at all if there are no items.
 ///
 /// # Example
-/// The list of the ubytes 1 and 2, as a `Vec<u8>`: 1 and 2. The list of the ubyte 1 and null:
-/// `Unfit(Null)`.
+/// To a `Vec<u8>`, the list of the ubytes 1 and 2 gives 1 and 2. The list of the ubyte 1 and null
+/// gives `Unfit(Null)`.
 impl<T: TryFrom<Value, Error = Value> + Drop> TryFrom<Value> for Vec<T> {
     type Error = ConvertFault;
 
@@ -32,18 +33,19 @@ impl<T: TryFrom<Value, Error = Value> + Drop> TryFrom<Value> for Vec<T> {
     }
 }
 
-/// Takes an `Array`, and gives all its elements, converted in order.
+/// Converts the elements of an `Array` in order.
 ///
 /// # Errors
-/// `Unfit` of a value of another kind, or of the first element that does not fit; `Memory`, once an
-/// element fits.
+/// Returns `Unfit` with a value that is not an `Array`, or with the first element that cannot be
+/// converted. Returns `Memory` if an allocation fails, which can happen only if the first element
+/// can be converted.
 ///
 /// # Memory
-/// Takes the array's own allocator, once, and nothing where there are no elements.
+/// Allocates once from the array's own allocator, or not at all if there are no elements.
 ///
 /// # Example
-/// The array of the ubytes 1 and 2, as an `Array<u8>`: 1 and 2. The list of them: `Unfit` of that
-/// list.
+/// To an `Array<u8>`, the array of the ubytes 1 and 2 gives 1 and 2. The list of them gives `Unfit`
+/// with that list.
 impl<T: TryFrom<Value, Error = Value> + Drop> TryFrom<Value> for Array<T> {
     type Error = ConvertFault;
 
@@ -74,7 +76,7 @@ fn convert_items<T: TryFrom<Value, Error = Value> + Drop>(
     Ok(converted)
 }
 
-// Puts a part last. The first one makes room for all.
+// Appends an element. The first call reserves capacity for all of them.
 fn put<T: Drop>(parts: &mut Vec<T>, part: T, count: usize) -> Result<(), ConvertFault>
     ensures { MatchResult result
         (λ _. parts.new.items ≡ parts.old.items ++ (part ∷ []))

@@ -1,5 +1,5 @@
-//! Maps of four types out of maps. Keys that are converted to equal keys are inserted in their
-//! order: the last one's value stands.
+//! Conversions of a `Map` to four types of maps. Entries are inserted in order, so that of several
+//! keys that are converted to equal keys the last value remains.
 
 ghost use Rattle.std.specs.Prelude.{◌≡◌, []};
 ghost use Rattle.std.specs.HashMap.{IsFromIterResult};
@@ -15,18 +15,19 @@ use indexmap::IndexMap;
 use std::collections::{BTreeMap, HashMap};
 use std::hash::Hash;
 
-/// Takes a `Map`, and inserts its pairs in turn, each key converted before its value.
+/// Converts a `Map`. Inserts its entries in order, each key converted before its value.
 ///
 /// # Errors
-/// `Unfit` of a value of another kind, or of the first key or value that does not fit; `Memory`,
-/// once a pair fits.
+/// Returns `Unfit` with a value that is not a `Map`, or with the first key or value that cannot be
+/// converted. Returns `Memory` if an allocation fails, which can happen only if the first entry can
+/// be converted.
 ///
 /// # Memory
-/// Takes the map's own allocator, as the pairs grow.
+/// Allocates from the map's own allocator as the new map grows.
 ///
 /// # Example
-/// The map from the ubyte 1 to `true`, as an `OrderedMap<u8, bool>`: 1 to `true`. As an
-/// `OrderedMap<u8, u8>`: `Unfit(Bool(true))`.
+/// The map from the ubyte 1 to `true` gives 1 to `true` as an `OrderedMap<u8, bool>`, and
+/// `Unfit(Bool(true))` as an `OrderedMap<u8, u8>`.
 impl<K, V> TryFrom<Value> for OrderedMap<K, V>
 where
     K: TryFrom<Value, Error = Value> + Hash + Eq + Drop,
@@ -45,18 +46,19 @@ where
     }
 }
 
-/// Takes a `Map`, and inserts its pairs in turn, each key converted before its value.
+/// Converts a `Map`. Inserts its entries in order, each key converted before its value.
 ///
 /// # Errors
-/// `Unfit` of a value of another kind, or of the first key or value that does not fit; `Memory`,
-/// once a pair fits.
+/// Returns `Unfit` with a value that is not a `Map`, or with the first key or value that cannot be
+/// converted. Returns `Memory` if an allocation fails, which can happen only if the first entry can
+/// be converted.
 ///
 /// # Memory
-/// Takes the map's own allocator, as the pairs grow.
+/// Allocates from the map's own allocator as the new map grows.
 ///
 /// # Example
-/// The map of the ubytes 2 to `true` and 1 to `false`, as a `BTreeMap<u8, bool>`: 1 to `false`,
-/// then 2 to `true`.
+/// The map of the ubytes 2 to `true` and 1 to `false` gives 1 to `false` and then 2 to `true`, as a
+/// `BTreeMap<u8, bool>`.
 impl<K, V> TryFrom<Value> for BTreeMap<K, V>
 where
     K: TryFrom<Value, Error = Value> + Ord + Drop,
@@ -75,18 +77,19 @@ where
     }
 }
 
-/// Takes a `Map`, and inserts its pairs in turn, each key converted before its value.
+/// Converts a `Map`. Inserts its entries in order, each key converted before its value.
 ///
 /// # Errors
-/// `Unfit` of a value of another kind, or of the first key or value that does not fit; `Memory`,
-/// once a pair fits.
+/// Returns `Unfit` with a value that is not a `Map`, or with the first key or value that cannot be
+/// converted. Returns `Memory` if an allocation fails, which can happen only if the first entry can
+/// be converted.
 ///
 /// # Memory
-/// Takes the map's own allocator, as the pairs grow. The hash has a fixed seed.
+/// Allocates from the map's own allocator as the new map grows. The hash has a fixed seed.
 ///
 /// # Example
-/// The map of the ubytes 2 to `true` and 1 to `false`, as an `IndexMap<u8, bool>`: 2 to `true`,
-/// then 1 to `false`.
+/// The map of the ubytes 2 to `true` and 1 to `false` gives 2 to `true` and then 1 to `false`, as
+/// an `IndexMap<u8, bool>`.
 impl<K, V> TryFrom<Value> for IndexMap<K, V>
 where
     K: TryFrom<Value, Error = Value> + Hash + Eq + Drop,
@@ -105,17 +108,19 @@ where
     }
 }
 
-/// Takes a `Map`, and inserts its pairs in turn, each key converted before its value.
+/// Converts a `Map`. Inserts its entries in order, each key converted before its value.
 ///
 /// # Errors
-/// `Unfit` of a value of another kind, or of the first key or value that does not fit; `Memory`,
-/// once a pair fits.
+/// Returns `Unfit` with a value that is not a `Map`, or with the first key or value that cannot be
+/// converted. Returns `Memory` if an allocation fails, which can happen only if the first entry can
+/// be converted.
 ///
 /// # Memory
-/// Takes the map's own allocator, as the pairs grow. The hash has a fixed seed.
+/// Allocates from the map's own allocator as the new map grows. The hash has a fixed seed.
 ///
 /// # Example
-/// The map from the ubyte 1 to `true`, as a `HashMap<u8, bool>`: 1 to `true`. Null: `Unfit(Null)`.
+/// To a `HashMap<u8, bool>`, the map from the ubyte 1 to `true` gives 1 to `true`, and null gives
+/// `Unfit(Null)`.
 impl<K, V> TryFrom<Value> for HashMap<K, V>
 where
     K: TryFrom<Value, Error = Value> + Hash + Eq + Drop,

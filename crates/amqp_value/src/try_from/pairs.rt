@@ -1,4 +1,4 @@
-//! The pairs of a map, each converted and inserted into a map of another type.
+//! Conversion of the entries of a map and insertion into a map of another type.
 
 ghost use Rattle.std.specs.Prelude.{◌≡◌, List, [], ◌∷◌, ◌++◌, IsTrue};
 ghost use Rattle.std.specs.HashMap.{IsFromIterResult};
@@ -14,16 +14,21 @@ use std::alloc::Global;
 use std::collections::{BTreeMap, HashMap};
 use std::hash::Hash;
 
-/// A map that pairs are inserted into.
+/// A map into which entries are inserted.
+///
+/// # Implementer notes
+/// `empty` and `put` are required. No entries and the result of `empty` satisfy `holds`. If some
+/// entries and a map satisfy it, so do those entries with one more at the end and the map after a
+/// `put` of that entry that returns `true`.
 pub(super) trait Inserts<K, V>: Sized + Drop {
-    /// Which maps hold these pairs, inserted in turn.
+    /// States that the map is the result of inserting these entries in order.
     ghost holds: { List (K × V) → Self → Type 0 };
 
-    /// A map of no pairs.
+    /// Returns a map without entries.
     fn empty(alloc: Global) -> Self
         ensures { holds [] result };
 
-    /// Inserts a pair, and says whether there was memory for it.
+    /// Inserts an entry. Returns `false` if an allocation fails.
     fn put(&mut self, key: K, value: V) -> bool
         ensures { (done : List (K × V)) → IsTrue result →
             holds done self.old → holds (done ++ (key, value) ∷ []) self.new };
@@ -80,7 +85,7 @@ impl<K: Hash + Eq + Drop, V: Drop> Inserts<K, V> for HashMap<K, V> {
     }
 }
 
-/// Converts a key, and then its value.
+/// Converts a key and then its value.
 fn convert_pair<K, V>(key: Value, value: Value) -> Result<(K, V), ConvertFault>
 where
     K: TryFrom<Value, Error = Value> + Drop,
@@ -96,7 +101,7 @@ where
     }
 }
 
-/// Converts the pairs, and inserts them in turn, on their own allocator.
+/// Converts the entries and inserts them in order into a map with the allocator of `pairs`.
 #[tactic(auto, using(crate::proofs::Zips::zip_push))]
 pub(super) fn convert_pairs<K, V, M>(pairs: Vec<(Value, Value)>) -> Result<M, ConvertFault>
 where

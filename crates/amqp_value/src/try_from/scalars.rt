@@ -1,4 +1,4 @@
-//! The content of a value of each scalar type. A value of another kind comes back as it was.
+//! Conversions to scalar types. A value of another type is returned unchanged as the error.
 
 ghost use Rattle.amqp_value.specs.Contents.{GivesBack};
 ghost use Rattle.amqp_value.specs.Contents as content;

@@ -8,7 +8,7 @@ index_mut-requires c =
     let below = place-inside equal c.args.key c.args.value c.args.entries.now.items c.in-Some.at (sym c.requires ∙ c.in-Some.is) in
     first_of (omega (arith, below), grind (arith, below))
 
--- a present key: the pair at its place takes the value
+-- For a present key, the value at its position is replaced.
 pub returns-in-Some : goal.returns-in-Some
 returns-in-Some c =
     let es = c.args.entries.now.items in
@@ -16,7 +16,7 @@ returns-in-Some c =
     ∙ ap (λ x. slice_set es c.in-Some.at (x.0, c.args.value)) c.index_mut.ensures.value
     ∙ set-place equal c.args.key c.args.value es c.in-Some.at c.index_mut.result.now (sym c.requires ∙ c.in-Some.is)
 
--- a new key: its pair goes last
+-- For a new key, its entry is appended.
 pub returns-in_ok-push-in-None : goal.returns-in_ok-push-in-None
 returns-in_ok-push-in-None c =
     let new = sym (new-last equal c.args.key c.args.value c.args.entries.now.items (sym c.requires ∙ c.in-None.is)) in

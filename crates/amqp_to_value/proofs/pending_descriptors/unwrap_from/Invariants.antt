@@ -4,7 +4,7 @@ use Rattle.amqp_value.specs.TreeOf.{tree_of}
 use Rattle.amqp_to_value.specs.PendingDescriptors.{descriptors_of, under_descriptors}
 use Rattle.amqp_to_value.proofs.pending_descriptors.unwrap_from.Given as goal
 
--- the value still stands in the rest, for which there is room
+-- The value is still inside the remaining descriptors, for which there is capacity.
 abbrev pub invariant-loop : goal.invariant-loop
 invariant-loop l =
     (ds : List Descriptor) (t : Tree) → l.count ≡ length ds → vec_len l.initial.stack + l.count ≤ vec_capacity l.initial.stack → tree_of l.initial.value ≡ under_descriptors ds t

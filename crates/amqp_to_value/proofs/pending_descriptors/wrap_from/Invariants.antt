@@ -3,7 +3,7 @@ use Rattle.amqp_value.specs.TreeOf.{tree_of}
 use Rattle.amqp_to_value.specs.PendingDescriptors.{descriptors_of, under_descriptors}
 use Rattle.amqp_to_value.proofs.pending_descriptors.wrap_from.Given as goal
 
--- the value in those that are left is the same as at first
+-- The value inside the remaining descriptors is the same as at the start.
 abbrev pub invariant-loop-stack : goal.invariant-loop-stack
 invariant-loop-stack l =
     (take l.first l.stack.items ≡ take l.first l.initial.stack.items) × (vec_capacity l.stack ≡ vec_capacity l.initial.stack)

@@ -3,6 +3,6 @@ use Rattle.std.specs.Fmt.{IsPlainFormatter, HasWritten}
 use Rattle.amqp_value.specs.Text.{string_escaped}
 use Rattle.amqp_value.proofs.escape.escape_all.Given as goal
 
--- the characters so far are written
+-- The characters so far are written.
 abbrev pub invariant-loop-c : goal.invariant-loop-c
 invariant-loop-c g l = IsPlainFormatter l.initial.f → HasWritten g.W.Write.write_str_gives l.initial.f (flat_map string_escaped l.yielded) l.f

@@ -4,7 +4,7 @@ use Rattle.amqp_value.specs.TreeOf.{all_of, pairs_trees}
 use Rattle.amqp_value.specs.Text.{items_text, pairs_text}
 use Rattle.amqp_value.proofs.show.+show.Given as goal
 
--- what is written, with the text of the items that are left, is the whole text
+-- The output and the text of the remaining items make the complete text.
 abbrev pub invariant-show_items-loop-index : goal.invariant-show_items-loop-index
 invariant-show_items-loop-index g l =
     IsPlainFormatter l.initial.f → (done : List ℕ) × HasWritten g.W.Write.write_str_gives l.initial.f done l.f
