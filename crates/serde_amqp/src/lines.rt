@@ -25,9 +25,9 @@ use std::str;
 /// Prints the length, the encoding and the text of the list of the input's lines.
 ///
 /// Reads all input. A line ends before each 0A, and the text after the last 0A is a line if it is
-/// not empty; 0D is kept. The output is three lines: `size ` and the length in decimal, `bytes ` and
-/// the encoding in lower-case hexadecimal, and `text ` and the text of the list, each followed by
-/// 0A. The writer is flushed at the end.
+/// not empty; 0D is kept. The output is three lines: `size ` and the length in decimal, `bytes `
+/// and the encoding in lower-case hexadecimal, and `text ` and the text of the list, each followed
+/// by 0A. The writer is flushed at the end.
 ///
 /// # Encoding
 ///
