@@ -79,8 +79,8 @@ fn described_with_refusals<S: amqp_ser::Serializer>(
     Ok((fields.end()?, descriptor && again && second))
 }
 
-// Serializes a described value in which a compound of kind `Single` fails on a second value. Then
-// the value is serialized.
+// Serializes a described value whose first value, a compound of kind `Single`, fails at its second
+// element. Then another value is serialized.
 fn refuse_late<S: amqp_ser::Serializer>(serializer: &mut S) -> Result<S::Ok, S::Error> {
     let mut outer = serializer.begin(Kind::Single);
     serializer.begin_descriptor(&mut outer);
