@@ -1,3 +1,3 @@
--- The trees of the types that are built at random rest on both.
+-- The tree of a node is defined by both modules.
 pub mod Fed
 pub mod TreeOf

@@ -1,4 +1,5 @@
-//! Transparent vectors, which are writable only at the root, and enums with the names of markers.
+//! Transparent vectors, which are writable only at the root or directly inside one there, and enums
+//! with the names of markers.
 
 ghost use Rattle.std.specs.Prelude.{None, Some};
 ghost use Rattle.amqp_ser.specs.Tree.{scalar, ubyte};
