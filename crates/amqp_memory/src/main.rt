@@ -1,9 +1,10 @@
 //! Makes the calls that allocate, and prints a line after each.
 //!
-//! `tools/memory` runs this program once for each allocation, with that allocation failing: the
-//! call that allocates must return `OutOfMemory`, and the program must end with status 1. Any other
-//! result is visible as different output. The first argument selects one part: `calls`, `lengths`,
-//! `deep`, `large`, or `none`, whose calls do not allocate.
+//! `tools/memory` runs the part `calls` once for each of its allocations, with that allocation
+//! failing. The call that allocates must return `OutOfMemory`, and the program must end with status
+//! 1, unless the failed call is repeated. Any other result is visible as different output. The
+//! first argument selects one part: `calls`, `lengths`, `deep`, `large`, or `none`, whose calls do
+//! not allocate.
 //!
 //! Each public call that allocates is in this table, next to the line that is printed after it;
 //! `tools/memory` checks that none is missing.

@@ -1,3 +1,3 @@
--- The tree of a node is defined by both modules.
+-- These two modules define the tree of a node.
 pub mod Fed
 pub mod TreeOf

@@ -53,7 +53,7 @@ pub struct Fed<T> {
     pub third: T,
 }
 
-/// Returns the marker name of a mark.
+/// Returns the newtype name for a marker.
 fn name_of(mark: Mark) -> &'static str
     ensures { mark_of result.now ≡ mark }
 {

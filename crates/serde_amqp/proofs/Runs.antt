@@ -103,7 +103,7 @@ module _ (some_cut : (s : List ℕ) → (frames : List (List ℕ)) × (rest : Li
   run-refused (Some s) None w v u n e p h = absurd p.3
   run-refused (Some s) (Some t) w v u n e p h = step-refused s t w v u n e p h
 
-  -- A run of 2 ^ 64 - 1 encoded values ends with `TooLong` or with an I/O error.
+  -- After 2 ^ 64 - 1 encoded values, `TooLong` and an I/O error are errors of the run.
   at-most : (s t : List ℕ) (w v u : Option (List ℕ)) (e : Error) → Progress (Some s) (Some t) w v (2 ^ 64 - 1) → Keeps v u → (e ≡ TooLong → t ≢ []) → (e ≡ TooLong) ⊎ (e ≡ Io) → CutRefuses s w u e
   at-most s t w v u e (frames, size, each, read, put) kept more (inl m) =
       rw m (frames, t, size, each, read, more m, Appends-kept w v u _ put kept)

@@ -1,4 +1,4 @@
-//! Laws about the definitions. Calling a function proves its law to the caller.
+//! Laws about the definitions. Calling a function makes its law available to the caller.
 
 ghost use Rattle.std.specs.Prelude.{◌≡◌, ◌≤◌, ℕ, List, Some, true};
 ghost use Rattle.amqp_data.specs.declared.error.Error.{Error};

@@ -19,7 +19,7 @@ pub trait Write {
     /// The bytes taken so far, if the writer knows them.
     ghost written: { Self → Option (List ℕ) };
 
-    /// Number of failed writes.
+    /// Number of failures so far.
     ghost failures: { Self → ℕ };
 
     /// Further law on the failure count, if the clauses do not say all of it: relates whether the

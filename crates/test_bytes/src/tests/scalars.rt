@@ -256,7 +256,7 @@ fn wrong_lengths(rt: &HostRuntime) -> bool {
     )
 }
 
-/// Returns whether three values that allocate compare by their content.
+/// Returns whether three values were built and compare by their content.
 fn built<T: Ord + Hash + Drop>(
     rt: &HostRuntime,
     name: &str,

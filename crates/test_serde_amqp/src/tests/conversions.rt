@@ -26,7 +26,7 @@ where
     imaged(rt, value, &scalar, value) && converted(rt, scalar, value)
 }
 
-// Like `scalar`, for a scalar that allocates.
+// Like `scalar`, for a scalar whose allocation may have failed.
 fn scalar_of<T>(rt: &HostRuntime, content: Option<T>, value: &str) -> bool
 where
     T: Serialize + Into<Value> + Drop,

@@ -127,7 +127,7 @@ fn comes_back<T: Serialize + Drop>(rt: &HostRuntime, value: T, text: &str) -> bo
     }
 }
 
-// Like `comes_back`, for a value that allocates.
+// Like `comes_back`, for a value whose allocation may have failed.
 fn comes_back_of<T: Serialize + Drop>(rt: &HostRuntime, value: Option<T>, text: &str) -> bool {
     match value {
         Some(value) => comes_back(rt, value, text),

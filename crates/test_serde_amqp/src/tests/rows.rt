@@ -108,7 +108,7 @@ pub fn imaged<T: Serialize>(rt: &HostRuntime, name: &str, value: &T, image: &str
     is_value(rt, name, to_value(rt.alloc(), value), image)
 }
 
-/// Like `imaged`, for a value that allocates.
+/// Like `imaged`, for a value whose allocation may have failed.
 pub fn imaged_of<T: Serialize + Drop>(
     rt: &HostRuntime,
     name: &str,
@@ -132,7 +132,7 @@ pub fn row<T: Serialize>(
     written(rt, name, value, bytes) && imaged(rt, name, value, image)
 }
 
-/// Like `row`, for a value that allocates.
+/// Like `row`, for a value whose allocation may have failed.
 pub fn row_of<T: Serialize + Drop>(
     rt: &HostRuntime,
     name: &str,
@@ -151,7 +151,7 @@ pub fn own_image(rt: &HostRuntime, name: &str, value: &Value, bytes: &str) -> bo
     written(rt, name, value, bytes) && has_image(rt, name, value, value)
 }
 
-/// Like `own_image`, for a value that allocates.
+/// Like `own_image`, for a value whose allocation may have failed.
 pub fn own_image_of(rt: &HostRuntime, name: &str, value: Option<Value>, bytes: &str) -> bool {
     match value {
         Some(value) => own_image(rt, name, &value, bytes),
@@ -186,7 +186,7 @@ pub fn begins<T: Serialize>(
         }
 }
 
-/// Like `begins`, for a value that allocates.
+/// Like `begins`, for a value whose allocation may have failed.
 pub fn begins_of<T: Serialize + Drop>(
     rt: &HostRuntime,
     name: &str,
@@ -228,7 +228,7 @@ pub fn refused<T: Serialize>(rt: &HostRuntime, name: &str, value: &T) -> bool {
         && shows(rt, name, &to_vec(rt.alloc(), value), "Err(InvalidValue)")
 }
 
-/// Like `refused`, for a value that allocates.
+/// Like `refused`, for a value whose allocation may have failed.
 pub fn refused_of<T: Serialize + Drop>(rt: &HostRuntime, name: &str, value: Option<T>) -> bool {
     match value {
         Some(value) => refused(rt, name, &value),
