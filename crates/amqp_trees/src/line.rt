@@ -18,8 +18,8 @@ use std::alloc::Global;
 /// `decode_value`, the text and the bytes of the image, whether decoding the bytes returns the
 /// image, and whether `from_value` returns it.
 ///
-/// A result is `=` if it equals the bytes or the image, and the text of the error in angle brackets
-/// if the call fails.
+/// A result that is compared with the bytes or the image is `=` or `other`. If a call fails, its
+/// field is the text of the error in angle brackets.
 pub fn line(alloc: Global, grown: &Grown) -> Result<String, Error> {
     let mut line = String::new(alloc);
     line.push_str(&grown.text)?;

@@ -8,7 +8,7 @@ pub fn is<T: Debug + PartialEq>(rt: &HostRuntime, name: &str, got: &T, expected:
     *got == *expected || wrong(rt, name, got)
 }
 
-/// Whether a call succeeded with the expected result.
+/// Returns whether a call succeeded with the expected result.
 pub fn gives<T: Debug + PartialEq>(
     rt: &HostRuntime,
     name: &str,
@@ -21,7 +21,7 @@ pub fn gives<T: Debug + PartialEq>(
     }
 }
 
-/// Whether a call failed with the expected error.
+/// Returns whether a call failed with the expected error.
 pub fn fails<T: Debug>(
     rt: &HostRuntime,
     name: &str,
@@ -34,7 +34,7 @@ pub fn fails<T: Debug>(
     }
 }
 
-/// Whether a call failed with `Error::InvalidValue`.
+/// Returns whether a call failed with `Error::InvalidValue`.
 pub fn invalid<T: Debug>(rt: &HostRuntime, name: &str, got: &Result<T, Error>) -> bool {
     fails(rt, name, got, &Error::InvalidValue)
 }
