@@ -1,4 +1,4 @@
-//! The accessors of what a value holds, one call at a time, with what they must answer.
+//! Calls of the accessors to the content of a value, one at a time, compared with expected results.
 
 ghost use Rattle.std.specs.Prelude.{◌≡◌};
 ghost use Rattle.amqp_de.specs.Events.{visit_of};
@@ -16,13 +16,13 @@ use amqp_value::Value;
 use std::alloc::Global;
 use std::marker::PhantomData;
 
-// A number in a box of its own.
+// A boxed number.
 type Boxed = Box<u32>;
 
 /// Makes each call once.
 ///
 /// # Errors
-/// `OutOfMemory` where a request for memory is refused; any other is a wrong answer.
+/// Returns `OutOfMemory` if an allocation fails; any other error is a wrong result.
 pub fn all(alloc: Global) -> Result<bool, Error> {
     Ok(elements(alloc)? && keys(alloc)? && entries(alloc)? && variants(alloc)? && written(alloc)?)
 }
@@ -79,7 +79,7 @@ fn is_pair(read: Option<(Boxed, Boxed)>, key: u32, value: u32) -> bool {
     read.is_some_and(|(k, v)| *k == key && *v == value)
 }
 
-// The variant of the index 1 with the number 13.
+// Returns the variant with index 1 and the number 13.
 fn variant(alloc: Global) -> EnumAccessOf<Deserializer> {
     let index = Deserializer::new(alloc, Value::Uint(1));
     EnumAccessOf::new(index, Some(Deserializer::new(alloc, Value::Uint(13))))
@@ -100,7 +100,7 @@ fn is_variant_by_seed<A: Enum>(alloc: Global, access: A) -> Result<bool, A::Erro
     Ok(*index == 1 && *value == 13)
 }
 
-/// Takes the bytes of a lazy value.
+/// Visitor that accepts the bytes of a lazy value.
 #[derive(Drop)]
 struct Bytes;
 
@@ -144,10 +144,10 @@ fn is_newtype<D: Reads>(deserializer: D) -> Result<bool, D::Error> {
     Ok(matches!(read, Visit::Plain))
 }
 
-/// Reads 262,144 elements one by one, and 1,024 pairs of a kibibyte each.
+/// Reads 262,144 elements one at a time, and 1,024 pairs of a kibibyte each.
 ///
 /// # Errors
-/// `OutOfMemory` where a request for memory is refused; any other is a wrong answer.
+/// Returns `OutOfMemory` if an allocation fails; any other error is a wrong result.
 pub fn large(alloc: Global) -> Result<bool, Error> {
     Ok(many_elements(alloc)? && many_entries(alloc)?)
 }

@@ -1,4 +1,4 @@
-//! A value that feeds an element again where it was refused.
+//! A value that serializes an element again if that fails.
 
 ghost use Rattle.std.specs.Prelude.{[], ◌∷◌};
 ghost use Rattle.amqp_ser.specs.Compounds.{whole};
@@ -6,7 +6,7 @@ ghost use Rattle.amqp_ser.specs.declared.kind.Kind.TheVariants.{List};
 
 use amqp_ser::{Serialize, Serializer};
 
-/// A list of one element, which is fed a second time where it was refused.
+/// A list of one element, which is serialized a second time if the first attempt fails.
 #[derive(Drop)]
 pub struct Again<T>(pub T);
 

@@ -1,4 +1,4 @@
-//! The main calls that take memory, with what they must answer.
+//! The main calls that allocate, compared with expected results.
 
 use crate::again::Again;
 use crate::report::report;
@@ -13,7 +13,7 @@ use std::alloc::Global;
 /// Makes each call once.
 ///
 /// # Errors
-/// `OutOfMemory` where a request for memory is refused; any other is a wrong answer.
+/// Returns `OutOfMemory` if an allocation fails; any other error is a wrong result.
 pub fn all(rt: &(impl Print + AllocGlobal)) -> Result<(), Error> {
     let alloc = rt.alloc();
     report(rt, "names", names(alloc)?);
@@ -53,7 +53,7 @@ fn maps(alloc: Global) -> Result<bool, Error> {
     Ok(first.is_none() && second.is_none() && third == Some(true) && map.len() == 2)
 }
 
-/// Arrays within a list: more compounds than the table can first hold.
+/// Returns a list of arrays: more compounds than the initial capacity of the table.
 fn nested(alloc: Global) -> Result<Value, Error> {
     let mut lists = Vec::new(alloc);
     for number in 0u8..12 {
@@ -78,7 +78,7 @@ fn fed_again(alloc: Global) -> Result<bool, Error> {
     )
 }
 
-/// Five lists within one another: the table's growth is refused within the element that is fed
+/// Serializes five nested lists: growing the table fails inside the element that is serialized
 /// again.
 fn lists_fed_again(alloc: Global) -> Result<bool, Error> {
     let expected =

@@ -1,5 +1,5 @@
-//! Arrays of lists, and composites that are lists and maps: headers of more than one compound,
-//! filled at their ends.
+//! Arrays of lists, and composites as lists and maps: several headers, each written when its
+//! compound ends.
 
 ghost use Rattle.std.specs.Prelude.{◌∷◌, [], Some, codes};
 ghost use Rattle.amqp_ser.specs.Composites.{as_described};
@@ -12,7 +12,7 @@ use amqp_data::{Array, Error, OrderedMap, Symbol, markers};
 use amqp_ser::{ListOf, MapOf, Serialize, Serializer, fields};
 use std::alloc::Global;
 
-/// A composite of a truth value and a number, as a list.
+/// A composite of a bool and a number, as a list.
 #[derive(Drop)]
 struct AsList(bool, i32);
 
@@ -27,7 +27,7 @@ impl Serialize for AsList {
     }
 }
 
-/// The same as a map.
+/// A composite of a bool and a number, as a map.
 #[derive(Drop)]
 struct AsMap(bool, i32);
 
@@ -43,7 +43,7 @@ impl Serialize for AsMap {
     }
 }
 
-/// A basic composite around a map from symbols to ints.
+/// A basic composite that contains a map from symbols to ints.
 #[derive(Drop)]
 struct Basic(OrderedMap<Symbol, i32>);
 
@@ -62,7 +62,7 @@ impl Serialize for Basic {
 /// Makes each call once.
 ///
 /// # Errors
-/// `OutOfMemory` where a request for memory is refused; any other is a wrong answer.
+/// Returns `OutOfMemory` if an allocation fails; any other error is a wrong result.
 pub fn all(rt: &(impl Print + AllocGlobal)) -> Result<(), Error> {
     let alloc = rt.alloc();
     report(rt, "an array of lists", array_of_lists(alloc)?);

@@ -1,5 +1,5 @@
-//! The conversions that take memory, each once, with what they must answer; and each with about a
-//! mebibyte.
+//! The conversions that allocate, each once and once more with about a mebibyte, compared with
+//! expected results.
 
 use crate::large::MEBIBYTE;
 use amqp_data::{Array, ByteBuf, Described, Descriptor, Error, OrderedMap};
@@ -12,7 +12,7 @@ use std::str;
 /// Makes each conversion once.
 ///
 /// # Errors
-/// `OutOfMemory` where a request for memory is refused; any other is a wrong answer.
+/// Returns `OutOfMemory` if an allocation fails; any other error is a wrong result.
 pub fn all(alloc: Global) -> Result<bool, Error> {
     Ok(parts(alloc)? && lists(alloc)? && maps(alloc)? && hashed(alloc)? && indexed(alloc)?)
 }
@@ -60,7 +60,7 @@ fn maps(alloc: Global) -> Result<bool, Error> {
     Ok(sorted.len() == 2 && sorted.get(&1) == Some(&true))
 }
 
-// The untyped map from 1 to true.
+// Returns the untyped map from 1 to true.
 fn pair(alloc: Global) -> Result<Value, Error> {
     let mut pairs = OrderedMap::new(alloc);
     drop(pairs.insert(1u8, true)?);
@@ -77,10 +77,10 @@ fn indexed(alloc: Global) -> Result<bool, Error> {
     Ok(indexed.get(&1) == Some(&true))
 }
 
-/// Makes each conversion with about a mebibyte.
+/// Makes each conversion with about a mebibyte of data.
 ///
 /// # Errors
-/// `OutOfMemory` where a request for memory is refused; any other is a wrong answer.
+/// Returns `OutOfMemory` if an allocation fails; any other error is a wrong result.
 pub fn large(alloc: Global) -> Result<bool, Error> {
     let parts = long_text(alloc)? && long_described(alloc)?;
     let maps = large_maps(alloc)? && large_hashed(alloc)? && large_indexed(alloc)?;
@@ -109,7 +109,7 @@ fn is_binary(value: &Value, len: usize) -> bool {
     matches!(value, Value::Binary(bytes) if bytes.as_inner().len() == len)
 }
 
-// Numbers of a mebibyte, there and back.
+// Converts numbers of a mebibyte to a value and back.
 fn long_lists(alloc: Global) -> Result<bool, Error> {
     let numbers = Vec::from_elem(alloc, 7u32, 262_144)?;
     let value = Value::try_from_vec(alloc, numbers)?;
@@ -119,10 +119,10 @@ fn long_lists(alloc: Global) -> Result<bool, Error> {
     Ok(array.as_inner().len() == 262_144 && array.as_inner().iter().all(|number| *number == 7))
 }
 
-/// The map of 1,024 pairs of a kibibyte each.
+/// Returns a map of 1,024 pairs of a kibibyte each.
 ///
 /// # Errors
-/// `OutOfMemory` where a request for memory is refused; any other is a wrong answer.
+/// Returns `OutOfMemory` if an allocation fails; any other error is a wrong result.
 pub fn pairs(alloc: Global) -> Result<BTreeMap<u16, ByteBuf>, Error> {
     let mut pairs = BTreeMap::new(alloc);
     for key in 0..1024u16 {

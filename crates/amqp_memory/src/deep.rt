@@ -1,6 +1,7 @@
-//! Deep and wide encoded values, as an enemy would send them: what is deeper than 256 levels is
-//! refused, and what is read takes no request for much more than its bytes, also where each request
-//! for more is refused.
+//! Deep and wide encoded values, as an attacker would send them.
+//!
+//! Values deeper than 256 levels are rejected. Reading a value makes no allocation much larger than
+//! its bytes, and succeeds while larger allocations fail.
 
 use crate::large::MEBIBYTE;
 use crate::report::report;
@@ -12,7 +13,7 @@ use std::alloc::{AllocError, Global};
 /// Makes each call once.
 ///
 /// # Errors
-/// `OutOfMemory` where a request for memory is refused; any other is a wrong answer.
+/// Returns `OutOfMemory` if an allocation fails; any other error is a wrong result.
 pub fn all(rt: &(impl Print + AllocGlobal)) -> Result<(), Error> {
     let alloc = rt.alloc();
     report(rt, "a list 100,000 deep", deep_list(alloc)?);
@@ -26,7 +27,7 @@ fn deep_list(alloc: Global) -> Result<bool, Error> {
     is_invalid(decode_value(alloc, &bytes))
 }
 
-// 255 arrays around a binary are read, and 256 are not.
+// Reads 255 arrays around a binary; 256 are rejected.
 fn within_arrays(alloc: Global) -> Result<bool, Error> {
     let bytes = nested_arrays(alloc, 255)?;
     let read = decode_value(alloc, &bytes)?;
@@ -34,7 +35,7 @@ fn within_arrays(alloc: Global) -> Result<bool, Error> {
     Ok(read.format_code() == 0xf0 && is_invalid(decode_value(alloc, &deeper))?)
 }
 
-// 262,000 arrays of the ubyte 7, side by side.
+// Reads an array of 262,000 arrays, each of the ubyte 7.
 fn of_arrays(alloc: Global) -> Result<bool, Error> {
     let mut bytes = vec![in alloc; 0xf0, 0, 0x0f, 0xfd, 0xc5, 0, 3, 0xff, 0x70, 0xe0]?;
     for _ in 0..262_000u32 {
@@ -44,7 +45,7 @@ fn of_arrays(alloc: Global) -> Result<bool, Error> {
     Ok(matches!(&read, Value::Array(arrays) if arrays.as_inner().len() == 262_000))
 }
 
-// Whether the answer is invalid; out of memory is passed on.
+// Returns whether the result is `InvalidValue`; `OutOfMemory` is returned as an error.
 fn is_invalid(answer: Result<Value, Error>) -> Result<bool, Error> {
     match answer {
         Err(Error::InvalidValue) => Ok(true),
@@ -53,7 +54,7 @@ fn is_invalid(answer: Result<Value, Error>) -> Result<bool, Error> {
     }
 }
 
-// The empty list inside so many lists, each spelled with sizes of four bytes.
+// Returns the empty list inside `depth` lists, each with four-byte sizes.
 fn nested_lists(alloc: Global, depth: u32) -> Result<Vec<u8>, AllocError> {
     let mut bytes = Vec::new(alloc);
     for outer in 0..depth {
@@ -66,7 +67,7 @@ fn nested_lists(alloc: Global, depth: u32) -> Result<Vec<u8>, AllocError> {
     Ok(bytes)
 }
 
-// A binary of a mebibyte inside so many arrays of one element.
+// Returns a binary of a mebibyte inside `depth` arrays of one element.
 fn nested_arrays(alloc: Global, depth: u32) -> Result<Vec<u8>, AllocError> {
     let len = 1_048_576u32;
     let mut bytes = vec![in alloc; 0xf0]?;
@@ -80,7 +81,7 @@ fn nested_arrays(alloc: Global, depth: u32) -> Result<Vec<u8>, AllocError> {
     Ok(bytes)
 }
 
-// The size of an array, its count of one and the code of its element.
+// Appends the size of an array, its count of one and the code of its element.
 fn put_header(bytes: &mut Vec<u8>, size: u32, code: u8) -> Result<(), AllocError> {
     bytes.extend_from_slice(&size.to_be_bytes())?;
     bytes.extend_from_slice(&[0, 0, 0, 1, code])

@@ -1,4 +1,4 @@
-//! The calls that take memory, each with about a mebibyte.
+//! The calls that allocate, each with about a mebibyte of data.
 
 use crate::report::report;
 use crate::{accessors, conversions, own_types, reading, serializer, written};
@@ -14,13 +14,13 @@ use std::alloc::Global;
 use std::collections::BTreeMap;
 use std::str;
 
-/// How much each call is made with, about.
+/// Approximate size of the data of each call, in bytes.
 pub const MEBIBYTE: usize = 1 << 20;
 
 /// Makes each call once.
 ///
 /// # Errors
-/// `OutOfMemory` where a request for memory is refused; any other is a wrong answer.
+/// Returns `OutOfMemory` if an allocation fails; any other error is a wrong result.
 pub fn all(rt: &(impl Print + AllocGlobal)) -> Result<(), Error> {
     let alloc = rt.alloc();
     report(rt, "a long name", name(alloc)?);
@@ -87,7 +87,7 @@ fn is_made_again(alloc: Global, binary: ByteBuf) -> Result<bool, Error> {
     Ok(Value::try_from_serializable(alloc, &image)? == Value::Binary(binary))
 }
 
-// More than a mebibyte of headers, and of values.
+// More than a mebibyte of headers and of values.
 fn compounds(alloc: Global) -> Result<bool, Error> {
     let lists = Array::from(Vec::from_elem(alloc, (1u8,), 100_000)?);
     let header: &[u8] = &[0xf0, 0, 0x0f, 0x42, 0x45, 0, 1, 0x86, 0xa0, 0xd0];
@@ -102,7 +102,7 @@ fn keys(alloc: Global) -> Result<bool, Error> {
     Ok(written::are_equal(alloc, &map)? && descending_keys(alloc)?)
 }
 
-// Keys that do not ascend: their places take memory too.
+// Keys in descending order, for which the table of positions is allocated too.
 fn descending_keys(alloc: Global) -> Result<bool, Error> {
     let mut map = OrderedMap::new(alloc);
     for key in 0..4_000u16 {
@@ -111,7 +111,7 @@ fn descending_keys(alloc: Global) -> Result<bool, Error> {
     written::are_equal(alloc, &map)
 }
 
-// The encoded value of a binary of a mebibyte.
+// Returns an encoded binary of a mebibyte.
 fn long_frame(alloc: Global) -> Result<Vec<u8>, Error> {
     let payload = Vec::from_elem(alloc, 1u8, MEBIBYTE)?;
     let mut frame = Vec::new(alloc);
@@ -131,8 +131,8 @@ fn decoded(alloc: Global) -> Result<bool, Error> {
     written::is(alloc, &decode_value(alloc, &bytes)?, &bytes)
 }
 
-// A binary of a mebibyte where no element without bytes is granted, and as many nulls as take a
-// mebibyte, where all are granted and where one less is.
+// Decodes a binary of a mebibyte with a limit of 0 elements without bytes, and nulls whose values
+// occupy a mebibyte with a limit of their number and of one less.
 fn within(alloc: Global) -> Result<bool, Error> {
     let bytes = long_frame(alloc)?;
     let value = decode_value_within(alloc, &bytes, 0)?;
@@ -146,7 +146,7 @@ fn nulls(alloc: Global) -> Result<bool, Error> {
     Ok(all && own_types::is_out_of_memory(alloc, nulls, 32_767))
 }
 
-// An array of numbers of a mebibyte, decoded, and read as numbers.
+// Decodes an array of numbers of a mebibyte, and reads it as numbers.
 fn read(alloc: Global) -> Result<bool, Error> {
     let numbers = Array::from(Vec::from_elem(alloc, 7u32, 262_144)?);
     let bytes = to_vec(alloc, &numbers)?;

@@ -1,5 +1,5 @@
-//! Lazy values: their bytes are read into untyped values, and untyped values are read as lazy ones,
-//! each once, with what they must answer.
+//! Lazy values: their bytes are decoded into untyped values, and untyped values are read as lazy
+//! values, each once, compared with expected results.
 
 use crate::reading::LIST;
 use amqp_data::{Array, Error, OrderedMap};
@@ -9,10 +9,10 @@ use amqp_to_value::to_value;
 use amqp_wire::to_vec;
 use std::alloc::Global;
 
-/// Reads lazy values that stand in a list, a map and an array, and what is inside them.
+/// Reads lazy values in a list, a map and an array, and their content.
 ///
 /// # Errors
-/// `OutOfMemory` where a request for memory is refused; any other is a wrong answer.
+/// Returns `OutOfMemory` if an allocation fails; any other error is a wrong result.
 pub fn all(alloc: Global) -> Result<bool, Error> {
     Ok(in_a_list(alloc)? && in_a_map(alloc)? && in_an_array(alloc)?)
 }
@@ -21,8 +21,8 @@ fn lazy(alloc: Global, bytes: &[u8]) -> Result<LazyValue, Error> {
     LazyValue::from_reader(alloc, &mut SliceReader::new(bytes))
 }
 
-// A list with an array and a map inside, spelled whole, and a number that is spelled longer than it
-// is written.
+// A list that contains an array and a map, encoded as `to_vec` does, and a number with a longer
+// encoding than that of `to_vec`.
 fn in_a_list(alloc: Global) -> Result<bool, Error> {
     let held = vec![in alloc; lazy(alloc, LIST)?, lazy(alloc, b"\x70\0\0\0\0")?]?;
     let image = to_value(alloc, &held)?;
@@ -33,7 +33,7 @@ fn in_a_list(alloc: Global) -> Result<bool, Error> {
     Ok(read && whole && bytes.len() == 49 && bytes.ends_with(b"\x43"))
 }
 
-// A map, as the value of a key that is lazy too.
+// A lazy map, as the value of a lazy key.
 fn in_a_map(alloc: Global) -> Result<bool, Error> {
     let mut held = OrderedMap::new(alloc);
     let value = lazy(alloc, b"\xc1\x07\x02\xa3\x01k\xa1\x01a")?;
@@ -45,7 +45,7 @@ fn in_a_map(alloc: Global) -> Result<bool, Error> {
     Ok(parts == held && bytes.as_slice() == expected)
 }
 
-// Two arrays.
+// Two lazy arrays in an array.
 fn in_an_array(alloc: Global) -> Result<bool, Error> {
     let bytes = b"\xe0\x07\x01\xb1\0\0\0\x01a";
     let held = Array::from(vec![in alloc; lazy(alloc, bytes)?, lazy(alloc, b"\xe0\x02\0\x40")?]?);

@@ -1,6 +1,8 @@
-//! False lengths and counts: encoded values that claim four gigabytes, or as many elements, and
-//! end. They take no more memory than their bytes ask for, so the answer is the end of the input,
-//! also where each request for much at once is refused.
+//! False lengths and counts: encoded values that claim four gigabytes, or as many elements, and end
+//! early.
+//!
+//! Reading them allocates no more than their bytes require, so the error is the end of the input,
+//! also while each large allocation fails.
 
 use crate::report::report;
 use amqp_data::Error;
@@ -8,7 +10,7 @@ use amqp_decode::decode_value;
 use amqp_frame::{LazyValue, SliceReader};
 use serde_amqp::{VecWriter, run_cut};
 
-// Encoded values of all forms with a size of four bytes, which are cut short.
+// Truncated encoded values of all forms with a size of four bytes.
 const FRAMES: [&[u8]; 9] = [
     b"\xb0\xff\xff\xff\xff",
     b"\xb0\xff\xff\xff\xff\x61\x62\x63",
@@ -21,8 +23,8 @@ const FRAMES: [&[u8]; 9] = [
     b"\x00\x40\xf0\x7f\xff\xff\xff",
 ];
 
-// A list, an array and a map whose sizes are right, and which count elements up to the largest
-// number; the payload ends after the first, or after the first pair.
+// A list, an array and a map with correct sizes and counts up to the largest number; the payload
+// ends after the first element or pair.
 const COUNTS: [&[u8]; 3] = [
     b"\xd0\x00\x00\x00\x05\xff\xff\xff\xff\x40",
     b"\xf0\x00\x00\x00\x06\xff\xff\xff\xff\x50\x01",
@@ -32,7 +34,7 @@ const COUNTS: [&[u8]; 3] = [
 /// Makes each call once.
 ///
 /// # Errors
-/// `OutOfMemory` where a request for memory is refused; any other is a wrong answer.
+/// Returns `OutOfMemory` if an allocation fails; any other error is a wrong result.
 pub fn all(rt: &(impl Print + AllocGlobal)) -> Result<(), Error> {
     for frame in FRAMES {
         report(rt, "a false length", is_end(taken(rt, frame))?);
@@ -64,7 +66,7 @@ fn decoded(rt: &impl AllocGlobal, bytes: &[u8]) -> Result<(), Error> {
     Ok(())
 }
 
-// Whether the answer is the end of the input; out of memory is passed on.
+// Returns whether the result is `UnexpectedEof`; `OutOfMemory` is returned as an error.
 fn is_end(answer: Result<(), Error>) -> Result<bool, Error> {
     match answer {
         Err(Error::UnexpectedEof) => Ok(true),

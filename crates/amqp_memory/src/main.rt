@@ -1,12 +1,13 @@
-//! Makes the calls that take memory, and prints what was done.
+//! Makes the calls that allocate, and prints a line after each.
 //!
-//! It is run once for each request for memory, with that request refused: the call that asked must
-//! answer out of memory, and the program then ends with status 1. Any other answer shows, as other
-//! output or another text. The first argument names one part alone: `calls`, `lengths`, `deep`,
-//! `large`, or `none`, whose calls take no memory.
+//! `tools/memory` runs the part `calls` once for each of its allocations, with that allocation
+//! failing. The call that allocates must return `OutOfMemory`, and the program must end with status
+//! 1, unless the failed call is repeated. Any other result is visible as different output. The
+//! first argument selects one part: `calls`, `lengths`, `deep`, `large`, or `none`, whose calls do
+//! not allocate.
 //!
-//! Each public call that takes memory stands in this table, with the line that is printed once it
-//! was made; `tools/memory` looks for others.
+//! Each public call that allocates is in this table, next to the line that is printed after it;
+//! `tools/memory` checks that none is missing.
 //!
 //! | Line | Calls |
 //! |---|---|
@@ -86,7 +87,7 @@ fn main(rt: HostRuntime) -> ExitCode {
     }
 }
 
-// Makes the calls of one part, or of all.
+// Makes the calls of one part, or of all if `part` is empty.
 fn make(rt: &(impl Print + AllocGlobal), part: &[u8]) -> Result<(), Error> {
     if part.is_empty() || part == b"calls".as_slice() {
         calls::all(rt)?;

@@ -1,4 +1,4 @@
-//! Types of one's own, which are read out of untyped values: each once, with what they must answer.
+//! User-defined types, read from untyped values, each once, compared with expected results.
 
 use crate::conversions::pairs;
 use crate::large::MEBIBYTE;
@@ -17,18 +17,18 @@ use std::str;
 /// Writes and reads each type once.
 ///
 /// # Errors
-/// `OutOfMemory` where a request for memory is refused; any other is a wrong answer.
+/// Returns `OutOfMemory` if an allocation fails; any other error is a wrong result.
 pub fn all(alloc: Global) -> Result<bool, Error> {
     let own = composites(alloc)? && fields(alloc)? && days(alloc)?;
     Ok(own && lists(alloc)? && maps(alloc)? && untyped(alloc)? && bounded(alloc)?)
 }
 
-// Whether the value is the same after it was written and read.
+// Returns whether the value round-trips.
 fn comes_back<T: Restore + PartialEq>(alloc: Global, value: &T) -> Result<bool, Error> {
     Ok(restored(alloc, value)? == *value)
 }
 
-// Whether the value is read from its image.
+// Returns whether the value is read from its image.
 fn is_read<T: Serialize + Deserialize + PartialEq>(
     alloc: Global,
     value: &T,
@@ -140,14 +140,14 @@ fn untyped(alloc: Global) -> Result<bool, Error> {
     Ok(is_read(alloc, &to_value(alloc, &inner)?)? && is_read(alloc, &inner)?)
 }
 
-// Three nulls, where three are granted and where they are not.
+// Decodes three nulls with a limit of 3 and of 2 elements without bytes.
 fn bounded(alloc: Global) -> Result<bool, Error> {
     let nulls = b"\xe0\x02\x03\x40";
     let granted = decode_value_within(alloc, nulls, 3)?;
     Ok(granted == decode_value(alloc, nulls)? && is_out_of_memory(alloc, nulls, 2))
 }
 
-/// Whether the bytes are out of memory where so many elements without bytes are granted.
+/// Returns whether decoding with this limit on elements without bytes fails with `OutOfMemory`.
 pub fn is_out_of_memory(alloc: Global, bytes: &[u8], elements: u32) -> bool {
     matches!(
         decode_value_within(alloc, bytes, elements),
@@ -158,16 +158,16 @@ pub fn is_out_of_memory(alloc: Global, bytes: &[u8], elements: u32) -> bool {
 /// Writes and reads values of about a mebibyte.
 ///
 /// # Errors
-/// `OutOfMemory` where a request for memory is refused; any other is a wrong answer.
+/// Returns `OutOfMemory` if an allocation fails; any other error is a wrong result.
 pub fn large(alloc: Global) -> Result<bool, Error> {
     let numbers = Vec::from_elem(alloc, 7u32, 262_144)?;
     Ok(comes_back(alloc, &numbers)? && comes_back(alloc, &pairs(alloc)?)?)
 }
 
-/// Writes and reads types of one's own with a text of a mebibyte, and with 20,000 pairs.
+/// Writes and reads user-defined types with a text of a mebibyte, and with 20,000 pairs.
 ///
 /// # Errors
-/// `OutOfMemory` where a request for memory is refused; any other is a wrong answer.
+/// Returns `OutOfMemory` if an allocation fails; any other error is a wrong result.
 pub fn large_composites(alloc: Global) -> Result<bool, Error> {
     let bytes = Vec::from_elem(alloc, b'a', MEBIBYTE)?;
     match str::from_utf8(&bytes) {

@@ -1,5 +1,5 @@
-//! The calls that read bytes and untyped values, each once, with what they must answer; and types
-//! of about a mebibyte.
+//! The calls that read bytes and untyped values, each once, compared with expected results; and
+//! types of about a mebibyte.
 
 use crate::conversions::pairs;
 use crate::written;
@@ -22,17 +22,18 @@ const MAP: &[u8] = b"\xc1\x0b\x04\x50\x01\xa1\x01a\x50\x02\xa1\x01b";
 // The list of the ubytes 1 to 5.
 const NUMBERS: &[u8] = b"\xc0\x0b\x05\x50\x01\x50\x02\x50\x03\x50\x04\x50\x05";
 
-// Keys that do not ascend, of which one comes twice: from 2 to 1, from 1 to 3, and from 2 to 4.
+// A map with keys not in ascending order, one of them twice: from 2 to 1, from 1 to 3, and from 2
+// to 4.
 const KEYS_IN_TURN: &[u8] = b"\xc1\x0d\x06\x50\x02\x50\x01\x50\x01\x50\x03\x50\x02\x50\x04";
 
-// The first of the equal keys keeps its place, and the last value stands: from 2 to 4 and from 1 to
-// 3.
+// The map after the duplicate is merged, which keeps the first position and the last value: from 2
+// to 4 and from 1 to 3.
 const KEYS_ONCE: &[u8] = b"\xc1\x09\x04\x50\x02\x50\x04\x50\x01\x50\x03";
 
-/// The value inside a frame of every kind that takes memory, and a map whose keys do not ascend.
+/// Decodes a value of every kind that allocates, and a map whose keys are not in ascending order.
 ///
 /// # Errors
-/// `OutOfMemory` where a request for memory is refused; any other is a wrong answer.
+/// Returns `OutOfMemory` if an allocation fails; any other error is a wrong result.
 pub fn decoded(alloc: Global) -> Result<bool, Error> {
     let value = decode_value(alloc, LIST)?;
     let starts = matches!(&value, Value::List(items) if items.len() == 6);
@@ -40,15 +41,15 @@ pub fn decoded(alloc: Global) -> Result<bool, Error> {
     Ok(starts && map && written::is(alloc, &value, LIST)?)
 }
 
-/// The types that take memory as they are read.
+/// Reads the types that allocate.
 ///
 /// # Errors
-/// `OutOfMemory` where a request for memory is refused; any other is a wrong answer.
+/// Returns `OutOfMemory` if an allocation fails; any other error is a wrong result.
 pub fn types(alloc: Global) -> Result<bool, Error> {
     Ok(lists(alloc)? && boxes(alloc)? && maps(alloc)?)
 }
 
-// The value that the bytes spell, as this type.
+// Decodes the bytes and reads the value as this type.
 fn read<T: Deserialize>(alloc: Global, bytes: &[u8]) -> Result<T, Error> {
     from_value(alloc, decode_value(alloc, bytes)?)
 }
@@ -81,10 +82,10 @@ fn maps(alloc: Global) -> Result<bool, Error> {
     Ok(sorted.len() == 2 && ordered.len() == 2 && hashed.len() == 2)
 }
 
-/// The types that take memory as they are read, each of about a mebibyte.
+/// Reads the types that allocate, each of about a mebibyte.
 ///
 /// # Errors
-/// `OutOfMemory` where a request for memory is refused; any other is a wrong answer.
+/// Returns `OutOfMemory` if an allocation fails; any other error is a wrong result.
 pub fn large_types(alloc: Global) -> Result<bool, Error> {
     Ok(large_lists(alloc)? && large_maps(alloc)?)
 }

@@ -1,5 +1,5 @@
-//! Many refused values on one serializer, which holds no more after them than after one: with each
-//! request for much at once refused, its answers are as ever.
+//! Many failing values on one serializer, which keeps no more memory after them than after one:
+//! with every large allocation failing, its results are the same.
 
 ghost use Rattle.std.specs.Prelude.{None};
 
@@ -10,7 +10,7 @@ use amqp_to_value::Serializer;
 use amqp_value::Value;
 use std::alloc::Global;
 
-/// A value without a tree: a number, marked as a symbol.
+/// A value without a tree: a number with the symbol marker.
 #[derive(Drop)]
 struct NoTree;
 
@@ -25,7 +25,7 @@ impl Serialize for NoTree {
 /// Makes each call 100,000 times.
 ///
 /// # Errors
-/// `OutOfMemory` where a request for memory is refused; any other is a wrong answer.
+/// Returns `OutOfMemory` if an allocation fails; any other error is a wrong result.
 pub fn all(rt: &(impl Print + AllocGlobal)) -> Result<(), Error> {
     let alloc = rt.alloc();
     report(
@@ -41,8 +41,8 @@ pub fn all(rt: &(impl Print + AllocGlobal)) -> Result<(), Error> {
     Ok(())
 }
 
-// Whether a described value that has no tree is refused each time, and a described value comes
-// right then.
+// Returns whether a described value without a tree fails each time, and a later described value is
+// serialized correctly.
 fn after_refusals<T: Serialize>(alloc: Global, value: &T) -> Result<bool, Error> {
     let mut serializer = Serializer::new(alloc);
     for _ in 0..100_000u32 {
@@ -60,7 +60,7 @@ fn after_refusals<T: Serialize>(alloc: Global, value: &T) -> Result<bool, Error>
     Ok(after_one(&mut serializer, &true)? == expected)
 }
 
-// The value after the descriptor 1.
+// Serializes the value after the descriptor 1.
 fn after_one<S: Calls, T: Serialize>(serializer: &mut S, value: &T) -> Result<S::Ok, S::Error> {
     serializer.serialize_described(&1u64, value)
 }

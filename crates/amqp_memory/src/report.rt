@@ -1,6 +1,6 @@
-//! What is printed of a call.
+//! Output of the program.
 
-/// Prints the name of a call whose answer was right.
+/// Prints the name of a call if its result was right, and `wrong` otherwise.
 pub fn report(rt: &impl Print, name: &str, right: bool) {
     let _ = if right {
         rt.println(name)

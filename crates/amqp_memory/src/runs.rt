@@ -1,4 +1,5 @@
-//! The two runs: what was put is a prefix of the output, also where they are out of memory.
+//! The two runs: the output written is a prefix of the complete output, also if an allocation
+//! fails.
 
 use crate::report::report;
 use amqp_data::Error;
@@ -9,7 +10,7 @@ use std::alloc::Global;
 /// Makes each run once.
 ///
 /// # Errors
-/// `OutOfMemory` where a request for memory is refused; any other is a wrong answer.
+/// Returns `OutOfMemory` if an allocation fails; any other error is a wrong result.
 pub fn all(rt: &(impl Print + AllocGlobal)) -> Result<(), Error> {
     let alloc = rt.alloc();
     report(rt, "a run over lines", lines(alloc)?);
@@ -17,7 +18,8 @@ pub fn all(rt: &(impl Print + AllocGlobal)) -> Result<(), Error> {
     Ok(())
 }
 
-// The run's answer, and whether it put what it was to put, or after a refusal a prefix of that.
+// Returns the error of the run, or whether it wrote `output`; false if it failed and did not write
+// a prefix of `output`.
 fn ended(answer: Result<(), Error>, writer: &VecWriter, output: &[u8]) -> Result<bool, Error> {
     if answer.is_err() && !output.starts_with(writer.as_slice()) {
         return Ok(false);

@@ -1,4 +1,4 @@
-//! The calls that take no memory: with every request refused they answer as ever.
+//! The calls that do not allocate: while every allocation fails, their results are the same.
 
 use crate::report::report;
 use amqp_calendar::civil_from_days;

@@ -1,4 +1,4 @@
-//! What is compared with the bytes of a value.
+//! Comparisons with the encoding of a value.
 
 use amqp_data::Error;
 use amqp_ser::Serialize;
@@ -6,19 +6,19 @@ use amqp_to_value::to_value;
 use amqp_wire::to_vec;
 use std::alloc::Global;
 
-/// Whether the value is written as these bytes.
+/// Returns whether these bytes are the encoding of the value.
 ///
 /// # Errors
-/// `OutOfMemory` where a request for memory is refused; any other is a wrong answer.
+/// Returns `OutOfMemory` if an allocation fails; any other error is a wrong result.
 pub fn is<T: Serialize>(alloc: Global, value: &T, bytes: &[u8]) -> Result<bool, Error> {
     let written = to_vec(alloc, value)?;
     Ok(written.as_slice() == bytes)
 }
 
-/// Whether the value is written as so many bytes, which begin so.
+/// Returns whether the encoding of the value has this length and begins with these bytes.
 ///
 /// # Errors
-/// `OutOfMemory` where a request for memory is refused; any other is a wrong answer.
+/// Returns `OutOfMemory` if an allocation fails; any other error is a wrong result.
 pub fn begins<T: Serialize>(
     alloc: Global,
     value: &T,
@@ -29,18 +29,18 @@ pub fn begins<T: Serialize>(
     Ok(written.starts_with(bytes) && written.len() == len)
 }
 
-/// Whether the value and its image are written as these bytes.
+/// Returns whether these bytes are the encoding of the value and of its image.
 ///
 /// # Errors
-/// `OutOfMemory` where a request for memory is refused; any other is a wrong answer.
+/// Returns `OutOfMemory` if an allocation fails; any other error is a wrong result.
 pub fn are<T: Serialize>(alloc: Global, value: &T, bytes: &[u8]) -> Result<bool, Error> {
     Ok(is(alloc, value, bytes)? && is(alloc, &to_value(alloc, value)?, bytes)?)
 }
 
-/// Whether the value's image is written as the value.
+/// Returns whether the image of the value has the same encoding as the value.
 ///
 /// # Errors
-/// `OutOfMemory` where a request for memory is refused; any other is a wrong answer.
+/// Returns `OutOfMemory` if an allocation fails; any other error is a wrong result.
 pub fn are_equal<T: Serialize>(alloc: Global, value: &T) -> Result<bool, Error> {
     let written = to_vec(alloc, value)?;
     is(alloc, &to_value(alloc, value)?, &written)

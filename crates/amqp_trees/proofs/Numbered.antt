@@ -1,4 +1,4 @@
--- What a map from numbers is serialized as, is the tree of its node.
+-- The tree of the map that a `Numbered` node serializes is the tree of the node.
 use Rattle.std.proofs.Common.{◌≡◌, ℕ, List, [], ◌∷◌, map, refl, sym, ap, ◌∙◌, rules}
 use Rattle.amqp_data.specs.Pairs.{entries_of}
 use Rattle.amqp_data.specs.declared.ordered_map.OrderedMap.{OrderedMap}

@@ -1,4 +1,4 @@
--- The trees of what is fed by hand: what was refused is no part of them.
+-- The trees of values built with explicit serializer calls; an element that failed is not included.
 use Rattle.std.specs.Prelude.{ℕ, List, [], ◌∷◌, Option, Some, None, codes}
 use Rattle.amqp_ser.specs.Tree.{Tree, scalar, string}
 use Rattle.amqp_ser.specs.Compounds.{whole}
@@ -14,7 +14,7 @@ entry k v = whole kind.Map (k ∷ v ∷ [])
 abbrev pub key : List ℕ → Option Tree
 key k = Some (scalar (string k))
 
--- the tree of three parts that are fed in this way
+-- The tree that is built from three trees in this way.
 abbrev pub fed : Way → Option Tree → Option Tree → Option Tree → Option Tree
 fed (way.Marked m) a b c = marked m a
 fed way.Described a b c = as_described (descriptor_of a) b

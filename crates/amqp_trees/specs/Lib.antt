@@ -1,3 +1,3 @@
--- The trees of the types that are built at random rest on both.
+-- These two modules define the tree of a node.
 pub mod Fed
 pub mod TreeOf

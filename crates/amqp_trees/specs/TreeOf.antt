@@ -1,4 +1,4 @@
--- The tree of a node, from those of its parts.
+-- The tree of a node, from the trees of its children.
 use Rattle.std.specs.Prelude.{ℕ, Option, Some}
 use Rattle.amqp_data.specs.Items.{array_items, transparent_items}
 use Rattle.amqp_data.specs.Pairs.{entries_of}
@@ -17,7 +17,7 @@ number n = Some (scalar (uint n))
 abbrev pub itself : Option Tree → Option Tree
 itself t = t
 
--- one level, where each part is its tree
+-- One level of the tree, with each child replaced by its tree.
 abbrev pub tree_step : Node-F (Option Tree) → Option Tree
 tree_step (Node-F.Value v) = Some (value.tree_of v)
 tree_step (Node-F.Lazy v) = Some (lazy v)

@@ -1,4 +1,4 @@
-//! Ways to feed three values by hand, misuses among them.
+//! Ways to serialize three values with explicit calls, including misuse.
 
 ghost use Rattle.std.specs.Prelude.{◌≡◌};
 ghost use Rattle.amqp_ser.specs.Marked.{mark_of};
@@ -7,32 +7,32 @@ use crate::{maps, structs};
 use amqp_data::markers;
 use amqp_ser::{Mark, Serialize, Serializer};
 
-/// What is made of three values, or of some of them.
+/// Way to combine three values, or some of them.
 #[derive(Clone, Copy)]
 pub enum Way {
-    /// The first under a marker.
+    /// The first value with a marker.
     Marked(Mark),
-    /// The second described by the first.
+    /// The second value, described by the first.
     Described,
-    /// The variant of the first.
+    /// The newtype variant of the first value.
     Newtype(u32),
     /// A newtype variant of the enum named `VALUE`.
     Bare,
     /// A newtype variant of the enum named `DESCRIPTOR`.
     Nameless,
-    /// The variant of the first two.
+    /// The tuple variant of the first two values.
     Variant(u32),
     /// A map of one entry.
     Entry,
     /// A map of two entries.
     Entries,
-    /// A map that is fed a key alone.
+    /// A map that ends after a key.
     KeyAlone,
-    /// A map that is fed a value before a key.
+    /// A map that receives a value before a key.
     ValueFirst,
-    /// A map that is fed a second key.
+    /// A map that receives a second key before a value.
     TwoKeys,
-    /// A map that is fed an entry while a key is pending.
+    /// A map that receives an entry while a key is pending.
     EntryWithin,
     /// A list composite.
     List,
@@ -40,11 +40,11 @@ pub enum Way {
     Map,
     /// A basic composite.
     Basic,
-    /// A tuple composite that is fed a descriptor of a wrong kind first.
+    /// A described tuple struct that first receives an invalid descriptor.
     WrongDescriptor,
 }
 
-/// Three values, and the way that they are fed.
+/// Three values, and how they are combined.
 #[derive(Drop)]
 pub struct Fed<T> {
     pub way: Way,
@@ -53,7 +53,7 @@ pub struct Fed<T> {
     pub third: T,
 }
 
-/// The name that asks for a mark.
+/// Returns the newtype name for a marker.
 fn name_of(mark: Mark) -> &'static str
     ensures { mark_of result.now ≡ mark }
 {

@@ -17,7 +17,7 @@ pub struct Grown {
     pub text: String,
 }
 
-/// A random tree: each step puts a leaf on a pile, or makes one tree of some of its trees.
+/// Returns a random tree. Each step pushes a leaf, or one tree made of some trees of the pile.
 pub fn tree(alloc: Global, random: &mut Random) -> Result<Grown, Error> {
     let mut pile = Vec::new(alloc);
     let steps = 1 + random.below(12);
@@ -64,7 +64,7 @@ fn leaf(alloc: Global, random: &mut Random) -> Result<Grown, Error> {
     })
 }
 
-// The last tree of the pile, or a leaf.
+// Returns the last tree of the pile, or a leaf if it is empty.
 fn taken(alloc: Global, random: &mut Random, pile: &mut Vec<Grown>) -> Result<Grown, Error> {
     match pile.pop() {
         Some(grown) => Ok(grown),
@@ -72,7 +72,7 @@ fn taken(alloc: Global, random: &mut Random, pile: &mut Vec<Grown>) -> Result<Gr
     }
 }
 
-// Parts of a compound, and their texts.
+// Returns a compound of `count` trees, with its text.
 fn compound(
     alloc: Global,
     random: &mut Random,
@@ -90,7 +90,7 @@ fn compound(
     whole(alloc, random.below(5), parts, &texts)
 }
 
-/// The compound of this kind and these parts.
+/// Returns the compound of this kind with these elements.
 pub fn whole(alloc: Global, kind: u64, parts: Vec<Node>, texts: &str) -> Result<Grown, Error> {
     let (name, node) = match kind {
         0 => ("array", Node::Array(Array::from(parts))),
@@ -112,7 +112,7 @@ fn numbered(alloc: Global, parts: Vec<Node>) -> Result<OrderedMap<u32, Node>, Er
     Ok(map)
 }
 
-// An array of compounds of one kind, each of one part.
+// Returns an array of compounds of one kind, each with one element.
 fn wrapped(alloc: Global, random: &mut Random, pile: &mut Vec<Grown>) -> Result<Grown, Error> {
     let kind = [3, 2, 0, 3][random.below(4) as usize];
     let count = random.below(4);
@@ -129,7 +129,7 @@ fn wrapped(alloc: Global, random: &mut Random, pile: &mut Vec<Grown>) -> Result<
     whole(alloc, 0, parts, &texts)
 }
 
-// A compound of scalars of one kind, often near the end of short forms.
+// Returns a compound of scalars of one kind, often near the limit of the short forms.
 fn alike(alloc: Global, random: &mut Random) -> Result<Grown, Error> {
     let kind = random.below(21);
     let count = if kind < 17 {
@@ -148,7 +148,7 @@ fn alike(alloc: Global, random: &mut Random) -> Result<Grown, Error> {
     whole(alloc, random.below(4), parts, &texts)
 }
 
-// The image of a tree, where it has one.
+// Returns the image of a tree, or the tree itself if it has no image.
 fn image(alloc: Global, of: Grown) -> Result<Grown, Error> {
     match to_value(alloc, &of.node) {
         Ok(value) => Ok(Grown {
@@ -160,7 +160,7 @@ fn image(alloc: Global, of: Grown) -> Result<Grown, Error> {
     }
 }
 
-// Three trees, fed by hand.
+// Returns three trees combined with explicit serializer calls.
 fn fed(alloc: Global, random: &mut Random, pile: &mut Vec<Grown>) -> Result<Grown, Error> {
     let first = taken(alloc, random, pile)?;
     let second = taken(alloc, random, pile)?;

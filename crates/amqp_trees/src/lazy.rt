@@ -1,4 +1,4 @@
-//! Random encoded values, kept lazy: written ones, altered ones and rare spellings.
+//! Random lazy values: written encodings, altered ones, and rare encodings.
 
 use crate::grow::Grown;
 use crate::node::Node;
@@ -10,7 +10,7 @@ use amqp_wire::to_lazy_value;
 use bytes::Bytes;
 use std::alloc::Global;
 
-// Spellings that are no writer's here, and payloads that spell no value.
+// Encodings that this writer does not produce, and payloads that spell no value.
 const SPELLED: [&[u8]; 24] = [
     b"\x56\x01",
     b"\x56\x02",
@@ -46,14 +46,14 @@ fn grown(alloc: Global, value: LazyValue) -> Result<Grown, Error> {
     })
 }
 
-/// A rare spelling.
+/// Returns a rare encoding.
 pub fn spelled(alloc: Global, random: &mut Random) -> Result<Grown, Error> {
     let bytes = SPELLED[random.below(24) as usize];
     let value = LazyValue::try_from(Bytes::copy_from_slice(alloc, bytes)?)?;
     grown(alloc, value)
 }
 
-/// The encoded value of a tree, or that with a bit turned over; the tree itself where it has none.
+/// Returns the lazy value of a tree, possibly with one bit flipped; the tree itself if it has none.
 pub fn of(alloc: Global, random: &mut Random, of: Grown) -> Result<Grown, Error> {
     match to_lazy_value(alloc, &of.node) {
         Ok(value) => {
@@ -71,7 +71,8 @@ pub fn of(alloc: Global, random: &mut Random, of: Grown) -> Result<Grown, Error>
     }
 }
 
-// An array is left as it is: with another count it could stand for gigabytes.
+// Flips one bit. Fails if the bytes may contain an array: with another count it could represent
+// gigabytes.
 fn altered(alloc: Global, random: &mut Random, bytes: &[u8]) -> Result<LazyValue, Error> {
     if bytes.contains(&0xe0) || bytes.contains(&0xf0) {
         return Err(Error::InvalidValue);

@@ -1,4 +1,4 @@
-//! The line of a tree: its text, and what each call answers on it.
+//! The line of a tree: its text, and the result of each call.
 
 use crate::grow::Grown;
 use crate::node::Node;
@@ -13,10 +13,13 @@ use amqp_value::Value;
 use amqp_wire::{to_lazy_value, to_vec};
 use std::alloc::Global;
 
-/// The tree's text, its size, its bytes, the length of the first encoded value in them, what
-/// `to_lazy_value` holds and `decode_value` answers, its image's text and bytes, and what
-/// `from_value` makes of that. A sign of equality stands for what equals the bytes or the image,
-/// and the text of a refusal in angle brackets for that.
+/// Returns the fields of the line, separated by tabs: the text of the tree, its size, its bytes,
+/// the length of the first encoded value in them, the results of `to_lazy_value` and
+/// `decode_value`, the text and the bytes of the image, whether decoding the bytes returns the
+/// image, and whether `from_value` returns it.
+///
+/// A result that is compared with the bytes or the image is `=` or `other`. If a call fails, its
+/// field is the text of the error in angle brackets.
 pub fn line(alloc: Global, grown: &Grown) -> Result<String, Error> {
     let mut line = String::new(alloc);
     line.push_str(&grown.text)?;
@@ -32,7 +35,7 @@ pub fn line(alloc: Global, grown: &Grown) -> Result<String, Error> {
     Ok(line)
 }
 
-// A value's text, on one line whatever its symbols hold.
+// Appends the text of a value, on one line whatever its symbols contain.
 fn text(alloc: Global, line: &mut String, value: &Value) -> Result<(), Error> {
     for c in format!(in alloc; "{value}")?.chars() {
         match c {
@@ -104,7 +107,7 @@ fn image(alloc: Global, line: &mut String, node: &Node) -> Result<(), Error> {
     Ok(())
 }
 
-// Whether the bytes stand for the value, where there are bytes and they stand for one.
+// Returns whether decoding the bytes returns the value; `none` without bytes or if decoding fails.
 fn decoded(alloc: Global, node: &Node, value: &Value) -> Result<&'static str, Error> {
     let Ok(bytes) = to_vec(alloc, node) else {
         return Ok("none");

@@ -1,7 +1,7 @@
-//! Prints random trees, and what each call answers on them, a line for each.
+//! Prints random trees and the results of the calls for them, one line for each tree.
 //!
-//! The first argument is a seed, the second how many trees: 7 and 12 where there are none.
-//! `tools/differential` reads the trees' texts, and works out the answers anew.
+//! The first argument is a seed, the second the number of trees; the defaults are 7 and 12.
+//! `tools/differential` reads the texts of the trees and computes the results independently.
 #![tactic(auto)]
 
 mod fed;
@@ -32,7 +32,7 @@ fn main(rt: HostRuntime) -> ExitCode {
     }
 }
 
-// The argument of this index as a number.
+// Returns the argument with this index as a number.
 fn number(rt: &impl Env, index: usize) -> Option<u64> {
     let mut word = [0; 20];
     let len = rt.arg(index, &mut word).ok()?;

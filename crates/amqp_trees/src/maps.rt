@@ -1,4 +1,4 @@
-//! Maps that are fed by hand: each means the entries that it was fed rightly.
+//! Maps built with explicit calls; the tree of each has only the entries whose calls succeed.
 
 ghost use Rattle.std.specs.Prelude.{◌∷◌, []};
 ghost use Rattle.amqp_ser.specs.Compounds.{whole};
@@ -6,7 +6,7 @@ ghost use Rattle.amqp_ser.specs.declared.kind.Kind.TheVariants.{Map};
 
 use amqp_ser::{Serialize, Serializer};
 
-/// One entry.
+/// Serializes one entry.
 pub fn entry<S: Serializer, T: Serialize>(
     serializer: &mut S,
     key: &T,
@@ -20,7 +20,7 @@ pub fn entry<S: Serializer, T: Serialize>(
     map.end()
 }
 
-/// Two entries, one of them as a key and its value.
+/// Serializes two entries, the first as a key and a value.
 pub fn entries<S: Serializer, T: Serialize>(
     serializer: &mut S,
     first: &T,
@@ -39,7 +39,7 @@ pub fn entries<S: Serializer, T: Serialize>(
     map.end()
 }
 
-/// A key without its value.
+/// Serializes a key without its value.
 pub fn key_alone<S: Serializer, T: Serialize>(
     serializer: &mut S,
     key: &T,
@@ -51,7 +51,7 @@ pub fn key_alone<S: Serializer, T: Serialize>(
     map.end()
 }
 
-/// A value without a key, which is refused, and then an entry.
+/// Serializes a value without a key, which fails, and then an entry.
 pub fn value_first<S: Serializer, T: Serialize>(
     serializer: &mut S,
     key: &T,
@@ -69,7 +69,7 @@ pub fn value_first<S: Serializer, T: Serialize>(
     map.end()
 }
 
-/// A second key, which is refused, before the value of the first.
+/// Serializes a second key, which fails, before the value of the first.
 pub fn two_keys<S: Serializer, T: Serialize>(
     serializer: &mut S,
     key: &T,
@@ -88,7 +88,7 @@ pub fn two_keys<S: Serializer, T: Serialize>(
     map.end()
 }
 
-/// An entry while a key is pending, which is refused, before the value of that key.
+/// Serializes an entry while a key is pending, which fails, before the value of that key.
 pub fn entry_within<S: Serializer, T: Serialize>(
     serializer: &mut S,
     key: &T,

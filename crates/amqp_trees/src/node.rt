@@ -1,4 +1,4 @@
-//! Trees of all kinds, hostile ones among them.
+//! Trees of all kinds, including invalid ones.
 
 use crate::fed::Fed;
 use amqp_data::{Array, OrderedMap, TransparentVec};
@@ -6,22 +6,22 @@ use amqp_frame::LazyValue;
 use amqp_ser::{Serialize, Serializer};
 use amqp_value::Value;
 
-/// A tree, or what has none.
+/// A tree, or a value that has none.
 #[derive(Drop)]
 pub enum Node {
     /// An untyped value: a scalar, or the image of another tree.
     Value(Value),
     /// The bytes of one encoded value.
     Lazy(LazyValue),
-    /// A list of its parts.
+    /// A list of nodes.
     List(Vec<Node>),
-    /// An array of its parts, of whatever kinds.
+    /// An array of nodes of any kinds.
     Array(Array<Node>),
-    /// Its parts with no header, wherever it stands.
+    /// Nodes without a header, in any position.
     Transparent(TransparentVec<Node>),
-    /// A map from numbers to its parts.
+    /// A map from numbers to nodes.
     Numbered(OrderedMap<u32, Node>),
-    /// Three parts, fed by hand.
+    /// Three nodes, combined with explicit serializer calls.
     Fed(Box<Fed<Node>>),
 }
 

@@ -8,7 +8,7 @@ use std::alloc::Global;
 /// A value with its text.
 pub type Written = (Value, String);
 
-/// The bytes in hexadecimal.
+/// Returns the bytes in hexadecimal.
 pub fn hexadecimal(alloc: Global, bytes: &[u8]) -> Result<String, Error> {
     let mut text = String::new(alloc);
     for byte in bytes {
@@ -17,7 +17,7 @@ pub fn hexadecimal(alloc: Global, bytes: &[u8]) -> Result<String, Error> {
     Ok(text)
 }
 
-/// A random scalar of this kind; null where there is none.
+/// Returns a random scalar of this kind: 0 is null, and 20 and above are strings.
 pub fn scalar(alloc: Global, random: &mut Random, kind: u64) -> Result<Written, Error> {
     if kind < 6 {
         return small(alloc, random, kind);
@@ -121,7 +121,7 @@ fn fixed(alloc: Global, random: &mut Random, kind: u64) -> Result<Written, Error
     })
 }
 
-// A character, often one that a text escapes.
+// Returns a character, often one that is escaped in a text.
 fn character(random: &mut Random) -> char {
     let code = match random.below(8) {
         0 => random.below(32) as u32,
@@ -144,7 +144,7 @@ fn string(alloc: Global, random: &mut Random) -> Result<String, Error> {
     Ok(string)
 }
 
-/// Random bytes, of a length that is often 4, 8 or 16.
+/// Returns random bytes, of a length that is often 4, 8 or 16.
 pub fn bytes(alloc: Global, random: &mut Random) -> Result<Vec<u8>, Error> {
     let length = match random.below(6) {
         0 => 4,

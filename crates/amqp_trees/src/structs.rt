@@ -1,4 +1,4 @@
-//! Structs that are fed by hand: each means the fields that it was fed rightly.
+//! Structs built with explicit calls; the tree of each has only the fields whose calls succeed.
 
 ghost use Rattle.std.specs.Prelude.{◌∷◌, [], Some, codes};
 ghost use Rattle.amqp_ser.specs.Composites.{as_described, descriptor_of};
@@ -9,7 +9,7 @@ ghost use Rattle.amqp_ser.specs.declared.kind.Kind.TheVariants.{List, Map, Varia
 use amqp_data::markers;
 use amqp_ser::{Serialize, Serializer};
 
-/// A described list of two fields.
+/// Serializes a described list of two fields.
 pub fn list<S: Serializer, T: Serialize>(
     serializer: &mut S,
     descriptor: &T,
@@ -28,7 +28,7 @@ pub fn list<S: Serializer, T: Serialize>(
     fields.end()
 }
 
-/// A described map of two fields.
+/// Serializes a described map of two fields.
 pub fn map<S: Serializer, T: Serialize>(
     serializer: &mut S,
     descriptor: &T,
@@ -49,7 +49,7 @@ pub fn map<S: Serializer, T: Serialize>(
     fields.end()
 }
 
-/// A described value of one field.
+/// Serializes a described value of one field.
 pub fn basic<S: Serializer, T: Serialize>(
     serializer: &mut S,
     descriptor: &T,
@@ -65,7 +65,7 @@ pub fn basic<S: Serializer, T: Serialize>(
     fields.end()
 }
 
-/// A descriptor that is neither a ulong nor a symbol, which is refused, before another.
+/// Serializes an invalid descriptor, which fails, and then another descriptor and a field.
 pub fn wrong_descriptor<S: Serializer, T: Serialize>(
     serializer: &mut S,
     descriptor: &T,
@@ -84,7 +84,7 @@ pub fn wrong_descriptor<S: Serializer, T: Serialize>(
     fields.end()
 }
 
-/// Two fields of a tuple variant.
+/// Serializes two fields of a tuple variant.
 pub fn variant<S: Serializer, T: Serialize>(
     serializer: &mut S,
     index: u32,

@@ -1,5 +1,5 @@
-//! Prints what standard input holds as AMQP data: the length, the bytes and the text of the list of
-//! its lines, or with the argument `cut` a line for each encoded value.
+//! Prints standard input as AMQP data: the length, the encoding and the text of the list of its
+//! lines, or with the argument `cut` one line for each encoded value.
 #![tactic(auto)]
 
 use serde_amqp::read::IoReader;
@@ -21,7 +21,7 @@ fn main(rt: HostRuntime) -> ExitCode {
     ExitCode::from(1)
 }
 
-// Whether the one argument `cut` is there: none where there are any others.
+// Returns whether the only argument is `cut`, or `None` if there are other arguments.
 fn asks_for_cut(rt: &impl Env) -> Option<bool> {
     let mut word = [0; 3];
     match rt.arg(1, &mut word) {

@@ -1,4 +1,4 @@
--- The rest of the cut decides what a run answers.
+-- The rest of the cut decides the result of a run.
 use Rattle.std.proofs.Common.{◌≡◌, ◌≢◌, ℕ, ◌^◌, ◌≤◌, ◌<◌, inl, inr, ◌↔◌, List, [], ◌∷◌, Option, None, Some, Result, Ok, Err, IsOk, IsErrOf, IfSome, IfErr, OnOk, length, length-append, refl, ap, subst, arith}
 use Rattle.std.proofs.lemmas.Bool.{false≢true}
 use Rattle.std.specs.List.{AllByRecursion, concat}
@@ -16,7 +16,7 @@ module _ (one_case : (s : List ℕ) → ExactlyOne (HasFrame s) (HasMalformed s)
   nothing-malformed : (s : List ℕ) → HasMalformed s → s ≢ []
   nothing-malformed s malformed none = whole-incomplete s malformed (rw none IsIncomplete.nothing)
 
-  -- the three answers that a rest may ask for
+  -- The result is Ok, an invalid format code or the end of input, as the rest requires.
   abbrev asks : {T : Type 0} → Result T Error → List ℕ → Type 0
   asks r rest = (IsOk r ↔ (rest ≡ [])) × (IsErrOf r InvalidFormatCode ↔ HasMalformed rest) × (IsErrOf r UnexpectedEof ↔ IsCutShort rest)
 
@@ -41,7 +41,7 @@ module _ (one_case : (s : List ℕ) → ExactlyOne (HasFrame s) (HasMalformed s)
     ((λ h. short), (λ h. refl)),
   )
 
--- as many encoded values as a run may take, and more bytes, are 2 ^ 64 bytes at least
+-- 2 ^ 64 - 1 encoded values followed by at least one byte are at least 2 ^ 64 bytes long.
 module _ (some_byte : (frame : List ℕ) → IsFrame frame → 0 < length frame) where
   concat-long : (frames : List (List ℕ)) → AllByRecursion IsFrame frames → length frames ≤ length (concat frames)
   concat-long [] each = omega arith

@@ -1,4 +1,4 @@
--- What is held lazily, read again.
+-- Lazy values, decoded again.
 use Rattle.std.proofs.Common.{ℕ, ◌≡◌, ◌≤◌, ◌&&◌, true, Some, ◌∙◌}
 use Rattle.std.proofs.lemmas.Bool.{and_parts}
 use Rattle.amqp_data.specs.declared.error.Error.{Error}
@@ -19,7 +19,7 @@ use Rattle.amqp_decode.proofs.Whole.{one-tree}
 use Rattle.amqp_to_value.specs.ImageOf.{StandsFor, refuses}
 use Rattle.amqp_to_value.proofs.LazyLemmas.{read_refused}
 
--- the bytes of the tree spell its image
+-- The encoding of a tree spells its image.
 pub own-bytes : (t : Tree) → IsRanged t → writable t ≡ true → IsOrdinary t → (d : ℕ) → depth_of t ≤ d → Spells d (encoding t) (image t)
 own-bytes t r w o d le =
     let within_and = and_parts (within_limits t) (uniform_arrays t && placed t) w in
@@ -33,7 +33,7 @@ pub held-refused : (t : Tree) (e : Error) → Spells 256 (encoding t) (image t) 
 held-refused t e h r = read_refused e (lazy (encoding t)) (image t) h r
 
 mutual
-  -- nothing in a plain tree is lazy or transparent
+  -- A plain tree contains no lazy and no transparent tree.
   pub plain-ordinary : (t : Tree) → IsPlain t → IsOrdinary t
   plain-ordinary (scalar s) h = tt
   plain-ordinary (list ts) h = each-ordinary ts h

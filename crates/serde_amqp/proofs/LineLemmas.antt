@@ -1,10 +1,10 @@
--- The lines of a text, from its parts.
+-- The lines of a text are computed from its parts.
 use Rattle.std.proofs.Common.{◌≡◌, ℕ, zero, suc, ◌-◌, ◌==◌, List, [], ◌∷◌, Some, option_map, Bool, true, false, if◌then◌else◌, length, take, slice_get, Bor, sym, ap, ◌∙◌, arith}
 use Rattle.std.proofs.lemmas.List.{length-map}
 use Rattle.std.proofs.lemmas.Option.{slice_get-map, slice_get_within}
 use Rattle.serde_amqp.specs.Lines.{texts, without_empty_last}
 
--- the last part, at n, falls away where it is empty
+-- The last part, at n, is removed if it is empty.
 without_last : (parts : List (List ℕ)) (n : ℕ) (last : List ℕ) (b : Bool) → length parts ≡ suc n → slice_get parts n ≡ Some last → b ≡ (length last == 0) → without_empty_last parts ≡ (if b then take n parts else parts)
 without_last [] n last b size is test = absurd (cc)
 without_last (part ∷ []) zero last b size is test =
@@ -23,7 +23,7 @@ some-last items last is =
       slice_get-map (λ x. x.now) items (length items - 1) ∙ ap (option_map (λ x. x.now)) (sym is),
     )
 
--- the last of these is tested
+-- Testing the last item is enough to compute the lines.
 pub last-tested : (items : List (Bor (List ℕ))) (last : Bor (List ℕ)) (b : Bool) → Some last ≡ slice_get items (length items - 1) → b ≡ (length last.now == 0) → without_empty_last (texts items) ≡ (if b then take (length items - 1) (texts items) else texts items)
 last-tested items last b is test =
     let at = some-last items last is in

@@ -35,7 +35,7 @@ joins : (part : List ℕ) (parts : List (List ℕ)) → Joins (without_empty_las
 joins part [] = one-part part
 joins part (next ∷ more) = more-parts part next more (without_empty_last (next ∷ more)) (joins next more)
 
--- no part has the byte at which the text was cut
+-- No part contains the byte at which the text was split.
 prefix-within : (x : ℕ) → x ≢ 10 → (parts : List (List ℕ)) → AllByRecursion Text parts → AllByRecursion Text (onto_first x parts)
 prefix-within x other [] each = ((other, tt), tt)
 prefix-within x other (part ∷ parts) each = ((other, each.0), each.1)

@@ -1,4 +1,4 @@
--- A run over the encoded values of a byte string, from step to step.
+-- A run over the encoded values of a byte string, by induction on its steps.
 use Rattle.std.proofs.Common.{◌≡◌, ◌≢◌, ℕ, ◌+◌, ◌-◌, ◌^◌, ◌≤◌, ◌<◌, ◌⊎◌, inl, inr, min, List, [], ◌∷◌, ◌++◌, Option, None, Some, Result, Ok, Err, IfSome, IfErr, IsErrOf, length, take, refl, sym, ap, ◌∙◌, subst, append_assoc, length-append, arith}
 use Rattle.std.specs.List.{AllByRecursion, concat}
 use Rattle.std.proofs.lemmas.List.{append-nil, take-append-le, take_min}
@@ -19,7 +19,7 @@ use Rattle.serde_amqp.specs.CutLines.{cut_line, cut_lines}
 use Rattle.serde_amqp.specs.CutRun.{Prints, PrintsPrefix, IsCutShort, CutRefuses}
 use Rattle.serde_amqp.specs.CutSteps.{PrintsNext, StopsInLine, StepRefuses}
 
--- so many encoded values were taken, and their lines were put
+-- Exactly n encoded values were read, and their lines were written.
 abbrev pub Progress : Option (List ℕ) → Option (List ℕ) → Option (List ℕ) → Option (List ℕ) → ℕ → Type 0
 Progress a b w v n = (frames : List (List ℕ)) × (length frames ≡ n) × AllByRecursion IsFrame frames × Consumes a b (concat frames) × Appends w v (cut_lines frames)
 
@@ -44,21 +44,21 @@ none-in-nothing some_byte (f, r, h, e) =
     let len = ap length e in
     omega (arith, length-append f r)
 
--- the input ended between encoded values
+-- The run is complete if the input ends between encoded values.
 pub run-ends : ((f : List ℕ) → IsFrame f → 0 < length f) → (a b w v u : Option (List ℕ)) (n : ℕ) → Progress a b w v n → IsAtEnd b → Keeps v u → IfSome a (λ s. Prints s w u (λ rest. rest ≡ []))
 run-ends some_byte None b w v u n p over kept = tt
 run-ends some_byte (Some s) None w v u n p over kept = absurd p.3
 run-ends some_byte (Some s) (Some x) w v u n (frames, size, each, read, put) over kept =
     (frames, [], record { whole = read ∙ ap (λ l. concat frames ++ l) over; each = each; no_frame = none-in-nothing some_byte }, Appends-kept w v u _ put kept, refl)
 
--- all was taken then
+-- All bytes have been read at that end.
 pub run-reads : (a b c w v : Option (List ℕ)) (n : ℕ) → Progress a b w v n → IsAtEnd b → Keeps b c → IfSome a (λ _. IsAtEnd c)
 run-reads None b c w v n p over kept = tt
 run-reads (Some s) None c w v n p over kept = absurd p.3
 run-reads (Some s) (Some x) None w v n p over kept = absurd kept
 run-reads (Some s) (Some x) (Some y) w v n p over kept = kept ∙ over
 
--- a step refused, over a string that has a cut
+-- A step that returns an error, on a string that has a cut.
 module _ (some_cut : (s : List ℕ) → (frames : List (List ℕ)) × (rest : List ℕ) × IsCut s frames rest) where
   stops-between : (s t : List ℕ) (w v u : Option (List ℕ)) (n : ℕ) → Progress (Some s) (Some t) w v n → Keeps v u → PrintsPrefix s w u
   stops-between s t w v u n (frames, size, each, read, put) kept =
@@ -103,7 +103,7 @@ module _ (some_cut : (s : List ℕ) → (frames : List (List ℕ)) × (rest : Li
   run-refused (Some s) None w v u n e p h = absurd p.3
   run-refused (Some s) (Some t) w v u n e p h = step-refused s t w v u n e p h
 
-  -- too many encoded values, or a failure after as many as may be
+  -- After 2 ^ 64 - 1 encoded values, `TooLong` and an I/O error are errors of the run.
   at-most : (s t : List ℕ) (w v u : Option (List ℕ)) (e : Error) → Progress (Some s) (Some t) w v (2 ^ 64 - 1) → Keeps v u → (e ≡ TooLong → t ≢ []) → (e ≡ TooLong) ⊎ (e ≡ Io) → CutRefuses s w u e
   at-most s t w v u e (frames, size, each, read, put) kept more (inl m) =
       rw m (frames, t, size, each, read, more m, Appends-kept w v u _ put kept)
@@ -115,7 +115,7 @@ module _ (some_cut : (s : List ℕ) → (frames : List (List ℕ)) × (rest : Li
   run-finish-refused (Err e) (Some s) None w v u p kept more h = absurd p.3
   run-finish-refused (Err e) (Some s) (Some t) w v u p kept more h = at-most s t w v u e p kept (λ m. more (ap Err m)) h
 
--- a failure in a later call is one of the whole run
+-- A failure in a later call is a failure of the complete run.
 pub either-failed : (f g h k l m : ℕ) → f ≤ g → g ≤ h → k ≤ l → l ≤ m → Failed g h ⊎ Failed l m → Failed f h ⊎ Failed k m
 either-failed f g h k l m fg gh kl lm (inl r) = inl (failed-later f g h fg gh r)
 either-failed f g h k l m fg gh kl lm (inr r) = inr (failed-later k l m kl lm r)

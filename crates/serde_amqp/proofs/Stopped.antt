@@ -1,4 +1,4 @@
--- Why one step of a run stopped.
+-- The errors of one step of a run.
 use Rattle.std.proofs.Common.{◌≡◌, ◌≢◌, ℕ, ◌⊎◌, inl, inr, true, false, is_some, slice_get, List, [], Option, None, Some, Err, IfSome, sym, ap, ◌∙◌, subst}
 use Rattle.std.specs.Io.KnownBytes.{Keeps, Consumes}
 use Rattle.std.proofs.lemmas.Bool.{false≢true}
@@ -34,7 +34,7 @@ frame-refused-at T s c f g w TooLong some d h = h
 frame-refused-at T s c f g w InvalidValue some d h = h
 frame-refused-at T s c f g w (Message words) some d h = h
 
--- no encoded value came after a byte was seen
+-- An error of reading an encoded value, after a first byte was seen, is an error of the step.
 pub frame-refused : (T : Type 0) (a b c : Option (List ℕ)) (f g : ℕ) (w : Option (List ℕ)) (o : Option ℕ) (e : Error) → is_some o ≡ true → IfSome a (λ s. o ≡ slice_get s 0) → Keeps a b → IfSome b (λ s. DecidedBy {T = T} s (Err e)) → FrameRefuses b c f g (TakesIncomplete b c) (TakesMalformed b c) e → IfSome a (λ s. StepRefuses s w w e)
 frame-refused T None b c f g w o e some first kept d h = tt
 frame-refused T (Some s) None c f g w o e some first kept d h = absurd kept
@@ -42,7 +42,7 @@ frame-refused T (Some s) (Some t) c f g w o e some first kept d h =
     let P : List ℕ → Type 0 = λ l. StepRefuses l w w e in
     subst P kept (frame-refused-at T t c f g w e (λ none. some-byte s o some first (sym kept ∙ none)) d h)
 
--- the line of an encoded value was not put whole
+-- An error of writing the line of an encoded value is an error of the step.
 pub put-refused : (a b c w v : Option (List ℕ)) (frame line : List ℕ) (e : Error) → Keeps a b → IsFrame frame → Consumes b c frame → line ≡ cut_line frame → TakesPrefix w v line → (e ≡ OutOfMemory) ⊎ (e ≡ Io) → IfSome a (λ s. StepRefuses s w v e)
 put-refused None b c w v frame line e kept h t is put why = tt
 put-refused (Some s) None c w v frame line e kept h t is put why = absurd kept

@@ -1,4 +1,4 @@
--- The list of some strings: its tree, and what the crates below answer on it.
+-- The list of some strings: its tree, and the results of the crates below for it.
 use Rattle.std.proofs.Common.{◌≡◌, ℕ, ◌⊎◌, inl, inr, ◌&&◌, List, [], ◌∷◌, Option, Some, Ok, Err, true, false, length, map, Bor, refl, ap, sym, ◌∙◌, subst}
 use Rattle.amqp_data.specs.declared.error.Error.{Error}
 use Rattle.amqp_data.specs.declared.error.Error.TheVariants.{OutOfMemory, TooLong, InvalidValue, InvalidFormatCode, UnexpectedEof, Io, Message}
@@ -25,11 +25,11 @@ all-strings : (items : List (Bor (List ℕ))) → all_trees (map (λ s. Some (sc
 all-strings [] = refl
 all-strings (x ∷ items) = ap (prepend (Some (scalar (string x.now)))) (all-strings items)
 
--- the tree of a vector of strings
+-- The tree of a vector of strings.
 abbrev pub vector_tree : List (Bor (List ℕ)) → Option Tree
 vector_tree items = whole kind.List (map (λ s. Some (scalar (string s.now))) items)
 
--- it is the list of these strings
+-- The tree of a vector of strings is the list of these strings.
 pub strings-whole : (items : List (Bor (List ℕ))) → vector_tree items ≡ Some (strings_tree (texts items))
 unfolding whole strings_tree
 strings-whole items = ap (as_kind kind.List) (all-strings items)
@@ -46,7 +46,7 @@ strings-fair : (lines : List (List ℕ)) → (uniform_arrays (strings_tree lines
 unfolding strings_tree
 strings-fair lines = ap (λ b. b && inside_each (string_trees lines)) (each-uniform_arrays lines) ∙ each-inside lines
 
--- the only refusals, and when each comes
+-- The only errors are `TooLong` and `OutOfMemory`, and `TooLong` only if the list is not writable.
 abbrev pub RefusesReport : List (Bor (List ℕ)) → Error → Type 0
 RefusesReport items e = ((e ≡ TooLong) ⊎ (e ≡ OutOfMemory)) × (e ≡ TooLong → writable (strings_tree (texts items)) ≡ false)
 
@@ -59,7 +59,7 @@ size-refused-at items UnexpectedEof h = absurd h
 size-refused-at items Io h = absurd h
 size-refused-at items (Message words) h = absurd h
 
--- a refused length
+-- An error of the length is one of these errors.
 pub size-refused : (items : List (Bor (List ℕ))) (e : Error) → IsSizeOf (vector_tree items) (Err e) → RefusesReport items e
 size-refused items e h = size-refused-at items e (subst (λ t. IsSizeOf t (Err e)) (strings-whole items) h)
 
@@ -72,7 +72,7 @@ bytes-refused-at items UnexpectedEof h = absurd h
 bytes-refused-at items Io h = absurd h
 bytes-refused-at items (Message words) h = absurd h
 
--- refused bytes
+-- An error of the encoding is one of these errors.
 pub bytes-refused : (items : List (Bor (List ℕ))) (e : Error) → AreBytesOf (vector_tree items) (Err e) → RefusesReport items e
 bytes-refused items e h = bytes-refused-at items e (subst (λ t. AreBytesOf t (Err e)) (strings-whole items) h)
 
@@ -90,11 +90,11 @@ value-refused-at items e h =
     let is : e ≡ OutOfMemory = read_refused e t t (opened-itself t (strings-not_lazy (texts items))) h in
     subst (RefusesReport items) (sym is) (inr refl, λ k. absurd (cc))
 
--- a refused image
+-- An error of the image is one of these errors.
 pub value-refused : (items : List (Bor (List ℕ))) (e : Error) → IsImageOf (vector_tree items) (Err e) → RefusesReport items e
 value-refused items e h = value-refused-at items e (subst (λ t. IsImageOf t (Err e)) (strings-whole items) h)
 
--- what is printed of a length, bytes and a value
+-- The output for a length, an encoding and a value.
 pub reported : (items : List (Bor (List ℕ))) (size : ℕ) (bytes : List ℕ) (value : Value) → IsSizeOf (vector_tree items) (Ok size) → AreBytesOf (vector_tree items) (Ok bytes) → IsImageOf (vector_tree items) (Ok value) → (writable (strings_tree (texts items)) ≡ true) × (three_lines size bytes (text_of (tree_of value)) ≡ report (strings_tree (texts items)))
 reported items size bytes value s b v =
     let size_is : (writable (strings_tree (texts items)) ≡ true) × (size ≡ length (encoding (strings_tree (texts items)))) = subst (λ t. IsSizeOf t (Ok size)) (strings-whole items) s in

@@ -1,13 +1,13 @@
--- The lines that are printed for the encoded values of a byte string (AMQP 1.0 part 1, section 1.2).
+-- The lines printed for the encoded values of a byte string (AMQP 1.0 part 1, section 1.2).
 use Rattle.std.specs.Prelude.{ℕ, List, [], ◌∷◌, ◌++◌, length}
 use Rattle.std.specs.List.{flat_map}
 use Rattle.std.specs.Fmt.{decimal}
 use Rattle.amqp_data.specs.Hexadecimal.{hex}
 
--- the line of an encoded value: its length, a space, its bytes in hexadecimal, and 0A
+-- The line of an encoded value: its length, a space, its bytes in hexadecimal, and 0A.
 unfoldable pub cut_line : List ℕ → List ℕ
 cut_line frame = decimal (length frame) ++ 32 ∷ hex frame ++ 10 ∷ []
 
--- the lines of all of them, in order
+-- The lines of all encoded values, in order.
 abbrev pub cut_lines : List (List ℕ) → List ℕ
 cut_lines frames = flat_map cut_line frames

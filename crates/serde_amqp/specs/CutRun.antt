@@ -1,4 +1,5 @@
--- What a run over the encoded values of a byte string puts, and why it refuses (AMQP 1.0 part 1, section 1.2).
+-- The output of a run over the encoded values of a byte string, and its errors (AMQP 1.0 part 1,
+-- section 1.2).
 use Rattle.std.specs.Prelude.{◌≡◌, ◌≢◌, ℕ, ◌-◌, ◌^◌, ◌≤◌, ◌⊎◌, ◌↔◌, List, [], ◌++◌, length, Option, Result, IsOk, IsErrOf}
 use Rattle.std.specs.List.{AllByRecursion, concat}
 use Rattle.std.specs.Io.KnownBytes.{Appends}
@@ -9,25 +10,25 @@ use Rattle.amqp_frame.specs.Frame.{IsFrame, IsIncomplete, HasMalformed}
 use Rattle.serde_amqp.specs.Writer.{TakesPrefix}
 use Rattle.serde_amqp.specs.CutLines.{cut_lines}
 
--- the lines of all values of the cut were put, and P holds of its rest
+-- The lines of all values of the cut were written, and P holds of its rest.
 abbrev pub Prints : List ℕ → Option (List ℕ) → Option (List ℕ) → (List ℕ → Type 0) → Type 0
 Prints s old new P = (frames : List (List ℕ)) × (rest : List ℕ) × IsCut s frames rest × Appends old new (cut_lines frames) × P rest
 
--- a prefix of the lines of the cut was put
+-- A prefix of the lines of the cut was written.
 abbrev pub PrintsPrefix : List ℕ → Option (List ℕ) → Option (List ℕ) → Type 0
 PrintsPrefix s old new = (frames : List (List ℕ)) × (rest : List ℕ) × IsCut s frames rest × TakesPrefix old new (cut_lines frames)
 
--- the lines of as many values as a run may take were put, and more bytes follow them
+-- The lines of 2 ^ 64 - 1 values, the most that a run reads, were written, and more bytes follow.
 abbrev pub PrintsMost : List ℕ → Option (List ℕ) → Option (List ℕ) → Type 0
 PrintsMost s old new =
     (frames : List (List ℕ)) × (rest : List ℕ) × (length frames ≡ 2 ^ 64 - 1) × AllByRecursion IsFrame frames
     × (s ≡ concat frames ++ rest) × (rest ≢ []) × Appends old new (cut_lines frames)
 
--- an incomplete value that has a byte at least
+-- An incomplete value of at least one byte.
 abbrev pub IsCutShort : List ℕ → Type 0
 IsCutShort rest = (rest ≢ []) × IsIncomplete rest
 
--- what was put at each refusal
+-- What was written before each error.
 abbrev pub CutRefuses : List ℕ → Option (List ℕ) → Option (List ℕ) → Error → Type 0
 CutRefuses s old new OutOfMemory = PrintsPrefix s old new
 CutRefuses s old new TooLong = PrintsMost s old new
@@ -37,7 +38,8 @@ CutRefuses s old new Io = PrintsPrefix s old new
 CutRefuses s old new InvalidValue = ⊥
 CutRefuses s old new (Message words) = ⊥
 
--- out of memory and failures aside, and on fewer than 2 ^ 64 bytes, the rest of the cut decides the answer
+-- On fewer than 2 ^ 64 bytes, the rest of the cut decides the result, except for out of memory and
+-- I/O errors.
 abbrev pub CutDecidedBy : {T : Type 0} → List ℕ → Result T Error → Type 0
 CutDecidedBy s r =
     (frames : List (List ℕ)) (rest : List ℕ) → IsCut s frames rest

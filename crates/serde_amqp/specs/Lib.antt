@@ -1,12 +1,12 @@
--- What contracts of public items rest on, but for `texts` in Lines.
+-- Definitions in the contracts of public items, except `texts` of Lines.
 pub mod Writer
 pub mod CutLines
 pub mod CutRun
 pub mod Lines
 pub mod LinesRun
--- What contracts of private functions alone cite, with that one.
+-- Definitions only in the contracts of private functions, and `texts` of Lines.
 pub mod CutSteps
--- Definitions of the crates below that contracts of what is handed out cite.
+-- Definitions of the crates below in the contracts of re-exported items.
 pub use Rattle.amqp_data.specs.FormatCode
 pub use Rattle.amqp_data.specs.Items
 pub use Rattle.amqp_data.specs.Pairs

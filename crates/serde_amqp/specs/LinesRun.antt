@@ -1,4 +1,4 @@
--- What a run over the lines of a text puts, and why it refuses.
+-- The output of a run over the lines of a text, and its errors.
 use Rattle.std.specs.Prelude.{◌≡◌, ℕ, ◌⊎◌, ◌↔◌, List, true, false, Option, Result, IsOk, IsErrOf, IsUtf8}
 use Rattle.std.specs.Io.KnownBytes.{Keeps}
 use Rattle.amqp_data.specs.declared.error.Error.{Error}
@@ -7,19 +7,19 @@ use Rattle.amqp_ser.specs.Writable.{writable}
 use Rattle.serde_amqp.specs.Writer.{TakesPrefix}
 use Rattle.serde_amqp.specs.Lines.{lines_tree, lines_out}
 
--- the text is UTF-8, and the list of its lines can be written
+-- The text is UTF-8, and the list of its lines is writable.
 abbrev pub IsReportable : List ℕ → Type 0
 IsReportable s = IsUtf8 s × (writable (lines_tree s) ≡ true)
 
--- the text is UTF-8, and the list of its lines cannot be written
+-- The text is UTF-8, and the list of its lines is not writable.
 abbrev pub IsTooLong : List ℕ → Type 0
 IsTooLong s = IsUtf8 s × (writable (lines_tree s) ≡ false)
 
--- a prefix of the report was put, if there is one to put
+-- Nothing was written, or the text is reportable and a prefix of its report was written.
 abbrev pub PutsPrefix : List ℕ → Option (List ℕ) → Option (List ℕ) → Type 0
 PutsPrefix s old new = Keeps old new ⊎ (IsReportable s × TakesPrefix old new (lines_out s))
 
--- what was put at each refusal
+-- What was written before each error.
 abbrev pub LinesRefuses : List ℕ → Option (List ℕ) → Option (List ℕ) → Error → Type 0
 LinesRefuses s old new OutOfMemory = PutsPrefix s old new
 LinesRefuses s old new TooLong = IsTooLong s × Keeps old new
@@ -29,7 +29,7 @@ LinesRefuses s old new InvalidFormatCode = ⊥
 LinesRefuses s old new UnexpectedEof = ⊥
 LinesRefuses s old new (Message words) = ⊥
 
--- out of memory and failures aside, the text decides the answer
+-- The text decides the result, except for out of memory and I/O errors.
 abbrev pub LinesDecidedBy : {T : Type 0} → List ℕ → Result T Error → Type 0
 LinesDecidedBy s r =
     IsErrOf r OutOfMemory ⊎ (IsErrOf r Io ⊎ ((IsOk r ↔ IsReportable s)

@@ -1,7 +1,7 @@
--- What a call does to the bytes that a writer took, where it tells them.
+-- The effect of a call on the bytes that a writer has taken, if the writer knows them.
 use Rattle.std.specs.Prelude.{ℕ, List, Option, take}
 use Rattle.std.specs.Io.KnownBytes.{Appends}
 
--- a prefix of the bytes was taken
+-- A prefix of the bytes was taken.
 abbrev pub TakesPrefix : Option (List ℕ) → Option (List ℕ) → List ℕ → Type 0
 TakesPrefix old new bytes = (n : ℕ) × Appends old new (take n bytes)

@@ -1,4 +1,4 @@
-//! A line for each encoded value of the input.
+//! Prints a line for each encoded value of the input.
 
 ghost use Rattle.std.specs.Prelude.{◌≡◌, ◌≢◌, ◌≤◌, ◌⊎◌, true, false, [], IfOk, OnOk, IfErr, IfSome, IsErrOf, IsOkUnless, Ok};
 ghost use Rattle.std.specs.Io.KnownBytes.{Keeps, IsAtEnd};
@@ -13,46 +13,46 @@ use amqp_data::Error;
 use amqp_frame::{LazyValue, Read, laws};
 use std::alloc::Global;
 
-/// Prints a line for each encoded value of the input, as it is taken, up to the input's end.
+/// Prints one line for each encoded value of the input, as it is read, until the input ends.
 ///
-/// The line is the value's length in decimal, a space, its bytes in lower-case hexadecimal, and 0A.
-/// At the input's end it flushes.
+/// The line is the length of the value in decimal, a space, its bytes in lower-case hexadecimal,
+/// and 0A. The writer is flushed at the end of the input.
 ///
-/// Public names say frame for an encoded value, as the crate `serde_amqp` does. A frame of the
-/// transport, with its header of eight bytes (AMQP 1.0 part 2, section 2.3), is another thing.
+/// Public names use "frame" for an encoded value, as the crate `serde_amqp` does. It is not a frame
+/// of the transport, which has a header of eight bytes (AMQP 1.0 part 2, section 2.3).
 ///
 /// # Encoding
 ///
-/// AMQP 1.0 part 1, sections 1.2 to 1.2.4, as [`LazyValue::from_reader`] cuts values off.
+/// AMQP 1.0 part 1, sections 1.2 to 1.2.4. [`LazyValue::from_reader`] reads each value.
 ///
 /// # Errors
 ///
-/// [`Error::InvalidFormatCode`] where a refused code stands where a value was to begin, and
-/// [`Error::UnexpectedEof`] where the input ends inside a value; the lines of the values before
-/// were put then. [`Error::Io`] where a read or a write failed, and [`Error::OutOfMemory`]; a
-/// prefix of the lines was put then. [`Error::TooLong`] where another byte follows `u64::MAX`
-/// values, whose lines were put.
+/// Returns [`Error::InvalidFormatCode`] if the code at which a value begins is invalid, and
+/// [`Error::UnexpectedEof`] if the input ends inside a value; the lines of the values before it
+/// were written. Returns [`Error::Io`] if a read or a write fails, and [`Error::OutOfMemory`] if an
+/// allocation fails; a prefix of the lines was written. Returns [`Error::TooLong`] if another byte
+/// follows `u64::MAX` values; the lines of those values were written.
 ///
 /// # Memory
 ///
-/// Takes `alloc`, for one value and its line at a time.
+/// Allocates one value and its line at a time from `alloc`.
 ///
 /// # Example
 ///
-/// For `500140` it prints `2 5001` and `1 40`.
+/// For `500140`, prints `2 5001` and `1 40`.
 pub fn run_cut<R: Read, W: Write>(
     alloc: Global,
     reader: &mut R,
     writer: &mut W,
 ) -> Result<(), Error>
-    // What was read and put.
+    // What was read and written.
     ensures read { OnOk result (IfSome (R.left reader.old) (λ _. IsAtEnd (R.left reader.new))) }
     ensures ok { OnOk result (IfSome (R.left reader.old) (λ s.
         Prints s (W.written writer.old) (W.written writer.new) (λ rest. rest ≡ []))) }
     ensures refused { IfErr result (λ e. IfSome (R.left reader.old) (λ s.
         CutRefuses s (W.written writer.old) (W.written writer.new) e)) }
     ensures flushed { OnOk result (W.flushed writer.new) }
-    // When each answer comes.
+    // When each result is returned.
     ensures exact { IfSome (R.left reader.old) (λ s. CutDecidedBy s result) }
     ensures io { IsErrOf result Error.Io → Failed (R.failures reader.old) (R.failures reader.new)
         ⊎ Failed (W.failures writer.old) (W.failures writer.new) }
@@ -92,7 +92,7 @@ fn print_frames<R: Read, W: Write>(
     finish(reader, writer)
 }
 
-// Takes the next encoded value and prints its line; false where there is none.
+// Reads the next encoded value and prints its line; returns false if the input has ended.
 fn print_next<R: Read, W: Write>(
     alloc: Global,
     reader: &mut R,
@@ -121,7 +121,7 @@ fn print_next<R: Read, W: Write>(
     Ok(true)
 }
 
-// Ends a run that took as many values as it may.
+// Ends a run that has read `u64::MAX` values.
 fn finish<R: Read, W: Write>(reader: &mut R, writer: &mut W) -> Result<(), Error>
     ensures done { OnOk result (IsAtEnd (R.left reader.old)) }
     ensures flushed { OnOk result (W.flushed writer.new) }
@@ -141,7 +141,7 @@ fn finish<R: Read, W: Write>(reader: &mut R, writer: &mut W) -> Result<(), Error
     }
 }
 
-// The line of an encoded value.
+// Returns the line of an encoded value.
 #[tactic(auto, unfolding(crate::specs::CutLines::cut_line))]
 fn line_of(alloc: Global, frame: &[u8]) -> Result<Vec<u8>, Error>
     ensures ok { IfOk result (λ line. line.items ≡ cut_line frame.now) }

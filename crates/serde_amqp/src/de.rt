@@ -1,7 +1,7 @@
-//! What can be read, out of what, and what a type of one's own is read with.
+//! Deserialization: the traits, the sources to read from, and helpers for user-defined types.
 //!
-//! The macros `named!`, `fields!`, `variants!` and `variant!` stand in `amqp_de` alone: a crate
-//! does not hand on the macros of another.
+//! The macros `named!`, `fields!`, `variants!` and `variant!` are exported by `amqp_de` only: a
+//! crate cannot re-export the macros of another.
 
 pub use amqp_de::de::{
     Content, Deserialize, Deserializer, EnumAccess, MapAccess, Plain, Refusal, SeqAccess,

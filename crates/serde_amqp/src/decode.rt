@@ -1,3 +1,3 @@
-//! The untyped value that the bytes of one encoded value stand for, in any spelling.
+//! Decoding of one encoded value, in any of its encodings, into an untyped value.
 
 pub use amqp_decode::{decode_value, decode_value_within, laws};

@@ -1,3 +1,3 @@
-//! Vectors that are written with no header.
+//! Vectors that are encoded without a header.
 
 pub use amqp_data::TransparentVec;

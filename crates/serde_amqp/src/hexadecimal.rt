@@ -1,4 +1,4 @@
-//! Lower-case hexadecimal.
+//! Lower-case hexadecimal digits.
 
 ghost use Rattle.std.specs.Prelude.{◌≡◌, ◌++◌, OnOk, IsOkUnless};
 ghost use Rattle.amqp_data.specs.Hexadecimal.{hex};

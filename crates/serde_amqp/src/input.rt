@@ -1,4 +1,4 @@
-//! The whole of an input.
+//! Reads all bytes of an input.
 
 ghost use Rattle.std.specs.Prelude.{◌≡◌, ◌≤◌, ◌⊎◌, IfOk, IfErr, IsErrOf};
 ghost use Rattle.std.specs.Io.KnownBytes.{Consumes, IsAtEnd};
@@ -8,7 +8,7 @@ use amqp_data::Error;
 use amqp_frame::Read;
 use std::alloc::Global;
 
-// Takes all bytes up to the end.
+// Reads all bytes up to the end.
 pub(crate) fn read_to_end<R: Read>(alloc: Global, reader: &mut R) -> Result<Vec<u8>, Error>
     ensures ok { IfOk result (λ bytes.
         Consumes (R.left reader.old) (R.left reader.new) bytes.items

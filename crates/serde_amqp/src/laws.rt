@@ -1,4 +1,4 @@
-//! Laws of the definitions alone. A caller learns one by calling its function.
+//! Laws about the definitions. Calling a function makes its law available to the caller.
 
 ghost use Rattle.std.specs.Prelude.{◌≡◌, ◌≤◌, ℕ, List, Some, true};
 ghost use Rattle.amqp_data.specs.declared.error.Error.{Error};
@@ -16,22 +16,23 @@ ghost use Rattle.serde_amqp.specs.Lines.{lines_of, AreLines};
 
 use amqp_value::Value;
 
-/// Every text is its lines with 0A after each, which may be left out after the last.
+/// Every text is its lines, each followed by 0A; the last 0A may be absent.
 ///
 /// # Memory
 ///
-/// Takes none.
+/// Allocates nothing.
 pub fn text_is_its_lines()
     ensures { (s : List ℕ) → AreLines s (lines_of s) }
 {}
 
-/// The lazy value of a tree's bytes stands for the tree's image: where the tree can be written, is
-/// at most 256 deep and has nothing lazy or transparent in it, such a lazy value has that image,
-/// and it is refused as out of memory alone.
+/// A lazy value that holds the encoding of a tree has the image of that tree.
+///
+/// The tree must be ranged, writable, at most 256 levels deep, and without lazy and transparent
+/// trees inside. The only error for such a lazy value is `OutOfMemory`.
 ///
 /// # Memory
 ///
-/// Takes none.
+/// Allocates nothing.
 pub fn lazy_values_have_the_image_of_what_they_hold()
     ensures image { (t : Tree) (v : Value) → IsRanged t → writable t ≡ true → IsOrdinary t →
         depth_of t ≤ 256 → StandsFor v (Some (lazy (encoding t))) → tree_of v ≡ image t }
@@ -39,11 +40,11 @@ pub fn lazy_values_have_the_image_of_what_they_hold()
         depth_of t ≤ 256 → refuses e (Some (lazy (encoding t))) → e ≡ OutOfMemory }
 {}
 
-/// Plain trees that can be written have the same bytes exactly where they have one image.
+/// Plain, ranged and writable trees have the same encoding if and only if they have the same image.
 ///
 /// # Memory
 ///
-/// Takes none.
+/// Allocates nothing.
 pub fn same_bytes_exactly_where_one_image()
     ensures bytes { (t u : Tree) → IsPlain t → IsPlain u → image t ≡ image u →
         encoding t ≡ encoding u }

@@ -1,15 +1,15 @@
-//! AMQP 1.0 data: values, their bytes and their lengths.
+//! AMQP 1.0 data: values, their encoding and its length.
 //!
-//! One `Serialize` gives three things: the length of a value's bytes ([`serialized_size`], without
-//! memory), the bytes ([`to_vec`]) and the untyped [`Value`] ([`to_value`]). One `Deserialize`
-//! reads a type out of that again ([`from_value`]). [`lazy::LazyValue`] cuts one encoded value off
-//! any reader, with no look at what it holds; [`to_value`] of it reads that, as
-//! [`decode::decode_value`] does of bytes.
+//! One `Serialize` implementation provides the length of a value's encoding ([`serialized_size`],
+//! without allocating), the encoding ([`to_vec`]) and the untyped [`Value`] ([`to_value`]). One
+//! `Deserialize` implementation reads a type from a [`Value`] ([`from_value`]). [`lazy::LazyValue`]
+//! reads one encoded value from any reader without decoding its content; [`to_value`] decodes it,
+//! as [`decode::decode_value`] decodes bytes.
 //!
-//! This crate is the top of the workspace. Its modules hand out what the crates below have, under
+//! This crate is the top of the workspace. Its modules re-export items of the crates below under
 //! the names of the Rust crate `serde_amqp`. It adds [`Write`], the counterpart of [`read::Read`],
-//! and the program's two runs over any reader and writer, whose output is a function of the bytes
-//! read.
+//! and [`run_cut`] and [`run_lines`], the two runs of the program over any reader and writer. The
+//! output of a run is a function of the bytes read.
 #![tactic(auto)]
 
 mod cut;

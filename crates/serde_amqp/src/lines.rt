@@ -1,4 +1,4 @@
-//! The length, the bytes and the text of the lines of the input.
+//! Prints the length, the encoding and the text of the list of the input's lines.
 
 ghost use Rattle.std.specs.Prelude.{◌≡◌, ◌≤◌, ◌⊎◌, true, false, IfOk, OnOk, IfErr, IfSome, IsErrOf, IsOkUnless, IsUtf8};
 ghost use Rattle.std.specs.Io.KnownBytes.{Appends, IsAtEnd};
@@ -22,12 +22,12 @@ use amqp_wire::to_vec;
 use std::alloc::Global;
 use std::str;
 
-/// Prints the length, the bytes and the text of the list of the input's lines.
+/// Prints the length, the encoding and the text of the list of the input's lines.
 ///
-/// The lines are the parts before each 0A, and a last part without 0A where it is not empty; 0D is
-/// kept. All input is read. Then it prints `size ` and the length in decimal, `bytes ` and the
-/// bytes in lower-case hexadecimal, and `text ` and the text of the list, each with 0A after it,
-/// and flushes.
+/// Reads all input. A line ends before each 0A, and the text after the last 0A is a line if it is
+/// not empty; 0D is kept. The output is three lines: `size ` and the length in decimal, `bytes `
+/// and the encoding in lower-case hexadecimal, and `text ` and the text of the list, each followed
+/// by 0A. The writer is flushed at the end.
 ///
 /// # Encoding
 ///
@@ -35,31 +35,32 @@ use std::str;
 ///
 /// # Errors
 ///
-/// [`Error::InvalidValue`] where the input is not UTF-8, and [`Error::TooLong`] where the list of
-/// its lines is past a limit; nothing was put then. [`Error::Io`] where a read or a write failed,
-/// and [`Error::OutOfMemory`]; a prefix of the three lines was put then.
+/// Returns [`Error::InvalidValue`] if the input is not UTF-8, and [`Error::TooLong`] if the list of
+/// its lines exceeds a limit; nothing was written. Returns [`Error::Io`] if a read or a write
+/// fails, and [`Error::OutOfMemory`] if an allocation fails; a prefix of the three lines was
+/// written.
 ///
 /// # Memory
 ///
-/// Takes `alloc`, for the input and for what is printed.
+/// Allocates the input and the output from `alloc`.
 ///
 /// # Example
 ///
-/// For the lines `a` and `bc` it prints `size 10`, `bytes c00802a10161a1026263` and `text ["a",
-/// "bc"]`.
+/// For the lines `a` and `bc`, prints `size 10`, `bytes c00802a10161a1026263` and
+/// `text ["a", "bc"]`.
 pub fn run_lines<R: Read, W: Write>(
     alloc: Global,
     reader: &mut R,
     writer: &mut W,
 ) -> Result<(), Error>
-    // What was read and put.
+    // What was read and written.
     ensures read { OnOk result (IsAtEnd (R.left reader.new)) }
     ensures ok { OnOk result (IfSome (R.left reader.old) (λ s.
         Appends (W.written writer.old) (W.written writer.new) (lines_out s))) }
     ensures refused { IfErr result (λ e. IfSome (R.left reader.old) (λ s.
         LinesRefuses s (W.written writer.old) (W.written writer.new) e)) }
     ensures flushed { OnOk result (W.flushed writer.new) }
-    // When each answer comes.
+    // When each result is returned.
     ensures exact { IfSome (R.left reader.old) (λ s. LinesDecidedBy s result) }
     ensures io { IsErrOf result Error.Io → Failed (R.failures reader.old) (R.failures reader.new)
         ⊎ Failed (W.failures writer.old) (W.failures writer.new) }
@@ -72,7 +73,7 @@ pub fn run_lines<R: Read, W: Write>(
     writer.flush()
 }
 
-// What is printed for an input.
+// Returns the output for an input.
 fn report_on(alloc: Global, input: &[u8]) -> Result<Vec<u8>, Error>
     ensures ok { IfOk result (λ report. IsReportable input.now
         × (report.items ≡ lines_out input.now)) }
@@ -88,7 +89,7 @@ fn report_on(alloc: Global, input: &[u8]) -> Result<Vec<u8>, Error>
     report_lines(alloc, &lines)
 }
 
-// The length, the bytes and the text of the list of these strings.
+// Returns the output for the list of these strings.
 fn report_lines(alloc: Global, lines: &Vec<&str>) -> Result<Vec<u8>, Error>
     ensures ok { IfOk result (λ text. let t = strings_tree (texts lines.now.items) in
         (writable t ≡ true) × (text.items ≡ report t)) }
@@ -102,7 +103,7 @@ fn report_lines(alloc: Global, lines: &Vec<&str>) -> Result<Vec<u8>, Error>
     print_report(alloc, size, &bytes, &value)
 }
 
-// Each in a line of its own.
+// Formats the three lines of the report.
 #[tactic(auto, unfolding(crate::specs::Lines::three_lines))]
 fn print_report(alloc: Global, size: usize, bytes: &[u8], value: &Value) -> Result<Vec<u8>, Error>
     ensures ok { IfOk result (λ text.

@@ -1,3 +1,3 @@
-//! What bytes are read from.
+//! Sources of bytes.
 
 pub use amqp_frame::{IoReader, Read, SliceReader};

@@ -1,7 +1,7 @@
-//! What can be serialized, into what, and a value's bytes; and what a serializer of one's own is
-//! written with.
+//! Serialization: the traits, the encoding of a value, and helpers for user-defined serializers.
 //!
-//! The macro `fields!` stands in `amqp_ser` alone: a crate does not hand on the macros of another.
+//! The macro `fields!` is exported by `amqp_ser` only: a crate cannot re-export the macros of
+//! another.
 
 pub use amqp_data::markers;
 pub use amqp_ser::{

@@ -1,5 +1,5 @@
-//! The length of a value's bytes, counted without memory, the serializer behind it, and the lengths
-//! of headers.
+//! Length of a value's encoding, computed without allocating; the serializer that computes it; and
+//! the lengths of headers.
 
 pub use amqp_size::{
     MapSerializer, SeqSerializer, SizeSerializer, StructSerializer, StructVariantSerializer,

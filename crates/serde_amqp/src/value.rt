@@ -1,4 +1,4 @@
-//! The untyped value, how any value with a data tree becomes one, and how a type is read out of it.
+//! The untyped value, conversion of any value with a tree to it, and reading a type from it.
 
 pub mod de;
 pub mod ser;

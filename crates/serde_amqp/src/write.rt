@@ -1,4 +1,4 @@
-//! The trait of what bytes are written to.
+//! Destinations of bytes.
 
 ghost use Rattle.std.specs.Prelude.{◌≡◌, ◌≤◌, ◌⊎◌, ℕ, Bool, List, Option, OnOk, OnErr, IfErr, IsErrOf, IsOkUnless};
 ghost use Rattle.std.specs.Io.KnownBytes.{Keeps, Appends};
@@ -7,36 +7,38 @@ ghost use Rattle.serde_amqp.specs.Writer.{TakesPrefix};
 
 use amqp_data::Error;
 
-/// Takes bytes one after another, and counts its failures.
+/// Destination of bytes, which counts its failures.
 ///
-/// For implementers: `written` is the bytes taken so far, where the writer can tell them, and
-/// `failures` a `u64` that no call lowers. A call answers [`Error::Io`] only where it raised that
-/// count or found it at its last value, and at its last value always. So a writer whose count never
-/// rises never fails.
+/// # Implementer notes
+///
+/// `put` and `flush` are required. `written` is the bytes taken so far, if the writer knows them;
+/// `failures` is a `u64` that no call decreases. A call returns [`Error::Io`] only if it increased
+/// that count or if the count was already `u64::MAX`, and always in the latter case. So a writer
+/// whose count never rises and is below `u64::MAX` never returns [`Error::Io`].
 pub trait Write {
-    /// The bytes taken, where the writer tells them.
+    /// The bytes taken so far, if the writer knows them.
     ghost written: { Self → Option (List ℕ) };
 
-    /// How many writes failed.
+    /// Number of failures so far.
     ghost failures: { Self → ℕ };
 
-    /// What a call makes of the count, where the writer says more than the clauses do: from whether
-    /// it answered [`Error::Io`], the count before and the count after.
+    /// Further law on the failure count, if the clauses do not say all of it: relates whether the
+    /// call returned [`Error::Io`], the count before it and the count after it.
     ghost counts: { Bool → ℕ → ℕ → Type 0 } = { λ _ _ _. Unit {0} };
 
-    /// Nothing that was taken is held back, where the writer can tell.
+    /// No byte taken is still buffered, if the writer knows.
     ghost flushed: { Self → Type 0 } = { λ _. Unit {0} };
 
-    /// Takes the bytes.
+    /// Writes all of `bytes`.
     ///
     /// # Errors
     ///
-    /// [`Error::OutOfMemory`] where the writer keeps them, and [`Error::Io`] where a write failed;
-    /// a prefix of the bytes was taken then.
+    /// Returns [`Error::OutOfMemory`] if the writer stores the bytes and an allocation fails, and
+    /// [`Error::Io`] if a write fails; a prefix of the bytes was taken.
     ///
     /// # Memory
     ///
-    /// Takes the writer's own, if it has any.
+    /// Only what the writer itself allocates.
     fn put(&mut self, bytes: &[u8]) -> Result<(), Error>
         ensures ok { OnOk result (Appends (written self.old) (written self.new) bytes.now) }
         ensures prefix { OnErr result
@@ -47,15 +49,15 @@ pub trait Write {
         ensures counts { counts (answers_io result) (failures self.old) (failures self.new) }
         ensures count { failures self.old ≤ failures self.new };
 
-    /// Passes on what was taken.
+    /// Flushes the bytes taken so far.
     ///
     /// # Errors
     ///
-    /// [`Error::Io`] where that failed.
+    /// Returns [`Error::Io`] if that fails.
     ///
     /// # Memory
     ///
-    /// Takes none.
+    /// Allocates nothing.
     fn flush(&mut self) -> Result<(), Error>
         ensures ok { OnOk result (flushed self.new) }
         ensures io { IfErr result (λ e.

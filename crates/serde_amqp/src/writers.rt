@@ -1,4 +1,4 @@
-//! Writers into memory, and into what `std` writes to.
+//! Writers into memory and into a `std::io::Write`.
 
 ghost use Rattle.std.specs.Prelude.{◌≡◌, ◌<◌, ◌+◌, [], Some, OnOk, OnErr, IsOkUnless};
 ghost use Rattle.std.specs.Io.KnownBytes.{Appends};
@@ -10,18 +10,18 @@ use amqp_data::Error;
 use std::alloc::Global;
 use std::io;
 
-/// The bytes taken, in memory; no call answers [`Error::Io`].
+/// Writer that stores the bytes in memory; no call returns [`Error::Io`].
 #[derive(Drop)]
 pub struct VecWriter {
     bytes: Vec<u8>,
 }
 
 impl VecWriter {
-    /// Writes into memory, with no byte taken yet.
+    /// Creates a writer that has taken no bytes.
     ///
     /// # Memory
     ///
-    /// Takes `alloc`, for the bytes to come.
+    /// Allocates nothing yet; the bytes written later are allocated from `alloc`.
     pub fn new(alloc: Global) -> VecWriter
         ensures written { ⟦<VecWriter as Write>⟧.written result ≡ Some [] }
         ensures failures { ⟦<VecWriter as Write>⟧.failures result ≡ 0 }
@@ -31,22 +31,22 @@ impl VecWriter {
         }
     }
 
-    /// The bytes taken.
+    /// Returns the bytes taken so far.
     ///
     /// # Memory
     ///
-    /// Takes none.
+    /// Allocates nothing.
     pub fn as_slice(&self) -> &[u8]
         ensures bytes { ⟦<VecWriter as Write>⟧.written self.now ≡ Some result.now }
     {
         self.bytes.as_slice()
     }
 
-    /// The bytes taken, handed out.
+    /// Consumes the writer and returns the bytes taken.
     ///
     /// # Memory
     ///
-    /// Takes none.
+    /// Allocates nothing.
     pub fn into_inner(self) -> Vec<u8>
         ensures bytes { ⟦<VecWriter as Write>⟧.written self ≡ Some result.items }
     {
@@ -70,10 +70,10 @@ impl Write for VecWriter {
     }
 }
 
-/// The bytes go to a `std` writer.
+/// Writer that passes the bytes to a `std::io::Write`.
 ///
-/// Each failed write counts one failure, and so does one that takes no bytes; no write is tried
-/// again. A call that does not fail counts none.
+/// A call that fails adds one to the failure count, up to `u64::MAX`; a call that succeeds leaves
+/// it unchanged. A write that takes no bytes is a failure. No failed write is retried.
 #[derive(Drop)]
 pub struct IoWriter<W> {
     inner: W,
@@ -81,11 +81,11 @@ pub struct IoWriter<W> {
 }
 
 impl<W: io::Write> IoWriter<W> {
-    /// Writes to `inner`, with no failure counted yet.
+    /// Creates a writer to `inner`, with a failure count of 0.
     ///
     /// # Memory
     ///
-    /// Takes none.
+    /// Allocates nothing.
     pub fn new(inner: W) -> IoWriter<W>
         ensures written { ⟦<IoWriter<W> as Write>⟧.written result ≡ W.contents inner }
         ensures failures { ⟦<IoWriter<W> as Write>⟧.failures result ≡ 0 }
@@ -122,7 +122,7 @@ impl<W: io::Write> Write for IoWriter<W> {
     }
 }
 
-// Writes until all bytes are taken.
+// Writes until `inner` has taken all bytes.
 fn put_all<W: io::Write>(inner: &mut W, bytes: &[u8], failures: &mut u64) -> Result<(), Error>
     requires { failures.old < last_count }
     ensures ok { OnOk result (Appends (W.contents inner.old) (W.contents inner.new) bytes.now) }

@@ -1,6 +1,6 @@
-//! The tests of the crates below bytes: `amqp_calendar`, `amqp_data`, `amqp_frame`, `amqp_size` and
-//! `amqp_wire`. They are one crate, since each crate of tests loads and proves its libraries' types
-//! once more.
+//! Tests of the crates up to the encoding: `amqp_calendar`, `amqp_data`, `amqp_frame`, `amqp_size`
+//! and `amqp_wire`. They share one crate because every test crate loads and proves the types of its
+//! libraries again.
 #![tactic(auto)]
 
 #[cfg(test)]

@@ -1,5 +1,5 @@
-//! Rows that no contract states. A row is a call that answers a bool and prints the row's name and
-//! the value that it got if that is not the expected one.
+//! Tests of what no contract states. A row is a call that returns a bool; it prints the name of the
+//! row and the actual value if that is not the expected one.
 
 mod calendar;
 mod calls;

@@ -1,4 +1,4 @@
-//! Calls on encoded values that look at no payload.
+//! Calls that find the end of an encoded value without decoding its payload.
 
 use crate::notation::word_of;
 use crate::row::refusal;
@@ -7,7 +7,8 @@ use amqp_decode::decode_value;
 use amqp_frame::{LazyValue, Read, SliceReader, frame_len, is_frame};
 use std::alloc::Global;
 
-/// The length of the encoded value that the bytes begin with, and whether it is all of them.
+/// Returns the length of the encoded value at the start of the bytes, and whether it is all of
+/// them.
 pub fn frame(alloc: Global, bytes: &[u8]) -> Result<String, Error> {
     let whole = is_frame(bytes);
     match frame_len(bytes) {
@@ -16,7 +17,7 @@ pub fn frame(alloc: Global, bytes: &[u8]) -> Result<String, Error> {
     }
 }
 
-/// What `LazyValue::from_reader` answers, call by call, until no byte is left.
+/// Returns the result of each call of `LazyValue::from_reader` until no byte is left.
 pub fn cut(alloc: Global, bytes: &[u8]) -> Result<String, Error> {
     let mut reader = SliceReader::new(bytes);
     let mut text = next(alloc, &mut reader)?;
@@ -30,7 +31,7 @@ pub fn cut(alloc: Global, bytes: &[u8]) -> Result<String, Error> {
     Ok(text)
 }
 
-// The next encoded value, or why there is none.
+// Returns the next encoded value, or the error.
 fn next(alloc: Global, reader: &mut SliceReader<'_>) -> Result<String, Error> {
     match LazyValue::from_reader(alloc, reader) {
         Ok(value) => word_of(alloc, value.as_slice()),
@@ -38,7 +39,7 @@ fn next(alloc: Global, reader: &mut SliceReader<'_>) -> Result<String, Error> {
     }
 }
 
-/// How many proper prefixes the bytes have, and how many of them are incomplete.
+/// Returns the number of proper prefixes of the bytes, and the number of incomplete ones.
 pub fn prefixes(alloc: Global, bytes: &[u8]) -> Result<String, Error> {
     let mut incomplete = 0usize;
     for end in 0..bytes.len() {
@@ -50,7 +51,7 @@ pub fn prefixes(alloc: Global, bytes: &[u8]) -> Result<String, Error> {
     Ok(format!(in alloc; "{} {incomplete}", bytes.len())?)
 }
 
-// Whether `decode_value` and `LazyValue::from_reader` answer that the input ends too early, and
+// Returns whether `decode_value` and `LazyValue::from_reader` fail with `UnexpectedEof` and
 // `frame_len` finds no encoded value.
 fn is_incomplete(alloc: Global, bytes: &[u8]) -> bool {
     let value = decode_value(alloc, bytes);

@@ -1,23 +1,24 @@
-//! Answers rows: prints each line of the input, and after it what its call answers.
+//! Evaluates rows: prints each line of the input, followed by the result of its call.
 //!
 //! A row is the name of a call and its arguments, with bytes in hexadecimal (`notation`). A line
-//! that begins with `#` is a comment. Comments and empty lines are printed as they are.
+//! that begins with `#` is a comment. Comments and empty lines are printed unchanged.
 //!
-//! | Row | Answer |
+//! | Row | Result |
 //! |---|---|
-//! | `decode BYTES` | the value, as the bytes that `to_vec` writes and its text |
-//! | `decode_within LIMIT BYTES` | the same, by `decode_value_within` |
+//! | `decode BYTES` | the value, as the bytes that `to_vec` returns and its text |
+//! | `decode_within LIMIT BYTES` | like `decode`, with `decode_value_within` |
 //! | `code BYTES` | the format code of the value |
-//! | `count BYTES` | how many elements or pairs the compound has |
-//! | `depth BYTES` | how many lists are around the empty one |
+//! | `count BYTES` | the number of elements or pairs of the compound |
+//! | `depth BYTES` | the number of lists around the empty one |
 //! | `compare BYTES BYTES` | `cmp` of the two values, and which of `<`, `=` and `>` are true |
 //! | `frame BYTES` | `frame_len` and `is_frame` |
-//! | `cut BYTES` | what each call of `LazyValue::from_reader` answers until no byte is left |
-//! | `prefixes BYTES` | how many proper prefixes there are, and how many are incomplete |
+//! | `cut BYTES` | the result of each call of `LazyValue::from_reader` until no byte is left |
+//! | `prefixes BYTES` | the number of proper prefixes, and of incomplete ones |
 //! | `read TYPE BYTES` | the value as this type: its size, its bytes, and its image like `decode` |
 //! | `readers BYTES` | the scalar types that read the value |
 //!
-//! An error is printed in angle brackets. A value's bytes tell its kind, which its text does not.
+//! An error is printed in angle brackets. The bytes of a value show its kind, which its text does
+//! not.
 #![tactic(auto)]
 
 mod cuts;
@@ -46,7 +47,7 @@ fn main(rt: HostRuntime) -> io::Result<()> {
     output.flush()
 }
 
-// What is printed after the line: nothing after a comment.
+// Returns what is printed after the line, `None` after a comment or an empty line.
 fn printed(alloc: Global, line: &str) -> Option<String> {
     if line.is_empty() || line.starts_with('#') {
         return None;

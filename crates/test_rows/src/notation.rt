@@ -1,14 +1,14 @@
 //! Bytes in hexadecimal, with repetition.
 //!
-//! A word is parts joined by `+`. `HEX` denotes bytes, and `HEX*COUNT` so many times these bytes.
-//! `CODE^COUNT` denotes so many compounds of one element, one inside another, around all that
+//! A word consists of parts joined by `+`. `HEX` denotes bytes, and `HEX*COUNT` these bytes `COUNT`
+//! times. `CODE^COUNT` denotes `COUNT` nested compounds of one element around everything that
 //! follows: each has the code, a size and a count of four bytes each, and the element. `-` denotes
 //! no bytes.
 
 use amqp_data::Error;
 use std::alloc::Global;
 
-/// The bytes that the word denotes.
+/// Returns the bytes that the word denotes.
 pub fn bytes_of(alloc: Global, word: &str) -> Result<Vec<u8>, Error> {
     let mut bytes = Vec::new(alloc);
     if word == "-" {
@@ -21,7 +21,7 @@ pub fn bytes_of(alloc: Global, word: &str) -> Result<Vec<u8>, Error> {
     Ok(bytes)
 }
 
-/// The word that denotes the bytes.
+/// Returns the word that denotes the bytes.
 pub fn word_of(alloc: Global, bytes: &[u8]) -> Result<String, Error> {
     if bytes.is_empty() {
         return Ok(String::from_str(alloc, "-")?);
@@ -29,7 +29,7 @@ pub fn word_of(alloc: Global, bytes: &[u8]) -> Result<String, Error> {
     Ok(hex::encode(alloc, bytes)?)
 }
 
-/// The number that the word denotes, in decimal.
+/// Returns the decimal number that the word denotes.
 pub fn number_of(word: &str) -> Result<u32, Error> {
     match word.parse() {
         Ok(number) => Ok(number),
@@ -37,7 +37,7 @@ pub fn number_of(word: &str) -> Result<u32, Error> {
     }
 }
 
-// The bytes of one part, followed by the rest.
+// Returns the bytes of one part, followed by the rest.
 fn followed(alloc: Global, part: &str, rest: &[u8]) -> Result<Vec<u8>, Error> {
     let mut bytes = if let Some((digits, count)) = part.split_once('*') {
         repeated(alloc, &digits_of(alloc, digits)?, number_of(count)?)?
@@ -70,7 +70,7 @@ fn repeated(alloc: Global, piece: &[u8], count: u32) -> Result<Vec<u8>, Error> {
     Ok(bytes)
 }
 
-// What is before the bytes inside so many compounds of one element.
+// Returns the headers of `depth` nested compounds of one element around `inside` bytes.
 fn opened(alloc: Global, code: &[u8], depth: u32, inside: usize) -> Result<Vec<u8>, Error> {
     let Ok(inside) = u32::try_from(inside) else {
         return Err(Error::TooLong);

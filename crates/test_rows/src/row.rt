@@ -1,10 +1,10 @@
-//! A row's call.
+//! The call of a row.
 
 use crate::{cuts, notation, types, values};
 use amqp_data::Error;
 use std::alloc::Global;
 
-/// What the row's call answers.
+/// Returns the result of the row's call.
 pub fn answer(alloc: Global, line: &str) -> Result<String, Error> {
     let Some((call, arguments)) = line.split_once(' ') else {
         return Err(Error::Message("no arguments"));
@@ -17,7 +17,7 @@ pub fn answer(alloc: Global, line: &str) -> Result<String, Error> {
     }
 }
 
-// The answer of a call whose one argument is bytes.
+// Returns the result of a call whose only argument is bytes.
 fn of_bytes(alloc: Global, call: &str, bytes: &[u8]) -> Result<String, Error> {
     match call {
         "decode" => values::decode(alloc, bytes),
@@ -32,7 +32,7 @@ fn of_bytes(alloc: Global, call: &str, bytes: &[u8]) -> Result<String, Error> {
     }
 }
 
-/// The error in angle brackets.
+/// Returns the error in angle brackets.
 pub fn refusal(alloc: Global, error: &Error) -> Result<String, Error> {
     Ok(format!(in alloc; "<{error}>")?)
 }

@@ -1,4 +1,4 @@
-//! Values read as a type, by the type's name.
+//! Values read as a type, which is given by name.
 
 use crate::notation::{bytes_of, word_of};
 use crate::values::shown;
@@ -42,7 +42,7 @@ const SCALARS: [&str; 21] = [
     "Symbol",
 ];
 
-/// The value as a type: `TYPE BYTES`.
+/// Reads the value as a type; the arguments are `TYPE BYTES`.
 pub fn read(alloc: Global, arguments: &str) -> Result<String, Error> {
     let Some((name, bytes)) = arguments.split_once(' ') else {
         return Err(Error::Message("one argument"));
@@ -50,7 +50,7 @@ pub fn read(alloc: Global, arguments: &str) -> Result<String, Error> {
     by_name(alloc, name, &bytes_of(alloc, bytes)?)
 }
 
-/// The names of the scalar types that read the value, or `none`.
+/// Returns the names of the scalar types that read the value, or `none`.
 pub fn readers(alloc: Global, bytes: &[u8]) -> Result<String, Error> {
     let mut names = String::new(alloc);
     for name in &SCALARS {
@@ -74,7 +74,7 @@ fn by_name(alloc: Global, name: &str, bytes: &[u8]) -> Result<String, Error> {
     }
 }
 
-// The value as this type: its size, its bytes and its image.
+// Reads the value as this type, and returns its size, its bytes and its image.
 fn read_as<T: Serialize + Deserialize>(alloc: Global, value: Value) -> Result<String, Error> {
     let read: T = from_value(alloc, value)?;
     let size = serialized_size(&read)?;
@@ -83,7 +83,7 @@ fn read_as<T: Serialize + Deserialize>(alloc: Global, value: Value) -> Result<St
     written(alloc, size, &bytes, &image)
 }
 
-// The size, the bytes, and the image's bytes and text.
+// Formats the size, the bytes, and the bytes and the text of the image.
 fn written(alloc: Global, size: usize, bytes: &[u8], image: &Value) -> Result<String, Error> {
     let mut text = format!(in alloc; "{size} ")?;
     text.push_str(&word_of(alloc, bytes)?)?;

@@ -8,12 +8,12 @@ use amqp_wire::to_vec;
 use std::alloc::Global;
 use std::cmp::Ordering;
 
-/// The bytes that the decoded value is written as, and its text.
+/// Returns the encoding of the decoded value, and its text.
 pub fn decode(alloc: Global, bytes: &[u8]) -> Result<String, Error> {
     shown(alloc, &decode_value(alloc, bytes)?)
 }
 
-/// Like `decode`, within a limit of elements that have no bytes: `LIMIT BYTES`.
+/// Like `decode`, with a limit on elements that have no bytes; the arguments are `LIMIT BYTES`.
 pub fn decode_within(alloc: Global, arguments: &str) -> Result<String, Error> {
     let Some((limit, bytes)) = arguments.split_once(' ') else {
         return Err(Error::Message("one argument"));
@@ -25,13 +25,13 @@ pub fn decode_within(alloc: Global, arguments: &str) -> Result<String, Error> {
     )
 }
 
-/// The format code of the value, in hexadecimal.
+/// Returns the format code of the value, in hexadecimal.
 pub fn code(alloc: Global, bytes: &[u8]) -> Result<String, Error> {
     let code = decode_value(alloc, bytes)?.format_code();
     Ok(format!(in alloc; "{code:02x}")?)
 }
 
-/// How many elements the list or the array has, or how many pairs the map.
+/// Returns the number of elements of the list or array, or of pairs of the map.
 pub fn count(alloc: Global, bytes: &[u8]) -> Result<String, Error> {
     let count = match &decode_value(alloc, bytes)? {
         Value::List(items) => items.len(),
@@ -42,7 +42,7 @@ pub fn count(alloc: Global, bytes: &[u8]) -> Result<String, Error> {
     Ok(format!(in alloc; "{count}")?)
 }
 
-/// How many lists are around the empty one.
+/// Returns the number of lists around the empty one.
 pub fn depth(alloc: Global, bytes: &[u8]) -> Result<String, Error> {
     let value = decode_value(alloc, bytes)?;
     match depth_of(&value) {
@@ -51,7 +51,7 @@ pub fn depth(alloc: Global, bytes: &[u8]) -> Result<String, Error> {
     }
 }
 
-/// The order of two values by `cmp`, and which of `<`, `=` and `>` are true of them.
+/// Returns the order of two values by `cmp`, and which of `<`, `=` and `>` are true for them.
 pub fn compare(alloc: Global, arguments: &str) -> Result<String, Error> {
     let Some((first, second)) = arguments.split_once(' ') else {
         return Err(Error::Message("one argument"));
@@ -73,7 +73,8 @@ fn order_of(first: &Value, second: &Value) -> &'static str {
     }
 }
 
-/// The bytes that the value is written as, and its text, which `format!` and `to_string` give.
+/// Returns the encoding of the value and its text, which is the same from `format!` and
+/// `to_string`.
 pub fn shown(alloc: Global, value: &Value) -> Result<String, Error> {
     let text = value.to_string(alloc)?;
     if format!(in alloc; "{value}")?.as_str() != text.as_str() {
@@ -85,7 +86,7 @@ pub fn shown(alloc: Global, value: &Value) -> Result<String, Error> {
     Ok(shown)
 }
 
-// How many lists are around the empty one.
+// Returns the number of lists around the empty one.
 fn depth_of(value: &Value) -> Option<u32> {
     let mut inner = value;
     for depth in 0..1000u32 {

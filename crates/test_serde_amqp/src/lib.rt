@@ -1,4 +1,4 @@
-//! The tests of `serde_amqp`, in a crate of their own, since a crate with tests is proved twice.
+//! Tests of `serde_amqp`, in a separate crate because a crate with tests is proved twice.
 #![tactic(auto)]
 
 #[cfg(test)]

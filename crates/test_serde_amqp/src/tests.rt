@@ -1,5 +1,5 @@
-//! Rows of the public calls, and of the program's two runs over readers and writers in memory, some
-//! of which fail.
+//! Tests of the public calls, and of the program's two runs over readers and writers in memory,
+//! some of which fail.
 
 mod composites;
 mod compounds;

@@ -1,5 +1,5 @@
-//! Tests of `amqp_value`, `amqp_to_value` and `amqp_from_value`. They are one crate of their own,
-//! so that they are proved once.
+//! Tests of `amqp_value`, `amqp_to_value` and `amqp_from_value`, in a separate crate so that the
+//! three are proved only once.
 #![tactic(auto)]
 
 #[cfg(test)]

@@ -1,7 +1,7 @@
-//! What no clause says: worked rows of untyped values.
+//! Tests of what no contract states: examples of untyped values.
 //!
-//! A row is a call that answers whether its result is the expected one, and that prints the row's
-//! name and the result if it is not.
+//! A row is a call that returns whether its result is the expected one; if not, it prints the name
+//! of the row and the result.
 
 mod from_value;
 mod rows;

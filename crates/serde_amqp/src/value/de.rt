@@ -1,3 +1,3 @@
-//! What reads a type out of an untyped value.
+//! Deserializer that reads a type from an untyped value.
 
 pub use amqp_from_value::{Deserializer, MapAccess, SeqAccess, VariantAccess, from_value};

@@ -1,4 +1,4 @@
-//! The serializer that makes an untyped value.
+//! Serializer that builds an untyped value.
 
 pub use amqp_to_value::{
     MapSerializer, SeqSerializer, Serializer, StructSerializer, StructVariantSerializer,

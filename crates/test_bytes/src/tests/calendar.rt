@@ -1,4 +1,4 @@
-//! Dates of days, and the laws as functions: the clauses say the rest.
+//! Dates of days, and the laws called as functions. The contracts state the rest.
 
 use super::compare::is;
 use amqp_calendar::{civil_from_days, laws};

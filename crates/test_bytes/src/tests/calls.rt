@@ -1,5 +1,5 @@
-//! The calls that each type makes to a serializer, as a serializer that records and counts them
-//! gives them: each generic impl at one type.
+//! The calls that each type makes to a serializer, recorded and counted by a serializer. Each
+//! generic implementation is tested with one type.
 
 mod composites;
 mod looks;
@@ -17,12 +17,12 @@ use amqp_data::{
 use amqp_ser::{ListOf, MapOf, Serialize, SymbolMapOf, VariantOf, fields};
 use std::collections::BTreeMap;
 
-/// Whether the value makes these calls.
+/// Returns whether the value makes these calls.
 fn makes<T: Serialize>(rt: &HostRuntime, value: &T, calls: &str) -> bool {
     is(rt, "the calls", calls_of(rt.alloc(), value).as_str(), calls)
 }
 
-/// Whether the value was built, and makes these calls.
+/// Returns whether the value was built and makes these calls.
 fn built<T: Serialize + Drop>(rt: &HostRuntime, value: Option<T>, calls: &str) -> bool {
     match value {
         Some(value) => makes(rt, &value, calls),
@@ -30,7 +30,7 @@ fn built<T: Serialize + Drop>(rt: &HostRuntime, value: Option<T>, calls: &str) -
     }
 }
 
-/// Whether these calls were recorded.
+/// Returns whether these calls were recorded.
 fn recorded(rt: &HostRuntime, calls: &Calls, wanted: &str) -> bool {
     is(rt, "the calls", calls.as_str(), wanted)
 }

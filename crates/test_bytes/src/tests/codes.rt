@@ -4,7 +4,7 @@ use super::compare::{in_row, is};
 use amqp_data::EncodingCodes::*;
 use amqp_data::{EncodingCodes, Error};
 
-// The accepted codes, as AMQP 1.0 part 1 lists them in section 1.6, and 00 of section 1.2.
+// The valid codes: those of AMQP 1.0 part 1, section 1.6, and 00 of section 1.2.
 const TABLE: [(u8, EncodingCodes); 40] = [
     (0x00, DescribedType),
     (0x40, Null),

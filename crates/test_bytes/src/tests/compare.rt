@@ -2,7 +2,7 @@
 
 use std::fmt::Debug;
 
-/// Whether the value is the expected one.
+/// Returns whether the value is the expected one.
 pub fn is<T: PartialEq + Debug + Drop>(rt: &HostRuntime, name: &str, got: T, wanted: T) -> bool {
     got == wanted || println!(rt; "{name}: got {got:?}, expected {wanted:?}").is_err() && false
 }
@@ -12,7 +12,7 @@ pub fn in_row(rt: &HostRuntime, row: usize) -> bool {
     println!(rt; "in row {row}").is_err() && false
 }
 
-/// Whether the slice has the expected items.
+/// Returns whether the slice has the expected items.
 pub fn slice_is<T: PartialEq + Debug>(
     rt: &HostRuntime,
     name: &str,

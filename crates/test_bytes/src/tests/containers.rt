@@ -45,7 +45,7 @@ fn described_values(rt: &HostRuntime) -> bool {
     )
 }
 
-/// Whether a key is inserted, and the value that it had is the expected one.
+/// Inserts an entry, and returns whether the replaced value is the expected one.
 fn inserts<K: Hash + Eq + Drop, V: Debug + PartialEq + Drop>(
     rt: &HostRuntime,
     name: &str,
@@ -60,7 +60,7 @@ fn inserts<K: Hash + Eq + Drop, V: Debug + PartialEq + Drop>(
     }
 }
 
-/// Whether the map gives this value for the key.
+/// Returns whether the map has this value for the key.
 fn gets<K: Hash + Eq, V: Debug + PartialEq + Copy>(
     rt: &HostRuntime,
     map: &OrderedMap<K, V>,
@@ -99,7 +99,7 @@ fn map_of(alloc: Global, pairs: &[(u8, u32)]) -> Option<OrderedMap<u8, u32>> {
     Some(map)
 }
 
-/// Whether the next pair is the expected one.
+/// Returns whether the next pair is the expected one.
 fn next_is(rt: &HostRuntime, pairs: &mut Iter<'_, u8, u32>, wanted: Option<(&u8, &u32)>) -> bool {
     is(rt, "next", pairs.next(), wanted)
 }
@@ -121,7 +121,7 @@ fn keys(alloc: Global, map: &OrderedMap<u8, u32>) -> Option<Vec<u8>> {
     Some(keys)
 }
 
-/// Whether the vector was built, and has the expected items.
+/// Returns whether the vector was built and has the expected items.
 fn built<T: PartialEq + Debug + Drop>(
     rt: &HostRuntime,
     name: &str,
@@ -158,7 +158,7 @@ fn distinct(rt: &HostRuntime) -> Option<OrderedMap<u8, u32>> {
     }
 }
 
-/// Whether the first two maps are equal, and the third is another and greater one.
+/// Returns whether the first two maps are equal and the third is different and greater.
 fn compares<T: PartialOrd + Drop>(
     rt: &HostRuntime,
     map: Option<T>,

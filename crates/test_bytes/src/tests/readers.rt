@@ -1,4 +1,5 @@
-//! Encoded values, by readers of a slice, of one byte a call, and of failing calls.
+//! Encoded values, read from a slice, from a reader of one byte per call, and from a failing
+//! reader.
 
 ghost use Rattle.std.specs.Prelude.{◌≡◌, ◌+◌, ◌<◌, ◌↔◌, IsErrOf, IsTrue, OnOk, Some};
 ghost use Rattle.std.specs.Cmp.Lexicographic.{slice_cmp};
@@ -13,7 +14,7 @@ use std::alloc::Global;
 use std::cmp::Ordering;
 use std::io::{self, ErrorKind};
 
-/// Whether the bytes are exactly one encoded value.
+/// Returns whether the bytes are exactly one encoded value.
 fn whole(rt: &HostRuntime, bytes: &[u8]) -> bool {
     match Bytes::copy_from_slice(rt.alloc(), bytes) {
         Ok(shared) => match LazyValue::try_from(shared) {
@@ -28,7 +29,7 @@ fn whole(rt: &HostRuntime, bytes: &[u8]) -> bool {
     }
 }
 
-/// Whether the bytes are not exactly one encoded value.
+/// Returns whether the bytes are not exactly one encoded value.
 fn part(rt: &HostRuntime, bytes: &[u8]) -> bool {
     match Bytes::copy_from_slice(rt.alloc(), bytes) {
         Ok(shared) => match LazyValue::try_from(shared) {
@@ -55,7 +56,7 @@ fn whole_values(rt: &HostRuntime) -> bool {
         && part(rt, b"")
 }
 
-/// Gives one byte a call; the call of this number fails, counted from 1.
+/// Reader of one byte per call; the call with number `failing`, counted from 1, fails.
 #[derive(Drop)]
 struct Drip<'a> {
     rest: &'a [u8],
@@ -86,7 +87,7 @@ fn by_bytes(bytes: &[u8], failing: u64, kind: ErrorKind) -> IoReader<Drip<'_>> {
     })
 }
 
-/// The number of bytes that are left.
+/// Returns the number of bytes left.
 fn rest<R: Read>(reader: &mut R) -> usize {
     let mut left = 0usize;
     for _ in 0..300_000u32 {
@@ -98,7 +99,7 @@ fn rest<R: Read>(reader: &mut R) -> usize {
     left
 }
 
-/// The length of the next encoded value.
+/// Returns the length of the next encoded value.
 fn next_length<R: Read>(alloc: Global, reader: &mut R) -> Result<usize, Error> {
     match LazyValue::from_reader(alloc, reader) {
         Ok(value) => Ok(value.as_slice().len()),
@@ -106,7 +107,7 @@ fn next_length<R: Read>(alloc: Global, reader: &mut R) -> Result<usize, Error> {
     }
 }
 
-/// Whether the next encoded value has this length, or is refused so, and so many bytes are left.
+/// Returns whether reading the next encoded value has this result and this many bytes are left.
 fn next_is<R: Read + Drop>(
     rt: &HostRuntime,
     mut reader: R,
@@ -130,8 +131,7 @@ fn next_of_slice(
     next_is(rt, SliceReader::new(bytes), length, left)
 }
 
-// Inputs, the length of the encoded value that each begins with or why there is none, and how many
-// bytes are left.
+// Inputs, the length of the encoded value at the start or the error, and the number of bytes left.
 const ROWS: [(&[u8], Result<usize, Error>, usize); 14] = [
     (b"\x50\x01\x40", Ok(2), 1),
     (b"\x00\xa1\x01\x61\x45", Ok(5), 0),
@@ -164,7 +164,7 @@ fn length_of(length: &Result<usize, Error>) -> Option<usize> {
     }
 }
 
-/// Whether each prefix of an encoded value ends too early.
+/// Returns whether every prefix of an encoded value is incomplete.
 fn prefixes(rt: &HostRuntime, bytes: &[u8], length: usize) -> bool {
     for end in 0..length {
         let prefix = bytes.get(..end).unwrap_or(&[]);
@@ -177,7 +177,7 @@ fn prefixes(rt: &HostRuntime, bytes: &[u8], length: usize) -> bool {
     true
 }
 
-/// Whether both readers and `frame_len` agree with a row of the table.
+/// Returns whether both readers and `frame_len` agree with a row of the table.
 fn agrees(rt: &HostRuntime, bytes: &[u8], length: &Result<usize, Error>, left: usize) -> bool {
     next_of_slice(rt, bytes, length, left)
         && next_is(rt, by_bytes(bytes, 0, ErrorKind::Other), length, left)
@@ -194,8 +194,8 @@ fn rows(rt: &HostRuntime) -> bool {
     true
 }
 
-// The length of a code and a payload of zeros, by the high four bits of the code: 0 if it is
-// refused.
+// The length of a code and a payload of zeros by the high four bits of the code, 0 if the code is
+// invalid.
 const LENGTHS: [usize; 16] = [0, 0, 0, 0, 1, 2, 3, 5, 9, 17, 2, 5, 2, 5, 2, 5];
 
 fn code_length(code: u8) -> Option<usize> {
@@ -217,7 +217,8 @@ fn code_lengths(rt: &HostRuntime) -> bool {
     true
 }
 
-/// Whether the failure of the reader's call of this number is reported, and so many bytes are left.
+/// Returns whether the failure of this reader call is reported, or the call is not made if `left`
+/// is 0, and this many bytes are left.
 fn fails(rt: &HostRuntime, failing: u64, kind: ErrorKind, left: usize) -> bool {
     next_is(
         rt,
@@ -236,7 +237,8 @@ fn failures(rt: &HostRuntime, kind: ErrorKind) -> bool {
         && fails(rt, 6, kind, 0)
 }
 
-/// Peeks. A call that succeeds counts no failure, and one that fails counts one.
+/// Calls `peek`. A call that succeeds counts no failure; one that fails counts one, below the last
+/// count.
 fn peeks_once<R: io::Read>(reader: &mut IoReader<R>) -> Result<Option<u8>, Error>
     ensures stays { OnOk result (⟦<IoReader<R> as Read>⟧.failures reader.new
         ≡ ⟦<IoReader<R> as Read>⟧.failures reader.old) }
@@ -261,7 +263,7 @@ fn takes<R: Read>(rt: &HostRuntime, reader: &mut R, byte: Option<u8>) -> bool {
     is(rt, "next", reader.next(), Ok(byte))
 }
 
-/// Reads so many bytes at once, at most two, and gives the first.
+/// Reads `count` bytes in one call, at most two, and returns the first.
 fn reads<R: Read>(reader: &mut R, count: usize) -> Result<u8, Error> {
     let mut buf = [0; 2];
     match reader.read_exact(&mut buf[..count.min(2)]) {
@@ -286,7 +288,7 @@ fn peeked<R: Read>(rt: &HostRuntime, reader: &mut R) -> bool {
         )
 }
 
-/// Whether a deep value has this length, or is refused so.
+/// Returns whether reading a deep value has this result.
 fn deep(
     rt: &HostRuntime,
     name: &str,
@@ -303,7 +305,7 @@ fn deep(
     }
 }
 
-/// 100,000 bytes 00, so many bytes 40, and the last bytes.
+/// Returns 100,000 bytes 00, `nulls` bytes 40, and the last bytes.
 fn deep_bytes(alloc: Global, nulls: usize, last: &[u8]) -> Option<Vec<u8>> {
     let mut bytes = vec![in alloc; 0u8; 100_000].ok()?;
     bytes
@@ -337,14 +339,14 @@ fn deep_values(rt: &HostRuntime) -> bool {
         )
 }
 
-/// Equality is that of the bytes.
+/// Returns whether two lazy values are equal, which compares their bytes.
 fn is_same(a: &LazyValue, b: &LazyValue) -> bool
     ensures { IsTrue result ↔ (a.now ≡ b.now) }
 {
     a == b
 }
 
-/// Order is that of the bytes.
+/// Returns the order of two lazy values, which is that of their bytes.
 fn order_of(a: &LazyValue, b: &LazyValue) -> Ordering
     ensures { result ≡ slice_cmp nat_cmp a.now b.now }
 {

@@ -1,4 +1,4 @@
-//! Scalars: their content comes back, they have a length, and they compare by their content.
+//! Scalars: they return their content, have a length, and compare by their content.
 
 use super::compare::{in_row, is, slice_is};
 use super::made::{symbol, vector};
@@ -18,7 +18,8 @@ fn hash_of<T: Hash>(value: &T) -> u64 {
     hasher.finish()
 }
 
-/// Whether two values of the same content are equal, and less than one of a greater content.
+/// Returns whether two values with the same content are equal, and less than one with greater
+/// content.
 fn compares<T: Ord + Hash>(rt: &HostRuntime, name: &str, one: &T, same: &T, greater: &T) -> bool {
     is(
         rt,
@@ -206,7 +207,7 @@ fn arrays(rt: &HostRuntime) -> bool {
     )
 }
 
-/// Whether each type takes its own length alone.
+/// Returns whether each type accepts exactly its own length.
 fn taken(rt: &HostRuntime, bytes: &[u8]) -> bool {
     is(
         rt,
@@ -255,7 +256,7 @@ fn wrong_lengths(rt: &HostRuntime) -> bool {
     )
 }
 
-/// Whether three values that need memory compare by their content.
+/// Returns whether three values were built and compare by their content.
 fn built<T: Ord + Hash + Drop>(
     rt: &HostRuntime,
     name: &str,

@@ -1,4 +1,4 @@
-//! Types of a user's own whose bytes are compared.
+//! User-defined types whose encodings are compared.
 
 ghost use Rattle.std.specs.Prelude.{Some, None, [], ◌∷◌};
 ghost use Rattle.amqp_ser.specs.Compounds.{whole};
@@ -8,7 +8,7 @@ ghost use Rattle.amqp_ser.specs.declared.kind.Kind.TheVariants as kind;
 use amqp_ser::{Mark, Serialize, Serializer};
 use std::cell::Cell;
 
-/// A newtype variant of index 1.
+/// A newtype variant with index 1.
 #[derive(Drop)]
 pub struct Number(pub u64);
 
@@ -20,7 +20,7 @@ impl Serialize for Number {
     }
 }
 
-/// A tuple variant of index 1.
+/// A tuple variant with index 1.
 pub struct Pair(pub i32, pub &'static str);
 
 impl Serialize for Pair {
@@ -35,7 +35,7 @@ impl Serialize for Pair {
     }
 }
 
-/// A number that is marked as a symbol: it has no tree.
+/// A number with the symbol marker, which has no tree.
 #[derive(Drop)]
 pub struct NoTree;
 
@@ -48,7 +48,7 @@ impl Serialize for NoTree {
     }
 }
 
-/// A list of one element, which is serialized once more if it is refused.
+/// A list of one element, which is serialized again if the first attempt fails.
 #[derive(Drop)]
 pub struct Again<T> {
     element: T,
@@ -56,7 +56,7 @@ pub struct Again<T> {
 }
 
 impl<T> Again<T> {
-    /// A list of this element, which was not refused yet.
+    /// Creates a list of this element, which has not failed.
     pub fn new(element: T) -> Again<T> {
         Again {
             element,
@@ -64,7 +64,7 @@ impl<T> Again<T> {
         }
     }
 
-    /// Whether the element was refused.
+    /// Returns whether the element failed.
     pub fn was_refused(&self) -> bool {
         self.refused.get()
     }

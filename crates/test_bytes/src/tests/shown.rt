@@ -1,11 +1,11 @@
-//! Text of timestamps, UUIDs, symbols and digits.
+//! Texts of timestamps, UUIDs, symbols and digits.
 
 use super::compare::is;
 use super::made::symbol;
 use amqp_data::{Timestamp, Uuid, hexadecimal_digit};
 use std::fmt::Display;
 
-/// Whether the value's text is the expected one.
+/// Returns whether the text of the value is the expected one.
 fn shows<T: Display>(rt: &HostRuntime, value: &T, shown: &str) -> bool {
     match format!(in rt.alloc(); "{value}") {
         Ok(text) => is(rt, "text", text.as_str(), shown),
@@ -29,7 +29,7 @@ fn timestamps(rt: &HostRuntime) -> bool {
         && moment(rt, i64::MIN, "-292275055-05-16T16:47:04.192Z")
 }
 
-// Each byte has its own two digits.
+// Bytes with different digits.
 const BYTES: [u8; 16] = [
     0x00, 0x11, 0x22, 0x33, 0x44, 0x55, 0x66, 0x77, 0x88, 0x99, 0xaa, 0xbb, 0xcc, 0xdd, 0xee, 0xff,
 ];

@@ -1,4 +1,4 @@
-//! Lengths of values, from the standard's encoding tables, calculated by hand.
+//! Lengths of values, calculated by hand from the standard's encoding tables.
 
 ghost use Rattle.amqp_ser.specs.SizeAndBytes.{IsSizeOf};
 ghost use Rattle.amqp_size.specs.Refused.{told};
@@ -78,7 +78,7 @@ fn widths(rt: &HostRuntime) -> bool {
         )
 }
 
-/// Whether the value was built, and has this length.
+/// Returns whether the value was built and has this length.
 fn sized<T: Serialize + Drop>(
     rt: &HostRuntime,
     name: &str,
@@ -97,22 +97,22 @@ fn texts(rt: &HostRuntime) -> bool {
         && sized(rt, "an empty list", Some(Vec::<&str>::new(rt.alloc())), 1)
 }
 
-/// Whether the list accepts the element.
+/// Returns whether the list accepts the element.
 fn element<S: Serializer, T: Serialize>(list: &mut SerializeSeq<'_, S>, element: &T) -> bool {
     list.serialize_element(element).is_ok()
 }
 
-/// Whether the map accepts the key.
+/// Returns whether the map accepts the key.
 fn key<S: Serializer, T: Serialize>(map: &mut SerializeMap<'_, S>, key: &T) -> bool {
     map.serialize_key(key).is_ok()
 }
 
-/// Whether the map accepts the value of the last key.
+/// Returns whether the map accepts the value of the last key.
 fn value<S: Serializer, T: Serialize>(map: &mut SerializeMap<'_, S>, value: &T) -> bool {
     map.serialize_value(value).is_ok()
 }
 
-/// A list of two elements. Another one between them is refused.
+/// Serializes a list of two elements; another element between them must fail.
 fn list_of_two<S: Serializer, T: Serialize, U: Serialize>(
     serializer: &mut S,
     first: &T,
@@ -127,13 +127,13 @@ fn list_of_two<S: Serializer, T: Serialize, U: Serialize>(
     if accepted { end.ok() } else { None }
 }
 
-/// An array of two ints. A string between them is refused.
+/// Serializes an array of two ints; a string between them must fail.
 fn mixed_array<S: Serializer>(serializer: &mut S) -> Option<S::Ok> {
     serializer.mark(Mark::Array);
     list_of_two(serializer, &1i32, &"a", &2i32)
 }
 
-/// A map of one pair. A second key before the value is refused.
+/// Serializes a map of one pair; a second key before the value must fail.
 fn two_keys<S: Serializer>(serializer: &mut S) -> Option<S::Ok> {
     let mut map = serializer.serialize_map(None).ok()?;
     let accepted = key(&mut map, &"a") && !key(&mut map, &"b") && value(&mut map, &1u8);
@@ -141,7 +141,7 @@ fn two_keys<S: Serializer>(serializer: &mut S) -> Option<S::Ok> {
     if accepted { end.ok() } else { None }
 }
 
-/// A map that ends after a key.
+/// Ends a map after a key, and returns the error.
 fn key_alone<S: Serializer>(serializer: &mut S) -> Option<S::Error> {
     let mut map = serializer.serialize_map(None).ok()?;
     let accepted = key(&mut map, &"a");
@@ -170,7 +170,7 @@ fn refused_parts<S: Serializer<Ok = usize, Error = WalkError>>(
         && is(rt, "fresh afterwards", serializer.serialize_str("b"), Ok(3))
 }
 
-/// A map of one pair. A transparent vector as the value of its key is refused before another value.
+/// Serializes a map of one pair; a transparent vector as the value must fail before another value.
 fn vector_as_value<S: Serializer>(
     serializer: &mut S,
     vector: &TransparentVec<bool>,
@@ -255,7 +255,8 @@ fn descriptor_after_a_string<S: Serializer<Ok = usize, Error = WalkError>>(
         && is(rt, "fresh afterwards", serializer.serialize_str("b"), Ok(3))
 }
 
-/// The length of the second value, by a serializer that has counted, or refused, the first.
+/// Returns the length of the second value, by a serializer that has serialized, or failed to
+/// serialize, the first.
 fn counted_after<A: Serialize, B: Serialize>(first: &A, second: &B) -> Result<usize, WalkError>
     ensures { IsSizeOf (B.tree second.now) (told result) }
 {
@@ -264,7 +265,7 @@ fn counted_after<A: Serialize, B: Serialize>(first: &A, second: &B) -> Result<us
     second.serialize(&mut serializer)
 }
 
-/// Whether a serializer that has counted the first value counts the second.
+/// Returns whether a serializer that has serialized the first value serializes the second.
 fn counts_after<A: Serialize + Drop, B: Serialize + Drop>(
     rt: &HostRuntime,
     first: Option<A>,

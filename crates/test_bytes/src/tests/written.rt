@@ -1,4 +1,4 @@
-//! Bytes of values, from the standard's encoding tables, calculated by hand.
+//! Encodings of values, calculated by hand from the standard's encoding tables.
 
 use super::compare::{for_bytes, is, slice_is};
 use super::made::{array, nested_texts, symbol, transparent, vector};
@@ -11,7 +11,7 @@ use amqp_ser::Serialize;
 use amqp_size::serialized_size;
 use amqp_wire::to_vec;
 
-/// Whether these are the value's bytes, and their number is its length.
+/// Returns whether these are the bytes of the value, and their number is its length.
 fn writes<T: Serialize>(rt: &HostRuntime, value: &T, bytes: &[u8]) -> bool {
     match to_vec(rt.alloc(), value) {
         Ok(written) => {
@@ -22,7 +22,7 @@ fn writes<T: Serialize>(rt: &HostRuntime, value: &T, bytes: &[u8]) -> bool {
     }
 }
 
-/// Whether the value was built, and these are its bytes.
+/// Returns whether the value was built and has these bytes.
 fn built<T: Serialize + Drop>(rt: &HostRuntime, value: Option<T>, bytes: &[u8]) -> bool {
     match value {
         Some(value) => writes(rt, &value, bytes),
@@ -30,7 +30,7 @@ fn built<T: Serialize + Drop>(rt: &HostRuntime, value: Option<T>, bytes: &[u8]) 
     }
 }
 
-/// Whether the value has so many bytes, and these come first.
+/// Returns whether the encoding has this length and begins with these bytes.
 fn begins<T: Serialize>(rt: &HostRuntime, value: &T, len: usize, prefix: &[u8]) -> bool {
     match to_vec(rt.alloc(), value) {
         Ok(written) => {
@@ -46,7 +46,8 @@ fn begins<T: Serialize>(rt: &HostRuntime, value: &T, len: usize, prefix: &[u8]) 
     }
 }
 
-/// Whether the value was built, has so many bytes, and these come first.
+/// Returns whether the value was built, and its encoding has this length and begins with these
+/// bytes.
 fn built_begins<T: Serialize + Drop>(
     rt: &HostRuntime,
     value: Option<T>,
@@ -59,7 +60,7 @@ fn built_begins<T: Serialize + Drop>(
     }
 }
 
-/// Whether the value was built, and is refused as invalid.
+/// Returns whether the value was built and is invalid.
 fn invalid<T: Serialize + Drop>(rt: &HostRuntime, name: &str, value: Option<T>) -> bool {
     match value {
         Some(value) => is(
@@ -105,7 +106,7 @@ fn short_limits(rt: &HostRuntime) -> bool {
 
 const LETTERS: &[u8] = &[0x61; 255];
 
-/// A text of so many letters a.
+/// Returns a text of `len` letters `a`.
 fn letters(len: usize) -> &'static str {
     str::from_utf8(LETTERS.get(..len).unwrap_or(&[])).unwrap_or("")
 }
@@ -214,7 +215,7 @@ fn variants(rt: &HostRuntime) -> bool {
         )
 }
 
-/// A value with a numeric descriptor.
+/// Returns a value with a numeric descriptor.
 fn coded<T>(code: u64, value: T) -> Described<T> {
     Described {
         descriptor: Descriptor::Code(code),
@@ -297,7 +298,7 @@ fn transparent_vectors(rt: &HostRuntime) -> bool {
         )
 }
 
-/// Whether the answer is the value's bytes or out of memory.
+/// Returns whether the result is the value's bytes or `OutOfMemory`.
 fn writes_or_lacks<T: Serialize>(rt: &HostRuntime, value: &T, bytes: &[u8]) -> bool {
     match to_vec(rt.alloc(), value) {
         Ok(written) => slice_is(rt, "the bytes", &written, bytes),
@@ -305,7 +306,7 @@ fn writes_or_lacks<T: Serialize>(rt: &HostRuntime, value: &T, bytes: &[u8]) -> b
     }
 }
 
-/// These values need no memory before the call, so `rt try --test --fail-alloc N` fails each
+/// These values are built without allocating, so `rt try --test --fail-alloc N` fails each
 /// allocation of the call.
 fn failing_allocations(rt: &HostRuntime) -> bool {
     writes_or_lacks(rt, &"a", b"\xa1\x01a")

@@ -1,4 +1,4 @@
-//! Composites written by hand, and described values: a descriptor and a list, a map or one value.
+//! Hand-written composites and described values: a descriptor and a list, a map or one value.
 
 ghost use Rattle.std.specs.Prelude.{◌∷◌, [], Some};
 ghost use Rattle.amqp_ser.specs.Composites.{as_described};
@@ -13,7 +13,7 @@ use amqp_ser::{Serialize, Serializer};
 use serde_amqp::Value;
 use std::alloc::Global;
 
-/// A list composite of two fields, code 0x13.
+/// A list composite with code 0x13 and two fields.
 #[derive(Drop)]
 struct Pair<A, B>(A, B);
 
@@ -30,7 +30,7 @@ impl<A: Serialize, B: Serialize> Serialize for Pair<A, B> {
     }
 }
 
-/// A list composite of one field, as a tuple struct, code 1.
+/// A list composite with code 1 and one field, as a tuple struct.
 #[derive(Drop)]
 struct One<T>(T);
 
@@ -45,7 +45,7 @@ impl<T: Serialize> Serialize for One<T> {
     }
 }
 
-/// A list composite without fields, code 1.
+/// A list composite with code 1 and no fields.
 #[derive(Drop)]
 struct Empty;
 
@@ -59,7 +59,7 @@ impl Serialize for Empty {
     }
 }
 
-/// A section of one value, code 1.
+/// A section with code 1 and one value.
 #[derive(Drop)]
 struct Section<T>(T);
 
@@ -90,7 +90,7 @@ impl Serialize for Plain {
     }
 }
 
-/// A basic struct without a descriptor is its one field, under a marker too.
+/// A basic struct without a descriptor, which is its only field, also with a marker.
 #[derive(Drop)]
 struct Bare(u8);
 

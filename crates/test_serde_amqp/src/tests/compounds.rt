@@ -1,4 +1,4 @@
-//! Worked rows of lists, options, tuples, arrays and maps.
+//! Examples of lists, options, tuples, arrays and maps.
 
 use super::made::{array, list, pairs};
 use super::rows::{begins_of, only_imaged, own_image_of, row, row_of};

@@ -1,4 +1,4 @@
-//! Conversions to and from untyped values, format codes and order.
+//! Conversions to and from untyped values, format codes, and order.
 
 use super::made::{array, list, symbol};
 use super::rows::{holds, imaged, is_value, wrong};
@@ -12,13 +12,13 @@ use serde_amqp::value::Value;
 use std::alloc::Global;
 use std::collections::BTreeMap;
 
-// The conversion is this value.
+// Returns whether the conversion is this value.
 fn converted<T: Into<Value>>(rt: &HostRuntime, content: T, value: &str) -> bool {
     let got: Value = content.into();
     is(rt, value, got, value)
 }
 
-// The image of the scalar is this value, and so is its conversion.
+// Returns whether the image of the scalar and its conversion are this value.
 fn scalar<T>(rt: &HostRuntime, scalar: T, value: &str) -> bool
 where
     T: Serialize + Into<Value> + Drop,
@@ -26,7 +26,7 @@ where
     imaged(rt, value, &scalar, value) && converted(rt, scalar, value)
 }
 
-// Like `scalar`, of a scalar for which memory was allocated.
+// Like `scalar`, for a scalar whose allocation may have failed.
 fn scalar_of<T>(rt: &HostRuntime, content: Option<T>, value: &str) -> bool
 where
     T: Serialize + Into<Value> + Drop,

@@ -1,4 +1,4 @@
-//! Rows of `run_cut`.
+//! Examples of `run_cut`.
 
 use super::runs::{Reading, Run, each_write_fails, read_fails, row, writes};
 use super::streams::Fault;

@@ -1,5 +1,5 @@
-//! Fields of a struct, and the items that the author of a serializer or of a type uses, by their
-//! public names.
+//! Fields of a struct, and the items for implementing a serializer or a type, by their public
+//! names.
 
 use super::rows::{row, shows};
 use serde_amqp::ser::{
@@ -8,7 +8,7 @@ use serde_amqp::ser::{
 };
 use serde_amqp::size_ser::{SizeSerializer, WalkError};
 
-/// Fields that pass each call on.
+/// Fields that forward each call.
 #[derive(Drop)]
 struct Same<F>(F);
 
@@ -33,7 +33,7 @@ impl<F: Fields> Fields for Same<F> {
     }
 }
 
-// A field `x` of 1, and a field `y` that may be absent.
+// Returns the fields `x`, with the value 1, and `y`, which may be absent.
 fn point(y: &Option<u8>) -> Same<Field<'static, u8, OptionalField<'_, u8, ()>>> {
     Same(Field {
         name: "x",

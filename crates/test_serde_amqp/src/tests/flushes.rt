@@ -1,4 +1,4 @@
-//! The two runs over a writer with a buffer.
+//! The two runs over a buffered writer.
 
 use super::rows::holds;
 use super::runs::{Run, is_printed, run_over};
@@ -7,7 +7,7 @@ use super::support::is;
 use serde_amqp::read::SliceReader;
 use serde_amqp::{IoWriter, Write};
 
-// All of this text is written in the end.
+// Returns whether the run succeeds and all of this text has been written.
 fn is_flushed(rt: &HostRuntime, name: &str, run: Run, input: &[u8], text: &[u8]) -> bool {
     let a = rt.alloc();
     let mut written = Vec::new(a);
@@ -21,7 +21,7 @@ fn is_flushed(rt: &HostRuntime, name: &str, run: Run, input: &[u8], text: &[u8])
         && holds(rt, name, flushes > 0)
 }
 
-// The run, and a flush after it, answer that the flush failed.
+// Returns whether the run, and a flush after it, return the error of the flush.
 fn fails(rt: &HostRuntime, name: &str, run: Run, input: &[u8]) -> bool {
     let a = rt.alloc();
     let mut written = Vec::new(a);

@@ -1,5 +1,4 @@
-//! Lazy values that are read: `to_value` gives the value that the bytes spell, or tells why they
-//! spell none.
+//! Decoding of lazy values: `to_value` returns the value that the bytes spell, or the error.
 
 use super::lazy_values::lazy;
 use super::made::{array, described, list, pairs, symbol};
@@ -11,7 +10,7 @@ use serde_amqp::read::SliceReader;
 use serde_amqp::ser::Serialize;
 use std::alloc::Global;
 
-// The bytes spell this value, or are refused with this error.
+// Returns whether the bytes spell this value, or fail with this error.
 fn read(rt: &HostRuntime, bytes: &str, value: &str) -> bool {
     imaged_of(rt, bytes, lazy(rt.alloc(), bytes), value)
 }
@@ -76,7 +75,7 @@ fn the_elements_of_a_list_are_read(rt: &HostRuntime) -> bool {
     )
 }
 
-// The empty list inside so many lists, each spelled with a size of four bytes.
+// Returns the empty list inside `depth` lists, each with a four-byte size.
 fn nested_bytes(alloc: Global, depth: u32) -> Option<Vec<u8>> {
     let mut bytes = Vec::new(alloc);
     for outer in 0..depth {
@@ -120,7 +119,7 @@ fn more_levels_are_refused(rt: &HostRuntime) -> bool {
     )
 }
 
-// The value comes back from its lazy value.
+// Returns whether the value round-trips through its lazy value.
 fn comes_back<T: Serialize + Drop>(rt: &HostRuntime, value: T, text: &str) -> bool {
     match to_lazy_value(rt.alloc(), &value) {
         Ok(lazy) => imaged(rt, text, &lazy, text),
@@ -128,7 +127,7 @@ fn comes_back<T: Serialize + Drop>(rt: &HostRuntime, value: T, text: &str) -> bo
     }
 }
 
-// Like `comes_back`, of a value for which memory was allocated.
+// Like `comes_back`, for a value whose allocation may have failed.
 fn comes_back_of<T: Serialize + Drop>(rt: &HostRuntime, value: Option<T>, text: &str) -> bool {
     match value {
         Some(value) => comes_back(rt, value, text),

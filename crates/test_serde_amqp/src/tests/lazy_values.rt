@@ -1,5 +1,4 @@
-//! Lazy values: written as they are wherever a value may be but in arrays, and read wherever they
-//! are.
+//! Lazy values: encoded unchanged everywhere except in arrays, and decoded everywhere.
 
 use super::made::{array, list, pairs, text};
 use super::marked::{After, Newtype};
@@ -16,7 +15,7 @@ use serde_amqp::lazy::to_lazy_value;
 use serde_amqp::{serialized_size, to_vec};
 use std::alloc::Global;
 
-/// The lazy value of these bytes; `None` if out of memory.
+/// Returns the lazy value of these bytes; `None` if an allocation fails.
 pub fn lazy(alloc: Global, hexadecimal: &str) -> Option<LazyValue> {
     let bytes = decoded(alloc, hexadecimal)?;
     LazyValue::from_reader(alloc, &mut SliceReader::new(&bytes)).ok()
@@ -24,7 +23,7 @@ pub fn lazy(alloc: Global, hexadecimal: &str) -> Option<LazyValue> {
 
 const HELLO: &str = "a10d48656c6c6f2c20576f726c6421";
 
-// The lazy value of the value has these bytes; it has their length, these bytes and this image.
+// Returns whether the lazy value of the value has these bytes and their length, and this image.
 fn held<T: Serialize>(rt: &HostRuntime, name: &str, value: &T, bytes: &str, image: &str) -> bool {
     match to_lazy_value(rt.alloc(), value) {
         Ok(lazy) => {
@@ -74,7 +73,7 @@ fn a_list_of_lazy_values_is_that_of_their_values(rt: &HostRuntime, hello: &LazyV
         && same_bytes(rt, "a list", &list, &["Hello, World!"; 3])
 }
 
-// The value after this code.
+// Returns the value with this descriptor.
 fn after<T>(code: u64, value: T) -> Described<T> {
     Described {
         descriptor: Descriptor::Code(code),
@@ -165,7 +164,7 @@ fn encoded(alloc: Global, bytes: &str) -> Option<ByteBuf> {
     Some(ByteBuf::from(decoded(alloc, bytes)?))
 }
 
-// The bytes after the marker are one encoded value of this image.
+// Returns whether the bytes with the marker are one encoded value with this image.
 fn taken(rt: &HostRuntime, bytes: &str, image: &str) -> bool {
     match encoded(rt.alloc(), bytes) {
         Some(value) => row(rt, bytes, &newtype(&value), bytes, image),
@@ -173,7 +172,7 @@ fn taken(rt: &HostRuntime, bytes: &str, image: &str) -> bool {
     }
 }
 
-// The bytes after the marker are not one encoded value.
+// Returns whether the bytes with the marker are not one encoded value.
 fn not_taken(rt: &HostRuntime, bytes: &str) -> bool {
     match encoded(rt.alloc(), bytes) {
         Some(value) => has_no_tree(rt, bytes, &newtype(&value)),
@@ -181,7 +180,7 @@ fn not_taken(rt: &HostRuntime, bytes: &str) -> bool {
     }
 }
 
-// One encoded value whose descriptor is a string is written, and has no image.
+// Returns whether an encoded value with a string as descriptor is written and has no image.
 fn written_without_an_image(rt: &HostRuntime, bytes: &str) -> bool {
     match encoded(rt.alloc(), bytes) {
         Some(value) => {

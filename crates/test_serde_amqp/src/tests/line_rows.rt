@@ -1,4 +1,4 @@
-//! Rows of `run_lines`.
+//! Examples of `run_lines`.
 
 use super::runs::{Reading, Run, each_write_fails, is_printed, read_fails, row, run_over};
 use super::streams::Fault;
@@ -70,7 +70,7 @@ fn what_is_not_utf8_is_refused(rt: &HostRuntime) -> bool {
         && is_not_utf8(rt, "a surrogate", b"\xed\xa0\x80")
 }
 
-// What is printed of so many of this byte begins with this text.
+// Returns whether the output for `count` times this byte begins with this text.
 fn begins(rt: &HostRuntime, name: &str, byte: u8, count: usize, text: &[u8]) -> bool {
     let Ok(input) = Vec::from_elem(rt.alloc(), byte, count) else {
         return false;

@@ -1,5 +1,5 @@
-//! Each marker over each kind that it does not take, and each kind that is no descriptor before a
-//! value: no tree, at the root and in a list.
+//! Each marker with each kind that it does not accept, and each kind that cannot be a descriptor,
+//! with a value: these have no tree, at the root and in a list.
 
 ghost use Rattle.std.specs.Prelude.{Some};
 ghost use Rattle.amqp_ser.specs.Composites.{as_described, descriptor_of};
@@ -15,7 +15,7 @@ use serde_amqp::primitives::ByteBuf;
 use serde_amqp::ser::{Serialize, Serializer, markers};
 use std::alloc::Global;
 
-/// A newtype of this name.
+/// A newtype with this name.
 #[derive(Drop)]
 pub struct Newtype<'a, T> {
     pub name: &'static str,
@@ -30,7 +30,7 @@ impl<T: Serialize> Serialize for Newtype<'_, T> {
     }
 }
 
-/// A number after this, its descriptor if it is of such a kind.
+/// A number with this descriptor, if it has a kind that can be a descriptor.
 #[derive(Drop)]
 pub struct After<'a, D>(pub &'a D);
 
@@ -42,8 +42,8 @@ impl<D: Serialize> Serialize for After<'_, D> {
     }
 }
 
-/// A value of each kind, by its bytes, in the order of `Value`. The length of the binary is none that
-/// a marker takes, and its bytes are no encoded value.
+/// The encoding of a value of each kind, in the order of `Value`. No marker accepts the length of
+/// the binary, and its bytes are not an encoded value.
 const VALUES: [&str; 25] = [
     "00530140",
     "40",
@@ -84,12 +84,13 @@ const LIST: &str = "c003015001";
 
 const NONE: &str = "";
 
-// The value of these bytes.
+// Returns the value of these bytes.
 fn value(alloc: Global, bytes: &str) -> Option<Value> {
     decode_value(alloc, decoded(alloc, bytes)?.as_slice()).ok()
 }
 
-// The value under the marker has an image if the marker takes it, and otherwise no tree.
+// Returns whether the value with the marker has an image if the marker accepts it, and has no tree
+// otherwise.
 fn marked_value<T: Serialize>(
     rt: &HostRuntime,
     row: &str,
@@ -127,7 +128,7 @@ fn over_a_transparent_vector(rt: &HostRuntime, name: &'static str) -> bool {
     }
 }
 
-// The marker over each value takes the value of these bytes alone.
+// Returns whether the marker accepts only the value of these bytes.
 fn takes(rt: &HostRuntime, name: &'static str, taken: &str) -> bool {
     let mut holds = over_a_transparent_vector(rt, name);
     for bytes in VALUES {
@@ -164,7 +165,7 @@ fn over_length(rt: &HostRuntime, name: &'static str, length: usize, taken: bool)
 
 const LENGTHS: [usize; 12] = [0, 3, 4, 5, 7, 8, 9, 15, 16, 17, 255, 256];
 
-// The marker over a binary takes this length alone.
+// Returns whether the marker accepts only binaries of this length.
 fn takes_length(rt: &HostRuntime, name: &'static str, wanted: usize) -> bool {
     let mut holds = true;
     for length in LENGTHS {

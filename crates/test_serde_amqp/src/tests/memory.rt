@@ -1,7 +1,8 @@
-//! Runs to be made with each allocation failing in turn.
+//! Runs in which each allocation fails in turn.
 //!
-//! `rt try --test --fail-alloc N` makes allocation number N fail. A run then answers out of memory,
-//! and what it printed is a prefix of its output; if no allocation of it failed, it succeeds.
+//! `rt try --test --fail-alloc N` makes allocation number N fail. The run then returns
+//! `OutOfMemory`, and what it printed is a prefix of its output. If none of its allocations fails,
+//! it succeeds.
 
 use super::rows::wrong;
 use super::runs::{Run, run_over};

@@ -1,5 +1,5 @@
-//! Each public item by its path: an alias of another module would have another type or another
-//! answer.
+//! Each public item by its path: an alias of a wrong item would have another type or another
+//! result.
 
 ghost use Rattle.std.specs.Prelude.{◌≡◌, ◌≤◌, ℕ, IfOk, List, Some};
 ghost use Rattle.amqp_decode.specs.Depth.{IsOrdinary, depth_of};
@@ -141,21 +141,21 @@ fn widths(rt: &HostRuntime) -> bool {
         )
 }
 
-// What the law says to a caller.
+// Calls the law that a text is its lines.
 fn texts_are_their_lines()
     ensures { (s : List ℕ) → AreLines s (lines_of s) }
 {
     laws::text_is_its_lines();
 }
 
-// Laws of values and of their bytes.
+// Calls the laws about values and their encodings.
 fn bytes_tell_values() {
     laws::lazy_values_have_the_image_of_what_they_hold();
     laws::same_bytes_exactly_where_one_image();
     decode::laws::one_tree();
 }
 
-// The value that the value's bytes spell: it has the image of the value's tree.
+// Encodes the value as a lazy value and decodes it: the result has the image of the value's tree.
 fn inside<T: Serialize>(alloc: Global, v: &T) -> Result<Value, Error>
     ensures { IfOk result (λ w. (t : Tree) → T.tree v.now ≡ Some t → IsRanged t → IsOrdinary t →
         depth_of t ≤ 256 → tree_of w ≡ image t) }
@@ -192,7 +192,7 @@ fn days_and_laws(rt: &HostRuntime) -> bool {
     )
 }
 
-// Each alias of the size module ends with a length.
+// `end` of each compound alias in `size_ser` returns a length.
 
 fn length_of_list(parts: size_ser::SeqSerializer<'_>) -> Result<usize, size_ser::WalkError> {
     parts.end()

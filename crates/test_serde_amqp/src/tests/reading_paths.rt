@@ -1,4 +1,4 @@
-//! Each public item of reading, by its path.
+//! Each public item for deserialization, by its path.
 
 use super::made::{self, described, pairs};
 use super::rows::holds;
@@ -16,7 +16,7 @@ fn uint(alloc: Global) -> value::de::Deserializer {
     value::de::Deserializer::new(alloc, Value::Uint(1))
 }
 
-// Reads this value, or null if out of memory.
+// Returns a deserializer of this value, or of null if an allocation failed.
 fn source(alloc: Global, value: Option<Value>) -> value::de::Deserializer {
     match value {
         Some(value) => value::de::Deserializer::new(alloc, value),
@@ -71,12 +71,12 @@ fn parts_are_read_by_accessors(rt: &HostRuntime) -> bool {
         && is(rt, "a variant", index_and_content(a), "Ok((1, 1))")
 }
 
-// Calls what a type promises of the values that come back.
+// Calls the law that the values of a type round-trip.
 fn comes_back<T: value::Restore>() {
     T::returns();
 }
 
-// Calls what a type promises of its values as keys.
+// Calls the law that keys of a type have distinct images.
 fn keys_are_distinct<K: value::MapKey>() {
     K::images_tell_contents();
 }
@@ -88,7 +88,7 @@ fn laws_are_called() -> bool {
     true
 }
 
-// The required field `x`.
+// Returns the required field `x`.
 fn required() -> de::Must<u32, ()> {
     de::Must {
         name: "x",
@@ -97,7 +97,7 @@ fn required() -> de::Must<u32, ()> {
     }
 }
 
-// The optional field `x`.
+// Returns the optional field `x`.
 fn optional() -> de::May<u32, ()> {
     de::May {
         name: "x",
@@ -110,7 +110,7 @@ fn seeded<S: de::Seed>(alloc: Global, seed: S) -> Result<S::Value, Error> {
     seed.read(alloc, source(alloc, list(alloc)))
 }
 
-// The second of two variants without a value.
+// Returns whether the second of two unit variants is read.
 fn second_variant(alloc: Global) -> bool {
     let variants = de::UnitOr {
         rest: de::UnitOr { rest: () },
@@ -141,7 +141,7 @@ fn seeds_read_parts_of_types(rt: &HostRuntime) -> bool {
     ) && holds(rt, "the second variant", second_variant(a))
 }
 
-// The first element of a list.
+// Returns the first element of a list.
 fn first_element<D: de::Deserializer>(
     alloc: Global,
     deserializer: D,
@@ -155,7 +155,7 @@ fn first_element<D: de::Deserializer>(
     }
 }
 
-// The first pair of a map.
+// Returns the first pair of a map.
 fn first_entry<D: de::Deserializer>(
     alloc: Global,
     deserializer: D,
@@ -191,7 +191,7 @@ fn one_level_is_opened(rt: &HostRuntime) -> bool {
     ) && is(rt, "an empty map", first_of_map(a), "Ok(None)")
 }
 
-/// Returns a value without parts.
+/// Visitor that returns the plain value.
 #[derive(Drop)]
 struct Shown;
 
@@ -213,7 +213,7 @@ impl de::Visitor for Shown {
     }
 }
 
-/// A count in a list.
+/// A count, read from a list.
 struct Count(u32);
 
 impl de::Record for Count {
@@ -222,7 +222,7 @@ impl de::Record for Count {
     ghost parts = { λ c. (c.0, tt) };
 }
 
-/// A count alone.
+/// A count, read without a compound.
 struct Whole(u32);
 
 impl de::Record for Whole {
@@ -231,13 +231,13 @@ impl de::Record for Whole {
     ghost parts = { λ w. w.0 };
 }
 
-// The map from the string `x` to the uint 1.
+// Returns the map from the string `x` to the uint 1.
 fn map(alloc: Global) -> Option<Value> {
     let key = Value::try_from_str(alloc, "x").ok()?;
     Some(Value::Map(pairs(alloc, [(key, Value::Uint(1))])?))
 }
 
-// The map after the code 1.
+// Returns the map with the descriptor 1.
 fn described_map(alloc: Global) -> Option<Value> {
     described(alloc, 1, map(alloc)?)
 }

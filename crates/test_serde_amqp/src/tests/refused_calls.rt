@@ -1,5 +1,5 @@
-//! Types whose `serialize` goes on after a refused call, or makes no tree: the refused call leaves
-//! the compound unchanged.
+//! Types whose `serialize` continues after a failed call, or that have no tree. The failed call
+//! leaves the compound unchanged.
 
 ghost use Rattle.std.specs.Prelude.{◌≡◌, ◌∷◌, [], Some, None, IsErr};
 ghost use Rattle.amqp_ser.specs.Tree.{scalar, int, string, ubyte};
@@ -12,7 +12,7 @@ use super::marked::Newtype;
 use super::rows::{has_no_tree, row};
 use serde_amqp::ser::{Kind, Serialize, Serializer, markers};
 
-/// Serializes an element; one without a tree is refused.
+/// Serializes an element; fails if the element has no tree.
 fn element<S: Serializer, T: Serialize>(
     serializer: &mut S,
     list: &mut S::Open,
@@ -28,7 +28,7 @@ fn element<S: Serializer, T: Serialize>(
     serializer.end_part(list, part)
 }
 
-/// A list of two numbers, between which a number under the marker of a symbol is refused.
+/// A list of two numbers, between which a number with the symbol marker fails.
 #[derive(Drop)]
 struct RefusedElement(i32, u8, i32);
 
@@ -52,7 +52,7 @@ impl Serialize for RefusedElement {
     }
 }
 
-/// A map of one pair, between whose key and value a second key is refused.
+/// A map of one pair, between whose key and value a second key fails.
 #[derive(Drop)]
 struct RefusedKey(&'static str, &'static str, u8);
 
@@ -72,7 +72,7 @@ impl Serialize for RefusedKey {
     }
 }
 
-/// A map that ends after a key: it has no tree.
+/// A map that ends after a key, and has no tree.
 #[derive(Drop)]
 struct KeyAlone(&'static str);
 
@@ -86,7 +86,7 @@ impl Serialize for KeyAlone {
     }
 }
 
-/// A basic struct that ends without a field: it has no tree.
+/// A basic struct that ends without a field, and has no tree.
 #[derive(Drop)]
 struct NoField;
 

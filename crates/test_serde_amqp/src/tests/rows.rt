@@ -1,8 +1,8 @@
-//! Rows: a value's length, bytes and image, compared with literals. Bytes are in hexadecimal, and
-//! the image is what `Debug` prints of it, which tells the kinds of numbers.
+//! Helpers of rows, which compare the length, the bytes and the image of a value with literals.
+//! Bytes are in hexadecimal; the image is its `Debug` text, which shows the kinds of numbers.
 //!
-//! Each function answers whether the row holds. If it does not, the function prints the row's name
-//! and what was got.
+//! Each function returns whether the row holds. If not, it prints the name of the row and the
+//! actual result.
 
 use amqp_ser::Serialize;
 use serde_amqp::{Error, Value, serialized_size, to_value, to_vec};
@@ -17,7 +17,7 @@ fn digit(character: u8) -> u8 {
     }
 }
 
-/// The bytes that these pairs of hexadecimal digits spell; `None` if out of memory.
+/// Returns the bytes of these pairs of hexadecimal digits; `None` if an allocation fails.
 pub fn decoded(alloc: Global, hexadecimal: &str) -> Option<Vec<u8>> {
     let mut bytes = Vec::new(alloc);
     let mut high = None;
@@ -43,7 +43,7 @@ fn hexadecimal_digit(value: u8) -> char {
     }
 }
 
-/// The bytes in hexadecimal; `None` if out of memory.
+/// Returns the bytes in hexadecimal; `None` if an allocation fails.
 pub fn hexadecimal(alloc: Global, bytes: &[u8]) -> Option<String> {
     let mut text = String::new(alloc);
     for byte in bytes {
@@ -53,17 +53,17 @@ pub fn hexadecimal(alloc: Global, bytes: &[u8]) -> Option<String> {
     Some(text)
 }
 
-/// Prints the row's name and what was got, and answers false.
+/// Prints the name of the row and the actual result, and returns false.
 pub fn wrong(rt: &HostRuntime, name: &str, got: &str) -> bool {
     println!(rt; "{name}: got {got}").is_err() && false
 }
 
-/// The condition is met.
+/// Returns whether the condition is met.
 pub fn holds(rt: &HostRuntime, name: &str, met: bool) -> bool {
     met || wrong(rt, name, "false")
 }
 
-/// The text is this one.
+/// Returns whether the text is `wanted`.
 pub fn is_text(rt: &HostRuntime, name: &str, got: Option<String>, wanted: &str) -> bool {
     match got {
         Some(text) => text.as_str() == wanted || wrong(rt, name, text.as_str()),
@@ -71,12 +71,12 @@ pub fn is_text(rt: &HostRuntime, name: &str, got: Option<String>, wanted: &str) 
     }
 }
 
-/// `Debug` prints this text.
+/// Returns whether the `Debug` text of the value is `wanted`.
 pub fn shows<T: Debug>(rt: &HostRuntime, name: &str, got: &T, wanted: &str) -> bool {
     is_text(rt, name, format!(in rt.alloc(); "{got:?}").ok(), wanted)
 }
 
-/// The answer is these bytes.
+/// Returns whether the result is these bytes.
 pub fn is_bytes(rt: &HostRuntime, name: &str, got: Result<Vec<u8>, Error>, wanted: &str) -> bool {
     match &got {
         Ok(bytes) => is_text(rt, name, hexadecimal(rt.alloc(), bytes), wanted),
@@ -84,12 +84,12 @@ pub fn is_bytes(rt: &HostRuntime, name: &str, got: Result<Vec<u8>, Error>, wante
     }
 }
 
-/// The answer is this length.
+/// Returns whether the result is this length.
 pub fn is_length(rt: &HostRuntime, name: &str, got: Result<usize, Error>, wanted: usize) -> bool {
     matches!(&got, Ok(length) if *length == wanted) || shows(rt, name, &got, "another length")
 }
 
-/// The answer is this value, as `Debug` prints it.
+/// Returns whether the result is the value with this `Debug` text.
 pub fn is_value(rt: &HostRuntime, name: &str, got: Result<Value, Error>, wanted: &str) -> bool {
     match &got {
         Ok(value) => shows(rt, name, value, wanted),
@@ -97,18 +97,18 @@ pub fn is_value(rt: &HostRuntime, name: &str, got: Result<Value, Error>, wanted:
     }
 }
 
-/// The value has this length and these bytes.
+/// Returns whether the value has these bytes and their length.
 pub fn written<T: Serialize>(rt: &HostRuntime, name: &str, value: &T, bytes: &str) -> bool {
     is_length(rt, name, serialized_size(value), bytes.len() / 2)
         && is_bytes(rt, name, to_vec(rt.alloc(), value), bytes)
 }
 
-/// The value has this image.
+/// Returns whether the value has this image.
 pub fn imaged<T: Serialize>(rt: &HostRuntime, name: &str, value: &T, image: &str) -> bool {
     is_value(rt, name, to_value(rt.alloc(), value), image)
 }
 
-/// Like `imaged`, of a value for which memory was allocated.
+/// Like `imaged`, for a value whose allocation may have failed.
 pub fn imaged_of<T: Serialize + Drop>(
     rt: &HostRuntime,
     name: &str,
@@ -121,7 +121,7 @@ pub fn imaged_of<T: Serialize + Drop>(
     }
 }
 
-/// The value has this length, these bytes and this image.
+/// Returns whether the value has these bytes, their length and this image.
 pub fn row<T: Serialize>(
     rt: &HostRuntime,
     name: &str,
@@ -132,7 +132,7 @@ pub fn row<T: Serialize>(
     written(rt, name, value, bytes) && imaged(rt, name, value, image)
 }
 
-/// Like `row`, of a value for which memory was allocated.
+/// Like `row`, for a value whose allocation may have failed.
 pub fn row_of<T: Serialize + Drop>(
     rt: &HostRuntime,
     name: &str,
@@ -146,12 +146,12 @@ pub fn row_of<T: Serialize + Drop>(
     }
 }
 
-/// The untyped value has this length and these bytes, and is its own image.
+/// Returns whether the untyped value has these bytes and their length, and is its own image.
 pub fn own_image(rt: &HostRuntime, name: &str, value: &Value, bytes: &str) -> bool {
     written(rt, name, value, bytes) && has_image(rt, name, value, value)
 }
 
-/// Like `own_image`, of a value for which memory was allocated.
+/// Like `own_image`, for a value whose allocation may have failed.
 pub fn own_image_of(rt: &HostRuntime, name: &str, value: Option<Value>, bytes: &str) -> bool {
     match value {
         Some(value) => own_image(rt, name, &value, bytes),
@@ -159,19 +159,19 @@ pub fn own_image_of(rt: &HostRuntime, name: &str, value: Option<Value>, bytes: &
     }
 }
 
-/// The value has this image.
+/// Returns whether the value has this image.
 pub fn has_image<T: Serialize>(rt: &HostRuntime, name: &str, value: &T, image: &Value) -> bool {
     let got = to_value(rt.alloc(), value);
     matches!(&got, Ok(got) if got == image) || shows(rt, name, &got, "another image")
 }
 
-/// The value has an image.
+/// Returns whether the value has an image.
 pub fn has_some_image<T: Serialize>(rt: &HostRuntime, name: &str, value: &T) -> bool {
     let got = to_value(rt.alloc(), value);
     got.is_ok() || shows(rt, name, &got, "an image")
 }
 
-/// The value has this length, and its bytes begin with these.
+/// Returns whether the value has this length, and its bytes begin with these.
 pub fn begins<T: Serialize>(
     rt: &HostRuntime,
     name: &str,
@@ -186,7 +186,7 @@ pub fn begins<T: Serialize>(
         }
 }
 
-/// Like `begins`, of a value for which memory was allocated.
+/// Like `begins`, for a value whose allocation may have failed.
 pub fn begins_of<T: Serialize + Drop>(
     rt: &HostRuntime,
     name: &str,
@@ -200,7 +200,7 @@ pub fn begins_of<T: Serialize + Drop>(
     }
 }
 
-/// The two values have the same bytes.
+/// Returns whether the two values have the same bytes.
 pub fn same_bytes<T: Serialize, U: Serialize>(
     rt: &HostRuntime,
     name: &str,
@@ -211,7 +211,7 @@ pub fn same_bytes<T: Serialize, U: Serialize>(
     got.is_ok() && got == to_vec(rt.alloc(), other) || shows(rt, name, &got, "other bytes")
 }
 
-// The bytes are of this length and begin with these.
+// Returns whether the bytes have this length and begin with these.
 fn is_begun(rt: &HostRuntime, name: &str, bytes: &[u8], length: usize, head: &str) -> bool {
     match hexadecimal(rt.alloc(), bytes) {
         Some(text) => {
@@ -222,13 +222,13 @@ fn is_begun(rt: &HostRuntime, name: &str, bytes: &[u8], length: usize, head: &st
     }
 }
 
-/// Size and bytes refuse the value as invalid.
+/// Returns whether the size and the bytes of the value fail as invalid.
 pub fn refused<T: Serialize>(rt: &HostRuntime, name: &str, value: &T) -> bool {
     shows(rt, name, &serialized_size(value), "Err(InvalidValue)")
         && shows(rt, name, &to_vec(rt.alloc(), value), "Err(InvalidValue)")
 }
 
-/// Like `refused`, of a value for which memory was allocated.
+/// Like `refused`, for a value whose allocation may have failed.
 pub fn refused_of<T: Serialize + Drop>(rt: &HostRuntime, name: &str, value: Option<T>) -> bool {
     match value {
         Some(value) => refused(rt, name, &value),
@@ -236,7 +236,8 @@ pub fn refused_of<T: Serialize + Drop>(rt: &HostRuntime, name: &str, value: Opti
     }
 }
 
-/// Size and bytes refuse the untyped value as invalid, and it is its own image.
+/// Returns whether the size and the bytes of the untyped value fail as invalid, and it is its own
+/// image.
 pub fn only_imaged(rt: &HostRuntime, name: &str, value: Option<Value>) -> bool {
     match value {
         Some(value) => refused(rt, name, &value) && has_image(rt, name, &value, &value),
@@ -244,7 +245,7 @@ pub fn only_imaged(rt: &HostRuntime, name: &str, value: Option<Value>) -> bool {
     }
 }
 
-/// Size, bytes and image refuse the value as invalid.
+/// Returns whether the size, the bytes and the image of the value fail as invalid.
 pub fn has_no_tree<T: Serialize>(rt: &HostRuntime, name: &str, value: &T) -> bool {
     refused(rt, name, value) && imaged(rt, name, value, "InvalidValue")
 }

@@ -16,7 +16,7 @@ pub enum Run {
     Lines,
 }
 
-/// Runs it.
+/// Executes the run.
 pub fn run_over<R: Read, W: Write>(
     alloc: Global,
     run: Run,
@@ -29,7 +29,7 @@ pub fn run_over<R: Read, W: Write>(
     }
 }
 
-/// The printed bytes are this text.
+/// Returns whether the printed bytes are this text.
 pub fn is_printed(rt: &HostRuntime, name: &str, got: &[u8], text: &[u8]) -> bool {
     if got == text {
         return true;
@@ -40,7 +40,7 @@ pub fn is_printed(rt: &HostRuntime, name: &str, got: &[u8], text: &[u8]) -> bool
     }
 }
 
-// The run over this reader prints this text and has this result.
+// Returns whether the run over this reader prints this text and has this result.
 fn prints<R: Read>(
     rt: &HostRuntime,
     name: &str,
@@ -61,7 +61,7 @@ pub enum Reading {
     SingleBytes,
 }
 
-/// The run over this input prints this text and has this result.
+/// Returns whether the run over this input prints this text and has this result.
 pub fn row(
     rt: &HostRuntime,
     reading: Reading,
@@ -80,12 +80,12 @@ pub fn row(
     }
 }
 
-// Prints the number of the call that was to fail, and answers false.
+// Prints the number of the call that was to fail, and returns false.
 fn wrong_at(rt: &HostRuntime, call: &str, number: u64) -> bool {
     println!(rt; "where {call} {number} fails").is_err() && false
 }
 
-/// If this read fails, the run prints this text and answers `Io`.
+/// Returns whether the run prints this text and returns `Io` if this read fails.
 pub fn read_fails(
     rt: &HostRuntime,
     run: Run,
@@ -98,8 +98,8 @@ pub fn read_fails(
     prints(rt, "a run", run, &mut reader, text, "Err(Io)") || wrong_at(rt, "read", failing)
 }
 
-/// The run over this input prints this text to a writer, one write of which may fail, and has this
-/// result.
+/// Returns whether the run over this input prints this text to a writer, one write of which may
+/// fail, and has this result.
 pub fn writes(
     rt: &HostRuntime,
     run: Run,
@@ -116,8 +116,8 @@ pub fn writes(
     is(rt, "a run", got, wanted) && is_printed(rt, "a run", &written, text)
 }
 
-/// If the write of any one byte of this text fails, the run prints the bytes before it and answers
-/// `Io`.
+/// Returns whether the run, if the write of any one byte of this text fails, prints the bytes
+/// before it and returns `Io`.
 pub fn each_write_fails(
     rt: &HostRuntime,
     run: Run,

@@ -1,4 +1,4 @@
-//! Worked rows of scalars, by the encoding tables (AMQP 1.0 part 1, section 1.6).
+//! Examples of scalars from the encoding tables (AMQP 1.0 part 1, section 1.6).
 
 use super::made::{symbol, text};
 use super::rows::{begins, begins_of, has_image, row, row_of, same_bytes, wrong};
@@ -163,7 +163,7 @@ fn long_texts_and_binaries(rt: &HostRuntime) -> bool {
         && begins_of(rt, "a binary of 255 bytes", zeros(a, 255), 260, "b0")
 }
 
-// A text of so many letters x, and its untyped value.
+// Returns a text of `count` letters `x`, and its untyped value.
 fn text_and_value(alloc: Global, count: usize) -> Option<(String, Value)> {
     Some((
         text(alloc, b'x', count)?,
@@ -171,7 +171,8 @@ fn text_and_value(alloc: Global, count: usize) -> Option<(String, Value)> {
     ))
 }
 
-// The text and its image have the same bytes, which are so many and begin with these.
+// Returns whether the text and its image have the same bytes, of this length and beginning with
+// these.
 fn turns_long(rt: &HostRuntime, name: &str, count: usize, length: usize, head: &str) -> bool {
     match text_and_value(rt.alloc(), count) {
         Some((text, value)) => {

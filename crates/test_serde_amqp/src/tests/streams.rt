@@ -1,10 +1,10 @@
-//! Readers and writers of one byte a call, one call of which fails; and a writer with a buffer.
+//! Readers and writers of one byte per call, one call of which fails; and a buffered writer.
 
 ghost use Rattle.std.specs.Prelude.{Some};
 
 use std::io::{self, ErrorKind};
 
-/// Reads one byte a call; the call of this number fails, counted from 1.
+/// Reader of one byte per call; the call with number `failing`, counted from 1, fails.
 #[derive(Drop)]
 pub struct ByteReader<'a> {
     rest: &'a [u8],
@@ -41,14 +41,14 @@ impl io::Read for ByteReader<'_> {
     }
 }
 
-/// What the failing call of a writer does.
+/// The fault of a writer's failing call.
 #[derive(Clone, Copy)]
 pub enum Fault {
     Fails,
     WritesNone,
 }
 
-/// Writes one byte a call; the call of this number fails, counted from 1.
+/// Writer of one byte per call; the call with number `failing`, counted from 1, fails.
 #[derive(Drop)]
 pub struct ByteWriter<'a> {
     written: &'a mut Vec<u8>,
@@ -89,8 +89,8 @@ impl io::Write for ByteWriter<'_> {
     }
 }
 
-/// Writes all bytes on a flush, and none before; counts the flushes, each of which fails if it is
-/// made so.
+/// Writer that writes all bytes on a flush and none before. Counts the flushes; each of them fails
+/// if `fails` is set.
 #[derive(Drop)]
 pub struct FlushedWriter<'a> {
     buffer: Vec<u8>,

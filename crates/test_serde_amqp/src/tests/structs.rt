@@ -1,4 +1,4 @@
-//! Structs by their fields, and newtypes of no marker's name.
+//! Structs with fields, and newtypes without a marker.
 
 ghost use Rattle.std.specs.Prelude.{◌∷◌, [], Some};
 ghost use Rattle.amqp_ser.specs.Tree.{scalar, int};
@@ -8,7 +8,7 @@ ghost use Rattle.amqp_ser.specs.declared.kind.Kind.TheVariants.{List};
 use super::rows::row;
 use amqp_ser::{Serialize, Serializer};
 
-/// A newtype of no marker's name.
+/// A newtype without a marker.
 #[derive(Drop)]
 struct Wrapped(i32);
 

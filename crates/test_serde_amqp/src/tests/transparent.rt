@@ -1,4 +1,5 @@
-//! Transparent vectors, which are written at the root alone, and enums under the names of markers.
+//! Transparent vectors, which are writable only at the root or directly inside one there, and enums
+//! with the names of markers.
 
 ghost use Rattle.std.specs.Prelude.{None, Some};
 ghost use Rattle.amqp_ser.specs.Tree.{scalar, ubyte};
@@ -21,7 +22,7 @@ impl Serialize for Untagged {
     }
 }
 
-/// A variant of the enum named `DESCRIPTOR`: it has no tree.
+/// A variant of the enum named `DESCRIPTOR`, which has no tree.
 #[derive(Drop)]
 struct Tag(u64);
 

@@ -1,4 +1,4 @@
-//! Variants: the map of one pair, from the index to the payload.
+//! Variants: maps of one pair, from the index to the payload.
 
 ghost use Rattle.std.specs.Prelude.{◌∷◌, [], Some};
 ghost use Rattle.amqp_ser.specs.Compounds.{whole};
@@ -11,7 +11,7 @@ use amqp_ser::{Serialize, Serializer};
 use serde_amqp::Value;
 use std::alloc::Global;
 
-/// A newtype variant, index 1.
+/// A newtype variant with index 1.
 #[derive(Drop)]
 struct Newtype(u64);
 
@@ -23,7 +23,7 @@ impl Serialize for Newtype {
     }
 }
 
-/// A tuple variant, index 1.
+/// A tuple variant with index 1.
 #[derive(Drop)]
 struct Tuple(i32, &'static str);
 
@@ -39,7 +39,7 @@ impl Serialize for Tuple {
     }
 }
 
-/// A struct variant, index 0.
+/// A struct variant with index 0.
 #[derive(Drop)]
 struct Struct(u32, bool);
 
@@ -55,7 +55,7 @@ impl Serialize for Struct {
     }
 }
 
-/// A unit variant, index 1.
+/// A unit variant with index 1.
 #[derive(Drop)]
 struct Unit;
 

@@ -1,4 +1,4 @@
-//! Worked rows of `from_value` and its deserializer.
+//! Examples of `from_value` and its deserializer.
 
 mod access;
 mod composites;
@@ -17,7 +17,7 @@ use amqp_from_value::{Deserializer, VariantAccess, from_value};
 use amqp_value::Value;
 use std::fmt::Debug;
 
-// Whether the value is deserialized as the expected one.
+// Returns whether the value is deserialized as the expected one.
 fn reads<T: Deserialize + Debug + PartialEq>(
     rt: &HostRuntime,
     name: &str,
@@ -27,12 +27,12 @@ fn reads<T: Deserialize + Debug + PartialEq>(
     gives(rt, name, &from_value::<T>(rt.alloc(), value), expected)
 }
 
-// Whether the value is refused as invalid.
+// Returns whether deserializing the value fails as invalid.
 fn refuses<T: Deserialize + Debug>(rt: &HostRuntime, name: &str, value: Value) -> bool {
     invalid(rt, name, &from_value::<T>(rt.alloc(), value))
 }
 
-// The content of the variant of index 1.
+// Returns the content of the variant with index 1.
 fn variant_1(rt: &HostRuntime, item: Option<Value>) -> Result<VariantAccess, Error> {
     let item = match item {
         Some(value) => Some(Deserializer::new(rt.alloc(), value)),

@@ -1,14 +1,14 @@
-//! Rows: each answers whether a result is the expected one.
+//! Helpers of rows: each returns whether a result is the expected one.
 
 use amqp_data::Error;
 use std::fmt::Debug;
 
-/// Whether a result is the expected one. If not, prints the row's name and the result.
+/// Returns whether a result is the expected one; if not, prints the name of the row and the result.
 pub fn is<T: Debug + PartialEq>(rt: &HostRuntime, name: &str, got: &T, expected: &T) -> bool {
     *got == *expected || wrong(rt, name, got)
 }
 
-/// Whether a call succeeded with the expected result.
+/// Returns whether a call succeeded with the expected result.
 pub fn gives<T: Debug + PartialEq>(
     rt: &HostRuntime,
     name: &str,
@@ -21,7 +21,7 @@ pub fn gives<T: Debug + PartialEq>(
     }
 }
 
-/// Whether a call failed with the expected error.
+/// Returns whether a call failed with the expected error.
 pub fn fails<T: Debug>(
     rt: &HostRuntime,
     name: &str,
@@ -34,12 +34,12 @@ pub fn fails<T: Debug>(
     }
 }
 
-/// Whether a call failed with `Error::InvalidValue`.
+/// Returns whether a call failed with `Error::InvalidValue`.
 pub fn invalid<T: Debug>(rt: &HostRuntime, name: &str, got: &Result<T, Error>) -> bool {
     fails(rt, name, got, &Error::InvalidValue)
 }
 
-/// Prints the name of a row and its result, and answers false.
+/// Prints the name of a row and its result, and returns false.
 pub fn wrong<T: Debug>(rt: &HostRuntime, name: &str, got: &T) -> bool {
     println!(rt; "{name}: got {got:?}").is_err() && false
 }

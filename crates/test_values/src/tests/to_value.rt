@@ -1,4 +1,4 @@
-//! Worked rows of `to_value` and its serializer.
+//! Examples of `to_value` and its serializer.
 
 mod again;
 mod compounds;

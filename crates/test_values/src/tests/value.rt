@@ -1,5 +1,5 @@
-//! Worked rows of untyped values: equality, order, conversions, and each law once. The rows of texts and of format codes
-//! are data of the program `test_rows`.
+//! Examples of untyped values: equality, order, conversions, and each law once. The examples of
+//! texts and of format codes are data of the program `test_rows`.
 
 mod conversions;
 mod maps;
@@ -9,7 +9,7 @@ use super::values::{array, bytes, described, list, map, string, symbol};
 use amqp_data::{Dec32, Dec64, Dec128, Descriptor, F32Bits, F64Bits, Timestamp, Uuid};
 use amqp_value::{Value, laws};
 
-// One value of each variant, in the order of the standard.
+// Returns one value of each variant, in the order of the standard.
 fn one_of_each(rt: &HostRuntime) -> [Value; 25] {
     [
         described(rt, Descriptor::Code(1), Value::Null),

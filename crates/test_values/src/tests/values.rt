@@ -1,9 +1,9 @@
-//! Values for rows. If an allocation fails, the value is empty or null.
+//! Constructors of values for rows. If an allocation fails, the value is empty or null.
 
 use amqp_data::{Array, ByteBuf, Described, Descriptor, OrderedMap, Symbol};
 use amqp_value::Value;
 
-/// A vector of these items.
+/// Returns a vector of these items.
 pub fn vec_of<const N: usize, T: Drop>(rt: &HostRuntime, items: [T; N]) -> Vec<T> {
     match Vec::from_array(rt.alloc(), items) {
         Ok(items) => items,
@@ -11,17 +11,17 @@ pub fn vec_of<const N: usize, T: Drop>(rt: &HostRuntime, items: [T; N]) -> Vec<T
     }
 }
 
-/// A list of these values.
+/// Returns a list of these values.
 pub fn list<const N: usize>(rt: &HostRuntime, items: [Value; N]) -> Value {
     Value::List(vec_of(rt, items))
 }
 
-/// An array of these values.
+/// Returns an array of these values.
 pub fn array<const N: usize>(rt: &HostRuntime, items: [Value; N]) -> Value {
     Value::Array(Array::from(vec_of(rt, items)))
 }
 
-/// The map of these pairs, inserted in order.
+/// Returns the map of these pairs, inserted in order.
 pub fn ordered_map<const N: usize>(
     rt: &HostRuntime,
     pairs: [(Value, Value); N],
@@ -33,12 +33,12 @@ pub fn ordered_map<const N: usize>(
     map
 }
 
-/// The map value of these pairs, inserted in order.
+/// Returns the value of the map of these pairs, inserted in order.
 pub fn map<const N: usize>(rt: &HostRuntime, pairs: [(Value, Value); N]) -> Value {
     Value::Map(ordered_map(rt, pairs))
 }
 
-/// A text.
+/// Returns a text with this content.
 pub fn text(rt: &HostRuntime, text: &str) -> String {
     match String::from_str(rt.alloc(), text) {
         Ok(text) => text,
@@ -46,27 +46,27 @@ pub fn text(rt: &HostRuntime, text: &str) -> String {
     }
 }
 
-/// A string.
+/// Returns a string value.
 pub fn string(rt: &HostRuntime, content: &str) -> Value {
     Value::String(text(rt, content))
 }
 
-/// A name.
+/// Returns a symbol.
 pub fn name(rt: &HostRuntime, content: &str) -> Symbol {
     Symbol::from(text(rt, content))
 }
 
-/// A symbol.
+/// Returns a symbol value.
 pub fn symbol(rt: &HostRuntime, content: &str) -> Value {
     Value::Symbol(name(rt, content))
 }
 
-/// Bytes.
+/// Returns these bytes.
 pub fn bytes<const N: usize>(rt: &HostRuntime, content: [u8; N]) -> ByteBuf {
     ByteBuf::from(vec_of(rt, content))
 }
 
-/// A described value.
+/// Returns a described value.
 pub fn described(rt: &HostRuntime, descriptor: Descriptor, value: Value) -> Value {
     match Box::new(rt.alloc(), Described { descriptor, value }) {
         Ok(described) => Value::Described(described),

@@ -1,4 +1,4 @@
-//! Composites of a user's own: a descriptor and a list, a map or one value.
+//! User-defined composites: a descriptor and a list, a map or one value.
 
 ghost use Rattle.std.specs.Prelude.{◌∷◌, [], Some, codes};
 ghost use Rattle.amqp_ser.specs.Carried.{optional};
@@ -11,7 +11,7 @@ ghost use Rattle.amqp_ser.specs.declared.kind.Kind.TheVariants as kind;
 use amqp_data::markers;
 use amqp_ser::{MapOf, Serialize, Serializer, fields};
 
-/// The performative that opens a connection: its first fields (AMQP 1.0 part 2, section 2.7.1).
+/// The first fields of the performative that opens a connection (AMQP 1.0 part 2, section 2.7.1).
 #[derive(Drop)]
 pub struct Opens {
     pub container: &'static str,
@@ -36,7 +36,7 @@ impl Serialize for Opens {
     }
 }
 
-/// A map section of two properties.
+/// A map section with two properties.
 #[derive(Drop)]
 pub struct Properties {
     pub is_fool: bool,
@@ -87,7 +87,7 @@ impl Serialize for Tuple {
     }
 }
 
-/// A descriptor that is a string, and a field after it.
+/// Serializes a descriptor that is a string, which is invalid, and a field after it.
 pub fn bad_descriptor<S: Serializer>(serializer: &mut S) -> Result<S::Ok, S::Error> {
     let mut fields = serializer.serialize_struct("BadDescriptor", 2)?;
     fields.serialize_field(markers::DESCRIPTOR, &"no descriptor")?;
@@ -95,7 +95,7 @@ pub fn bad_descriptor<S: Serializer>(serializer: &mut S) -> Result<S::Ok, S::Err
     fields.end()
 }
 
-/// Two descriptors.
+/// Serializes two descriptors, of which the second is misplaced.
 pub fn two_descriptors<S: Serializer>(serializer: &mut S) -> Result<S::Ok, S::Error> {
     let mut fields = serializer.serialize_struct(markers::DESCRIBED_LIST, 2)?;
     fields.serialize_field(markers::DESCRIPTOR, &1u64)?;
@@ -103,7 +103,7 @@ pub fn two_descriptors<S: Serializer>(serializer: &mut S) -> Result<S::Ok, S::Er
     fields.end()
 }
 
-/// A variant of the enum of this name.
+/// A variant of the enum with this name.
 pub struct Named(pub &'static str, pub u16);
 
 impl Serialize for Named {

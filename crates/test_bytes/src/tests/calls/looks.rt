@@ -1,4 +1,4 @@
-//! Uses of the serializer between two parts, and what they leave there.
+//! Uses of the serializer of an open compound between two of its elements.
 
 ghost use Rattle.std.specs.Prelude.{◌∷◌, [], Some, codes};
 ghost use Rattle.amqp_ser.specs.Compounds.{whole};
@@ -11,8 +11,8 @@ use super::recorder::new_calls;
 use amqp_ser::{Mark, SerializeSeq, Serializer};
 use std::mem;
 
-/// Serializes a key, reads from the serializer, and serializes the value: the answer is that on the
-/// map of the two.
+/// Serializes a key, reads from the serializer, and serializes the value: the result is that of a
+/// map with this pair.
 pub fn looks_between<S: Serializer>(serializer: &mut S) -> Result<S::Ok, S::Error>
     ensures { S.permits serializer.old
         (whole kind.Map (Some (scalar (string (codes "a"))) ∷ Some (scalar (ubyte 1)) ∷ [])) result
@@ -25,7 +25,7 @@ pub fn looks_between<S: Serializer>(serializer: &mut S) -> Result<S::Ok, S::Erro
     map.end()
 }
 
-/// Marks the serializer below a list, and serializes a string there: the answer is that on a symbol.
+/// Marks and uses the serializer of an open list for a string: the result is that of a symbol.
 fn marks_behind<S: Serializer>(list: &mut SerializeSeq<'_, S>) -> Result<S::Ok, S::Error>
     ensures { S.permits list.old.serializer.now (Some (scalar (symbol (codes "a")))) result
         list.new.serializer.now }
@@ -34,13 +34,13 @@ fn marks_behind<S: Serializer>(list: &mut SerializeSeq<'_, S>) -> Result<S::Ok, 
     list.as_mut().serialize_str("a")
 }
 
-/// The same below a list that is opened for it.
+/// Opens a list and calls `marks_behind` with it.
 fn marks_behind_a_list<S: Serializer>(serializer: &mut S) -> Result<S::Ok, S::Error> {
     let mut list = serializer.serialize_seq(None)?;
     marks_behind(&mut list)
 }
 
-/// Puts another serializer below a list, and serializes an element: the list continues with that.
+/// Replaces the serializer of an open list, and serializes an element with the new one.
 fn goes_on_with<S: Serializer>(
     list: &mut SerializeSeq<'_, S>,
     other: S,
@@ -52,7 +52,7 @@ fn goes_on_with<S: Serializer>(
     (before, list.serialize_element(&1u8))
 }
 
-/// The same below a list that is opened for it.
+/// Opens a list and calls `goes_on_with` with it.
 fn goes_on_with_another<S: Serializer + Drop>(
     serializer: &mut S,
     other: S,
@@ -79,7 +79,7 @@ fn left_serializer(rt: &HostRuntime) -> bool {
     recorded(rt, &calls, " ubyte,")
 }
 
-/// A call that only reads changes nothing; a mark and another serializer that are left there stay.
+/// A call that only reads changes nothing; a marker and a replaced serializer remain.
 pub fn rows(rt: &HostRuntime) -> bool {
     peeked_at(rt) && left_mark(rt) && left_serializer(rt)
 }

@@ -1,4 +1,4 @@
-//! A serializer that records its calls, and counts as [`SizeSerializer`] does.
+//! A serializer that records its calls and computes lengths like [`SizeSerializer`].
 
 ghost use Rattle.std.specs.Prelude.{◌≡◌, ◌++◌, ◌∷◌, [], ℕ, Err, IfErr, IsErr, List, MatchResult, None, Option, Result};
 ghost use Rattle.amqp_ser.specs.Tree.{Tree};
@@ -7,14 +7,14 @@ use amqp_ser::{Fixed, Kind, Mark, Serialize, Serializer};
 use amqp_size::{OpenCompound, Shape, SizeSerializer, WalkError};
 use std::alloc::Global;
 
-/// Records each call, and passes it on to a [`SizeSerializer`].
+/// Records each call and passes it to a [`SizeSerializer`].
 #[derive(Drop)]
 pub struct Calls {
     notes: String,
     inner: SizeSerializer,
 }
 
-/// No calls yet.
+/// Creates a recorder without calls.
 pub fn new_calls(alloc: Global) -> Calls {
     Calls {
         notes: String::new(alloc),
@@ -23,7 +23,7 @@ pub fn new_calls(alloc: Global) -> Calls {
 }
 
 impl Calls {
-    /// The calls so far.
+    /// Returns the calls recorded so far.
     pub fn as_str(&self) -> &str {
         self.notes.as_str()
     }
@@ -199,7 +199,7 @@ impl Serializer for Calls {
     }
 }
 
-/// The calls that a value makes.
+/// Returns the calls that a value makes.
 pub fn calls_of<T: Serialize>(alloc: Global, value: &T) -> String {
     let mut calls = new_calls(alloc);
     drop(value.serialize(&mut calls));

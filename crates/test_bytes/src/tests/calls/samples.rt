@@ -1,4 +1,4 @@
-//! Types of a user's own, with a tree and without one.
+//! User-defined types, with a tree and without one.
 
 ghost use Rattle.std.specs.Prelude.{◌∷◌, [], Some, None};
 ghost use Rattle.amqp_ser.specs.Carried.{optional};
@@ -11,7 +11,7 @@ ghost use Rattle.amqp_data.specs.Fixed.{milliseconds_of};
 use amqp_data::{Symbol, Timestamp, markers};
 use amqp_ser::{Serialize, Serializer};
 
-/// A struct of three fields: a list of them.
+/// A struct of three fields, serialized as a list.
 #[derive(Drop)]
 pub struct Reading {
     pub position: Symbol,
@@ -34,7 +34,7 @@ impl Serialize for Reading {
     }
 }
 
-/// A tuple struct: a list of its fields.
+/// A tuple struct, serialized as a list of its fields.
 pub struct Pair(pub u8, pub bool);
 
 impl Serialize for Pair {
@@ -49,7 +49,7 @@ impl Serialize for Pair {
     }
 }
 
-/// A newtype that asks for a symbol.
+/// A newtype with the symbol marker.
 pub struct Name<'a>(pub &'a str);
 
 impl Serialize for Name<'_> {
@@ -60,7 +60,7 @@ impl Serialize for Name<'_> {
     }
 }
 
-/// A newtype that no marker names.
+/// A newtype without a marker.
 pub struct Inner(pub i32);
 
 impl Serialize for Inner {
@@ -71,7 +71,7 @@ impl Serialize for Inner {
     }
 }
 
-/// A newtype that asks for a symbol over a number: it has no tree.
+/// A number with the symbol marker, which has no tree.
 #[derive(Drop)]
 pub struct NoName(pub u8);
 

@@ -1,4 +1,4 @@
-//! Worked rows of the accessors: their results, and what is left after each.
+//! Examples of the accessors: their results, and what is left after each.
 
 use super::super::rows::{fails, gives, is};
 use super::super::values::{ordered_map, string, vec_of};

@@ -1,4 +1,4 @@
-//! Worked rows of composites: fields after a descriptor, from a list and from a map.
+//! Examples of composites: fields after a descriptor, from a list and from a map.
 
 ghost use Rattle.std.specs.Prelude.{◌≡◌, codes, [], ◌∷◌};
 ghost use Rattle.amqp_ser.specs.Tree.{code, described, list, trees_of};
@@ -52,7 +52,7 @@ impl Deserialize for Flow {
     }
 }
 
-/// A composite whose fields have names.
+/// A composite of a map of named fields.
 #[derive(Debug, PartialEq, Drop)]
 struct Limits {
     low: i32,
@@ -90,7 +90,7 @@ impl Deserialize for Limits {
     }
 }
 
-// A composite of this descriptor and these fields.
+// Returns the described value of this descriptor and these fields.
 fn composite(rt: &HostRuntime, code: u64, fields: Value) -> Value {
     described(rt, Descriptor::Code(code), fields)
 }
@@ -107,7 +107,7 @@ fn two_uints(rt: &HostRuntime) -> Value {
     list(rt, [Value::Uint(4), Value::Uint(100)])
 }
 
-// The map of one field.
+// Returns the map of one field.
 fn one(rt: &HostRuntime, name: &str, value: Value) -> Value {
     map(rt, [(string(rt, name), value)])
 }

@@ -1,4 +1,4 @@
-//! Lazy values: any value that can be written, as its bytes.
+//! Lazy values, read from any writable value as its bytes.
 
 use super::super::rows::{is, wrong};
 use super::super::values::{array, list, string};
@@ -9,7 +9,7 @@ use amqp_frame::LazyValue;
 use amqp_from_value::from_value;
 use amqp_value::Value;
 
-// Whether the value is deserialized as a lazy value of these bytes.
+// Returns whether the value is deserialized as a lazy value of these bytes.
 fn is_lazy(rt: &HostRuntime, name: &str, value: Value, bytes: &[u8]) -> bool {
     match from_value::<LazyValue>(rt.alloc(), value) {
         Ok(lazy) => is(rt, name, &lazy.as_slice(), &bytes),
@@ -54,7 +54,7 @@ fn what_cannot_be_written_is_no_lazy_value(rt: &HostRuntime) -> bool {
         && refuses::<Vec<LazyValue>>(rt, "a list of such an array", nested)
 }
 
-// The contracts say which error is out of memory. These rows say which error each of the others is.
+// The contracts state which error is out of memory; these rows state the error of each other cause.
 fn each_cause_has_its_error(rt: &HostRuntime) -> bool {
     let memory: Error = Refusal::memory();
     let invalid: Error = Refusal::invalid();

@@ -1,4 +1,4 @@
-//! Worked rows of vectors, arrays and arrays of a fixed length, from a list and from an array.
+//! Examples of vectors, arrays and fixed-length arrays, from a list and from an array.
 
 use super::super::values::{array, list, vec_of};
 use super::{reads, refuses};

@@ -1,4 +1,4 @@
-//! Worked rows of maps: pairs inserted in order, each key before its value.
+//! Examples of maps: pairs inserted in order, each key before its value.
 
 use super::super::rows::{is, wrong};
 use super::super::values::{list, map, name, symbol, vec_of};
@@ -22,7 +22,7 @@ fn three_pairs(rt: &HostRuntime) -> Value {
     )
 }
 
-// Keys of which the first and the last differ as values and are equal as lists of one number.
+// Returns a map whose first and last keys differ as values, but are equal as lists of one number.
 fn keys_that_become_one(rt: &HostRuntime) -> Value {
     map(
         rt,
@@ -34,7 +34,7 @@ fn keys_that_become_one(rt: &HostRuntime) -> Value {
     )
 }
 
-// Whether the value is an `OrderedMap` of these pairs in this order.
+// Returns whether the value is deserialized as an `OrderedMap` of these pairs in this order.
 fn is_ordered<K: Deserialize + Eq + Hash + Debug>(
     rt: &HostRuntime,
     value: Value,

@@ -1,4 +1,4 @@
-//! Worked rows of values, and what they are deserialized as.
+//! Examples of values and the types that they are deserialized as.
 
 use super::super::rows::{gives, invalid, wrong};
 use super::super::values::{array, described, list, map, name, string, symbol};
@@ -63,7 +63,7 @@ fn described_values_keep_their_descriptor(rt: &HostRuntime) -> bool {
         && reads(rt, "a ulong", Value::Ulong(3), &Descriptor::Code(3))
 }
 
-// The named fields a and b, of which b may be absent.
+// Reads the named fields `a` and `b`; `b` may be absent.
 fn read_named(rt: &HostRuntime, value: Value) -> Result<(i32, Option<i32>), Error> {
     let fields! { a, b } = NamedOf(named! { "a", "b"? }).read(
         rt.alloc(),

@@ -1,4 +1,4 @@
-//! Worked rows of enums, from an index, a list and a map.
+//! Examples of enums, from an index, a list and a map.
 
 use super::super::rows::{fails, gives, invalid};
 use super::super::values::{list, map, string, text};
@@ -7,7 +7,7 @@ use amqp_de::{EnumOf, Seed, named, variant, variants};
 use amqp_from_value::Deserializer;
 use amqp_value::Value;
 
-// A variant by its form, with its content. A unit variant has its index.
+// A variant by its form, with its content; a unit variant has its index.
 #[derive(Debug, PartialEq, Drop)]
 enum Variant {
     Struct(u32, bool),
@@ -16,7 +16,7 @@ enum Variant {
     Tuple(i32, String),
 }
 
-// A struct variant, a newtype variant, a unit variant and a tuple variant.
+// Reads a struct variant, a newtype variant, a unit variant or a tuple variant.
 fn four(rt: &HostRuntime, value: Value) -> Result<Variant, Error> {
     let variants = EnumOf(variants! { named! { "a", "b" }, newtype, unit, named! { "0", "1" } });
     match variants.read(rt.alloc(), Deserializer::new(rt.alloc(), value))? {
@@ -28,7 +28,7 @@ fn four(rt: &HostRuntime, value: Value) -> Result<Variant, Error> {
     }
 }
 
-// Two unit variants.
+// Reads one of two unit variants.
 fn units(rt: &HostRuntime, value: Value) -> Result<Variant, Error> {
     let variants = EnumOf(variants! { unit, unit });
     match variants.read(rt.alloc(), Deserializer::new(rt.alloc(), value))? {
@@ -38,7 +38,7 @@ fn units(rt: &HostRuntime, value: Value) -> Result<Variant, Error> {
     }
 }
 
-// A unit variant and a tuple variant.
+// Reads a unit variant or a tuple variant.
 fn two(rt: &HostRuntime, value: Value) -> Result<Variant, Error> {
     let variants = EnumOf(variants! { unit, named! { "0", "1" } });
     match variants.read(rt.alloc(), Deserializer::new(rt.alloc(), value))? {
@@ -48,22 +48,22 @@ fn two(rt: &HostRuntime, value: Value) -> Result<Variant, Error> {
     }
 }
 
-// The list of an index.
+// Returns the list of an index.
 fn alone(rt: &HostRuntime, index: u32) -> Value {
     list(rt, [Value::Uint(index)])
 }
 
-// The list of an index and a content.
+// Returns the list of an index and a content.
 fn pair(rt: &HostRuntime, index: u32, content: Value) -> Value {
     list(rt, [Value::Uint(index), content])
 }
 
-// The map of an index to a content.
+// Returns the map from an index to a content.
 fn entry(rt: &HostRuntime, index: u32, content: Value) -> Value {
     map(rt, [(Value::Uint(index), content)])
 }
 
-// The map of two indices to nulls.
+// Returns the map from two indices to nulls.
 fn entries(rt: &HostRuntime, first: u32, second: u32) -> Value {
     map(
         rt,
@@ -74,12 +74,12 @@ fn entries(rt: &HostRuntime, first: u32, second: u32) -> Value {
     )
 }
 
-// The fields of the struct variant.
+// Returns the fields of the struct variant.
 fn named_fields(rt: &HostRuntime) -> Value {
     list(rt, [Value::Uint(13), Value::Bool(true)])
 }
 
-// The fields of the tuple variant.
+// Returns the fields of the tuple variant.
 fn fields(rt: &HostRuntime) -> Value {
     list(rt, [Value::Int(13), string(rt, "amqp")])
 }

@@ -1,4 +1,4 @@
-//! Types that are read by a visitor, and which visit each value comes by.
+//! Types that are read by a visitor, and the visitor method called for each value.
 
 ghost use Rattle.std.specs.Prelude.{◌≡◌, ◌⊎◌, ℕ, List, [], ◌∷◌, Option};
 ghost use Rattle.amqp_data.specs.Text.{symbol_text};
@@ -19,7 +19,7 @@ use amqp_from_value::Deserializer;
 use amqp_value::Value;
 use std::alloc::Global;
 
-/// Two numbers, which are elements of a list.
+/// Two numbers, read from a list of two elements.
 #[derive(Debug, PartialEq, Drop)]
 struct Point {
     x: u32,
@@ -71,7 +71,7 @@ impl Deserialize for Point {
     }
 }
 
-/// A light that is off, or on and so bright.
+/// A light that is off, or on with a brightness.
 #[derive(Debug, PartialEq, Drop)]
 enum Light {
     Off,
@@ -118,7 +118,7 @@ fn read_light(alloc: Global, value: Value) -> Result<Light, Error> {
     Deserializer::new(alloc, value).deserialize_enum("Light", LightVisitor { alloc })
 }
 
-/// Reads the name of a variant.
+/// Visitor that reads the name of a variant.
 #[derive(Drop)]
 struct NameVisitor {
     alloc: Global,
@@ -148,7 +148,7 @@ fn read_name(alloc: Global, value: Value) -> Result<Symbol, Error> {
     Deserializer::new(alloc, value).deserialize_enum("Light", NameVisitor { alloc })
 }
 
-/// Tells which visit it is shown a value by.
+/// Visitor that returns which of its methods was called.
 #[derive(Drop)]
 struct Which;
 
@@ -205,7 +205,7 @@ impl Visitor for Which {
     }
 }
 
-// The name of a visit.
+// Returns the name of a visit.
 fn visit_name(visit: Result<Visit, Error>) -> Result<&'static str, Error> {
     Ok(match visit? {
         Visit::Plain => "plain",
@@ -219,7 +219,7 @@ fn visit_name(visit: Result<Visit, Error>) -> Result<&'static str, Error> {
     })
 }
 
-// Whether a call made the expected visit.
+// Returns whether a call made the expected visit.
 fn visits(
     rt: &HostRuntime,
     name: &str,
@@ -229,7 +229,7 @@ fn visits(
     gives(rt, name, &visit_name(visit), &expected)
 }
 
-// Whether a call visited nothing and failed with the expected error.
+// Returns whether a call made no visit and failed with the expected error.
 fn visits_none(
     rt: &HostRuntime,
     name: &str,

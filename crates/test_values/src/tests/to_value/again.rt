@@ -1,5 +1,4 @@
-//! A value that is given to `to_value` again comes back: proved with no induction of the caller's
-//! own.
+//! The image of an image is equal to it, which is proved without an induction by the caller.
 
 ghost use Rattle.std.specs.Prelude.{◌≡◌, IfOk, true};
 ghost use Rattle.amqp_value.specs.TreeOf.{tree_of};
@@ -12,7 +11,7 @@ use amqp_to_value::{laws, to_value};
 use amqp_value::Value;
 use std::alloc::Global;
 
-// The image of the value, and the image of that.
+// Returns the image of the value, and the image of that image.
 fn twice<T: Serialize>(alloc: Global, value: &T) -> Result<(Value, Value), Error>
     ensures same { IfOk result (λ values. tree_of values.1 ≡ tree_of values.0) }
     ensures equal { IfOk result (λ values. ⟦<Value as PartialEq>⟧.eq values.1 values.0 ≡ true) }

@@ -1,4 +1,4 @@
-//! Compounds serialized call by call.
+//! Compounds, serialized with one call per element.
 
 use super::super::rows::{gives, invalid, is};
 use super::super::values::{array, described, list, map, string, vec_of};
@@ -8,7 +8,7 @@ use amqp_ser::Kind;
 use amqp_to_value::{Serializer, to_value};
 use amqp_value::Value;
 
-// Serializes keys and values in turn.
+// Serializes keys and values alternately.
 fn map_of<S: amqp_ser::Serializer>(
     serializer: &mut S,
     pairs: &[(&str, u8)],
@@ -21,8 +21,8 @@ fn map_of<S: amqp_ser::Serializer>(
     map.end()
 }
 
-// Serializes a value without a key, and twice a key while one is pending. Returns the map and
-// whether each was refused.
+// Serializes a value without a key, and a key twice while one is pending. Returns the map and
+// whether each of these calls failed.
 fn misuse_map<S: amqp_ser::Serializer>(serializer: &mut S) -> Result<(S::Ok, bool), S::Error> {
     let mut map = serializer.serialize_map(None)?;
     let value = map.serialize_value(&9u8).is_err();
@@ -33,7 +33,7 @@ fn misuse_map<S: amqp_ser::Serializer>(serializer: &mut S) -> Result<(S::Ok, boo
     Ok((map.end()?, value && key && entry))
 }
 
-// Serializes a key, another key and a value. Returns the map and whether the second key was refused.
+// Serializes a key, another key and a value. Returns the map and whether the second key failed.
 fn key_after_key<S: amqp_ser::Serializer>(serializer: &mut S) -> Result<(S::Ok, bool), S::Error> {
     let mut map = serializer.serialize_map(None)?;
     map.serialize_key(&"a")?;
@@ -42,7 +42,7 @@ fn key_after_key<S: amqp_ser::Serializer>(serializer: &mut S) -> Result<(S::Ok, 
     Ok((map.end()?, key))
 }
 
-// Serializes a sequence of this one element.
+// Serializes a sequence with this one element.
 fn sequence_of<S: amqp_ser::Serializer>(
     serializer: &mut S,
     element: &TransparentVec<&str>,
@@ -65,8 +65,8 @@ fn tuple_variant<S: amqp_ser::Serializer>(serializer: &mut S) -> Result<S::Ok, S
     variant.end()
 }
 
-// Serializes a field that is no descriptor, the descriptor, another descriptor and two fields.
-// Returns the value and whether all but the descriptor and the first field were refused.
+// Serializes an invalid descriptor, the descriptor, another descriptor and two fields. Returns the
+// value and whether all but the descriptor and the first field failed.
 fn described_with_refusals<S: amqp_ser::Serializer>(
     serializer: &mut S,
 ) -> Result<(S::Ok, bool), S::Error> {
@@ -79,8 +79,8 @@ fn described_with_refusals<S: amqp_ser::Serializer>(
     Ok((fields.end()?, descriptor && again && second))
 }
 
-// A single compound as the described value takes its one value and refuses a second. Then the value
-// is serialized.
+// Serializes a described value whose first value, a compound of kind `Single`, fails at its second
+// element. Then another value is serialized.
 fn refuse_late<S: amqp_ser::Serializer>(serializer: &mut S) -> Result<S::Ok, S::Error> {
     let mut outer = serializer.begin(Kind::Single);
     serializer.begin_descriptor(&mut outer);
@@ -178,7 +178,7 @@ fn refusals_leave_a_described_value_unchanged(rt: &HostRuntime) -> bool {
         && gives(rt, "null afterwards", &unit(serializer), &Value::Null)
 }
 
-// The nth of some distinct keys: numbers, arrays and maps in turn.
+// Returns the nth of a series of distinct keys: a number, an array or a map.
 fn nth_key(rt: &HostRuntime, n: u32) -> Value {
     match n % 3 {
         0 => Value::Uint(n),

@@ -1,4 +1,4 @@
-//! Rows that are true whichever allocation fails. Run them by `rt try --test --fail-alloc N`.
+//! Rows that hold whichever allocation fails. Run them with `rt try --test --fail-alloc N`.
 
 use super::super::rows::{gives, is, wrong};
 use super::{newtype_variant, unit};
@@ -7,7 +7,7 @@ use amqp_to_value::{Serializer, to_value};
 use amqp_value::Value;
 use std::alloc::Global;
 
-// Serializes words, a refused one again.
+// Serializes words, each again if it fails.
 fn list_of<S: amqp_ser::Serializer>(serializer: &mut S, words: &[&str]) -> Result<S::Ok, S::Error> {
     let mut list = serializer.serialize_seq(None)?;
     for word in words {
@@ -18,7 +18,7 @@ fn list_of<S: amqp_ser::Serializer>(serializer: &mut S, words: &[&str]) -> Resul
     list.end()
 }
 
-// Serializes keys and values in turn, a refused one again.
+// Serializes keys and values alternately, each again if it fails.
 fn map_of<S: amqp_ser::Serializer>(
     serializer: &mut S,
     pairs: &[(&str, u8)],
@@ -35,7 +35,7 @@ fn map_of<S: amqp_ser::Serializer>(
     map.end()
 }
 
-// Serializes a descriptor and a value, a refused one again.
+// Serializes a descriptor and a value, each again if it fails.
 fn described_value<S: amqp_ser::Serializer>(
     serializer: &mut S,
     name: &Symbol,
@@ -58,7 +58,7 @@ fn is_text(value: &Value, text: &str) -> bool {
     }
 }
 
-// A value of each kind that takes memory.
+// Returns a value that contains each kind that allocates.
 fn nested(alloc: Global) -> Result<Value, Error> {
     let mut items = Vec::new(alloc);
     items.push(Value::String(String::from_str(alloc, "a")?))?;

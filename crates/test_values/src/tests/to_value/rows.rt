@@ -1,4 +1,4 @@
-//! Worked rows of images.
+//! Examples of images.
 
 ghost use Rattle.amqp_ser.specs.Marked.{marked, mark_of};
 
@@ -14,7 +14,7 @@ use amqp_value::Value;
 use amqp_wire::to_vec;
 use std::collections::BTreeMap;
 
-// A newtype of this name.
+// A newtype with this name.
 #[derive(Drop)]
 struct Named<T> {
     name: &'static str,
@@ -29,12 +29,12 @@ impl<T: Serialize> Serialize for Named<T> {
     }
 }
 
-// Whether the image of a value is the expected one.
+// Returns whether the image of a value is the expected one.
 fn image<T: Serialize>(rt: &HostRuntime, name: &str, value: &T, expected: Value) -> bool {
     gives(rt, name, &to_value(rt.alloc(), value), &expected)
 }
 
-// One value of each kind of scalar, and those at the ends of its range.
+// Returns a value of each kind of scalar, and the least and greatest of its range.
 fn scalars(rt: &HostRuntime) -> [Value; 37] {
     [
         Value::Null,
@@ -77,7 +77,7 @@ fn scalars(rt: &HostRuntime) -> [Value; 37] {
     ]
 }
 
-// Whether each value is its own image.
+// Returns whether each value is its own image.
 fn are_their_own_images(rt: &HostRuntime, values: &[Value]) -> bool {
     for value in values {
         if !gives(rt, "a scalar", &to_value(rt.alloc(), value), value) {
@@ -140,7 +140,7 @@ fn lists_of_rust_have_the_image_of_their_kind(rt: &HostRuntime) -> bool {
         )
 }
 
-// Whether the name is no marker: the image is that of the value inside.
+// Returns whether the name is not a marker: then the image is that of the inner value.
 fn is_no_marker(rt: &HostRuntime, name: &'static str) -> bool {
     image(rt, name, &Named { name, inner: 1u8 }, Value::Ubyte(1))
 }
@@ -149,17 +149,17 @@ fn other_names_are_no_markers(rt: &HostRuntime) -> bool {
     is_no_marker(rt, "") && is_no_marker(rt, "Unknown") && is_no_marker(rt, "__SYMBOL_")
 }
 
-// Whether the value has no image.
+// Returns whether the value has no image, which is an error as invalid.
 fn refuses<T: Serialize>(rt: &HostRuntime, name: &str, value: &T) -> bool {
     invalid(rt, name, &to_value(rt.alloc(), value))
 }
 
-// Whether a `u8` is refused under this name.
+// Returns whether a `u8` with this marker is invalid.
 fn refuses_u8(rt: &HostRuntime, name: &'static str) -> bool {
     refuses(rt, name, &Named { name, inner: 1u8 })
 }
 
-// Whether these bytes are refused under this name.
+// Returns whether these bytes with this marker are invalid.
 fn refuses_bytes(rt: &HostRuntime, name: &'static str, inner: ByteBuf) -> bool {
     refuses(rt, name, &Named { name, inner })
 }
@@ -196,7 +196,7 @@ fn markers_refuse_another_length(rt: &HostRuntime) -> bool {
         && refuses_bytes(rt, markers::UUID, bytes(rt, [7; 15]))
 }
 
-// The value of descriptor 1 with a list of a string and a ubyte.
+// Returns the value with descriptor 1 and a list of a string and a ubyte.
 fn described_list(rt: &HostRuntime) -> Value {
     let fields = list(rt, [string(rt, "a"), Value::Ubyte(2)]);
     described(rt, Descriptor::Code(1), fields)
@@ -231,7 +231,8 @@ fn transparent_vectors_are_lists(rt: &HostRuntime) -> bool {
     image(rt, "a transparent vector", &words, listed) && nested_is_a_list(rt, words)
 }
 
-// Whether a vector of a transparent vector has the image of a list in a list, and no bytes.
+// Returns whether the image of a vector of a transparent vector is a list in a list, and it has no
+// encoding.
 fn nested_is_a_list(rt: &HostRuntime, words: TransparentVec<&'static str>) -> bool {
     let vectors = vec_of(rt, [words]);
     let nested = list(rt, [list(rt, [string(rt, "a"), string(rt, "bc")])]);

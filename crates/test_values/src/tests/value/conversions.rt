@@ -1,4 +1,4 @@
-//! Conversions of scalars, lists and arrays, both ways, and of values that do not fit.
+//! Conversions of scalars, lists and arrays in both directions, and of values of another kind.
 
 use super::super::rows::{gives, is};
 use super::super::values::{array, bytes, described, list, name, string, text, vec_of};
@@ -8,7 +8,7 @@ use amqp_data::{
 use amqp_value::{ConvertFault, Value};
 use std::fmt::Debug;
 
-// Whether the number is converted to this value, and the value to the number.
+// Returns whether the number is converted to this value, and the value to the number.
 fn converts<T: TryFrom<Value, Error = Value> + Debug + PartialEq + Copy>(
     rt: &HostRuntime,
     name: &str,
@@ -37,7 +37,7 @@ fn signed_numbers_go_both_ways(rt: &HostRuntime) -> bool {
         && converts(rt, "char", 'a', Value::Char('a'))
 }
 
-// Whether the first is converted to a value and back to what is equal to the second.
+// Returns whether `given` is converted to a value and back to what is equal to `expected`.
 fn returns<T: TryFrom<Value, Error = Value> + Debug + PartialEq + Drop>(
     rt: &HostRuntime,
     name: &str,
@@ -77,7 +77,7 @@ fn types_of_variable_width_go_both_ways(rt: &HostRuntime) -> bool {
         && returns(rt, "Symbol", name(rt, "a"), name(rt, "a"))
 }
 
-// Whether a value is no `T`, and comes back as it was.
+// Returns whether a value is not a `T` and is returned unchanged.
 fn unfit<T: TryFrom<Value, Error = Value> + Debug + PartialEq + Drop>(
     rt: &HostRuntime,
     name: &str,
@@ -127,7 +127,7 @@ fn containers_are_made_of_their_parts(rt: &HostRuntime) -> bool {
     )
 }
 
-// Whether a conversion of a compound value has this result.
+// Returns whether converting a compound value has this result.
 fn becomes<T: TryFrom<Value, Error = ConvertFault> + Debug + PartialEq + Drop>(
     rt: &HostRuntime,
     name: &str,

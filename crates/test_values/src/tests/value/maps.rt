@@ -1,4 +1,4 @@
-//! Conversions of maps, both ways, and of values that do not fit.
+//! Conversions of maps in both directions, and of values of another kind.
 
 use super::super::rows::{gives, is, wrong};
 use super::super::values::{map, string};
@@ -23,7 +23,7 @@ impl TryFrom<Value> for LowBits {
     }
 }
 
-// A key that is converted to the same value as any other.
+// A key that is converted to the same value as any other key.
 #[derive(Debug, PartialEq, Eq, PartialOrd, Ord, Drop)]
 struct Alike(u8);
 
@@ -68,7 +68,7 @@ fn maps_are_made_of_their_pairs(rt: &HostRuntime) -> bool {
         && gives(rt, "of keys that are one value", &from_alike(rt), &last)
 }
 
-// Whether the value or one of its parts does not fit, and comes back.
+// Returns whether the value, or a key or value in it, does not fit and is returned as `expected`.
 fn unfit<T: TryFrom<Value, Error = ConvertFault> + Debug + Drop>(
     rt: &HostRuntime,
     name: &str,
@@ -97,7 +97,7 @@ fn a_key_is_found_unfit_before_its_value(rt: &HostRuntime) -> bool {
         && unfit::<IndexMap<u8, u8>>(rt, "IndexMap of a string", string(rt, "a"), string(rt, "a"))
 }
 
-// Two keys that are equal in their low four bits.
+// Returns a map with two keys that are equal in their low four bits.
 fn clashing(rt: &HostRuntime) -> Value {
     map(
         rt,
@@ -108,7 +108,7 @@ fn clashing(rt: &HostRuntime) -> Value {
     )
 }
 
-// Whether a map has one pair, with the last value of its key.
+// Returns whether a map has one pair, with the last value of its key.
 fn is_last(rt: &HostRuntime, name: &str, length: usize, value: Option<&u8>) -> bool {
     is(rt, name, &length, &1) && is(rt, name, &value, &Some(&6))
 }

@@ -1,4 +1,4 @@
-//! Equality and the order of worked values.
+//! Examples of equality and order.
 
 use super::super::rows::{is, wrong};
 use super::super::values::{described, list, map, name, string, symbol, vec_of};
@@ -7,7 +7,7 @@ use amqp_data::{Descriptor, F32Bits, F64Bits};
 use amqp_value::Value;
 use std::fmt::Debug;
 
-// Whether each value is equal to itself alone, and less than those after it alone.
+// Returns whether each value is equal only to itself, and less than exactly those after it.
 fn is_ascending<T: PartialOrd>(rt: &HostRuntime, values: &[T]) -> bool {
     for (i, a) in values.iter().enumerate() {
         for (j, b) in values.iter().enumerate() {
@@ -24,12 +24,12 @@ fn variants_compare_in_the_order_of_the_standard(rt: &HostRuntime) -> bool {
     is(rt, "the count of variants", &values.len(), &25) && is_ascending(rt, values.as_slice())
 }
 
-// Whether two values are not equal.
+// Returns whether two values are not equal.
 fn differ<T: PartialEq + Debug>(rt: &HostRuntime, name: &str, one: &T, other: &T) -> bool {
     *one != *other || wrong(rt, name, one)
 }
 
-// Whether the first value is less than the second, by each operator.
+// Returns whether the first value is less than the second, by each operator.
 fn ascend<T: PartialOrd + Debug + Drop>(rt: &HostRuntime, name: &str, less: T, more: T) -> bool {
     (less < more && more > less && less != more) || wrong(rt, name, &less)
 }

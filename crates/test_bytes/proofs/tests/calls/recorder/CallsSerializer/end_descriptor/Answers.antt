@@ -9,7 +9,7 @@ use Rattle.amqp_size.specs.declared.open_compound.OpenCompound.{OpenCompound}
 use Rattle.test_bytes.specs.declared.tests.calls.recorder.Calls.{Calls}
 use Rattle.test_bytes.proofs.tests.calls.recorder.CallsSerializer.end_descriptor.Goals as goal
 
--- what stands ready below stands ready here
+-- A result that the inner serializer permits is permitted by the recording serializer.
 noted : (start : Calls) (now : SizeSerializer) (held : OpenCompound) (d : Option Tree) (X : WalkError → Type 0) (res : Result (Unit {0}) WalkError) →
     MatchResult res
     (λ _. (mid : SizeSerializer) × (size_has mid kinds.Single now held [] × ((t : Option Tree) (r : Result ℕ WalkError) (after : SizeSerializer) → size_permits mid t r after → size_permits start.inner (as_described (descriptor_of d) t) r after))) X →
