@@ -9,7 +9,7 @@ ghost use Rattle.amqp_ser.specs.Tree.{Tree};
 use amqp_data::Error;
 use amqp_ser::{Fixed, Kind, Mark, Serializer};
 
-/// A serializer that returns `Error::InvalidValue` for every value.
+/// A serializer that returns an error for every value.
 #[derive(Drop)]
 pub struct Blank;
 
