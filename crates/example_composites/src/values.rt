@@ -1,7 +1,7 @@
 //! Field types that allow one of several AMQP types, maps of values, and aliases for the named
 //! types of the standard.
 //!
-//! For readers whose enums are one of their contents, without an index.
+//! For readers who need enums that are serialized as the value of a variant, without an index.
 
 ghost use Rattle.example_composites.specs.Values.{of_address, of_annotation_key, of_message_id, of_multiple, of_simple};
 

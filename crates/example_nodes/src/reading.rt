@@ -13,11 +13,11 @@ use amqp_ser::{Serialize, Serializer};
 /// A reading of a thermometer.
 #[derive(Debug, Drop)]
 pub struct Reading {
-    /// The thermometer's name.
+    /// The name of the thermometer.
     pub sensor: String,
     /// Seconds since the thermometer was switched on.
     pub seconds: u32,
-    /// Hundredths of a degree.
+    /// The temperature, in hundredths of a degree.
     pub degrees: i32,
 }
 

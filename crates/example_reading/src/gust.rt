@@ -11,7 +11,7 @@ use std::alloc::Global;
 /// A gust of wind: a list described by the code 0x17.
 #[derive(Debug, PartialEq, Drop)]
 pub struct Gust {
-    /// Metres per hour.
+    /// The speed, in metres per hour.
     pub speed: u32,
     /// The direction that the wind comes from, in degrees, if known.
     pub from: Option<u16>,

@@ -11,11 +11,11 @@ use std::alloc::Global;
 /// The geographic position of a station.
 #[derive(Debug, PartialEq, Drop)]
 pub struct Position {
-    /// Millionths of a degree north.
+    /// The latitude, in millionths of a degree north.
     pub latitude: i32,
-    /// Millionths of a degree east.
+    /// The longitude, in millionths of a degree east.
     pub longitude: i32,
-    /// Metres above the sea, if known.
+    /// The height above the sea, in metres, if known.
     pub height: Option<u32>,
 }
 

@@ -34,7 +34,7 @@ impl Region {
     /// `Error::InvalidValue`, only if an element of `inner` is not a region.
     ///
     /// # Memory
-    /// Allocates the returned vector from `alloc`, and what the regions in it own.
+    /// Allocates from `alloc`.
     ///
     /// # Example
     /// The region `[1, [[2, []]]]` has one region in it: `[2, []]`.
