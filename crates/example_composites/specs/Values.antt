@@ -1,5 +1,5 @@
 -- The trees of fields that allow one of several types, and of maps of values (AMQP 1.0 part 1,
--- section 1.4, part 2, section 2.8, and part 3, section 3.2), for the contracts of all modules.
+-- section 1.4, part 2, section 2.8, and part 3, section 3.2), for the contracts of the fields.
 use Rattle.std.specs.Prelude.{Option, Some}
 use Rattle.std.specs.declared.string.String.{String}
 use Rattle.std.specs.declared.alloc.Global.{Global}

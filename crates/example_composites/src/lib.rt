@@ -1,4 +1,4 @@
-//! The composites of the AMQP standard as Rust types, with the fields of the standard.
+//! Composites of the AMQP standard as Rust types, with the fields of the standard.
 //!
 //! For readers who turn a table of the standard into a type. The modules contain the performatives
 //! of connections, sessions and links, the sources and targets of links, the states of a delivery
