@@ -1,4 +1,4 @@
--- The trees of public types rest on all of these.
+-- The contracts of public types refer to these modules.
 pub mod Restricted
 pub mod Values
 pub mod Outcomes

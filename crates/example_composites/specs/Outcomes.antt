@@ -1,5 +1,7 @@
--- Errors, and the states of a delivery (AMQP 1.0 part 2, section 2.8.14, and part 3, section 3.4). A field that is
--- absent is left out of the list's end, and is null before a later one.
+-- The trees of errors and of the states of a delivery (AMQP 1.0 part 2, section 2.8.14, and part 3,
+-- section 3.4), for the contracts of `src/outcomes.rt`.
+--
+-- An absent field is omitted at the end of the list, and null before a present field.
 use Rattle.std.specs.Prelude.{[], ◌∷◌, Option}
 use Rattle.amqp_ser.specs.Tree.{Tree, code}
 use Rattle.amqp_ser.specs.Words.{must, may, short_composite, of_bool, of_string, of_symbol, of_u32, of_u64}
@@ -46,7 +48,7 @@ of_outcome (outcome.Rejected x) = of_rejected x
 of_outcome (outcome.Released x) = of_released x
 of_outcome (outcome.Modified x) = of_modified x
 
--- these, and the one that is not terminal
+-- the terminal states, and `received`, which is not terminal
 abbrev pub of_state : DeliveryState → Option Tree
 of_state (state.Received x) = of_received x
 of_state (state.Outcome x) = of_outcome x

@@ -1,4 +1,5 @@
--- Types whose values are a choice out of a few (AMQP 1.0 part 2, section 2.8, and part 3, section 3.5).
+-- The trees of types that have a few fixed values (AMQP 1.0 part 2, section 2.8, and part 3,
+-- section 3.5), for the contracts of `src/restricted.rt`.
 use Rattle.std.specs.Prelude.{ℕ, List, Option, Some, true, false, codes}
 use Rattle.amqp_ser.specs.Tree.{Tree, scalar, symbol}
 use Rattle.amqp_ser.specs.Words.{of_bool, of_u8, of_u32}

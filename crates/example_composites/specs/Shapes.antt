@@ -1,4 +1,5 @@
--- An enum whose variants have fields: a map of one pair, from the index to the list of the fields.
+-- The tree of an enum whose variants have fields: a map of one pair, from the index to the list of
+-- the fields. For the contract of `Shape` in `src/forms.rt`.
 use Rattle.std.specs.Prelude.{[], ◌∷◌, Option}
 use Rattle.amqp_ser.specs.Carried.{optional}
 use Rattle.amqp_ser.specs.Tree.{Tree}

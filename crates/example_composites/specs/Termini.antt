@@ -1,4 +1,5 @@
--- The two ends of a link (AMQP 1.0 part 3, sections 3.5.3 and 3.5.4).
+-- The trees of the source and the target of a link (AMQP 1.0 part 3, sections 3.5.3 and 3.5.4), for
+-- the contracts of `src/termini.rt`.
 use Rattle.std.specs.Prelude.{[], ◌∷◌, Option}
 use Rattle.amqp_ser.specs.Tree.{Tree, code}
 use Rattle.amqp_ser.specs.Words.{may, short_composite, of_bool, of_symbol, of_u32}
@@ -8,8 +9,8 @@ use Rattle.example_composites.specs.Values.{of_address, of_fields, of_multiple}
 use Rattle.example_composites.specs.declared.termini.Source.{Source}
 use Rattle.example_composites.specs.declared.termini.Target.{Target}
 
--- address, durable, expiry-policy, timeout, dynamic, dynamic-node-properties, distribution-mode, filter,
--- default-outcome, outcomes, capabilities
+-- address, durable, expiry-policy, timeout, dynamic, dynamic-node-properties, distribution-mode,
+-- filter, default-outcome, outcomes, capabilities (part 3, section 3.5.3)
 abbrev pub of_source : Source → Option Tree
 of_source s =
     short_composite (code 0x28) (
@@ -18,7 +19,8 @@ of_source s =
     ∷ may of_fields s.filter ∷ may of_outcome s.default_outcome ∷ may (of_multiple of_symbol) s.outcomes
     ∷ may (of_multiple of_symbol) s.capabilities ∷ [])
 
--- address, durable, expiry-policy, timeout, dynamic, dynamic-node-properties, capabilities
+-- address, durable, expiry-policy, timeout, dynamic, dynamic-node-properties, capabilities (part 3,
+-- section 3.5.4)
 abbrev pub of_target : Target → Option Tree
 of_target t =
     short_composite (code 0x29) (

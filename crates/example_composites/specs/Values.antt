@@ -1,5 +1,5 @@
--- Fields that take one of several types, and maps of them (AMQP 1.0 part 1, section 1.4, part 2, section 2.8, and
--- part 3, section 3.2).
+-- The trees of fields that allow one of several types, and of maps of values (AMQP 1.0 part 1,
+-- section 1.4, part 2, section 2.8, and part 3, section 3.2), for the contracts of the fields.
 use Rattle.std.specs.Prelude.{Option, Some}
 use Rattle.std.specs.declared.string.String.{String}
 use Rattle.std.specs.declared.alloc.Global.{Global}
@@ -24,12 +24,12 @@ use Rattle.example_composites.specs.declared.values.SimpleValue.TheVariants as s
 abbrev pub of_value : Value → Option Tree
 of_value v = Some (tree_of v)
 
--- a field that takes several values: one alone, or an array (part 1, section 1.4)
+-- a field that allows several values: one value, or an array (part 1, section 1.4)
 abbrev pub of_multiple : {T : Type 0} → (T → Option Tree) → Multiple T → Option Tree
 of_multiple f (multiple.One x) = f x
 of_multiple f (multiple.Many xs) = of_array f xs
 
--- fields, a map of symbols (part 2, section 2.8.13)
+-- fields: a map from symbols to values (part 2, section 2.8.13)
 abbrev pub of_fields : OrderedMap Symbol Value → Option Tree
 of_fields = of_map of_symbol of_value
 
@@ -44,7 +44,7 @@ of_message_id (id.Uuid u) = of_uuid u
 of_message_id (id.Binary b) = of_binary b
 of_message_id (id.String s) = of_string s
 
--- annotations, a map of symbols and, where they are reserved, ulongs (part 3, section 3.2.10)
+-- annotations: a map from symbols, or reserved ulongs, to values (part 3, section 3.2.10)
 abbrev pub of_annotation_key : AnnotationKey → Option Tree
 of_annotation_key (key.Symbol s) = of_symbol s
 of_annotation_key (key.Ulong n) = of_u64 n
@@ -52,7 +52,8 @@ of_annotation_key (key.Ulong n) = of_u64 n
 abbrev pub of_annotations : OrderedMap AnnotationKey Value → Option Tree
 of_annotations = of_map of_annotation_key of_value
 
--- the value of an application property: of any type but a list, a map or an array (part 3, section 3.2.5)
+-- the value of an application property: any primitive type except a list, a map or an array
+-- (part 3, section 3.2.5)
 abbrev pub of_simple : SimpleValue → Option Tree
 of_simple simple.Null = of_null
 of_simple (simple.Bool b) = of_bool b

@@ -1,4 +1,6 @@
-//! The performatives by which messages are delivered.
+//! The performatives that deliver messages.
+//!
+//! For readers who need described lists with required and optional fields.
 
 ghost use Rattle.std.specs.Prelude.{◌∷◌, []};
 ghost use Rattle.amqp_ser.specs.Tree.{code};
@@ -14,7 +16,8 @@ use crate::values::{
 };
 use amqp_ser::{ListOf, Serialize, Serializer, fields};
 
-/// Tells how much may be sent, in a session and on a link (AMQP 1.0 part 2, section 2.7.4).
+/// The flow performative, which updates how much may be sent in a session and on a link (AMQP 1.0
+/// part 2, section 2.7.4).
 #[derive(Drop)]
 pub struct Flow {
     pub next_incoming_id: Option<TransferNumber>,
@@ -59,7 +62,8 @@ impl Serialize for Flow {
     }
 }
 
-/// Sends a message, or a part of it (AMQP 1.0 part 2, section 2.7.5).
+/// The transfer performative, which sends a message or part of one (AMQP 1.0 part 2, section
+/// 2.7.5).
 #[derive(Drop)]
 pub struct Transfer {
     pub handle: Handle,
@@ -103,7 +107,8 @@ impl Serialize for Transfer {
     }
 }
 
-/// Tells what became of deliveries (AMQP 1.0 part 2, section 2.7.6).
+/// The disposition performative, which reports the state of deliveries (AMQP 1.0 part 2, section
+/// 2.7.6).
 #[derive(Drop)]
 pub struct Disposition {
     pub role: Role,

@@ -1,5 +1,8 @@
-//! Composites of other forms: a symbol as descriptor, no descriptor, maps of names, variants, names
-//! and types that are known later.
+//! Composites of other forms than those of the standard.
+//!
+//! For readers whose types are not lists described by a code: shows a symbol as the descriptor, a
+//! list without a descriptor, maps from names to fields, variants, a name that is only known at run
+//! time, and fields of generic types.
 
 ghost use Rattle.std.specs.Prelude.{◌∷◌, [], Some, codes, string_bytes};
 ghost use Rattle.amqp_ser.specs.Tree.{code, name, scalar, symbol};
@@ -26,7 +29,7 @@ impl Serialize for Begun {
     }
 }
 
-/// A list with no descriptor.
+/// A list without a descriptor.
 #[derive(Drop)]
 pub struct Plain {
     pub x: u32,
@@ -41,8 +44,7 @@ impl Serialize for Plain {
     }
 }
 
-/// A map whose keys are symbols, as a connection's properties have them; what is absent is left
-/// out.
+/// A map with symbols as keys, like the properties of a connection. Absent fields are omitted.
 #[derive(Drop)]
 pub struct Configured {
     pub product: String,
@@ -65,7 +67,7 @@ impl Serialize for Configured {
     }
 }
 
-/// A described map with a key that is known at run time alone.
+/// A described map with one key that is only known at run time.
 #[derive(Drop)]
 pub struct Labelled {
     pub label: String,
@@ -85,10 +87,10 @@ impl Serialize for Labelled {
     }
 }
 
-/// An enum whose variants have fields: an index and the list of them.
+/// An enum whose variants have fields: a map from the index to the list of the fields.
 #[derive(Drop)]
 pub enum Shape {
-    /// Variant 0, a list of nine.
+    /// Variant 0: a list of nine fields.
     Box {
         x: u32,
         y: u32,
@@ -100,7 +102,7 @@ pub enum Shape {
         solid: bool,
         weight: F64Bits,
     },
-    /// Variant 1, a list of one.
+    /// Variant 1: a list of one field.
     Ball {
         radius: u32,
     },
@@ -145,7 +147,7 @@ impl Serialize for Shape {
     }
 }
 
-/// A list composite of two values of any types.
+/// A described list of two values of any types.
 #[derive(Drop)]
 pub struct Pair<A, B>(pub A, pub B);
 
@@ -160,7 +162,7 @@ impl<A: Serialize, B: Serialize> Serialize for Pair<A, B> {
     }
 }
 
-/// A list of a constant symbol, a number and a value that may be absent.
+/// A list of a constant symbol, a number and an optional value.
 #[derive(Drop)]
 pub struct Tagged<T>(pub u32, pub Option<T>);
 

@@ -1,10 +1,12 @@
-//! AMQP's own composites, field by field as the standard has them, each proved by its contract
-//! alone.
+//! Composites of the AMQP standard as Rust types, with the fields of the standard.
 //!
-//! The performatives of links and sessions, the ends of a link, the states of a delivery and the
-//! sections of a message (AMQP 1.0 part 2, section 2.7, and part 3, sections 3.2, 3.4 and 3.5). A
-//! field that may be absent is an `Option`: it is left out at the end of its list, and is null
-//! before a later field. `forms` has composites of other forms.
+//! For readers who turn a table of the standard into a type. The modules contain the performatives
+//! of connections, sessions and links, the sources and targets of links, the states of a delivery
+//! and the sections of a message (AMQP 1.0 part 2, section 2.7, and part 3, sections 3.2, 3.4 and
+//! 3.5). The `forms` module shows composites of other forms.
+//!
+//! An optional field is an `Option`. If it is absent, it is omitted at the end of the list, and is
+//! null before a present field. No type needs a proof file.
 #![tactic(auto)]
 
 mod delivery;

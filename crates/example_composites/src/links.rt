@@ -1,4 +1,6 @@
 //! The performatives that attach and detach links.
+//!
+//! For readers who need a long described list: `Attach` has fourteen fields.
 
 ghost use Rattle.std.specs.Prelude.{◌∷◌, []};
 ghost use Rattle.amqp_ser.specs.Carried.{optional};
@@ -16,8 +18,9 @@ use crate::values::{DeliveryTag, FieldMap, Handle, Multiple, SequenceNumber};
 use amqp_data::{OrderedMap, Symbol};
 use amqp_ser::{ListOf, Serialize, Serializer, fields};
 
-/// Attaches a link (AMQP 1.0 part 2, section 2.7.3). Its target is that of part 3; a coordinator of
-/// transactions is no part of this example.
+/// The attach performative, which attaches a link (AMQP 1.0 part 2, section 2.7.3).
+///
+/// The target is a [`Target`]. A coordinator of transactions as the target is not supported.
 #[derive(Drop)]
 pub struct Attach {
     pub name: String,
@@ -71,7 +74,7 @@ impl Serialize for Attach {
     }
 }
 
-/// Detaches a link (AMQP 1.0 part 2, section 2.7.7).
+/// The detach performative, which detaches a link (AMQP 1.0 part 2, section 2.7.7).
 #[derive(Drop)]
 pub struct Detach {
     pub handle: Handle,

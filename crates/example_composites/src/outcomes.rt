@@ -1,4 +1,6 @@
-//! Errors, and the states of a delivery.
+//! Errors and the states of a delivery.
+//!
+//! For readers who need enums that are one of several composites.
 
 ghost use Rattle.example_composites.specs.Outcomes.{of_accepted, of_error, of_modified, of_outcome, of_received, of_rejected, of_released, of_state};
 
@@ -6,8 +8,8 @@ use crate::values::FieldMap;
 use amqp_data::Symbol;
 use amqp_ser::{ListOf, Serialize, Serializer, fields};
 
-/// What went wrong, as an end, a close, a detach or a rejection tells it (AMQP 1.0 part 2, section
-/// 2.8.14).
+/// The details of an error that ends a session, closes a connection, detaches a link or rejects a
+/// message (AMQP 1.0 part 2, section 2.8.14).
 #[derive(Drop)]
 pub struct ErrorReport {
     pub condition: Symbol,
@@ -30,7 +32,7 @@ impl Serialize for ErrorReport {
     }
 }
 
-/// How far a delivery has come (AMQP 1.0 part 3, section 3.4.1).
+/// The position up to which a delivery has been received (AMQP 1.0 part 3, section 3.4.1).
 #[derive(Drop)]
 pub struct Received {
     pub section_number: u32,
@@ -51,7 +53,7 @@ impl Serialize for Received {
     }
 }
 
-/// The message was taken (AMQP 1.0 part 3, section 3.4.2).
+/// The outcome of a message that was accepted (AMQP 1.0 part 3, section 3.4.2).
 #[derive(Drop)]
 pub struct Accepted;
 
@@ -63,7 +65,7 @@ impl Serialize for Accepted {
     }
 }
 
-/// The message is invalid (AMQP 1.0 part 3, section 3.4.3).
+/// The outcome of a message that is invalid (AMQP 1.0 part 3, section 3.4.3).
 #[derive(Drop)]
 pub struct Rejected {
     pub error: Option<ErrorReport>,
@@ -77,7 +79,8 @@ impl Serialize for Rejected {
     }
 }
 
-/// The message was not, and will not be, handled (AMQP 1.0 part 3, section 3.4.4).
+/// The outcome of a message that was not processed, and will not be (AMQP 1.0 part 3, section
+/// 3.4.4).
 #[derive(Drop)]
 pub struct Released;
 
@@ -89,7 +92,8 @@ impl Serialize for Released {
     }
 }
 
-/// The message was changed, and not handled (AMQP 1.0 part 3, section 3.4.5).
+/// The outcome of a message that was modified, but not processed (AMQP 1.0 part 3, section
+/// 3.4.5).
 #[derive(Drop)]
 pub struct Modified {
     pub delivery_failed: Option<bool>,
@@ -115,13 +119,13 @@ impl Serialize for Modified {
 /// A terminal state of a delivery (AMQP 1.0 part 3, section 3.4).
 #[derive(Drop)]
 pub enum Outcome {
-    /// It was taken.
+    /// The message was accepted.
     Accepted(Accepted),
-    /// It is invalid.
+    /// The message is invalid.
     Rejected(Rejected),
-    /// It will not be handled.
+    /// The message will not be processed.
     Released(Released),
-    /// It was changed.
+    /// The message was modified.
     Modified(Modified),
 }
 
@@ -141,9 +145,9 @@ impl Serialize for Outcome {
 /// A state of a delivery (AMQP 1.0 part 3, section 3.4).
 #[derive(Drop)]
 pub enum DeliveryState {
-    /// It is on its way.
+    /// A state that is not terminal: the delivery is in progress.
     Received(Received),
-    /// It has come to its end.
+    /// A terminal state.
     Outcome(Outcome),
 }
 

@@ -1,4 +1,6 @@
-//! Types whose values are a choice out of a few.
+//! Types that have a few fixed values, as enums.
+//!
+//! For readers whose enums are numbers, booleans or symbols instead of AMQP variants.
 
 ghost use Rattle.std.specs.Prelude.{◌≡◌};
 ghost use Rattle.example_composites.specs.Restricted.{distribution_name, expiry_name, of_distribution, of_durability, of_expiry, of_receiver_mode, of_role, of_sender_mode};
@@ -6,12 +8,12 @@ ghost use Rattle.example_composites.specs.Restricted.{distribution_name, expiry_
 use amqp_data::SymbolRef;
 use amqp_ser::{Serialize, Serializer};
 
-/// Which end of a link speaks (AMQP 1.0 part 2, section 2.8.1).
+/// The role of an endpoint of a link (AMQP 1.0 part 2, section 2.8.1).
 #[derive(Clone, Copy)]
 pub enum Role {
-    /// The sender, as false.
+    /// The sender: false.
     Sender,
-    /// The receiver, as true.
+    /// The receiver: true.
     Receiver,
 }
 
@@ -29,11 +31,11 @@ impl Serialize for Role {
 /// How a sender settles its deliveries (AMQP 1.0 part 2, section 2.8.2).
 #[derive(Clone, Copy)]
 pub enum SenderSettleMode {
-    /// All are sent unsettled: 0.
+    /// All deliveries are sent unsettled: 0.
     Unsettled,
-    /// All are sent settled: 1.
+    /// All deliveries are sent settled: 1.
     Settled,
-    /// Some of both: 2.
+    /// Some deliveries are sent settled, others unsettled: 2.
     Mixed,
 }
 
@@ -52,9 +54,9 @@ impl Serialize for SenderSettleMode {
 /// How a receiver settles its deliveries (AMQP 1.0 part 2, section 2.8.3).
 #[derive(Clone, Copy)]
 pub enum ReceiverSettleMode {
-    /// At once: 0.
+    /// The receiver settles a delivery at once: 0.
     First,
-    /// After the sender: 1.
+    /// The receiver settles a delivery after the sender: 1.
     Second,
 }
 
@@ -69,14 +71,14 @@ impl Serialize for ReceiverSettleMode {
     }
 }
 
-/// What of a terminus is kept through a loss (AMQP 1.0 part 3, section 3.5.5).
+/// The state of a terminus that is preserved (AMQP 1.0 part 3, section 3.5.5).
 #[derive(Clone, Copy)]
 pub enum TerminusDurability {
-    /// Nothing: 0.
+    /// No state: 0.
     Nothing,
-    /// That it exists, and its configuration: 1.
+    /// The existence and configuration of the terminus: 1.
     Configuration,
-    /// The unsettled deliveries too: 2.
+    /// Also the unsettled deliveries: 2.
     UnsettledState,
 }
 
@@ -92,7 +94,7 @@ impl Serialize for TerminusDurability {
     }
 }
 
-/// When a terminus begins to expire (AMQP 1.0 part 3, section 3.5.6).
+/// The time at which the expiry timer of a terminus starts (AMQP 1.0 part 3, section 3.5.6).
 #[derive(Clone, Copy)]
 pub enum TerminusExpiryPolicy {
     /// When its link is detached.
@@ -101,12 +103,12 @@ pub enum TerminusExpiryPolicy {
     SessionEnd,
     /// When its connection is closed.
     ConnectionClose,
-    /// Never.
+    /// The terminus never expires.
     Never,
 }
 
 impl TerminusExpiryPolicy {
-    /// Its name in the standard.
+    /// Returns the name of the policy in the standard.
     pub fn name(&self) -> &'static str
         ensures { result.now ≡ expiry_name self.now }
     {
@@ -127,17 +129,17 @@ impl Serialize for TerminusExpiryPolicy {
     }
 }
 
-/// How messages are given out to several links (AMQP 1.0 part 3, section 3.5.7).
+/// How messages are distributed to several links (AMQP 1.0 part 3, section 3.5.7).
 #[derive(Clone, Copy)]
 pub enum DistributionMode {
-    /// Each to one of them.
+    /// Each message is sent to one of the links.
     Move,
-    /// Each to all of them.
+    /// Each message is sent to all of the links.
     Copy,
 }
 
 impl DistributionMode {
-    /// Its name in the standard.
+    /// Returns the name of the mode in the standard.
     pub fn name(&self) -> &'static str
         ensures { result.now ≡ distribution_name self.now }
     {

@@ -1,4 +1,7 @@
-//! The sections of a message, which are written one after another.
+//! The sections of a message, which are written one after another (AMQP 1.0 part 3, section 3.2).
+//!
+//! For readers who need described lists of optional fields, and descriptors before a map, a binary
+//! or a value of any type.
 
 ghost use Rattle.std.specs.Prelude.{◌∷◌, [], map};
 ghost use Rattle.amqp_ser.specs.Tree.{code};
@@ -10,7 +13,7 @@ use amqp_data::{ByteBuf, OrderedMap, Symbol, Timestamp};
 use amqp_ser::{ListOf, Serialize, Serializer, fields};
 use amqp_value::Value;
 
-/// How a message is to be delivered (AMQP 1.0 part 3, section 3.2.1).
+/// The header: details of the delivery of a message (AMQP 1.0 part 3, section 3.2.1).
 #[derive(Drop)]
 pub struct Header {
     pub durable: Option<bool>,
@@ -40,7 +43,7 @@ impl Serialize for Header {
     }
 }
 
-/// What is said from one node to the next (AMQP 1.0 part 3, section 3.2.2).
+/// Annotations from one node for the next (AMQP 1.0 part 3, section 3.2.2).
 #[derive(Drop)]
 pub struct DeliveryAnnotations(pub Annotations);
 
@@ -52,7 +55,7 @@ impl Serialize for DeliveryAnnotations {
     }
 }
 
-/// What is said to every node on the way (AMQP 1.0 part 3, section 3.2.3).
+/// Annotations for every node that the message passes (AMQP 1.0 part 3, section 3.2.3).
 #[derive(Drop)]
 pub struct MessageAnnotations(pub Annotations);
 
@@ -64,7 +67,7 @@ impl Serialize for MessageAnnotations {
     }
 }
 
-/// What a message is, apart from what it holds (AMQP 1.0 part 3, section 3.2.4).
+/// The standard properties of a message (AMQP 1.0 part 3, section 3.2.4).
 #[derive(Drop)]
 pub struct Properties {
     pub message_id: Option<MessageId>,
@@ -115,7 +118,7 @@ impl Serialize for Properties {
     }
 }
 
-/// What the application says of its message, by name (AMQP 1.0 part 3, section 3.2.5).
+/// Properties that the application defines, by name (AMQP 1.0 part 3, section 3.2.5).
 #[derive(Drop)]
 pub struct ApplicationProperties(pub OrderedMap<String, SimpleValue>);
 
@@ -139,7 +142,7 @@ impl Serialize for Data {
     }
 }
 
-/// A body of values (AMQP 1.0 part 3, section 3.2.7).
+/// A body of several values (AMQP 1.0 part 3, section 3.2.7).
 #[derive(Drop)]
 pub struct AmqpSequence(pub Vec<Value>);
 
@@ -163,7 +166,8 @@ impl Serialize for AmqpValue {
     }
 }
 
-/// What can only be told once the body is known, as a hash of it (AMQP 1.0 part 3, section 3.2.9).
+/// Annotations that can only be computed once the message is complete, such as a hash (AMQP 1.0
+/// part 3, section 3.2.9).
 #[derive(Drop)]
 pub struct Footer(pub Annotations);
 

@@ -1,4 +1,6 @@
 //! The performatives that open and close connections and sessions.
+//!
+//! For readers who need described lists with required and optional fields.
 
 ghost use Rattle.std.specs.Prelude.{◌∷◌, []};
 ghost use Rattle.amqp_ser.specs.Tree.{code};
@@ -11,7 +13,7 @@ use crate::values::{FieldMap, Handle, LanguageTag, Milliseconds, Multiple, Trans
 use amqp_data::Symbol;
 use amqp_ser::{ListOf, Serialize, Serializer, fields};
 
-/// Opens a connection (AMQP 1.0 part 2, section 2.7.1).
+/// The open performative, which opens a connection (AMQP 1.0 part 2, section 2.7.1).
 #[derive(Drop)]
 pub struct Open {
     pub container_id: String,
@@ -55,7 +57,7 @@ impl Serialize for Open {
     }
 }
 
-/// Begins a session (AMQP 1.0 part 2, section 2.7.2).
+/// The begin performative, which begins a session (AMQP 1.0 part 2, section 2.7.2).
 #[derive(Drop)]
 pub struct Begin {
     pub remote_channel: Option<u16>,
@@ -94,7 +96,7 @@ impl Serialize for Begin {
     }
 }
 
-/// Ends a session (AMQP 1.0 part 2, section 2.7.8).
+/// The end performative, which ends a session (AMQP 1.0 part 2, section 2.7.8).
 #[derive(Drop)]
 pub struct End {
     pub error: Option<ErrorReport>,
@@ -108,7 +110,7 @@ impl Serialize for End {
     }
 }
 
-/// Closes a connection (AMQP 1.0 part 2, section 2.7.9).
+/// The close performative, which closes a connection (AMQP 1.0 part 2, section 2.7.9).
 #[derive(Drop)]
 pub struct Close {
     pub error: Option<ErrorReport>,

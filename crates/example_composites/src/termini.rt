@@ -1,4 +1,6 @@
-//! The two ends of a link.
+//! The source and the target of a link.
+//!
+//! For readers who need lists of optional fields, and trees that are defined in `specs/`.
 
 ghost use Rattle.example_composites.specs.Termini.{of_source, of_target};
 
@@ -8,7 +10,7 @@ use crate::values::{Address, FieldMap, Multiple, Seconds};
 use amqp_data::Symbol;
 use amqp_ser::{ListOf, Serialize, Serializer, fields};
 
-/// Where a link's messages come from (AMQP 1.0 part 3, section 3.5.3).
+/// The source of a link: where its messages come from (AMQP 1.0 part 3, section 3.5.3).
 #[derive(Drop)]
 pub struct Source {
     pub address: Option<Address>,
@@ -47,7 +49,7 @@ impl Serialize for Source {
     }
 }
 
-/// Where a link's messages go (AMQP 1.0 part 3, section 3.5.4).
+/// The target of a link: where its messages are sent (AMQP 1.0 part 3, section 3.5.4).
 #[derive(Drop)]
 pub struct Target {
     pub address: Option<Address>,

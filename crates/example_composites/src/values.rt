@@ -1,5 +1,7 @@
-//! Fields that take one of several types, maps of values, and the names that the standard gives to
-//! common types.
+//! Field types that allow one of several AMQP types, maps of values, and aliases for the named
+//! types of the standard.
+//!
+//! For readers who need enums that are serialized as the value of a variant, without an index.
 
 ghost use Rattle.example_composites.specs.Values.{of_address, of_annotation_key, of_message_id, of_multiple, of_simple};
 
@@ -11,33 +13,35 @@ use amqp_value::Value;
 
 /// The number of a link in its session (AMQP 1.0 part 2, section 2.8.4).
 pub type Handle = u32;
-/// Seconds (AMQP 1.0 part 2, section 2.8.5).
+/// A duration in seconds (AMQP 1.0 part 2, section 2.8.5).
 pub type Seconds = u32;
-/// Milliseconds (AMQP 1.0 part 2, section 2.8.6).
+/// A duration in milliseconds (AMQP 1.0 part 2, section 2.8.6).
 pub type Milliseconds = u32;
-/// What names a delivery on its link, at most 32 bytes (AMQP 1.0 part 2, section 2.8.7).
+/// The identifier of a delivery on its link (AMQP 1.0 part 2, section 2.8.7). The standard allows
+/// at most 32 bytes; the length is not checked.
 pub type DeliveryTag = ByteBuf;
-/// A delivery's number in its session (AMQP 1.0 part 2, section 2.8.8).
+/// The number of a delivery in its session (AMQP 1.0 part 2, section 2.8.8).
 pub type DeliveryNumber = SequenceNumber;
-/// A transfer's number in its session (AMQP 1.0 part 2, section 2.8.9).
+/// The number of a transfer in its session (AMQP 1.0 part 2, section 2.8.9).
 pub type TransferNumber = SequenceNumber;
-/// A number that is counted on round 2^32 (AMQP 1.0 part 2, section 2.8.10).
+/// A serial number, which wraps around at 2^32 (AMQP 1.0 part 2, section 2.8.10).
 pub type SequenceNumber = u32;
 /// The format and the version of a message (AMQP 1.0 part 2, section 2.8.11).
 pub type MessageFormat = u32;
-/// A language, as BCP 47 names it (AMQP 1.0 part 2, section 2.8.12).
+/// An IETF language tag (AMQP 1.0 part 2, section 2.8.12).
 pub type LanguageTag = Symbol;
-/// Values by name, and so properties, capabilities and filters (AMQP 1.0 part 2, section 2.8.13).
+/// A map from symbols to values, for properties and filters (AMQP 1.0 part 2, section 2.8.13).
 pub type FieldMap = OrderedMap<Symbol, Value>;
-/// Values by name or by number (AMQP 1.0 part 3, section 3.2.10).
+/// A map from symbols or ulongs to values (AMQP 1.0 part 3, section 3.2.10).
 pub type Annotations = OrderedMap<AnnotationKey, Value>;
 
-/// The values of a field that takes several: one alone, or an array (AMQP 1.0 part 1, section 1.4).
+/// The contents of a field that allows several values: one value, or an array (AMQP 1.0 part 1,
+/// section 1.4).
 #[derive(Drop)]
 pub enum Multiple<T> {
-    /// One value, by itself.
+    /// One value, without an array.
     One(T),
-    /// An array of them.
+    /// An array of values.
     Many(Array<T>),
 }
 
@@ -55,7 +59,7 @@ impl<T: Serialize> Serialize for Multiple<T> {
 /// The address of a node (AMQP 1.0 part 3, section 3.2.15).
 #[derive(Drop)]
 pub enum Address {
-    /// The standard's one form.
+    /// A string, the only form that the standard defines.
     String(String),
 }
 
@@ -69,16 +73,16 @@ impl Serialize for Address {
     }
 }
 
-/// What identifies a message (AMQP 1.0 part 3, sections 3.2.11 to 3.2.14).
+/// The identifier of a message (AMQP 1.0 part 3, sections 3.2.11 to 3.2.14).
 #[derive(Drop)]
 pub enum MessageId {
-    /// A number.
+    /// A ulong.
     Ulong(u64),
-    /// A uuid.
+    /// A UUID.
     Uuid(Uuid),
-    /// Bytes.
+    /// A binary.
     Binary(ByteBuf),
-    /// A text.
+    /// A string.
     String(String),
 }
 
@@ -98,9 +102,9 @@ impl Serialize for MessageId {
 /// The key of an annotation (AMQP 1.0 part 3, section 3.2.10).
 #[derive(PartialEq, Eq, Hash, Drop)]
 pub enum AnnotationKey {
-    /// A name.
+    /// A symbol.
     Symbol(Symbol),
-    /// A number: these are reserved.
+    /// A ulong. The standard reserves these keys.
     Ulong(u64),
 }
 
@@ -115,51 +119,51 @@ impl Serialize for AnnotationKey {
     }
 }
 
-/// The value of an application property: of any type but a list, a map or an array (AMQP 1.0 part
-/// 3, section 3.2.5).
+/// The value of an application property: any primitive type except a list, a map or an array (AMQP
+/// 1.0 part 3, section 3.2.5).
 #[derive(Drop)]
 pub enum SimpleValue {
-    /// No value.
+    /// Null.
     Null,
-    /// A truth value.
+    /// A boolean.
     Bool(bool),
-    /// An unsigned number of 8 bits.
+    /// An unsigned 8-bit integer.
     Ubyte(u8),
-    /// An unsigned number of 16 bits.
+    /// An unsigned 16-bit integer.
     Ushort(u16),
-    /// An unsigned number of 32 bits.
+    /// An unsigned 32-bit integer.
     Uint(u32),
-    /// An unsigned number of 64 bits.
+    /// An unsigned 64-bit integer.
     Ulong(u64),
-    /// A signed number of 8 bits.
+    /// A signed 8-bit integer.
     Byte(i8),
-    /// A signed number of 16 bits.
+    /// A signed 16-bit integer.
     Short(i16),
-    /// A signed number of 32 bits.
+    /// A signed 32-bit integer.
     Int(i32),
-    /// A signed number of 64 bits.
+    /// A signed 64-bit integer.
     Long(i64),
-    /// A binary floating-point number of 32 bits.
+    /// A 32-bit binary floating-point number.
     Float(F32Bits),
-    /// A binary floating-point number of 64 bits.
+    /// A 64-bit binary floating-point number.
     Double(F64Bits),
-    /// A decimal floating-point number of 32 bits.
+    /// A 32-bit decimal floating-point number.
     Decimal32(Dec32),
-    /// A decimal floating-point number of 64 bits.
+    /// A 64-bit decimal floating-point number.
     Decimal64(Dec64),
-    /// A decimal floating-point number of 128 bits.
+    /// A 128-bit decimal floating-point number.
     Decimal128(Dec128),
     /// A Unicode scalar value.
     Char(char),
-    /// A moment.
+    /// A point in time.
     Timestamp(Timestamp),
-    /// A uuid.
+    /// A UUID.
     Uuid(Uuid),
-    /// Bytes.
+    /// A binary.
     Binary(ByteBuf),
-    /// A text.
+    /// A string.
     String(String),
-    /// A name.
+    /// A symbol.
     Symbol(Symbol),
 }
 

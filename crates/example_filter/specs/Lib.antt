@@ -1,2 +1,2 @@
--- The contract of a public item rests on this.
+-- The contract of a public function refers to this module.
 pub mod Kept

@@ -1,7 +1,9 @@
-//! A property filter as a user of the crates would write it: a subscriber takes the messages whose
-//! property of one name has at least a given value.
+//! A message filter: a subscriber takes the messages that have a property with a given name and at
+//! least a given value.
 //!
-//! It stands on the public contracts of `amqp_value` alone, and is proved with no proof file.
+//! For newcomers who work with untyped values: shows how to convert a `Value` into a map and how to
+//! compare values. The crate uses only the public contracts of `amqp_value`, and needs no proof
+//! file.
 #![tactic(auto)]
 
 mod filter;

@@ -1,4 +1,6 @@
--- Counts of parts, and of the whole that they make.
+-- The number of nodes of parts and of the compound that they make.
+--
+-- For readers who implement `Serializer`: the lemmas behind the proofs of `NodeCounter`.
 use Rattle.std.proofs.Common.{◌≡◌, ℕ, ◌+◌, ◌^◌, ◌≤◌, inr, List, [], ◌∷◌, ◌++◌, Option, Some, None, Result, Ok, Err, Bool, true, false, is_some, not, refl, ap, sym, ◌∙◌, subst, arith}
 use Rattle.amqp_data.specs.declared.error.Error.{Error}
 use Rattle.amqp_data.specs.declared.error.Error.TheVariants.{TooLong}
@@ -20,7 +22,7 @@ nodes_each-join : (ts us : Trees) → nodes_each (join ts us) ≡ nodes_each ts 
 nodes_each-join no_trees us = omega arith
 nodes_each-join (more t ts) us = let e = nodes_each-join ts us in omega arith
 
--- a part among others, and the nodes of them all
+-- a part among others: the nodes of all are those before it, its own and those after it
 record Among (o : Option Trees) (p : Option Tree) (q : Option Trees) (us : Trees) : Type 0 where
   ts : Trees
   t : Tree
@@ -41,7 +43,7 @@ among (Some ts) (Some t) (Some rs) us e =
 among_parts : (ps rest : List (Option Tree)) (p : Option Tree) (us : Trees) → all_trees (ps ++ (p ∷ rest)) ≡ Some us → Among (all_trees ps) p (all_trees rest) us
 among_parts ps rest p us e = among (all_trees ps) p (all_trees rest) us (sym (all_trees-append ps (p ∷ rest)) ∙ e)
 
--- one part more is counted
+-- adding the nodes of one more part to a count counts all parts
 one_more : (descriptors m n inner : ℕ) (o : Option Trees) (q : Option Tree) → CountsParts descriptors o (m + inner) → CountsFrom inner q (Ok n) → CountsParts descriptors (joined o (prepend q (Some no_trees))) (m + n)
 one_more descriptors m n inner None q h g = h
 one_more descriptors m n inner (Some ts) None h g = g
@@ -53,7 +55,7 @@ at_parts descriptors m n o p e f h = subst (λ x. CountsParts descriptors x n) e
 counted_at : (descriptors n : ℕ) (o : Option Trees) (ts : Trees) → CountsParts descriptors o n → o ≡ Some ts → n ≡ nodes_each ts + descriptors
 counted_at descriptors n o ts h e = subst (λ x. CountsParts descriptors x n) e h
 
--- one part more, as it is meant
+-- the intended trees of parts are those before a part, that of the part, and the others unchanged
 meant_more : (kind : Kind) (start : NodeCounter) (ps rest : List (Option Tree)) (p : Option Tree) →
     meant_parts kind start.pending (ps ++ (p ∷ rest)) ≡ meant_parts kind start.pending ps ++ (meant (for_part kind ps start).pending p ∷ rest)
 meant_more kinds.Single start [] rest p = refl
@@ -70,7 +72,7 @@ for_next start kinds.Single [] p = refl
 for_next start kinds.Single (q ∷ ps) p = refl
 for_next start kind ps p = refl
 
--- the parts of a map as they are
+-- markers leave the parts of a map unchanged, so `count` counts them
 map_count : (start : NodeCounter) (kind : Kind) (held : Counting) (ps : List (Option Tree)) → kind ≡ kinds.Map → Holds start kind held ps → CountsParts start.descriptors (all_trees ps) (held.count + 0)
 map_count start kind held ps is h =
     subst (λ k. CountsParts start.descriptors (all_trees (meant_parts k start.pending ps)) (held.count + (for_part k ps start).descriptors)) is
@@ -114,7 +116,7 @@ more_pairs : (k v : Tree) (o : Option Pairs) (n : ℕ) → PairsCount o n → Pa
 more_pairs k v None n h = tt
 more_pairs k v (Some ps) n h = ap (λ m. nodes k + (nodes v + m)) h
 
--- keys and values in turn have the nodes of their pairs
+-- keys and values in turn have as many nodes as their pairs
 pairs_nodes : (ts : Trees) → PairsCount (in_pairs ts) (nodes_each ts)
 pairs_nodes no_trees = refl
 pairs_nodes (more k no_trees) = tt
@@ -133,7 +135,7 @@ only_nodes no_trees w e = cc
 only_nodes (more t no_trees) w e = let same : w ≡ t = cc in let k = ap nodes same in omega arith
 only_nodes (more t (more u ts)) w e = cc
 
--- a whole of these parts: its own nodes and theirs
+-- a compound has the nodes of its parts and its own
 kind_nodes : (kind : Kind) (ts : Trees) (w : Tree) → as_kind kind (Some ts) ≡ Some w → nodes w ≡ nodes_each ts + own_nodes kind
 kind_nodes kinds.List ts w e = let same : w ≡ list ts = cc in ap nodes same
 kind_nodes kinds.Map ts w e = map_nodes (in_pairs ts) (nodes_each ts) w (pairs_nodes ts) e
@@ -149,7 +151,7 @@ whole_nodes : (kind : Kind) (o : Option Trees) (w : Tree) → as_kind kind o ≡
 whole_nodes kind None w e = let k = kind_none kind in cc
 whole_nodes kind (Some ts) w e = (ts, (refl, kind_nodes kind ts w e))
 
--- the parts of a complete compound make a tree
+-- the trees of the parts of a complete compound make a tree
 only_tree : (p : Option Tree) (ts : Trees) → all_trees (p ∷ []) ≡ Some ts → is_some (only ts) ≡ true
 only_tree None ts e = cc
 only_tree (Some t) ts e = let same : more t no_trees ≡ ts = cc in subst (λ x. is_some (only x) ≡ true) same refl
@@ -180,7 +182,7 @@ nothing_left start kinds.Single [] e = absurd (never (sym e))
 nothing_left start kinds.Single (p ∷ ps) e = refl
 nothing_left start kind ps e = refl
 
--- a checked sum is the count of the nodes, or they are too many
+-- a checked sum of nodes is the count of the tree, or the error is too long
 summed : (descriptors m : ℕ) (o : Option Tree) (r : Result ℕ Error) → is_some o ≡ true → Sums m r → ((w : Tree) → o ≡ Some w → m ≡ nodes w + descriptors) → CountsFrom descriptors o r
 summed descriptors m None r is h f = absurd (never (sym is))
 summed descriptors m (Some w) (Ok n) is h f = h ∙ f w refl
@@ -201,12 +203,12 @@ ended start kind held ps r h done fit sum =
     (ended_on start.descriptors held.count held.own kind (all_trees qs) r (at_parts start.descriptors (held.count + held.next.descriptors) held.count (all_trees qs) (all_trees qs) refl (omega arith) h.count) h.own
     (λ ts e. makes_tree kind qs ts (complete_meant kind start.pending ps ∙ done) e) sum)
 
--- an answer is on the tree, where there is one
+-- an error is permitted if it is permitted on the tree, if there is one
 on_tree : (descriptors : ℕ) (o : Option Tree) (e : Error) → IsRefusal e → ((w : Tree) → o ≡ Some w → CountsFrom descriptors (Some w) (Err e)) → CountsFrom descriptors o (Err e)
 on_tree descriptors None e h f = h
 on_tree descriptors (Some w) e h f = f w refl
 
--- a refusal of a part, whatever others would have come
+-- the error of a part is permitted on the compound, with any parts after it
 past : (descriptors m inner : ℕ) (kind : Kind) (qs rest : List (Option Tree)) (q : Option Tree) (e : Error) → CountsParts descriptors (all_trees qs) (m + inner) → IsRefusal e →
     ((t : Tree) → q ≡ Some t → (e ≡ TooLong) × (2 ^ 64 ≤ m + (nodes t + inner))) → CountsFrom descriptors (whole kind (qs ++ (q ∷ rest))) (Err e)
 unfolding whole
@@ -220,7 +222,7 @@ past descriptors m inner kind qs rest q e h refusal f = on_tree descriptors (who
     let j = g.1 in
     (g.0, omega arith))
 
--- the same of the compound as it is meant
+-- like `past`, for the intended tree of the compound
 past_held : (b : Bool) (start : NodeCounter) (kind : Kind) (held : Counting) (ps rest : List (Option Tree)) (p : Option Tree) (e : Error) → fits start.pending kind ≡ b → Holds start kind held ps → IsRefusal e →
     ((t : Tree) → meant held.next.pending p ≡ Some t → (e ≡ TooLong) × (2 ^ 64 ≤ held.count + (nodes t + held.next.descriptors))) →
     CountsFrom start.descriptors (meant start.pending (whole kind (ps ++ (p ∷ rest)))) (Err e)
@@ -230,7 +232,7 @@ past_held true start kind held ps rest p e fit h refusal f =
     (past start.descriptors held.count held.next.descriptors kind (meant_parts kind start.pending ps) rest (meant held.next.pending p) e h.count refusal f))
 past_held false start kind held ps rest p e fit h refusal f = barred start.pending kind start.descriptors (ps ++ (p ∷ rest)) e fit refusal
 
--- the answer on a part that has a tree
+-- the result for a part that has a tree
 answer : (descriptors : ℕ) (o : Option Tree) (r : Result ℕ Error) (t : Tree) → CountsFrom descriptors o r → o ≡ Some t → CountsFrom descriptors (Some t) r
 answer descriptors o r t h e = subst (λ q. CountsFrom descriptors q r) e h
 

@@ -1,4 +1,6 @@
--- The nodes of trees as they are meant.
+-- The number of nodes of intended trees.
+--
+-- For readers who implement `Serializer`: shows that markers leave the number of nodes unchanged.
 use Rattle.std.proofs.Common.{◌≡◌, ℕ, ◌^◌, ◌≤◌, inr, List, [], ◌∷◌, Option, Some, None, Result, Ok, Err, MatchResult, true, false, refl, sym, subst}
 use Rattle.amqp_data.specs.declared.error.Error.{Error}
 use Rattle.amqp_data.specs.declared.error.Error.TheVariants.{TooLong}
@@ -16,11 +18,11 @@ use Rattle.example_nodes.specs.declared.pending_mark.PendingMark.TheVariants as 
 pub never : true ≡ false → ⊥
 never q = cc
 
--- a checked sum
+-- the result of a checked sum
 abbrev pub Sums : ℕ → Result ℕ Error → Type 0
 Sums m r = MatchResult r (λ n. n ≡ m) (λ e. (e ≡ TooLong) × (2 ^ 64 ≤ m))
 
--- under no marker each tree is meant as it is
+-- without a marker the intended tree is the tree itself
 pub as_it_is : (p : Option Tree) → p ≡ meant (pending.Mark mark.Other) p
 as_it_is None = refl
 as_it_is (Some t) = sym (unmarked (Some t))
@@ -46,7 +48,7 @@ marked_list descriptors None r h = (h, h)
 marked_list descriptors (Some ts) (Ok n) h = (h, h)
 marked_list descriptors (Some ts) (Err e) h = (h, h)
 
--- an answer on what the parts make, as they are meant, is one on the compound as it is meant
+-- a result for the compound of the intended parts is a result for the intended compound
 pub through : (u : PendingMark) (kind : Kind) (descriptors : ℕ) (ps : List (Option Tree)) (r : Result ℕ Error) → fits u kind ≡ true →
     CountsFrom descriptors (whole kind (meant_parts kind u ps)) r → CountsFrom descriptors (meant u (whole kind ps)) r
 unfolding whole
@@ -84,7 +86,7 @@ no_compound u kinds.Map (Some ts) f = no_map u (in_pairs ts) f
 no_compound u (kinds.Variant i) (Some ts) f = no_fields u i (list ts) f
 no_compound u (kinds.NewtypeVariant i) (Some ts) f = no_variant u i (only ts) f
 
--- where the compound may not stand it is refused
+-- the errors of the counter are permitted on a compound that is not allowed
 pub barred : (u : PendingMark) (kind : Kind) (descriptors : ℕ) (ps : List (Option Tree)) (e : Error) → fits u kind ≡ false → IsRefusal e → CountsFrom descriptors (meant u (whole kind ps)) (Err e)
 unfolding whole
 barred u kind descriptors ps e f h = subst (λ t. CountsFrom descriptors t (Err e)) (sym (no_compound u kind (all_trees ps) f)) h

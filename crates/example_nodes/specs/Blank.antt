@@ -1,10 +1,12 @@
--- What a serializer that refuses everything promises: a refusal.
+-- The contract of a serializer that returns an error for every value.
+--
+-- For readers who implement `Serializer`: a template, with `src/blank.rt`.
 use Rattle.std.specs.Prelude.{Option, None, Result, Ok, Err}
 use Rattle.amqp_data.specs.declared.error.Error.{Error}
 use Rattle.amqp_ser.specs.Tree.{Tree}
 use Rattle.example_nodes.specs.declared.blank.Blank.{Blank}
 
--- a refusal, and no answer
+-- the result is an error
 abbrev pub Refuses : Result (Unit {0}) Error → Type 0
 Refuses (Ok answer) = ⊥
 Refuses (Err e) = Unit {0}
@@ -12,6 +14,6 @@ Refuses (Err e) = Unit {0}
 abbrev pub BlankPermits : Blank → Option Tree → Result (Unit {0}) Error → Blank → Type 0
 BlankPermits before t answer after = Refuses answer
 
--- where there is no tree there is no answer
+-- the result for a value without a tree is an error
 pub no_answer : (before : Blank) (answer : Unit {0}) (after : Blank) → BlankPermits before None (Ok answer) after → ⊥
 no_answer before answer after h = h

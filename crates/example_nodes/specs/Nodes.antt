@@ -1,4 +1,8 @@
--- How many nodes a tree has: one for each scalar, compound, described value and variant.
+-- The number of nodes of a tree: one for each scalar, compound, described value, variant and lazy
+-- value.
+--
+-- For readers who implement `Serializer`: shows the definitions that its contract consists of, here
+-- that of `NodeCounter`.
 use Rattle.std.specs.Prelude.{◌≡◌, ℕ, ◌+◌, ◌^◌, ◌≤◌, ◌⊎◌, List, [], ◌∷◌, ◌++◌, Option, Some, None, Result, Ok, Err, false}
 use Rattle.amqp_data.specs.declared.error.Error.{Error}
 use Rattle.amqp_data.specs.declared.error.Error.TheVariants.{InvalidValue, TooLong}
@@ -32,56 +36,57 @@ abbrev mutual
   nodes_of_pairs no_pairs = 0
   nodes_of_pairs (pair k v ps) = nodes k + (nodes v + nodes_of_pairs ps)
 
--- a value is refused as invalid or as too long
+-- the errors of the counter
 abbrev pub IsRefusal : Error → Type 0
 IsRefusal e = (e ≡ InvalidValue) ⊎ (e ≡ TooLong)
 
--- an answer on a tree behind so many descriptors: all their nodes, or too long where these are 2^64 or more;
--- on none a refusal
+-- the result for a tree after this number of descriptors: the nodes of all, or too long if these
+-- are 2^64 or more; without a tree, an error
 abbrev pub CountsFrom : ℕ → Option Tree → Result ℕ Error → Type 0
 CountsFrom descriptors (Some t) (Ok n) = n ≡ nodes t + descriptors
 CountsFrom descriptors (Some t) (Err e) = (e ≡ TooLong) × (2 ^ 64 ≤ nodes t + descriptors)
 CountsFrom descriptors None (Ok n) = ⊥
 CountsFrom descriptors None (Err e) = IsRefusal e
 
--- an answer on a tree by itself
+-- the result for a top-level tree
 abbrev pub CountsNodes : Option Tree → Result ℕ Error → Type 0
 CountsNodes t r = CountsFrom 0 t r
 
--- before a tree by itself: after no descriptor and under no marker
+-- the state before a top-level tree: no descriptors and no marker
 abbrev pub fresh : NodeCounter
 fresh = record { descriptors = 0; pending = pending.Mark mark.Other }
 
--- the counter's answer on a tree; it is fresh after it
+-- the counter's result for a tree; afterwards the counter is `fresh`
 abbrev pub Permits : NodeCounter → Option Tree → Result ℕ Error → NodeCounter → Type 0
 Permits before t r after = CountsFrom before.descriptors (meant before.pending t) r × (after ≡ fresh)
 
--- a value without a tree is not counted
+-- the result for a value without a tree is an error
 pub no_count_on_none : (before : NodeCounter) (n : ℕ) (after : NodeCounter) → Permits before None (Ok n) after → ⊥
 no_count_on_none before n after h = h.0
 
--- how many nodes a compound adds to those of its parts
+-- the number of nodes that a compound adds to those of its parts
 abbrev pub own_nodes : Kind → ℕ
 own_nodes (kinds.Variant i) = 2
 own_nodes kinds.Single = 0
 own_nodes k = 1
 
--- where the next part stands: the one part of a single compound where that was opened
+-- the state before the next part: for the one part of a single compound, the state before the
+-- compound; otherwise `fresh`
 abbrev pub for_part : Kind → List (Option Tree) → NodeCounter → NodeCounter
 for_part kinds.Single [] start = start
 for_part k ps start = fresh
 
--- the parts as they are meant
+-- the intended trees of the parts: what precedes a single compound applies to its one part
 abbrev pub meant_parts : Kind → PendingMark → List (Option Tree) → List (Option Tree)
 meant_parts kinds.Single u (p ∷ ps) = meant u p ∷ ps
 meant_parts k u ps = ps
 
--- a count of the nodes of these parts and of the descriptors before the compound
+-- the number of nodes of these parts and of the descriptors before the compound
 abbrev pub CountsParts : ℕ → Option Trees → ℕ → Type 0
 CountsParts descriptors None n = ⊥
 CountsParts descriptors (Some ts) n = n ≡ nodes_each ts + descriptors
 
--- an open compound that was fed these parts
+-- an open compound with these parts
 pub record Holds (start : NodeCounter) (kind : Kind) (held : Counting) (ps : List (Option Tree)) : Type 0 where
   pub own : held.own ≡ own_nodes kind
   pub fits : held.fits ≡ fits start.pending kind
@@ -89,14 +94,14 @@ pub record Holds (start : NodeCounter) (kind : Kind) (held : Counting) (ps : Lis
   pub count : CountsParts start.descriptors (all_trees (meant_parts kind start.pending ps)) (held.count + held.next.descriptors)
   pub before_last : kind ≡ kinds.Map → paired ps ≡ false → (qs : List (Option Tree)) (q : Option Tree) → ps ≡ qs ++ (q ∷ []) → CountsParts start.descriptors (all_trees qs) held.before_last
 
--- a compound that the counter opened first, and the counter between its parts
+-- a compound that `start` opened, and the counter between two parts
 abbrev pub Has : NodeCounter → Kind → NodeCounter → Counting → List (Option Tree) → Type 0
 Has start kind now held ps = Holds start kind held ps × (now ≡ fresh)
 
--- the same, and the counter before the next part
+-- like `Has`, with the counter before the next part
 abbrev pub Awaits : NodeCounter → Kind → NodeCounter → Counting → List (Option Tree) → Type 0
 Awaits start kind now held ps = Holds start kind held ps × (now ≡ held.next)
 
--- a single compound, and the counter in the place of its value's descriptor
+-- a single compound, with the counter at the descriptor of its value
 abbrev pub AwaitsDescriptor : NodeCounter → NodeCounter → Counting → Type 0
 AwaitsDescriptor start now held = Holds start kinds.Single held [] × (now ≡ record { descriptors = 0; pending = pending.Descriptor })

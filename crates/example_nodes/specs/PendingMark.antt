@@ -1,4 +1,6 @@
--- The tree that is meant where another is fed under a marker, or in the place of a descriptor.
+-- The intended tree, if another is serialized under a marker or at the position of a descriptor.
+--
+-- For readers who implement `Serializer`: the contracts of `src/pending_mark.rt` refer to it.
 use Rattle.std.specs.Prelude.{Option, Some, None, Bool, true, false}
 use Rattle.amqp_ser.specs.Tree.{Descriptor, Tree}
 use Rattle.amqp_ser.specs.Composites.{descriptor_of}
@@ -9,7 +11,7 @@ use Rattle.amqp_ser.specs.declared.mark.Mark.TheVariants as mark
 use Rattle.example_nodes.specs.declared.pending_mark.PendingMark.{PendingMark}
 use Rattle.example_nodes.specs.declared.pending_mark.PendingMark.TheVariants as pending
 
--- a tree, where it is a descriptor
+-- the tree, if it is a descriptor
 abbrev pub only_as : Option Descriptor → Tree → Option Tree
 only_as None t = None
 only_as (Some d) t = Some t
@@ -20,7 +22,8 @@ meant (pending.Mark m) (Some t) = marked_tree m t
 meant pending.Descriptor (Some t) = only_as (descriptor_of (Some t)) t
 meant pending.Nothing (Some t) = None
 
--- a compound of this kind may stand here: a list also under the markers of lists
+-- whether a compound of this kind is allowed: a single one always, any kind without a marker, and a
+-- list under the markers of lists
 abbrev pub fits : PendingMark → Kind → Bool
 fits u kinds.Single = true
 fits (pending.Mark mark.Other) k = true

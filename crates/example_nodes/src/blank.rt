@@ -1,4 +1,7 @@
-//! The first step of a serializer: every method is there, and each call refuses.
+//! A template for a serializer: all required methods are present, and every value is an error.
+//!
+//! For readers who implement `Serializer`: copy this file and its contract in `specs/Blank.antt`,
+//! then replace one method after another.
 
 ghost use Rattle.std.specs.Prelude.{◌≡◌, ◌++◌, ◌∷◌, [], ℕ, List, Option, None, Result, Err, MatchResult, IfErr, IsErr};
 ghost use Rattle.amqp_ser.specs.Tree.{Tree};
@@ -6,7 +9,7 @@ ghost use Rattle.amqp_ser.specs.Tree.{Tree};
 use amqp_data::Error;
 use amqp_ser::{Fixed, Kind, Mark, Serializer};
 
-/// Refuses everything: a serializer to start from, method by method.
+/// A serializer that returns an error for every value.
 #[derive(Drop)]
 pub struct Blank;
 

@@ -1,4 +1,7 @@
-//! A serializer of one's own: the answer on a tree is how many nodes it has.
+//! A user-defined serializer: its result for a tree is the number of nodes.
+//!
+//! For readers who implement `Serializer`: shows all required methods. The definitions of its
+//! contract are in `specs/Nodes.antt`, and the proofs in `proofs/`.
 
 ghost use Rattle.std.specs.Prelude.{◌≡◌, ◌≤◌, ◌+◌, ◌^◌, ◌++◌, ◌∷◌, [], ℕ, List, Option, Some, None, Result, Ok, Err, MatchResult, IfErr, IsErr, true, false};
 ghost use Rattle.amqp_data.specs.declared.error.Error.TheVariants.{InvalidValue, TooLong};
@@ -10,31 +13,37 @@ use amqp_data::Error;
 use amqp_ser::{Fixed, Kind, Mark, Serialize, Serializer};
 use std::mem;
 
-/// Counts nodes: what stands before the next tree. It is fresh after every call.
+/// A serializer that counts the nodes of a tree.
+///
+/// The fields describe what precedes the next tree. They are reset after each tree, also if the
+/// result is an error.
 #[derive(Clone, Copy)]
 pub struct NodeCounter {
-    /// The descriptors before the next tree: each is one node more.
+    /// The number of descriptors before the next tree. Each adds one node.
     descriptors: u64,
-    /// The marker that the next tree stands under.
+    /// The marker of the next tree, or the position of a descriptor.
     pending: PendingMark,
 }
 
-/// A compound whose parts are still counted.
+/// A compound that is being counted.
 #[derive(Drop)]
 pub struct Counting {
-    /// The nodes that it adds itself.
+    /// The number of nodes that the compound adds to those of its parts.
     own: u64,
-    /// Whether a compound of its kind may stand where it was opened.
+    /// Whether a compound of this kind is allowed where it was opened.
     fits: bool,
-    /// What stands before its next part.
+    /// The state of the counter before the next part.
     next: NodeCounter,
-    /// The nodes so far.
+    /// The number of nodes so far, including the descriptors before the compound.
     count: u64,
-    /// The nodes before the last part.
+    /// The value of `count` before the last part.
     before_last: u64,
 }
 
-/// The sum of two counts.
+/// Returns the sum of two counts.
+///
+/// # Errors
+/// Returns `Error::TooLong` if the sum is 2^64 or more.
 fn add(a: u64, b: u64) -> Result<u64, Error>
     ensures { MatchResult result (λ n. n ≡ a + b) (λ e. (e ≡ TooLong) × (2 ^ 64 ≤ a + b)) }
 {
@@ -42,7 +51,7 @@ fn add(a: u64, b: u64) -> Result<u64, Error>
 }
 
 impl NodeCounter {
-    /// A counter before a tree by itself.
+    /// Returns a counter for a top-level tree.
     pub fn new() -> NodeCounter
         ensures { result ≡ fresh }
     {
@@ -52,7 +61,7 @@ impl NodeCounter {
         }
     }
 
-    /// What stood before this tree, which is used up.
+    /// Returns the state before this tree and resets the counter.
     fn take(&mut self) -> NodeCounter
         ensures taken { result ≡ self.old }
         ensures fresh { self.new ≡ fresh }
@@ -60,7 +69,11 @@ impl NodeCounter {
         mem::replace(self, NodeCounter::new())
     }
 
-    /// Counts one node and the descriptors before it, if a tree like it may stand here.
+    /// Counts one node and the descriptors before it. Resets the counter.
+    ///
+    /// # Errors
+    /// Returns `Error::InvalidValue` if `fits` is false: the tree is not allowed here. Returns
+    /// `Error::TooLong` if the count is 2^64 or more.
     fn count_one(&mut self, fits: bool) -> Result<u64, Error>
         ensures fresh { self.new ≡ fresh }
         ensures counts { fits ≡ true → MatchResult result (λ n. n ≡ self.old.descriptors + 1)
@@ -116,13 +129,17 @@ impl Serializer for NodeCounter {
         self.count_one(self.pending.takes_bytes(v))
     }
 
-    /// A marked tree has as many nodes as the tree that it was, but not every tree can be marked
-    /// so.
+    /// Applies a marker to the next tree.
+    ///
+    /// The marked tree has as many nodes as the tree itself, but some trees are invalid under the
+    /// marker.
     fn mark(&mut self, mark: Mark) {
         self.pending = self.pending.with(mark);
     }
 
-    /// What stands before a single compound stands before its one part.
+    /// Opens a compound.
+    ///
+    /// The descriptors and the marker before a compound of kind `Single` apply to its one part.
     fn begin(&mut self, kind: Kind) -> Counting {
         let start = self.take();
         let (own, next, count) = match kind {
@@ -213,14 +230,17 @@ impl Serializer for NodeCounter {
     }
 }
 
-/// How many nodes the value's tree has.
+/// Returns the number of nodes of the tree of `value`.
 ///
 /// # Errors
-/// Of a value with a tree: `TooLong`, where it has 2^64 nodes or more. A value without one is
-/// refused, as `InvalidValue` or `TooLong`.
+/// If the value has a tree, returns `Error::TooLong` if the tree has 2^64 nodes or more, and no
+/// other error. If it has none, returns `Error::InvalidValue` or `Error::TooLong`.
 ///
 /// # Memory
-/// Takes none.
+/// None.
+///
+/// # Example
+/// The list of the strings `a` and `bc` has 3 nodes.
 pub fn count_nodes<T: Serialize>(value: &T) -> Result<u64, Error>
     ensures { CountsNodes (T.tree value.now) result }
 {

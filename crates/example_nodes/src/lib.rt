@@ -1,7 +1,8 @@
-//! A serializer and a type as a user of the crates would write them: `NodeCounter` counts the nodes
-//! of any value's tree, and `Reading` has three fields.
+//! A user-defined serializer and a user-defined type: `NodeCounter` counts the nodes of the tree of
+//! any value, and `Reading` has three fields.
 //!
-//! Both stand on the public contracts of `amqp_ser` alone.
+//! For readers who implement `Serialize` or `Serializer`. The `reading` module shows a type. For a
+//! serializer, start from a copy of `blank`; `counter` is a complete one.
 #![tactic(auto)]
 
 mod blank;

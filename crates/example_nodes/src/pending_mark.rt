@@ -1,4 +1,7 @@
-//! Markers, and the place of a descriptor, before the next tree.
+//! The marker of the next tree, or the position of a descriptor.
+//!
+//! For readers who implement `Serializer`: shows which trees are allowed under each marker, and how
+//! several markers combine into one.
 
 ghost use Rattle.std.specs.Prelude.{◌≡◌, ℕ, List, Option, Some, is_some};
 ghost use Rattle.amqp_ser.specs.Composites.{as_described};
@@ -10,19 +13,21 @@ ghost use Rattle.example_nodes.specs.PendingMark.{fits, meant};
 use amqp_frame::is_frame;
 use amqp_ser::{Fixed, Kind, Mark};
 
-/// What the next tree stands under.
+/// A requirement on the next tree.
 #[derive(Clone, Copy)]
 pub enum PendingMark {
-    /// One marker, or none, which is `Mark::Other`.
+    /// The tree must be valid under this marker. `Mark::Other` is no marker.
     Mark(Mark),
-    /// The place of a descriptor, where a ulong or a symbol may stand.
+    /// The tree must be a descriptor: a ulong or a symbol.
     Descriptor,
-    /// What no tree satisfies.
+    /// No tree is allowed.
     Nothing,
 }
 
 impl PendingMark {
-    /// The same with one marker more, inside.
+    /// Adds a marker inside this requirement.
+    ///
+    /// The result requires of a tree what `self` requires of the marked tree.
     pub fn with(self, mark: Mark) -> PendingMark
         ensures { (t : Option Tree) → meant result t ≡ meant self (marked mark t) }
     {
@@ -34,7 +39,9 @@ impl PendingMark {
         }
     }
 
-    /// The same with a descriptor, inside: only where nothing is asked a described value may stand.
+    /// Adds a descriptor inside this requirement.
+    ///
+    /// A described value is allowed only without a marker, and is not allowed as a descriptor.
     pub fn with_descriptor(self) -> PendingMark
         ensures { (d : Descriptor) (t : Option Tree) →
             as_described (Some d) (meant result t) ≡ meant self (as_described (Some d) t) }
@@ -45,7 +52,7 @@ impl PendingMark {
         }
     }
 
-    /// Whether null or this scalar may stand here.
+    /// Returns `true` if null or this scalar is allowed.
     pub fn takes_fixed(self, fixed: Fixed) -> bool
         ensures { result ≡ is_some (meant self (Some (scalar (fixed_scalar fixed)))) }
     {
@@ -57,14 +64,14 @@ impl PendingMark {
         }
     }
 
-    /// Whether a string may stand here.
+    /// Returns `true` if a string is allowed.
     pub fn takes_str(self) -> bool
         ensures { (bs : List ℕ) → result ≡ is_some (meant self (Some (scalar (string bs)))) }
     {
         matches!(self, PendingMark::Mark(Mark::Other | Mark::Symbol))
     }
 
-    /// Whether this binary may stand here.
+    /// Returns `true` if this binary is allowed.
     pub fn takes_bytes(self, bytes: &[u8]) -> bool
         ensures { result ≡ is_some (meant self (Some (scalar (binary bytes.now)))) }
     {
@@ -78,8 +85,9 @@ impl PendingMark {
         }
     }
 
-    /// Whether a compound of this kind may stand here; what a single one stands for is asked of its
-    /// one value.
+    /// Returns `true` if a compound of this kind is allowed.
+    ///
+    /// A compound of kind `Single` is always allowed: the requirement applies to its one value.
     pub fn takes(self, kind: Kind) -> bool
         ensures { result ≡ fits self kind }
     {

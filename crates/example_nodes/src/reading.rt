@@ -1,4 +1,7 @@
-//! A type of one's own: a list of its three fields.
+//! A user-defined type that is serialized as a list of its three fields.
+//!
+//! For newcomers who implement `Serialize`: shows the methods that serde uses for a tuple, and the
+//! tree of the list. It needs no proof file.
 
 ghost use Rattle.std.specs.Prelude.{[], ◌∷◌, Some, string_bytes};
 ghost use Rattle.amqp_ser.specs.Tree.{scalar, string, uint, int};
@@ -7,14 +10,14 @@ ghost use Rattle.amqp_ser.specs.declared.kind.Kind.TheVariants.{List};
 
 use amqp_ser::{Serialize, Serializer};
 
-/// What a thermometer reads.
+/// A reading of a thermometer.
 #[derive(Debug, Drop)]
 pub struct Reading {
-    /// The thermometer's name.
+    /// The name of the thermometer.
     pub sensor: String,
     /// Seconds since the thermometer was switched on.
     pub seconds: u32,
-    /// Hundredths of a degree.
+    /// The temperature, in hundredths of a degree.
     pub degrees: i32,
 }
 

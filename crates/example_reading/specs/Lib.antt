@@ -1,2 +1,3 @@
--- The tree and the reading of `Sky` rest on it; the other types say theirs beside their impls.
+-- `Skies` is used by the contracts of `Sky`. The contracts of the other types are stated in their
+-- impls.
 pub mod Skies

@@ -1,4 +1,6 @@
--- The tree of a sky, by its variants, and their sum: what is read of each.
+-- The tree of a `Sky`, and the sum of the contents of its variants.
+--
+-- For readers who write and read their own enums: `src/sky.rt` refers to both.
 use Rattle.std.specs.Prelude.{ℕ, [], ◌∷◌, Option}
 use Rattle.std.specs.declared.string.String.{String}
 use Rattle.std.specs.declared.alloc.Global.{Global}
@@ -13,14 +15,14 @@ use Rattle.amqp_ser.specs.declared.kind.Kind.TheVariants as kind
 use Rattle.example_reading.specs.declared.sky.Sky.{Sky}
 use Rattle.example_reading.specs.declared.sky.Sky.TheVariants as sky
 
--- an index alone, or the variant of one value, or of a list
+-- the index, the variant of one value, or the variant of a list of fields
 abbrev pub of_sky : Sky → Option Tree
 of_sky sky.Clear = of_u32 0
 of_sky (sky.Cloudy eighths) = whole (kind.NewtypeVariant 1) (of_u8 eighths ∷ [])
 of_sky (sky.Windy speed from) = variant_of 2 (of_u16 speed ∷ of_u16 from ∷ [])
 of_sky (sky.Storm name until) = variant_of 3 (of_string name ∷ optional of_u32 until ∷ [])
 
--- what each variant holds
+-- the fields of each variant, as they are read
 abbrev pub sky_parts : Sky →
     OneOf (Unit {0}) (OneOf ℕ (OneOf (ℕ × (ℕ × Unit {0})) (OneOf (String Global × (Option ℕ × Unit {0})) Never)))
 sky_parts sky.Clear = This tt

@@ -1,4 +1,7 @@
-//! Composites: a descriptor before a list, before one value, and before fields that have names.
+//! Composites, which are described values (AMQP 1.0 part 1, section 1.4).
+//!
+//! For readers who need types with a descriptor: `Span` is a list, `Title` one value, and `Limits`
+//! a list that is also read from a map of field names.
 
 use amqp_data::Symbol;
 use amqp_de::de::{Deserialize, Deserializer};
@@ -7,7 +10,8 @@ use amqp_ser::{Serialize, Serializer};
 use std::alloc::Global;
 use std::marker::PhantomData;
 
-/// From when to when, in seconds: a tuple struct as a list.
+/// A period of time, as its start and its end in seconds: a tuple struct, serialized as a list
+/// described by the code 0x16.
 #[derive(Debug, PartialEq, Drop)]
 pub struct Span(pub u64, pub u64);
 
@@ -61,7 +65,7 @@ impl Deserialize for Span {
     }
 }
 
-/// What a report is called: one value, described by a number.
+/// The title of a report: one value, described by the code 0x13.
 #[derive(Debug, PartialEq, Drop)]
 pub struct Title(pub String);
 
@@ -107,7 +111,8 @@ impl Deserialize for Title {
     }
 }
 
-/// Between which temperatures a thermometer works, in hundredths of a degree: a described list.
+/// The temperatures between which a thermometer works, in hundredths of a degree: a list described
+/// by the code 0x14.
 #[derive(Debug, PartialEq, Drop)]
 pub struct Limits {
     pub lowest: i32,

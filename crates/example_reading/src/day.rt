@@ -1,4 +1,8 @@
-//! A struct with a map, and one after a symbol.
+//! A struct with a map and an array of fixed length, and a composite described by a symbol.
+//!
+//! For readers whose fields are collections, or whose descriptors are symbols. The field `light`
+//! comes first because it is copied: the check of `amqp_de::fields!` does not cover a copied field
+//! after two moved ones.
 
 use amqp_data::{Symbol, SymbolRef};
 use amqp_de::de::{Deserialize, Deserializer};
@@ -7,14 +11,14 @@ use amqp_ser::{Serialize, Serializer};
 use std::alloc::Global;
 use std::collections::BTreeMap;
 
-/// What a station measured on one day.
+/// The measurements of a station on one day: a list of the fields.
 #[derive(Debug, PartialEq, Drop)]
 pub struct Day {
     /// The hours of sunrise and sunset.
     pub light: [u32; 2],
-    /// Which station.
+    /// The name of the station.
     pub station: Symbol,
-    /// The temperature of each hour that was measured, in hundredths of a degree.
+    /// The temperature of each measured hour, in hundredths of a degree.
     pub hours: BTreeMap<u32, i32>,
 }
 
@@ -77,12 +81,12 @@ impl Deserialize for Day {
     }
 }
 
-/// How much rain fell, and over how many minutes: a list, described by a symbol.
+/// The amount and duration of a rainfall: a list described by the symbol `station:rain:list`.
 #[derive(Debug, PartialEq, Drop)]
 pub struct Rain {
-    /// Tenths of a millimetre.
+    /// The amount, in tenths of a millimetre.
     pub amount: u32,
-    /// Minutes.
+    /// The duration, in minutes.
     pub time: u16,
 }
 

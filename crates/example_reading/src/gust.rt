@@ -1,18 +1,21 @@
-//! A described list that is written without the absent fields at its end.
+//! A described list that omits the absent fields at its end.
+//!
+//! For readers who need composites as the AMQP standard writes them: shows the optional fields
+//! `"from"?` and `"at"?`. An absent field before a present one is null.
 
 use amqp_de::de::{Deserialize, Deserializer};
 use amqp_de::{Record, named, read_described};
 use amqp_ser::{Serialize, Serializer};
 use std::alloc::Global;
 
-/// A gust of wind.
+/// A gust of wind: a list described by the code 0x17.
 #[derive(Debug, PartialEq, Drop)]
 pub struct Gust {
-    /// Metres in an hour.
+    /// The speed, in metres per hour.
     pub speed: u32,
-    /// The degrees that it comes from, where they are known.
+    /// The direction that the wind comes from, in degrees, if known.
     pub from: Option<u16>,
-    /// The minute of the day, where it is known.
+    /// The minute of the day, if known.
     pub at: Option<u16>,
 }
 

@@ -1,4 +1,8 @@
-//! Types of one's own that are written and read: what a weather station reports.
+//! User-defined types that implement both `Serialize` and `Deserialize`: the reports of a weather
+//! station.
+//!
+//! For newcomers who write and read their own types. Each module shows one kind of type; start with
+//! `position`, a struct that is a list of its fields.
 #![tactic(auto)]
 
 mod composites;

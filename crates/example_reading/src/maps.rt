@@ -1,12 +1,14 @@
-//! Types that are written as a map of their fields, without what is absent: one after a descriptor,
-//! and one by itself.
+//! Structs that are serialized as maps from field names to fields.
+//!
+//! For readers who need maps instead of lists: `Calibration` is a described map, `Contact` a map
+//! without a descriptor. Absent fields are omitted.
 
 use amqp_de::de::{Deserialize, Deserializer};
 use amqp_de::{Record, named, read_described_map, read_map};
 use amqp_ser::{Serialize, Serializer};
 use std::alloc::Global;
 
-/// How a thermometer's readings are put right: a described map, without what is absent.
+/// Corrections to the readings of a thermometer: a map described by the code 0x15.
 #[derive(Debug, PartialEq, Drop)]
 pub struct Calibration {
     pub offset: i32,
@@ -88,7 +90,7 @@ impl Deserialize for Calibration {
     }
 }
 
-/// Whom to call about a station: a map.
+/// The contact person of a station: a map.
 #[derive(Debug, PartialEq, Drop)]
 pub struct Contact {
     pub name: String,

@@ -1,18 +1,21 @@
-//! A plain struct: a list of its fields.
+//! A struct that is serialized as a list of its fields.
+//!
+//! Start here to write and read a type of your own: shows both traits for a struct with an optional
+//! last field.
 
 use amqp_de::de::{Deserialize, Deserializer};
 use amqp_de::{Record, named, read};
 use amqp_ser::{Serialize, Serializer};
 use std::alloc::Global;
 
-/// Where a station stands.
+/// The geographic position of a station.
 #[derive(Debug, PartialEq, Drop)]
 pub struct Position {
-    /// Millionths of a degree north.
+    /// The latitude, in millionths of a degree north.
     pub latitude: i32,
-    /// Millionths of a degree east.
+    /// The longitude, in millionths of a degree east.
     pub longitude: i32,
-    /// Metres above the sea, where they are known.
+    /// The height above the sea, in metres, if known.
     pub height: Option<u32>,
 }
 

@@ -1,4 +1,7 @@
-//! A type that holds others of its own kind: they stay untyped until they are asked for.
+//! A recursive type, whose inner values stay untyped until they are read.
+//!
+//! For readers with recursive types. `deserialize` cannot call itself for the field `inner`, so the
+//! field holds untyped values, and [`Region::regions`] reads them, one level at a time.
 
 ghost use Rattle.std.specs.Prelude.{◌≡◌};
 ghost use Rattle.amqp_data.specs.declared.error.Error.TheVariants.{OutOfMemory};
@@ -14,26 +17,27 @@ use amqp_ser::{Serialize, Serializer};
 use amqp_value::Value;
 use std::alloc::Global;
 
-/// A region, and the regions in it.
+/// A region and the regions in it: a list of its two fields.
 #[derive(Debug, PartialEq, Drop)]
 pub struct Region {
-    /// Its number.
+    /// The number of the region.
     pub number: u32,
-    /// The regions in it, each as its value.
+    /// The regions in it, as untyped values.
     pub inner: Vec<Value>,
 }
 
 impl Region {
-    /// The regions in it.
+    /// Reads the regions in this region, one level deep.
     ///
     /// # Errors
-    /// `OutOfMemory`; `InvalidValue` where a value in it is no region.
+    /// Returns `Error::OutOfMemory` if an allocation fails, and another error, such as
+    /// `Error::InvalidValue`, only if an element of `inner` is not a region.
     ///
     /// # Memory
-    /// Takes `alloc`.
+    /// Allocates from `alloc`.
     ///
     /// # Example
-    /// Of the region `[1, [[2, []]]]`: the region `[2, []]`.
+    /// The region `[1, [[2, []]]]` has one region in it: `[2, []]`.
     pub fn regions(self, alloc: Global) -> Result<Vec<Region>, Error>
         ensures read { Answers (λ e. e ≡ OutOfMemory)
             (⟦<Vec<Region> as Deserialize>⟧.reads (tree_of (value.List self.inner))) result }

@@ -1,5 +1,9 @@
-//! What is turned into an untyped value and read back is the same: the types that claim it, and
-//! those that a map's keys may have.
+//! The round trip of the types of this crate: a restorable value that is turned into an untyped
+//! value is read back as the same value.
+//!
+//! For readers who want this guarantee for their own types. Each `returns` calls the laws of the
+//! forms that the type consists of. The types that implement `MapKey` can be the keys of maps that
+//! round-trip.
 
 use crate::composites::{Limits, Span, Title};
 use crate::day::{Day, Rain};

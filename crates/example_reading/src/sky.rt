@@ -1,4 +1,7 @@
-//! An enum with the four kinds of variants.
+//! An enum with the four kinds of variants: unit, newtype, tuple and struct.
+//!
+//! For readers who write and read their own enums. The tree of `Sky` and the parts of its variants
+//! are defined in `specs/Skies.antt`.
 
 use amqp_de::de::{Deserialize, Deserializer};
 use amqp_de::{
@@ -8,20 +11,21 @@ use amqp_de::{
 use amqp_ser::{Serialize, Serializer, VariantOf};
 use std::alloc::Global;
 
-/// What the sky is like.
+/// The state of the sky.
 #[derive(Debug, PartialEq, Drop)]
 pub enum Sky {
-    /// Variant 0, its index alone.
+    /// Variant 0: its index.
     Clear,
-    /// Variant 1, a number: eighths of the sky.
+    /// Variant 1: the cloud cover, in eighths of the sky.
     Cloudy(u8),
-    /// Variant 2, a list of two numbers: a speed, and the degrees that the wind comes from.
+    /// Variant 2: a list of the wind speed and the direction that the wind comes from, in
+    /// degrees.
     Windy(u16, u16),
-    /// Variant 3, a list of a name and, where it is known, the hour of its end.
+    /// Variant 3: a list of the name of the storm and the hour of its end, if known.
     Storm { name: String, until: Option<u32> },
 }
 
-/// The variants as they are read.
+/// The types that read the variants, in the order of the indices.
 type Variants = UnitOr<
     DataOr<
         Of<u8>,

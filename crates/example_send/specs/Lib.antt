@@ -1,2 +1,2 @@
--- The tree of a public type rests on this.
+-- The contracts of public types refer to this module.
 pub mod Sections

@@ -1,4 +1,6 @@
--- What the sections of a message mean (AMQP 1.0 part 3, section 3.2).
+-- The trees of the message sections (AMQP 1.0 part 3, section 3.2).
+--
+-- For newcomers: shows how to state the tree of a user-defined type outside of its `impl`.
 use Rattle.std.specs.Prelude.{[], ◌∷◌, Option}
 use Rattle.amqp_ser.specs.Tree.{Tree, code}
 use Rattle.amqp_ser.specs.Words.{must, may, basic_composite, short_composite, of_binary, of_bool, of_i32, of_map, of_string, of_u8, of_u32, of_u64}
@@ -15,7 +17,7 @@ of_header h = short_composite (code 0x70) (may of_bool h.durable ∷ may of_u8 h
 abbrev pub of_properties : Properties → Option Tree
 of_properties p = short_composite (code 0x73) (may of_u64 p.message_id ∷ may of_binary p.user_id ∷ may of_string p.to ∷ may of_string p.subject ∷ [])
 
--- application-properties (section 3.2.5) and amqp-value (section 3.2.8) are one value each
+-- application-properties (section 3.2.5) and amqp-value (section 3.2.8): one described value each
 abbrev pub of_section : Section → Option Tree
 of_section (section.Header h) = of_header h
 of_section (section.Properties p) = of_properties p

@@ -1,5 +1,8 @@
-//! Sends a message, and receives it: it is sized, written, kept as an untyped value, cut back and
-//! read.
+//! Writes an AMQP message and reads it back: a first program for newcomers.
+//!
+//! The program computes the length of the message, writes its bytes, prints it as an untyped value,
+//! splits the bytes into the message sections and decodes each section. The `message` module
+//! declares the sections, and the `room` module writes a value only if it fits.
 #![tactic(auto)]
 
 mod message;
@@ -30,15 +33,15 @@ fn run(rt: &(impl Print + AllocGlobal)) -> Result<(), Error> {
     let alloc = rt.alloc();
     let message = new_order(alloc)?;
 
-    // A sender knows the length before it writes, and takes no memory for it.
+    // The length is known before anything is written. Computing it allocates nothing.
     let _ = println!(rt; "{} bytes", serialized_size(&message)?);
     let bytes = bytes_for_frame(alloc, &message, 512)?;
 
-    // A log prints the untyped value.
+    // The untyped value is printed, for example to a log.
     let value = to_value(alloc, &message)?;
     let _ = println!(rt; "{value}");
 
-    // A receiver cuts the sections off one by one, and decodes those that it wants.
+    // A receiver splits off one section at a time. It can decode a section or keep its bytes.
     let mut reader = SliceReader::new(&bytes);
     for _ in message.iter() {
         let section = LazyValue::from_reader(alloc, &mut reader)?;
@@ -47,7 +50,7 @@ fn run(rt: &(impl Print + AllocGlobal)) -> Result<(), Error> {
     Ok(())
 }
 
-// A section's bytes in hexadecimal, and a body's text.
+// Prints the bytes of a section in hexadecimal and, for the body, its text.
 fn print_section(rt: &impl Print, alloc: Global, section: &LazyValue) -> Result<(), Error> {
     for byte in section.as_slice() {
         let _ = print!(rt; "{byte:02x}");
@@ -61,7 +64,7 @@ fn print_section(rt: &impl Print, alloc: Global, section: &LazyValue) -> Result<
     Ok(())
 }
 
-// The message: its sections, in the standard's order.
+// Returns the message: its sections in the order of AMQP 1.0 part 3, section 3.2.
 fn new_order(alloc: Global) -> Result<TransparentVec<Section>, Error> {
     let mut entries = OrderedMap::new(alloc);
     drop(entries.insert(String::from_str(alloc, "retries")?, 3)?);

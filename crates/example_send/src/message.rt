@@ -1,11 +1,15 @@
-//! A message: its sections, one after another (AMQP 1.0 part 3, section 3.2).
+//! The sections of a message as user-defined types (AMQP 1.0 part 3, section 3.2).
+//!
+//! For newcomers: shows how to implement `Serialize` for a described list and for an enum of
+//! described values. The `example_composites` crate has the sections with all their fields.
 
 ghost use Rattle.example_send.specs.Sections.{of_header, of_properties, of_section};
 
 use amqp_data::{ByteBuf, OrderedMap};
 use amqp_ser::{ListOf, Serialize, Serializer, fields};
 
-/// How a message is to be delivered (section 3.2.1).
+/// The header of a message: details of its delivery (AMQP 1.0 part 3, section 3.2.1). The first
+/// three fields.
 #[derive(Drop)]
 pub struct Header {
     pub durable: Option<bool>,
@@ -28,7 +32,7 @@ impl Serialize for Header {
     }
 }
 
-/// What a message is, apart from what it holds (section 3.2.4): the first four fields.
+/// The standard properties of a message (AMQP 1.0 part 3, section 3.2.4). The first four fields.
 #[derive(Drop)]
 pub struct Properties {
     pub message_id: Option<u64>,
@@ -56,13 +60,13 @@ impl Serialize for Properties {
 /// One section of a message.
 #[derive(Drop)]
 pub enum Section {
-    /// How it is to be delivered.
+    /// Details of the delivery.
     Header(Header),
-    /// What it is.
+    /// The standard properties.
     Properties(Properties),
-    /// What the application says of it, by name (section 3.2.5).
+    /// Properties that the application defines, by name (AMQP 1.0 part 3, section 3.2.5).
     ApplicationProperties(OrderedMap<String, i32>),
-    /// What it holds: one value (section 3.2.8).
+    /// The body: one AMQP value, here a string (AMQP 1.0 part 3, section 3.2.8).
     Body(String),
 }
 

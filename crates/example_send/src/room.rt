@@ -1,4 +1,7 @@
-//! A value's bytes, if they fit.
+//! Writes a value if its encoding fits into a given number of bytes.
+//!
+//! For newcomers who send values in frames: shows `serialized_size` and `to_vec`, and a contract
+//! that states the bytes of the result.
 
 ghost use Rattle.std.specs.Prelude.{◌≡◌, ◌≤◌, IfOk, Some, length};
 ghost use Rattle.amqp_ser.specs.Encoding.{encoding};
@@ -10,13 +13,18 @@ use amqp_size::serialized_size;
 use amqp_wire::to_vec;
 use std::alloc::Global;
 
-/// The bytes of a value that goes into a frame with so much room.
+/// Returns the encoding of `value`, which has at most `room` bytes.
 ///
 /// # Errors
-/// `TooLong` where they do not fit; what `serialized_size` and `to_vec` refuse the value with.
+/// Returns `Error::TooLong` if the encoding has more than `room` bytes, and otherwise the error of
+/// `serialized_size` or `to_vec`.
+///
+/// # Memory
+/// Allocates what `to_vec` allocates from `alloc`; nothing if the encoding has more than `room`
+/// bytes.
 ///
 /// # Example
-/// Of the string `a`: `a10161` in a room of 3, and `TooLong` in one of 2.
+/// The string `a` is `a10161` if `room` is 3. If `room` is 2, the error is `TooLong`.
 pub fn bytes_for_frame<T: Serialize>(
     alloc: Global,
     value: &T,

@@ -1,4 +1,7 @@
-//! Rows: each is a bool, and a wrong one prints its name and what was got.
+//! The tests, one module for each example crate, and what they have in common.
+//!
+//! Each test consists of rows: expressions that are `true` if the result is the expected one. A row
+//! that fails prints its name and the result.
 
 mod composites;
 mod filter;
@@ -8,7 +11,7 @@ mod reading;
 use amqp_data::Error;
 use amqp_value::Value;
 
-/// Prints the row's name and what was got, and answers false.
+/// Prints the name of the row and the result, and returns `false`.
 fn wrong(rt: &HostRuntime, name: &str, got: &str) -> bool {
     println!(rt; "{name}: got {got}").is_err() && false
 }

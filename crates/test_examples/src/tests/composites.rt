@@ -1,4 +1,6 @@
-//! The bytes of composites, and their lengths.
+//! Tests of the bytes and lengths of composites.
+//!
+//! Shows readers of `example_composites` how each type is encoded.
 
 mod forms;
 mod makers;
@@ -11,7 +13,8 @@ use amqp_ser::Serialize;
 use amqp_size::serialized_size;
 use amqp_wire::to_vec;
 
-/// Whether these are the value's bytes, and their number is its length.
+/// Returns `true` if `bytes` is the encoding of the value, and their number the length that
+/// `serialized_size` returns.
 fn has<T: Serialize + Drop>(rt: &HostRuntime, name: &str, value: Option<T>, bytes: &[u8]) -> bool {
     match value {
         Some(value) => is_written(rt, name, &value, bytes) && is_counted(rt, name, &value, bytes),

@@ -1,4 +1,6 @@
-//! The filter on worked properties.
+//! Tests of the filter with example properties.
+//!
+//! Shows readers of `example_filter` which properties are kept and which values are not properties.
 
 use super::{wrong, wrong_value};
 use amqp_data::{OrderedMap, Symbol};
@@ -30,7 +32,7 @@ fn properties(a: Global) -> Option<OrderedMap<Symbol, i64>> {
     properties_of(Value::try_from_ordered_map(a, properties).ok()?).ok()
 }
 
-/// Whether the filter answers this on the property of this name.
+/// Returns `true` if the filter returns `kept` for the property called `name`.
 fn is_kept(rt: &HostRuntime, row: &str, name: &str, wanted: i64, kept: bool) -> bool {
     match (
         properties(rt.alloc()),
@@ -51,7 +53,7 @@ fn properties_are_compared_by_name(rt: &HostRuntime) -> bool {
         && is_kept(rt, "an absent property", "x-none", 0, false)
 }
 
-/// Whether the value has no properties, because of this part.
+/// Returns `true` if converting the value fails with `Unfit` and `part`.
 fn is_unfit(rt: &HostRuntime, row: &str, value: Option<Value>, part: &Value) -> bool {
     let Some(value) = value else {
         return wrong(rt, row, "no memory for the value");

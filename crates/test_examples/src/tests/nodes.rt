@@ -1,4 +1,6 @@
-//! The counter on values whose nodes are counted by hand.
+//! Tests of the node counter with values whose nodes have been counted by hand.
+//!
+//! Shows readers of `example_nodes` which trees have how many nodes, and which values have no tree.
 
 ghost use Rattle.std.specs.Prelude.{Some};
 ghost use Rattle.amqp_ser.specs.Composites.{as_described, descriptor_of};
@@ -11,7 +13,7 @@ use amqp_ser::{Serialize, Serializer};
 use example_nodes::{Reading, count_nodes};
 use std::alloc::Global;
 
-/// A newtype of any name.
+/// A newtype with any name, such as that of a marker.
 #[derive(Drop)]
 struct Named<T> {
     name: &'static str,
@@ -26,7 +28,7 @@ impl<T: Serialize> Serialize for Named<T> {
     }
 }
 
-/// The number 1 behind any descriptor.
+/// The ubyte 1 with any descriptor.
 #[derive(Drop)]
 struct One<D>(D);
 
@@ -45,7 +47,7 @@ fn nodes_are_counted(rt: HostRuntime) {
     assert!(rt; values_without_a_tree(&rt), "values without a tree");
 }
 
-/// Whether the value's tree has this many nodes.
+/// Returns `true` if the tree of the value has `nodes` nodes.
 fn has<T: Serialize + Drop>(rt: &HostRuntime, name: &str, value: Option<T>, nodes: u64) -> bool {
     match value {
         Some(value) => match count_nodes(&value) {
@@ -56,7 +58,7 @@ fn has<T: Serialize + Drop>(rt: &HostRuntime, name: &str, value: Option<T>, node
     }
 }
 
-/// Whether the value is refused, since it has no tree.
+/// Returns `true` if counting returns `InvalidValue`, because the value has no tree.
 fn is_refused<T: Serialize + Drop>(rt: &HostRuntime, name: &str, value: Option<T>) -> bool {
     match value {
         Some(value) => match count_nodes(&value) {
@@ -120,7 +122,7 @@ fn symbol() -> Named<&'static str> {
     }
 }
 
-/// What has no tree.
+/// Returns a number marked as a symbol, which has no tree.
 fn number() -> Named<u8> {
     Named {
         name: markers::SYMBOL,

@@ -1,5 +1,7 @@
-//! Values that are written, read back, and read from other forms. Each untyped value is given by
-//! its encoding (AMQP 1.0 part 1, section 1.6), which `decode_value` reads.
+//! Tests that write values, read them back, and read them from other forms.
+//!
+//! Shows readers of `example_reading` the forms that each type is read from. Each untyped value is
+//! given as its encoding (AMQP 1.0 part 1, section 1.6), which `decode_value` decodes.
 
 mod composites;
 mod days;
@@ -18,7 +20,8 @@ use amqp_to_value::to_value;
 use amqp_value::Value;
 use std::alloc::Global;
 
-/// Whether these bytes spell the untyped value of the value, and the value is read from it again.
+/// Returns `true` if `bytes` encode the untyped value of `value`, and `value` is read back from
+/// it.
 fn comes_back<T: Serialize + Deserialize + PartialEq>(
     rt: &HostRuntime,
     name: &str,
@@ -41,7 +44,7 @@ fn is_untyped<T: Serialize>(rt: &HostRuntime, name: &str, bytes: &[u8], value: &
     }
 }
 
-/// Whether the value is read from the untyped value.
+/// Returns `true` if `value` is read from the untyped value that `bytes` encode.
 fn reads<T: Serialize + Deserialize + PartialEq>(
     rt: &HostRuntime,
     name: &str,
@@ -54,7 +57,7 @@ fn reads<T: Serialize + Deserialize + PartialEq>(
     }
 }
 
-/// The type that is read from an untyped value.
+/// Reads a `T` from the untyped value that `bytes` encode.
 fn read<T: Deserialize>(alloc: Global, bytes: &[u8]) -> Result<T, Error> {
     from_value(alloc, decode_value(alloc, bytes)?)
 }
@@ -68,7 +71,7 @@ fn is_read<T: Serialize + Deserialize + PartialEq>(
     is_same(rt, name, read(rt.alloc(), bytes), value)
 }
 
-/// Whether the value is the same after it was written and read.
+/// Returns `true` if the value round-trips.
 fn is_restored<T: Restore + PartialEq>(rt: &HostRuntime, name: &str, value: Option<T>) -> bool {
     match value {
         Some(value) => is_same(rt, name, restored(rt.alloc(), &value), &value),
@@ -76,7 +79,7 @@ fn is_restored<T: Restore + PartialEq>(rt: &HostRuntime, name: &str, value: Opti
     }
 }
 
-/// Whether this value was read.
+/// Returns `true` if `read` is `value`.
 fn is_same<T: Serialize + PartialEq + Drop>(
     rt: &HostRuntime,
     name: &str,
@@ -89,7 +92,7 @@ fn is_same<T: Serialize + PartialEq + Drop>(
     }
 }
 
-/// Prints what was read, and answers false.
+/// Prints the value that was read, and returns `false`.
 fn is_other<T: Serialize>(rt: &HostRuntime, name: &str, read: &T) -> bool {
     match to_value(rt.alloc(), read) {
         Ok(value) => wrong_value(rt, name, &value),
@@ -97,12 +100,12 @@ fn is_other<T: Serialize>(rt: &HostRuntime, name: &str, read: &T) -> bool {
     }
 }
 
-/// Whether the untyped value is refused as no `T`.
+/// Returns `true` if reading a `T` returns `InvalidValue`.
 fn is_invalid<T: Deserialize>(rt: &HostRuntime, name: &str, bytes: &[u8]) -> bool {
     is_refused::<T>(rt, name, bytes, &Error::InvalidValue)
 }
 
-/// Whether the untyped value is refused as no `T`, with this error.
+/// Returns `true` if reading a `T` returns the error `wanted`.
 fn is_refused<T: Deserialize>(rt: &HostRuntime, name: &str, bytes: &[u8], wanted: &Error) -> bool {
     match decode_value(rt.alloc(), bytes) {
         Ok(untyped) => match from_value::<T>(rt.alloc(), untyped) {

@@ -1,4 +1,7 @@
-//! Composites of other forms, by the standard's rules and hand.
+//! Tests of composites of other forms than those of the standard.
+//!
+//! Shows readers of `example_composites` the bytes of the types in `forms`. They are written by
+//! hand, from the rules of the standard.
 
 use super::has;
 use super::makers::{symbol, text};

@@ -1,4 +1,6 @@
-//! Values that several rows have. A part that finds no memory is absent, so its row is wrong.
+//! Functions that build the values that several rows use.
+//!
+//! If an allocation fails, the value or field is `None`, so that the row fails.
 
 use amqp_data::{Array, ByteBuf, Described, Descriptor, OrderedMap, Symbol};
 use amqp_value::Value;

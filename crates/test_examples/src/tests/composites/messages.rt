@@ -1,4 +1,6 @@
-//! The sections of a message.
+//! Tests of the sections of a message.
+//!
+//! Shows readers of `example_composites` values of these types, whose bytes are in `rows`.
 
 use super::makers::{address, binary, string, symbol, text};
 use super::{has, rows};

@@ -1,4 +1,6 @@
-//! Performatives, the ends of a link and the states of a delivery.
+//! Tests of the performatives, the sources and targets of links and the states of a delivery.
+//!
+//! Shows readers of `example_composites` values of these types, whose bytes are in `rows`.
 
 use super::makers::{
     bare_source, binary, error, field, many, no_target, one, source, string, symbol, target, text,

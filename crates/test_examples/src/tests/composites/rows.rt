@@ -1,10 +1,12 @@
-//! The bytes of the composites.
+//! The expected bytes of the composites.
 //!
-//! Each scalar is written as the codec of Qpid Proton 0.37 writes it. The headers of lists, maps
-//! and arrays are the shortest that the standard has (AMQP 1.0 part 1, sections 1.6.22 to 1.6.24),
-//! by hand, since Proton writes the widest. `tools/proton_reads` has Proton read each row as the
-//! value that is meant. A row named `SHORT` has absent fields: null before a field that is there,
-//! left out after the last one.
+//! Shows readers of `example_composites` the encoding of each type. Each scalar has the bytes that
+//! the codec of Qpid Proton 0.37 writes. The headers of lists, maps and arrays are the shortest of
+//! the standard (AMQP 1.0 part 1, sections 1.6.22 to 1.6.24), written by hand, because Proton
+//! writes the widest. `tools/proton_reads` checks that Proton reads each row as the intended value.
+//!
+//! A row whose name ends in `SHORT` has absent fields: null before a present field, omitted after
+//! the last one.
 
 pub const OPEN: &[u8] =
     b"\x00\x53\x10\xc0\x46\x0a\xa1\x01c\xa1\x01h\x70\x00\x00\x02\x00\x60\x00\x09\x70\x00\x00\x75\

@@ -1,4 +1,6 @@
-//! Composites, from lists and maps, after their descriptors and others.
+//! Tests that read composites from lists and maps, with their descriptors and with others.
+//!
+//! Shows readers of `example_reading` which descriptors and forms are valid.
 
 use super::{comes_back, is_invalid, is_restored, reads, symbol, text};
 use amqp_data::Symbol;
@@ -64,7 +66,7 @@ fn limits(unit: Option<Symbol>) -> Option<Limits> {
     })
 }
 
-/// The map has the fields in another order, and an entry more.
+/// The map has the fields in another order and one more entry.
 fn limits_are_read(rt: &HostRuntime) -> bool {
     let a = rt.alloc();
     let list = b"\x00\x53\x14\xc0\x0e\x03\x71\xff\xff\xf0\x60\x71\x00\x00\x21\x34\xa3\x01K";

@@ -1,4 +1,6 @@
-//! A struct with a map, one after a symbol, and types that are read as they were written.
+//! Tests of a struct with a map, a composite described by a symbol, and types that round-trip.
+//!
+//! Shows readers of `example_reading` collections as fields and symbols as descriptors.
 
 use super::{comes_back, is_invalid, is_restored, reads, symbol, text, untyped};
 use amqp_data::OrderedMap;

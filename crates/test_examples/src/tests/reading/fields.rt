@@ -1,4 +1,7 @@
-//! A plain struct, from lists.
+//! Tests that read a struct from lists.
+//!
+//! Shows readers of `example_reading` that an optional last field may be absent and that surplus
+//! elements are ignored.
 
 use super::{comes_back, is_invalid, reads};
 use example_reading::Position;
@@ -37,7 +40,7 @@ fn positions_come_back(rt: &HostRuntime) -> bool {
     )
 }
 
-/// The fields are the ints 1 and -2, and in the second row the uint 3 and true.
+/// The elements are the ints 1 and -2 and, in the second row, also the uint 3 and true.
 fn surplus_is_ignored(rt: &HostRuntime) -> bool {
     let four = b"\xc0\x08\x04\x54\x01\x54\xfe\x52\x03\x41";
     reads(

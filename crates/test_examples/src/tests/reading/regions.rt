@@ -1,4 +1,6 @@
-//! Regions in regions, read one level after another.
+//! Tests that read nested regions, one level at a time.
+//!
+//! Shows readers of `example_reading` how to read a recursive type.
 
 use super::{comes_back, is_invalid, is_other, is_restored, untyped};
 use crate::tests::wrong;
@@ -46,7 +48,7 @@ fn levels_are_read(rt: &HostRuntime) -> bool {
     }
 }
 
-/// The numbers of the regions, level by level; none if a fourth level is there.
+/// Returns the numbers of the regions, level by level, or `None` if there is a fourth level.
 fn numbers_of_three_levels(a: Global) -> Option<Vec<u32>> {
     let mut level = Vec::from_array(a, [outer(a)?]).ok()?;
     let mut numbers = Vec::new(a);
@@ -88,7 +90,7 @@ fn other_values_are_refused(rt: &HostRuntime) -> bool {
         && is_refused_later(rt)
 }
 
-/// Whether a number among the regions is refused when these are read.
+/// Returns `true` if reading the regions returns an error because one of them is a number.
 fn is_refused_later(rt: &HostRuntime) -> bool {
     let a = rt.alloc();
     match with_a_number(a) {

@@ -1,4 +1,6 @@
-//! An enum, from indices, lists and maps.
+//! Tests that read an enum from indices, lists and maps.
+//!
+//! Shows readers of `example_reading` the forms of a variant, and the errors for other values.
 
 use super::{comes_back, is_invalid, is_refused, reads, text};
 use amqp_data::Error;
@@ -55,7 +57,7 @@ fn variants_are_read_from_lists_too(rt: &HostRuntime) -> bool {
         )
 }
 
-/// Whether the untyped value is refused with these words.
+/// Returns `true` if reading a `Sky` returns `Error::Message` with this text.
 fn has_message(rt: &HostRuntime, name: &str, bytes: &[u8], text: &'static str) -> bool {
     is_refused::<Sky>(rt, name, bytes, &Error::Message(text))
 }

@@ -8,14 +8,14 @@ use Rattle.example_nodes.specs.declared.counter.NodeCounter.{NodeCounter}
 use Rattle.example_nodes.specs.declared.pending_mark.PendingMark.TheVariants as pending
 use Rattle.example_nodes.proofs.counter.NodeCounterSerializer.end_descriptor.Goals as goal
 
--- a described value is one node more
+-- a described value has one node more than its value
 described_from : (descriptors : ℕ) (d : Descriptor) (o : Option Tree) (r : Result ℕ Error) → CountsFrom (descriptors + 1) o r → CountsFrom descriptors (as_described (Some d) o) r
 described_from descriptors d None (Ok n) h = h
 described_from descriptors d None (Err e) h = h
 described_from descriptors d (Some t) (Ok n) h = omega arith
 described_from descriptors d (Some t) (Err e) h = (h.0, let k = h.1 in omega arith)
 
--- what was counted in the place of a descriptor is one
+-- a tree that has been counted at the position of a descriptor is a descriptor
 some_of : (o : Option Descriptor) (t : Tree) (n : ℕ) → CountsFrom 0 (only_as o t) (Ok n) → (d : Descriptor) × (o ≡ Some d)
 some_of None t n h = absurd h
 some_of (Some d) t n h = (d, refl)
