@@ -91,7 +91,7 @@ def feeds(arguments, answer):
 def same_as(comment):
     """The calls as which this one is refused, in its comment's words."""
     errors = comment.partition("# Errors")[2].partition("///\n")[0]
-    return set(re.findall(r"[Aa]s[\s/]+`(\w+)`", errors))
+    return set(re.findall(r"(?:[Aa]s|[Ll]ike|errors[\s/]+of)[\s/]+`(\w+)`", errors))
 
 
 def conversions(text):

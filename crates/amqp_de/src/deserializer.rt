@@ -780,8 +780,8 @@ pub trait Deserializer: Sized + Drop {
     /// Deserializes a lazy value: the bytes of the encoded value.
     ///
     /// # Errors
-    /// Returns `Refusal::invalid` or `Refusal::too_long` if `to_vec` cannot encode the value, and
-    /// `Refusal::memory` if an allocation fails; otherwise the visitor's error.
+    /// Returns `Refusal::invalid` or `Refusal::too_long` if `to_vec` cannot encode the value, and is
+    /// out of memory (`Refusal::memory`) if an allocation fails; otherwise the visitor's error.
     ///
     /// # Memory
     /// The bytes are allocated from `alloc`.
@@ -807,7 +807,8 @@ pub trait Deserializer: Sized + Drop {
     ///
     /// # Errors
     /// Returns `Refusal::invalid` if the value is not of the kind that `mark` makes, and the errors
-    /// of `deserialize_written` for `Mark::Lazy`; otherwise the visitor's error.
+    /// of `deserialize_written`, out of memory included, for `Mark::Lazy`; otherwise the visitor's
+    /// error.
     ///
     /// # Example
     /// For the symbol `a` and `Mark::Symbol`, calls `visit_string` with `a`. For a timestamp of 13
