@@ -3,7 +3,7 @@
 use Rattle.std.proofs.Common.{◌≡◌, List, [], ◌∷◌, refl, sym, ap, ◌∙◌}
 use Rattle.amqp_ser.specs.Tree.{Tree, map, trees_of}
 use Rattle.amqp_value.specs.TreeOf.{pairs_of}
-use Rattle.amqp_de.specs.Parts.{elements_in, entries_in}
+use Rattle.amqp_de.specs.Values.{elements_in, entries_in}
 
 pub list_of_trees : (ts : List Tree) → elements_in (trees_of ts) ≡ ts
 list_of_trees [] = refl

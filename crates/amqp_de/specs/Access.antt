@@ -18,52 +18,52 @@ RestoresNext {T} image P S Memory old r = (x : T) (ts : List Tree) → P x → o
 
 -- The pending value and the remaining pairs are unchanged.
 abbrev pub Stays : Option Tree → List (Tree × Tree) → Option Tree → List (Tree × Tree) → Type 0
-Stays owed left owed' left' = (owed' ≡ owed) × (left' ≡ left)
+Stays pending_value left pending_value' left' = (pending_value' ≡ pending_value) × (left' ≡ left)
 
 -- The next pair is consumed and its key is read. The value is then pending; if the key cannot be
 -- read, no value is pending. While a value is pending, no key is read, nothing changes, and the
 -- error is not out of memory.
 abbrev pub ReadsKey : {T E : Type 0} → (E → Type 0) → (Tree → T → Type 0) → Option Tree → List (Tree × Tree) → Option Tree → List (Tree × Tree)
     → Result (Option T) E → Type 0
-ReadsKey Memory R owed left owed' left' (Ok None) = (owed ≡ None) × (left ≡ []) × Stays owed left owed' left'
-ReadsKey Memory R owed left owed' left' (Ok (Some x)) = (owed ≡ None) × ((e : Tree × Tree) × (left ≡ e ∷ left') × (owed' ≡ Some e.1) × R e.0 x)
-ReadsKey Memory R owed left owed' left' (Err r) =
-    (IsSome owed × ¬ Memory r × Stays owed left owed' left') ⊎ ((owed ≡ None) × (owed' ≡ None) × ((e : Tree × Tree) × (left ≡ e ∷ left') × Refuses Memory (R e.0) r))
+ReadsKey Memory R pending_value left pending_value' left' (Ok None) = (pending_value ≡ None) × (left ≡ []) × Stays pending_value left pending_value' left'
+ReadsKey Memory R pending_value left pending_value' left' (Ok (Some x)) = (pending_value ≡ None) × ((e : Tree × Tree) × (left ≡ e ∷ left') × (pending_value' ≡ Some e.1) × R e.0 x)
+ReadsKey Memory R pending_value left pending_value' left' (Err r) =
+    (IsSome pending_value × ¬ Memory r × Stays pending_value left pending_value' left') ⊎ ((pending_value ≡ None) × (pending_value' ≡ None) × ((e : Tree × Tree) × (left ≡ e ∷ left') × Refuses Memory (R e.0) r))
 
 -- The pending value is read. If no value is pending, the error is not out of memory. Afterwards no
 -- value is pending. The remaining pairs are unchanged.
 abbrev pub ReadsValue : {T E : Type 0} → (E → Type 0) → (Tree → T → Type 0) → Option Tree → List (Tree × Tree) → Option Tree → List (Tree × Tree)
     → Result T E → Type 0
-ReadsValue Memory R owed left owed' left' (Ok x) = (owed' ≡ None) × (left' ≡ left) × ((t : Tree) × (owed ≡ Some t) × R t x)
-ReadsValue Memory R owed left owed' left' (Err r) =
-    (owed' ≡ None) × (left' ≡ left) × (((owed ≡ None) × ¬ Memory r) ⊎ ((t : Tree) × (owed ≡ Some t) × Refuses Memory (R t) r))
+ReadsValue Memory R pending_value left pending_value' left' (Ok x) = (pending_value' ≡ None) × (left' ≡ left) × ((t : Tree) × (pending_value ≡ Some t) × R t x)
+ReadsValue Memory R pending_value left pending_value' left' (Err r) =
+    (pending_value' ≡ None) × (left' ≡ left) × (((pending_value ≡ None) × ¬ Memory r) ⊎ ((t : Tree) × (pending_value ≡ Some t) × Refuses Memory (R t) r))
 
 -- The next pair is consumed, and the result is its key and value or an error. While a value is
 -- pending, no pair is read, nothing changes, and the error is not out of memory.
 abbrev pub ReadsEntry : {K V E : Type 0} → (E → Type 0) → (Tree → K → Type 0) → (Tree → V → Type 0) → Option Tree → List (Tree × Tree) → Option Tree
     → List (Tree × Tree) → Result (Option (K × V)) E → Type 0
-ReadsEntry Memory R S owed left owed' left' (Ok None) = (owed ≡ None) × (left ≡ []) × Stays owed left owed' left'
-ReadsEntry Memory R S owed left owed' left' (Ok (Some x)) =
-    (owed ≡ None) × (owed' ≡ None) × ((e : Tree × Tree) × (left ≡ e ∷ left') × R e.0 x.0 × S e.1 x.1)
-ReadsEntry {K} {V} Memory R S owed left owed' left' (Err r) =
-    (IsSome owed × ¬ Memory r × Stays owed left owed' left')
-    ⊎ ((owed ≡ None) × (owed' ≡ None) × ((e : Tree × Tree) × (left ≡ e ∷ left') × Refuses Memory (λ (x : K × V). R e.0 x.0 × S e.1 x.1) r))
+ReadsEntry Memory R S pending_value left pending_value' left' (Ok None) = (pending_value ≡ None) × (left ≡ []) × Stays pending_value left pending_value' left'
+ReadsEntry Memory R S pending_value left pending_value' left' (Ok (Some x)) =
+    (pending_value ≡ None) × (pending_value' ≡ None) × ((e : Tree × Tree) × (left ≡ e ∷ left') × R e.0 x.0 × S e.1 x.1)
+ReadsEntry {K} {V} Memory R S pending_value left pending_value' left' (Err r) =
+    (IsSome pending_value × ¬ Memory r × Stays pending_value left pending_value' left')
+    ⊎ ((pending_value ≡ None) × (pending_value' ≡ None) × ((e : Tree × Tree) × (left ≡ e ∷ left') × Refuses Memory (λ (x : K × V). R e.0 x.0 × S e.1 x.1) r))
 
 -- Images of restorable keys, pairs and values are read as values with the same contents, unless out
 -- of memory.
 abbrev pub RestoresKey : {T E : Type 0} → (T → Tree) → (T → Type 0) → (T → T → Type 0) → (E → Type 0) → Option Tree → List (Tree × Tree)
     → Result (Option T) E → Type 0
-RestoresKey {T} image P S Memory owed left r =
-    (x : T) (t : Tree) (es : List (Tree × Tree)) → P x → owed ≡ None → left ≡ (image x, t) ∷ es → MatchResult r (λ o. IsSomeAnd o (λ y. S y x)) Memory
+RestoresKey {T} image P S Memory pending_value left r =
+    (x : T) (t : Tree) (es : List (Tree × Tree)) → P x → pending_value ≡ None → left ≡ (image x, t) ∷ es → MatchResult r (λ o. IsSomeAnd o (λ y. S y x)) Memory
 
 abbrev pub RestoresEntry : {K V E : Type 0} → (K → Tree) → (K → Type 0) → (K → K → Type 0) → (V → Tree) → (V → Type 0) → (V → V → Type 0) → (E → Type 0)
     → Option Tree → List (Tree × Tree) → Result (Option (K × V)) E → Type 0
-RestoresEntry {K} {V} f P S g Q T Memory owed left r =
-    (x : K × V) (es : List (Tree × Tree)) → P x.0 → Q x.1 → owed ≡ None → left ≡ (f x.0, g x.1) ∷ es →
+RestoresEntry {K} {V} f P S g Q T Memory pending_value left r =
+    (x : K × V) (es : List (Tree × Tree)) → P x.0 → Q x.1 → pending_value ≡ None → left ≡ (f x.0, g x.1) ∷ es →
     MatchResult r (λ o. IsSomeAnd o (λ y. S y.0 x.0 × T y.1 x.1)) Memory
 
-abbrev pub RestoresOwed : {T E : Type 0} → (T → Tree) → (T → Type 0) → (T → T → Type 0) → (E → Type 0) → Option Tree → Result T E → Type 0
-RestoresOwed {T} image P S Memory owed r = (x : T) → P x → owed ≡ Some (image x) → MatchResult r (λ y. S y x) Memory
+abbrev pub RestoresPendingValue : {T E : Type 0} → (T → Tree) → (T → Type 0) → (T → T → Type 0) → (E → Type 0) → Option Tree → Result T E → Type 0
+RestoresPendingValue {T} image P S Memory pending_value r = (x : T) → P x → pending_value ≡ Some (image x) → MatchResult r (λ y. S y x) Memory
 
 -- The index of a variant is read, and the value after it is unchanged.
 abbrev pub Picks : {T V E : Type 0} → (E → Type 0) → (Tree → T → Type 0) → (V → Option Tree) → Tree → Option Tree → Result (T × V) E → Type 0

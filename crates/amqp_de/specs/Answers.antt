@@ -35,8 +35,8 @@ PartsOf parts Memory P (Err e) = Refuses Memory (λ v. P (parts v)) e
 
 -- If the tree is the image of `v`, and the parts of `v` are restorable, it is read as parts with
 -- the same contents, unless out of memory.
-abbrev pub RestoresParts : {V T E : Type 0} → (V → T) → (V → Tree) → (T → Type 0) → (T → T → Type 0) → (E → Type 0) → Tree → Result T E → Type 0
-RestoresParts {V} parts image P S Memory t r = (v : V) → P (parts v) → t ≡ image v → MatchResult r (λ y. S y (parts v)) Memory
+abbrev pub RestoresValues : {V T E : Type 0} → (V → T) → (V → Tree) → (T → Type 0) → (T → T → Type 0) → (E → Type 0) → Tree → Result T E → Type 0
+RestoresValues {V} parts image P S Memory t r = (v : V) → P (parts v) → t ≡ image v → MatchResult r (λ y. S y (parts v)) Memory
 
 -- The value of the first key with this name is taken; if there is none, the result is `None`.
 abbrev pub TakesNamed : {D : Type 0} → (D → Tree) → List ℕ → List (Tree × Tree) → List (Tree × Tree) → Option D → Type 0

@@ -3,10 +3,10 @@
 use Rattle.std.specs.Prelude.{◌≡◌, ℕ, List, [], ◌∷◌, Option, Some, None, ◌≤◌, ◌+◌, ◌-◌}
 use Rattle.amqp_ser.specs.Tree.{Scalar, uint, Tree, scalar, list, map}
 use Rattle.amqp_value.specs.Image.{variant_map}
-use Rattle.amqp_de.specs.Parts.{elements_in, entries_in}
+use Rattle.amqp_de.specs.Values.{elements_in, entries_in}
 use Rattle.amqp_de.specs.Fields.{There}
-use Rattle.amqp_de.specs.declared.enums.variants.OneOf.{OneOf}
-use Rattle.amqp_de.specs.declared.enums.variants.OneOf.TheVariants.{This, Other}
+use Rattle.amqp_de.specs.declared.enums.variants.Either.{Either}
+use Rattle.amqp_de.specs.declared.enums.variants.Either.TheVariants.{This, Other}
 
 -- The first tree, if there is one.
 abbrev pub first : List Tree → Option Tree
@@ -46,18 +46,18 @@ OnEnum K (map ps) x = OnKeyed K (entries_in ps) x
 OnEnum K t x = ⊥
 
 -- A variant without a value, and the variants after it.
-abbrev pub unit_or : {U R : Type 0} → (ℕ → Option Tree → R → Type 0) → ℕ → Option Tree → OneOf U R → Type 0
-unit_or K n d (This u) = n ≡ 0
-unit_or K n d (Other y) = (1 ≤ n) × K (n - 1) d y
+abbrev pub IsUnitVariant : {U R : Type 0} → (ℕ → Option Tree → R → Type 0) → ℕ → Option Tree → Either U R → Type 0
+IsUnitVariant K n d (This u) = n ≡ 0
+IsUnitVariant K n d (Other y) = (1 ≤ n) × K (n - 1) d y
 
 -- A variant with a value, and the variants after it.
-abbrev pub data_or : {T R : Type 0} → (Tree → T → Type 0) → (ℕ → Option Tree → R → Type 0) → ℕ → Option Tree → OneOf T R → Type 0
-data_or R K n d (This x) = (n ≡ 0) × There R d x
-data_or R K n d (Other y) = (1 ≤ n) × K (n - 1) d y
+abbrev pub IsDataVariant : {T R : Type 0} → (Tree → T → Type 0) → (ℕ → Option Tree → R → Type 0) → ℕ → Option Tree → Either T R → Type 0
+IsDataVariant R K n d (This x) = (n ≡ 0) × There R d x
+IsDataVariant R K n d (Other y) = (1 ≤ n) × K (n - 1) d y
 
 -- No more variants.
-abbrev pub no_variant : {R : Type 0} → ℕ → Option Tree → R → Type 0
-no_variant n d x = ⊥
+abbrev pub IsNoVariant : {R : Type 0} → ℕ → Option Tree → R → Type 0
+IsNoVariant n d x = ⊥
 
 -- The image of a variant: its index, or the map from the index to the value.
 abbrev pub enum_image : ℕ → Option Tree → Tree
@@ -71,20 +71,20 @@ value_of value (Some d) = Some (value d)
 
 -- For one of the variants: its index, the image of its value, whether it is restorable, and whether
 -- two of them have the same contents.
-abbrev pub index_of : {A R : Type 0} → (R → ℕ) → OneOf A R → ℕ
+abbrev pub index_of : {A R : Type 0} → (R → ℕ) → Either A R → ℕ
 index_of f (This x) = 0
 index_of f (Other y) = 1 + f y
 
-abbrev pub data_of : {A R : Type 0} → (A → Option Tree) → (R → Option Tree) → OneOf A R → Option Tree
+abbrev pub data_of : {A R : Type 0} → (A → Option Tree) → (R → Option Tree) → Either A R → Option Tree
 data_of f g (This x) = f x
 data_of f g (Other y) = g y
 
-abbrev pub restorable_of : {A R : Type 0} → (A → Type 0) → (R → Type 0) → OneOf A R → Type 0
-restorable_of P Q (This x) = P x
-restorable_of P Q (Other y) = Q y
+abbrev pub RestorableEither : {A R : Type 0} → (A → Type 0) → (R → Type 0) → Either A R → Type 0
+RestorableEither P Q (This x) = P x
+RestorableEither P Q (Other y) = Q y
 
-abbrev pub same_of : {A R : Type 0} → (A → A → Type 0) → (R → R → Type 0) → OneOf A R → OneOf A R → Type 0
-same_of S T (This x) (This y) = S x y
-same_of S T (Other x) (Other y) = T x y
-same_of S T (This x) (Other y) = ⊥
-same_of S T (Other x) (This y) = ⊥
+abbrev pub SameEither : {A R : Type 0} → (A → A → Type 0) → (R → R → Type 0) → Either A R → Either A R → Type 0
+SameEither S T (This x) (This y) = S x y
+SameEither S T (Other x) (Other y) = T x y
+SameEither S T (This x) (Other y) = ⊥
+SameEither S T (Other x) (This y) = ⊥

@@ -5,14 +5,14 @@ use Rattle.amqp_data.specs.Fixed.{f32_bits, f64_bits}
 use Rattle.amqp_data.specs.Items.{byte_buf_bytes}
 use Rattle.amqp_ser.specs.Tree as tree
 use Rattle.amqp_ser.specs.Tree.{Tree, Trees, Pairs, Scalar, Descriptor, scalar, list, array, map, described}
-use Rattle.amqp_ser.specs.declared.mark.Mark.{Mark}
-use Rattle.amqp_ser.specs.declared.mark.Mark.TheVariants as mark
+use Rattle.amqp_ser.specs.declared.marker.Marker.{Marker}
+use Rattle.amqp_ser.specs.declared.marker.Marker.TheVariants as marker
 use Rattle.amqp_ser.specs.Encoding.{encoding}
 use Rattle.amqp_ser.specs.Structs.{is_basic_name, is_list_name, is_map_name}
 use Rattle.amqp_ser.specs.Writable.{writable}
 use Rattle.amqp_value.specs.FormatCode.{code_of_kind}
 use Rattle.amqp_de.specs.Enums.{first}
-use Rattle.amqp_de.specs.Parts.{elements_in, entries_in}
+use Rattle.amqp_de.specs.Values.{elements_in, entries_in}
 use Rattle.amqp_de.specs.declared.shown.Visit.{Visit}
 use Rattle.amqp_de.specs.declared.shown.Visit.TheVariants as visit
 use Rattle.amqp_de.specs.declared.shown.Plain.{Plain}
@@ -170,17 +170,17 @@ module _ {T : Type 0} (G : Event → T → Type 0) where
   ByWritten t x = (writable t ≡ true) × G (plain_event (tree.binary (encoding t))) x
 
   -- The marker of a newtype selects what is reported.
-  abbrev pub ByMark : Mark → Tree → T → Type 0
-  ByMark mark.Symbol = BySymbol
-  ByMark mark.Timestamp = ByTimestamp
-  ByMark mark.Decimal32 = ByKind tree.decimal32
-  ByMark mark.Decimal64 = ByKind tree.decimal64
-  ByMark mark.Decimal128 = ByKind tree.decimal128
-  ByMark mark.Uuid = ByKind tree.uuid
-  ByMark mark.Array = ByArray
-  ByMark mark.Transparent = ByNewtype
-  ByMark mark.Lazy = ByWritten
-  ByMark mark.Other = ByNewtype
+  abbrev pub ByMarker : Marker → Tree → T → Type 0
+  ByMarker marker.Symbol = BySymbol
+  ByMarker marker.Timestamp = ByTimestamp
+  ByMarker marker.Decimal32 = ByKind tree.decimal32
+  ByMarker marker.Decimal64 = ByKind tree.decimal64
+  ByMarker marker.Decimal128 = ByKind tree.decimal128
+  ByMarker marker.Uuid = ByKind tree.uuid
+  ByMarker marker.Array = ByArray
+  ByMarker marker.Transparent = ByNewtype
+  ByMarker marker.Lazy = ByWritten
+  ByMarker marker.Other = ByNewtype
 
 -- Whether a tree is the index of a variant: a uint or a symbol.
 abbrev pub is_index_scalar : Scalar → Bool

@@ -2,7 +2,7 @@
 -- (AMQP 1.0 part 1, sections 1.4 and 1.6).
 use Rattle.std.specs.Prelude.{◌≡◌, ℕ, List, [], ◌∷◌, Option, Some, None, Bool, false, bytes_eq, if◌then◌else◌}
 use Rattle.amqp_ser.specs.Tree.{Scalar, string, Descriptor, Tree, scalar, list, array, map, described}
-use Rattle.amqp_de.specs.Parts.{elements_in, entries_in}
+use Rattle.amqp_de.specs.Values.{elements_in, entries_in}
 use Rattle.amqp_de.specs.Reads.{ReadsOption}
 
 -- The scalar is the string with this text.
@@ -41,20 +41,20 @@ Perhaps R None x = x ≡ None
 Perhaps R (Some t) x = ReadsOption R t x
 
 -- A required field, and the fields after it.
-unfoldable pub must : {T : Type 0} → List ℕ → (Tree → T → Type 0) → T → (FieldSource → Type 0) → FieldSource → Type 0
-must n R x K (by_position []) = ⊥
-must n R x K (by_position (t ∷ ts)) = R t x × K (by_position ts)
-must n R x K (by_name es) = There R (value_at n es) x × K (by_name (without n es))
+unfoldable pub ReadsRequired : {T : Type 0} → List ℕ → (Tree → T → Type 0) → T → (FieldSource → Type 0) → FieldSource → Type 0
+ReadsRequired n R x K (by_position []) = ⊥
+ReadsRequired n R x K (by_position (t ∷ ts)) = R t x × K (by_position ts)
+ReadsRequired n R x K (by_name es) = There R (value_at n es) x × K (by_name (without n es))
 
 -- An optional field, which may be absent or null, and the fields after it.
-unfoldable pub may : {T : Type 0} → List ℕ → (Tree → T → Type 0) → Option T → (FieldSource → Type 0) → FieldSource → Type 0
-may n R x K (by_position []) = (x ≡ None) × K (by_position [])
-may n R x K (by_position (t ∷ ts)) = ReadsOption R t x × K (by_position ts)
-may n R x K (by_name es) = Perhaps R (value_at n es) x × K (by_name (without n es))
+unfoldable pub ReadsOptional : {T : Type 0} → List ℕ → (Tree → T → Type 0) → Option T → (FieldSource → Type 0) → FieldSource → Type 0
+ReadsOptional n R x K (by_position []) = (x ≡ None) × K (by_position [])
+ReadsOptional n R x K (by_position (t ∷ ts)) = ReadsOption R t x × K (by_position ts)
+ReadsOptional n R x K (by_name es) = Perhaps R (value_at n es) x × K (by_name (without n es))
 
 -- No more fields. Further elements or entries are ignored.
-unfoldable pub end : FieldSource → Type 0
-end b = Unit {0}
+unfoldable pub NoMoreFields : FieldSource → Type 0
+NoMoreFields b = Unit {0}
 
 -- The fields are read from a list.
 unfoldable pub OnFields : (FieldSource → Type 0) → Tree → Type 0

@@ -1,8 +1,8 @@
 -- The contracts of public items use all of these modules.
-pub mod Parts
+pub mod Values
 pub mod Maps
 pub mod Reads
-pub mod Fields
+pub mod FieldSeeds
 pub mod Present
 pub mod Answers
 pub mod ContentTree

@@ -11,7 +11,7 @@ use Rattle.amqp_data.specs.Pairs.{entries_of}
 use Rattle.amqp_data.specs.declared.ordered_map.OrderedMap.{OrderedMap}
 use Rattle.amqp_ser.specs.Tree.{Tree, map}
 use Rattle.amqp_value.specs.Converts.{inserted_in_order, inserted_sorted}
-use Rattle.amqp_de.specs.Parts.{entries_in}
+use Rattle.amqp_de.specs.Values.{entries_in}
 
 -- A map whose pairs satisfy `K`.
 unfoldable pub OnMap : (List (Tree × Tree) → Type 0) → Tree → Type 0

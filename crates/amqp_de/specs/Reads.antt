@@ -6,7 +6,7 @@ use Rattle.amqp_frame.specs.Frame.{IsFrame}
 use Rattle.amqp_ser.specs.Encoding.{encoding}
 use Rattle.amqp_ser.specs.Writable.{writable}
 use Rattle.amqp_ser.specs.Tree.{null, ulong, symbol, Descriptor, name, code, Tree, scalar, list, array}
-use Rattle.amqp_de.specs.Parts.{elements_in}
+use Rattle.amqp_de.specs.Values.{elements_in}
 
 -- The property that every value has.
 abbrev pub Always : {T : Type 0} → T → Type 0

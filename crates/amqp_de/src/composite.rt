@@ -1,14 +1,14 @@
 //! The function that reads a composite type, whose descriptor is a number.
 
 ghost use Rattle.amqp_ser.specs.Tree.{code, described};
-ghost use Rattle.amqp_de.specs.Answers.{PartsOf, RestoresParts};
+ghost use Rattle.amqp_de.specs.Answers.{PartsOf, RestoresValues};
 ghost use Rattle.amqp_de.specs.Fields.{OnDescribed};
 
 use crate::content::Content;
 use crate::deserializer::Deserializer;
 use crate::record::Record;
-use crate::refusal::Refusal;
-use crate::seed::Seed;
+use crate::deserialize_error::DeserializeError;
+use crate::seed::DeserializeSeed;
 use amqp_data::Descriptor;
 use std::alloc::Global;
 
@@ -19,36 +19,36 @@ use std::alloc::Global;
 /// user-defined type with a numeric descriptor.
 ///
 /// # Errors
-/// Returns `Refusal::invalid` if the value has another descriptor, or none; otherwise the seed's
+/// Returns `DeserializeError::invalid_value` if the value has another descriptor, or none; otherwise the seed's
 /// error. An error other than out of memory is returned only if no value of type `T` is read.
 ///
 /// # Example
-/// For the list of the ubyte 1 described by the code 1, with `1` and `ListOf(named! { "x" })`,
+/// For the list of the ubyte 1 described by the code 1, with `1` and `ListSeed(named! { "x" })`,
 /// returns the parts `(1, ())`. With `2`, the value is invalid.
 #[tactic(auto, unfolding(crate::specs::Fields::OnDescribed))]
-pub fn read_composite<T: Record, D: Deserializer, S: Seed<Value = T::Parts>>(
+pub fn read_composite<T: Record, D: Deserializer, S: DeserializeSeed<Value = T::Values>>(
     alloc: Global,
     deserializer: D,
     wanted: u64,
     seed: S,
-) -> Result<T::Parts, D::Error>
-    ensures read { PartsOf T.parts D.Error.is_memory
+) -> Result<T::Values, D::Error>
+    ensures read { PartsOf T.parts D.Error.is_out_of_memory
         (λ x. OnDescribed (code wanted) (λ t. S.reads seed t x) (D.value deserializer)) result }
-    ensures law { RestoresParts T.parts (λ v. described (code wanted) (S.image (T.parts v)))
-        S.restorable S.same D.Error.is_memory (D.value deserializer) result }
-    ensures short { RestoresParts T.parts (λ v. described (code wanted) (S.short (T.parts v)))
-        S.restorable S.same D.Error.is_memory (D.value deserializer) result }
+    ensures law { RestoresValues T.parts (λ v. described (code wanted) (S.image (T.parts v)))
+        S.restorable S.same D.Error.is_out_of_memory (D.value deserializer) result }
+    ensures short { RestoresValues T.parts (λ v. described (code wanted) (S.short (T.parts v)))
+        S.restorable S.same D.Error.is_out_of_memory (D.value deserializer) result }
 {
     match deserializer.open() {
         Content::Described(Descriptor::Code(found), value) => {
             if found != wanted {
-                return Err(D::Error::invalid());
+                return Err(D::Error::invalid_value());
             }
-            match seed.read(alloc, value) {
+            match seed.deserialize(alloc, value) {
                 Ok(parts) => Ok(parts),
                 Err(error) => Err(error),
             }
         }
-        _ => Err(D::Error::invalid()),
+        _ => Err(D::Error::invalid_value()),
     }
 }

@@ -4,6 +4,6 @@ pub use crate::access::{EnumAccess, MapAccess, SeqAccess, VariantAccess};
 pub use crate::content::Content;
 pub use crate::deserialize::Deserialize;
 pub use crate::deserializer::Deserializer;
-pub use crate::refusal::Refusal;
+pub use crate::deserialize_error::DeserializeError;
 pub use crate::shown::{Plain, Visit};
 pub use crate::visitor::Visitor;

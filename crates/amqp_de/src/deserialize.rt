@@ -4,7 +4,7 @@ ghost use Rattle.amqp_ser.specs.Tree.{Tree};
 ghost use Rattle.amqp_de.specs.Answers.{Answers, Restores};
 
 use crate::deserializer::Deserializer;
-use crate::refusal::Refusal;
+use crate::deserialize_error::DeserializeError;
 use std::alloc::Global;
 
 /// A type that can be read from any deserializer.
@@ -35,7 +35,7 @@ pub trait Deserialize: Sized + Drop {
     /// As a `u32`, the uint 1 is read as 1, and the ulong 1 is invalid. As an `Option<u32>`, null
     /// is read as `None`, and the uint 5 as `Some(5)`.
     fn deserialize<D: Deserializer>(alloc: Global, deserializer: D) -> Result<Self, D::Error>
-        ensures read { Answers D.Error.is_memory (reads (D.value deserializer)) result }
+        ensures read { Answers D.Error.is_out_of_memory (reads (D.value deserializer)) result }
         ensures law { Restores image restorable same
-            D.Error.is_memory (D.value deserializer) result };
+            D.Error.is_out_of_memory (D.value deserializer) result };
 }

@@ -1,22 +1,22 @@
 //! Source of one value, opened level by level.
 
 ghost use Rattle.std.specs.Prelude.{◌≡◌, ◌↔◌, IsTrue, List, false};
-ghost use Rattle.amqp_ser.specs.Marked.{is_descriptor_name, is_value_name, mark_of};
+ghost use Rattle.amqp_ser.specs.Marked.{is_descriptor_name, is_value_name, marker_of};
 ghost use Rattle.amqp_ser.specs.Tree.{Tree, scalar, null, bool, ubyte, ushort, uint, ulong, byte, short, int, long, float, double, char, string, binary};
 ghost use Rattle.amqp_value.specs.TreeOf.{tree_of};
 ghost use Rattle.amqp_de.specs.Answers.{Answers, TakesNext, TakesPair, TakesNamed};
 ghost use Rattle.amqp_de.specs.ContentTree.{content_tree};
-ghost use Rattle.amqp_de.specs.Events.{plain_event, any_event, is_index, is_array_name, is_described_name, Returns, ByPlain, ByOption, ByUnit, ByList, ByMap, ByIdentifier, ByDescribed, ByStruct, ByDescriptor, ByFormat, ByVariant, ByEnum, ByArray, ByWritten, ByMark};
+ghost use Rattle.amqp_de.specs.Events.{plain_event, any_event, is_index, is_array_name, is_described_name, Returns, ByPlain, ByOption, ByUnit, ByList, ByMap, ByIdentifier, ByDescribed, ByStruct, ByDescriptor, ByFormat, ByVariant, ByEnum, ByArray, ByWritten, ByMarker};
 
 use crate::access::{ElementsOf, EntriesOf, EnumAccessOf};
 use crate::content::Content;
 use crate::names::{is_array_name, is_described_name, is_descriptor_name, is_value_name};
-use crate::refusal::Refusal;
+use crate::deserialize_error::DeserializeError;
 use crate::untyped;
 use crate::unwritable::unwritable;
 use crate::visitor::Visitor;
 use amqp_data::ByteBuf;
-use amqp_ser::{Mark, mark_named};
+use amqp_ser::{Marker, marker_named};
 use amqp_value::Value;
 use amqp_wire::to_vec;
 use std::alloc::Global;
@@ -26,7 +26,7 @@ use std::alloc::Global;
 /// Each `deserialize_..` method opens the value and reports it to a visitor.
 ///
 /// # Errors
-/// A `deserialize_..` method returns `Refusal::invalid` if it does not accept values of this kind,
+/// A `deserialize_..` method returns `DeserializeError::invalid_value` if it does not accept values of this kind,
 /// and the message `Expecting a Value` if a variant is read from an empty list or map.
 /// `deserialize_written` also returns the errors of encoding. All other errors are the visitor's.
 ///
@@ -37,7 +37,7 @@ use std::alloc::Global;
 /// removes the first entry with the given name.
 pub trait Deserializer: Sized + Drop {
     /// The error type.
-    type Error: Refusal;
+    type Error: DeserializeError;
 
     /// The elements of a list or an array that have not been taken.
     type Elements: Drop;
@@ -120,262 +120,262 @@ pub trait Deserializer: Sized + Drop {
     /// Deserializes a `bool` from a boolean.
     ///
     /// # Errors
-    /// Returns `Refusal::invalid` if the value is not a boolean; otherwise the visitor's error.
+    /// Returns `DeserializeError::invalid_value` if the value is not a boolean; otherwise the visitor's error.
     ///
     /// # Example
     /// For `true`, calls `visit_bool(true)`. The ubyte 1 is invalid.
     final fn deserialize_bool<V: Visitor>(self, visitor: V) -> Result<V::Value, Self::Error>
-        ensures read { Answers Self.Error.is_memory
+        ensures read { Answers Self.Error.is_out_of_memory
             (ByPlain (V.gives visitor) bool (value self)) result }
-        ensures law { Returns (ByPlain (V.stands visitor) bool (value self))
-            V.same Self.Error.is_memory result }
+        ensures law { Returns (ByPlain (V.represents visitor) bool (value self))
+            V.same Self.Error.is_out_of_memory result }
     {
         match self.open() {
             Content::Bool(value) => visitor.visit_bool(value),
-            _ => Err(Self::Error::invalid()),
+            _ => Err(Self::Error::invalid_value()),
         }
     }
 
     /// Deserializes a `u8` from a ubyte.
     ///
     /// # Errors
-    /// Returns `Refusal::invalid` if the value is not a ubyte; otherwise the visitor's error.
+    /// Returns `DeserializeError::invalid_value` if the value is not a ubyte; otherwise the visitor's error.
     ///
     /// # Example
     /// For the ubyte 5, calls `visit_u8(5)`. The uint 5 is invalid.
     final fn deserialize_u8<V: Visitor>(self, visitor: V) -> Result<V::Value, Self::Error>
-        ensures read { Answers Self.Error.is_memory
+        ensures read { Answers Self.Error.is_out_of_memory
             (ByPlain (V.gives visitor) ubyte (value self)) result }
-        ensures law { Returns (ByPlain (V.stands visitor) ubyte (value self))
-            V.same Self.Error.is_memory result }
+        ensures law { Returns (ByPlain (V.represents visitor) ubyte (value self))
+            V.same Self.Error.is_out_of_memory result }
     {
         match self.open() {
             Content::Ubyte(value) => visitor.visit_u8(value),
-            _ => Err(Self::Error::invalid()),
+            _ => Err(Self::Error::invalid_value()),
         }
     }
 
     /// Deserializes a `u16` from a ushort.
     ///
     /// # Errors
-    /// Returns `Refusal::invalid` if the value is not a ushort; otherwise the visitor's error.
+    /// Returns `DeserializeError::invalid_value` if the value is not a ushort; otherwise the visitor's error.
     ///
     /// # Example
     /// For the ushort 256, calls `visit_u16(256)`.
     final fn deserialize_u16<V: Visitor>(self, visitor: V) -> Result<V::Value, Self::Error>
-        ensures read { Answers Self.Error.is_memory
+        ensures read { Answers Self.Error.is_out_of_memory
             (ByPlain (V.gives visitor) ushort (value self)) result }
-        ensures law { Returns (ByPlain (V.stands visitor) ushort (value self))
-            V.same Self.Error.is_memory result }
+        ensures law { Returns (ByPlain (V.represents visitor) ushort (value self))
+            V.same Self.Error.is_out_of_memory result }
     {
         match self.open() {
             Content::Ushort(value) => visitor.visit_u16(value),
-            _ => Err(Self::Error::invalid()),
+            _ => Err(Self::Error::invalid_value()),
         }
     }
 
     /// Deserializes a `u32` from a uint.
     ///
     /// # Errors
-    /// Returns `Refusal::invalid` if the value is not a uint; otherwise the visitor's error.
+    /// Returns `DeserializeError::invalid_value` if the value is not a uint; otherwise the visitor's error.
     ///
     /// # Example
     /// For the uint 1, calls `visit_u32(1)`. The ulong 1 is invalid.
     final fn deserialize_u32<V: Visitor>(self, visitor: V) -> Result<V::Value, Self::Error>
-        ensures read { Answers Self.Error.is_memory
+        ensures read { Answers Self.Error.is_out_of_memory
             (ByPlain (V.gives visitor) uint (value self)) result }
-        ensures law { Returns (ByPlain (V.stands visitor) uint (value self))
-            V.same Self.Error.is_memory result }
+        ensures law { Returns (ByPlain (V.represents visitor) uint (value self))
+            V.same Self.Error.is_out_of_memory result }
     {
         match self.open() {
             Content::Uint(value) => visitor.visit_u32(value),
-            _ => Err(Self::Error::invalid()),
+            _ => Err(Self::Error::invalid_value()),
         }
     }
 
     /// Deserializes a `u64` from a ulong.
     ///
     /// # Errors
-    /// Returns `Refusal::invalid` if the value is not a ulong; otherwise the visitor's error.
+    /// Returns `DeserializeError::invalid_value` if the value is not a ulong; otherwise the visitor's error.
     ///
     /// # Example
     /// For the ulong 13, calls `visit_u64(13)`.
     final fn deserialize_u64<V: Visitor>(self, visitor: V) -> Result<V::Value, Self::Error>
-        ensures read { Answers Self.Error.is_memory
+        ensures read { Answers Self.Error.is_out_of_memory
             (ByPlain (V.gives visitor) ulong (value self)) result }
-        ensures law { Returns (ByPlain (V.stands visitor) ulong (value self))
-            V.same Self.Error.is_memory result }
+        ensures law { Returns (ByPlain (V.represents visitor) ulong (value self))
+            V.same Self.Error.is_out_of_memory result }
     {
         match self.open() {
             Content::Ulong(value) => visitor.visit_u64(value),
-            _ => Err(Self::Error::invalid()),
+            _ => Err(Self::Error::invalid_value()),
         }
     }
 
     /// Deserializes an `i8` from a byte.
     ///
     /// # Errors
-    /// Returns `Refusal::invalid` if the value is not a byte; otherwise the visitor's error.
+    /// Returns `DeserializeError::invalid_value` if the value is not a byte; otherwise the visitor's error.
     ///
     /// # Example
     /// For the byte -1, calls `visit_i8(-1)`.
     final fn deserialize_i8<V: Visitor>(self, visitor: V) -> Result<V::Value, Self::Error>
-        ensures read { Answers Self.Error.is_memory
+        ensures read { Answers Self.Error.is_out_of_memory
             (ByPlain (V.gives visitor) byte (value self)) result }
-        ensures law { Returns (ByPlain (V.stands visitor) byte (value self))
-            V.same Self.Error.is_memory result }
+        ensures law { Returns (ByPlain (V.represents visitor) byte (value self))
+            V.same Self.Error.is_out_of_memory result }
     {
         match self.open() {
             Content::Byte(value) => visitor.visit_i8(value),
-            _ => Err(Self::Error::invalid()),
+            _ => Err(Self::Error::invalid_value()),
         }
     }
 
     /// Deserializes an `i16` from a short.
     ///
     /// # Errors
-    /// Returns `Refusal::invalid` if the value is not a short; otherwise the visitor's error.
+    /// Returns `DeserializeError::invalid_value` if the value is not a short; otherwise the visitor's error.
     ///
     /// # Example
     /// For the short -2, calls `visit_i16(-2)`.
     final fn deserialize_i16<V: Visitor>(self, visitor: V) -> Result<V::Value, Self::Error>
-        ensures read { Answers Self.Error.is_memory
+        ensures read { Answers Self.Error.is_out_of_memory
             (ByPlain (V.gives visitor) short (value self)) result }
-        ensures law { Returns (ByPlain (V.stands visitor) short (value self))
-            V.same Self.Error.is_memory result }
+        ensures law { Returns (ByPlain (V.represents visitor) short (value self))
+            V.same Self.Error.is_out_of_memory result }
     {
         match self.open() {
             Content::Short(value) => visitor.visit_i16(value),
-            _ => Err(Self::Error::invalid()),
+            _ => Err(Self::Error::invalid_value()),
         }
     }
 
     /// Deserializes an `i32` from an int.
     ///
     /// # Errors
-    /// Returns `Refusal::invalid` if the value is not an int; otherwise the visitor's error.
+    /// Returns `DeserializeError::invalid_value` if the value is not an int; otherwise the visitor's error.
     ///
     /// # Example
     /// For the int 128, calls `visit_i32(128)`.
     final fn deserialize_i32<V: Visitor>(self, visitor: V) -> Result<V::Value, Self::Error>
-        ensures read { Answers Self.Error.is_memory
+        ensures read { Answers Self.Error.is_out_of_memory
             (ByPlain (V.gives visitor) int (value self)) result }
-        ensures law { Returns (ByPlain (V.stands visitor) int (value self))
-            V.same Self.Error.is_memory result }
+        ensures law { Returns (ByPlain (V.represents visitor) int (value self))
+            V.same Self.Error.is_out_of_memory result }
     {
         match self.open() {
             Content::Int(value) => visitor.visit_i32(value),
-            _ => Err(Self::Error::invalid()),
+            _ => Err(Self::Error::invalid_value()),
         }
     }
 
     /// Deserializes an `i64` from a long.
     ///
     /// # Errors
-    /// Returns `Refusal::invalid` if the value is not a long; otherwise the visitor's error.
+    /// Returns `DeserializeError::invalid_value` if the value is not a long; otherwise the visitor's error.
     ///
     /// # Example
     /// For the long -1, calls `visit_i64(-1)`. A timestamp is invalid.
     final fn deserialize_i64<V: Visitor>(self, visitor: V) -> Result<V::Value, Self::Error>
-        ensures read { Answers Self.Error.is_memory
+        ensures read { Answers Self.Error.is_out_of_memory
             (ByPlain (V.gives visitor) long (value self)) result }
-        ensures law { Returns (ByPlain (V.stands visitor) long (value self))
-            V.same Self.Error.is_memory result }
+        ensures law { Returns (ByPlain (V.represents visitor) long (value self))
+            V.same Self.Error.is_out_of_memory result }
     {
         match self.open() {
             Content::Long(value) => visitor.visit_i64(value),
-            _ => Err(Self::Error::invalid()),
+            _ => Err(Self::Error::invalid_value()),
         }
     }
 
     /// Deserializes the bits of an `f32` from a float.
     ///
     /// # Errors
-    /// Returns `Refusal::invalid` if the value is not a float; otherwise the visitor's error.
+    /// Returns `DeserializeError::invalid_value` if the value is not a float; otherwise the visitor's error.
     ///
     /// # Example
     /// For the float 1.5, calls `visit_f32` with the bits 3FC00000.
     final fn deserialize_f32<V: Visitor>(self, visitor: V) -> Result<V::Value, Self::Error>
-        ensures read { Answers Self.Error.is_memory
+        ensures read { Answers Self.Error.is_out_of_memory
             (ByPlain (V.gives visitor) float (value self)) result }
-        ensures law { Returns (ByPlain (V.stands visitor) float (value self))
-            V.same Self.Error.is_memory result }
+        ensures law { Returns (ByPlain (V.represents visitor) float (value self))
+            V.same Self.Error.is_out_of_memory result }
     {
         match self.open() {
             Content::Float(value) => visitor.visit_f32(value),
-            _ => Err(Self::Error::invalid()),
+            _ => Err(Self::Error::invalid_value()),
         }
     }
 
     /// Deserializes the bits of an `f64` from a double.
     ///
     /// # Errors
-    /// Returns `Refusal::invalid` if the value is not a double; otherwise the visitor's error.
+    /// Returns `DeserializeError::invalid_value` if the value is not a double; otherwise the visitor's error.
     ///
     /// # Example
     /// For the double 1.5, calls `visit_f64` with the bits 3FF8000000000000.
     final fn deserialize_f64<V: Visitor>(self, visitor: V) -> Result<V::Value, Self::Error>
-        ensures read { Answers Self.Error.is_memory
+        ensures read { Answers Self.Error.is_out_of_memory
             (ByPlain (V.gives visitor) double (value self)) result }
-        ensures law { Returns (ByPlain (V.stands visitor) double (value self))
-            V.same Self.Error.is_memory result }
+        ensures law { Returns (ByPlain (V.represents visitor) double (value self))
+            V.same Self.Error.is_out_of_memory result }
     {
         match self.open() {
             Content::Double(value) => visitor.visit_f64(value),
-            _ => Err(Self::Error::invalid()),
+            _ => Err(Self::Error::invalid_value()),
         }
     }
 
     /// Deserializes a `char` from a char.
     ///
     /// # Errors
-    /// Returns `Refusal::invalid` if the value is not a char; otherwise the visitor's error.
+    /// Returns `DeserializeError::invalid_value` if the value is not a char; otherwise the visitor's error.
     ///
     /// # Example
     /// For the char `a`, calls `visit_char('a')`.
     final fn deserialize_char<V: Visitor>(self, visitor: V) -> Result<V::Value, Self::Error>
-        ensures read { Answers Self.Error.is_memory
+        ensures read { Answers Self.Error.is_out_of_memory
             (ByPlain (V.gives visitor) char (value self)) result }
-        ensures law { Returns (ByPlain (V.stands visitor) char (value self))
-            V.same Self.Error.is_memory result }
+        ensures law { Returns (ByPlain (V.represents visitor) char (value self))
+            V.same Self.Error.is_out_of_memory result }
     {
         match self.open() {
             Content::Char(value) => visitor.visit_char(value),
-            _ => Err(Self::Error::invalid()),
+            _ => Err(Self::Error::invalid_value()),
         }
     }
 
     /// Deserializes a `String` from a string.
     ///
     /// # Errors
-    /// Returns `Refusal::invalid` if the value is not a string; otherwise the visitor's error.
+    /// Returns `DeserializeError::invalid_value` if the value is not a string; otherwise the visitor's error.
     ///
     /// # Example
     /// For the string `a`, calls `visit_string` with it. The symbol `a` is invalid.
     final fn deserialize_string<V: Visitor>(self, visitor: V) -> Result<V::Value, Self::Error>
-        ensures read { Answers Self.Error.is_memory
+        ensures read { Answers Self.Error.is_out_of_memory
             (ByPlain (V.gives visitor) string (value self)) result }
-        ensures law { Returns (ByPlain (V.stands visitor) string (value self))
-            V.same Self.Error.is_memory result }
+        ensures law { Returns (ByPlain (V.represents visitor) string (value self))
+            V.same Self.Error.is_out_of_memory result }
     {
         match self.open() {
             Content::String(value) => visitor.visit_string(value),
-            _ => Err(Self::Error::invalid()),
+            _ => Err(Self::Error::invalid_value()),
         }
     }
 
     /// Deserializes a string, like `deserialize_string`.
     ///
     /// # Errors
-    /// Returns `Refusal::invalid` if the value is not a string; otherwise the visitor's error.
+    /// Returns `DeserializeError::invalid_value` if the value is not a string; otherwise the visitor's error.
     ///
     /// # Example
     /// For the string `a`, calls `visit_string` with it.
     final fn deserialize_str<V: Visitor>(self, visitor: V) -> Result<V::Value, Self::Error>
-        ensures read { Answers Self.Error.is_memory
+        ensures read { Answers Self.Error.is_out_of_memory
             (ByPlain (V.gives visitor) string (value self)) result }
-        ensures law { Returns (ByPlain (V.stands visitor) string (value self))
-            V.same Self.Error.is_memory result }
+        ensures law { Returns (ByPlain (V.represents visitor) string (value self))
+            V.same Self.Error.is_out_of_memory result }
     {
         self.deserialize_string(visitor)
     }
@@ -383,34 +383,34 @@ pub trait Deserializer: Sized + Drop {
     /// Deserializes a `ByteBuf` from a binary.
     ///
     /// # Errors
-    /// Returns `Refusal::invalid` if the value is not a binary; otherwise the visitor's error.
+    /// Returns `DeserializeError::invalid_value` if the value is not a binary; otherwise the visitor's error.
     ///
     /// # Example
     /// For the binary 01, 02, calls `visit_byte_buf` with it. A list of ubytes is invalid.
     final fn deserialize_byte_buf<V: Visitor>(self, visitor: V) -> Result<V::Value, Self::Error>
-        ensures read { Answers Self.Error.is_memory
+        ensures read { Answers Self.Error.is_out_of_memory
             (ByPlain (V.gives visitor) binary (value self)) result }
-        ensures law { Returns (ByPlain (V.stands visitor) binary (value self))
-            V.same Self.Error.is_memory result }
+        ensures law { Returns (ByPlain (V.represents visitor) binary (value self))
+            V.same Self.Error.is_out_of_memory result }
     {
         match self.open() {
             Content::Binary(value) => visitor.visit_byte_buf(value),
-            _ => Err(Self::Error::invalid()),
+            _ => Err(Self::Error::invalid_value()),
         }
     }
 
     /// Deserializes a binary, like `deserialize_byte_buf`.
     ///
     /// # Errors
-    /// Returns `Refusal::invalid` if the value is not a binary; otherwise the visitor's error.
+    /// Returns `DeserializeError::invalid_value` if the value is not a binary; otherwise the visitor's error.
     ///
     /// # Example
     /// For the binary 01, 02, calls `visit_byte_buf` with it.
     final fn deserialize_bytes<V: Visitor>(self, visitor: V) -> Result<V::Value, Self::Error>
-        ensures read { Answers Self.Error.is_memory
+        ensures read { Answers Self.Error.is_out_of_memory
             (ByPlain (V.gives visitor) binary (value self)) result }
-        ensures law { Returns (ByPlain (V.stands visitor) binary (value self))
-            V.same Self.Error.is_memory result }
+        ensures law { Returns (ByPlain (V.represents visitor) binary (value self))
+            V.same Self.Error.is_out_of_memory result }
     {
         self.deserialize_byte_buf(visitor)
     }
@@ -424,10 +424,10 @@ pub trait Deserializer: Sized + Drop {
     /// For null, calls `visit_none()`. For the uint 5, calls `visit_some` with a deserializer of
     /// it.
     final fn deserialize_option<V: Visitor>(self, visitor: V) -> Result<V::Value, Self::Error>
-        ensures read { Answers Self.Error.is_memory
+        ensures read { Answers Self.Error.is_out_of_memory
             (ByOption (V.gives visitor) (value self)) result }
-        ensures law { Returns (ByOption (V.stands visitor) (value self))
-            V.same Self.Error.is_memory result }
+        ensures law { Returns (ByOption (V.represents visitor) (value self))
+            V.same Self.Error.is_out_of_memory result }
     {
         if self.is_null() {
             visitor.visit_none()
@@ -439,26 +439,26 @@ pub trait Deserializer: Sized + Drop {
     /// Deserializes `()` from null.
     ///
     /// # Errors
-    /// Returns `Refusal::invalid` if the value is not null; otherwise the visitor's error.
+    /// Returns `DeserializeError::invalid_value` if the value is not null; otherwise the visitor's error.
     ///
     /// # Example
     /// For null, calls `visit_unit()`. The boolean `false` is invalid.
     final fn deserialize_unit<V: Visitor>(self, visitor: V) -> Result<V::Value, Self::Error>
-        ensures read { Answers Self.Error.is_memory (ByUnit (V.gives visitor) (value self)) result }
-        ensures law { Returns (ByUnit (V.stands visitor) (value self))
-            V.same Self.Error.is_memory result }
+        ensures read { Answers Self.Error.is_out_of_memory (ByUnit (V.gives visitor) (value self)) result }
+        ensures law { Returns (ByUnit (V.represents visitor) (value self))
+            V.same Self.Error.is_out_of_memory result }
     {
         if self.is_null() {
             visitor.visit_unit()
         } else {
-            Err(Self::Error::invalid())
+            Err(Self::Error::invalid_value())
         }
     }
 
     /// Deserializes a unit struct, like `deserialize_unit`. The name is ignored.
     ///
     /// # Errors
-    /// Returns `Refusal::invalid` if the value is not null; otherwise the visitor's error.
+    /// Returns `DeserializeError::invalid_value` if the value is not null; otherwise the visitor's error.
     ///
     /// # Example
     /// For null and any name, calls `visit_unit()`.
@@ -467,9 +467,9 @@ pub trait Deserializer: Sized + Drop {
         _name: &str,
         visitor: V,
     ) -> Result<V::Value, Self::Error>
-        ensures read { Answers Self.Error.is_memory (ByUnit (V.gives visitor) (value self)) result }
-        ensures law { Returns (ByUnit (V.stands visitor) (value self))
-            V.same Self.Error.is_memory result }
+        ensures read { Answers Self.Error.is_out_of_memory (ByUnit (V.gives visitor) (value self)) result }
+        ensures law { Returns (ByUnit (V.represents visitor) (value self))
+            V.same Self.Error.is_out_of_memory result }
     {
         self.deserialize_unit(visitor)
     }
@@ -477,34 +477,34 @@ pub trait Deserializer: Sized + Drop {
     /// Deserializes the elements of a list.
     ///
     /// # Errors
-    /// Returns `Refusal::invalid` if the value is not a list; otherwise the visitor's error.
+    /// Returns `DeserializeError::invalid_value` if the value is not a list; otherwise the visitor's error.
     ///
     /// # Example
     /// For the list of the ubytes 1 and 2, calls `visit_seq` with these two elements. An array of
     /// them is invalid.
     #[tactic(auto, using(crate::proofs::Lists::list_of_trees))]
     final fn deserialize_seq<V: Visitor>(self, visitor: V) -> Result<V::Value, Self::Error>
-        ensures read { Answers Self.Error.is_memory (ByList (V.gives visitor) (value self)) result }
-        ensures law { Returns (ByList (V.stands visitor) (value self))
-            V.same Self.Error.is_memory result }
+        ensures read { Answers Self.Error.is_out_of_memory (ByList (V.gives visitor) (value self)) result }
+        ensures law { Returns (ByList (V.represents visitor) (value self))
+            V.same Self.Error.is_out_of_memory result }
     {
         match self.open() {
             Content::List(elements) => visitor.visit_seq(ElementsOf::<Self>::new(elements)),
-            _ => Err(Self::Error::invalid()),
+            _ => Err(Self::Error::invalid_value()),
         }
     }
 
     /// Deserializes a tuple, like `deserialize_seq`.
     ///
     /// # Errors
-    /// Returns `Refusal::invalid` if the value is not a list; otherwise the visitor's error.
+    /// Returns `DeserializeError::invalid_value` if the value is not a list; otherwise the visitor's error.
     ///
     /// # Example
     /// For the list of the ubyte 1 and `true`, calls `visit_seq` with these two elements.
     final fn deserialize_tuple<V: Visitor>(self, visitor: V) -> Result<V::Value, Self::Error>
-        ensures read { Answers Self.Error.is_memory (ByList (V.gives visitor) (value self)) result }
-        ensures law { Returns (ByList (V.stands visitor) (value self))
-            V.same Self.Error.is_memory result }
+        ensures read { Answers Self.Error.is_out_of_memory (ByList (V.gives visitor) (value self)) result }
+        ensures law { Returns (ByList (V.represents visitor) (value self))
+            V.same Self.Error.is_out_of_memory result }
     {
         self.deserialize_seq(visitor)
     }
@@ -512,41 +512,41 @@ pub trait Deserializer: Sized + Drop {
     /// Deserializes the keys and values of a map.
     ///
     /// # Errors
-    /// Returns `Refusal::invalid` if the value is not a map; otherwise the visitor's error.
+    /// Returns `DeserializeError::invalid_value` if the value is not a map; otherwise the visitor's error.
     ///
     /// # Example
     /// For the map from the ubyte 1 to `true`, calls `visit_map` with this pair.
     #[tactic(auto, using(crate::proofs::Lists::entries_in_pairs))]
     final fn deserialize_map<V: Visitor>(self, visitor: V) -> Result<V::Value, Self::Error>
-        ensures read { Answers Self.Error.is_memory (ByMap (V.gives visitor) (value self)) result }
-        ensures law { Returns (ByMap (V.stands visitor) (value self))
-            V.same Self.Error.is_memory result }
+        ensures read { Answers Self.Error.is_out_of_memory (ByMap (V.gives visitor) (value self)) result }
+        ensures law { Returns (ByMap (V.represents visitor) (value self))
+            V.same Self.Error.is_out_of_memory result }
     {
         match self.open() {
             Content::Map(entries) => visitor.visit_map(EntriesOf::<Self>::new(entries)),
-            _ => Err(Self::Error::invalid()),
+            _ => Err(Self::Error::invalid_value()),
         }
     }
 
     /// Deserializes an identifier: a uint, or the text of a symbol.
     ///
     /// # Errors
-    /// Returns `Refusal::invalid` if the value is neither a uint nor a symbol; otherwise the
+    /// Returns `DeserializeError::invalid_value` if the value is neither a uint nor a symbol; otherwise the
     /// visitor's error.
     ///
     /// # Example
     /// For the uint 1, calls `visit_u32(1)`. For the symbol `a`, calls `visit_string` with `a`. The
     /// string `a` is invalid.
     final fn deserialize_identifier<V: Visitor>(self, visitor: V) -> Result<V::Value, Self::Error>
-        ensures read { Answers Self.Error.is_memory
+        ensures read { Answers Self.Error.is_out_of_memory
             (ByIdentifier (V.gives visitor) (value self)) result }
-        ensures law { Returns (ByIdentifier (V.stands visitor) (value self))
-            V.same Self.Error.is_memory result }
+        ensures law { Returns (ByIdentifier (V.represents visitor) (value self))
+            V.same Self.Error.is_out_of_memory result }
     {
         match self.open() {
             Content::Uint(value) => visitor.visit_u32(value),
             Content::Symbol(name) => visitor.visit_string(name.into_inner()),
-            _ => Err(Self::Error::invalid()),
+            _ => Err(Self::Error::invalid_value()),
         }
     }
 
@@ -558,9 +558,9 @@ pub trait Deserializer: Sized + Drop {
     /// # Example
     /// For the empty list, calls `visit_unit()`.
     final fn deserialize_ignored_any<V: Visitor>(self, visitor: V) -> Result<V::Value, Self::Error>
-        ensures read { Answers Self.Error.is_memory (V.gives visitor (plain_event null)) result }
-        ensures law { Returns (V.stands visitor (plain_event null))
-            V.same Self.Error.is_memory result }
+        ensures read { Answers Self.Error.is_out_of_memory (V.gives visitor (plain_event null)) result }
+        ensures law { Returns (V.represents visitor (plain_event null))
+            V.same Self.Error.is_out_of_memory result }
     {
         visitor.visit_unit()
     }
@@ -568,20 +568,20 @@ pub trait Deserializer: Sized + Drop {
     /// Deserializes a described value: a descriptor and the value after it.
     ///
     /// # Errors
-    /// Returns `Refusal::invalid` if the value is not described; otherwise the visitor's error.
+    /// Returns `DeserializeError::invalid_value` if the value is not described; otherwise the visitor's error.
     ///
     /// # Example
     /// For `true` described by the code 1, calls `visit_described` with this code and a
     /// deserializer of `true`. The value `true` without a descriptor is invalid.
     final fn deserialize_described<V: Visitor>(self, visitor: V) -> Result<V::Value, Self::Error>
-        ensures read { Answers Self.Error.is_memory
+        ensures read { Answers Self.Error.is_out_of_memory
             (ByDescribed (V.gives visitor) (value self)) result }
-        ensures law { Returns (ByDescribed (V.stands visitor) (value self))
-            V.same Self.Error.is_memory result }
+        ensures law { Returns (ByDescribed (V.represents visitor) (value self))
+            V.same Self.Error.is_out_of_memory result }
     {
         match self.open() {
             Content::Described(descriptor, value) => visitor.visit_described(descriptor, value),
-            _ => Err(Self::Error::invalid()),
+            _ => Err(Self::Error::invalid_value()),
         }
     }
 
@@ -589,7 +589,7 @@ pub trait Deserializer: Sized + Drop {
     /// struct, a descriptor and the value after it.
     ///
     /// # Errors
-    /// Returns `Refusal::invalid` if the value is not a list, or, for the name of a described
+    /// Returns `DeserializeError::invalid_value` if the value is not a list, or, for the name of a described
     /// struct, not a described value; otherwise the visitor's error.
     ///
     /// # Example
@@ -600,11 +600,11 @@ pub trait Deserializer: Sized + Drop {
         name: &str,
         visitor: V,
     ) -> Result<V::Value, Self::Error>
-        ensures read { Answers Self.Error.is_memory
+        ensures read { Answers Self.Error.is_out_of_memory
             (ByStruct (V.gives visitor) (is_described_name name.now) (value self)) result }
         ensures law { Returns
-            (ByStruct (V.stands visitor) (is_described_name name.now) (value self))
-            V.same Self.Error.is_memory result }
+            (ByStruct (V.represents visitor) (is_described_name name.now) (value self))
+            V.same Self.Error.is_out_of_memory result }
     {
         if is_described_name(name) {
             self.deserialize_described(visitor)
@@ -625,11 +625,11 @@ pub trait Deserializer: Sized + Drop {
         name: &str,
         visitor: V,
     ) -> Result<V::Value, Self::Error>
-        ensures read { Answers Self.Error.is_memory
+        ensures read { Answers Self.Error.is_out_of_memory
             (ByStruct (V.gives visitor) (is_described_name name.now) (value self)) result }
         ensures law { Returns
-            (ByStruct (V.stands visitor) (is_described_name name.now) (value self))
-            V.same Self.Error.is_memory result }
+            (ByStruct (V.represents visitor) (is_described_name name.now) (value self))
+            V.same Self.Error.is_out_of_memory result }
     {
         self.deserialize_struct(name, visitor)
     }
@@ -637,22 +637,22 @@ pub trait Deserializer: Sized + Drop {
     /// Deserializes a descriptor: a ulong, or the text of a symbol.
     ///
     /// # Errors
-    /// Returns `Refusal::invalid` if the value is neither a ulong nor a symbol; otherwise the
+    /// Returns `DeserializeError::invalid_value` if the value is neither a ulong nor a symbol; otherwise the
     /// visitor's error.
     ///
     /// # Example
     /// For the ulong 1, calls `visit_u64(1)`. For the symbol `a:b`, calls `visit_string` with
     /// `a:b`.
     final fn deserialize_descriptor<V: Visitor>(self, visitor: V) -> Result<V::Value, Self::Error>
-        ensures read { Answers Self.Error.is_memory
+        ensures read { Answers Self.Error.is_out_of_memory
             (ByDescriptor (V.gives visitor) (value self)) result }
-        ensures law { Returns (ByDescriptor (V.stands visitor) (value self))
-            V.same Self.Error.is_memory result }
+        ensures law { Returns (ByDescriptor (V.represents visitor) (value self))
+            V.same Self.Error.is_out_of_memory result }
     {
         match self.open() {
             Content::Ulong(value) => visitor.visit_u64(value),
             Content::Symbol(name) => visitor.visit_string(name.into_inner()),
-            _ => Err(Self::Error::invalid()),
+            _ => Err(Self::Error::invalid_value()),
         }
     }
 
@@ -662,7 +662,7 @@ pub trait Deserializer: Sized + Drop {
     /// In a list, elements after the second are ignored.
     ///
     /// # Errors
-    /// Returns the message `Expecting a Value` for an empty list or map. Returns `Refusal::invalid`
+    /// Returns the message `Expecting a Value` for an empty list or map. Returns `DeserializeError::invalid_value`
     /// for a map of several pairs, and if the value is not a uint, symbol, list or map. Otherwise
     /// returns the visitor's error.
     ///
@@ -672,10 +672,10 @@ pub trait Deserializer: Sized + Drop {
     /// 13.
     #[tactic(auto, using(crate::proofs::Lists::list_of_trees, crate::proofs::Lists::entries_in_pairs))]
     final fn deserialize_variant<V: Visitor>(self, visitor: V) -> Result<V::Value, Self::Error>
-        ensures read { Answers Self.Error.is_memory
+        ensures read { Answers Self.Error.is_out_of_memory
             (ByVariant (V.gives visitor) (value self)) result }
-        ensures law { Returns (ByVariant (V.stands visitor) (value self))
-            V.same Self.Error.is_memory result }
+        ensures law { Returns (ByVariant (V.represents visitor) (value self))
+            V.same Self.Error.is_out_of_memory result }
     {
         if self.is_index() {
             return visitor.visit_enum(EnumAccessOf::<Self>::new(self, None));
@@ -686,16 +686,16 @@ pub trait Deserializer: Sized + Drop {
                     let item = Self::next_element(&mut elements);
                     visitor.visit_enum(EnumAccessOf::<Self>::new(index, item))
                 }
-                None => Err(Self::Error::message("Expecting a Value")),
+                None => Err(Self::Error::custom("Expecting a Value")),
             },
             Content::Map(mut entries) => match Self::next_pair(&mut entries) {
                 Some((index, item)) => match Self::next_pair(&mut entries) {
-                    Some(_) => Err(Self::Error::invalid()),
+                    Some(_) => Err(Self::Error::invalid_value()),
                     None => visitor.visit_enum(EnumAccessOf::<Self>::new(index, Some(item))),
                 },
-                None => Err(Self::Error::message("Expecting a Value")),
+                None => Err(Self::Error::custom("Expecting a Value")),
             },
-            _ => Err(Self::Error::invalid()),
+            _ => Err(Self::Error::invalid_value()),
         }
     }
 
@@ -708,10 +708,10 @@ pub trait Deserializer: Sized + Drop {
     /// For the uint 3, calls `visit_u8(0x70)`. For an array, calls `visit_seq` with its elements.
     #[tactic(auto, using(crate::proofs::Lists::list_of_trees))]
     final fn deserialize_format<V: Visitor>(self, visitor: V) -> Result<V::Value, Self::Error>
-        ensures read { Answers Self.Error.is_memory
+        ensures read { Answers Self.Error.is_out_of_memory
             (ByFormat (V.gives visitor) (value self)) result }
-        ensures law { Returns (ByFormat (V.stands visitor) (value self))
-            V.same Self.Error.is_memory result }
+        ensures law { Returns (ByFormat (V.represents visitor) (value self))
+            V.same Self.Error.is_out_of_memory result }
     {
         match self.open() {
             Content::Array(elements) => visitor.visit_seq(ElementsOf::<Self>::new(elements)),
@@ -736,14 +736,14 @@ pub trait Deserializer: Sized + Drop {
         name: &str,
         visitor: V,
     ) -> Result<V::Value, Self::Error>
-        ensures read { Answers Self.Error.is_memory
+        ensures read { Answers Self.Error.is_out_of_memory
             (ByEnum (V.gives visitor) (is_value_name name.now)
             (is_descriptor_name name.now) (is_array_name name.now) (value self))
             result }
         ensures law { Returns
-            (ByEnum (V.stands visitor) (is_value_name name.now)
+            (ByEnum (V.represents visitor) (is_value_name name.now)
             (is_descriptor_name name.now) (is_array_name name.now) (value self))
-            V.same Self.Error.is_memory result }
+            V.same Self.Error.is_out_of_memory result }
     {
         if is_value_name(name) {
             visitor.visit_value(self.into_value())
@@ -759,29 +759,29 @@ pub trait Deserializer: Sized + Drop {
     /// Deserializes the elements of an array.
     ///
     /// # Errors
-    /// Returns `Refusal::invalid` if the value is not an array; otherwise the visitor's error.
+    /// Returns `DeserializeError::invalid_value` if the value is not an array; otherwise the visitor's error.
     ///
     /// # Example
     /// For the array of the ubytes 1 and 2, calls `visit_seq` with these two elements. A list of
     /// them is invalid.
     #[tactic(auto, using(crate::proofs::Lists::list_of_trees))]
     final fn deserialize_array<V: Visitor>(self, visitor: V) -> Result<V::Value, Self::Error>
-        ensures read { Answers Self.Error.is_memory
+        ensures read { Answers Self.Error.is_out_of_memory
             (ByArray (V.gives visitor) (value self)) result }
-        ensures law { Returns (ByArray (V.stands visitor) (value self))
-            V.same Self.Error.is_memory result }
+        ensures law { Returns (ByArray (V.represents visitor) (value self))
+            V.same Self.Error.is_out_of_memory result }
     {
         match self.open() {
             Content::Array(elements) => visitor.visit_seq(ElementsOf::<Self>::new(elements)),
-            _ => Err(Self::Error::invalid()),
+            _ => Err(Self::Error::invalid_value()),
         }
     }
 
     /// Deserializes a lazy value: the bytes of the encoded value.
     ///
     /// # Errors
-    /// Returns `Refusal::invalid` or `Refusal::too_long` if `to_vec` cannot encode the value, and is
-    /// out of memory (`Refusal::memory`) if an allocation fails; otherwise the visitor's error.
+    /// Returns `DeserializeError::invalid_value` or `DeserializeError::too_long` if `to_vec` cannot encode the value, and is
+    /// out of memory (`DeserializeError::out_of_memory`) if an allocation fails; otherwise the visitor's error.
     ///
     /// # Memory
     /// The bytes are allocated from `alloc`.
@@ -789,10 +789,10 @@ pub trait Deserializer: Sized + Drop {
     /// # Example
     /// For the string `a`, calls `visit_byte_buf` with `a10161`.
     final fn deserialize_written<V: Visitor>(self, visitor: V) -> Result<V::Value, Self::Error>
-        ensures read { Answers Self.Error.is_memory
+        ensures read { Answers Self.Error.is_out_of_memory
             (ByWritten (V.gives visitor) (value self)) result }
-        ensures law { Returns (ByWritten (V.stands visitor) (value self))
-            V.same Self.Error.is_memory result }
+        ensures law { Returns (ByWritten (V.represents visitor) (value self))
+            V.same Self.Error.is_out_of_memory result }
     {
         let alloc = self.alloc();
         match to_vec(alloc, &self.into_value()) {
@@ -801,57 +801,57 @@ pub trait Deserializer: Sized + Drop {
         }
     }
 
-    /// Deserializes the value of a newtype with the marker `mark`.
+    /// Deserializes the value of a newtype with the marker `marker`.
     ///
-    /// `Mark::Other` and `Mark::Transparent` accept a value of any kind.
+    /// `Marker::Other` and `Marker::Transparent` accept a value of any kind.
     ///
     /// # Errors
-    /// Returns `Refusal::invalid` if the value is not of the kind that `mark` makes, and the errors
-    /// of `deserialize_written`, out of memory included, for `Mark::Lazy`; otherwise the visitor's
+    /// Returns `DeserializeError::invalid_value` if the value is not of the kind that `marker` makes, and the errors
+    /// of `deserialize_written`, out of memory included, for `Marker::Lazy`; otherwise the visitor's
     /// error.
     ///
     /// # Example
-    /// For the symbol `a` and `Mark::Symbol`, calls `visit_string` with `a`. For a timestamp of 13
-    /// milliseconds and `Mark::Timestamp`, calls `visit_i64(13)`.
+    /// For the symbol `a` and `Marker::Symbol`, calls `visit_string` with `a`. For a timestamp of 13
+    /// milliseconds and `Marker::Timestamp`, calls `visit_i64(13)`.
     final fn deserialize_marked<V: Visitor>(
         self,
-        mark: Mark,
+        marker: Marker,
         visitor: V,
     ) -> Result<V::Value, Self::Error>
-        ensures read { Answers Self.Error.is_memory
-            (ByMark (V.gives visitor) mark (value self)) result }
-        ensures law { Returns (ByMark (V.stands visitor) mark (value self))
-            V.same Self.Error.is_memory result }
+        ensures read { Answers Self.Error.is_out_of_memory
+            (ByMarker (V.gives visitor) marker (value self)) result }
+        ensures law { Returns (ByMarker (V.represents visitor) marker (value self))
+            V.same Self.Error.is_out_of_memory result }
     {
-        match mark {
-            Mark::Transparent | Mark::Other => visitor.visit_newtype_struct(self),
-            Mark::Array => self.deserialize_array(visitor),
-            Mark::Lazy => self.deserialize_written(visitor),
-            Mark::Symbol => match self.open() {
+        match marker {
+            Marker::Transparent | Marker::Other => visitor.visit_newtype_struct(self),
+            Marker::Array => self.deserialize_array(visitor),
+            Marker::Lazy => self.deserialize_written(visitor),
+            Marker::Symbol => match self.open() {
                 Content::Symbol(name) => visitor.visit_string(name.into_inner()),
-                _ => Err(Self::Error::invalid()),
+                _ => Err(Self::Error::invalid_value()),
             },
-            Mark::Timestamp => match self.open() {
+            Marker::Timestamp => match self.open() {
                 Content::Timestamp(moment) => visitor.visit_i64(moment.milliseconds()),
-                _ => Err(Self::Error::invalid()),
+                _ => Err(Self::Error::invalid_value()),
             },
-            Mark::Decimal32 => match self.open() {
+            Marker::Decimal32 => match self.open() {
                 Content::Decimal32(value) => visitor.visit_value(untyped::decimal32_value(value)),
-                _ => Err(Self::Error::invalid()),
+                _ => Err(Self::Error::invalid_value()),
             },
-            Mark::Decimal64 => match self.open() {
+            Marker::Decimal64 => match self.open() {
                 Content::Decimal64(value) => visitor.visit_value(untyped::decimal64_value(value)),
-                _ => Err(Self::Error::invalid()),
+                _ => Err(Self::Error::invalid_value()),
             },
-            Mark::Decimal128 => match self.open() {
+            Marker::Decimal128 => match self.open() {
                 Content::Decimal128(value) => {
                     visitor.visit_value(untyped::decimal128_value(value))
                 }
-                _ => Err(Self::Error::invalid()),
+                _ => Err(Self::Error::invalid_value()),
             },
-            Mark::Uuid => match self.open() {
+            Marker::Uuid => match self.open() {
                 Content::Uuid(value) => visitor.visit_value(untyped::uuid_value(value)),
-                _ => Err(Self::Error::invalid()),
+                _ => Err(Self::Error::invalid_value()),
             },
         }
     }
@@ -871,12 +871,12 @@ pub trait Deserializer: Sized + Drop {
         name: &str,
         visitor: V,
     ) -> Result<V::Value, Self::Error>
-        ensures read { Answers Self.Error.is_memory
-            (ByMark (V.gives visitor) (mark_of name.now) (value self)) result }
-        ensures law { Returns (ByMark (V.stands visitor) (mark_of name.now) (value self))
-            V.same Self.Error.is_memory result }
+        ensures read { Answers Self.Error.is_out_of_memory
+            (ByMarker (V.gives visitor) (marker_of name.now) (value self)) result }
+        ensures law { Returns (ByMarker (V.represents visitor) (marker_of name.now) (value self))
+            V.same Self.Error.is_out_of_memory result }
     {
-        self.deserialize_marked(mark_named(name), visitor)
+        self.deserialize_marked(marker_named(name), visitor)
     }
 
     /// Deserializes a value by its kind. A symbol, timestamp, uuid or decimal is reported as an
@@ -890,10 +890,10 @@ pub trait Deserializer: Sized + Drop {
     /// this element. For the symbol `a`, calls `visit_value` with it.
     #[tactic(auto, using(crate::proofs::Lists::list_of_trees, crate::proofs::Lists::entries_in_pairs))]
     final fn deserialize_any<V: Visitor>(self, visitor: V) -> Result<V::Value, Self::Error>
-        ensures read { Answers Self.Error.is_memory
+        ensures read { Answers Self.Error.is_out_of_memory
             (V.gives visitor (any_event (value self))) result }
-        ensures law { Returns (V.stands visitor (any_event (value self)))
-            V.same Self.Error.is_memory result }
+        ensures law { Returns (V.represents visitor (any_event (value self)))
+            V.same Self.Error.is_out_of_memory result }
     {
         match self.open() {
             Content::Null => visitor.visit_unit(),

@@ -3,5 +3,5 @@
 mod enum_of;
 mod variants;
 
-pub use enum_of::EnumOf;
-pub use variants::{DataOr, Never, OneOf, UnitOr, Variants};
+pub use enum_of::EnumSeed;
+pub use variants::{DataVariant, Never, Either, UnitVariant, Variants};

@@ -3,13 +3,13 @@
 ghost use Rattle.std.specs.Prelude.{◌≡◌, ℕ, List, [], ◌∷◌, Bool, true, MatchResult};
 ghost use Rattle.amqp_ser.specs.Tree.{Tree};
 ghost use Rattle.amqp_de.specs.Answers.{Answers};
-ghost use Rattle.amqp_de.specs.Fields.{FieldSource, by_position, by_name, must, may, end};
+ghost use Rattle.amqp_de.specs.Fields.{FieldSource, by_position, by_name, ReadsRequired, ReadsOptional, NoMoreFields};
 ghost use Rattle.amqp_de.specs.Present.{EndsEarly, required, optional, those_there, distinct_names};
 ghost use Rattle.amqp_de.specs.Reads.{Always, RestorableOption, SameOption};
 
 use crate::deserialize::Deserialize;
 use crate::deserializer::Deserializer;
-use crate::refusal::Refusal;
+use crate::deserialize_error::DeserializeError;
 use std::alloc::Global;
 use std::marker::PhantomData;
 
@@ -21,7 +21,7 @@ use std::marker::PhantomData;
 /// there are none. From the images of restorable fields they must read values with the same
 /// contents, or run out of memory. In a list, absent fields at the end may be left out. In a map,
 /// all absent fields are left out, and the law applies if the names are distinct.
-pub trait Fields: Sized + Drop {
+pub trait FieldSeeds: Sized + Drop {
     /// The values of the fields, as nested pairs.
     type Values: Drop;
 
@@ -43,7 +43,7 @@ pub trait Fields: Sized + Drop {
     /// Reads the fields from elements, by position. Further elements are ignored.
     ///
     /// # Errors
-    /// Returns `Refusal::invalid` if the element of a required field is missing, and the error of
+    /// Returns `DeserializeError::invalid_value` if the element of a required field is missing, and the error of
     /// the field's type if an element cannot be read.
     ///
     /// # Example
@@ -53,15 +53,15 @@ pub trait Fields: Sized + Drop {
         alloc: Global,
         elements: &mut D::Elements,
     ) -> Result<Self::Values, D::Error>
-        ensures read { Answers D.Error.is_memory
+        ensures read { Answers D.Error.is_out_of_memory
             (λ x. reads self.now x (by_position (D.items elements.old))) result }
         ensures law { (x : Self.Values) → restorable x → EndsEarly (images x) (D.items elements.old) →
-            MatchResult result (λ y. same y x) D.Error.is_memory };
+            MatchResult result (λ y. same y x) D.Error.is_out_of_memory };
 
     /// Reads the fields from the entries of a map, by name. Other entries are ignored.
     ///
     /// # Errors
-    /// Returns `Refusal::invalid` if the entry of a required field is missing, and the error of the
+    /// Returns `DeserializeError::invalid_value` if the entry of a required field is missing, and the error of the
     /// field's type if a value cannot be read.
     ///
     /// # Example
@@ -72,19 +72,19 @@ pub trait Fields: Sized + Drop {
         alloc: Global,
         entries: &mut D::Entries,
     ) -> Result<Self::Values, D::Error>
-        ensures read { Answers D.Error.is_memory
+        ensures read { Answers D.Error.is_out_of_memory
             (λ x. reads self.now x (by_name (D.pairs entries.old))) result }
         ensures law { (x : Self.Values) → restorable x →
             distinct_names (names self.now) ≡ true →
             D.pairs entries.old ≡ those_there (names self.now) (images x) →
-            MatchResult result (λ y. same y x) D.Error.is_memory };
+            MatchResult result (λ y. same y x) D.Error.is_out_of_memory };
 }
 
-#[tactic(auto, unfolding(crate::specs::Fields::end))]
-impl Fields for () {
+#[tactic(auto, unfolding(crate::specs::Fields::NoMoreFields))]
+impl FieldSeeds for () {
     type Values = ();
 
-    ghost reads = { λ _ _. end };
+    ghost reads = { λ _ _. NoMoreFields };
 
     ghost names = { λ _. [] };
 
@@ -113,7 +113,7 @@ impl Fields for () {
 
 /// A required field, and the fields after it.
 #[derive(Drop)]
-pub struct Must<V, R> {
+pub struct Required<V, R> {
     /// The name of the field.
     pub name: &'static str,
     /// The type of the field.
@@ -122,11 +122,11 @@ pub struct Must<V, R> {
     pub rest: R,
 }
 
-#[tactic(auto, unfolding(crate::specs::Fields::must))]
-impl<V: Deserialize, R: Fields> Fields for Must<V, R> {
+#[tactic(auto, unfolding(crate::specs::Fields::ReadsRequired))]
+impl<V: Deserialize, R: FieldSeeds> FieldSeeds for Required<V, R> {
     type Values = (V, R::Values);
 
-    ghost reads = { λ f x. must f.name.now V.reads x.0 (R.reads f.rest x.1) };
+    ghost reads = { λ f x. ReadsRequired f.name.now V.reads x.0 (R.reads f.rest x.1) };
 
     ghost names = { λ f. f.name.now ∷ R.names f.rest };
 
@@ -147,7 +147,7 @@ impl<V: Deserialize, R: Fields> Fields for Must<V, R> {
                 let rest = self.rest.read_elements::<D>(alloc, elements)?;
                 Ok((value, rest))
             }
-            None => Err(D::Error::invalid()),
+            None => Err(D::Error::invalid_value()),
         }
     }
 
@@ -162,14 +162,14 @@ impl<V: Deserialize, R: Fields> Fields for Must<V, R> {
                 let rest = self.rest.read_entries::<D>(alloc, entries)?;
                 Ok((value, rest))
             }
-            None => Err(D::Error::invalid()),
+            None => Err(D::Error::invalid_value()),
         }
     }
 }
 
 /// An optional field, which may be absent or null, and the fields after it.
 #[derive(Drop)]
-pub struct May<V, R> {
+pub struct Optional<V, R> {
     /// The name of the field.
     pub name: &'static str,
     /// The type of the field if it is present.
@@ -178,11 +178,11 @@ pub struct May<V, R> {
     pub rest: R,
 }
 
-#[tactic(auto, using(crate::proofs::LeftOut::present_value, crate::proofs::LeftOut::absent_same, crate::proofs::LeftOut::rest_there, crate::proofs::LeftOut::others_distinct), unfolding(crate::specs::Fields::may))]
-impl<V: Deserialize, R: Fields> Fields for May<V, R> {
+#[tactic(auto, using(crate::proofs::LeftOut::present_value, crate::proofs::LeftOut::absent_same, crate::proofs::LeftOut::rest_there, crate::proofs::LeftOut::others_distinct), unfolding(crate::specs::Fields::ReadsOptional))]
+impl<V: Deserialize, R: FieldSeeds> FieldSeeds for Optional<V, R> {
     type Values = (Option<V>, R::Values);
 
-    ghost reads = { λ f x. may f.name.now V.reads x.0 (R.reads f.rest x.1) };
+    ghost reads = { λ f x. ReadsOptional f.name.now V.reads x.0 (R.reads f.rest x.1) };
 
     ghost names = { λ f. f.name.now ∷ R.names f.rest };
 

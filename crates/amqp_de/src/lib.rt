@@ -14,7 +14,7 @@ pub mod laws;
 mod names;
 mod record;
 mod record_map;
-mod refusal;
+mod deserialize_error;
 mod seed;
 mod shown;
 mod untyped;
@@ -23,28 +23,28 @@ mod visitor;
 
 pub use access::{ContentOf, ElementsOf, EntriesOf, EnumAccessOf};
 pub use composite::read_composite;
-pub use enums::{DataOr, EnumOf, Never, OneOf, UnitOr, Variants};
-pub use fields::{Fields, May, Must};
+pub use enums::{DataVariant, EnumSeed, Never, Either, UnitVariant, Variants};
+pub use fields::{FieldSeeds, Optional, Required};
 pub use record::{Describes, Record, read, read_described};
 pub use record_map::{read_described_map, read_map};
-pub use seed::{ListOf, NamedOf, Of, Seed};
+pub use seed::{ListSeed, NamedSeed, TypeSeed, DeserializeSeed};
 
 /// The fields of a struct, in order: `named! { "name", "other"?, .. }`.
 ///
-/// A `?` marks an optional field, which may be absent or null. Inside [`ListOf`] or [`NamedOf`] it
-/// reads the values of the fields, which the pattern [`fields!`] destructures.
+/// A `?` marks an optional field, which may be absent or null. Inside [`ListSeed`] or [`NamedSeed`] it
+/// reads the values of the fields, which the pattern [`values!`] destructures.
 #[macro_export]
 macro_rules! named {
     () => { () };
     ($name:literal $(, $($rest:tt)*)?) => {
-        $crate::Must {
+        $crate::Required {
             name: $name,
             of: std::marker::PhantomData,
             rest: $crate::named!($($($rest)*)?)
         }
     };
     ($name:literal ? $(, $($rest:tt)*)?) => {
-        $crate::May {
+        $crate::Optional {
             name: $name,
             of: std::marker::PhantomData,
             rest: $crate::named!($($($rest)*)?)
@@ -52,12 +52,12 @@ macro_rules! named {
     };
 }
 
-/// The pattern of the values of fields, in order: `let fields! { name, other } = read(..)?;`.
+/// The pattern of the values of fields, in order: `let values! { name, other } = read(..)?;`.
 #[macro_export]
-macro_rules! fields {
+macro_rules! values {
     () => { () };
     ($value:ident $(, $($rest:tt)*)?) => {
-        ($value, $crate::fields!($($($rest)*)?))
+        ($value, $crate::values!($($($rest)*)?))
     };
 }
 
@@ -65,24 +65,24 @@ macro_rules! fields {
 /// `variants! { unit, newtype, named! { "side", "note"? }, .. }`.
 ///
 /// `unit` is a variant without a value, `newtype` is a variant with one value, and the value of a
-/// variant with fields is the list of them. Inside [`EnumOf`] it reads one of the variants, which
+/// variant with fields is the list of them. Inside [`EnumSeed`] it reads one of the variants, which
 /// the pattern [`variant!`] matches.
 #[macro_export]
 macro_rules! variants {
     () => { () };
     (unit $(, $($rest:tt)*)?) => {
-        $crate::UnitOr { rest: $crate::variants!($($($rest)*)?) }
+        $crate::UnitVariant { rest: $crate::variants!($($($rest)*)?) }
     };
     (newtype $(, $($rest:tt)*)?) => {
-        $crate::DataOr {
-            seed: $crate::Of(std::marker::PhantomData),
+        $crate::DataVariant {
+            seed: $crate::TypeSeed(std::marker::PhantomData),
             missing: "Expecting a value",
             rest: $crate::variants!($($($rest)*)?),
         }
     };
     ($fields:expr $(, $($rest:tt)*)?) => {
-        $crate::DataOr {
-            seed: $crate::ListOf($fields),
+        $crate::DataVariant {
+            seed: $crate::ListSeed($fields),
             missing: "Expecting Value::List",
             rest: $crate::variants!($($($rest)*)?),
         }
@@ -95,17 +95,17 @@ macro_rules! variants {
 /// empty type [`Never`].
 #[macro_export]
 macro_rules! variant {
-    (0, $value:pat) => { $crate::OneOf::This($value) };
-    (1, $value:pat) => { $crate::OneOf::Other($crate::variant!(0, $value)) };
-    (2, $value:pat) => { $crate::OneOf::Other($crate::variant!(1, $value)) };
-    (3, $value:pat) => { $crate::OneOf::Other($crate::variant!(2, $value)) };
-    (4, $value:pat) => { $crate::OneOf::Other($crate::variant!(3, $value)) };
-    (5, $value:pat) => { $crate::OneOf::Other($crate::variant!(4, $value)) };
+    (0, $value:pat) => { $crate::Either::This($value) };
+    (1, $value:pat) => { $crate::Either::Other($crate::variant!(0, $value)) };
+    (2, $value:pat) => { $crate::Either::Other($crate::variant!(1, $value)) };
+    (3, $value:pat) => { $crate::Either::Other($crate::variant!(2, $value)) };
+    (4, $value:pat) => { $crate::Either::Other($crate::variant!(3, $value)) };
+    (5, $value:pat) => { $crate::Either::Other($crate::variant!(4, $value)) };
     (none 0, $value:pat) => { $value };
-    (none 1, $value:pat) => { $crate::OneOf::Other($crate::variant!(none 0, $value)) };
-    (none 2, $value:pat) => { $crate::OneOf::Other($crate::variant!(none 1, $value)) };
-    (none 3, $value:pat) => { $crate::OneOf::Other($crate::variant!(none 2, $value)) };
-    (none 4, $value:pat) => { $crate::OneOf::Other($crate::variant!(none 3, $value)) };
-    (none 5, $value:pat) => { $crate::OneOf::Other($crate::variant!(none 4, $value)) };
-    (none 6, $value:pat) => { $crate::OneOf::Other($crate::variant!(none 5, $value)) };
+    (none 1, $value:pat) => { $crate::Either::Other($crate::variant!(none 0, $value)) };
+    (none 2, $value:pat) => { $crate::Either::Other($crate::variant!(none 1, $value)) };
+    (none 3, $value:pat) => { $crate::Either::Other($crate::variant!(none 2, $value)) };
+    (none 4, $value:pat) => { $crate::Either::Other($crate::variant!(none 3, $value)) };
+    (none 5, $value:pat) => { $crate::Either::Other($crate::variant!(none 4, $value)) };
+    (none 6, $value:pat) => { $crate::Either::Other($crate::variant!(none 5, $value)) };
 }

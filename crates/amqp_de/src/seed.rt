@@ -9,8 +9,8 @@ ghost use Rattle.amqp_de.specs.Present.{all_images, short_list, short_map, disti
 use crate::content::Content;
 use crate::deserialize::Deserialize;
 use crate::deserializer::Deserializer;
-use crate::fields::Fields;
-use crate::refusal::Refusal;
+use crate::fields::FieldSeeds;
+use crate::deserialize_error::DeserializeError;
 use std::alloc::Global;
 use std::marker::PhantomData;
 
@@ -21,7 +21,7 @@ use std::marker::PhantomData;
 /// an error other than out of memory only if there is no such value. From the trees `image`,
 /// `short` and, if `is_named` holds, `by_name` of a restorable value it must read a value with the
 /// same contents, or run out of memory.
-pub trait Seed: Sized + Drop {
+pub trait DeserializeSeed: Sized + Drop {
     /// The type of the value that is read.
     type Value: Drop;
 
@@ -52,22 +52,22 @@ pub trait Seed: Sized + Drop {
     /// Returns an error other than out of memory only if the tree is read as no value.
     ///
     /// # Example
-    /// `Of(PhantomData::<u32>)` reads the uint 1 as 1. The ulong 1 is invalid.
-    fn read<D: Deserializer>(self, alloc: Global, deserializer: D) -> Result<Self::Value, D::Error>
-        ensures read { Answers D.Error.is_memory (λ x. reads self (D.value deserializer) x) result }
+    /// `TypeSeed(PhantomData::<u32>)` reads the uint 1 as 1. The ulong 1 is invalid.
+    fn deserialize<D: Deserializer>(self, alloc: Global, deserializer: D) -> Result<Self::Value, D::Error>
+        ensures read { Answers D.Error.is_out_of_memory (λ x. reads self (D.value deserializer) x) result }
         ensures law { Restores image restorable same
-            D.Error.is_memory (D.value deserializer) result }
+            D.Error.is_out_of_memory (D.value deserializer) result }
         ensures short { Restores short restorable same
-            D.Error.is_memory (D.value deserializer) result }
+            D.Error.is_out_of_memory (D.value deserializer) result }
         ensures named { is_named self → Restores (by_name self) restorable same
-            D.Error.is_memory (D.value deserializer) result };
+            D.Error.is_out_of_memory (D.value deserializer) result };
 }
 
 /// A seed that reads a value of the type `T`.
 #[derive(Drop)]
-pub struct Of<T>(pub PhantomData<T>);
+pub struct TypeSeed<T>(pub PhantomData<T>);
 
-impl<T: Deserialize> Seed for Of<T> {
+impl<T: Deserialize> DeserializeSeed for TypeSeed<T> {
     type Value = T;
 
     ghost reads = { λ _. T.reads };
@@ -84,17 +84,17 @@ impl<T: Deserialize> Seed for Of<T> {
 
     ghost is_named = { λ _. ⊥ };
 
-    fn read<D: Deserializer>(self, alloc: Global, deserializer: D) -> Result<T, D::Error> {
+    fn deserialize<D: Deserializer>(self, alloc: Global, deserializer: D) -> Result<T, D::Error> {
         T::deserialize(alloc, deserializer)
     }
 }
 
 /// A seed that reads fields from a list.
 #[derive(Drop)]
-pub struct ListOf<F>(pub F);
+pub struct ListSeed<F>(pub F);
 
 #[tactic(auto, using(crate::proofs::Lists::list_of_trees, crate::proofs::LeftOut::full, crate::proofs::LeftOut::cut), unfolding(crate::specs::Fields::OnFields, crate::specs::Present::short_list))]
-impl<F: Fields> Seed for ListOf<F> {
+impl<F: FieldSeeds> DeserializeSeed for ListSeed<F> {
     type Value = F::Values;
 
     ghost reads = { λ s t x. OnFields (F.reads s.0 x) t };
@@ -111,7 +111,7 @@ impl<F: Fields> Seed for ListOf<F> {
 
     ghost is_named = { λ _. ⊥ };
 
-    fn read<D: Deserializer>(self, alloc: Global, deserializer: D) -> Result<F::Values, D::Error> {
+    fn deserialize<D: Deserializer>(self, alloc: Global, deserializer: D) -> Result<F::Values, D::Error> {
         match deserializer.open() {
             Content::List(mut fields) => {
                 match self.0.read_elements::<D>(alloc, &mut fields) {
@@ -119,17 +119,17 @@ impl<F: Fields> Seed for ListOf<F> {
                     Err(error) => Err(error),
                 }
             }
-            _ => Err(D::Error::invalid()),
+            _ => Err(D::Error::invalid_value()),
         }
     }
 }
 
 /// A seed that reads fields from a list or an array, by position, or from a map, by name.
 #[derive(Drop)]
-pub struct NamedOf<F>(pub F);
+pub struct NamedSeed<F>(pub F);
 
 #[tactic(auto, using(crate::proofs::Lists::list_of_trees, crate::proofs::Lists::entries_in_pairs, crate::proofs::LeftOut::full, crate::proofs::LeftOut::cut, crate::proofs::LeftOut::entries), unfolding(crate::specs::Fields::OnNamed, crate::specs::Present::short_list, crate::specs::Present::short_map))]
-impl<F: Fields> Seed for NamedOf<F> {
+impl<F: FieldSeeds> DeserializeSeed for NamedSeed<F> {
     type Value = F::Values;
 
     ghost reads = { λ s t x. OnNamed (F.reads s.0 x) t };
@@ -146,7 +146,7 @@ impl<F: Fields> Seed for NamedOf<F> {
 
     ghost is_named = { λ s. distinct_names (F.names s.0) ≡ true };
 
-    fn read<D: Deserializer>(self, alloc: Global, deserializer: D) -> Result<F::Values, D::Error> {
+    fn deserialize<D: Deserializer>(self, alloc: Global, deserializer: D) -> Result<F::Values, D::Error> {
         match deserializer.open() {
             Content::List(mut elements) => {
                 match self.0.read_elements::<D>(alloc, &mut elements) {
@@ -164,7 +164,7 @@ impl<F: Fields> Seed for NamedOf<F> {
                 Ok(values) => Ok(values),
                 Err(error) => Err(error),
             },
-            _ => Err(D::Error::invalid()),
+            _ => Err(D::Error::invalid_value()),
         }
     }
 }

@@ -2,7 +2,7 @@
 
 ghost use Rattle.std.specs.Prelude.{◌⊎◌, IsTrue};
 
-use crate::refusal::Refusal;
+use crate::deserialize_error::DeserializeError;
 use amqp_data::{ByteBuf, F32Bits, F64Bits};
 
 /// The visits of a visitor, by the kind of event.
@@ -63,14 +63,14 @@ pub enum Plain {
     ByteBuf(ByteBuf),
 }
 
-/// Returns the error of a visit that is not implemented: `Refusal::invalid` if `is_refused` is
-/// `true`, and `Refusal::memory` otherwise.
-pub fn unwritten<E: Refusal>(is_refused: bool) -> E
-    ensures { IsTrue is_refused ⊎ E.is_memory result }
+/// Returns the error of a visit that is not implemented: `DeserializeError::invalid_value` if `is_refused` is
+/// `true`, and `DeserializeError::out_of_memory` otherwise.
+pub fn unwritten<E: DeserializeError>(is_refused: bool) -> E
+    ensures { IsTrue is_refused ⊎ E.is_out_of_memory result }
 {
     if is_refused {
-        E::invalid()
+        E::invalid_value()
     } else {
-        E::memory()
+        E::out_of_memory()
     }
 }

@@ -3,17 +3,17 @@
 ghost use Rattle.std.specs.Prelude.{◌≡◌, ◌↔◌};
 ghost use Rattle.amqp_data.specs.declared.error.Error.TheVariants.{OutOfMemory};
 
-use crate::refusal::Refusal;
+use crate::deserialize_error::DeserializeError;
 use amqp_data::Error;
 
 /// Converts an error of encoding. The result is out of memory if and only if `error` is
 /// `OutOfMemory`.
-pub fn unwritable<E: Refusal>(error: Error) -> E
-    ensures { E.is_memory result ↔ error ≡ OutOfMemory }
+pub fn unwritable<E: DeserializeError>(error: Error) -> E
+    ensures { E.is_out_of_memory result ↔ error ≡ OutOfMemory }
 {
     match error {
-        Error::OutOfMemory => E::memory(),
+        Error::OutOfMemory => E::out_of_memory(),
         Error::TooLong => E::too_long(),
-        _ => E::invalid(),
+        _ => E::invalid_value(),
     }
 }

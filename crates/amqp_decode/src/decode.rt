@@ -6,7 +6,7 @@ ghost use Rattle.amqp_ser.specs.Tree.{Tree};
 ghost use Rattle.amqp_value.specs.TreeOf.{tree_of};
 ghost use Rattle.amqp_decode.specs.Spells.{Spells};
 
-use crate::read::read_frame;
+use crate::read::read_encoded_value;
 use amqp_data::Error;
 use amqp_value::Value;
 use std::alloc::Global;
@@ -30,7 +30,7 @@ use std::alloc::Global;
 /// # Memory
 /// Allocates from `alloc`. Buffers grow element by element, and no capacity is reserved for a
 /// count. But an array whose elements have no bytes, such as nulls, grows by its count:
-/// `decode_value_within` limits it.
+/// `decode_value_limited` limits it.
 ///
 /// # Example
 /// `43`, `5200` and `7000000000` are the uint 0.
@@ -38,7 +38,7 @@ pub fn decode_value(alloc: Global, bytes: &[u8]) -> Result<Value, Error>
     ensures ok { IfOk result (λ v. Spells 256 bytes.now (tree_of v)) }
     ensures err { IfErr result (λ e. ¬ (e ≡ OutOfMemory) → (t : Tree) → ¬ Spells 256 bytes.now t) }
 {
-    decode_value_within(alloc, bytes, u32::MAX)
+    decode_value_limited(alloc, bytes, u32::MAX)
 }
 
 /// Decodes one encoded value in which no array has more than `elements` elements without bytes.
@@ -55,12 +55,12 @@ pub fn decode_value(alloc: Global, bytes: &[u8]) -> Result<Value, Error>
 /// # Example
 /// `e0020340`, an array of three nulls, fails with a limit of two elements and is accepted with a
 /// limit of three.
-pub fn decode_value_within(alloc: Global, bytes: &[u8], elements: u32) -> Result<Value, Error>
+pub fn decode_value_limited(alloc: Global, bytes: &[u8], elements: u32) -> Result<Value, Error>
     ensures ok { IfOk result (λ v. Spells 256 bytes.now (tree_of v)) }
     ensures err { IfErr result (λ e. ¬ (e ≡ OutOfMemory) → (t : Tree) → ¬ Spells 256 bytes.now t) }
 {
     let mut rest = bytes;
-    let value = read_frame(alloc, &mut rest, 256, elements)?;
+    let value = read_encoded_value(alloc, &mut rest, 256, elements)?;
     if rest.is_empty() {
         Ok(value)
     } else {

@@ -15,4 +15,4 @@ mod read;
 mod scalar;
 mod stack;
 
-pub use decode::{decode_value, decode_value_within};
+pub use decode::{decode_value, decode_value_limited};

@@ -18,7 +18,7 @@ use std::alloc::Global;
 // Reads the first encoded value of `bytes`, and leaves the bytes after it. An array of more than
 // `elements` elements without bytes fails with `OutOfMemory`.
 #[cycle(read)]
-pub fn read_frame(
+pub fn read_encoded_value(
     alloc: Global,
     bytes: &mut &[u8],
     depth: u16,
@@ -30,7 +30,7 @@ pub fn read_frame(
     read_frame_on(alloc, bytes, depth, elements, &mut Vec::new(alloc))
 }
 
-// Like `read_frame`. The stack contains the elements read so far of the enclosing lists, and is
+// Like `read_encoded_value`. The stack contains the elements read so far of the enclosing lists, and is
 // unchanged if the call succeeds.
 #[cycle(read)]
 #[inline(always)]
@@ -146,7 +146,7 @@ fn read_content(
         }
         PayloadShape::Map(count) => {
             let (count, body) = read_count(count, content)?;
-            read_map(alloc, count, body, depth, elements)
+            read_entries(alloc, count, body, depth, elements)
         }
         PayloadShape::Array(count) => {
             let (count, body) = read_count(count, content)?;
@@ -186,7 +186,7 @@ fn read_list(
 // Reads `count` keys and values, alternately, that must fill `body`.
 #[cycle(read)]
 #[inline(never)]
-fn read_map(
+fn read_entries(
     alloc: Global,
     count: u32,
     body: &[u8],
@@ -203,8 +203,8 @@ fn read_map(
     let mut pairs = Gathered::new(alloc);
     let mut rest = body;
     for _ in 0..count / 2 {
-        let key = read_frame(alloc, &mut rest, depth, elements)?;
-        let value = read_frame(alloc, &mut rest, depth, elements)?;
+        let key = read_encoded_value(alloc, &mut rest, depth, elements)?;
+        let value = read_encoded_value(alloc, &mut rest, depth, elements)?;
         pairs.insert(key, value)?;
     }
     if rest.is_empty() {

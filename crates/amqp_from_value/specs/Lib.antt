@@ -1,3 +1,3 @@
 -- Contracts of public items depend on both of these.
-pub mod Held
+pub mod DeserializerTrees
 pub mod Access

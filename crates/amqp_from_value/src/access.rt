@@ -51,11 +51,11 @@ impl de::SeqAccess for SeqAccess {
 #[derive(Drop)]
 pub struct MapAccess {
     entries: Entries,
-    owed: Option<Deserializer>,
+    pending_value: Option<Deserializer>,
 }
 
 impl MapAccess {
-    ghost use Rattle.amqp_from_value.specs.Access.{map_left, map_owed};
+    ghost use Rattle.amqp_from_value.specs.Access.{map_left, map_pending_value};
 
     /// Returns an accessor of these entries, with no pending value.
     ///
@@ -63,40 +63,40 @@ impl MapAccess {
     /// None.
     pub fn new(alloc: Global, pairs: OrderedMap<Value, Value>) -> MapAccess
         ensures left { map_left result ≡ map (λ p. (tree_of p.0, tree_of p.1)) (entries_of pairs) }
-        ensures owed { map_owed result ≡ None }
+        ensures pending_value { map_pending_value result ≡ None }
     {
         MapAccess {
             entries: Entries::new(alloc, pairs),
-            owed: None,
+            pending_value: None,
         }
     }
 }
 
 impl de::MapAccess for MapAccess {
-    ghost use Rattle.amqp_from_value.specs.Access.{map_left, map_owed};
+    ghost use Rattle.amqp_from_value.specs.Access.{map_left, map_pending_value};
 
     type Error = Error;
 
     type Item = Deserializer;
 
-    ghost owed = { map_owed };
+    ghost pending_value = { map_pending_value };
 
     ghost left = { map_left };
 
-    fn owes(&self) -> bool {
-        self.owed.is_some()
+    fn has_pending_value(&self) -> bool {
+        self.pending_value.is_some()
     }
 
     fn next_pair(&mut self) -> Option<(Deserializer, Deserializer)> {
         <Deserializer as de::Deserializer>::next_pair(&mut self.entries)
     }
 
-    fn owe(&mut self, value: Deserializer) {
-        self.owed = Some(value);
+    fn set_pending_value(&mut self, value: Deserializer) {
+        self.pending_value = Some(value);
     }
 
-    fn take_owed(&mut self) -> Option<Deserializer> {
-        self.owed.take()
+    fn take_pending_value(&mut self) -> Option<Deserializer> {
+        self.pending_value.take()
     }
 }
 

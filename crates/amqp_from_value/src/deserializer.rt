@@ -36,21 +36,21 @@ pub struct Entries {
 }
 
 impl Deserializer {
-    ghost use Rattle.amqp_from_value.specs.Held.{held};
+    ghost use Rattle.amqp_from_value.specs.DeserializerTrees.{value_tree};
 
     /// Returns a deserializer of the value.
     ///
     /// # Memory
     /// None.
     pub fn new(alloc: Global, value: Value) -> Deserializer
-        ensures { held result ≡ tree_of value }
+        ensures { value_tree result ≡ tree_of value }
     {
         Deserializer { alloc, value }
     }
 }
 
 impl Elements {
-    ghost use Rattle.amqp_from_value.specs.Held.{elements_left};
+    ghost use Rattle.amqp_from_value.specs.DeserializerTrees.{elements_left};
 
     /// Returns the elements of a list or an array.
     ///
@@ -67,7 +67,7 @@ impl Elements {
 }
 
 impl Entries {
-    ghost use Rattle.amqp_from_value.specs.Held.{unread_entries};
+    ghost use Rattle.amqp_from_value.specs.DeserializerTrees.{unread_entries};
 
     /// Returns the entries of a map.
     ///
@@ -84,7 +84,7 @@ impl Entries {
 }
 
 impl de::Deserializer for Deserializer {
-    ghost use Rattle.amqp_from_value.specs.Held.{held, elements_left, unread_entries};
+    ghost use Rattle.amqp_from_value.specs.DeserializerTrees.{value_tree, elements_left, unread_entries};
 
     type Error = Error;
 
@@ -92,7 +92,7 @@ impl de::Deserializer for Deserializer {
 
     type Entries = Entries;
 
-    ghost value = { held };
+    ghost value = { value_tree };
 
     ghost items = { elements_left };
 

@@ -6,12 +6,12 @@ ghost use Rattle.amqp_de.specs.declared.shown.Visit.TheVariants as kind;
 
 use amqp_data::{ByteBuf, Error, OrderedMap, markers};
 use amqp_de::de::{
-    Deserialize, Deserializer as Reads, EnumAccess as Enum, MapAccess as Entries, Plain, Refusal,
+    Deserialize, Deserializer as Reads, EnumAccess as Enum, MapAccess as Entries, Plain, DeserializeError,
     SeqAccess as Elements, VariantAccess as _, Visit, Visitor,
 };
-use amqp_de::{EnumAccessOf, Of};
+use amqp_de::{EnumAccessOf, TypeSeed};
 use amqp_from_value::{Deserializer, MapAccess, SeqAccess};
-use amqp_ser::Mark;
+use amqp_ser::Marker;
 use amqp_value::Value;
 use std::alloc::Global;
 use std::marker::PhantomData;
@@ -34,7 +34,7 @@ fn elements(alloc: Global) -> Result<bool, Error> {
 
 fn are_one_and_two<A: Elements>(alloc: Global, access: &mut A) -> Result<bool, A::Error> {
     let first = access.next_element::<Boxed>(alloc)?;
-    let second = access.next_element_seed(alloc, Of(PhantomData::<Boxed>))?;
+    let second = access.next_element_seed(alloc, TypeSeed(PhantomData::<Boxed>))?;
     Ok(is(first, 1) && is(second, 2))
 }
 
@@ -60,8 +60,8 @@ fn has_first<A: Entries>(alloc: Global, access: &mut A) -> Result<bool, A::Error
 }
 
 fn has_second<A: Entries>(alloc: Global, access: &mut A) -> Result<bool, A::Error> {
-    let key = access.next_key_seed(alloc, Of(PhantomData::<Boxed>))?;
-    Ok(is(key, 3) && *access.next_value_seed(alloc, Of(PhantomData::<Boxed>))? == 4)
+    let key = access.next_key_seed(alloc, TypeSeed(PhantomData::<Boxed>))?;
+    Ok(is(key, 3) && *access.next_value_seed(alloc, TypeSeed(PhantomData::<Boxed>))? == 4)
 }
 
 fn entries(alloc: Global) -> Result<bool, Error> {
@@ -70,7 +70,7 @@ fn entries(alloc: Global) -> Result<bool, Error> {
 
 fn are_two_pairs<A: Entries>(alloc: Global, access: &mut A) -> Result<bool, A::Error> {
     let first = access.next_entry::<Boxed, Boxed>(alloc)?;
-    let seed = || Of(PhantomData::<Boxed>);
+    let seed = || TypeSeed(PhantomData::<Boxed>);
     let second = access.next_entry_seed(alloc, seed(), seed())?;
     Ok(is_pair(first, 1, 2) && is_pair(second, 3, 4))
 }
@@ -95,8 +95,8 @@ fn is_variant<A: Enum>(alloc: Global, access: A) -> Result<bool, A::Error> {
 }
 
 fn is_variant_by_seed<A: Enum>(alloc: Global, access: A) -> Result<bool, A::Error> {
-    let (index, content) = access.variant_seed(alloc, Of(PhantomData::<Boxed>))?;
-    let value = content.newtype_variant_seed(alloc, Of(PhantomData::<Boxed>))?;
+    let (index, content) = access.variant_seed(alloc, TypeSeed(PhantomData::<Boxed>))?;
+    let value = content.newtype_variant_seed(alloc, TypeSeed(PhantomData::<Boxed>))?;
     Ok(*index == 1 && *value == 13)
 }
 
@@ -109,7 +109,7 @@ impl Visitor for Bytes {
 
     ghost gives = { λ _ e _. visit_of e ≡ kind.Plain };
 
-    ghost stands = { λ _ _ _. ⊥ };
+    ghost represents = { λ _ _ _. ⊥ };
 
     ghost same = { λ x y. x ≡ y };
 
@@ -117,7 +117,7 @@ impl Visitor for Bytes {
         !matches!(visit, Visit::Plain)
     }
 
-    fn visit_plain<E: Refusal>(self, _plain: Plain) -> Result<Visit, E> {
+    fn visit_plain<E: DeserializeError>(self, _plain: Plain) -> Result<Visit, E> {
         Ok(Visit::Plain)
     }
 }
@@ -134,7 +134,7 @@ fn is_written<D: Reads>(deserializer: D) -> Result<bool, D::Error> {
 
 fn is_marked<D: Reads>(deserializer: D) -> Result<bool, D::Error> {
     Ok(matches!(
-        deserializer.deserialize_marked(Mark::Lazy, Bytes)?,
+        deserializer.deserialize_marked(Marker::Lazy, Bytes)?,
         Visit::Plain
     ))
 }

@@ -1,8 +1,8 @@
 //! A value that serializes an element again if that fails.
 
 ghost use Rattle.std.specs.Prelude.{[], ◌∷◌};
-ghost use Rattle.amqp_ser.specs.Compounds.{whole};
-ghost use Rattle.amqp_ser.specs.declared.kind.Kind.TheVariants.{List};
+ghost use Rattle.amqp_ser.specs.Compounds.{tree_of_parts};
+ghost use Rattle.amqp_ser.specs.declared.kind.CompoundKind.TheVariants.{List};
 
 use amqp_ser::{Serialize, Serializer};
 
@@ -11,7 +11,7 @@ use amqp_ser::{Serialize, Serializer};
 pub struct Again<T>(pub T);
 
 impl<T: Serialize> Serialize for Again<T> {
-    ghost tree = { λ v. whole List (T.tree v.0 ∷ []) };
+    ghost tree = { λ v. tree_of_parts List (T.tree v.0 ∷ []) };
 
     fn serialize<S: Serializer>(&self, serializer: &mut S) -> Result<S::Ok, S::Error> {
         let mut list = serializer.serialize_seq(None)?;

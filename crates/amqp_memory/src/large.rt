@@ -3,7 +3,7 @@
 use crate::report::report;
 use crate::{accessors, conversions, own_types, reading, serializer, written};
 use amqp_data::{Array, ByteBuf, Error, OrderedMap, Symbol, TransparentVec};
-use amqp_decode::{decode_value, decode_value_within};
+use amqp_decode::{decode_value, decode_value_limited};
 use amqp_frame::{LazyValue, SliceReader};
 use amqp_from_value::from_value;
 use amqp_to_value::{TryFromSerializable, to_value};
@@ -135,13 +135,13 @@ fn decoded(alloc: Global) -> Result<bool, Error> {
 // occupy a mebibyte with a limit of their number and of one less.
 fn within(alloc: Global) -> Result<bool, Error> {
     let bytes = long_frame(alloc)?;
-    let value = decode_value_within(alloc, &bytes, 0)?;
+    let value = decode_value_limited(alloc, &bytes, 0)?;
     Ok(nulls(alloc)? && written::is(alloc, &value, &bytes)?)
 }
 
 fn nulls(alloc: Global) -> Result<bool, Error> {
     let nulls = b"\xf0\0\0\0\x05\0\0\x80\0\x40";
-    let granted = decode_value_within(alloc, nulls, 32_768)?;
+    let granted = decode_value_limited(alloc, nulls, 32_768)?;
     let all = matches!(&granted, Value::Array(items) if items.as_inner().len() == 32_768);
     Ok(all && own_types::is_out_of_memory(alloc, nulls, 32_767))
 }
@@ -156,15 +156,15 @@ fn read(alloc: Global) -> Result<bool, Error> {
 
 fn lazy(alloc: Global) -> Result<bool, Error> {
     let bytes = long_frame(alloc)?;
-    let held = LazyValue::from_reader(alloc, &mut SliceReader::new(&bytes))?;
-    let read: LazyValue = from_value(alloc, to_value(alloc, &held)?)?;
-    Ok(read == held)
+    let compound = LazyValue::from_reader(alloc, &mut SliceReader::new(&bytes))?;
+    let read: LazyValue = from_value(alloc, to_value(alloc, &compound)?)?;
+    Ok(read == compound)
 }
 
 fn held(alloc: Global) -> Result<bool, Error> {
     let binary = ByteBuf::from(Vec::from_elem(alloc, 1u8, MEBIBYTE)?);
-    let held = to_lazy_value(alloc, &binary)?;
-    Ok(held.as_slice() == long_frame(alloc)?.as_slice())
+    let compound = to_lazy_value(alloc, &binary)?;
+    Ok(compound.as_slice() == long_frame(alloc)?.as_slice())
 }
 
 fn line(alloc: Global) -> Result<bool, Error> {

@@ -20,14 +20,14 @@
 //! | conversions | `Value::try_from_str`, `Value::try_from_described`, `Value::try_from_array`, `Value::try_from_vec` |
 //! | the same | `Value::try_from_btree_map`, `Value::try_from_ordered_map`, `Vec::try_from`, `Array::try_from` |
 //! | the same | `OrderedMap::try_from`, `BTreeMap::try_from`, `HashMap::try_from`, `IndexMap::try_from` |
-//! | decoded values, types of one's own | `decode_value`, `decode_value_within` |
+//! | decoded values, types of one's own | `decode_value`, `decode_value_limited` |
 //! | images, decoded values | `Gathered::new`, `Gathered::into_value` |
 //! | types out of values, lazy values | `from_value`, `Deserializer::new` |
-//! | types of one's own | `restored`, `read`, `read_composite`, `read_described`, `Of::read`, `ListOf::read`, `NamedOf::read` |
+//! | types of one's own | `round_trip`, `read`, `read_composite`, `read_described`, `TypeSeed::deserialize`, `ListSeed::deserialize`, `NamedSeed::deserialize` |
 //! | the same | `read_map`, `read_described_map` |
-//! | the same | `Fields::read_elements`, `Must::read_elements`, `May::read_elements`, `Elements::new` |
-//! | the same | `Fields::read_entries`, `Must::read_entries`, `May::read_entries`, `Entries::new`, `Seed::read` |
-//! | the same | `Variants::read`, `EnumOf::read`, `UnitOr::read`, `DataOr::read` |
+//! | the same | `FieldSeeds::read_elements`, `Required::read_elements`, `Optional::read_elements`, `Elements::new` |
+//! | the same | `FieldSeeds::read_entries`, `Required::read_entries`, `Optional::read_entries`, `Entries::new`, `DeserializeSeed::deserialize` |
+//! | the same | `Variants::deserialize`, `EnumSeed::deserialize`, `UnitVariant::deserialize`, `DataVariant::deserialize` |
 //! | calls of a serializer | `Serializer::serialize_str`, `Serializer::serialize_bytes`, `Serializer::serialize_some` |
 //! | the same | `Serializer::serialize_newtype_struct`, `Serializer::serialize_newtype_variant` |
 //! | the same | `Serializer::serialize_described`, `Serializer::end_part`, `Serializer::end_descriptor` |

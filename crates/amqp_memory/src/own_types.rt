@@ -4,9 +4,9 @@ use crate::conversions::pairs;
 use crate::large::MEBIBYTE;
 use amqp_data::{Array, Described, Descriptor, Error, OrderedMap, Symbol, TransparentVec};
 use amqp_de::de::Deserialize;
-use amqp_decode::{decode_value, decode_value_within};
+use amqp_decode::{decode_value, decode_value_limited};
 use amqp_from_value::from_value;
-use amqp_restore::{Restore, restored};
+use amqp_round_trip::{RoundTrip, round_trip};
 use amqp_ser::Serialize;
 use amqp_to_value::to_value;
 use example_reading::{Calibration, Day, Limits, Position, Rain, Sky, Title};
@@ -24,8 +24,8 @@ pub fn all(alloc: Global) -> Result<bool, Error> {
 }
 
 // Returns whether the value round-trips.
-fn comes_back<T: Restore + PartialEq>(alloc: Global, value: &T) -> Result<bool, Error> {
-    Ok(restored(alloc, value)? == *value)
+fn comes_back<T: RoundTrip + PartialEq>(alloc: Global, value: &T) -> Result<bool, Error> {
+    Ok(round_trip(alloc, value)? == *value)
 }
 
 // Returns whether the value is read from its image.
@@ -143,14 +143,14 @@ fn untyped(alloc: Global) -> Result<bool, Error> {
 // Decodes three nulls with a limit of 3 and of 2 elements without bytes.
 fn bounded(alloc: Global) -> Result<bool, Error> {
     let nulls = b"\xe0\x02\x03\x40";
-    let granted = decode_value_within(alloc, nulls, 3)?;
+    let granted = decode_value_limited(alloc, nulls, 3)?;
     Ok(granted == decode_value(alloc, nulls)? && is_out_of_memory(alloc, nulls, 2))
 }
 
 /// Returns whether decoding with this limit on elements without bytes fails with `OutOfMemory`.
 pub fn is_out_of_memory(alloc: Global, bytes: &[u8], elements: u32) -> bool {
     matches!(
-        decode_value_within(alloc, bytes, elements),
+        decode_value_limited(alloc, bytes, elements),
         Err(Error::OutOfMemory)
     )
 }

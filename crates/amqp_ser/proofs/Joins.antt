@@ -4,8 +4,8 @@ use Rattle.amqp_ser.specs.Tree.{Tree, Trees, no_trees, more, count}
 use Rattle.amqp_ser.specs.Compounds.{all_trees, prepend, as_kind}
 use Rattle.amqp_ser.specs.Encoding.{encoding, payload, encoding_each, payload_each, constructor}
 use Rattle.amqp_ser.specs.Writable.{same_constructor, each_constructor, uniform_arrays, uniform_arrays_each, within_limits, within_limits_each, inside, inside_each}
-use Rattle.amqp_ser.specs.declared.kind.Kind.{Kind}
-use Rattle.amqp_ser.specs.declared.kind.Kind.TheVariants as kind
+use Rattle.amqp_ser.specs.declared.kind.CompoundKind.{CompoundKind}
+use Rattle.amqp_ser.specs.declared.kind.CompoundKind.TheVariants as kind
 use Rattle.amqp_ser.proofs.Bools.{and_assoc}
 
 abbrev pub join : Trees → Trees → Trees
@@ -59,7 +59,7 @@ pub inside-join : (ts us : Trees) → inside_each (join ts us) ≡ (inside_each 
 inside-join no_trees us = refl
 inside-join (more t ts) us = ap (λ b. inside t && b) (inside-join ts us) ∙ sym (and_assoc (inside t) (inside_each ts) (inside_each us))
 
-pub kind_none : (k : Kind) → as_kind k None ≡ None
+pub kind_none : (k : CompoundKind) → as_kind k None ≡ None
 kind_none kind.List = refl
 kind_none kind.Map = refl
 kind_none (kind.Variant i) = refl

@@ -4,8 +4,8 @@ use Rattle.amqp_frame.specs.Code.{is_primitive_code, category, size_width, body_
 use Rattle.amqp_frame.specs.Whole.{is_frame}
 use Rattle.amqp_ser.specs.Tree.{Scalar, null, bool, ubyte, ushort, uint, ulong, byte, short, int, long, float, double, decimal32, char, timestamp, binary, string, symbol, name, code, Tree, scalar, list, array, map, described, variant, lazy, transparent, no_pairs, pair, trees_of}
 use Rattle.amqp_ser.specs.Encoding.{encoding}
-use Rattle.amqp_ser.specs.Marked.{marked}
-use Rattle.amqp_ser.specs.declared.mark.Mark.TheVariants as mark
+use Rattle.amqp_ser.specs.Marked.{with_marker}
+use Rattle.amqp_ser.specs.declared.marker.Marker.TheVariants as marker
 use Rattle.amqp_ser.specs.Writable.{uniform_arrays, placed, within_limits, writable}
 
 abbrev pub digit : ℕ → ℕ
@@ -233,27 +233,27 @@ nested_transparent_is_written : writable (transparent (trees_of (transparent (tr
 nested_transparent_is_written = refl
 
 -- Lazy trees.
-lazy_string : marked mark.Lazy (Some (scalar (binary (bytes (codes "a10161"))))) ≡ Some (lazy (bytes (codes "a10161")))
+lazy_string : with_marker marker.Lazy (Some (scalar (binary (bytes (codes "a10161"))))) ≡ Some (lazy (bytes (codes "a10161")))
 unfolding is_frame is_primitive_code category size_width body_len
 lazy_string = refl
 
-lazy_described : marked mark.Lazy (Some (scalar (binary (bytes (codes "00a1016145"))))) ≡ Some (lazy (bytes (codes "00a1016145")))
+lazy_described : with_marker marker.Lazy (Some (scalar (binary (bytes (codes "00a1016145"))))) ≡ Some (lazy (bytes (codes "00a1016145")))
 unfolding is_frame is_primitive_code category size_width body_len
 lazy_described = refl
 
-no_lazy_of_a_prefix : marked mark.Lazy (Some (scalar (binary (bytes (codes "a10561"))))) ≡ None
+no_lazy_of_a_prefix : with_marker marker.Lazy (Some (scalar (binary (bytes (codes "a10561"))))) ≡ None
 unfolding is_frame is_primitive_code category size_width body_len
 no_lazy_of_a_prefix = refl
 
-no_lazy_of_two : marked mark.Lazy (Some (scalar (binary (bytes (codes "4040"))))) ≡ None
+no_lazy_of_two : with_marker marker.Lazy (Some (scalar (binary (bytes (codes "4040"))))) ≡ None
 unfolding is_frame is_primitive_code category size_width body_len
 no_lazy_of_two = refl
 
-no_lazy_of_none : marked mark.Lazy (Some (scalar (binary []))) ≡ None
+no_lazy_of_none : with_marker marker.Lazy (Some (scalar (binary []))) ≡ None
 unfolding is_frame
 no_lazy_of_none = refl
 
-no_lazy_of_a_string : marked mark.Lazy (Some (scalar (string (bytes (codes "40"))))) ≡ None
+no_lazy_of_a_string : with_marker marker.Lazy (Some (scalar (string (bytes (codes "40"))))) ≡ None
 no_lazy_of_a_string = refl
 
 list_of_lazy : encoding (list_of (lazy (bytes (codes "40")) ∷ lazy (bytes (codes "a10161")) ∷ [])) ≡ bytes (codes "c0050240a10161")

@@ -1,8 +1,8 @@
 -- The trees of compounds. If one part has no tree, the compound has none.
 use Rattle.std.specs.Prelude.{ℕ, List, [], ◌∷◌, Option, Some, None, Bool, true, false, not}
 use Rattle.amqp_ser.specs.Tree.{Tree, Trees, Pairs, list, map, variant, no_trees, more, no_pairs, pair}
-use Rattle.amqp_ser.specs.declared.kind.Kind.{Kind}
-use Rattle.amqp_ser.specs.declared.kind.Kind.TheVariants as kind
+use Rattle.amqp_ser.specs.declared.kind.CompoundKind.{CompoundKind}
+use Rattle.amqp_ser.specs.declared.kind.CompoundKind.TheVariants as kind
 
 -- The trees of a part and of the parts after it.
 abbrev pub prepend : Option Tree → Option Trees → Option Trees
@@ -41,7 +41,7 @@ as_variant i (Some t) = Some (variant i t)
 
 -- The tree of each kind: the list of the elements, the map of the keys and values, the variant of
 -- the list of the fields, the variant of the one value, and the one value itself.
-abbrev pub as_kind : Kind → Option Trees → Option Tree
+abbrev pub as_kind : CompoundKind → Option Trees → Option Tree
 as_kind k None = None
 as_kind kind.List (Some ts) = Some (list ts)
 as_kind kind.Map (Some ts) = as_map (in_pairs ts)
@@ -50,8 +50,8 @@ as_kind (kind.NewtypeVariant i) (Some ts) = as_variant i (only ts)
 as_kind kind.Single (Some ts) = only ts
 
 -- The tree of a compound of this kind with these parts.
-unfoldable pub whole : Kind → List (Option Tree) → Option Tree
-whole k ps = as_kind k (all_trees ps)
+unfoldable pub tree_of_parts : CompoundKind → List (Option Tree) → Option Tree
+tree_of_parts k ps = as_kind k (all_trees ps)
 
 -- The number of parts is even.
 abbrev pub paired : List (Option Tree) → Bool
@@ -59,7 +59,7 @@ paired [] = true
 paired (p ∷ ps) = not (paired ps)
 
 -- The compound may end after these parts.
-abbrev pub complete : Kind → List (Option Tree) → Bool
+abbrev pub complete : CompoundKind → List (Option Tree) → Bool
 complete kind.List ps = true
 complete kind.Map ps = paired ps
 complete (kind.Variant i) ps = true

@@ -1,25 +1,25 @@
 -- The effect of serializing parts of an open compound.
 use Rattle.std.specs.Prelude.{List, [], ◌∷◌, ◌++◌, Option, Result, Err, MatchResult}
 use Rattle.amqp_ser.specs.Tree.{Tree}
-use Rattle.amqp_ser.specs.Compounds.{whole}
-use Rattle.amqp_ser.specs.declared.kind.Kind.{Kind}
+use Rattle.amqp_ser.specs.Compounds.{tree_of_parts}
+use Rattle.amqp_ser.specs.declared.kind.CompoundKind.{CompoundKind}
 
 -- One part. If it succeeds, the compound has one more part. If it fails, the compound is unchanged
 -- and the error is permitted for the complete compound, whatever further parts follow.
-abbrev pub Feeds : {S H O E : Type 0} → (S → Option Tree → Result O E → S → Type 0) → (S → Kind → S → H → List (Option Tree) → Type 0) →
-    Kind → Option Tree → S → H → Result (Unit {0}) E → S → H → Type 0
-Feeds {S} {H} {O} {E} permits has kind part before held result after held_after =
-    (start : S) (ps : List (Option Tree)) → has start kind before held ps →
+abbrev pub Feeds : {S H O E : Type 0} → (S → Option Tree → Result O E → S → Type 0) → (S → CompoundKind → S → H → List (Option Tree) → Type 0) →
+    CompoundKind → Option Tree → S → H → Result (Unit {0}) E → S → H → Type 0
+Feeds {S} {H} {O} {E} permits has kind part before compound result after held_after =
+    (start : S) (ps : List (Option Tree)) → has start kind before compound ps →
     MatchResult result
     (λ _. has start kind after held_after (ps ++ (part ∷ [])))
-    (λ e. has start kind after held_after ps × ((rest : List (Option Tree)) → permits start (whole kind (ps ++ (part ∷ rest))) (Err e) after))
+    (λ e. has start kind after held_after ps × ((rest : List (Option Tree)) → permits start (tree_of_parts kind (ps ++ (part ∷ rest))) (Err e) after))
 
 -- Parts that are serialized in one call. If all succeed, the compound has all of them. If one
 -- fails, the error is permitted for the complete compound, whatever further parts follow.
-abbrev pub FeedsAll : {S H O E : Type 0} → (S → Option Tree → Result O E → S → Type 0) → (S → Kind → S → H → List (Option Tree) → Type 0) →
+abbrev pub FeedsAll : {S H O E : Type 0} → (S → Option Tree → Result O E → S → Type 0) → (S → CompoundKind → S → H → List (Option Tree) → Type 0) →
     List (Option Tree) → S → H → Result (Unit {0}) E → S → H → Type 0
-FeedsAll {S} {H} {O} {E} permits has parts before held result after held_after =
-    (start : S) (kind : Kind) (ps : List (Option Tree)) → has start kind before held ps →
+FeedsAll {S} {H} {O} {E} permits has parts before compound result after held_after =
+    (start : S) (kind : CompoundKind) (ps : List (Option Tree)) → has start kind before compound ps →
     MatchResult result
     (λ _. has start kind after held_after (ps ++ parts))
-    (λ e. (rest : List (Option Tree)) → permits start (whole kind (ps ++ (parts ++ rest))) (Err e) after)
+    (λ e. (rest : List (Option Tree)) → permits start (tree_of_parts kind (ps ++ (parts ++ rest))) (Err e) after)

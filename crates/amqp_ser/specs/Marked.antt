@@ -2,23 +2,23 @@
 use Rattle.std.specs.Prelude.{ℕ, List, Option, Some, None, Bool, nat_eq, length, bytes_eq, codes, if◌then◌else◌}
 use Rattle.amqp_frame.specs.Whole.{is_frame}
 use Rattle.amqp_ser.specs.Tree.{Scalar, long, binary, string, symbol, timestamp, decimal32, decimal64, decimal128, uuid, Tree, scalar, list, array, lazy, transparent}
-use Rattle.amqp_ser.specs.declared.mark.Mark.{Mark}
-use Rattle.amqp_ser.specs.declared.mark.Mark.TheVariants as mark
+use Rattle.amqp_ser.specs.declared.marker.Marker.{Marker}
+use Rattle.amqp_ser.specs.declared.marker.Marker.TheVariants as marker
 
 -- The marker of a name; `Other` for a name that is not a marker name.
-abbrev pub mark_of : List ℕ → Mark
-mark_of n =
-    if bytes_eq n (codes "__SYMBOL") then mark.Symbol
-    else if bytes_eq n (codes "__SYMBOL_REF") then mark.Symbol
-    else if bytes_eq n (codes "__TIMESTAMP") then mark.Timestamp
-    else if bytes_eq n (codes "__DECIMAL32") then mark.Decimal32
-    else if bytes_eq n (codes "__DECIMAL64") then mark.Decimal64
-    else if bytes_eq n (codes "__DECIMAL128") then mark.Decimal128
-    else if bytes_eq n (codes "__UUID") then mark.Uuid
-    else if bytes_eq n (codes "__ARRAY") then mark.Array
-    else if bytes_eq n (codes "__TRANSPARENT_VEC") then mark.Transparent
-    else if bytes_eq n (codes "__LAZY_VALUE") then mark.Lazy
-    else mark.Other
+abbrev pub marker_of : List ℕ → Marker
+marker_of n =
+    if bytes_eq n (codes "__SYMBOL") then marker.Symbol
+    else if bytes_eq n (codes "__SYMBOL_REF") then marker.Symbol
+    else if bytes_eq n (codes "__TIMESTAMP") then marker.Timestamp
+    else if bytes_eq n (codes "__DECIMAL32") then marker.Decimal32
+    else if bytes_eq n (codes "__DECIMAL64") then marker.Decimal64
+    else if bytes_eq n (codes "__DECIMAL128") then marker.Decimal128
+    else if bytes_eq n (codes "__UUID") then marker.Uuid
+    else if bytes_eq n (codes "__ARRAY") then marker.Array
+    else if bytes_eq n (codes "__TRANSPARENT_VEC") then marker.Transparent
+    else if bytes_eq n (codes "__LAZY_VALUE") then marker.Lazy
+    else marker.Other
 
 -- The key of the field that is the descriptor of a struct.
 abbrev pub is_descriptor_name : List ℕ → Bool
@@ -38,26 +38,26 @@ of_frame bs = if is_frame bs then Some (lazy bs) else None
 
 -- The tree of a marked scalar: a symbol for a string, a timestamp for a long, a decimal or a uuid
 -- for a binary of its length, and a lazy tree for a binary that is one encoded value.
-abbrev pub marked_scalar : Mark → Scalar → Option Tree
-marked_scalar mark.Symbol (string bs) = Some (scalar (symbol bs))
-marked_scalar mark.Timestamp (long z) = Some (scalar (timestamp z))
-marked_scalar mark.Decimal32 (binary bs) = of_length 4 bs (decimal32 bs)
-marked_scalar mark.Decimal64 (binary bs) = of_length 8 bs (decimal64 bs)
-marked_scalar mark.Decimal128 (binary bs) = of_length 16 bs (decimal128 bs)
-marked_scalar mark.Uuid (binary bs) = of_length 16 bs (uuid bs)
-marked_scalar mark.Lazy (binary bs) = of_frame bs
-marked_scalar mark.Other s = Some (scalar s)
+abbrev pub marked_scalar : Marker → Scalar → Option Tree
+marked_scalar marker.Symbol (string bs) = Some (scalar (symbol bs))
+marked_scalar marker.Timestamp (long z) = Some (scalar (timestamp z))
+marked_scalar marker.Decimal32 (binary bs) = of_length 4 bs (decimal32 bs)
+marked_scalar marker.Decimal64 (binary bs) = of_length 8 bs (decimal64 bs)
+marked_scalar marker.Decimal128 (binary bs) = of_length 16 bs (decimal128 bs)
+marked_scalar marker.Uuid (binary bs) = of_length 16 bs (uuid bs)
+marked_scalar marker.Lazy (binary bs) = of_frame bs
+marked_scalar marker.Other s = Some (scalar s)
 marked_scalar m s = None
 
 -- The tree of a marked tree: an array or a transparent tree for a list.
-abbrev pub marked_tree : Mark → Tree → Option Tree
+abbrev pub marked_tree : Marker → Tree → Option Tree
 marked_tree m (scalar s) = marked_scalar m s
-marked_tree mark.Array (list ts) = Some (array ts)
-marked_tree mark.Transparent (list ts) = Some (transparent ts)
-marked_tree mark.Other t = Some t
+marked_tree marker.Array (list ts) = Some (array ts)
+marked_tree marker.Transparent (list ts) = Some (transparent ts)
+marked_tree marker.Other t = Some t
 marked_tree m t = None
 
 -- The tree of a newtype with this marker. It has none if its value has none.
-abbrev pub marked : Mark → Option Tree → Option Tree
-marked m None = None
-marked m (Some t) = marked_tree m t
+abbrev pub with_marker : Marker → Option Tree → Option Tree
+with_marker m None = None
+with_marker m (Some t) = marked_tree m t

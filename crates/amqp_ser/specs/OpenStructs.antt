@@ -5,8 +5,8 @@ use Rattle.amqp_ser.specs.Tree.{Tree}
 use Rattle.amqp_ser.specs.Marked.{is_descriptor_name}
 use Rattle.amqp_ser.specs.Structs.{Stands, is_misplaced, open_kind, single_or_list}
 use Rattle.amqp_ser.specs.StructFeeding.{FeedsDescriptor, FeedsFirst, FeedsElement, FeedsEntry, FeedsSingle, RefusesField}
-use Rattle.amqp_ser.specs.declared.kind.Kind.{Kind}
-use Rattle.amqp_ser.specs.declared.struct_form.StructForm.{StructForm}
+use Rattle.amqp_ser.specs.declared.kind.CompoundKind.{CompoundKind}
+use Rattle.amqp_ser.specs.declared.struct_encoding.StructEncoding.{StructEncoding}
 use Rattle.amqp_ser.specs.declared.compound.structs.SerializeStruct.{SerializeStruct}
 use Rattle.amqp_ser.specs.declared.compound.tuple_struct.SerializeTupleStruct.{SerializeTupleStruct}
 
@@ -19,7 +19,7 @@ module _ {S H O E : Type 0} where
   struct_with_serializer fields s = record fields { serializer = record fields.serializer { now = s } }
 
   -- The form: a list, a map, or the one field itself.
-  abbrev pub form_of : SerializeStruct S O E H → StructForm
+  abbrev pub form_of : SerializeStruct S O E H → StructEncoding
   form_of fields = fields.form
 
   -- The struct has its descriptor.
@@ -59,61 +59,61 @@ module _ {S H O E : Type 0} where
   is_full fields = not fields.wants_descriptor && is_misplaced (single_or_list fields.single) true fields.opened false
 
 module _ {S H O E : Type 0} (permits : S → Option Tree → Result O E → S → Type 0)
-    (has : S → Kind → S → H → List (Option Tree) → Type 0) where
+    (has : S → CompoundKind → S → H → List (Option Tree) → Type 0) where
   -- The struct, which this serializer opened, has this descriptor, if any, and these parts.
-  abbrev pub StructHas : S → Option (Option Tree) → Kind → SerializeStruct S O E H → List (Option Tree) → Type 0
-  StructHas start prefix kind fields parts = Stands permits has start prefix kind fields.serializer.now fields.held parts
+  abbrev pub StructHas : S → Option (Option Tree) → CompoundKind → SerializeStruct S O E H → List (Option Tree) → Type 0
+  StructHas start prefix kind fields parts = Stands permits has start prefix kind fields.serializer.now fields.compound parts
 
   -- The struct accepts its descriptor, or is unchanged.
   abbrev pub FeedsStructDescriptor : Option Tree → SerializeStruct S O E H → Result (Unit {0}) E → SerializeStruct S O E H → Type 0
   FeedsStructDescriptor descriptor before result after =
-      FeedsDescriptor permits has descriptor before.serializer.now before.held result after.serializer.now after.held
+      FeedsDescriptor permits has descriptor before.serializer.now before.compound result after.serializer.now after.compound
 
   -- The struct accepts its first field, which opens a body of this kind with these parts.
-  abbrev pub FeedsFirstField : Kind → List (Option Tree) → SerializeStruct S O E H → Result (Unit {0}) E → SerializeStruct S O E H → Type 0
+  abbrev pub FeedsFirstField : CompoundKind → List (Option Tree) → SerializeStruct S O E H → Result (Unit {0}) E → SerializeStruct S O E H → Type 0
   FeedsFirstField kind parts before result after =
-      FeedsFirst permits has kind parts before.serializer.now before.held result after.serializer.now after.held
+      FeedsFirst permits has kind parts before.serializer.now before.compound result after.serializer.now after.compound
 
   -- The struct accepts a further field: an element of its list, or an entry of its map.
   abbrev pub FeedsListField : Option Tree → SerializeStruct S O E H → Result (Unit {0}) E → SerializeStruct S O E H → Type 0
   FeedsListField field before result after =
-      FeedsElement permits has field before.serializer.now before.held result after.serializer.now after.held
+      FeedsElement permits has field before.serializer.now before.compound result after.serializer.now after.compound
 
   abbrev pub FeedsMapField : Option Tree → Option Tree → SerializeStruct S O E H → Result (Unit {0}) E → SerializeStruct S O E H → Type 0
   FeedsMapField name field before result after =
-      FeedsEntry permits has name field before.serializer.now before.held result after.serializer.now after.held
+      FeedsEntry permits has name field before.serializer.now before.compound result after.serializer.now after.compound
 
   -- The struct accepts its only field.
   abbrev pub FeedsOnlyField : Option Tree → SerializeStruct S O E H → Result (Unit {0}) E → SerializeStruct S O E H → Type 0
   FeedsOnlyField field before result after =
-      FeedsSingle permits has field before.serializer.now before.held result after.serializer.now after.held
+      FeedsSingle permits has field before.serializer.now before.compound result after.serializer.now after.compound
 
   -- The error of a misplaced field or descriptor: the struct is unchanged, and there is no tree.
   abbrev pub RefusesStructField : SerializeStruct S O E H → Result (Unit {0}) E → SerializeStruct S O E H → Type 0
   RefusesStructField before result after =
-      RefusesField permits has (open_kind before.opened before.form) before.serializer.now before.held result after.serializer.now after.held
+      RefusesField permits has (open_kind before.opened before.form) before.serializer.now before.compound result after.serializer.now after.compound
 
   -- Like the definitions above, for a tuple struct.
-  abbrev pub TupleStructHas : S → Option (Option Tree) → Kind → SerializeTupleStruct S O E H → List (Option Tree) → Type 0
-  TupleStructHas start prefix kind fields parts = Stands permits has start prefix kind fields.serializer.now fields.held parts
+  abbrev pub TupleStructHas : S → Option (Option Tree) → CompoundKind → SerializeTupleStruct S O E H → List (Option Tree) → Type 0
+  TupleStructHas start prefix kind fields parts = Stands permits has start prefix kind fields.serializer.now fields.compound parts
 
   abbrev pub FeedsTupleStructDescriptor : Option Tree → SerializeTupleStruct S O E H → Result (Unit {0}) E → SerializeTupleStruct S O E H → Type 0
   FeedsTupleStructDescriptor descriptor before result after =
-      FeedsDescriptor permits has descriptor before.serializer.now before.held result after.serializer.now after.held
+      FeedsDescriptor permits has descriptor before.serializer.now before.compound result after.serializer.now after.compound
 
-  abbrev pub FeedsFirstTupleStructField : Kind → List (Option Tree) → SerializeTupleStruct S O E H → Result (Unit {0}) E → SerializeTupleStruct S O E H → Type 0
+  abbrev pub FeedsFirstTupleStructField : CompoundKind → List (Option Tree) → SerializeTupleStruct S O E H → Result (Unit {0}) E → SerializeTupleStruct S O E H → Type 0
   FeedsFirstTupleStructField kind parts before result after =
-      FeedsFirst permits has kind parts before.serializer.now before.held result after.serializer.now after.held
+      FeedsFirst permits has kind parts before.serializer.now before.compound result after.serializer.now after.compound
 
   abbrev pub FeedsTupleStructField : Option Tree → SerializeTupleStruct S O E H → Result (Unit {0}) E → SerializeTupleStruct S O E H → Type 0
   FeedsTupleStructField field before result after =
-      FeedsElement permits has field before.serializer.now before.held result after.serializer.now after.held
+      FeedsElement permits has field before.serializer.now before.compound result after.serializer.now after.compound
 
   abbrev pub FeedsOnlyTupleStructField : Option Tree → SerializeTupleStruct S O E H → Result (Unit {0}) E → SerializeTupleStruct S O E H → Type 0
   FeedsOnlyTupleStructField field before result after =
-      FeedsSingle permits has field before.serializer.now before.held result after.serializer.now after.held
+      FeedsSingle permits has field before.serializer.now before.compound result after.serializer.now after.compound
 
   abbrev pub RefusesTupleStructField : SerializeTupleStruct S O E H → Result (Unit {0}) E → SerializeTupleStruct S O E H → Type 0
   RefusesTupleStructField before result after =
-      RefusesField permits has (open_kind before.opened (single_or_list before.single)) before.serializer.now before.held
-      result after.serializer.now after.held
+      RefusesField permits has (open_kind before.opened (single_or_list before.single)) before.serializer.now before.compound
+      result after.serializer.now after.compound

@@ -14,17 +14,17 @@ refuses_none e = ⊥
 
 -- The errors for a tree: `TooLong` only if a limit is exceeded, `InvalidValue` only for another
 -- reason.
-abbrev pub refuses_tree : Tree → Error → Type 0
-refuses_tree t error.TooLong = within_limits t ≡ false
-refuses_tree t error.InvalidValue = (uniform_arrays t && placed t) ≡ false
-refuses_tree t e = ⊥
+abbrev pub RefusesTree : Tree → Error → Type 0
+RefusesTree t error.TooLong = within_limits t ≡ false
+RefusesTree t error.InvalidValue = (uniform_arrays t && placed t) ≡ false
+RefusesTree t e = ⊥
 
 -- The length of the encoding if and only if the tree is writable.
 abbrev pub IsSizeOf : Option Tree → Result ℕ Error → Type 0
 IsSizeOf None (Ok n) = ⊥
 IsSizeOf None (Err e) = refuses_none e
 IsSizeOf (Some t) (Ok n) = (writable t ≡ true) × (n ≡ length (encoding t))
-IsSizeOf (Some t) (Err e) = refuses_tree t e
+IsSizeOf (Some t) (Err e) = RefusesTree t e
 
 -- The encoding if and only if the tree is writable, unless an allocation fails.
 abbrev pub AreBytesOf : Option Tree → Result (List ℕ) Error → Type 0
@@ -32,4 +32,4 @@ AreBytesOf None (Ok bs) = ⊥
 AreBytesOf (Some t) (Ok bs) = (writable t ≡ true) × (bs ≡ encoding t)
 AreBytesOf t (Err error.OutOfMemory) = Unit {0}
 AreBytesOf None (Err e) = refuses_none e
-AreBytesOf (Some t) (Err e) = refuses_tree t e
+AreBytesOf (Some t) (Err e) = RefusesTree t e

@@ -2,13 +2,13 @@
 -- sections 1.1.2 and 1.4).
 use Rattle.std.specs.Prelude.{ℕ, List, [], ◌∷◌, Option, Some, None, Bool, true, false, ◌||◌, bytes_eq, codes, if◌then◌else◌}
 use Rattle.amqp_ser.specs.Tree.{Tree, scalar, string}
-use Rattle.amqp_ser.specs.Compounds.{whole}
+use Rattle.amqp_ser.specs.Compounds.{tree_of_parts}
 use Rattle.amqp_ser.specs.Composites.{as_described, descriptor_of}
 use Rattle.amqp_ser.specs.Marked.{is_descriptor_name, is_value_name}
-use Rattle.amqp_ser.specs.declared.struct_form.StructForm.{StructForm}
-use Rattle.amqp_ser.specs.declared.struct_form.StructForm.TheVariants as form
-use Rattle.amqp_ser.specs.declared.kind.Kind.{Kind}
-use Rattle.amqp_ser.specs.declared.kind.Kind.TheVariants as kind
+use Rattle.amqp_ser.specs.declared.struct_encoding.StructEncoding.{StructEncoding}
+use Rattle.amqp_ser.specs.declared.struct_encoding.StructEncoding.TheVariants as form
+use Rattle.amqp_ser.specs.declared.kind.CompoundKind.{CompoundKind}
+use Rattle.amqp_ser.specs.declared.kind.CompoundKind.TheVariants as kind
 
 abbrev pub is_basic_name : List ℕ → Bool
 is_basic_name n = bytes_eq n (codes "__DESCRIBED_BASIC")
@@ -20,11 +20,11 @@ abbrev pub is_map_name : List ℕ → Bool
 is_map_name n = bytes_eq n (codes "__DESCRIBED_MAP")
 
 -- The fields of a struct are one value, a map from their names, or a list.
-abbrev pub struct_form : List ℕ → StructForm
-struct_form n = if is_basic_name n then form.Single else if is_map_name n then form.Map else form.List
+abbrev pub struct_encoding : List ℕ → StructEncoding
+struct_encoding n = if is_basic_name n then form.Single else if is_map_name n then form.Map else form.List
 
 -- The fields of a tuple struct are one value or a list.
-abbrev pub single_or_list : Bool → StructForm
+abbrev pub single_or_list : Bool → StructEncoding
 single_or_list true = form.Single
 single_or_list false = form.List
 
@@ -32,18 +32,18 @@ single_or_list false = form.List
 abbrev pub is_tagged : List ℕ → Bool
 is_tagged n = is_basic_name n || is_list_name n
 
-abbrev pub form_kind : StructForm → Kind
+abbrev pub form_kind : StructEncoding → CompoundKind
 form_kind form.List = kind.List
 form_kind form.Map = kind.Map
 form_kind form.Single = kind.Single
 
 -- The kind that is open: a single compound until the first field is accepted, then the body.
-abbrev pub open_kind : Bool → StructForm → Kind
+abbrev pub open_kind : Bool → StructEncoding → CompoundKind
 open_kind false b = kind.Single
 open_kind true b = form_kind b
 
 -- Named fields are in a map, others in a list.
-abbrev pub fields_kind : Bool → Kind
+abbrev pub fields_kind : Bool → CompoundKind
 fields_kind false = kind.List
 fields_kind true = kind.Map
 
@@ -53,7 +53,7 @@ field_parts false key t = t ∷ []
 field_parts true key t = Some (scalar (string key)) ∷ (t ∷ [])
 
 -- A second or late descriptor, or a second field of a single value.
-abbrev pub is_misplaced : StructForm → Bool → Bool → Bool → Bool
+abbrev pub is_misplaced : StructEncoding → Bool → Bool → Bool → Bool
 is_misplaced b described opened true = described || opened
 is_misplaced form.Single described opened false = opened
 is_misplaced b described opened false = false
@@ -66,11 +66,11 @@ optionally_described (Some d) t = as_described (descriptor_of d) t
 -- The tree of a newtype variant: its value in an enum named `__VALUE`, and none in an enum named
 -- `__DESCRIPTOR`.
 abbrev pub named_variant : List ℕ → ℕ → Option Tree → Option Tree
-named_variant n i t = if is_value_name n then t else if is_descriptor_name n then None else whole (kind.NewtypeVariant i) (t ∷ [])
+named_variant n i t = if is_value_name n then t else if is_descriptor_name n then None else tree_of_parts (kind.NewtypeVariant i) (t ∷ [])
 
 -- A compound after a descriptor, if there is one: each result that is permitted for the compound is
 -- permitted for the described value.
-unfoldable pub Stands : {S H R : Type 0} → (S → Option Tree → R → S → Type 0) → (S → Kind → S → H → List (Option Tree) → Type 0) →
-    S → Option (Option Tree) → Kind → S → H → List (Option Tree) → Type 0
-Stands {S} {H} {R} permits has start prefix k now held ps =
-    (mid : S) × (has mid k now held ps × ((t : Option Tree) (r : R) (after : S) → permits mid t r after → permits start (optionally_described prefix t) r after))
+unfoldable pub Stands : {S H R : Type 0} → (S → Option Tree → R → S → Type 0) → (S → CompoundKind → S → H → List (Option Tree) → Type 0) →
+    S → Option (Option Tree) → CompoundKind → S → H → List (Option Tree) → Type 0
+Stands {S} {H} {R} permits has start prefix k now compound ps =
+    (mid : S) × (has mid k now compound ps × ((t : Option Tree) (r : R) (after : S) → permits mid t r after → permits start (optionally_described prefix t) r after))

@@ -20,29 +20,29 @@ use Rattle.amqp_data.specs.declared.timestamp.Timestamp.{Timestamp}
 use Rattle.amqp_data.specs.declared.uuid.Uuid.{Uuid}
 use Rattle.amqp_ser.specs.Tree.{Tree, scalar, null, bool, ubyte, ushort, uint, ulong, byte, short, int, long, float, double, decimal32, decimal64, decimal128, char, timestamp, uuid, binary, string, symbol, Descriptor}
 use Rattle.amqp_ser.specs.Composites.{as_described}
-use Rattle.amqp_ser.specs.Compounds.{parts_of, whole}
+use Rattle.amqp_ser.specs.Compounds.{parts_of, tree_of_parts}
 use Rattle.amqp_ser.specs.Carried.{array_of, optional}
 use Rattle.amqp_ser.specs.Named.{named_parts, string_key, symbol_key, up_to_last}
-use Rattle.amqp_ser.specs.declared.kind.Kind.TheVariants as kind
+use Rattle.amqp_ser.specs.declared.kind.CompoundKind.TheVariants as kind
 
 -- The list of these parts, and the map of these named parts.
 abbrev pub list_of : List (Option Tree) → Option Tree
-list_of parts = whole kind.List parts
+list_of parts = tree_of_parts kind.List parts
 
 abbrev pub in_turn : (List ℕ → Option Tree) → List (List ℕ × Option Tree) → List (Option Tree)
 in_turn key [] = []
 in_turn key (f ∷ fs) = key f.0 ∷ f.1 ∷ in_turn key fs
 
 abbrev pub map_of : List (List ℕ × Option Tree) → Option Tree
-map_of fields = whole kind.Map (in_turn string_key fields)
+map_of fields = tree_of_parts kind.Map (in_turn string_key fields)
 
 -- The map with the names as symbol keys.
 abbrev pub symbol_map_of : List (List ℕ × Option Tree) → Option Tree
-symbol_map_of fields = whole kind.Map (in_turn symbol_key fields)
+symbol_map_of fields = tree_of_parts kind.Map (in_turn symbol_key fields)
 
 -- The variant with this index whose payload is the list of these parts.
 abbrev pub variant_of : ℕ → List (Option Tree) → Option Tree
-variant_of index parts = whole (kind.Variant index) parts
+variant_of index parts = tree_of_parts (kind.Variant index) parts
 
 -- The list and the map after a descriptor.
 abbrev pub list_composite : Descriptor → List (Option Tree) → Option Tree
@@ -52,21 +52,21 @@ abbrev pub map_composite : Descriptor → List (List ℕ × Option Tree) → Opt
 map_composite d fields = as_described (Some d) (map_of fields)
 
 -- A required field, and an optional field.
-abbrev pub must : Option Tree → Bool × Option Tree
-must t = (true, t)
+abbrev pub required_value : Option Tree → Bool × Option Tree
+required_value t = (true, t)
 
-abbrev pub may : {T : Type 0} → (T → Option Tree) → Option T → Bool × Option Tree
-may f o = (is_some o, optional f o)
+abbrev pub optional_value : {T : Type 0} → (T → Option Tree) → Option T → Bool × Option Tree
+optional_value f o = (is_some o, optional f o)
 
 -- The list without the absent fields at its end, and the map without the absent fields.
 abbrev pub short_list_of : List (Bool × Option Tree) → Option Tree
-short_list_of parts = whole kind.List (up_to_last parts)
+short_list_of parts = tree_of_parts kind.List (up_to_last parts)
 
 abbrev pub short_map_of : List (List ℕ × (Bool × Option Tree)) → Option Tree
-short_map_of fields = whole kind.Map (named_parts string_key fields)
+short_map_of fields = tree_of_parts kind.Map (named_parts string_key fields)
 
 abbrev pub short_symbol_map_of : List (List ℕ × (Bool × Option Tree)) → Option Tree
-short_symbol_map_of fields = whole kind.Map (named_parts symbol_key fields)
+short_symbol_map_of fields = tree_of_parts kind.Map (named_parts symbol_key fields)
 
 -- The short list after a descriptor, the form of the composites of the standard.
 abbrev pub short_composite : Descriptor → List (Bool × Option Tree) → Option Tree
@@ -145,4 +145,4 @@ abbrev pub of_array : {T : Type 0} → (T → Option Tree) → Array T → Optio
 of_array f a = array_of f (array_items a)
 
 abbrev pub of_map : {K V : Type 0} → (K → Option Tree) → (V → Option Tree) → OrderedMap K V → Option Tree
-of_map f g m = whole kind.Map (parts_of f g (pairs.entries_of m))
+of_map f g m = tree_of_parts kind.Map (parts_of f g (pairs.entries_of m))

@@ -2,28 +2,28 @@
 
 ghost use Rattle.std.specs.Prelude.{◌≡◌, List, Option, true};
 ghost use Rattle.amqp_ser.specs.Tree.{Tree};
-ghost use Rattle.amqp_ser.specs.Compounds.{complete, whole};
+ghost use Rattle.amqp_ser.specs.Compounds.{complete, tree_of_parts};
 ghost use Rattle.amqp_ser.specs.Named.{named_parts, key_of, string_key, symbol_key, up_to_last, values_of};
-ghost use Rattle.amqp_ser.specs.declared.kind.Kind.TheVariants as kind;
+ghost use Rattle.amqp_ser.specs.declared.kind.CompoundKind.TheVariants as kind;
 
 use crate::fields::{Fields, Keys};
-use crate::kind::Kind;
+use crate::kind::CompoundKind;
 use crate::serialize::Serialize;
 use crate::serializer::Serializer;
 
 /// Serializes the fields up to the last present one as a list or a variant.
 fn serialize_values<S: Serializer, F: Fields>(
     serializer: &mut S,
-    kind: Kind,
+    kind: CompoundKind,
     fields: &F,
 ) -> Result<S::Ok, S::Error>
     requires { (ps : List (Option Tree)) → complete kind ps ≡ true }
-    ensures { S.permits serializer.old (whole kind (up_to_last (values_of (F.named fields.now))))
+    ensures { S.permits serializer.old (tree_of_parts kind (up_to_last (values_of (F.named fields.now))))
         result serializer.new }
 {
-    let mut held = serializer.begin(kind);
-    fields.feed(&mut *serializer, &mut held)?;
-    serializer.end(held)
+    let mut compound = serializer.begin_compound(kind);
+    fields.feed(&mut *serializer, &mut compound)?;
+    serializer.end(compound)
 }
 
 /// Serializes the present fields as a map from their names.
@@ -35,11 +35,11 @@ fn serialize_entries<S: Serializer, F: Fields>(
     fields: &F,
 ) -> Result<S::Ok, S::Error>
     ensures { S.permits serializer.old
-        (whole kind.Map (named_parts (key_of keys) (F.named fields.now))) result serializer.new }
+        (tree_of_parts kind.Map (named_parts (key_of keys) (F.named fields.now))) result serializer.new }
 {
-    let mut held = serializer.begin(Kind::Map);
-    fields.feed_named(&mut *serializer, &mut held, keys)?;
-    serializer.end(held)
+    let mut compound = serializer.begin_compound(CompoundKind::Map);
+    fields.feed_named(&mut *serializer, &mut compound, keys)?;
+    serializer.end(compound)
 }
 
 /// The list of the fields up to the last present one. An absent field before that one is null. The
@@ -54,11 +54,11 @@ fn serialize_entries<S: Serializer, F: Fields>(
 pub struct ListOf<F>(pub F);
 
 impl<F: Fields> Serialize for ListOf<F> {
-    ghost tree = { λ l. whole kind.List (up_to_last (values_of (F.named l.0))) };
+    ghost tree = { λ l. tree_of_parts kind.List (up_to_last (values_of (F.named l.0))) };
 
     #[inline(always)]
     fn serialize<S: Serializer>(&self, serializer: &mut S) -> Result<S::Ok, S::Error> {
-        serialize_values(serializer, Kind::List, &self.0)
+        serialize_values(serializer, CompoundKind::List, &self.0)
     }
 }
 
@@ -73,11 +73,11 @@ impl<F: Fields> Serialize for ListOf<F> {
 pub struct VariantOf<F>(pub u32, pub F);
 
 impl<F: Fields> Serialize for VariantOf<F> {
-    ghost tree = { λ v. whole (kind.Variant v.0) (up_to_last (values_of (F.named v.1))) };
+    ghost tree = { λ v. tree_of_parts (kind.Variant v.0) (up_to_last (values_of (F.named v.1))) };
 
     #[inline(always)]
     fn serialize<S: Serializer>(&self, serializer: &mut S) -> Result<S::Ok, S::Error> {
-        serialize_values(serializer, Kind::Variant(self.0), &self.1)
+        serialize_values(serializer, CompoundKind::Variant(self.0), &self.1)
     }
 }
 
@@ -92,7 +92,7 @@ impl<F: Fields> Serialize for VariantOf<F> {
 pub struct MapOf<F>(pub F);
 
 impl<F: Fields> Serialize for MapOf<F> {
-    ghost tree = { λ m. whole kind.Map (named_parts string_key (F.named m.0)) };
+    ghost tree = { λ m. tree_of_parts kind.Map (named_parts string_key (F.named m.0)) };
 
     #[inline(always)]
     fn serialize<S: Serializer>(&self, serializer: &mut S) -> Result<S::Ok, S::Error> {
@@ -111,7 +111,7 @@ impl<F: Fields> Serialize for MapOf<F> {
 pub struct SymbolMapOf<F>(pub F);
 
 impl<F: Fields> Serialize for SymbolMapOf<F> {
-    ghost tree = { λ m. whole kind.Map (named_parts symbol_key (F.named m.0)) };
+    ghost tree = { λ m. tree_of_parts kind.Map (named_parts symbol_key (F.named m.0)) };
 
     #[inline(always)]
     fn serialize<S: Serializer>(&self, serializer: &mut S) -> Result<S::Ok, S::Error> {

@@ -4,7 +4,7 @@ ghost use Rattle.std.specs.Prelude.{◌≡◌, ◌∷◌, [], ℕ, List, Option,
 ghost use Rattle.amqp_ser.specs.Tree.{Tree};
 ghost use Rattle.amqp_ser.specs.Feeding.{Feeds, FeedsAll};
 ghost use Rattle.amqp_ser.specs.Named.{any_there, named_parts, key_of, up_to_last, values_of};
-ghost use Rattle.amqp_ser.specs.declared.kind.Kind.{Kind};
+ghost use Rattle.amqp_ser.specs.declared.kind.CompoundKind.{CompoundKind};
 
 use crate::compound::feed::feed_part;
 use crate::serialize::Serialize;
@@ -53,9 +53,9 @@ pub trait Fields {
     /// # Example
     /// The fields `x`, the ubyte 1, and `y`, absent, are one element, `5001`. If `y` comes first,
     /// they are `40` and `5001`.
-    fn feed<S: Serializer>(&self, serializer: &mut S, held: &mut S::Open) -> Result<(), S::Error>
+    fn feed<S: Serializer>(&self, serializer: &mut S, compound: &mut S::Open) -> Result<(), S::Error>
         ensures { FeedsAll S.permits S.has (up_to_last (values_of (named self.now))) serializer.old
-            held.old result serializer.new held.new };
+            compound.old result serializer.new compound.new };
 
     /// Serializes the name, as a key, and the value of each present field into an open compound.
     ///
@@ -67,28 +67,28 @@ pub trait Fields {
     fn feed_named<S: Serializer>(
         &self,
         serializer: &mut S,
-        held: &mut S::Open,
+        compound: &mut S::Open,
         keys: Keys,
     ) -> Result<(), S::Error>
         ensures { FeedsAll S.permits S.has (named_parts (key_of keys) (named self.now))
-            serializer.old held.old result serializer.new held.new };
+            serializer.old compound.old result serializer.new compound.new };
 }
 
 /// Serializes the name of a field as a key of an open compound.
 #[inline(always)]
 pub(crate) fn feed_key<S: Serializer>(
     serializer: &mut S,
-    held: &mut S::Open,
+    compound: &mut S::Open,
     keys: Keys,
     name: &str,
 ) -> Result<(), S::Error>
-    ensures { (kind : Kind) →
-        Feeds S.permits S.has kind (key_of keys name.now) serializer.old held.old result
-        serializer.new held.new }
+    ensures { (kind : CompoundKind) →
+        Feeds S.permits S.has kind (key_of keys name.now) serializer.old compound.old result
+        serializer.new compound.new }
 {
     match keys {
-        Keys::Strings => feed_part(serializer, held, &name),
-        Keys::Symbols => feed_part(serializer, held, &SymbolRef::from(name)),
+        Keys::Strings => feed_part(serializer, compound, &name),
+        Keys::Symbols => feed_part(serializer, compound, &SymbolRef::from(name)),
     }
 }
 
@@ -96,17 +96,17 @@ pub(crate) fn feed_key<S: Serializer>(
 #[inline(always)]
 pub(crate) fn feed_value<S: Serializer, V: Serialize, R: Fields>(
     serializer: &mut S,
-    held: &mut S::Open,
+    compound: &mut S::Open,
     keys: Keys,
     value: &V,
     rest: &R,
 ) -> Result<(), S::Error>
     ensures { FeedsAll S.permits S.has
-        (V.tree value.now ∷ named_parts (key_of keys) (R.named rest.now)) serializer.old held.old
-        result serializer.new held.new }
+        (V.tree value.now ∷ named_parts (key_of keys) (R.named rest.now)) serializer.old compound.old
+        result serializer.new compound.new }
 {
-    feed_part(&mut *serializer, &mut *held, value)?;
-    rest.feed_named(serializer, held, keys)
+    feed_part(&mut *serializer, &mut *compound, value)?;
+    rest.feed_named(serializer, compound, keys)
 }
 
 impl Fields for () {
@@ -121,7 +121,7 @@ impl Fields for () {
     fn feed<S: Serializer>(
         &self,
         _serializer: &mut S,
-        _held: &mut S::Open,
+        _compound: &mut S::Open,
     ) -> Result<(), S::Error> {
         Ok(())
     }
@@ -130,7 +130,7 @@ impl Fields for () {
     fn feed_named<S: Serializer>(
         &self,
         _serializer: &mut S,
-        _held: &mut S::Open,
+        _compound: &mut S::Open,
         _keys: Keys,
     ) -> Result<(), S::Error> {
         Ok(())
@@ -160,19 +160,19 @@ impl<V: Serialize, R: Fields> Fields for Field<'_, V, R> {
     }
 
     #[inline(always)]
-    fn feed<S: Serializer>(&self, serializer: &mut S, held: &mut S::Open) -> Result<(), S::Error> {
-        feed_part(&mut *serializer, &mut *held, &self.value)?;
-        self.rest.feed(serializer, held)
+    fn feed<S: Serializer>(&self, serializer: &mut S, compound: &mut S::Open) -> Result<(), S::Error> {
+        feed_part(&mut *serializer, &mut *compound, &self.value)?;
+        self.rest.feed(serializer, compound)
     }
 
     #[inline(always)]
     fn feed_named<S: Serializer>(
         &self,
         serializer: &mut S,
-        held: &mut S::Open,
+        compound: &mut S::Open,
         keys: Keys,
     ) -> Result<(), S::Error> {
-        feed_key(&mut *serializer, &mut *held, keys, self.name)?;
-        feed_value(serializer, held, keys, &self.value, &self.rest)
+        feed_key(&mut *serializer, &mut *compound, keys, self.name)?;
+        feed_value(serializer, compound, keys, &self.value, &self.rest)
     }
 }

@@ -7,7 +7,7 @@
 /// `c109025201c00402500141` as `Variant(1)`. `true` is `c10402520141` as `NewtypeVariant(1)` and
 /// `41` as `Single`.
 #[derive(Clone, Copy)]
-pub enum Kind {
+pub enum CompoundKind {
     /// A list of its elements.
     List,
     /// A map of its keys and values, in alternation.

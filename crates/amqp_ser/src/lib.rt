@@ -13,12 +13,12 @@ mod fixed;
 mod impls;
 mod kind;
 pub mod laws;
-mod mark;
+mod marker;
 mod names;
 mod optional_field;
 mod serialize;
 mod serializer;
-mod struct_form;
+mod struct_encoding;
 
 pub use composite::{ListOf, MapOf, SymbolMapOf, VariantOf};
 pub use compound::{
@@ -27,12 +27,12 @@ pub use compound::{
 };
 pub use fields::{Field, Fields, Keys};
 pub use fixed::Fixed;
-pub use kind::Kind;
-pub use mark::{Mark, mark_named};
+pub use kind::CompoundKind;
+pub use marker::{Marker, marker_named};
 pub use optional_field::OptionalField;
 pub use serialize::Serialize;
 pub use serializer::Serializer;
-pub use struct_form::StructForm;
+pub use struct_encoding::StructEncoding;
 
 /// Builds the fields of a struct, in order: `fields! { "name": value, "other"?: option, .. }`.
 ///

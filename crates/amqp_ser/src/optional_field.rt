@@ -34,26 +34,26 @@ impl<V: Serialize, R: Fields> Fields for OptionalField<'_, V, R> {
     }
 
     #[inline(always)]
-    fn feed<S: Serializer>(&self, serializer: &mut S, held: &mut S::Open) -> Result<(), S::Error> {
+    fn feed<S: Serializer>(&self, serializer: &mut S, compound: &mut S::Open) -> Result<(), S::Error> {
         if !self.any_there() {
             return Ok(());
         }
-        feed_part(&mut *serializer, &mut *held, self.value)?;
-        self.rest.feed(serializer, held)
+        feed_part(&mut *serializer, &mut *compound, self.value)?;
+        self.rest.feed(serializer, compound)
     }
 
     #[inline(always)]
     fn feed_named<S: Serializer>(
         &self,
         serializer: &mut S,
-        held: &mut S::Open,
+        compound: &mut S::Open,
         keys: Keys,
     ) -> Result<(), S::Error> {
         match self.value {
-            None => self.rest.feed_named(serializer, held, keys),
+            None => self.rest.feed_named(serializer, compound, keys),
             Some(value) => {
-                feed_key(&mut *serializer, &mut *held, keys, self.name)?;
-                feed_value(serializer, held, keys, value, &self.rest)
+                feed_key(&mut *serializer, &mut *compound, keys, self.name)?;
+                feed_value(serializer, compound, keys, value, &self.rest)
             }
         }
     }

@@ -3,12 +3,12 @@
 ghost use Rattle.std.specs.Prelude.{◌≡◌, ◌++◌, ◌∷◌, [], List, Option, Some, None, Result, Ok, Err, MatchResult, IfOk, IfErr, IsOk, IsErr, not, true, false};
 ghost use Rattle.amqp_ser.specs.Tree.{Tree, Scalar, scalar, null, bool, ubyte, ushort, uint, ulong, byte, short, int, long, float, double, char, string, binary};
 ghost use Rattle.amqp_ser.specs.Fixed.{fixed_scalar};
-ghost use Rattle.amqp_ser.specs.Compounds.{whole, complete, paired};
+ghost use Rattle.amqp_ser.specs.Compounds.{tree_of_parts, complete, paired};
 ghost use Rattle.amqp_ser.specs.Composites.{as_described, descriptor_of};
-ghost use Rattle.amqp_ser.specs.Marked.{is_descriptor_name, is_value_name, marked, mark_of};
+ghost use Rattle.amqp_ser.specs.Marked.{is_descriptor_name, is_value_name, with_marker, marker_of};
 ghost use Rattle.amqp_ser.specs.OpenCompounds.{list_reference, ListHas, map_reference, MapHas, has_key, variant_reference, VariantHas, struct_variant_reference, StructVariantHas};
 ghost use Rattle.amqp_ser.specs.OpenStructs.{struct_reference, form_of, has_descriptor, has_field, StructHas, tuple_struct_reference, is_single, lacks_descriptor, is_open, TupleStructHas};
-ghost use Rattle.amqp_ser.specs.Structs.{struct_form, is_basic_name, is_tagged, named_variant};
+ghost use Rattle.amqp_ser.specs.Structs.{struct_encoding, is_basic_name, is_tagged, named_variant};
 ghost use Rattle.amqp_data.specs.Fixed.{f32_bits, f64_bits};
 
 use crate::compound::described::serialize_described;
@@ -18,11 +18,11 @@ use crate::compound::{
     SerializeTupleStruct, SerializeTupleVariant,
 };
 use crate::fixed::Fixed;
-use crate::kind::Kind;
-use crate::mark::{Mark, mark_named};
+use crate::kind::CompoundKind;
+use crate::marker::{Marker, marker_named};
 use crate::names::{is_basic_name, is_descriptor_name, is_tagged, is_value_name};
 use crate::serialize::Serialize;
-use crate::struct_form::struct_form;
+use crate::struct_encoding::struct_encoding;
 use amqp_data::{F32Bits, F64Bits};
 
 /// A serializer: turns a data tree into a result, such as its length, its bytes or an untyped
@@ -52,7 +52,7 @@ use amqp_data::{F32Bits, F64Bits};
 /// For the list of the strings `a` and `bc` the result is the length 10, the bytes
 /// `c00802a10161a1026263`, or an untyped list of two strings.
 pub trait Serializer {
-    ghost use Rattle.amqp_ser.specs.declared.kind.Kind.{Kind};
+    ghost use Rattle.amqp_ser.specs.declared.kind.CompoundKind.{CompoundKind};
 
     /// The output of a successful serialization.
     type Ok: Drop;
@@ -65,17 +65,17 @@ pub trait Serializer {
     ghost permits: { Self → Option Tree → Result Self.Ok Self.Error → Self → Type 0 };
 
     /// A compound that was opened in the first state may have accepted these parts.
-    ghost has: { Self → Kind → Self → Self.Open → List (Option Tree) → Type 0 };
+    ghost has: { Self → CompoundKind → Self → Self.Open → List (Option Tree) → Type 0 };
 
     /// Like `has`, for a serializer that is ready for the next part.
-    ghost awaits: { Self → Kind → Self → Self.Open → List (Option Tree) → Type 0 };
+    ghost awaits: { Self → CompoundKind → Self → Self.Open → List (Option Tree) → Type 0 };
 
     /// A single compound that was opened in the first state is ready for the descriptor of its one
     /// value.
     ghost awaits_descriptor: { Self → Self → Self.Open → Type 0 };
 
     /// The error of a misuse, such as a value without a key.
-    ghost is_misuse: { Self.Error → Type 0 };
+    ghost is_misuse_error: { Self.Error → Type 0 };
 
     /// If there is no tree, the result is an error.
     ghost refuses_none: { (before : Self) (answer : Self.Ok) (after : Self) →
@@ -142,30 +142,30 @@ pub trait Serializer {
     /// Sets the marker that is applied to the next tree.
     ///
     /// # Example
-    /// `Mark::Symbol` before the string `amqp`: `a304616d7170`.
-    fn mark(&mut self, mark: Mark)
+    /// `Marker::Symbol` before the string `amqp`: `a304616d7170`.
+    fn set_marker(&mut self, marker: Marker)
         ensures { (t : Option Tree) (r : Result Self.Ok Self.Error) (after : Self) →
-            permits self.new t r after → permits self.old (marked mark t) r after };
+            permits self.new t r after → permits self.old (with_marker marker t) r after };
 
     /// Opens a compound without parts.
     ///
     /// # Example
-    /// `Kind::List`, ended without elements, is `45`.
-    fn begin(&mut self, kind: Kind) -> Self::Open
+    /// `CompoundKind::List`, ended without elements, is `45`.
+    fn begin_compound(&mut self, kind: CompoundKind) -> Self::Open
         ensures { has self.old kind self.new result [] };
 
     /// Returns a placeholder for a compound that has been moved out. It was never opened.
-    fn vacant(&self) -> Self::Open;
+    fn placeholder(&self) -> Self::Open;
 
     /// Prepares the serializer for the next part of a compound. The first part of a single compound
     /// has the position of the compound itself, so that any method may follow.
     ///
     /// # Example
     /// Before the next element of a list, the string `a`: `end_part` then appends `a10161`.
-    fn begin_part(&mut self, held: &mut Self::Open)
-        ensures ready { (start : Self) (kind : Kind) (ps : List (Option Tree)) →
-            has start kind self.old held.old ps → awaits start kind self.new held.new ps }
-        ensures single { (start : Self) → has start Kind.Single self.old held.old [] →
+    fn begin_part(&mut self, compound: &mut Self::Open)
+        ensures ready { (start : Self) (kind : CompoundKind) (ps : List (Option Tree)) →
+            has start kind self.old compound.old ps → awaits start kind self.new compound.new ps }
+        ensures single { (start : Self) → has start CompoundKind.Single self.old compound.old [] →
             (t : Option Tree) (r : Result Self.Ok Self.Error) (after : Self) →
             permits self.new t r after → permits start t r after };
 
@@ -180,29 +180,29 @@ pub trait Serializer {
     /// The result for `true` appends `41`; an error appends nothing.
     fn end_part(
         &mut self,
-        held: &mut Self::Open,
+        compound: &mut Self::Open,
         part: Result<Self::Ok, Self::Error>,
     ) -> Result<(), Self::Error>
-        ensures step { (start : Self) (kind : Kind) (before : Self) (ps : List (Option Tree))
+        ensures step { (start : Self) (kind : CompoundKind) (before : Self) (ps : List (Option Tree))
             (p : Option Tree) →
-            awaits start kind before held.old ps → permits before p part self.old →
+            awaits start kind before compound.old ps → permits before p part self.old →
             MatchResult result
-            (λ _. has start kind self.new held.new (ps ++ (p ∷ [])))
-            (λ e. has start kind self.new held.new ps × ((rest : List (Option Tree)) →
-            permits start (whole kind (ps ++ (p ∷ rest))) (Err e) self.new)) }
+            (λ _. has start kind self.new compound.new (ps ++ (p ∷ [])))
+            (λ e. has start kind self.new compound.new ps × ((rest : List (Option Tree)) →
+            permits start (tree_of_parts kind (ps ++ (p ∷ rest))) (Err e) self.new)) }
         ensures refused { IfErr part (λ _. IsErr result) };
 
     /// Removes the last part: a key whose value failed.
     ///
     /// # Example
     /// Removes the key 1, a ubyte, `5001`. If the map has no other parts, it is `c10100`.
-    fn undo_part(&mut self, held: &mut Self::Open)
+    fn undo_part(&mut self, compound: &mut Self::Open)
         ensures back { (start : Self) (ps : List (Option Tree)) (p : Option Tree) →
-            has start Kind.Map self.old held.old (ps ++ (p ∷ [])) → paired ps ≡ true →
-            has start Kind.Map self.new held.new ps }
+            has start CompoundKind.Map self.old compound.old (ps ++ (p ∷ [])) → paired ps ≡ true →
+            has start CompoundKind.Map self.new compound.new ps }
         ensures refusals { (start : Self) (ps : List (Option Tree)) (p t : Option Tree)
             (e : Self.Error) →
-            has start Kind.Map self.old held.old (ps ++ (p ∷ [])) → paired ps ≡ true →
+            has start CompoundKind.Map self.old compound.old (ps ++ (p ∷ [])) → paired ps ≡ true →
             permits start t (Err e) self.old → permits start t (Err e) self.new };
 
     /// Returns the misuse error, for parts that make no tree. The compound is unchanged.
@@ -210,19 +210,19 @@ pub trait Serializer {
     /// # Example
     /// A value without a key in an empty map returns `InvalidValue`. If the map ends then, it is
     /// `c10100`.
-    fn misuse(&mut self, held: &mut Self::Open) -> Self::Error
-        ensures kept { (start : Self) (kind : Kind) (ps : List (Option Tree)) →
-            has start kind self.old held.old ps →
-            has start kind self.new held.new ps × permits start None (Err result) self.new }
-        ensures invalid { is_misuse result };
+    fn misuse_error(&mut self, compound: &mut Self::Open) -> Self::Error
+        ensures kept { (start : Self) (kind : CompoundKind) (ps : List (Option Tree)) →
+            has start kind self.old compound.old ps →
+            has start kind self.new compound.new ps × permits start None (Err result) self.new }
+        ensures invalid { is_misuse_error result };
 
     /// Prepares the serializer for a descriptor, before the one value of a single compound.
     ///
     /// # Example
     /// Before the ulong 1 as the descriptor of `true`: together they are `00530141`.
-    fn begin_descriptor(&mut self, held: &mut Self::Open)
-        ensures { (start : Self) → has start Kind.Single self.old held.old [] →
-            awaits_descriptor start self.new held.new };
+    fn begin_descriptor(&mut self, compound: &mut Self::Open)
+        ensures { (start : Self) → has start CompoundKind.Single self.old compound.old [] →
+            awaits_descriptor start self.new compound.new };
 
     /// Accepts the result of serializing a descriptor: it then describes the value that follows, or
     /// the compound is unchanged. A descriptor that failed is never accepted, nor one that is
@@ -237,21 +237,21 @@ pub trait Serializer {
     /// rejected.
     fn end_descriptor(
         &mut self,
-        held: &mut Self::Open,
+        compound: &mut Self::Open,
         part: Result<Self::Ok, Self::Error>,
     ) -> Result<(), Self::Error>
         ensures step { (start before : Self) (d : Option Tree) →
-            awaits_descriptor start before held.old → permits before d part self.old →
+            awaits_descriptor start before compound.old → permits before d part self.old →
             MatchResult result
             (λ _. (mid : Self)
-            × (has mid Kind.Single self.new held.new []
+            × (has mid CompoundKind.Single self.new compound.new []
             × ((t : Option Tree) (r : Result Self.Ok Self.Error) (after : Self) →
             permits mid t r after → permits start (as_described (descriptor_of d) t) r after)))
-            (λ e. has start Kind.Single self.new held.new [] × ((t : Option Tree) →
+            (λ e. has start CompoundKind.Single self.new compound.new [] × ((t : Option Tree) →
             permits start (as_described (descriptor_of d) t) (Err e) self.new)) }
         ensures refused { IfErr part (λ _. IsErr result) }
         ensures other_kinds { (start before : Self) (d : Option Tree) →
-            awaits_descriptor start before held.old → permits before d part self.old →
+            awaits_descriptor start before compound.old → permits before d part self.old →
             descriptor_of d ≡ None → IsErr result };
 
     /// Ends the compound.
@@ -262,10 +262,10 @@ pub trait Serializer {
     ///
     /// # Example
     /// The list of the strings `a` and `bc` is `c00802a10161a1026263`.
-    fn end(&mut self, held: Self::Open) -> Result<Self::Ok, Self::Error>
-        ensures { (start : Self) (kind : Kind) (ps : List (Option Tree)) →
-            has start kind self.old held ps →
-            complete kind ps ≡ true → permits start (whole kind ps) result self.new };
+    fn end(&mut self, compound: Self::Open) -> Result<Self::Ok, Self::Error>
+        ensures { (start : Self) (kind : CompoundKind) (ps : List (Option Tree)) →
+            has start kind self.old compound ps →
+            complete kind ps ≡ true → permits start (tree_of_parts kind ps) result self.new };
 
     /// Returns `false`: values are never serialized in a human-readable form.
     ///
@@ -611,10 +611,10 @@ pub trait Serializer {
     ) -> Result<Self::Ok, Self::Error>
     where
         Self: Sized,
-        ensures { Self.permits self.old (marked (mark_of name.now) (T.tree v.now)) result self.new }
+        ensures { Self.permits self.old (with_marker (marker_of name.now) (T.tree v.now)) result self.new }
     {
-        let mark = mark_named(name);
-        self.mark(mark);
+        let marker = marker_named(name);
+        self.set_marker(marker);
         v.serialize(self)
     }
 
@@ -641,8 +641,8 @@ pub trait Serializer {
             (λ seq. (list_reference seq).ghost_name ≡ self.entry.ghost_name) }
         ensures succeeds { IsOk result }
     {
-        let held = self.begin(Kind::List);
-        Ok(SerializeSeq::new(self, held))
+        let compound = self.begin_compound(CompoundKind::List);
+        Ok(SerializeSeq::new(self, compound))
     }
 
     /// Begins to serialize a tuple as a list of its elements.
@@ -667,8 +667,8 @@ pub trait Serializer {
             (λ tuple. (list_reference tuple).ghost_name ≡ self.entry.ghost_name) }
         ensures succeeds { IsOk result }
     {
-        let held = self.begin(Kind::List);
-        Ok(SerializeSeq::new(self, held))
+        let compound = self.begin_compound(CompoundKind::List);
+        Ok(SerializeSeq::new(self, compound))
     }
 
     /// Begins to serialize a tuple struct as a list of its fields. The name determines whether the
@@ -695,10 +695,10 @@ pub trait Serializer {
         Self: Sized,
         ensures opened { is_tagged name.now ≡ false →
             IfOk result
-            (λ fields. TupleStructHas Self.permits Self.has self.old None Kind.List fields []) }
+            (λ fields. TupleStructHas Self.permits Self.has self.old None CompoundKind.List fields []) }
         ensures single { is_tagged name.now ≡ true →
             IfOk result
-            (λ fields. TupleStructHas Self.permits Self.has self.old None Kind.Single fields []) }
+            (λ fields. TupleStructHas Self.permits Self.has self.old None CompoundKind.Single fields []) }
         ensures form { IfOk result (λ fields. is_single fields ≡ is_basic_name name.now) }
         ensures awaits { IfOk result (λ fields. (lacks_descriptor fields ≡ is_tagged name.now)
             × (is_open fields ≡ not (is_tagged name.now))) }
@@ -708,11 +708,11 @@ pub trait Serializer {
     {
         let single = is_basic_name(name);
         if is_tagged(name) {
-            let held = self.begin(Kind::Single);
-            return Ok(SerializeTupleStruct::new(self, held, single, true));
+            let compound = self.begin_compound(CompoundKind::Single);
+            return Ok(SerializeTupleStruct::new(self, compound, single, true));
         }
-        let held = self.begin(Kind::List);
-        Ok(SerializeTupleStruct::new(self, held, single, false))
+        let compound = self.begin_compound(CompoundKind::List);
+        Ok(SerializeTupleStruct::new(self, compound, single, false))
     }
 
     /// Begins to serialize a struct. The name determines the form: a list of the fields, a map from
@@ -739,8 +739,8 @@ pub trait Serializer {
     where
         Self: Sized,
         ensures opened { IfOk result
-            (λ fields. StructHas Self.permits Self.has self.old None Kind.Single fields []) }
-        ensures form { IfOk result (λ fields. form_of fields ≡ struct_form name.now) }
+            (λ fields. StructHas Self.permits Self.has self.old None CompoundKind.Single fields []) }
+        ensures form { IfOk result (λ fields. form_of fields ≡ struct_encoding name.now) }
         ensures empty { IfOk result (λ fields. (has_descriptor fields ≡ false)
             × (has_field fields ≡ false)) }
         ensures same_reference { IfOk result
@@ -749,8 +749,8 @@ pub trait Serializer {
     {
         // A struct of any form begins as a single compound, because a descriptor may precede its
         // fields. The list or the map is opened with the first field.
-        let held = self.begin(Kind::Single);
-        Ok(SerializeStruct::new(self, held, struct_form(name)))
+        let compound = self.begin_compound(CompoundKind::Single);
+        Ok(SerializeStruct::new(self, compound, struct_encoding(name)))
     }
 
     /// Serializes a described value: a descriptor, which is a ulong or a symbol, and a value.
@@ -802,8 +802,8 @@ pub trait Serializer {
             (λ map. (map_reference map).ghost_name ≡ self.entry.ghost_name) }
         ensures succeeds { IsOk result }
     {
-        let held = self.begin(Kind::Map);
-        Ok(SerializeMap::new(self, held))
+        let compound = self.begin_compound(CompoundKind::Map);
+        Ok(SerializeMap::new(self, compound))
     }
 
     /// Serializes a newtype variant. In an enum named `VALUE` it is the value itself, and in an
@@ -835,17 +835,17 @@ pub trait Serializer {
         ensures answered { Self.permits self.old (named_variant name.now index (T.tree v.now))
             result self.new }
         ensures invalid { is_value_name name.now ≡ false → is_descriptor_name name.now ≡ true →
-            IsErr result × IfErr result Self.is_misuse }
+            IsErr result × IfErr result Self.is_misuse_error }
     {
         if is_value_name(name) {
             return v.serialize(self);
         }
-        let mut held = self.begin(Kind::NewtypeVariant(index));
+        let mut compound = self.begin_compound(CompoundKind::NewtypeVariant(index));
         if is_descriptor_name(name) {
-            return Err(self.misuse(&mut held));
+            return Err(self.misuse_error(&mut compound));
         }
-        feed_part(self, &mut held, v)?;
-        self.end(held)
+        feed_part(self, &mut compound, v)?;
+        self.end(compound)
     }
 
     /// Begins to serialize a tuple variant.
@@ -874,8 +874,8 @@ pub trait Serializer {
             (λ variant. (variant_reference variant).ghost_name ≡ self.entry.ghost_name) }
         ensures succeeds { IsOk result }
     {
-        let held = self.begin(Kind::Variant(index));
-        Ok(SerializeTupleVariant::new(self, held))
+        let compound = self.begin_compound(CompoundKind::Variant(index));
+        Ok(SerializeTupleVariant::new(self, compound))
     }
 
     /// Begins to serialize a struct variant.
@@ -905,7 +905,7 @@ pub trait Serializer {
             (λ variant. (struct_variant_reference variant).ghost_name ≡ self.entry.ghost_name) }
         ensures succeeds { IsOk result }
     {
-        let opened = self.begin(Kind::Variant(index));
+        let opened = self.begin_compound(CompoundKind::Variant(index));
         Ok(SerializeStructVariant::new(self, opened))
     }
 }

@@ -1,28 +1,28 @@
 -- A descriptor and the value after it.
 use Rattle.std.proofs.Common.{◌≡◌, ℕ, ◌+◌, ◌<◌, Option, Some, None, Bool, true, false, ◌&&◌, Result, Ok, Err, length, refl, ap, sym, ◌∙◌, subst, arith, length-append, is_some}
-use Rattle.amqp_size.specs.declared.walk_error.WalkError.{WalkError}
-use Rattle.amqp_size.specs.declared.walk_error.WalkError.TheVariants as error
+use Rattle.amqp_size.specs.declared.size_error.SizeError.{SizeError}
+use Rattle.amqp_size.specs.declared.size_error.SizeError.TheVariants as error
 use Rattle.amqp_ser.specs.Tree.{Scalar, null, bool, ubyte, ushort, uint, ulong, byte, short, int, long, float, double, decimal32, decimal64, decimal128, char, timestamp, uuid, binary, string, symbol, Descriptor, name, code, Tree, scalar, list, array, map, described, variant, lazy, transparent}
 use Rattle.amqp_ser.specs.Limits.{is_length}
 use Rattle.amqp_ser.specs.Scalars.{scalar_form}
 use Rattle.amqp_ser.specs.Encoding.{encoding, descriptor_form}
 use Rattle.amqp_ser.specs.Writable.{uniform_arrays, within_limits, scalar_fits, descriptor_fits}
 use Rattle.amqp_ser.specs.Composites.{scalar_descriptor, descriptor_of, as_described}
-use Rattle.amqp_ser.specs.Marked.{marked}
-use Rattle.amqp_ser.specs.declared.mark.Mark.TheVariants as mark
+use Rattle.amqp_ser.specs.Marked.{with_marker}
+use Rattle.amqp_ser.specs.declared.marker.Marker.TheVariants as marker
 use Rattle.amqp_size.specs.Refused.{refuses_none}
 use Rattle.amqp_ser.proofs.Bools.{left_false, right_false, le_false, le_true, is_le}
-use Rattle.amqp_size.specs.Position.{position_of, meant, without_prefix, base_position, suits, next, extent, within_limits_at, described_pending, the_mark}
-use Rattle.amqp_size.specs.SizeSerializer.{at_position, refused}
-use Rattle.amqp_size.specs.AddPart.{undescribed}
+use Rattle.amqp_size.specs.Position.{position_of, meant, without_prefix, base_position, suits, next, extent, within_limits_at, described_context, the_marker}
+use Rattle.amqp_size.specs.SizeSerializer.{AtPosition, refused}
+use Rattle.amqp_size.specs.AddPart.{Undescribed}
 use Rattle.amqp_size.specs.declared.position.BasePosition.{BasePosition}
 use Rattle.amqp_size.specs.declared.position.BasePosition.TheVariants as base
 use Rattle.amqp_size.specs.WholePosition.{Position}
 use Rattle.amqp_size.specs.WholePosition as position
-use Rattle.amqp_size.specs.WholePending.{Pending}
-use Rattle.amqp_size.specs.WholePending as pending
-use Rattle.amqp_size.specs.declared.scalar_mark.ScalarMark.{ScalarMark}
-use Rattle.amqp_size.specs.declared.scalar_mark.ScalarMark.TheVariants as scalar_mark
+use Rattle.amqp_size.specs.WholeContext.{Context}
+use Rattle.amqp_size.specs.WholeContext as context
+use Rattle.amqp_size.specs.declared.scalar_marker.ScalarMarker.{ScalarMarker}
+use Rattle.amqp_size.specs.declared.scalar_marker.ScalarMarker.TheVariants as scalar_marker
 
 -- The bytes and the limit of a descriptor are those of its scalar.
 of_scalar : (s : Scalar) (x : Descriptor) → scalar_descriptor s ≡ Some x → (scalar_fits s ≡ descriptor_fits x) × (scalar_form s ≡ descriptor_form x)
@@ -64,7 +64,7 @@ some_of None h = cc
 some_of (Some x) h = (x, refl)
 
 -- A tree that is measured at the position of a descriptor is a descriptor within its limit.
-pub counted_descriptor : (d : Option Tree) (n : ℕ) (after : Pending) → at_position position.Descriptor d (Ok n) after →
+pub counted_descriptor : (d : Option Tree) (n : ℕ) (after : Context) → AtPosition position.Descriptor d (Ok n) after →
     (x : Descriptor) × ((descriptor_of d ≡ Some x) × ((n ≡ length (descriptor_form x)) × (descriptor_fits x ≡ true)))
 counted_descriptor None n after h = absurd h
 counted_descriptor (Some t) n after h =
@@ -77,9 +77,9 @@ length-described x t n e = simp length-append (omega arith)
 
 value_step : (p : Position) (k : ℕ) (b : BasePosition) (x : Descriptor) → without_prefix p ≡ base_position b → ((t : Tree) → within_limits_at (position.Value k b) t ≡ within_limits_at p (described x t)) → ((t : Tree) → suits (position.Value k b) t ≡ suits p (described x t)) →
     ((t : Tree) → suits p (described x t) ≡ true → extent (position.Value k b) t ≡ extent p (described x t)) → ((t : Tree) → next p (described x t) ≡ base_position b) →
-    (t : Option Tree) (r : Result ℕ WalkError) (after : Pending) → at_position (position.Value k b) t r after → at_position p (as_described (Some x) t) r after
+    (t : Option Tree) (r : Result ℕ SizeError) (after : Context) → AtPosition (position.Value k b) t r after → AtPosition p (as_described (Some x) t) r after
 value_step p k b x same limit fitting len then None (Ok n) after h = absurd h
-value_step p k b x same limit fitting len then None (Err e) after h = (h.0, h.1 ∙ ap pending.Plain (sym same))
+value_step p k b x same limit fitting len then None (Err e) after h = (h.0, h.1 ∙ ap context.Plain (sym same))
 value_step p k b x same limit fitting len then (Some t) (Ok n) after h =
     let s = sym (fitting t) ∙ h.suited in
     record {
@@ -87,10 +87,10 @@ value_step p k b x same limit fitting len then (Some t) (Ok n) after h =
       uniform_arrays_it = h.uniform_arrays_it;
       suited = s;
       len = h.len ∙ len t s;
-      position = h.position ∙ ap pending.Plain (sym (then t));
+      position = h.position ∙ ap context.Plain (sym (then t));
     }
-value_step p k b x same limit fitting len then (Some t) (Err error.TooLong) after h = (sym (limit t) ∙ h.0, h.1 ∙ ap pending.Plain (sym same))
-value_step p k b x same limit fitting len then (Some t) (Err error.InvalidValue) after h = (ap (λ s. uniform_arrays t && s) (sym (fitting t)) ∙ h.0, h.1 ∙ ap pending.Plain (sym same))
+value_step p k b x same limit fitting len then (Some t) (Err error.TooLong) after h = (sym (limit t) ∙ h.0, h.1 ∙ ap context.Plain (sym same))
+value_step p k b x same limit fitting len then (Some t) (Err error.InvalidValue) after h = (ap (λ s. uniform_arrays t && s) (sym (fitting t)) ∙ h.0, h.1 ∙ ap context.Plain (sym same))
 value_step p k b x same limit fitting len then (Some t) (Err e) after h = absurd h.0
 
 -- The limits of a described value at a position.
@@ -115,71 +115,71 @@ limit_here x n e f t =
 never : false ≡ true → ⊥
 never q = cc
 
-pub no_scalar_described : (m : ScalarMark) (x : Descriptor) (t : Option Tree) → marked (the_mark m) (as_described (Some x) t) ≡ None
+pub no_scalar_described : (m : ScalarMarker) (x : Descriptor) (t : Option Tree) → with_marker (the_marker m) (as_described (Some x) t) ≡ None
 no_scalar_described m x None = refl
-no_scalar_described scalar_mark.Symbol x (Some t) = refl
-no_scalar_described scalar_mark.Timestamp x (Some t) = refl
-no_scalar_described scalar_mark.Decimal32 x (Some t) = refl
-no_scalar_described scalar_mark.Decimal64 x (Some t) = refl
-no_scalar_described scalar_mark.Decimal128 x (Some t) = refl
-no_scalar_described scalar_mark.Uuid x (Some t) = refl
-no_scalar_described scalar_mark.Lazy x (Some t) = refl
+no_scalar_described scalar_marker.Symbol x (Some t) = refl
+no_scalar_described scalar_marker.Timestamp x (Some t) = refl
+no_scalar_described scalar_marker.Decimal32 x (Some t) = refl
+no_scalar_described scalar_marker.Decimal64 x (Some t) = refl
+no_scalar_described scalar_marker.Decimal128 x (Some t) = refl
+no_scalar_described scalar_marker.Uuid x (Some t) = refl
+no_scalar_described scalar_marker.Lazy x (Some t) = refl
 
-pub no_array_described : (x : Descriptor) (t : Option Tree) → marked mark.Array (as_described (Some x) t) ≡ None
+pub no_array_described : (x : Descriptor) (t : Option Tree) → with_marker marker.Array (as_described (Some x) t) ≡ None
 no_array_described x None = refl
 no_array_described x (Some t) = refl
 
-pub no_transparent_described : (x : Descriptor) (t : Option Tree) → marked mark.Transparent (as_described (Some x) t) ≡ None
+pub no_transparent_described : (x : Descriptor) (t : Option Tree) → with_marker marker.Transparent (as_described (Some x) t) ≡ None
 no_transparent_described x None = refl
 no_transparent_described x (Some t) = refl
 
-some_pending : (u v : Pending) → Some u ≡ Some v → v ≡ u
-some_pending u v q = cc
+some_context : (u v : Context) → Some u ≡ Some v → v ≡ u
+some_context u v q = cc
 
 -- Equal pending positions permit the same results.
-answered : (u v : Pending) (t : Option Tree) (r : Result ℕ WalkError) (after : Pending) → v ≡ u → at_position (position_of v) (meant v t) r after → at_position (position_of u) (meant u t) r after
-answered u v t r after q h = subst (λ w. at_position (position_of w) (meant w t) r after) q h
+answered : (u v : Context) (t : Option Tree) (r : Result ℕ SizeError) (after : Context) → v ≡ u → AtPosition (position_of v) (meant v t) r after → AtPosition (position_of u) (meant u t) r after
+answered u v t r after q h = subst (λ w. AtPosition (position_of w) (meant w t) r after) q h
 
 -- A result that is permitted for the value is permitted for the described value.
-pub described_step : (u v : Pending) (n : ℕ) (x : Descriptor) → described_pending u n ≡ Some v → n ≡ length (descriptor_form x) → descriptor_fits x ≡ true →
-    (t : Option Tree) (r : Result ℕ WalkError) (after : Pending) → at_position (position_of v) (meant v t) r after → at_position (position_of u) (meant u (as_described (Some x) t)) r after
-described_step (pending.Plain position.Root) v n x s e f t r after h =
+pub described_step : (u v : Context) (n : ℕ) (x : Descriptor) → described_context u n ≡ Some v → n ≡ length (descriptor_form x) → descriptor_fits x ≡ true →
+    (t : Option Tree) (r : Result ℕ SizeError) (after : Context) → AtPosition (position_of v) (meant v t) r after → AtPosition (position_of u) (meant u (as_described (Some x) t)) r after
+described_step (context.Plain position.Root) v n x s e f t r after h =
     value_step position.Root (n + 1) base.Root x refl (λ t. limit_here x n e f t) (λ t. refl) (λ t q. sym (length-described x t n e)) (λ t. refl) t r after
-    (answered (pending.Plain (position.Value (n + 1) base.Root)) v t r after (some_pending _ v s) h)
-described_step (pending.Plain position.Inside) v n x s e f t r after h =
-    value_step position.Inside (n + 1) base.Inside x refl (λ t. limit_here x n e f t) (λ t. refl) (λ t q. sym (length-described x t n e)) (λ t. refl) t r after
-    (answered (pending.Plain (position.Value (n + 1) base.Inside)) v t r after (some_pending _ v s) h)
-described_step (pending.Plain position.First) v n x s e f t r after h =
-    value_step position.First (n + 1) base.First x refl (λ t. limit_here x n e f t) (λ t. refl) (λ t q. absurd (never q)) (λ t. refl) t r after
-    (answered (pending.Plain (position.Value (n + 1) base.First)) v t r after (some_pending _ v s) h)
-described_step (pending.Plain (position.Element c)) v n x s e f t r after h =
-    value_step (position.Element c) (n + 1) (base.Element c) x refl (λ t. limit_here x n e f t) (λ t. refl) (λ t q. absurd (never q)) (λ t. refl) t r after
-    (answered (pending.Plain (position.Value (n + 1) (base.Element c))) v t r after (some_pending _ v s) h)
-described_step (pending.Plain position.Descriptor) v n x s e f t r after h = cc
-described_step (pending.Plain (position.Value k b)) v n x s e f t r after h =
+    (answered (context.Plain (position.Value (n + 1) base.Root)) v t r after (some_context _ v s) h)
+described_step (context.Plain position.InCompound) v n x s e f t r after h =
+    value_step position.InCompound (n + 1) base.InCompound x refl (λ t. limit_here x n e f t) (λ t. refl) (λ t q. sym (length-described x t n e)) (λ t. refl) t r after
+    (answered (context.Plain (position.Value (n + 1) base.InCompound)) v t r after (some_context _ v s) h)
+described_step (context.Plain position.FirstElement) v n x s e f t r after h =
+    value_step position.FirstElement (n + 1) base.FirstElement x refl (λ t. limit_here x n e f t) (λ t. refl) (λ t q. absurd (never q)) (λ t. refl) t r after
+    (answered (context.Plain (position.Value (n + 1) base.FirstElement)) v t r after (some_context _ v s) h)
+described_step (context.Plain (position.OtherElement c)) v n x s e f t r after h =
+    value_step (position.OtherElement c) (n + 1) (base.OtherElement c) x refl (λ t. limit_here x n e f t) (λ t. refl) (λ t q. absurd (never q)) (λ t. refl) t r after
+    (answered (context.Plain (position.Value (n + 1) (base.OtherElement c))) v t r after (some_context _ v s) h)
+described_step (context.Plain position.Descriptor) v n x s e f t r after h = cc
+described_step (context.Plain (position.Value k b)) v n x s e f t r after h =
     value_step (position.Value k b) (k + (n + 1)) b x refl (λ t. limit_after x n k e f t) (λ t. refl)
     (λ t q. let len = length-described x t n e in omega arith) (λ t. refl) t r after
-    (answered (pending.Plain (position.Value (k + (n + 1)) b)) v t r after (some_pending _ v s) h)
-described_step (pending.Array p) v n x s e f t r after h =
-    subst (λ o. at_position p o r after) (sym (no_array_described x t)) (answered (pending.Nothing p) v t r after (some_pending _ v s) h)
-described_step (pending.Transparent p) v n x s e f t r after h =
-    subst (λ o. at_position p o r after) (sym (no_transparent_described x t)) (answered (pending.Nothing p) v t r after (some_pending _ v s) h)
-described_step (pending.Scalar m p) v n x s e f t r after h =
-    subst (λ o. at_position p o r after) (sym (no_scalar_described m x t)) (answered (pending.Nothing p) v t r after (some_pending _ v s) h)
-described_step (pending.Nothing p) v n x s e f t r after h = answered (pending.Nothing p) v t r after (some_pending _ v s) h
+    (answered (context.Plain (position.Value (k + (n + 1)) b)) v t r after (some_context _ v s) h)
+described_step (context.Array p) v n x s e f t r after h =
+    subst (λ o. AtPosition p o r after) (sym (no_array_described x t)) (answered (context.Nothing p) v t r after (some_context _ v s) h)
+described_step (context.Transparent p) v n x s e f t r after h =
+    subst (λ o. AtPosition p o r after) (sym (no_transparent_described x t)) (answered (context.Nothing p) v t r after (some_context _ v s) h)
+described_step (context.Scalar m p) v n x s e f t r after h =
+    subst (λ o. AtPosition p o r after) (sym (no_scalar_described m x t)) (answered (context.Nothing p) v t r after (some_context _ v s) h)
+described_step (context.Nothing p) v n x s e f t r after h = answered (context.Nothing p) v t r after (some_context _ v s) h
 
 -- After the value, the serializer is at the position of the described value.
-pub described_rest : (u v : Pending) (n : ℕ) → described_pending u n ≡ Some v → without_prefix (position_of u) ≡ without_prefix (position_of v)
-described_rest (pending.Plain position.Root) v n s = sym (ap (λ w. without_prefix (position_of w)) (some_pending _ v s))
-described_rest (pending.Plain position.Inside) v n s = sym (ap (λ w. without_prefix (position_of w)) (some_pending _ v s))
-described_rest (pending.Plain position.First) v n s = sym (ap (λ w. without_prefix (position_of w)) (some_pending _ v s))
-described_rest (pending.Plain (position.Element c)) v n s = sym (ap (λ w. without_prefix (position_of w)) (some_pending _ v s))
-described_rest (pending.Plain position.Descriptor) v n s = cc
-described_rest (pending.Plain (position.Value k b)) v n s = sym (ap (λ w. without_prefix (position_of w)) (some_pending _ v s))
-described_rest (pending.Array p) v n s = sym (ap (λ w. without_prefix (position_of w)) (some_pending _ v s))
-described_rest (pending.Transparent p) v n s = sym (ap (λ w. without_prefix (position_of w)) (some_pending _ v s))
-described_rest (pending.Scalar m p) v n s = sym (ap (λ w. without_prefix (position_of w)) (some_pending _ v s))
-described_rest (pending.Nothing p) v n s = sym (ap (λ w. without_prefix (position_of w)) (some_pending _ v s))
+pub described_rest : (u v : Context) (n : ℕ) → described_context u n ≡ Some v → without_prefix (position_of u) ≡ without_prefix (position_of v)
+described_rest (context.Plain position.Root) v n s = sym (ap (λ w. without_prefix (position_of w)) (some_context _ v s))
+described_rest (context.Plain position.InCompound) v n s = sym (ap (λ w. without_prefix (position_of w)) (some_context _ v s))
+described_rest (context.Plain position.FirstElement) v n s = sym (ap (λ w. without_prefix (position_of w)) (some_context _ v s))
+described_rest (context.Plain (position.OtherElement c)) v n s = sym (ap (λ w. without_prefix (position_of w)) (some_context _ v s))
+described_rest (context.Plain position.Descriptor) v n s = cc
+described_rest (context.Plain (position.Value k b)) v n s = sym (ap (λ w. without_prefix (position_of w)) (some_context _ v s))
+described_rest (context.Array p) v n s = sym (ap (λ w. without_prefix (position_of w)) (some_context _ v s))
+described_rest (context.Transparent p) v n s = sym (ap (λ w. without_prefix (position_of w)) (some_context _ v s))
+described_rest (context.Scalar m p) v n s = sym (ap (λ w. without_prefix (position_of w)) (some_context _ v s))
+described_rest (context.Nothing p) v n s = sym (ap (λ w. without_prefix (position_of w)) (some_context _ v s))
 
 -- No value is accepted after a descriptor that exceeds the limit, and a described value is not a
 -- descriptor.
@@ -193,22 +193,22 @@ past_after k b x n e h t =
     let len = length-described x t n e in
     left_false (is_length (k + length (encoding (described x t)))) (within_limits (described x t)) (le_false (k + length (encoding (described x t))) 18446744073709551615 (omega arith))
 
-too_long : (p : Position) (x : Descriptor) → ((t : Tree) → within_limits_at p (described x t) ≡ false) → (t : Option Tree) (e : WalkError) → e ≡ error.TooLong → at_position p (as_described (Some x) t) (Err e) (pending.Plain (without_prefix p))
+too_long : (p : Position) (x : Descriptor) → ((t : Tree) → within_limits_at p (described x t) ≡ false) → (t : Option Tree) (e : SizeError) → e ≡ error.TooLong → AtPosition p (as_described (Some x) t) (Err e) (context.Plain (without_prefix p))
 too_long p x h None e q = (subst refuses_none (sym q) tt, refl)
 too_long p x h (Some t) e q = (subst (λ y. refused p (described x t) y) (sym q) (h t), refl)
 
-pub no_nested : (x : Descriptor) (t : Option Tree) (e : WalkError) → e ≡ error.InvalidValue → at_position position.Descriptor (as_described (Some x) t) (Err e) (pending.Plain position.Descriptor)
+pub no_nested : (x : Descriptor) (t : Option Tree) (e : SizeError) → e ≡ error.InvalidValue → AtPosition position.Descriptor (as_described (Some x) t) (Err e) (context.Plain position.Descriptor)
 no_nested x None e q = (subst refuses_none (sym q) tt, refl)
 no_nested x (Some t) e q = (subst (λ y. refused position.Descriptor (described x t) y) (sym q) (right_false (uniform_arrays t) false refl), refl)
 
-pub described_refusal : (u : Pending) (n : ℕ) (x : Descriptor) (e : WalkError) → undescribed u n e → n ≡ length (descriptor_form x) → (t : Option Tree) → at_position (position_of u) (meant u (as_described (Some x) t)) (Err e) (pending.Plain (without_prefix (position_of u)))
-described_refusal (pending.Plain position.Root) n x e h l t = too_long position.Root x (past_here x n l h.1) t e h.0
-described_refusal (pending.Plain position.Inside) n x e h l t = too_long position.Inside x (past_here x n l h.1) t e h.0
-described_refusal (pending.Plain position.First) n x e h l t = too_long position.First x (past_here x n l h.1) t e h.0
-described_refusal (pending.Plain (position.Element c)) n x e h l t = too_long (position.Element c) x (past_here x n l h.1) t e h.0
-described_refusal (pending.Plain position.Descriptor) n x e h l t = no_nested x t e h
-described_refusal (pending.Plain (position.Value k b)) n x e h l t = too_long (position.Value k b) x (past_after k b x n l h.1) t e h.0
-described_refusal (pending.Array p) n x e h l t = absurd h
-described_refusal (pending.Transparent p) n x e h l t = absurd h
-described_refusal (pending.Scalar m p) n x e h l t = absurd h
-described_refusal (pending.Nothing p) n x e h l t = absurd h
+pub described_refusal : (u : Context) (n : ℕ) (x : Descriptor) (e : SizeError) → Undescribed u n e → n ≡ length (descriptor_form x) → (t : Option Tree) → AtPosition (position_of u) (meant u (as_described (Some x) t)) (Err e) (context.Plain (without_prefix (position_of u)))
+described_refusal (context.Plain position.Root) n x e h l t = too_long position.Root x (past_here x n l h.1) t e h.0
+described_refusal (context.Plain position.InCompound) n x e h l t = too_long position.InCompound x (past_here x n l h.1) t e h.0
+described_refusal (context.Plain position.FirstElement) n x e h l t = too_long position.FirstElement x (past_here x n l h.1) t e h.0
+described_refusal (context.Plain (position.OtherElement c)) n x e h l t = too_long (position.OtherElement c) x (past_here x n l h.1) t e h.0
+described_refusal (context.Plain position.Descriptor) n x e h l t = no_nested x t e h
+described_refusal (context.Plain (position.Value k b)) n x e h l t = too_long (position.Value k b) x (past_after k b x n l h.1) t e h.0
+described_refusal (context.Array p) n x e h l t = absurd h
+described_refusal (context.Transparent p) n x e h l t = absurd h
+described_refusal (context.Scalar m p) n x e h l t = absurd h
+described_refusal (context.Nothing p) n x e h l t = absurd h

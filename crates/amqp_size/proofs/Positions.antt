@@ -1,7 +1,7 @@
 -- What positions require of a tree, and what an error at a position says about it.
 use Rattle.std.proofs.Common.{◌≡◌, ℕ, ◌+◌, Option, Some, None, Bool, true, false, Err, length, refl, ◌∙◌, is_some}
-use Rattle.amqp_size.specs.declared.walk_error.WalkError.{WalkError}
-use Rattle.amqp_size.specs.declared.walk_error.WalkError.TheVariants as error
+use Rattle.amqp_size.specs.declared.size_error.SizeError.{SizeError}
+use Rattle.amqp_size.specs.declared.size_error.SizeError.TheVariants as error
 use Rattle.amqp_ser.specs.Tree.{Tree, Trees, scalar, list, array, map, described, variant, lazy, transparent, no_trees, more}
 use Rattle.amqp_ser.specs.Limits.{is_length}
 use Rattle.amqp_ser.specs.Encoding.{encoding, constructor}
@@ -10,20 +10,20 @@ use Rattle.amqp_ser.specs.Composites.{descriptor_of}
 use Rattle.amqp_size.specs.Refused.{refuses_none}
 use Rattle.amqp_ser.proofs.Bools.{right_false}
 use Rattle.amqp_size.specs.Position.{meant, without_prefix, suits, element, form, extent, within_limits_at, takes_described, is_gathered, limit_of}
-use Rattle.amqp_size.specs.SizeSerializer.{at_position, refused, inner_of}
+use Rattle.amqp_size.specs.SizeSerializer.{AtPosition, refused, inner_position_of}
 use Rattle.amqp_size.specs.WholePosition.{Position}
-use Rattle.amqp_size.specs.WholePosition.{Root, Inside, First, Element, Descriptor, Value}
-use Rattle.amqp_size.specs.WholePending.{Pending}
-use Rattle.amqp_size.specs.WholePending as pending
-use Rattle.amqp_size.specs.declared.shape.Shape.{Shape}
-use Rattle.amqp_size.specs.declared.shape.Shape.TheVariants as shape
+use Rattle.amqp_size.specs.WholePosition.{Root, InCompound, FirstElement, OtherElement, Descriptor, Value}
+use Rattle.amqp_size.specs.WholeContext.{Context}
+use Rattle.amqp_size.specs.WholeContext as context
+use Rattle.amqp_size.specs.declared.resolved_kind.ResolvedKind.{ResolvedKind}
+use Rattle.amqp_size.specs.declared.resolved_kind.ResolvedKind.TheVariants as resolved_kind
 
 -- A tree that exceeds a limit exceeds it at every position.
 pub long_at : (p : Position) (t : Tree) → within_limits t ≡ false → within_limits_at p t ≡ false
 long_at Root t h = h
-long_at Inside t h = h
-long_at First t h = h
-long_at (Element c) t h = h
+long_at InCompound t h = h
+long_at FirstElement t h = h
+long_at (OtherElement c) t h = h
 long_at Descriptor t h = h
 long_at (Value n b) t h = right_false (is_length (n + length (encoding t))) (within_limits t) h
 
@@ -40,9 +40,9 @@ no_descriptor (transparent ts) h = refl
 -- Only the root accepts a tree with something transparent inside.
 pub not_inside : (p : Position) (t : Tree) → placed t ≡ inside t → inside t ≡ false → suits p t ≡ false
 not_inside Root t e h = e ∙ h
-not_inside Inside t e h = h
-not_inside First t e h = right_false (is_some (constructor t)) (inside t) h
-not_inside (Element c) t e h = right_false (same_constructor (Some c) (constructor t)) (inside t) h
+not_inside InCompound t e h = h
+not_inside FirstElement t e h = right_false (is_some (constructor t)) (inside t) h
+not_inside (OtherElement c) t e h = right_false (same_constructor (Some c) (constructor t)) (inside t) h
 not_inside Descriptor t e h = no_descriptor t h
 not_inside (Value n b) t e h = right_false (takes_described b) (inside t) h
 
@@ -51,7 +51,7 @@ within_element : (o : Option ℕ) (t : Tree) → within_limits_at (element o) t 
 within_element None t = refl
 within_element (Some c) t = refl
 
-pub within_inner : (arr : Bool) (ts : Trees) (t : Tree) → within_limits_at (inner_of arr ts) t ≡ within_limits t
+pub within_inner : (arr : Bool) (ts : Trees) (t : Tree) → within_limits_at (inner_position_of arr ts) t ≡ within_limits t
 within_inner false ts t = refl
 within_inner true no_trees t = refl
 within_inner true (more v ts) t = within_element (constructor v) t
@@ -60,34 +60,34 @@ extent_element : (o : Option ℕ) (t : Tree) → extent (element o) t ≡ length
 extent_element None t = refl
 extent_element (Some c) t = refl
 
-pub extent_inner : (arr : Bool) (ts : Trees) (t : Tree) → extent (inner_of arr ts) t ≡ length (form (inner_of arr ts) t)
+pub extent_inner : (arr : Bool) (ts : Trees) (t : Tree) → extent (inner_position_of arr ts) t ≡ length (form (inner_position_of arr ts) t)
 extent_inner false ts t = refl
 extent_inner true no_trees t = refl
 extent_inner true (more v ts) t = extent_element (constructor v) t
 
-pub meant_none : (u : Pending) → meant u None ≡ None
-meant_none (pending.Plain p) = refl
-meant_none (pending.Array p) = refl
-meant_none (pending.Transparent p) = refl
-meant_none (pending.Scalar m p) = refl
-meant_none (pending.Nothing p) = refl
+pub meant_none : (u : Context) → meant u None ≡ None
+meant_none (context.Plain p) = refl
+meant_none (context.Array p) = refl
+meant_none (context.Transparent p) = refl
+meant_none (context.Scalar m p) = refl
+meant_none (context.Nothing p) = refl
 
-pub refused-none : (p : Position) (t : Tree) (e : WalkError) → refused p t e → refuses_none e
+pub refused-none : (p : Position) (t : Tree) (e : SizeError) → refused p t e → refuses_none e
 refused-none p t error.TooLong h = tt
 refused-none p t error.InvalidValue h = tt
 refused-none p t e h = absurd h
 
 -- Every permitted error is also permitted if there is no tree, and resets the serializer.
-pub refusal : (p : Position) (o : Option Tree) (e : WalkError) (after : Pending) → at_position p o (Err e) after → refuses_none e × (after ≡ pending.Plain (without_prefix p))
+pub refusal : (p : Position) (o : Option Tree) (e : SizeError) (after : Context) → AtPosition p o (Err e) after → refuses_none e × (after ≡ context.Plain (without_prefix p))
 refusal p None e after h = h
 refusal p (Some t) e after h = (refused-none p t e h.0, h.1)
 
-pub gathered_limit : (s : Shape) → is_gathered s ≡ true → limit_of s ≡ 4294967291
-gathered_limit shape.List h = refl
-gathered_limit shape.Map h = refl
-gathered_limit (shape.Variant i) h = refl
-gathered_limit (shape.NewtypeVariant i) h = refl
-gathered_limit shape.Array h = refl
-gathered_limit shape.Transparent h = cc
-gathered_limit shape.Single h = cc
-gathered_limit shape.Refused h = refl
+pub gathered_limit : (s : ResolvedKind) → is_gathered s ≡ true → limit_of s ≡ 4294967291
+gathered_limit resolved_kind.List h = refl
+gathered_limit resolved_kind.Map h = refl
+gathered_limit (resolved_kind.Variant i) h = refl
+gathered_limit (resolved_kind.NewtypeVariant i) h = refl
+gathered_limit resolved_kind.Array h = refl
+gathered_limit resolved_kind.Transparent h = cc
+gathered_limit resolved_kind.Single h = cc
+gathered_limit resolved_kind.Refused h = refl

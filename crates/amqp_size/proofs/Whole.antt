@@ -1,145 +1,145 @@
 -- The tree of a compound that has ended.
 use Rattle.std.proofs.Common.{◌≡◌, ℕ, ◌+◌, ◌*◌, List, ◌++◌, Option, Some, None, true, false, Result, length, refl, ap, sym, ◌∙◌, subst, arith}
-use Rattle.amqp_size.specs.declared.walk_error.WalkError.{WalkError}
+use Rattle.amqp_size.specs.declared.size_error.SizeError.{SizeError}
 use Rattle.amqp_ser.specs.Tree.{uint, Tree, Trees, Pairs, list, map, variant, count, pair_count}
 use Rattle.amqp_ser.specs.Limits.{fits}
 use Rattle.amqp_ser.specs.Scalars.{scalar_form}
 use Rattle.amqp_ser.specs.Encoding.{encoding, payload, encoding_each, encoding_pairs}
 use Rattle.amqp_ser.specs.Writable.{uniform_arrays, within_limits, within_limits_each, within_limits_pairs, inside}
-use Rattle.amqp_ser.specs.Compounds.{as_kind, as_map, as_variant, in_pairs, only, whole, complete}
-use Rattle.amqp_ser.specs.Marked.{marked, marked_tree}
-use Rattle.amqp_ser.specs.declared.kind.Kind.{Kind}
-use Rattle.amqp_ser.specs.declared.kind.Kind.TheVariants as kinds
-use Rattle.amqp_ser.specs.declared.mark.Mark.TheVariants as mark
+use Rattle.amqp_ser.specs.Compounds.{as_kind, as_map, as_variant, in_pairs, only, tree_of_parts, complete}
+use Rattle.amqp_ser.specs.Marked.{with_marker, marked_tree}
+use Rattle.amqp_ser.specs.declared.kind.CompoundKind.{CompoundKind}
+use Rattle.amqp_ser.specs.declared.kind.CompoundKind.TheVariants as kinds
+use Rattle.amqp_ser.specs.declared.marker.Marker.TheVariants as marker
 use Rattle.amqp_ser.proofs.Bools.{both}
 use Rattle.amqp_ser.proofs.Pairing.{Pairing, pairing, paired-even}
-use Rattle.amqp_size.specs.Position.{position_of, meant, shape_of, is_array, the_mark}
-use Rattle.amqp_size.specs.SizeSerializer.{at_position, HoldsGathered, content}
+use Rattle.amqp_size.specs.Position.{position_of, meant, resolved_kind_of, is_array, the_marker}
+use Rattle.amqp_size.specs.SizeSerializer.{AtPosition, HoldsGathered, body_bytes}
 use Rattle.amqp_size.specs.Width.{map_width, list_width, uint_width}
 use Rattle.amqp_size.specs.WholePosition.{Position}
-use Rattle.amqp_size.specs.WholePending.{Pending}
-use Rattle.amqp_size.specs.WholePending as pending
-use Rattle.amqp_size.specs.declared.scalar_mark.ScalarMark.{ScalarMark}
-use Rattle.amqp_size.specs.declared.scalar_mark.ScalarMark.TheVariants as scalar_mark
-use Rattle.amqp_size.specs.declared.shape.Shape.TheVariants as shape
+use Rattle.amqp_size.specs.WholeContext.{Context}
+use Rattle.amqp_size.specs.WholeContext as context
+use Rattle.amqp_size.specs.declared.scalar_marker.ScalarMarker.{ScalarMarker}
+use Rattle.amqp_size.specs.declared.scalar_marker.ScalarMarker.TheVariants as scalar_marker
+use Rattle.amqp_size.specs.declared.resolved_kind.ResolvedKind.TheVariants as resolved_kind
 use Rattle.amqp_size.specs.declared.serializer.SizeSerializer.{SizeSerializer}
 use Rattle.amqp_size.specs.declared.open_compound.OpenCompound.{OpenCompound}
 use Rattle.amqp_size.proofs.Lengths.{length-counted, length-list_form, length-variant}
 
 -- A result for the tree under the pending marker is a result for the tree that is serialized.
-pub stands : (u : Pending) (q : Position) (o : Option Tree) (x : Tree) (r : Result ℕ WalkError) (after : Pending) → position_of u ≡ q → meant u o ≡ Some x → at_position q (Some x) r after → at_position (position_of u) (meant u o) r after
-stands u q o x r after a b h = subst (λ w. at_position w (meant u o) r after) (sym a) (subst (λ w. at_position q w r after) (sym b) h)
+pub stands : (u : Context) (q : Position) (o : Option Tree) (x : Tree) (r : Result ℕ SizeError) (after : Context) → position_of u ≡ q → meant u o ≡ Some x → AtPosition q (Some x) r after → AtPosition (position_of u) (meant u o) r after
+stands u q o x r after a b h = subst (λ w. AtPosition w (meant u o) r after) (sym a) (subst (λ w. AtPosition q w r after) (sym b) h)
 
-pub stands_none : (u : Pending) (q : Position) (o : Option Tree) (r : Result ℕ WalkError) (after : Pending) → position_of u ≡ q → meant u o ≡ None → at_position q None r after → at_position (position_of u) (meant u o) r after
-stands_none u q o r after a b h = subst (λ w. at_position w (meant u o) r after) (sym a) (subst (λ w. at_position q w r after) (sym b) h)
+pub stands_none : (u : Context) (q : Position) (o : Option Tree) (r : Result ℕ SizeError) (after : Context) → position_of u ≡ q → meant u o ≡ None → AtPosition q None r after → AtPosition (position_of u) (meant u o) r after
+stands_none u q o r after a b h = subst (λ w. AtPosition w (meant u o) r after) (sym a) (subst (λ w. AtPosition q w r after) (sym b) h)
 
-pub map_shape : (u : Pending) (k : Kind) → shape_of u k ≡ shape.Map → (u ≡ pending.Plain (position_of u)) × (k ≡ kinds.Map)
-map_shape (pending.Plain p) kinds.List h = cc
-map_shape (pending.Plain p) kinds.Map h = (refl, refl)
-map_shape (pending.Plain p) (kinds.Variant i) h = cc
-map_shape (pending.Plain p) (kinds.NewtypeVariant i) h = cc
-map_shape (pending.Plain p) kinds.Single h = cc
-map_shape (pending.Array p) kinds.List h = cc
-map_shape (pending.Array p) kinds.Map h = cc
-map_shape (pending.Array p) (kinds.Variant i) h = cc
-map_shape (pending.Array p) (kinds.NewtypeVariant i) h = cc
-map_shape (pending.Array p) kinds.Single h = cc
-map_shape (pending.Transparent p) kinds.List h = cc
-map_shape (pending.Transparent p) kinds.Map h = cc
-map_shape (pending.Transparent p) (kinds.Variant i) h = cc
-map_shape (pending.Transparent p) (kinds.NewtypeVariant i) h = cc
-map_shape (pending.Transparent p) kinds.Single h = cc
-map_shape (pending.Scalar m p) kinds.List h = cc
-map_shape (pending.Scalar m p) kinds.Map h = cc
-map_shape (pending.Scalar m p) (kinds.Variant i) h = cc
-map_shape (pending.Scalar m p) (kinds.NewtypeVariant i) h = cc
-map_shape (pending.Scalar m p) kinds.Single h = cc
-map_shape (pending.Nothing p) kinds.List h = cc
-map_shape (pending.Nothing p) kinds.Map h = cc
-map_shape (pending.Nothing p) (kinds.Variant i) h = cc
-map_shape (pending.Nothing p) (kinds.NewtypeVariant i) h = cc
-map_shape (pending.Nothing p) kinds.Single h = cc
+pub map_shape : (u : Context) (k : CompoundKind) → resolved_kind_of u k ≡ resolved_kind.Map → (u ≡ context.Plain (position_of u)) × (k ≡ kinds.Map)
+map_shape (context.Plain p) kinds.List h = cc
+map_shape (context.Plain p) kinds.Map h = (refl, refl)
+map_shape (context.Plain p) (kinds.Variant i) h = cc
+map_shape (context.Plain p) (kinds.NewtypeVariant i) h = cc
+map_shape (context.Plain p) kinds.Single h = cc
+map_shape (context.Array p) kinds.List h = cc
+map_shape (context.Array p) kinds.Map h = cc
+map_shape (context.Array p) (kinds.Variant i) h = cc
+map_shape (context.Array p) (kinds.NewtypeVariant i) h = cc
+map_shape (context.Array p) kinds.Single h = cc
+map_shape (context.Transparent p) kinds.List h = cc
+map_shape (context.Transparent p) kinds.Map h = cc
+map_shape (context.Transparent p) (kinds.Variant i) h = cc
+map_shape (context.Transparent p) (kinds.NewtypeVariant i) h = cc
+map_shape (context.Transparent p) kinds.Single h = cc
+map_shape (context.Scalar m p) kinds.List h = cc
+map_shape (context.Scalar m p) kinds.Map h = cc
+map_shape (context.Scalar m p) (kinds.Variant i) h = cc
+map_shape (context.Scalar m p) (kinds.NewtypeVariant i) h = cc
+map_shape (context.Scalar m p) kinds.Single h = cc
+map_shape (context.Nothing p) kinds.List h = cc
+map_shape (context.Nothing p) kinds.Map h = cc
+map_shape (context.Nothing p) (kinds.Variant i) h = cc
+map_shape (context.Nothing p) (kinds.NewtypeVariant i) h = cc
+map_shape (context.Nothing p) kinds.Single h = cc
 
-pub fields_shape : (i : ℕ) (u : Pending) (k : Kind) → shape_of u k ≡ shape.Variant i → (u ≡ pending.Plain (position_of u)) × (k ≡ kinds.Variant i)
-fields_shape j (pending.Plain p) kinds.List h = cc
-fields_shape j (pending.Plain p) kinds.Map h = cc
-fields_shape j (pending.Plain p) (kinds.Variant i) h = (refl, cc)
-fields_shape j (pending.Plain p) (kinds.NewtypeVariant i) h = cc
-fields_shape j (pending.Plain p) kinds.Single h = cc
-fields_shape j (pending.Array p) kinds.List h = cc
-fields_shape j (pending.Array p) kinds.Map h = cc
-fields_shape j (pending.Array p) (kinds.Variant i) h = cc
-fields_shape j (pending.Array p) (kinds.NewtypeVariant i) h = cc
-fields_shape j (pending.Array p) kinds.Single h = cc
-fields_shape j (pending.Transparent p) kinds.List h = cc
-fields_shape j (pending.Transparent p) kinds.Map h = cc
-fields_shape j (pending.Transparent p) (kinds.Variant i) h = cc
-fields_shape j (pending.Transparent p) (kinds.NewtypeVariant i) h = cc
-fields_shape j (pending.Transparent p) kinds.Single h = cc
-fields_shape j (pending.Scalar m p) kinds.List h = cc
-fields_shape j (pending.Scalar m p) kinds.Map h = cc
-fields_shape j (pending.Scalar m p) (kinds.Variant i) h = cc
-fields_shape j (pending.Scalar m p) (kinds.NewtypeVariant i) h = cc
-fields_shape j (pending.Scalar m p) kinds.Single h = cc
-fields_shape j (pending.Nothing p) kinds.List h = cc
-fields_shape j (pending.Nothing p) kinds.Map h = cc
-fields_shape j (pending.Nothing p) (kinds.Variant i) h = cc
-fields_shape j (pending.Nothing p) (kinds.NewtypeVariant i) h = cc
-fields_shape j (pending.Nothing p) kinds.Single h = cc
+pub fields_shape : (i : ℕ) (u : Context) (k : CompoundKind) → resolved_kind_of u k ≡ resolved_kind.Variant i → (u ≡ context.Plain (position_of u)) × (k ≡ kinds.Variant i)
+fields_shape j (context.Plain p) kinds.List h = cc
+fields_shape j (context.Plain p) kinds.Map h = cc
+fields_shape j (context.Plain p) (kinds.Variant i) h = (refl, cc)
+fields_shape j (context.Plain p) (kinds.NewtypeVariant i) h = cc
+fields_shape j (context.Plain p) kinds.Single h = cc
+fields_shape j (context.Array p) kinds.List h = cc
+fields_shape j (context.Array p) kinds.Map h = cc
+fields_shape j (context.Array p) (kinds.Variant i) h = cc
+fields_shape j (context.Array p) (kinds.NewtypeVariant i) h = cc
+fields_shape j (context.Array p) kinds.Single h = cc
+fields_shape j (context.Transparent p) kinds.List h = cc
+fields_shape j (context.Transparent p) kinds.Map h = cc
+fields_shape j (context.Transparent p) (kinds.Variant i) h = cc
+fields_shape j (context.Transparent p) (kinds.NewtypeVariant i) h = cc
+fields_shape j (context.Transparent p) kinds.Single h = cc
+fields_shape j (context.Scalar m p) kinds.List h = cc
+fields_shape j (context.Scalar m p) kinds.Map h = cc
+fields_shape j (context.Scalar m p) (kinds.Variant i) h = cc
+fields_shape j (context.Scalar m p) (kinds.NewtypeVariant i) h = cc
+fields_shape j (context.Scalar m p) kinds.Single h = cc
+fields_shape j (context.Nothing p) kinds.List h = cc
+fields_shape j (context.Nothing p) kinds.Map h = cc
+fields_shape j (context.Nothing p) (kinds.Variant i) h = cc
+fields_shape j (context.Nothing p) (kinds.NewtypeVariant i) h = cc
+fields_shape j (context.Nothing p) kinds.Single h = cc
 
-no_scalar_list : (m : ScalarMark) (ts : Trees) → marked_tree (the_mark m) (list ts) ≡ None
-no_scalar_list scalar_mark.Symbol ts = refl
-no_scalar_list scalar_mark.Timestamp ts = refl
-no_scalar_list scalar_mark.Decimal32 ts = refl
-no_scalar_list scalar_mark.Decimal64 ts = refl
-no_scalar_list scalar_mark.Decimal128 ts = refl
-no_scalar_list scalar_mark.Uuid ts = refl
-no_scalar_list scalar_mark.Lazy ts = refl
+no_scalar_list : (m : ScalarMarker) (ts : Trees) → marked_tree (the_marker m) (list ts) ≡ None
+no_scalar_list scalar_marker.Symbol ts = refl
+no_scalar_list scalar_marker.Timestamp ts = refl
+no_scalar_list scalar_marker.Decimal32 ts = refl
+no_scalar_list scalar_marker.Decimal64 ts = refl
+no_scalar_list scalar_marker.Decimal128 ts = refl
+no_scalar_list scalar_marker.Uuid ts = refl
+no_scalar_list scalar_marker.Lazy ts = refl
 
-no_scalar_map : (m : ScalarMark) (ps : Pairs) → marked_tree (the_mark m) (map ps) ≡ None
-no_scalar_map scalar_mark.Symbol ps = refl
-no_scalar_map scalar_mark.Timestamp ps = refl
-no_scalar_map scalar_mark.Decimal32 ps = refl
-no_scalar_map scalar_mark.Decimal64 ps = refl
-no_scalar_map scalar_mark.Decimal128 ps = refl
-no_scalar_map scalar_mark.Uuid ps = refl
-no_scalar_map scalar_mark.Lazy ps = refl
+no_scalar_map : (m : ScalarMarker) (ps : Pairs) → marked_tree (the_marker m) (map ps) ≡ None
+no_scalar_map scalar_marker.Symbol ps = refl
+no_scalar_map scalar_marker.Timestamp ps = refl
+no_scalar_map scalar_marker.Decimal32 ps = refl
+no_scalar_map scalar_marker.Decimal64 ps = refl
+no_scalar_map scalar_marker.Decimal128 ps = refl
+no_scalar_map scalar_marker.Uuid ps = refl
+no_scalar_map scalar_marker.Lazy ps = refl
 
-no_scalar_variant : (m : ScalarMark) (i : ℕ) (t : Tree) → marked_tree (the_mark m) (variant i t) ≡ None
-no_scalar_variant scalar_mark.Symbol i t = refl
-no_scalar_variant scalar_mark.Timestamp i t = refl
-no_scalar_variant scalar_mark.Decimal32 i t = refl
-no_scalar_variant scalar_mark.Decimal64 i t = refl
-no_scalar_variant scalar_mark.Decimal128 i t = refl
-no_scalar_variant scalar_mark.Uuid i t = refl
-no_scalar_variant scalar_mark.Lazy i t = refl
+no_scalar_variant : (m : ScalarMarker) (i : ℕ) (t : Tree) → marked_tree (the_marker m) (variant i t) ≡ None
+no_scalar_variant scalar_marker.Symbol i t = refl
+no_scalar_variant scalar_marker.Timestamp i t = refl
+no_scalar_variant scalar_marker.Decimal32 i t = refl
+no_scalar_variant scalar_marker.Decimal64 i t = refl
+no_scalar_variant scalar_marker.Decimal128 i t = refl
+no_scalar_variant scalar_marker.Uuid i t = refl
+no_scalar_variant scalar_marker.Lazy i t = refl
 
-no_array_map : (o : Option Pairs) → marked mark.Array (as_map o) ≡ None
+no_array_map : (o : Option Pairs) → with_marker marker.Array (as_map o) ≡ None
 no_array_map None = refl
 no_array_map (Some ps) = refl
 
-no_array_variant : (i : ℕ) (o : Option Tree) → marked mark.Array (as_variant i o) ≡ None
+no_array_variant : (i : ℕ) (o : Option Tree) → with_marker marker.Array (as_variant i o) ≡ None
 no_array_variant i None = refl
 no_array_variant i (Some t) = refl
 
-as_map_scalar : (m : ScalarMark) (o : Option Pairs) → marked (the_mark m) (as_map o) ≡ None
+as_map_scalar : (m : ScalarMarker) (o : Option Pairs) → with_marker (the_marker m) (as_map o) ≡ None
 as_map_scalar m None = refl
 as_map_scalar m (Some ps) = no_scalar_map m ps
 
-as_variant_scalar : (m : ScalarMark) (i : ℕ) (o : Option Tree) → marked (the_mark m) (as_variant i o) ≡ None
+as_variant_scalar : (m : ScalarMarker) (i : ℕ) (o : Option Tree) → with_marker (the_marker m) (as_variant i o) ≡ None
 as_variant_scalar m i None = refl
 as_variant_scalar m i (Some t) = no_scalar_variant m i t
 
-no_transparent_map : (o : Option Pairs) → marked mark.Transparent (as_map o) ≡ None
+no_transparent_map : (o : Option Pairs) → with_marker marker.Transparent (as_map o) ≡ None
 no_transparent_map None = refl
 no_transparent_map (Some ps) = refl
 
-no_transparent_variant : (i : ℕ) (o : Option Tree) → marked mark.Transparent (as_variant i o) ≡ None
+no_transparent_variant : (i : ℕ) (o : Option Tree) → with_marker marker.Transparent (as_variant i o) ≡ None
 no_transparent_variant i None = refl
 no_transparent_variant i (Some t) = refl
 
 -- No compound is a scalar, except a single one.
-no_scalar : (p : Position) (m : ScalarMark) (k : Kind) (o : Option Trees) → shape_of (pending.Scalar m p) k ≡ shape.Refused → marked (the_mark m) (as_kind k o) ≡ None
+no_scalar : (p : Position) (m : ScalarMarker) (k : CompoundKind) (o : Option Trees) → resolved_kind_of (context.Scalar m p) k ≡ resolved_kind.Refused → with_marker (the_marker m) (as_kind k o) ≡ None
 no_scalar p m kinds.List None h = refl
 no_scalar p m kinds.Map None h = refl
 no_scalar p m (kinds.Variant i) None h = refl
@@ -150,51 +150,51 @@ no_scalar p m (kinds.Variant i) (Some ts) h = no_scalar_variant m i (list ts)
 no_scalar p m (kinds.NewtypeVariant i) (Some ts) h = as_variant_scalar m i (only ts)
 no_scalar p m kinds.Single o h = cc
 
-pub refused_shape : (u : Pending) (k : Kind) (o : Option Trees) → shape_of u k ≡ shape.Refused → meant u (as_kind k o) ≡ None
-refused_shape (pending.Plain p) kinds.List o h = cc
-refused_shape (pending.Plain p) kinds.Map o h = cc
-refused_shape (pending.Plain p) (kinds.Variant i) o h = cc
-refused_shape (pending.Plain p) (kinds.NewtypeVariant i) o h = cc
-refused_shape (pending.Plain p) kinds.Single o h = cc
-refused_shape (pending.Array p) kinds.List o h = cc
-refused_shape (pending.Array p) kinds.Map None h = refl
-refused_shape (pending.Array p) kinds.Map (Some ts) h = no_array_map (in_pairs ts)
-refused_shape (pending.Array p) (kinds.Variant i) None h = refl
-refused_shape (pending.Array p) (kinds.Variant i) (Some ts) h = refl
-refused_shape (pending.Array p) (kinds.NewtypeVariant i) None h = refl
-refused_shape (pending.Array p) (kinds.NewtypeVariant i) (Some ts) h = no_array_variant i (only ts)
-refused_shape (pending.Array p) kinds.Single o h = cc
-refused_shape (pending.Transparent p) kinds.List o h = cc
-refused_shape (pending.Transparent p) kinds.Map None h = refl
-refused_shape (pending.Transparent p) kinds.Map (Some ts) h = no_transparent_map (in_pairs ts)
-refused_shape (pending.Transparent p) (kinds.Variant i) None h = refl
-refused_shape (pending.Transparent p) (kinds.Variant i) (Some ts) h = refl
-refused_shape (pending.Transparent p) (kinds.NewtypeVariant i) None h = refl
-refused_shape (pending.Transparent p) (kinds.NewtypeVariant i) (Some ts) h = no_transparent_variant i (only ts)
-refused_shape (pending.Transparent p) kinds.Single o h = cc
-refused_shape (pending.Scalar m p) k o h = no_scalar p m k o h
-refused_shape (pending.Nothing p) k o h = refl
+pub refused_shape : (u : Context) (k : CompoundKind) (o : Option Trees) → resolved_kind_of u k ≡ resolved_kind.Refused → meant u (as_kind k o) ≡ None
+refused_shape (context.Plain p) kinds.List o h = cc
+refused_shape (context.Plain p) kinds.Map o h = cc
+refused_shape (context.Plain p) (kinds.Variant i) o h = cc
+refused_shape (context.Plain p) (kinds.NewtypeVariant i) o h = cc
+refused_shape (context.Plain p) kinds.Single o h = cc
+refused_shape (context.Array p) kinds.List o h = cc
+refused_shape (context.Array p) kinds.Map None h = refl
+refused_shape (context.Array p) kinds.Map (Some ts) h = no_array_map (in_pairs ts)
+refused_shape (context.Array p) (kinds.Variant i) None h = refl
+refused_shape (context.Array p) (kinds.Variant i) (Some ts) h = refl
+refused_shape (context.Array p) (kinds.NewtypeVariant i) None h = refl
+refused_shape (context.Array p) (kinds.NewtypeVariant i) (Some ts) h = no_array_variant i (only ts)
+refused_shape (context.Array p) kinds.Single o h = cc
+refused_shape (context.Transparent p) kinds.List o h = cc
+refused_shape (context.Transparent p) kinds.Map None h = refl
+refused_shape (context.Transparent p) kinds.Map (Some ts) h = no_transparent_map (in_pairs ts)
+refused_shape (context.Transparent p) (kinds.Variant i) None h = refl
+refused_shape (context.Transparent p) (kinds.Variant i) (Some ts) h = refl
+refused_shape (context.Transparent p) (kinds.NewtypeVariant i) None h = refl
+refused_shape (context.Transparent p) (kinds.NewtypeVariant i) (Some ts) h = no_transparent_variant i (only ts)
+refused_shape (context.Transparent p) kinds.Single o h = cc
+refused_shape (context.Scalar m p) k o h = no_scalar p m k o h
+refused_shape (context.Nothing p) k o h = refl
 
 -- A map that has ended: its tree and its lengths.
-pub record MapEnd (start : SizeSerializer) (kind : Kind) (held : OpenCompound) (ps : List (Option Tree)) : Type 0 where
+pub record MapEnd (start : SizeSerializer) (kind : CompoundKind) (compound : OpenCompound) (ps : List (Option Tree)) : Type 0 where
   pub pairs : Pairs
-  pub is : meant start.pending (whole kind ps) ≡ Some (map pairs)
+  pub is : meant start.context (tree_of_parts kind ps) ≡ Some (map pairs)
   pub within_limits_it : within_limits (map pairs) ≡ true
   pub uniform_arrays_it : uniform_arrays (map pairs) ≡ true
   pub inside_it : inside (map pairs) ≡ true
-  pub ordinary : length (encoding (map pairs)) ≡ map_width held.sum
-  pub wide : length (payload (map pairs)) ≡ held.sum + 8
+  pub ordinary : length (encoding (map pairs)) ≡ map_width compound.sum
+  pub wide : length (payload (map pairs)) ≡ compound.sum + 8
 
-pub map_end : (start : SizeSerializer) (kind : Kind) (held : OpenCompound) (ps : List (Option Tree)) → HoldsGathered start kind held ps → complete kind ps ≡ true → held.shape ≡ shape.Map → MapEnd start kind held ps
-unfolding whole
-map_end start kind held ps h done s =
-    let inv = map_shape start.pending kind (sym h.shape ∙ s) in
+pub map_end : (start : SizeSerializer) (kind : CompoundKind) (compound : OpenCompound) (ps : List (Option Tree)) → HoldsGathered start kind compound ps → complete kind ps ≡ true → compound.resolved_kind ≡ resolved_kind.Map → MapEnd start kind compound ps
+unfolding tree_of_parts
+map_end start kind compound ps h done s =
+    let inv = map_shape start.context kind (sym h.resolved_kind ∙ s) in
     let even = sym (paired-even ps h.ts h.trees) ∙ subst (λ k. complete k ps ≡ true) inv.1 done in
     let p : Pairing h.ts = pairing h.ts even in
-    let tree : whole kind ps ≡ Some (map p.pairs) = ap (λ k. whole k ps) inv.1 ∙ ap (as_kind kinds.Map) h.trees ∙ ap as_map p.are in
-    let plain : meant start.pending (whole kind ps) ≡ whole kind ps = ap (λ u. meant u (whole kind ps)) inv.0 in
-    let none_array : is_array held.shape ≡ false = ap is_array s in
-    let sum : held.sum ≡ length (encoding_pairs p.pairs) = h.fed.sum ∙ ap (λ b. length (content b h.ts)) none_array ∙ ap length (sym p.bytes) in
+    let tree : tree_of_parts kind ps ≡ Some (map p.pairs) = ap (λ k. tree_of_parts k ps) inv.1 ∙ ap (as_kind kinds.Map) h.trees ∙ ap as_map p.are in
+    let plain : meant start.context (tree_of_parts kind ps) ≡ tree_of_parts kind ps = ap (λ u. meant u (tree_of_parts kind ps)) inv.0 in
+    let none_array : is_array compound.resolved_kind ≡ false = ap is_array s in
+    let sum : compound.sum ≡ length (encoding_pairs p.pairs) = h.fed.sum ∙ ap (λ b. length (body_bytes b h.ts)) none_array ∙ ap length (sym p.bytes) in
     record {
       pairs = p.pairs;
       is = plain ∙ tree;
@@ -206,22 +206,22 @@ map_end start kind held ps h done s =
     }
 
 -- A variant with fields that has ended.
-pub record FieldsEnd (i : ℕ) (start : SizeSerializer) (kind : Kind) (ps : List (Option Tree)) (size : ℕ) : Type 0 where
+pub record FieldsEnd (i : ℕ) (start : SizeSerializer) (kind : CompoundKind) (ps : List (Option Tree)) (size : ℕ) : Type 0 where
   pub ts : Trees
-  pub is : meant start.pending (whole kind ps) ≡ Some (variant i (list ts))
+  pub is : meant start.context (tree_of_parts kind ps) ≡ Some (variant i (list ts))
   pub within_limits_it : within_limits (list ts) ≡ true
   pub uniform_arrays_it : uniform_arrays (list ts) ≡ true
   pub inside_it : inside (list ts) ≡ true
   pub bytes : length (scalar_form (uint i) ++ encoding (list ts)) ≡ uint_width i + size
 
-pub fields_end : (i : ℕ) (start : SizeSerializer) (kind : Kind) (held : OpenCompound) (ps : List (Option Tree)) (size : ℕ) → HoldsGathered start kind held ps → held.shape ≡ shape.Variant i → size ≡ list_width held.sum → FieldsEnd i start kind ps size
-unfolding whole
-fields_end i start kind held ps size h s e =
-    let inv = fields_shape i start.pending kind (sym h.shape ∙ s) in
-    let tree : whole kind ps ≡ Some (variant i (list h.ts)) = ap (λ k. whole k ps) inv.1 ∙ ap (as_kind (kinds.Variant i)) h.trees in
-    let plain : meant start.pending (whole kind ps) ≡ whole kind ps = ap (λ u. meant u (whole kind ps)) inv.0 in
-    let none_array : is_array held.shape ≡ false = ap is_array s in
-    let sum : held.sum ≡ length (encoding_each h.ts) = h.fed.sum ∙ ap (λ b. length (content b h.ts)) none_array in
+pub fields_end : (i : ℕ) (start : SizeSerializer) (kind : CompoundKind) (compound : OpenCompound) (ps : List (Option Tree)) (size : ℕ) → HoldsGathered start kind compound ps → compound.resolved_kind ≡ resolved_kind.Variant i → size ≡ list_width compound.sum → FieldsEnd i start kind ps size
+unfolding tree_of_parts
+fields_end i start kind compound ps size h s e =
+    let inv = fields_shape i start.context kind (sym h.resolved_kind ∙ s) in
+    let tree : tree_of_parts kind ps ≡ Some (variant i (list h.ts)) = ap (λ k. tree_of_parts k ps) inv.1 ∙ ap (as_kind (kinds.Variant i)) h.trees in
+    let plain : meant start.context (tree_of_parts kind ps) ≡ tree_of_parts kind ps = ap (λ u. meant u (tree_of_parts kind ps)) inv.0 in
+    let none_array : is_array compound.resolved_kind ≡ false = ap is_array s in
+    let sum : compound.sum ≡ length (encoding_each h.ts) = h.fed.sum ∙ ap (λ b. length (body_bytes b h.ts)) none_array in
     let len : size ≡ length (encoding (list h.ts)) = e ∙ ap list_width sum ∙ sym (length-list_form (count h.ts) (encoding_each h.ts)) in
     record {
       ts = h.ts;

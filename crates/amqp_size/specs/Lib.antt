@@ -3,9 +3,9 @@
 -- in Position.
 pub mod Refused
 pub mod WholePosition
-pub mod WholePending
+pub mod WholeContext
 pub mod State
-pub mod Form
+pub mod ScalarEncoding
 pub mod Width
 pub mod Position
 pub mod SizeSerializer

@@ -4,8 +4,8 @@ use Rattle.amqp_size.specs.declared.position.BasePosition.{BasePosition}
 
 pub data Position : Type 0 where
   Root : Position
-  Inside : Position
-  First : Position
-  Element : ℕ → Position
+  InCompound : Position
+  FirstElement : Position
+  OtherElement : ℕ → Position
   Descriptor : Position
   Value : ℕ → BasePosition → Position

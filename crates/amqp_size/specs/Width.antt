@@ -40,5 +40,5 @@ map_at false count body = map_form count body
 map_at true count body = wide count body
 
 abbrev pub array_at : Bool → ℕ → List ℕ → List ℕ
-array_at false count content = array_form count content
-array_at true count content = wide count content
+array_at false count body_bytes = array_form count body_bytes
+array_at true count body_bytes = wide count body_bytes

@@ -8,22 +8,22 @@ ghost use Rattle.amqp_ser.specs.Encoding.{constructor};
 ghost use Rattle.amqp_size.specs.Position.{takes_described};
 
 use crate::position::BasePosition;
-use crate::walk_error::WalkError;
+use crate::size_error::SizeError;
 use amqp_data::EncodingCodes;
 
 /// Accepts a ulong or a symbol as a descriptor, and returns its length.
 ///
 /// # Errors
 /// Returns `InvalidValue` if the constructor is that of another type.
-pub(crate) fn descriptor_len(code: u8, ordinary: usize) -> Result<usize, WalkError>
+pub(crate) fn descriptor_len(code: u8, ordinary: usize) -> Result<usize, SizeError>
     ensures { (t : Tree) → constructor t ≡ Some code → MatchResult result
         (λ n. (is_some (descriptor_of (Some t)) ≡ true) × (n ≡ ordinary))
-        (λ e. (is_some (descriptor_of (Some t)) ≡ false) × (e ≡ WalkError.InvalidValue)) }
+        (λ e. (is_some (descriptor_of (Some t)) ≡ false) × (e ≡ SizeError.InvalidValue)) }
 {
     if code == EncodingCodes::Ulong as u8 || code == EncodingCodes::Sym32 as u8 {
         Ok(ordinary)
     } else {
-        Err(WalkError::InvalidValue)
+        Err(SizeError::InvalidValue)
     }
 }
 
@@ -36,18 +36,18 @@ pub(crate) fn described_len(
     prefix_len: usize,
     base: BasePosition,
     ordinary: usize,
-) -> Result<usize, WalkError>
+) -> Result<usize, SizeError>
     ensures { MatchResult result
         (λ n. (takes_described base ≡ true)
         × ((is_length (prefix_len + ordinary) ≡ true) × (n ≡ prefix_len + ordinary)))
-        (λ e. ((e ≡ WalkError.TooLong) × (is_length (prefix_len + ordinary) ≡ false))
-        ⊎ ((e ≡ WalkError.InvalidValue) × (takes_described base ≡ false))) }
+        (λ e. ((e ≡ SizeError.TooLong) × (is_length (prefix_len + ordinary) ≡ false))
+        ⊎ ((e ≡ SizeError.InvalidValue) × (takes_described base ≡ false))) }
 {
     if !base.takes_described() {
-        return Err(WalkError::InvalidValue);
+        return Err(SizeError::InvalidValue);
     }
     match prefix_len.checked_add(ordinary) {
         Some(whole) => Ok(whole),
-        None => Err(WalkError::TooLong),
+        None => Err(SizeError::TooLong),
     }
 }

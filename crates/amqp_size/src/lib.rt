@@ -5,29 +5,29 @@
 //! headers are computed in this crate only.
 #![tactic(auto)]
 
-mod accept;
+mod tree_sizes;
 mod compounds;
 mod descriptor;
-mod form;
+mod scalar_encoding;
 mod limits;
 mod open_compound;
-mod pending;
+mod context;
 mod position;
-mod scalar_mark;
+mod scalar_marker;
 mod serializer;
-mod shape;
-mod walk_error;
+mod resolved_kind;
+mod size_error;
 pub mod width;
 
 pub use compounds::{
     MapSerializer, SeqSerializer, StructSerializer, StructVariantSerializer, TupleSerializer,
     TupleStructSerializer, VariantSerializer,
 };
-pub use form::Form;
+pub use scalar_encoding::ScalarEncoding;
 pub use open_compound::OpenCompound;
-pub use pending::Pending;
+pub use context::Context;
 pub use position::{BasePosition, Position};
-pub use scalar_mark::ScalarMark;
+pub use scalar_marker::ScalarMarker;
 pub use serializer::{SizeSerializer, serialized_size};
-pub use shape::Shape;
-pub use walk_error::WalkError;
+pub use resolved_kind::ResolvedKind;
+pub use size_error::SizeError;

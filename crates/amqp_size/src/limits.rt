@@ -10,20 +10,20 @@ ghost use Rattle.amqp_ser.specs.Limits.{fits};
 use amqp_data::Error;
 
 /// The longest text, binary, list body, map body and array content, in bytes: 2^32 - 5.
-pub const LONGEST: usize = 4294967291;
+pub const MAX_LEN: usize = 4294967291;
 
 /// The most elements of an array: 2^32 - 1.
-pub const MOST: usize = 4294967295;
+pub const MAX_COUNT: usize = 4294967295;
 
 /// Returns `n` unchanged.
 ///
 /// # Errors
-/// Returns `TooLong` if `n` exceeds `LONGEST`.
+/// Returns `TooLong` if `n` exceeds `MAX_LEN`.
 pub(crate) fn within_limit(n: usize) -> Result<usize, Error>
     ensures { MatchResult result (λ same. (fits n ≡ true) × (same ≡ n))
         (λ e. (fits n ≡ false) × (e ≡ Error.TooLong)) }
 {
-    if n > LONGEST {
+    if n > MAX_LEN {
         return Err(Error::TooLong);
     }
     Ok(n)

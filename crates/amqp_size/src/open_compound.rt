@@ -3,11 +3,11 @@
 ghost use Rattle.std.specs.Prelude.{◌≡◌, ◌<◌, ◌+◌, ◌≤◌, ℕ, Some, true, false, MatchResult, IfOk, IfErr, if◌then◌else◌};
 ghost use Rattle.amqp_size.specs.Position.{limit_of};
 
-use crate::limits::{LONGEST, MOST};
-use crate::pending::Pending;
+use crate::limits::{MAX_LEN, MAX_COUNT};
+use crate::context::Context;
 use crate::position::Position;
-use crate::shape::Shape;
-use crate::walk_error::WalkError;
+use crate::resolved_kind::ResolvedKind;
+use crate::size_error::SizeError;
 use std::marker::Model;
 
 /// A compound that is being measured: the size of its parts so far and the position of the next
@@ -15,9 +15,9 @@ use std::marker::Model;
 #[derive(Debug, Drop)]
 pub struct OpenCompound {
     position: Position,
-    shape: Shape,
-    inner: Pending,
-    /// Length of the descriptors before the value, if `position` or `inner` is after a descriptor.
+    resolved_kind: ResolvedKind,
+    inner_context: Context,
+    /// Length of the descriptors before the value, if `position` or `inner_context` is after a descriptor.
     prefix_len: usize,
     sum: usize,
     before_last: usize,
@@ -26,44 +26,44 @@ pub struct OpenCompound {
 
 impl Model for OpenCompound {
     ghost use Rattle.std.specs.Prelude.{◌≤◌};
-    ghost use Rattle.amqp_size.specs.State.{position_at, pending_at, OpenState};
+    ghost use Rattle.amqp_size.specs.State.{position_at, context_at, OpenState};
     ghost use Rattle.amqp_size.specs.Position.{limit_of};
 
     ghost Value = { OpenState };
 
     ghost view = { λ a. record {
       position = position_at a.position a.prefix_len;
-      shape = a.shape;
-      inner = pending_at
-          a.inner a.prefix_len;
+      resolved_kind = a.resolved_kind;
+      inner_context = context_at
+          a.inner_context a.prefix_len;
       prefix_len = a.prefix_len;
       sum = a.sum;
       before_last = a.before_last;
       count = a.count;
     } };
 
-    ghost invariant = { λ a. (a.sum ≤ limit_of a.shape) × (a.before_last ≤ limit_of a.shape) };
+    ghost invariant = { λ a. (a.sum ≤ limit_of a.resolved_kind) × (a.before_last ≤ limit_of a.resolved_kind) };
 }
 
 impl OpenCompound {
-    ghost use Rattle.amqp_size.specs.State.{position_at, pending_at};
-    ghost use Rattle.amqp_size.specs.AddPart.{constructor_len_in, passes_limit, undescribed};
-    ghost use Rattle.amqp_size.specs.Position.{position_of, without_prefix, element_constructor, is_array, is_gathered, inner_pending, described_pending};
+    ghost use Rattle.amqp_size.specs.State.{position_at, context_at};
+    ghost use Rattle.amqp_size.specs.AddPart.{constructor_len_in, PassesLimit, Undescribed};
+    ghost use Rattle.amqp_size.specs.Position.{position_of, without_prefix, element_constructor, is_array, is_gathered, inner_context_of, described_context};
 
     /// Returns an empty compound of this shape at this position.
     #[inline(always)]
-    pub(crate) fn new(pending: Pending, prefix_len: usize, shape: Shape) -> OpenCompound
-        ensures position { result.position ≡ position_of (pending_at pending prefix_len) }
-        ensures shape { result.shape ≡ shape }
-        ensures inner { result.inner ≡ inner_pending shape (pending_at pending prefix_len) }
+    pub(crate) fn new(context: Context, prefix_len: usize, resolved_kind: ResolvedKind) -> OpenCompound
+        ensures position { result.position ≡ position_of (context_at context prefix_len) }
+        ensures resolved_kind { result.resolved_kind ≡ resolved_kind }
+        ensures inner_context { result.inner_context ≡ inner_context_of resolved_kind (context_at context prefix_len) }
         ensures prefix_len { result.prefix_len ≡ prefix_len }
         ensures sum { result.sum ≡ 0 }
         ensures count { result.count ≡ 0 }
     {
         OpenCompound {
-            position: pending.position(),
-            shape,
-            inner: pending.inner(shape),
+            position: context.position(),
+            resolved_kind,
+            inner_context: context.inner_context(resolved_kind),
             prefix_len,
             sum: 0,
             before_last: 0,
@@ -75,25 +75,25 @@ impl OpenCompound {
     #[inline(always)]
     pub fn sum(&self) -> usize
         ensures sum { result ≡ self.now.sum }
-        ensures small { result ≤ limit_of self.now.shape }
+        ensures small { result ≤ limit_of self.now.resolved_kind }
     {
         self.sum
     }
 
     /// Returns what the compound is encoded as.
     #[inline(always)]
-    pub fn shape(&self) -> Shape
-        ensures { result ≡ self.now.shape }
+    pub fn resolved_kind(&self) -> ResolvedKind
+        ensures { result ≡ self.now.resolved_kind }
     {
-        self.shape
+        self.resolved_kind
     }
 
     /// Returns the constructor of the array's elements, if there is one yet.
     #[inline(always)]
     pub fn constructor(&self) -> Option<u8>
-        ensures { result ≡ element_constructor (position_of self.now.inner) }
+        ensures { result ≡ element_constructor (position_of self.now.inner_context) }
     {
-        self.inner.position().constructor()
+        self.inner_context.position().constructor()
     }
 
     /// Returns the position of the compound.
@@ -107,13 +107,13 @@ impl OpenCompound {
     /// Returns the position of the next part. For a single compound that has its value, this is the
     /// position after the value.
     #[inline(always)]
-    pub(crate) fn inner(&self) -> Pending
-        ensures { pending_at result self.now.prefix_len ≡ self.now.inner }
+    pub(crate) fn inner_context(&self) -> Context
+        ensures { context_at result self.now.prefix_len ≡ self.now.inner_context }
     {
-        self.inner
+        self.inner_context
     }
 
-    /// Returns the length of the descriptors before the value, if `position` or `inner` is after a
+    /// Returns the length of the descriptors before the value, if `position` or `inner_context` is after a
     /// descriptor.
     #[inline(always)]
     pub(crate) fn prefix_len(&self) -> usize
@@ -135,10 +135,10 @@ impl OpenCompound {
     pub(crate) fn undo(&mut self)
         ensures sum { self.new.sum ≡ self.old.before_last }
         ensures position { self.new.position ≡ self.old.position }
-        ensures shape { self.new.shape ≡ self.old.shape }
-        ensures small { self.new.sum ≤ limit_of self.new.shape }
+        ensures resolved_kind { self.new.resolved_kind ≡ self.old.resolved_kind }
+        ensures small { self.new.sum ≤ limit_of self.new.resolved_kind }
         ensures count { self.new.count ≡ self.old.count }
-        ensures inner { self.new.inner ≡ self.old.inner }
+        ensures inner_context { self.new.inner_context ≡ self.old.inner_context }
     {
         self.sum = self.before_last;
     }
@@ -149,41 +149,41 @@ impl OpenCompound {
     /// Returns `TooLong` if a limit is exceeded, and `InvalidValue` for a second value of a single
     /// compound. The compound is then unchanged.
     #[inline(always)]
-    pub(crate) fn add_part(&mut self, size: usize, after: Pending) -> Result<(), WalkError>
-        ensures gathered { is_gathered self.old.shape ≡ true → MatchResult result
+    pub(crate) fn add_part(&mut self, size: usize, after: Context) -> Result<(), SizeError>
+        ensures gathered { is_gathered self.old.resolved_kind ≡ true → MatchResult result
             (λ _.
-            (self.new.sum ≡ size + constructor_len_in (is_array self.old.shape) self.old.inner
-            (pending_at after self.old.prefix_len) + self.old.sum)
-            × ((self.new.count ≡ if is_array self.old.shape then self.old.count + 1
+            (self.new.sum ≡ size + constructor_len_in (is_array self.old.resolved_kind) self.old.inner_context
+            (context_at after self.old.prefix_len) + self.old.sum)
+            × ((self.new.count ≡ if is_array self.old.resolved_kind then self.old.count + 1
             else self.old.count)
-            × (self.new.inner ≡ if is_array self.old.shape then pending_at after self.old.prefix_len
-            else self.old.inner)))
-            (λ e. (e ≡ WalkError.TooLong)
-            × passes_limit (is_array self.old.shape) self.old.count
-            (size + constructor_len_in (is_array self.old.shape) self.old.inner
-            (pending_at after self.old.prefix_len)
+            × (self.new.inner_context ≡ if is_array self.old.resolved_kind then context_at after self.old.prefix_len
+            else self.old.inner_context)))
+            (λ e. (e ≡ SizeError.TooLong)
+            × PassesLimit (is_array self.old.resolved_kind) self.old.count
+            (size + constructor_len_in (is_array self.old.resolved_kind) self.old.inner_context
+            (context_at after self.old.prefix_len)
             + self.old.sum)) }
-        ensures transparent { self.old.shape ≡ Shape.Transparent → MatchResult result
-            (λ _. (self.new.sum ≡ size + self.old.sum) × (self.new.inner ≡ self.old.inner))
-            (λ e. (e ≡ WalkError.TooLong) × (18446744073709551615 < size + self.old.sum)) }
-        ensures single { self.old.shape ≡ Shape.Single → MatchResult result
+        ensures transparent { self.old.resolved_kind ≡ ResolvedKind.Transparent → MatchResult result
+            (λ _. (self.new.sum ≡ size + self.old.sum) × (self.new.inner_context ≡ self.old.inner_context))
+            (λ e. (e ≡ SizeError.TooLong) × (18446744073709551615 < size + self.old.sum)) }
+        ensures single { self.old.resolved_kind ≡ ResolvedKind.Single → MatchResult result
             (λ _. (self.old.count ≡ 0)
             × ((self.new.count ≡ 1)
-            × ((self.new.sum ≡ size) × (self.new.inner ≡ pending_at after self.old.prefix_len))))
-            (λ e. (e ≡ WalkError.InvalidValue) × (1 ≤ self.old.count)) }
-        ensures before_last { is_gathered self.old.shape ≡ true →
+            × ((self.new.sum ≡ size) × (self.new.inner_context ≡ context_at after self.old.prefix_len))))
+            (λ e. (e ≡ SizeError.InvalidValue) × (1 ≤ self.old.count)) }
+        ensures before_last { is_gathered self.old.resolved_kind ≡ true →
             IfOk result (λ _. self.new.before_last ≡ self.old.sum) }
         ensures kept { IfErr result (λ _. self.new ≡ self.old) }
         ensures few { self.old.count ≤ 4294967295 → self.new.count ≤ 4294967295 }
         ensures position { self.new.position ≡ self.old.position }
-        ensures shape { self.new.shape ≡ self.old.shape }
-        ensures small { self.new.sum ≤ limit_of self.new.shape }
+        ensures resolved_kind { self.new.resolved_kind ≡ self.old.resolved_kind }
+        ensures small { self.new.sum ≤ limit_of self.new.resolved_kind }
     {
-        match self.shape {
-            Shape::Array => self.add_element(size, after),
-            Shape::Transparent => self.add(size, usize::MAX),
-            Shape::Single => self.add_single(size, after),
-            _ => self.add(size, LONGEST),
+        match self.resolved_kind {
+            ResolvedKind::Array => self.add_element(size, after),
+            ResolvedKind::Transparent => self.add(size, usize::MAX),
+            ResolvedKind::Single => self.add_single(size, after),
+            _ => self.add(size, MAX_LEN),
         }
     }
 
@@ -192,21 +192,21 @@ impl OpenCompound {
     /// # Errors
     /// Returns `TooLong` if the total size would exceed `limit`. The compound is then unchanged.
     #[inline(always)]
-    fn add(&mut self, size: usize, limit: usize) -> Result<(), WalkError>
+    fn add(&mut self, size: usize, limit: usize) -> Result<(), SizeError>
         requires enough { self.old.sum ≤ limit }
-        requires allowed { limit ≤ limit_of self.old.shape }
+        requires allowed { limit ≤ limit_of self.old.resolved_kind }
         ensures kept { MatchResult result
             (λ _. (self.new.sum ≡ size + self.old.sum) × (self.new.before_last ≡ self.old.sum))
             (λ e. (self.new ≡ self.old)
-            × ((e ≡ WalkError.TooLong) × (limit < size + self.old.sum))) }
+            × ((e ≡ SizeError.TooLong) × (limit < size + self.old.sum))) }
         ensures position { self.new.position ≡ self.old.position }
-        ensures shape { self.new.shape ≡ self.old.shape }
-        ensures small { self.new.sum ≤ limit_of self.new.shape }
-        ensures inner { self.new.inner ≡ self.old.inner }
+        ensures resolved_kind { self.new.resolved_kind ≡ self.old.resolved_kind }
+        ensures small { self.new.sum ≤ limit_of self.new.resolved_kind }
+        ensures inner_context { self.new.inner_context ≡ self.old.inner_context }
         ensures count { self.new.count ≡ self.old.count }
     {
         if size > limit - self.sum {
-            return Err(WalkError::TooLong);
+            return Err(SizeError::TooLong);
         }
         self.before_last = self.sum;
         self.sum += size;
@@ -218,42 +218,42 @@ impl OpenCompound {
     /// # Errors
     /// Returns `TooLong` if a limit is exceeded. The compound is then unchanged.
     #[inline(always)]
-    fn add_element(&mut self, size: usize, after: Pending) -> Result<(), WalkError>
-        requires { self.old.shape ≡ Shape.Array }
+    fn add_element(&mut self, size: usize, after: Context) -> Result<(), SizeError>
+        requires { self.old.resolved_kind ≡ ResolvedKind.Array }
         ensures kept { MatchResult result
             (λ _.
             (self.new.sum ≡ size +
-            constructor_len_in true self.old.inner (pending_at after self.old.prefix_len)
+            constructor_len_in true self.old.inner_context (context_at after self.old.prefix_len)
             + self.old.sum)
             × ((self.new.count ≡ self.old.count + 1)
-            × (self.new.inner ≡ pending_at after self.old.prefix_len)))
+            × (self.new.inner_context ≡ context_at after self.old.prefix_len)))
             (λ e. (self.new ≡ self.old)
-            × ((e ≡ WalkError.TooLong)
-            × passes_limit true self.old.count
-            (size + constructor_len_in true self.old.inner (pending_at after self.old.prefix_len) +
+            × ((e ≡ SizeError.TooLong)
+            × PassesLimit true self.old.count
+            (size + constructor_len_in true self.old.inner_context (context_at after self.old.prefix_len) +
             self.old.sum))) }
         ensures before_last { IfOk result (λ _. self.new.before_last ≡ self.old.sum) }
         ensures few { self.old.count ≤ 4294967295 → self.new.count ≤ 4294967295 }
         ensures position { self.new.position ≡ self.old.position }
-        ensures shape { self.new.shape ≡ self.old.shape }
-        ensures small { self.new.sum ≤ limit_of self.new.shape }
+        ensures resolved_kind { self.new.resolved_kind ≡ self.old.resolved_kind }
+        ensures small { self.new.sum ≤ limit_of self.new.resolved_kind }
     {
         // After the first element, `after` contains its constructor.
-        let opened = match (self.inner, after) {
-            (Pending::Plain(Position::First), Pending::Plain(Position::Element(_))) => 1,
+        let opened = match (self.inner_context, after) {
+            (Context::Plain(Position::FirstElement), Context::Plain(Position::OtherElement(_))) => 1,
             _ => 0,
         };
-        let most = LONGEST - self.sum;
+        let most = MAX_LEN - self.sum;
         if size > most || opened > most - size {
-            return Err(WalkError::TooLong);
+            return Err(SizeError::TooLong);
         }
-        if self.count >= MOST {
-            return Err(WalkError::TooLong);
+        if self.count >= MAX_COUNT {
+            return Err(SizeError::TooLong);
         }
         self.count += 1;
         self.before_last = self.sum;
         self.sum = self.sum + size + opened;
-        self.inner = after;
+        self.inner_context = after;
         Ok(())
     }
 
@@ -262,23 +262,23 @@ impl OpenCompound {
     /// # Errors
     /// Returns `InvalidValue` if the compound has a value. The compound is then unchanged.
     #[inline(always)]
-    fn add_single(&mut self, size: usize, after: Pending) -> Result<(), WalkError>
-        requires { self.old.shape ≡ Shape.Single }
+    fn add_single(&mut self, size: usize, after: Context) -> Result<(), SizeError>
+        requires { self.old.resolved_kind ≡ ResolvedKind.Single }
         ensures kept { MatchResult result
             (λ _. (self.old.count ≡ 0)
             × ((self.new.count ≡ 1)
-            × ((self.new.sum ≡ size) × (self.new.inner ≡ pending_at after self.old.prefix_len))))
-            (λ e. (self.new ≡ self.old) × ((e ≡ WalkError.InvalidValue) × (1 ≤ self.old.count))) }
+            × ((self.new.sum ≡ size) × (self.new.inner_context ≡ context_at after self.old.prefix_len))))
+            (λ e. (self.new ≡ self.old) × ((e ≡ SizeError.InvalidValue) × (1 ≤ self.old.count))) }
         ensures position { self.new.position ≡ self.old.position }
-        ensures shape { self.new.shape ≡ self.old.shape }
-        ensures small { self.new.sum ≤ limit_of self.new.shape }
+        ensures resolved_kind { self.new.resolved_kind ≡ self.old.resolved_kind }
+        ensures small { self.new.sum ≤ limit_of self.new.resolved_kind }
     {
         if self.count > 0 {
-            return Err(WalkError::InvalidValue);
+            return Err(SizeError::InvalidValue);
         }
         self.count = 1;
         self.sum = size;
-        self.inner = after;
+        self.inner_context = after;
         Ok(())
     }
 
@@ -290,29 +290,29 @@ impl OpenCompound {
     /// Returns `InvalidValue` at the position of a descriptor, and `TooLong` if the length of the
     /// descriptors exceeds `usize::MAX`. The compound is then unchanged.
     #[inline(always)]
-    pub(crate) fn describe(&mut self, size: usize) -> Result<(), WalkError>
+    pub(crate) fn describe(&mut self, size: usize) -> Result<(), SizeError>
         ensures kept { MatchResult result
-            (λ _. described_pending self.old.inner size ≡ Some self.new.inner)
-            (λ e. (self.new ≡ self.old) × undescribed self.old.inner size e) }
+            (λ _. described_context self.old.inner_context size ≡ Some self.new.inner_context)
+            (λ e. (self.new ≡ self.old) × Undescribed self.old.inner_context size e) }
         ensures position { without_prefix self.new.position ≡ without_prefix self.old.position }
-        ensures shape { self.new.shape ≡ self.old.shape }
+        ensures resolved_kind { self.new.resolved_kind ≡ self.old.resolved_kind }
         ensures sum { self.new.sum ≡ self.old.sum }
         ensures count { self.new.count ≡ self.old.count }
     {
-        let Pending::Plain(position) = self.inner else {
-            self.inner = Pending::Nothing(self.inner.position());
+        let Context::Plain(position) = self.inner_context else {
+            self.inner_context = Context::Nothing(self.inner_context.position());
             return Ok(());
         };
-        let inner = match position.after_descriptor() {
-            Ok(inner) => inner,
+        let inner_context = match position.after_descriptor() {
+            Ok(inner_context) => inner_context,
             Err(e) => return Err(e),
         };
         let prefix_len = position.prefix_len(self.prefix_len);
         if size >= usize::MAX - prefix_len {
-            return Err(WalkError::TooLong);
+            return Err(SizeError::TooLong);
         }
         self.prefix_len = prefix_len + (size + 1);
-        self.inner = Pending::Plain(inner);
+        self.inner_context = Context::Plain(inner_context);
         Ok(())
     }
 }

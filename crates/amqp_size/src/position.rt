@@ -4,7 +4,7 @@ ghost use Rattle.std.specs.Prelude.{◌≡◌, ◌+◌, ℕ, Some, MatchResult};
 ghost use Rattle.amqp_size.specs.State.{position_at};
 ghost use Rattle.amqp_size.specs.Position.{without_prefix, base_position, takes_described, element_constructor, described_position, prefix_len_of};
 
-use crate::walk_error::WalkError;
+use crate::size_error::SizeError;
 
 /// The position of a described value.
 #[derive(Clone, Copy, Debug)]
@@ -12,11 +12,11 @@ pub enum BasePosition {
     /// At the root.
     Root,
     /// Inside a list, a map or a variant.
-    Inside,
+    InCompound,
     /// The first element of an array.
-    First,
+    FirstElement,
     /// An element of an array with this constructor.
-    Element(u8),
+    OtherElement(u8),
 }
 
 /// The position of a value.
@@ -25,11 +25,11 @@ pub enum Position {
     /// At the root.
     Root,
     /// Inside a list, a map or a variant.
-    Inside,
+    InCompound,
     /// The first element of an array.
-    First,
+    FirstElement,
     /// An element of an array with this constructor.
-    Element(u8),
+    OtherElement(u8),
     /// The descriptor of a described value.
     Descriptor,
     /// The value after one or more descriptors. The length of the descriptors, with the code `00`
@@ -45,9 +45,9 @@ impl BasePosition {
     {
         match self {
             BasePosition::Root => Position::Root,
-            BasePosition::Inside => Position::Inside,
-            BasePosition::First => Position::First,
-            BasePosition::Element(code) => Position::Element(code),
+            BasePosition::InCompound => Position::InCompound,
+            BasePosition::FirstElement => Position::FirstElement,
+            BasePosition::OtherElement(code) => Position::OtherElement(code),
         }
     }
 
@@ -56,7 +56,7 @@ impl BasePosition {
     pub fn takes_described(self) -> bool
         ensures { result ≡ takes_described self }
     {
-        matches!(self, BasePosition::Root | BasePosition::Inside)
+        matches!(self, BasePosition::Root | BasePosition::InCompound)
     }
 }
 
@@ -77,19 +77,19 @@ impl Position {
     /// # Errors
     /// Returns `InvalidValue` at the position of a descriptor.
     #[inline(always)]
-    pub(crate) fn after_descriptor(self) -> Result<Position, WalkError>
+    pub(crate) fn after_descriptor(self) -> Result<Position, SizeError>
         ensures { MatchResult result
             (λ p. (h n : ℕ) →
             described_position (position_at self h) n
             ≡ Some (position_at p (prefix_len_of (position_at self h) + (n + 1))))
-            (λ e. (self ≡ Position.Descriptor) × (e ≡ WalkError.InvalidValue)) }
+            (λ e. (self ≡ Position.Descriptor) × (e ≡ SizeError.InvalidValue)) }
     {
         match self {
             Position::Root => Ok(Position::Value(BasePosition::Root)),
-            Position::Inside => Ok(Position::Value(BasePosition::Inside)),
-            Position::First => Ok(Position::Value(BasePosition::First)),
-            Position::Element(code) => Ok(Position::Value(BasePosition::Element(code))),
-            Position::Descriptor => Err(WalkError::InvalidValue),
+            Position::InCompound => Ok(Position::Value(BasePosition::InCompound)),
+            Position::FirstElement => Ok(Position::Value(BasePosition::FirstElement)),
+            Position::OtherElement(code) => Ok(Position::Value(BasePosition::OtherElement(code))),
+            Position::Descriptor => Err(SizeError::InvalidValue),
             Position::Value(base) => Ok(Position::Value(base)),
         }
     }
@@ -111,7 +111,7 @@ impl Position {
         ensures { (h : ℕ) → result ≡ element_constructor (position_at self h) }
     {
         match self {
-            Position::Element(code) => Some(code),
+            Position::OtherElement(code) => Some(code),
             _ => None,
         }
     }

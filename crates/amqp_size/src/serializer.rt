@@ -4,27 +4,27 @@ ghost use Rattle.std.specs.Prelude.{◌≡◌, ◌+◌, ◌≤◌, ◌++◌, ◌
 ghost use Rattle.amqp_ser.specs.Tree.{Tree};
 ghost use Rattle.amqp_ser.specs.Composites.{as_described, descriptor_of};
 ghost use Rattle.amqp_ser.specs.SizeAndBytes.{IsSizeOf};
-ghost use Rattle.amqp_size.specs.WholePending.{Plain};
+ghost use Rattle.amqp_size.specs.WholeContext.{Plain};
 ghost use Rattle.amqp_size.specs.WholePosition as whole_position;
 
-use crate::form::Form;
+use crate::scalar_encoding::ScalarEncoding;
 use crate::open_compound::OpenCompound;
-use crate::pending::Pending;
+use crate::context::Context;
 use crate::position::Position;
-use crate::scalar_mark::ScalarMark;
-use crate::shape::Shape;
-use crate::walk_error::WalkError;
+use crate::scalar_marker::ScalarMarker;
+use crate::resolved_kind::ResolvedKind;
+use crate::size_error::SizeError;
 use crate::width::{array_width, list_width, map_width};
 use amqp_data::{EncodingCodes, Error};
 use amqp_frame::is_frame;
-use amqp_ser::{Fixed, Kind, Mark, Serialize, Serializer};
+use amqp_ser::{Fixed, CompoundKind, Marker, Serialize, Serializer};
 use std::marker::Model;
 
 /// A serializer that counts the bytes of encodings. It can be used again after each call, also
 /// after a call that failed.
 ///
 /// # Errors
-/// Methods return a [`WalkError`] of one byte, which `?` converts to `Error`. It is never
+/// Methods return a [`SizeError`] of one byte, which `?` converts to `Error`. It is never
 /// `OutOfMemory`.
 ///
 /// # Memory
@@ -34,39 +34,39 @@ use std::marker::Model;
 /// One serializer measures the array of the ubytes 1 and 2 as 6 bytes, and then their list as 7.
 #[derive(Debug, Drop)]
 pub struct SizeSerializer {
-    /// Position of the next value. `accept` stores the constructor of an array's first element
+    /// Position of the next value. `size_at` stores the constructor of an array's first element
     /// here, and `end_part` reads it; the returned size does not contain it.
-    pub(crate) pending: Pending,
+    pub(crate) context: Context,
     /// Length of the descriptors before the value, if it is after a descriptor.
     pub(crate) prefix_len: usize,
 }
 
 impl Model for SizeSerializer {
-    ghost use Rattle.amqp_size.specs.State.{pending_at, SizeState};
+    ghost use Rattle.amqp_size.specs.State.{context_at, SizeState};
 
     ghost Value = { SizeState };
 
-    ghost view = { λ s. record { pending = pending_at s.pending s.prefix_len } };
+    ghost view = { λ s. record { context = context_at s.context s.prefix_len } };
 }
 
 impl SizeSerializer {
     /// Creates a serializer at the root.
     #[inline(always)]
     pub fn new() -> SizeSerializer
-        ensures { result.pending ≡ Plain whole_position.Root }
+        ensures { result.context ≡ Plain whole_position.Root }
     {
         SizeSerializer {
-            pending: Pending::Plain(Position::Root),
+            context: Context::Plain(Position::Root),
             prefix_len: 0,
         }
     }
 }
 
 impl Default for SizeSerializer {
-    ghost use Rattle.amqp_size.specs.WholePending.{Plain};
+    ghost use Rattle.amqp_size.specs.WholeContext.{Plain};
     ghost use Rattle.amqp_size.specs.WholePosition.{Root};
 
-    ghost is_default = { λ s. s.pending ≡ Plain Root };
+    ghost is_default = { λ s. s.context ≡ Plain Root };
 
     fn default() -> SizeSerializer {
         SizeSerializer::new()
@@ -74,48 +74,48 @@ impl Default for SizeSerializer {
 }
 
 impl Serializer for SizeSerializer {
-    ghost use Rattle.amqp_size.specs.declared.walk_error.WalkError.TheVariants.{InvalidValue};
-    ghost use Rattle.amqp_size.specs.Position.{position_of, meant, without_prefix, described_pending};
-    ghost use Rattle.amqp_size.specs.SizeSerializer.{size_permits, size_has, size_awaits, size_awaits_descriptor, no_count_on_none};
-    ghost use Rattle.amqp_ser.specs.Compounds.{whole, complete};
+    ghost use Rattle.amqp_size.specs.declared.size_error.SizeError.TheVariants.{InvalidValue};
+    ghost use Rattle.amqp_size.specs.Position.{position_of, meant, without_prefix, described_context};
+    ghost use Rattle.amqp_size.specs.SizeSerializer.{SizePermits, SizeHas, SizeAwaits, SizeAwaitsDescriptor, no_count_on_none};
+    ghost use Rattle.amqp_ser.specs.Compounds.{tree_of_parts, complete};
     ghost use Rattle.amqp_ser.specs.Fixed.{fixed_scalar};
     ghost use Rattle.amqp_ser.specs.Tree.{scalar, null, string, binary};
-    ghost use Rattle.amqp_ser.specs.Marked.{marked};
-    ghost use Rattle.amqp_ser.specs.declared.kind.Kind.{Kind};
+    ghost use Rattle.amqp_ser.specs.Marked.{with_marker};
+    ghost use Rattle.amqp_ser.specs.declared.kind.CompoundKind.{CompoundKind};
 
     type Ok = usize;
 
-    type Error = WalkError;
+    type Error = SizeError;
 
     type Open = OpenCompound;
 
-    ghost permits = { size_permits };
+    ghost permits = { SizePermits };
 
-    ghost has = { size_has };
+    ghost has = { SizeHas };
 
-    ghost awaits = { size_awaits };
+    ghost awaits = { SizeAwaits };
 
-    ghost awaits_descriptor = { size_awaits_descriptor };
+    ghost awaits_descriptor = { SizeAwaitsDescriptor };
 
-    ghost is_misuse = { λ e. e ≡ InvalidValue };
+    ghost is_misuse_error = { λ e. e ≡ InvalidValue };
 
     ghost refuses_none = { no_count_on_none };
 
     #[inline(always)]
-    fn serialize_fixed(&mut self, fixed: Fixed) -> Result<usize, WalkError>
-        ensures answered { size_permits self.old (Some (scalar (fixed_scalar fixed))) result
+    fn serialize_fixed(&mut self, fixed: Fixed) -> Result<usize, SizeError>
+        ensures answered { SizePermits self.old (Some (scalar (fixed_scalar fixed))) result
             self.new }
-        ensures no_tree { meant self.old.pending (Some (scalar (fixed_scalar fixed))) ≡ None →
+        ensures no_tree { meant self.old.context (Some (scalar (fixed_scalar fixed))) ≡ None →
             result ≡ Err InvalidValue }
     {
-        let pending = self.pending;
+        let context = self.context;
         let prefix_len = self.prefix_len;
-        self.reset();
-        match pending {
-            Pending::Plain(position) => {
-                let ordinary = Form::ordinary(fixed);
-                let wide = Form::in_array(fixed);
-                self.accept(
+        self.clear_prefix();
+        match context {
+            Context::Plain(position) => {
+                let ordinary = ScalarEncoding::ordinary(fixed);
+                let wide = ScalarEncoding::in_array(fixed);
+                self.size_at(
                     position,
                     prefix_len,
                     wide.code,
@@ -123,284 +123,284 @@ impl Serializer for SizeSerializer {
                     wide.width,
                 )
             }
-            Pending::Scalar(position, ScalarMark::Timestamp) => match fixed {
-                Fixed::Long(_) => self.accept(
+            Context::Scalar(position, ScalarMarker::Timestamp) => match fixed {
+                Fixed::Long(_) => self.size_at(
                     position,
                     prefix_len,
                     EncodingCodes::Timestamp as u8,
                     9,
                     8,
                 ),
-                _ => Err(WalkError::InvalidValue),
+                _ => Err(SizeError::InvalidValue),
             },
-            _ => Err(WalkError::InvalidValue),
+            _ => Err(SizeError::InvalidValue),
         }
     }
 
     #[inline(always)]
-    fn serialize_null(&mut self) -> Result<usize, WalkError>
-        ensures answered { size_permits self.old (Some (scalar null)) result self.new }
-        ensures no_tree { meant self.old.pending (Some (scalar null)) ≡ None →
+    fn serialize_null(&mut self) -> Result<usize, SizeError>
+        ensures answered { SizePermits self.old (Some (scalar null)) result self.new }
+        ensures no_tree { meant self.old.context (Some (scalar null)) ≡ None →
             result ≡ Err InvalidValue }
     {
-        let pending = self.pending;
+        let context = self.context;
         let prefix_len = self.prefix_len;
-        self.reset();
-        match pending {
-            Pending::Plain(position) => self.accept(
+        self.clear_prefix();
+        match context {
+            Context::Plain(position) => self.size_at(
                 position,
                 prefix_len,
                 EncodingCodes::Null as u8,
                 1,
                 0,
             ),
-            _ => Err(WalkError::InvalidValue),
+            _ => Err(SizeError::InvalidValue),
         }
     }
 
     #[inline(always)]
-    fn serialize_str(&mut self, v: &str) -> Result<usize, WalkError>
-        ensures answered { size_permits self.old (Some (scalar (string v.now))) result self.new }
-        ensures no_tree { meant self.old.pending (Some (scalar (string v.now))) ≡ None →
+    fn serialize_str(&mut self, v: &str) -> Result<usize, SizeError>
+        ensures answered { SizePermits self.old (Some (scalar (string v.now))) result self.new }
+        ensures no_tree { meant self.old.context (Some (scalar (string v.now))) ≡ None →
             result ≡ Err InvalidValue }
     {
-        let pending = self.pending;
+        let context = self.context;
         let prefix_len = self.prefix_len;
-        self.reset();
-        match pending {
-            Pending::Plain(position) => self.text(
+        self.clear_prefix();
+        match context {
+            Context::Plain(position) => self.text(
                 position,
                 prefix_len,
                 EncodingCodes::Str32 as u8,
                 v.len(),
             ),
-            Pending::Scalar(position, ScalarMark::Symbol) => self.text(
+            Context::Scalar(position, ScalarMarker::Symbol) => self.text(
                 position,
                 prefix_len,
                 EncodingCodes::Sym32 as u8,
                 v.len(),
             ),
-            _ => Err(WalkError::InvalidValue),
+            _ => Err(SizeError::InvalidValue),
         }
     }
 
     #[inline(always)]
-    fn serialize_bytes(&mut self, v: &[u8]) -> Result<usize, WalkError>
-        ensures answered { size_permits self.old (Some (scalar (binary v.now))) result self.new }
-        ensures no_tree { meant self.old.pending (Some (scalar (binary v.now))) ≡ None →
+    fn serialize_bytes(&mut self, v: &[u8]) -> Result<usize, SizeError>
+        ensures answered { SizePermits self.old (Some (scalar (binary v.now))) result self.new }
+        ensures no_tree { meant self.old.context (Some (scalar (binary v.now))) ≡ None →
             result ≡ Err InvalidValue }
     {
-        let pending = self.pending;
+        let context = self.context;
         let prefix_len = self.prefix_len;
-        self.reset();
-        match pending {
-            Pending::Plain(position) => self.text(
+        self.clear_prefix();
+        match context {
+            Context::Plain(position) => self.text(
                 position,
                 prefix_len,
                 EncodingCodes::Vbin32 as u8,
                 v.len(),
             ),
-            Pending::Scalar(position, ScalarMark::Decimal32) if v.len() == 4 => self.accept(
+            Context::Scalar(position, ScalarMarker::Decimal32) if v.len() == 4 => self.size_at(
                 position,
                 prefix_len,
                 EncodingCodes::Decimal32 as u8,
                 5,
                 4,
             ),
-            Pending::Scalar(position, ScalarMark::Decimal64) if v.len() == 8 => self.accept(
+            Context::Scalar(position, ScalarMarker::Decimal64) if v.len() == 8 => self.size_at(
                 position,
                 prefix_len,
                 EncodingCodes::Decimal64 as u8,
                 9,
                 8,
             ),
-            Pending::Scalar(position, ScalarMark::Decimal128) if v.len() == 16 => self.accept(
+            Context::Scalar(position, ScalarMarker::Decimal128) if v.len() == 16 => self.size_at(
                 position,
                 prefix_len,
                 EncodingCodes::Decimal128 as u8,
                 17,
                 16,
             ),
-            Pending::Scalar(position, ScalarMark::Uuid) if v.len() == 16 => self.accept(
+            Context::Scalar(position, ScalarMarker::Uuid) if v.len() == 16 => self.size_at(
                 position,
                 prefix_len,
                 EncodingCodes::Uuid as u8,
                 17,
                 16,
             ),
-            Pending::Scalar(position, ScalarMark::Lazy) if is_frame(v) => self.lazy(
+            Context::Scalar(position, ScalarMarker::Lazy) if is_frame(v) => self.lazy(
                 position,
                 prefix_len,
                 v.len(),
             ),
-            _ => Err(WalkError::InvalidValue),
+            _ => Err(SizeError::InvalidValue),
         }
     }
 
     #[inline(always)]
-    fn mark(&mut self, mark: Mark)
-        ensures step { (t : Option Tree) (r : Result ℕ WalkError) (after : SizeSerializer) →
-            size_permits self.new t r after → size_permits self.old (marked mark t) r after }
+    fn set_marker(&mut self, marker: Marker)
+        ensures step { (t : Option Tree) (r : Result ℕ SizeError) (after : SizeSerializer) →
+            SizePermits self.new t r after → SizePermits self.old (with_marker marker t) r after }
         ensures meant { (t : Option Tree) →
-            meant self.new.pending t ≡ meant self.old.pending (marked mark t) }
-        ensures position { position_of self.new.pending ≡ position_of self.old.pending }
+            meant self.new.context t ≡ meant self.old.context (with_marker marker t) }
+        ensures position { position_of self.new.context ≡ position_of self.old.context }
     {
-        self.pending = self.pending.marked(mark);
+        self.context = self.context.with_marker(marker);
     }
 
     #[inline(always)]
-    fn begin(&mut self, kind: Kind) -> OpenCompound {
-        let pending = self.pending;
+    fn begin_compound(&mut self, kind: CompoundKind) -> OpenCompound {
+        let context = self.context;
         let prefix_len = self.prefix_len;
-        self.reset();
-        OpenCompound::new(pending, prefix_len, pending.shape(kind))
+        self.clear_prefix();
+        OpenCompound::new(context, prefix_len, context.resolved_kind(kind))
     }
 
     #[inline(always)]
-    fn vacant(&self) -> OpenCompound {
-        OpenCompound::new(Pending::Plain(Position::Root), 0, Shape::Refused)
+    fn placeholder(&self) -> OpenCompound {
+        OpenCompound::new(Context::Plain(Position::Root), 0, ResolvedKind::Refused)
     }
 
     #[inline(always)]
-    fn begin_part(&mut self, held: &mut OpenCompound)
-        ensures ready { (start : SizeSerializer) (kind : Kind) (ps : List (Option Tree)) →
-            size_has start kind self.old held.old ps → size_awaits start kind self.new held.new ps }
+    fn begin_part(&mut self, compound: &mut OpenCompound)
+        ensures ready { (start : SizeSerializer) (kind : CompoundKind) (ps : List (Option Tree)) →
+            SizeHas start kind self.old compound.old ps → SizeAwaits start kind self.new compound.new ps }
         ensures single { (start : SizeSerializer) →
-            size_has start Kind.Single self.old held.old [] →
-            (t : Option Tree) (r : Result ℕ WalkError) (after : SizeSerializer) →
-            size_permits self.new t r after → size_permits start t r after }
-        ensures pending { self.new.pending ≡ held.old.inner }
-        ensures kept { held.new ≡ held.old }
+            SizeHas start CompoundKind.Single self.old compound.old [] →
+            (t : Option Tree) (r : Result ℕ SizeError) (after : SizeSerializer) →
+            SizePermits self.new t r after → SizePermits start t r after }
+        ensures context { self.new.context ≡ compound.old.inner_context }
+        ensures kept { compound.new ≡ compound.old }
     {
-        self.pending = held.inner();
-        self.prefix_len = held.prefix_len();
+        self.context = compound.inner_context();
+        self.prefix_len = compound.prefix_len();
     }
 
     #[inline(always)]
     fn end_part(
         &mut self,
-        held: &mut OpenCompound,
-        part: Result<usize, WalkError>,
-    ) -> Result<(), WalkError>
-        ensures step { (start : SizeSerializer) (kind : Kind) (before : SizeSerializer)
+        compound: &mut OpenCompound,
+        part: Result<usize, SizeError>,
+    ) -> Result<(), SizeError>
+        ensures step { (start : SizeSerializer) (kind : CompoundKind) (before : SizeSerializer)
             (ps : List (Option Tree)) (p : Option Tree) →
-            size_awaits start kind before held.old ps → size_permits before p part self.old →
+            SizeAwaits start kind before compound.old ps → SizePermits before p part self.old →
             MatchResult result
-            (λ _. size_has start kind self.new held.new (ps ++ (p ∷ [])))
-            (λ e. size_has start kind self.new held.new ps × ((rest : List (Option Tree)) →
-            size_permits start (whole kind (ps ++ (p ∷ rest))) (Err e) self.new)) }
+            (λ _. SizeHas start kind self.new compound.new (ps ++ (p ∷ [])))
+            (λ e. SizeHas start kind self.new compound.new ps × ((rest : List (Option Tree)) →
+            SizePermits start (tree_of_parts kind (ps ++ (p ∷ rest))) (Err e) self.new)) }
         ensures refused { IfErr part (λ _. IsErr result) }
         ensures same { IfErr part
             (λ e. (result ≡ Err e)
-            × ((held.new ≡ held.old)
-            × (self.new.pending ≡ Plain (without_prefix held.old.position)))) }
-        ensures one_alone { held.old.shape ≡ Shape.Single → 1 ≤ held.old.count →
+            × ((compound.new ≡ compound.old)
+            × (self.new.context ≡ Plain (without_prefix compound.old.position)))) }
+        ensures one_alone { compound.old.resolved_kind ≡ ResolvedKind.Single → 1 ≤ compound.old.count →
             IfOk part (λ _. result ≡ Err InvalidValue) }
     {
-        // `accept` has stored the constructor of an array's first element in `pending`.
-        let after = self.pending;
-        self.pending = Pending::Plain(held.position().without_prefix());
+        // `size_at` has stored the constructor of an array's first element in `context`.
+        let after = self.context;
+        self.context = Context::Plain(compound.position().without_prefix());
         let size = part?;
-        held.add_part(size, after)
+        compound.add_part(size, after)
     }
 
     #[inline(always)]
-    fn begin_descriptor(&mut self, held: &mut OpenCompound)
-        ensures ready { (start : SizeSerializer) → size_has start Kind.Single self.old held.old [] →
-            size_awaits_descriptor start self.new held.new }
-        ensures pending { self.new.pending ≡ Plain whole_position.Descriptor }
-        ensures kept { held.new ≡ held.old }
+    fn begin_descriptor(&mut self, compound: &mut OpenCompound)
+        ensures ready { (start : SizeSerializer) → SizeHas start CompoundKind.Single self.old compound.old [] →
+            SizeAwaitsDescriptor start self.new compound.new }
+        ensures context { self.new.context ≡ Plain whole_position.Descriptor }
+        ensures kept { compound.new ≡ compound.old }
     {
-        self.pending = Pending::Plain(Position::Descriptor);
+        self.context = Context::Plain(Position::Descriptor);
     }
 
     #[inline(always)]
     fn end_descriptor(
         &mut self,
-        held: &mut OpenCompound,
-        part: Result<usize, WalkError>,
-    ) -> Result<(), WalkError>
+        compound: &mut OpenCompound,
+        part: Result<usize, SizeError>,
+    ) -> Result<(), SizeError>
         ensures step { (start before : SizeSerializer) (d : Option Tree) →
-            size_awaits_descriptor start before held.old → size_permits before d part self.old →
+            SizeAwaitsDescriptor start before compound.old → SizePermits before d part self.old →
             MatchResult result
             (λ _. (mid : SizeSerializer)
-            × (size_has mid Kind.Single self.new held.new []
-            × ((t : Option Tree) (r : Result ℕ WalkError) (after : SizeSerializer) →
-            size_permits mid t r after →
-            size_permits start (as_described (descriptor_of d) t) r after)))
-            (λ e. size_has start Kind.Single self.new held.new [] × ((t : Option Tree) →
-            size_permits start (as_described (descriptor_of d) t) (Err e) self.new)) }
+            × (SizeHas mid CompoundKind.Single self.new compound.new []
+            × ((t : Option Tree) (r : Result ℕ SizeError) (after : SizeSerializer) →
+            SizePermits mid t r after →
+            SizePermits start (as_described (descriptor_of d) t) r after)))
+            (λ e. SizeHas start CompoundKind.Single self.new compound.new [] × ((t : Option Tree) →
+            SizePermits start (as_described (descriptor_of d) t) (Err e) self.new)) }
         ensures refused { IfErr part (λ _. IsErr result) }
         ensures other_kinds { (start before : SizeSerializer) (d : Option Tree) →
-            size_awaits_descriptor start before held.old → size_permits before d part self.old →
+            SizeAwaitsDescriptor start before compound.old → SizePermits before d part self.old →
             descriptor_of d ≡ None → IsErr result }
         ensures described { IfOk part
-            (λ n. IfOk result (λ _. described_pending held.old.inner n ≡ Some held.new.inner)) }
+            (λ n. IfOk result (λ _. described_context compound.old.inner_context n ≡ Some compound.new.inner_context)) }
         ensures same { IfErr part
             (λ e. (result ≡ Err e)
-            × ((held.new ≡ held.old)
-            × (self.new.pending ≡ Plain (without_prefix held.old.position)))) }
+            × ((compound.new ≡ compound.old)
+            × (self.new.context ≡ Plain (without_prefix compound.old.position)))) }
     {
-        self.pending = Pending::Plain(held.position().without_prefix());
+        self.context = Context::Plain(compound.position().without_prefix());
         let descriptor = part?;
-        held.describe(descriptor)
+        compound.describe(descriptor)
     }
 
     #[inline(always)]
-    fn undo_part(&mut self, held: &mut OpenCompound) {
-        held.undo();
+    fn undo_part(&mut self, compound: &mut OpenCompound) {
+        compound.undo();
     }
 
     #[inline(always)]
-    fn misuse(&mut self, _held: &mut OpenCompound) -> WalkError {
-        WalkError::InvalidValue
+    fn misuse_error(&mut self, _compound: &mut OpenCompound) -> SizeError {
+        SizeError::InvalidValue
     }
 
-    #[tactic(auto, unfolding(amqp_ser::specs::Compounds::whole))]
+    #[tactic(auto, unfolding(amqp_ser::specs::Compounds::tree_of_parts))]
     #[inline(always)]
-    fn end(&mut self, held: OpenCompound) -> Result<usize, WalkError>
-        ensures answered { (start : SizeSerializer) (kind : Kind) (ps : List (Option Tree)) →
-            size_has start kind self.old held ps → complete kind ps ≡ true →
-            size_permits start (whole kind ps) result self.new }
-        ensures no_tree { (start : SizeSerializer) (kind : Kind) (ps : List (Option Tree)) →
-            size_has start kind self.old held ps → complete kind ps ≡ true →
-            meant start.pending (whole kind ps) ≡ None → result ≡ Err InvalidValue }
+    fn end(&mut self, compound: OpenCompound) -> Result<usize, SizeError>
+        ensures answered { (start : SizeSerializer) (kind : CompoundKind) (ps : List (Option Tree)) →
+            SizeHas start kind self.old compound ps → complete kind ps ≡ true →
+            SizePermits start (tree_of_parts kind ps) result self.new }
+        ensures no_tree { (start : SizeSerializer) (kind : CompoundKind) (ps : List (Option Tree)) →
+            SizeHas start kind self.old compound ps → complete kind ps ≡ true →
+            meant start.context (tree_of_parts kind ps) ≡ None → result ≡ Err InvalidValue }
     {
-        let position = held.position();
-        let prefix_len = held.prefix_len();
-        let sum = held.sum();
-        match held.shape() {
-            Shape::List => self.accept(
+        let position = compound.position();
+        let prefix_len = compound.prefix_len();
+        let sum = compound.sum();
+        match compound.resolved_kind() {
+            ResolvedKind::List => self.size_at(
                 position,
                 prefix_len,
                 EncodingCodes::List32 as u8,
                 list_width(sum),
                 sum + 8,
             ),
-            Shape::Map => self.accept(
+            ResolvedKind::Map => self.size_at(
                 position,
                 prefix_len,
                 EncodingCodes::Map32 as u8,
                 map_width(sum),
                 sum + 8,
             ),
-            Shape::Variant(index) => self.variant(position, prefix_len, index, list_width(sum)),
-            Shape::NewtypeVariant(index) => self.variant(position, prefix_len, index, sum),
-            Shape::Array => self.accept(
+            ResolvedKind::Variant(index) => self.variant(position, prefix_len, index, list_width(sum)),
+            ResolvedKind::NewtypeVariant(index) => self.variant(position, prefix_len, index, sum),
+            ResolvedKind::Array => self.size_at(
                 position,
                 prefix_len,
                 EncodingCodes::Array32 as u8,
-                array_width(sum, held.count()),
+                array_width(sum, compound.count()),
                 sum + 8,
             ),
-            Shape::Transparent => self.transparent(position, prefix_len, sum),
-            Shape::Single => {
-                // The enclosing compound reads the position after the value from `pending`.
-                self.pending = held.inner();
+            ResolvedKind::Transparent => self.transparent(position, prefix_len, sum),
+            ResolvedKind::Single => {
+                // The enclosing compound reads the position after the value from `context`.
+                self.context = compound.inner_context();
                 self.prefix_len = prefix_len;
                 Ok(sum)
             }
-            Shape::Refused => Err(WalkError::InvalidValue),
+            ResolvedKind::Refused => Err(SizeError::InvalidValue),
         }
     }
 }

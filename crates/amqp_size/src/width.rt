@@ -8,7 +8,7 @@ ghost use Rattle.amqp_ser.specs.Limits.{fits, is_count};
 ghost use Rattle.amqp_size.specs.Width.{uint_width, text_width, map_width, list_width, array_width, text_at, list_at, map_at, array_at};
 
 use crate::limits::within_limit;
-pub use crate::limits::{LONGEST, MOST};
+pub use crate::limits::{MAX_LEN, MAX_COUNT};
 use amqp_data::Error;
 
 /// Returns the length of a uint outside an array.
@@ -146,7 +146,7 @@ pub fn array_len(content: usize, count: usize, in_array: bool) -> Result<usize, 
         length (array_at in_array count body) ≡ len) }
 {
     let n = within_limit(content)?;
-    if count > MOST {
+    if count > MAX_COUNT {
         return Err(Error::TooLong);
     }
     Ok(if in_array {

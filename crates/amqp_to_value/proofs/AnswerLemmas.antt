@@ -3,24 +3,24 @@ use Rattle.std.proofs.Common.{◌≡◌, ◌≤◌, false, List, [], ◌∷◌, 
 use Rattle.amqp_data.specs.declared.error.Error.{Error}
 use Rattle.amqp_data.specs.declared.error.Error.TheVariants as error
 use Rattle.amqp_ser.specs.Tree.{Descriptor, Tree, Trees}
-use Rattle.amqp_ser.specs.Compounds.{all_trees, prepend, as_kind, whole}
-use Rattle.amqp_ser.specs.declared.kind.Kind.TheVariants as kinds
-use Rattle.amqp_ser.specs.declared.mark.Mark.TheVariants as mark
+use Rattle.amqp_ser.specs.Compounds.{all_trees, prepend, as_kind, tree_of_parts}
+use Rattle.amqp_ser.specs.declared.kind.CompoundKind.TheVariants as kinds
+use Rattle.amqp_ser.specs.declared.marker.Marker.TheVariants as marker
 use Rattle.amqp_value.specs.TreeOf.{tree_of}
 use Rattle.amqp_value.specs.declared.value.Value.{Value}
 use Rattle.amqp_to_value.specs.PendingDescriptors.{DescriptorsState, under_descriptors, described_by, standing}
-use Rattle.amqp_to_value.specs.ValueSerializer.{IsSaved, IsFresh, IsKept, Leaves, described_none, meant_by, meant_none, value_permits}
+use Rattle.amqp_to_value.specs.ValueSerializer.{IsSaved, IsFresh, IsKept, Leaves, described_none, meant_by, meant_none, ValuePermits}
 use Rattle.amqp_to_value.specs.ImageOf.{refuses, StandsFor}
-use Rattle.amqp_to_value.specs.PendingMark.{meant}
-use Rattle.amqp_to_value.specs.declared.pending_mark.PendingMark.TheVariants as pending
+use Rattle.amqp_to_value.specs.PendingMarker.{meant}
+use Rattle.amqp_to_value.specs.declared.pending_marker.PendingMarker.TheVariants as pending
 use Rattle.amqp_to_value.specs.declared.serializer.Serializer.{Serializer}
 use Rattle.amqp_to_value.proofs.PendingDescriptorLemmas.{refuses_in, standing_left, stands_in}
 use Rattle.amqp_to_value.proofs.LazyLemmas.{spoils}
 
 -- A value inside its pending descriptors is a permitted result.
 pub finished : (start after : Serializer) (t : Option Tree) (v w : Value) (others ds : List Descriptor) → others ≡ start.descriptors.kept → ds ≡ standing start.descriptors
-    → after.pending ≡ pending.Mark mark.Other → after.descriptors.kept ≡ others → after.descriptors.next ≡ false → length (others ++ ds) ≤ after.descriptors.room
-    → tree_of w ≡ under_descriptors ds (tree_of v) → StandsFor v (meant start.pending t) → value_permits start t (Ok w) after
+    → after.pending ≡ pending.Marker marker.Other → after.descriptors.kept ≡ others → after.descriptors.next ≡ false → length (others ++ ds) ≤ after.descriptors.room
+    → tree_of w ≡ under_descriptors ds (tree_of v) → StandsFor v (meant start.pending t) → ValuePermits start t (Ok w) after
 finished start after t v w others ds e f fresh is none room d s = (
   stands_in (standing start.descriptors) (meant start.pending t) v w (d ∙ ap (λ x. under_descriptors x (tree_of v)) f) s,
   (((fresh, none), is ∙ e), subst (λ n. n ≤ after.descriptors.room) (λ i. length (e i ++ f i)) room),
@@ -28,7 +28,7 @@ finished start after t v w others ds e f fresh is none room d s = (
 
 -- An error that is permitted for the tree is a permitted result.
 pub finished_not : (start after : Serializer) (t : Option Tree) (e : Error) (old : DescriptorsState) → old.kept ≡ start.descriptors.kept → standing old ≡ standing start.descriptors
-    → after.pending ≡ pending.Mark mark.Other → after.descriptors.kept ≡ old.kept → after.descriptors.later ≡ old.later → after.descriptors.next ≡ false → refuses e (meant start.pending t) → value_permits start t (Err e) after
+    → after.pending ≡ pending.Marker marker.Other → after.descriptors.kept ≡ old.kept → after.descriptors.later ≡ old.later → after.descriptors.next ≡ false → refuses e (meant start.pending t) → ValuePermits start t (Err e) after
 finished_not start after t e old p q fresh is left none r =
     let more = standing_left old in
     (refuses_in (standing start.descriptors) (meant start.pending t) e r, (((fresh, none), is ∙ p), (more.0, left ∙ more.1 ∙ ap (λ ds. ds ++ more.0) q)))
@@ -73,19 +73,19 @@ two_trees : (t u : Tree) (o : Option Trees) → as_kind kinds.Single (prepend (S
 two_trees t u None = refl
 two_trees t u (Some ts) = refl
 
-two_parts : (p q : Option Tree) (rest : List (Option Tree)) → whole kinds.Single (p ∷ (q ∷ rest)) ≡ None
-unfolding whole
+two_parts : (p q : Option Tree) (rest : List (Option Tree)) → tree_of_parts kinds.Single (p ∷ (q ∷ rest)) ≡ None
+unfolding tree_of_parts
 two_parts None q rest = refl
 two_parts (Some t) None rest = refl
 two_parts (Some t) (Some u) rest = two_trees t u (all_trees rest)
 
 -- Errors of the value of a single compound, and of a second value.
-pub single_refused : (s : Serializer) (p : Option Tree) (e : Error) (rest : List (Option Tree)) → refuses e (meant_by s p) → refuses e (meant_by s (whole kinds.Single (p ∷ rest)))
-unfolding whole
+pub single_refused : (s : Serializer) (p : Option Tree) (e : Error) (rest : List (Option Tree)) → refuses e (meant_by s p) → refuses e (meant_by s (tree_of_parts kinds.Single (p ∷ rest)))
+unfolding tree_of_parts
 single_refused s None e rest r = r
 single_refused s (Some t) e [] r = r
 single_refused s (Some t) e (q ∷ rest) r =
     subst (λ o. refuses e (meant_by s o)) (sym (two_parts (Some t) q rest)) (none_too s e (refuses_too e (meant_by s (Some t)) r))
 
-pub second_refused : (s : Serializer) (p q : Option Tree) (e : Error) (rest : List (Option Tree)) → refuses e None → refuses e (meant_by s (whole kinds.Single (p ∷ (q ∷ rest))))
+pub second_refused : (s : Serializer) (p q : Option Tree) (e : Error) (rest : List (Option Tree)) → refuses e None → refuses e (meant_by s (tree_of_parts kinds.Single (p ∷ (q ∷ rest))))
 second_refused s p q e rest r = subst (λ o. refuses e (meant_by s o)) (sym (two_parts p q rest)) (none_too s e r)

@@ -9,10 +9,10 @@ use Rattle.amqp_value.specs.Image.{image}
 use Rattle.amqp_value.specs.TreeOf.{tree_of}
 use Rattle.amqp_value.specs.declared.value.Value.{Value}
 use Rattle.amqp_to_value.specs.PendingDescriptors.{described_by, standing}
-use Rattle.amqp_to_value.specs.ValueSerializer.{IsKeepingDescriptor, Leaves, meant_by, value_permits}
+use Rattle.amqp_to_value.specs.ValueSerializer.{IsKeepingDescriptor, Leaves, meant_by, ValuePermits}
 use Rattle.amqp_to_value.specs.ImageOf.{refuses, StandsFor, IsImageOf}
-use Rattle.amqp_to_value.specs.PendingMark.{as_descriptor, meant}
-use Rattle.amqp_to_value.specs.declared.pending_mark.PendingMark.{PendingMark}
+use Rattle.amqp_to_value.specs.PendingMarker.{as_descriptor, meant}
+use Rattle.amqp_to_value.specs.declared.pending_marker.PendingMarker.{PendingMarker}
 use Rattle.amqp_to_value.specs.declared.serializer.Serializer.{Serializer}
 use Rattle.amqp_to_value.proofs.AnswerLemmas.{none_refused, none_too}
 use Rattle.amqp_to_value.proofs.LazyLemmas.{read_refused}
@@ -68,10 +68,10 @@ leaves-prefix others own d (Err e) s k = (k.0, ((d ∷ []) ++ k.1.0, k.1.1 ∙ a
 
 -- A result that is permitted after one more descriptor is permitted for the described value before
 -- it.
-pub permitted_before : (start : Serializer) (inner : PendingMark) (x : Descriptor) (d t : Option Tree) (r : Result Value Error) (after : Serializer) → descriptor_of d ≡ Some x
+pub permitted_before : (start : Serializer) (inner : PendingMarker) (x : Descriptor) (d t : Option Tree) (r : Result Value Error) (after : Serializer) → descriptor_of d ≡ Some x
     → as_described (Some x) (meant inner t) ≡ meant start.pending (as_described (Some x) t)
-    → value_permits (record { alloc = start.alloc; pending = inner; descriptors = record { kept = start.descriptors.kept; later = standing start.descriptors ++ (x ∷ []); next = true; room = 0 } }) t r after
-    → value_permits start (as_described (descriptor_of d) t) r after
+    → ValuePermits (record { alloc = start.alloc; pending = inner; descriptors = record { kept = start.descriptors.kept; later = standing start.descriptors ++ (x ∷ []); next = true; room = 0 } }) t r after
+    → ValuePermits start (as_described (descriptor_of d) t) r after
 permitted_before start inner x d t r after is means p = (
   subst (λ o. IsImageOf o r)
       (described_by-last (standing start.descriptors) x (meant inner t) ∙ ap (described_by (standing start.descriptors)) (means ∙ ap (λ o. meant start.pending (as_described o t)) (sym is))) p.0,

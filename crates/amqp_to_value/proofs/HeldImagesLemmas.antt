@@ -9,7 +9,7 @@ use Rattle.amqp_ser.proofs.Joins.{join, joined, all_trees-append}
 use Rattle.amqp_value.specs.Image.{image, images, images_onto, insert_tree}
 use Rattle.amqp_value.specs.TreeOf.{tree_of, all_of}
 use Rattle.amqp_value.specs.declared.value.Value.{Value}
-use Rattle.amqp_to_value.specs.HeldImages.{then, feed, fed_onto, refuses_opened, IsOpenedImage}
+use Rattle.amqp_to_value.specs.HeldImages.{then, feed, fed_onto, RefusesOpened, IsOpenedImage}
 
 pub join_then : (ts : Trees) (t : Tree) → join ts (more t no_trees) ≡ then ts t
 join_then no_trees t = refl
@@ -52,7 +52,7 @@ ends no_trees done = refl
 ends (more k no_trees) done = (image k, refl)
 ends (more k (more v ts)) done = ends_before k v (in_pairs ts) (fed_onto (more k (more v ts)) done) done (ends ts (insert_tree done (image k) (image v)))
 
-not_ended : (o : Option Pairs) (h : Pairs × Option Tree) (k : Tree) → Ends o h no_pairs → h.1 ≡ Some k → refuses_opened error.InvalidValue (as_map o)
+not_ended : (o : Option Pairs) (h : Pairs × Option Tree) (k : Tree) → Ends o h no_pairs → h.1 ≡ Some k → RefusesOpened error.InvalidValue (as_map o)
 not_ended None h k e is = tt
 not_ended (Some ps) h k e is = absurd (none-some k (sym (ap (λ x. x.1) e) ∙ is))
   where
@@ -60,7 +60,7 @@ not_ended (Some ps) h k e is = absurd (none-some k (sym (ap (λ x. x.1) e) ∙ i
     none-some k q = cc
 
 -- A map whose last key has no value has no tree, so `InvalidValue` is permitted.
-pub pending_end : (ts : Trees) (k : Tree) → (fed_onto ts no_pairs).1 ≡ Some k → refuses_opened error.InvalidValue (as_map (in_pairs ts))
+pub pending_end : (ts : Trees) (k : Tree) → (fed_onto ts no_pairs).1 ≡ Some k → RefusesOpened error.InvalidValue (as_map (in_pairs ts))
 pending_end ts k is = not_ended (in_pairs ts) (fed_onto ts no_pairs) k (ends ts no_pairs) is
 
 ended : (o : Option Pairs) (h : Pairs × Option Tree) (ps : Pairs) (r : Result Value Error) → Ends o h no_pairs → h ≡ (ps, None)
@@ -70,7 +70,7 @@ ended None h ps r e is compound_tree = absurd (none-some e.0 (sym (ap (λ x. x.1
     none-some : (k : Tree) → None ≡ Some k → ⊥
     none-some k q = cc
 ended (Some qs) h ps (Ok v) e is compound_tree = compound_tree ∙ ap (λ x. map x.0) (sym is ∙ e)
-ended (Some qs) h ps (Err e) k is compound_tree = subst (λ x. refuses_opened x (Some (map qs))) (sym compound_tree) tt
+ended (Some qs) h ps (Err e) k is compound_tree = subst (λ x. RefusesOpened x (Some (map qs))) (sym compound_tree) tt
 
 -- The result for a map without a pending key.
 pub paired_end : (ts : Trees) (ps : Pairs) (r : Result Value Error) → fed_onto ts no_pairs ≡ (ps, None)
@@ -108,7 +108,7 @@ pair_taken (Ok u) old new v ts t is h e = is ∙ (λ i. feed (h i) (e i)) ∙ sy
 pair_taken (Err e) old new v ts t is h k = is ∙ h
 
 -- If there is not exactly one value, `InvalidValue` is permitted for a variant of one value.
-pub not_one : (vs : List Value) (ts : Trees) (i : ℕ) → all_of vs ≡ images ts → ((v : Value) → vs ≡ v ∷ [] → ⊥) → refuses_opened error.InvalidValue (as_variant i (only ts))
+pub not_one : (vs : List Value) (ts : Trees) (i : ℕ) → all_of vs ≡ images ts → ((v : Value) → vs ≡ v ∷ [] → ⊥) → RefusesOpened error.InvalidValue (as_variant i (only ts))
 not_one vs no_trees i h none = tt
 not_one [] (more t no_trees) i h none = cc
 not_one (v ∷ []) (more t no_trees) i h none = absurd (none v refl)

@@ -5,19 +5,19 @@ use Rattle.amqp_data.specs.declared.error.Error.TheVariants as error
 use Rattle.amqp_decode.specs.Spells.{Spells}
 use Rattle.amqp_frame.specs.Whole.{is_frame}
 use Rattle.amqp_ser.specs.Tree.{Descriptor, Tree, Trees, Pairs, scalar, list, array, map, described, variant, lazy, transparent, no_trees, more}
-use Rattle.amqp_ser.specs.Compounds.{all_trees, prepend, as_kind, as_map, as_variant, in_pairs, prepend_pair, only, whole}
+use Rattle.amqp_ser.specs.Compounds.{all_trees, prepend, as_kind, as_map, as_variant, in_pairs, prepend_pair, only, tree_of_parts}
 use Rattle.amqp_ser.specs.Marked.{marked_tree, of_frame}
-use Rattle.amqp_ser.specs.declared.kind.Kind.{Kind}
-use Rattle.amqp_ser.specs.declared.kind.Kind.TheVariants as kinds
-use Rattle.amqp_ser.specs.declared.mark.Mark.{Mark}
-use Rattle.amqp_ser.specs.declared.mark.Mark.TheVariants as mark
+use Rattle.amqp_ser.specs.declared.kind.CompoundKind.{CompoundKind}
+use Rattle.amqp_ser.specs.declared.kind.CompoundKind.TheVariants as kinds
+use Rattle.amqp_ser.specs.declared.marker.Marker.{Marker}
+use Rattle.amqp_ser.specs.declared.marker.Marker.TheVariants as marker
 use Rattle.amqp_ser.proofs.Joins.{join, joined, all_trees-append, kind_none}
 use Rattle.amqp_to_value.specs.ImageOf.{IsFault, refuses}
 use Rattle.amqp_to_value.specs.Opened.{Opened, AreOpened, HasOpenedPairs, IsUnreadable}
 use Rattle.amqp_to_value.specs.PendingDescriptors.{under_descriptors}
-use Rattle.amqp_to_value.specs.PendingMark.{as_descriptor, meant}
-use Rattle.amqp_to_value.specs.declared.pending_mark.PendingMark.{PendingMark}
-use Rattle.amqp_to_value.specs.declared.pending_mark.PendingMark.TheVariants as pending
+use Rattle.amqp_to_value.specs.PendingMarker.{as_descriptor, meant}
+use Rattle.amqp_to_value.specs.declared.pending_marker.PendingMarker.{PendingMarker}
+use Rattle.amqp_to_value.specs.declared.pending_marker.PendingMarker.TheVariants as pending
 
 -- There is no tree, or a lazy tree in it spells no value.
 abbrev pub Lacks : Option Tree → Type 0
@@ -98,30 +98,30 @@ variant_lacks i no_trees h = tt
 variant_lacks i (more t no_trees) h = λ u o. h (more o.0 no_trees) (o.0, no_trees, refl, o.2, refl)
 variant_lacks i (more t (more u ts)) h = tt
 
-kind_lacks : (k : Kind) (ts : Trees) → AreUnreadable ts → Lacks (as_kind k (Some ts))
+kind_lacks : (k : CompoundKind) (ts : Trees) → AreUnreadable ts → Lacks (as_kind k (Some ts))
 kind_lacks kinds.List ts h = λ u o. h o.0 o.2
 kind_lacks kinds.Map ts h = map_lacks (in_pairs ts) ts (pairs_alike ts) h
 kind_lacks (kinds.Variant i) ts h = λ u o. h o.2.0 o.2.2
 kind_lacks (kinds.NewtypeVariant i) ts h = variant_lacks i ts h
 kind_lacks kinds.Single ts h = one_lacks ts h
 
-joined_lacks : (k : Kind) (a b : Option Trees) (t : Tree) → IsUnreadable t → Lacks (as_kind k (joined a (prepend (Some t) b)))
+joined_lacks : (k : CompoundKind) (a b : Option Trees) (t : Tree) → IsUnreadable t → Lacks (as_kind k (joined a (prepend (Some t) b)))
 joined_lacks k None b t h = subst Lacks (sym (kind_none k)) tt
 joined_lacks k (Some us) None t h = subst Lacks (sym (kind_none k)) tt
 joined_lacks k (Some us) (Some ts) t h = kind_lacks k (join us (more t ts)) (lazy_join us t ts h)
 
 -- An unreadable tree is unreadable under a marker.
-marked_lacks : (m : Mark) (t : Tree) → IsUnreadable t → Lacks (marked_tree m t)
+marked_lacks : (m : Marker) (t : Tree) → IsUnreadable t → Lacks (marked_tree m t)
 marked_lacks m (scalar s) h = absurd (h (scalar s) refl)
-marked_lacks mark.Array (list ts) h = λ u o. h (list o.0) (o.0, refl, o.2)
-marked_lacks mark.Transparent (list ts) h = λ u o. h (list o.0) (o.0, refl, o.2)
-marked_lacks mark.Other (list ts) h = h
-marked_lacks mark.Other (array ts) h = h
-marked_lacks mark.Other (map ps) h = h
-marked_lacks mark.Other (described d t) h = h
-marked_lacks mark.Other (variant i t) h = h
-marked_lacks mark.Other (lazy bs) h = h
-marked_lacks mark.Other (transparent ts) h = h
+marked_lacks marker.Array (list ts) h = λ u o. h (list o.0) (o.0, refl, o.2)
+marked_lacks marker.Transparent (list ts) h = λ u o. h (list o.0) (o.0, refl, o.2)
+marked_lacks marker.Other (list ts) h = h
+marked_lacks marker.Other (array ts) h = h
+marked_lacks marker.Other (map ps) h = h
+marked_lacks marker.Other (described d t) h = h
+marked_lacks marker.Other (variant i t) h = h
+marked_lacks marker.Other (lazy bs) h = h
+marked_lacks marker.Other (transparent ts) h = h
 marked_lacks _ _ h = tt
 
 descriptor_lacks : (t : Tree) → IsUnreadable t → Lacks (as_descriptor (Some t))
@@ -134,17 +134,17 @@ descriptor_lacks (variant i t) h = tt
 descriptor_lacks (lazy bs) h = tt
 descriptor_lacks (transparent ts) h = tt
 
-pub meant_lacks : (u : PendingMark) (o : Option Tree) → Lacks o → Lacks (meant u o)
+pub meant_lacks : (u : PendingMarker) (o : Option Tree) → Lacks o → Lacks (meant u o)
 meant_lacks pending.Nothing o h = tt
 meant_lacks pending.Descriptor None h = tt
 meant_lacks pending.Descriptor (Some t) h = descriptor_lacks t h
-meant_lacks (pending.Mark m) None h = tt
-meant_lacks (pending.Mark m) (Some t) h = marked_lacks m t h
+meant_lacks (pending.Marker m) None h = tt
+meant_lacks (pending.Marker m) (Some t) h = marked_lacks m t h
 
 -- A compound is unreadable if a part is.
-pub part_lacks : (u : PendingMark) (k : Kind) (ps : List (Option Tree)) (t : Tree) (rest : List (Option Tree))
-    → IsUnreadable t → Lacks (meant u (whole k (ps ++ (Some t ∷ rest))))
-unfolding whole
+pub part_lacks : (u : PendingMarker) (k : CompoundKind) (ps : List (Option Tree)) (t : Tree) (rest : List (Option Tree))
+    → IsUnreadable t → Lacks (meant u (tree_of_parts k (ps ++ (Some t ∷ rest))))
+unfolding tree_of_parts
 part_lacks u k ps t rest h =
     subst (λ o. Lacks (meant u (as_kind k o))) (sym (all_trees-append ps (Some t ∷ rest)))
     (meant_lacks u _ (joined_lacks k (all_trees ps) (all_trees rest) t h))

@@ -9,8 +9,8 @@ use Rattle.amqp_to_value.specs.HeldImages.{then, compound_tree, IsOpenedImage}
 use Rattle.amqp_to_value.specs.ImageOf.{IsImageOf}
 use Rattle.amqp_to_value.specs.Opened.{Opened, AreOpened, HasOpenedPairs}
 use Rattle.amqp_to_value.specs.PendingDescriptors.{under_descriptors}
-use Rattle.amqp_to_value.specs.declared.parts.Parts.{Parts}
-use Rattle.amqp_to_value.specs.declared.parts.Parts.TheVariants as held
+use Rattle.amqp_to_value.specs.declared.parts.CollectedParts.{CollectedParts}
+use Rattle.amqp_to_value.specs.declared.parts.CollectedParts.TheVariants as compound
 
 -- One more tree at the end.
 pub opened-then : (ts us : Trees) (t u : Tree) → AreOpened ts us → Opened t u → AreOpened (then ts t) (then us u)
@@ -76,14 +76,14 @@ one_opened i (more t no_trees) us h = subst (λ x. IsOpened (Some (variant i t))
 one_opened i (more t (more v ts)) us h = subst (λ x. IsOpened None (as_variant i (only x))) (sym (h.2 ∙ ap (more h.0) h.4.2)) tt
 
 -- A compound of parts that are read.
-pub compound_opened : (p : Parts) (ts us : Trees) → AreOpened ts us → IsOpened (compound_tree p (Some ts)) (compound_tree p (Some us))
-compound_opened (held.List v) ts us h = (us, refl, h)
-compound_opened (held.Array v) ts us h = (us, refl, h)
-compound_opened (held.Transparent v) ts us h = (us, refl, h)
-compound_opened (held.Map g) ts us h = map_opened (in_pairs ts) (in_pairs us) (pairs_opened ts us h)
-compound_opened (held.Variant i v) ts us h = (list us, refl, (us, refl, h))
-compound_opened (held.NewtypeVariant i v) ts us h = one_opened i ts us h
-compound_opened held.Refused ts us h = tt
+pub compound_opened : (p : CollectedParts) (ts us : Trees) → AreOpened ts us → IsOpened (compound_tree p (Some ts)) (compound_tree p (Some us))
+compound_opened (compound.List v) ts us h = (us, refl, h)
+compound_opened (compound.Array v) ts us h = (us, refl, h)
+compound_opened (compound.Transparent v) ts us h = (us, refl, h)
+compound_opened (compound.Map g) ts us h = map_opened (in_pairs ts) (in_pairs us) (pairs_opened ts us h)
+compound_opened (compound.Variant i v) ts us h = (list us, refl, (us, refl, h))
+compound_opened (compound.NewtypeVariant i v) ts us h = one_opened i ts us h
+compound_opened compound.Refused ts us h = tt
 
 -- A result that is permitted for the tree after it is read is permitted for the tree.
 pub opened_answer : (o q : Option Tree) (r : Result Value Error) → IsOpened o q → IsOpenedImage q r → IsImageOf o r

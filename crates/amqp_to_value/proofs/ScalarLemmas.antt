@@ -6,14 +6,14 @@ use Rattle.amqp_ser.specs.Marked.{marked_scalar}
 use Rattle.amqp_ser.specs.Tree.{Scalar, Tree, scalar, binary, long, string, symbol, ulong}
 use Rattle.amqp_ser.specs.declared.fixed.Fixed.{Fixed}
 use Rattle.amqp_ser.specs.declared.fixed.Fixed.TheVariants as fixed
-use Rattle.amqp_ser.specs.declared.mark.Mark.{Mark}
-use Rattle.amqp_ser.specs.declared.mark.Mark.TheVariants as mark
+use Rattle.amqp_ser.specs.declared.marker.Marker.{Marker}
+use Rattle.amqp_ser.specs.declared.marker.Marker.TheVariants as marker
 use Rattle.amqp_value.specs.declared.value.Value.{Value}
 use Rattle.amqp_to_value.specs.HeldImages.{IsOpenedImage}
 use Rattle.amqp_to_value.specs.ImageOf.{IsImageOf}
-use Rattle.amqp_to_value.specs.PendingMark.{as_descriptor, meant}
-use Rattle.amqp_to_value.specs.declared.pending_mark.PendingMark.{PendingMark}
-use Rattle.amqp_to_value.specs.declared.pending_mark.PendingMark.TheVariants as pending
+use Rattle.amqp_to_value.specs.PendingMarker.{as_descriptor, meant}
+use Rattle.amqp_to_value.specs.declared.pending_marker.PendingMarker.{PendingMarker}
+use Rattle.amqp_to_value.specs.declared.pending_marker.PendingMarker.TheVariants as pending
 use Rattle.amqp_to_value.proofs.OpenedLemmas.{IsOpened, opened_answer}
 
 -- A scalar, or none.
@@ -35,15 +35,15 @@ sized_is : (b : Bool) (s : Scalar) → IsScalar (if b then Some (scalar s) else 
 sized_is true s = tt
 sized_is false s = tt
 
-marked_is : (m : Mark) (s : Scalar) → IsNoBinary s → IsScalar (marked_scalar m s)
-marked_is mark.Symbol (string bs) h = tt
-marked_is mark.Timestamp (long z) h = tt
-marked_is mark.Decimal32 (binary bs) h = absurd h
-marked_is mark.Decimal64 (binary bs) h = absurd h
-marked_is mark.Decimal128 (binary bs) h = absurd h
-marked_is mark.Uuid (binary bs) h = absurd h
-marked_is mark.Lazy (binary bs) h = absurd h
-marked_is mark.Other s h = tt
+marked_is : (m : Marker) (s : Scalar) → IsNoBinary s → IsScalar (marked_scalar m s)
+marked_is marker.Symbol (string bs) h = tt
+marked_is marker.Timestamp (long z) h = tt
+marked_is marker.Decimal32 (binary bs) h = absurd h
+marked_is marker.Decimal64 (binary bs) h = absurd h
+marked_is marker.Decimal128 (binary bs) h = absurd h
+marked_is marker.Uuid (binary bs) h = absurd h
+marked_is marker.Lazy (binary bs) h = absurd h
+marked_is marker.Other s h = tt
 marked_is _ _ h = tt
 
 descriptor_is : (s : Scalar) → IsScalar (as_descriptor (Some (scalar s)))
@@ -51,12 +51,12 @@ descriptor_is (ulong n) = tt
 descriptor_is (symbol bs) = tt
 descriptor_is s = tt
 
-meant_is : (u : PendingMark) (s : Scalar) → IsNoBinary s → IsScalar (meant u (Some (scalar s)))
-meant_is (pending.Mark m) s h = marked_is m s h
+meant_is : (u : PendingMarker) (s : Scalar) → IsNoBinary s → IsScalar (meant u (Some (scalar s)))
+meant_is (pending.Marker m) s h = marked_is m s h
 meant_is pending.Descriptor s h = descriptor_is s
 meant_is pending.Nothing s h = tt
 
-pub scalar_answer : (u : PendingMark) (s : Scalar) (r : Result Value Error) → IsNoBinary s → IsOpenedImage (meant u (Some (scalar s))) r → IsImageOf (meant u (Some (scalar s))) r
+pub scalar_answer : (u : PendingMarker) (s : Scalar) (r : Result Value Error) → IsNoBinary s → IsOpenedImage (meant u (Some (scalar s))) r → IsImageOf (meant u (Some (scalar s))) r
 scalar_answer u s r h g = opened_answer (meant u (Some (scalar s))) (meant u (Some (scalar s))) r (itself (meant u (Some (scalar s))) (meant_is u s h)) g
 
 no_binary : (f : Fixed) → IsNoBinary (fixed_scalar f)
@@ -74,8 +74,8 @@ no_binary (fixed.Float n) = tt
 no_binary (fixed.Double n) = tt
 no_binary (fixed.Char c) = tt
 
-pub fixed_answer : (u : PendingMark) (f : Fixed) (r : Result Value Error) → IsOpenedImage (meant u (Some (scalar (fixed_scalar f)))) r → IsImageOf (meant u (Some (scalar (fixed_scalar f)))) r
+pub fixed_answer : (u : PendingMarker) (f : Fixed) (r : Result Value Error) → IsOpenedImage (meant u (Some (scalar (fixed_scalar f)))) r → IsImageOf (meant u (Some (scalar (fixed_scalar f)))) r
 fixed_answer u f r g = scalar_answer u (fixed_scalar f) r (no_binary f) g
 
-pub text_answer : (u : PendingMark) (bs : List ℕ) (r : Result Value Error) → IsOpenedImage (meant u (Some (scalar (string bs)))) r → IsImageOf (meant u (Some (scalar (string bs)))) r
+pub text_answer : (u : PendingMarker) (bs : List ℕ) (r : Result Value Error) → IsOpenedImage (meant u (Some (scalar (string bs)))) r → IsImageOf (meant u (Some (scalar (string bs)))) r
 text_answer u bs r g = scalar_answer u (string bs) r tt g

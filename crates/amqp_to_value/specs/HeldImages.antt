@@ -5,17 +5,17 @@ use Rattle.amqp_data.specs.declared.error.Error.{Error}
 use Rattle.amqp_data.specs.declared.error.Error.TheVariants as error
 use Rattle.amqp_ser.specs.Tree.{Tree, Trees, Pairs, no_trees, more, no_pairs}
 use Rattle.amqp_ser.specs.Compounds.{as_kind}
-use Rattle.amqp_ser.specs.Marked.{marked}
-use Rattle.amqp_ser.specs.declared.kind.Kind.{Kind}
-use Rattle.amqp_ser.specs.declared.kind.Kind.TheVariants as kind
-use Rattle.amqp_ser.specs.declared.mark.Mark.TheVariants as mark
+use Rattle.amqp_ser.specs.Marked.{with_marker}
+use Rattle.amqp_ser.specs.declared.kind.CompoundKind.{CompoundKind}
+use Rattle.amqp_ser.specs.declared.kind.CompoundKind.TheVariants as kind
+use Rattle.amqp_ser.specs.declared.marker.Marker.TheVariants as marker
 use Rattle.amqp_value.specs.Image.{image, images, insert_tree}
 use Rattle.amqp_value.specs.TreeOf.{tree_of, all_of}
 use Rattle.amqp_value.specs.declared.value.Value.{Value}
 use Rattle.amqp_gather.specs.Gathered.{gathered}
 use Rattle.amqp_to_value.specs.declared.map_builder.MapBuilder.{MapBuilder}
-use Rattle.amqp_to_value.specs.declared.parts.Parts.{Parts}
-use Rattle.amqp_to_value.specs.declared.parts.Parts.TheVariants as held
+use Rattle.amqp_to_value.specs.declared.parts.CollectedParts.{CollectedParts}
+use Rattle.amqp_to_value.specs.declared.parts.CollectedParts.TheVariants as compound
 
 -- These trees and one more at the end.
 abbrev pub then : Trees → Tree → Trees
@@ -28,11 +28,11 @@ held_pairs g = (gathered g.pairs, option_map tree_of g.key)
 
 -- Adds a key, or the value of the pending key.
 abbrev pub feed : Pairs × Option Tree → Tree → Pairs × Option Tree
-feed held t = by held.1
+feed compound t = by compound.1
   where
     by : Option Tree → Pairs × Option Tree
-    by None = (held.0, Some t)
-    by (Some k) = (insert_tree held.0 k t, None)
+    by None = (compound.0, Some t)
+    by (Some k) = (insert_tree compound.0 k t, None)
 
 -- The entries and the pending key after keys and values in turn.
 abbrev pub fed_onto : Trees → Pairs → Pairs × Option Tree
@@ -41,44 +41,44 @@ fed_onto (more k no_trees) done = (done, Some (image k))
 fed_onto (more k (more v ts)) done = fed_onto ts (insert_tree done (image k) (image v))
 
 -- The compound contains the images of these trees, in order.
-abbrev pub HoldsImages : Parts → Trees → Type 0
-HoldsImages (held.List v) ts = all_of v.items ≡ images ts
-HoldsImages (held.Array v) ts = all_of v.items ≡ images ts
-HoldsImages (held.Transparent v) ts = all_of v.items ≡ images ts
-HoldsImages (held.Map g) ts = held_pairs g ≡ fed_onto ts no_pairs
-HoldsImages (held.Variant i v) ts = all_of v.items ≡ images ts
-HoldsImages (held.NewtypeVariant i v) ts = all_of v.items ≡ images ts
-HoldsImages held.Refused ts = Unit {0}
+abbrev pub HoldsImages : CollectedParts → Trees → Type 0
+HoldsImages (compound.List v) ts = all_of v.items ≡ images ts
+HoldsImages (compound.Array v) ts = all_of v.items ≡ images ts
+HoldsImages (compound.Transparent v) ts = all_of v.items ≡ images ts
+HoldsImages (compound.Map g) ts = held_pairs g ≡ fed_onto ts no_pairs
+HoldsImages (compound.Variant i v) ts = all_of v.items ≡ images ts
+HoldsImages (compound.NewtypeVariant i v) ts = all_of v.items ≡ images ts
+HoldsImages compound.Refused ts = Unit {0}
 
 -- Whether the compound is a single value.
-abbrev pub is_single : Kind → Bool
+abbrev pub is_single : CompoundKind → Bool
 is_single kind.Single = true
 is_single k = false
 
 -- The tree that a compound makes from its parts.
-abbrev pub compound_tree : Parts → Option Trees → Option Tree
-compound_tree (held.List v) ts = as_kind kind.List ts
-compound_tree (held.Array v) ts = marked mark.Array (as_kind kind.List ts)
-compound_tree (held.Transparent v) ts = marked mark.Transparent (as_kind kind.List ts)
-compound_tree (held.Map g) ts = as_kind kind.Map ts
-compound_tree (held.Variant i v) ts = as_kind (kind.Variant i) ts
-compound_tree (held.NewtypeVariant i v) ts = as_kind (kind.NewtypeVariant i) ts
-compound_tree held.Refused ts = None
+abbrev pub compound_tree : CollectedParts → Option Trees → Option Tree
+compound_tree (compound.List v) ts = as_kind kind.List ts
+compound_tree (compound.Array v) ts = with_marker marker.Array (as_kind kind.List ts)
+compound_tree (compound.Transparent v) ts = with_marker marker.Transparent (as_kind kind.List ts)
+compound_tree (compound.Map g) ts = as_kind kind.Map ts
+compound_tree (compound.Variant i v) ts = as_kind (kind.Variant i) ts
+compound_tree (compound.NewtypeVariant i v) ts = as_kind (kind.NewtypeVariant i) ts
+compound_tree compound.Refused ts = None
 
 -- The errors that are permitted for a tree without lazy trees, or for none: out of memory for any,
 -- and invalid for none.
-abbrev pub refuses_opened : Error → Option Tree → Type 0
-refuses_opened error.OutOfMemory t = Unit {0}
-refuses_opened error.InvalidValue None = Unit {0}
-refuses_opened e t = ⊥
+abbrev pub RefusesOpened : Error → Option Tree → Type 0
+RefusesOpened error.OutOfMemory t = Unit {0}
+RefusesOpened error.InvalidValue None = Unit {0}
+RefusesOpened e t = ⊥
 
 abbrev pub IsOpenedImage : Option Tree → Result Value Error → Type 0
 IsOpenedImage None (Ok v) = ⊥
 IsOpenedImage (Some t) (Ok v) = tree_of v ≡ image t
-IsOpenedImage t (Err e) = refuses_opened e t
+IsOpenedImage t (Err e) = RefusesOpened e t
 
 -- The compound takes keys and values in turn.
-abbrev pub TakesPairs : Parts → Type 0
-TakesPairs (held.Map g) = Unit {0}
-TakesPairs held.Refused = Unit {0}
+abbrev pub TakesPairs : CollectedParts → Type 0
+TakesPairs (compound.Map g) = Unit {0}
+TakesPairs compound.Refused = Unit {0}
 TakesPairs o = ⊥

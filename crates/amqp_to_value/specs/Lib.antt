@@ -1,10 +1,10 @@
 -- Contracts of public items depend on all of these, except for `descriptors_of` and
--- `under_descriptors` in PendingDescriptors, and `feed`, `TakesPairs`, `refuses_opened` and
+-- `under_descriptors` in PendingDescriptors, and `feed`, `TakesPairs`, `RefusesOpened` and
 -- `IsOpenedImage` in HeldImages, which only private clauses use. Laws use HasLazy.
 pub mod PendingDescriptors
 pub mod HasLazy
 pub mod Opened
 pub mod ImageOf
-pub mod PendingMark
+pub mod PendingMarker
 pub mod HeldImages
 pub mod ValueSerializer

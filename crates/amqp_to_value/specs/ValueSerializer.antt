@@ -5,26 +5,26 @@ use Rattle.amqp_data.specs.declared.error.Error.{Error}
 use Rattle.amqp_ser.specs.Composites.{as_described}
 use Rattle.amqp_ser.specs.Tree.{Descriptor, Tree, Trees}
 use Rattle.amqp_ser.specs.Compounds.{all_trees, as_kind}
-use Rattle.amqp_ser.specs.declared.kind.Kind.{Kind}
-use Rattle.amqp_ser.specs.declared.kind.Kind.TheVariants as kind
-use Rattle.amqp_ser.specs.declared.mark.Mark.TheVariants as mark
+use Rattle.amqp_ser.specs.declared.kind.CompoundKind.{CompoundKind}
+use Rattle.amqp_ser.specs.declared.kind.CompoundKind.TheVariants as kind
+use Rattle.amqp_ser.specs.declared.marker.Marker.TheVariants as marker
 use Rattle.amqp_value.specs.declared.value.Value.{Value}
 use Rattle.amqp_to_value.specs.PendingDescriptors.{saved_of, described_by, standing}
 use Rattle.amqp_to_value.specs.ImageOf.{IsImageOf, StandsFor}
 use Rattle.amqp_to_value.specs.Opened.{AreOpened}
-use Rattle.amqp_to_value.specs.PendingMark.{meant}
+use Rattle.amqp_to_value.specs.PendingMarker.{meant}
 use Rattle.amqp_to_value.specs.HeldImages.{HoldsImages, is_single, compound_tree}
-use Rattle.amqp_to_value.specs.declared.pending_mark.PendingMark.{PendingMark}
-use Rattle.amqp_to_value.specs.declared.pending_mark.PendingMark.TheVariants as pending
+use Rattle.amqp_to_value.specs.declared.pending_marker.PendingMarker.{PendingMarker}
+use Rattle.amqp_to_value.specs.declared.pending_marker.PendingMarker.TheVariants as pending
 use Rattle.amqp_to_value.specs.declared.open_value.OpenValue.{OpenValue}
 use Rattle.amqp_to_value.specs.declared.open_value.OpenBody.{OpenBody}
 use Rattle.amqp_to_value.specs.declared.open_value.OpenBody.TheVariants as body
-use Rattle.amqp_to_value.specs.declared.parts.Parts.{Parts}
+use Rattle.amqp_to_value.specs.declared.parts.CollectedParts.{CollectedParts}
 use Rattle.amqp_to_value.specs.declared.serializer.Serializer.{Serializer}
 
 -- No marker and no descriptor is pending.
 abbrev pub IsFresh : Serializer → Type 0
-IsFresh s = (s.pending ≡ pending.Mark mark.Other) × (s.descriptors.next ≡ false)
+IsFresh s = (s.pending ≡ pending.Marker marker.Other) × (s.descriptors.next ≡ false)
 
 -- The intended tree: under the pending marker, inside the pending descriptors.
 abbrev pub meant_by : Serializer → Option Tree → Option Tree
@@ -48,21 +48,21 @@ abbrev pub Leaves : List Descriptor → List Descriptor → Result Value Error �
 Leaves others own (Ok v) s = IsKept others s × (length (others ++ own) ≤ s.descriptors.room)
 Leaves others own (Err e) s = IsKept others s × IsLeft own s
 
-abbrev pub value_permits : Serializer → Option Tree → Result Value Error → Serializer → Type 0
-value_permits s t r after = IsImageOf (meant_by s t) r × Leaves s.descriptors.kept (standing s.descriptors) r after
+abbrev pub ValuePermits : Serializer → Option Tree → Result Value Error → Serializer → Type 0
+ValuePermits s t r after = IsImageOf (meant_by s t) r × Leaves s.descriptors.kept (standing s.descriptors) r after
 
 -- An open compound that contains these parts.
-pub record HoldsParts (pending : PendingMark) (kind : Kind) (held : Parts) (ps : List (Option Tree)) : Type 0 where
+pub record HoldsParts (pending : PendingMarker) (kind : CompoundKind) (compound : CollectedParts) (ps : List (Option Tree)) : Type 0 where
   pub ts : Trees
   pub trees : all_trees ps ≡ Some ts
   -- The same trees, after their lazy trees are read.
   pub us : Trees
   pub opened : AreOpened ts us
-  pub fed : HoldsImages held us
-  pub makes : (o : Option Trees) → meant pending (as_kind kind o) ≡ compound_tree held o
+  pub fed : HoldsImages compound us
+  pub makes : (o : Option Trees) → meant pending (as_kind kind o) ≡ compound_tree compound o
 
 -- A single compound has no value and no part, or one part and its value.
-abbrev pub HasValue : PendingMark → Option Value → List (Option Tree) → Type 0
+abbrev pub HasValue : PendingMarker → Option Value → List (Option Tree) → Type 0
 HasValue u None [] = Unit {0}
 HasValue u None (p ∷ ps) = ⊥
 HasValue u (Some v) [] = ⊥
@@ -70,9 +70,9 @@ HasValue u (Some v) (p ∷ []) = StandsFor v (meant u p)
 HasValue u (Some v) (p ∷ (q ∷ ps)) = ⊥
 
 -- The compound, opened under this pending marker, can contain these parts.
-abbrev pub HasParts : PendingMark → Kind → OpenBody → List (Option Tree) → Type 0
+abbrev pub HasParts : PendingMarker → CompoundKind → OpenBody → List (Option Tree) → Type 0
 HasParts u k (body.Single w v) ps = (k ≡ kind.Single) × (w ≡ u) × HasValue u v ps
-HasParts u k (body.Parts parts) ps = (is_single k ≡ false) × HoldsParts u k parts ps
+HasParts u k (body.CollectedParts parts) ps = (is_single k ≡ false) × HoldsParts u k parts ps
 
 -- The descriptors of the compound are saved.
 abbrev pub IsSaved : Serializer → Serializer → Type 0
@@ -91,28 +91,28 @@ IsKeepingDescriptor start s = (s.pending ≡ pending.Descriptor) × (s.descripto
 abbrev pub IsReady : Serializer → Serializer → OpenBody → Type 0
 IsReady start s (body.Single u None) = (s.pending ≡ start.pending) × (s.descriptors.kept ≡ start.descriptors.kept) × (standing s.descriptors ≡ standing start.descriptors)
 IsReady start s (body.Single u (Some v)) = IsKeeping start s
-IsReady start s (body.Parts parts) = IsKeeping start s
+IsReady start s (body.CollectedParts parts) = IsKeeping start s
 
-abbrev pub value_has : Serializer → Kind → Serializer → OpenValue → List (Option Tree) → Type 0
-value_has start k s held ps = (held.saved ≡ saved_of start.descriptors.kept (standing start.descriptors)) × HasParts start.pending k held.body ps × IsSaved start s
+abbrev pub ValueHas : Serializer → CompoundKind → Serializer → OpenValue → List (Option Tree) → Type 0
+ValueHas start k s compound ps = (compound.saved ≡ saved_of start.descriptors.kept (standing start.descriptors)) × HasParts start.pending k compound.body ps × IsSaved start s
 
-abbrev pub value_awaits : Serializer → Kind → Serializer → OpenValue → List (Option Tree) → Type 0
-value_awaits start k s held ps = (held.saved ≡ saved_of start.descriptors.kept (standing start.descriptors)) × HasParts start.pending k held.body ps × IsReady start s held.body
+abbrev pub ValueAwaits : Serializer → CompoundKind → Serializer → OpenValue → List (Option Tree) → Type 0
+ValueAwaits start k s compound ps = (compound.saved ≡ saved_of start.descriptors.kept (standing start.descriptors)) × HasParts start.pending k compound.body ps × IsReady start s compound.body
 
 -- A single compound can take a descriptor.
-abbrev pub value_awaits_descriptor : Serializer → Serializer → OpenValue → Type 0
-value_awaits_descriptor start s held = (held.saved ≡ saved_of start.descriptors.kept (standing start.descriptors)) × HasParts start.pending kind.Single held.body [] × IsKeepingDescriptor start s
+abbrev pub ValueAwaitsDescriptor : Serializer → Serializer → OpenValue → Type 0
+ValueAwaitsDescriptor start s compound = (compound.saved ≡ saved_of start.descriptors.kept (standing start.descriptors)) × HasParts start.pending kind.Single compound.body [] × IsKeepingDescriptor start s
 
 pub described_none : (ds : List Descriptor) → described_by ds None ≡ None
 described_none [] = refl
 described_none (d ∷ ds) = ap (as_described (Some d)) (described_none ds)
 
-pub meant_none : (u : PendingMark) → meant u None ≡ None
-meant_none (pending.Mark m) = refl
+pub meant_none : (u : PendingMarker) → meant u None ≡ None
+meant_none (pending.Marker m) = refl
 meant_none pending.Descriptor = refl
 meant_none pending.Nothing = refl
 
 -- If there is no tree, there is no value.
-pub no_value_of_none : (s : Serializer) (v : Value) (after : Serializer) → value_permits s None (Ok v) after → ⊥
+pub no_value_of_none : (s : Serializer) (v : Value) (after : Serializer) → ValuePermits s None (Ok v) after → ⊥
 no_value_of_none s v after h =
     let none : meant_by s None ≡ None = ap (described_by (standing s.descriptors)) (meant_none s.pending) ∙ described_none (standing s.descriptors) in subst (StandsFor v) none h.0

@@ -16,7 +16,7 @@ mod map_builder;
 mod open_value;
 mod parts;
 mod pending_descriptors;
-mod pending_mark;
+mod pending_marker;
 mod scalars;
 mod serializer;
 

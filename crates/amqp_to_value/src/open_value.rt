@@ -2,20 +2,20 @@
 
 ghost use Rattle.std.specs.Prelude.{◌≡◌, ◌++◌, ◌∷◌, [], List, Option, Some, true};
 ghost use Rattle.amqp_ser.specs.Composites.{as_described};
-ghost use Rattle.amqp_ser.specs.Compounds.{complete, paired, whole};
+ghost use Rattle.amqp_ser.specs.Compounds.{complete, paired, tree_of_parts};
 ghost use Rattle.amqp_ser.specs.Tree.{Descriptor, Tree};
-ghost use Rattle.amqp_ser.specs.declared.kind.Kind.{Kind};
-ghost use Rattle.amqp_ser.specs.declared.kind.Kind.TheVariants as kind;
+ghost use Rattle.amqp_ser.specs.declared.kind.CompoundKind.{CompoundKind};
+ghost use Rattle.amqp_ser.specs.declared.kind.CompoundKind.TheVariants as kind;
 ghost use Rattle.amqp_to_value.specs.ValueSerializer.{HasParts};
 ghost use Rattle.amqp_to_value.specs.ImageOf.{IsImageOf};
-ghost use Rattle.amqp_to_value.specs.PendingMark.{meant};
-ghost use Rattle.amqp_to_value.specs.declared.pending_mark.PendingMark.{PendingMark};
+ghost use Rattle.amqp_to_value.specs.PendingMarker.{meant};
+ghost use Rattle.amqp_to_value.specs.declared.pending_marker.PendingMarker.{PendingMarker};
 
-use crate::parts::Parts;
+use crate::parts::CollectedParts;
 use crate::pending_descriptors::Saved;
-use crate::pending_mark::PendingMark;
+use crate::pending_marker::PendingMarker;
 use amqp_data::Error;
-use amqp_ser::Kind;
+use amqp_ser::CompoundKind;
 use amqp_value::Value;
 use std::alloc::Global;
 
@@ -31,28 +31,28 @@ pub struct OpenValue {
 pub enum OpenBody {
     /// A single value that replaces the compound, and the marker pending when the compound was
     /// opened.
-    Single(PendingMark, Option<Value>),
+    Single(PendingMarker, Option<Value>),
     /// The parts from which the compound is built.
-    Parts(Parts),
+    CollectedParts(CollectedParts),
 }
 
 impl OpenBody {
     /// Returns an empty compound of this kind under the pending marker.
     #[inline(always)]
-    pub fn new(alloc: Global, pending: PendingMark, kind: Kind) -> OpenBody
+    pub fn new(alloc: Global, pending: PendingMarker, kind: CompoundKind) -> OpenBody
         ensures { HasParts pending kind result [] }
     {
         match kind {
-            Kind::Single => OpenBody::Single(pending, None),
-            kind => OpenBody::Parts(Parts::new(alloc, pending, kind)),
+            CompoundKind::Single => OpenBody::Single(pending, None),
+            kind => OpenBody::CollectedParts(CollectedParts::new(alloc, pending, kind)),
         }
     }
 
     /// Marks the value of a single compound as described.
     #[inline(always)]
     pub fn describe(&mut self)
-        ensures { (pending : PendingMark) → HasParts pending kind.Single self.old [] →
-            (inner : PendingMark) × HasParts inner kind.Single self.new []
+        ensures { (pending : PendingMarker) → HasParts pending kind.Single self.old [] →
+            (inner : PendingMarker) × HasParts inner kind.Single self.new []
             × ((d : Descriptor) (t : Option Tree) →
             as_described (Some d) (meant inner t) ≡ meant pending (as_described (Some d) t)) }
     {
@@ -64,11 +64,11 @@ impl OpenBody {
     /// Removes the pending key of a map.
     #[inline(always)]
     pub fn undo(&mut self)
-        ensures { (pending : PendingMark) (ps : List (Option Tree)) (p : Option Tree) →
+        ensures { (pending : PendingMarker) (ps : List (Option Tree)) (p : Option Tree) →
             HasParts pending kind.Map self.old (ps ++ (p ∷ [])) → paired ps ≡ true →
             HasParts pending kind.Map self.new ps }
     {
-        if let OpenBody::Parts(parts) = self {
+        if let OpenBody::CollectedParts(parts) = self {
             parts.undo();
         }
     }
@@ -80,13 +80,13 @@ impl OpenBody {
     /// an allocation fails.
     #[inline(always)]
     pub fn into_value(self, alloc: Global) -> Result<Value, Error>
-        ensures { (pending : PendingMark) (kind : Kind) (ps : List (Option Tree)) →
+        ensures { (pending : PendingMarker) (kind : CompoundKind) (ps : List (Option Tree)) →
             HasParts pending kind self ps → complete kind ps ≡ true →
-            IsImageOf (meant pending (whole kind ps)) result }
+            IsImageOf (meant pending (tree_of_parts kind ps)) result }
     {
         match self {
             OpenBody::Single(_, value) => value.ok_or(Error::InvalidValue),
-            OpenBody::Parts(parts) => parts.into_value(alloc),
+            OpenBody::CollectedParts(parts) => parts.into_value(alloc),
         }
     }
 }

@@ -6,18 +6,18 @@ ghost use Rattle.amqp_ser.specs.Compounds.{as_kind, in_pairs};
 ghost use Rattle.amqp_value.specs.Image.{image, variant_map};
 ghost use Rattle.amqp_value.specs.TreeOf.{tree_of};
 ghost use Rattle.amqp_to_value.specs.HeldImages.{HoldsImages, is_single, compound_tree, then, TakesPairs, IsOpenedImage};
-ghost use Rattle.amqp_to_value.specs.PendingMark.{meant};
+ghost use Rattle.amqp_to_value.specs.PendingMarker.{meant};
 
 use crate::map_builder::MapBuilder;
-use crate::pending_mark::PendingMark;
+use crate::pending_marker::PendingMarker;
 use amqp_data::{Array, Error, OrderedMap};
-use amqp_ser::{Kind, Mark};
+use amqp_ser::{CompoundKind, Marker};
 use amqp_value::Value;
 use std::alloc::{AllocError, Global};
 
 /// The kind of an open compound, with the values that it contains so far.
 #[derive(Drop)]
-pub enum Parts {
+pub enum CollectedParts {
     /// A list of these elements.
     List(Vec<Value>),
     /// An array of these elements.
@@ -34,31 +34,31 @@ pub enum Parts {
     Refused,
 }
 
-impl Parts {
-    /// Returns the empty parts of a compound of this kind, other than `Kind::Single`, under a
+impl CollectedParts {
+    /// Returns the empty parts of a compound of this kind, other than `CompoundKind::Single`, under a
     /// marker.
     #[inline(always)]
-    pub fn new(alloc: Global, pending: PendingMark, kind: Kind) -> Parts
+    pub fn new(alloc: Global, pending: PendingMarker, kind: CompoundKind) -> CollectedParts
         ensures makes { is_single kind ≡ false → (o : Option Trees) →
             meant pending (as_kind kind o) ≡ compound_tree result o }
         ensures empty { HoldsImages result no_trees }
     {
         match (pending, kind) {
-            (PendingMark::Mark(Mark::Other), Kind::List) => Parts::List(Vec::new(alloc)),
-            (PendingMark::Mark(Mark::Other), Kind::Map) => Parts::Map(MapBuilder::new(alloc)),
-            (PendingMark::Mark(Mark::Other), Kind::Variant(index)) => Parts::Variant(
+            (PendingMarker::Marker(Marker::Other), CompoundKind::List) => CollectedParts::List(Vec::new(alloc)),
+            (PendingMarker::Marker(Marker::Other), CompoundKind::Map) => CollectedParts::Map(MapBuilder::new(alloc)),
+            (PendingMarker::Marker(Marker::Other), CompoundKind::Variant(index)) => CollectedParts::Variant(
                 index,
                 Vec::new(alloc),
             ),
-            (PendingMark::Mark(Mark::Other), Kind::NewtypeVariant(index)) => Parts::NewtypeVariant(
+            (PendingMarker::Marker(Marker::Other), CompoundKind::NewtypeVariant(index)) => CollectedParts::NewtypeVariant(
                 index,
                 Vec::new(alloc),
             ),
-            (PendingMark::Mark(Mark::Array), Kind::List) => Parts::Array(Vec::new(alloc)),
-            (PendingMark::Mark(Mark::Transparent), Kind::List) => Parts::Transparent(Vec::new(
+            (PendingMarker::Marker(Marker::Array), CompoundKind::List) => CollectedParts::Array(Vec::new(alloc)),
+            (PendingMarker::Marker(Marker::Transparent), CompoundKind::List) => CollectedParts::Transparent(Vec::new(
                 alloc,
             )),
-            _ => Parts::Refused,
+            _ => CollectedParts::Refused,
         }
     }
 
@@ -76,13 +76,13 @@ impl Parts {
             (λ _. HoldsImages self.new ts) }
     {
         match self {
-            Parts::List(items) => gather(items, part),
-            Parts::Array(items) => gather(items, part),
-            Parts::Transparent(items) => gather(items, part),
-            Parts::Map(pairs) => pairs.add_part(part),
-            Parts::Variant(_, items) => gather(items, part),
-            Parts::NewtypeVariant(_, items) => gather(items, part),
-            Parts::Refused => {
+            CollectedParts::List(items) => gather(items, part),
+            CollectedParts::Array(items) => gather(items, part),
+            CollectedParts::Transparent(items) => gather(items, part),
+            CollectedParts::Map(pairs) => pairs.add_part(part),
+            CollectedParts::Variant(_, items) => gather(items, part),
+            CollectedParts::NewtypeVariant(_, items) => gather(items, part),
+            CollectedParts::Refused => {
                 let_go(part);
                 Ok(())
             }
@@ -96,7 +96,7 @@ impl Parts {
         ensures back { (ts : Trees) (ps : Pairs) (t : Tree) → in_pairs ts ≡ Some ps →
             TakesPairs self.old → HoldsImages self.old (then ts t) → HoldsImages self.new ts }
     {
-        if let Parts::Map(pairs) = self {
+        if let CollectedParts::Map(pairs) = self {
             pairs.undo();
         }
     }
@@ -112,16 +112,16 @@ impl Parts {
             IsOpenedImage (compound_tree self (Some ts)) result }
     {
         match self {
-            Parts::List(items) => Ok(Value::List(items)),
-            Parts::Array(items) => Ok(Value::Array(Array::from(items))),
-            Parts::Transparent(items) => Ok(Value::List(items)),
-            Parts::Map(pairs) => pairs.into_value(alloc),
-            Parts::Variant(index, items) => variant(alloc, index, Value::List(items)),
-            Parts::NewtypeVariant(index, items) => match only(items) {
+            CollectedParts::List(items) => Ok(Value::List(items)),
+            CollectedParts::Array(items) => Ok(Value::Array(Array::from(items))),
+            CollectedParts::Transparent(items) => Ok(Value::List(items)),
+            CollectedParts::Map(pairs) => pairs.into_value(alloc),
+            CollectedParts::Variant(index, items) => variant(alloc, index, Value::List(items)),
+            CollectedParts::NewtypeVariant(index, items) => match only(items) {
                 Some(payload) => variant(alloc, index, payload),
                 None => Err(Error::InvalidValue),
             },
-            Parts::Refused => Err(Error::InvalidValue),
+            CollectedParts::Refused => Err(Error::InvalidValue),
         }
     }
 }

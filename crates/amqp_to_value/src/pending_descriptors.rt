@@ -57,7 +57,7 @@ impl PendingDescriptors {
 
     /// Returns an empty range.
     #[inline(always)]
-    pub fn vacant(&self) -> Saved {
+    pub fn placeholder(&self) -> Saved {
         Saved { first: 0, end: 0 }
     }
 

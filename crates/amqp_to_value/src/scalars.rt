@@ -8,14 +8,14 @@ ghost use Rattle.amqp_ser.specs.Fixed.{fixed_scalar};
 ghost use Rattle.amqp_value.specs.TreeOf.{tree_of};
 ghost use Rattle.amqp_to_value.specs.HeldImages.{IsOpenedImage};
 ghost use Rattle.amqp_to_value.specs.ImageOf.{IsImageOf};
-ghost use Rattle.amqp_to_value.specs.PendingMark.{meant};
+ghost use Rattle.amqp_to_value.specs.PendingMarker.{meant};
 
 use crate::lazy::lazy_value;
-use crate::pending_mark::PendingMark;
+use crate::pending_marker::PendingMarker;
 use amqp_data::{
     ByteBuf, Dec32, Dec64, Dec128, Descriptor, Error, F32Bits, F64Bits, Symbol, Timestamp, Uuid,
 };
-use amqp_ser::{Fixed, Mark};
+use amqp_ser::{Fixed, Marker};
 use amqp_value::Value;
 use std::alloc::Global;
 
@@ -50,19 +50,19 @@ pub fn fixed_value(fixed: Fixed) -> Value
 /// Returns `Error::InvalidValue` if the marker does not permit the scalar.
 ///
 /// # Example
-/// Under `Mark::Timestamp`, the long 13 gives `Value::Timestamp` of 13 milliseconds, and `true`
+/// Under `Marker::Timestamp`, the long 13 gives `Value::Timestamp` of 13 milliseconds, and `true`
 /// gives `InvalidValue`.
 #[inline(always)]
-pub fn marked_fixed(pending: PendingMark, fixed: Fixed) -> Result<Value, Error>
+pub fn marked_fixed(pending: PendingMarker, fixed: Fixed) -> Result<Value, Error>
     ensures image { IsOpenedImage (meant pending (Some (scalar (fixed_scalar fixed)))) result }
     ensures invalid { IfErr result (λ e. e ≡ Error.InvalidValue) }
 {
     match (pending, fixed) {
-        (PendingMark::Mark(Mark::Other), fixed) => Ok(fixed_value(fixed)),
-        (PendingMark::Mark(Mark::Timestamp), Fixed::Long(v)) => Ok(Value::Timestamp(Timestamp::from(
+        (PendingMarker::Marker(Marker::Other), fixed) => Ok(fixed_value(fixed)),
+        (PendingMarker::Marker(Marker::Timestamp), Fixed::Long(v)) => Ok(Value::Timestamp(Timestamp::from(
             v,
         ))),
-        (PendingMark::Descriptor, Fixed::Ulong(v)) => Ok(Value::Ulong(v)),
+        (PendingMarker::Descriptor, Fixed::Ulong(v)) => Ok(Value::Ulong(v)),
         _ => Err(Error::InvalidValue),
     }
 }
@@ -74,14 +74,14 @@ pub fn marked_fixed(pending: PendingMark, fixed: Fixed) -> Result<Value, Error>
 /// an allocation fails.
 ///
 /// # Example
-/// `a` gives a `Value::Symbol` under `Mark::Symbol`, and a `Value::String` under `Mark::Other`.
+/// `a` gives a `Value::Symbol` under `Marker::Symbol`, and a `Value::String` under `Marker::Other`.
 #[inline(always)]
-pub fn marked_text(alloc: Global, pending: PendingMark, text: &str) -> Result<Value, Error>
+pub fn marked_text(alloc: Global, pending: PendingMarker, text: &str) -> Result<Value, Error>
     ensures { IsOpenedImage (meant pending (Some (scalar (string text.now)))) result }
 {
     match pending {
-        PendingMark::Mark(Mark::Other) => Ok(Value::String(String::from_str(alloc, text)?)),
-        PendingMark::Mark(Mark::Symbol) => Ok(Value::Symbol(Symbol::try_from_str(alloc, text)?)),
+        PendingMarker::Marker(Marker::Other) => Ok(Value::String(String::from_str(alloc, text)?)),
+        PendingMarker::Marker(Marker::Symbol) => Ok(Value::Symbol(Symbol::try_from_str(alloc, text)?)),
         _ => Err(Error::InvalidValue),
     }
 }
@@ -90,24 +90,24 @@ pub fn marked_text(alloc: Global, pending: PendingMark, text: &str) -> Result<Va
 ///
 /// # Errors
 /// Returns `Error::InvalidValue` if the marker does not permit a binary, or one of this length, and
-/// `Error::OutOfMemory` if an allocation fails. Under `Mark::Lazy`, returns the errors of
+/// `Error::OutOfMemory` if an allocation fails. Under `Marker::Lazy`, returns the errors of
 /// `lazy_value`.
 ///
 /// # Example
-/// Under `Mark::Decimal32`, 4 bytes give a `Value::Decimal32` of them, and 5 give `InvalidValue`.
+/// Under `Marker::Decimal32`, 4 bytes give a `Value::Decimal32` of them, and 5 give `InvalidValue`.
 #[inline(never)]
-pub fn marked_bytes(alloc: Global, pending: PendingMark, bytes: &[u8]) -> Result<Value, Error>
+pub fn marked_bytes(alloc: Global, pending: PendingMarker, bytes: &[u8]) -> Result<Value, Error>
     ensures image { IsImageOf (meant pending (Some (scalar (binary bytes.now)))) result }
-    ensures not_lazy { ¬ (pending ≡ PendingMark.Mark Mark.Lazy) →
+    ensures not_lazy { ¬ (pending ≡ PendingMarker.Marker Marker.Lazy) →
         IsOpenedImage (meant pending (Some (scalar (binary bytes.now)))) result }
 {
     match pending {
-        PendingMark::Mark(Mark::Other) => Ok(Value::Binary(ByteBuf::from(bytes.to_vec(alloc)?))),
-        PendingMark::Mark(Mark::Decimal32) => Ok(Value::Decimal32(Dec32::try_from(bytes)?)),
-        PendingMark::Mark(Mark::Decimal64) => Ok(Value::Decimal64(Dec64::try_from(bytes)?)),
-        PendingMark::Mark(Mark::Decimal128) => Ok(Value::Decimal128(Dec128::try_from(bytes)?)),
-        PendingMark::Mark(Mark::Uuid) => Ok(Value::Uuid(Uuid::try_from(bytes)?)),
-        PendingMark::Mark(Mark::Lazy) => lazy_value(alloc, bytes),
+        PendingMarker::Marker(Marker::Other) => Ok(Value::Binary(ByteBuf::from(bytes.to_vec(alloc)?))),
+        PendingMarker::Marker(Marker::Decimal32) => Ok(Value::Decimal32(Dec32::try_from(bytes)?)),
+        PendingMarker::Marker(Marker::Decimal64) => Ok(Value::Decimal64(Dec64::try_from(bytes)?)),
+        PendingMarker::Marker(Marker::Decimal128) => Ok(Value::Decimal128(Dec128::try_from(bytes)?)),
+        PendingMarker::Marker(Marker::Uuid) => Ok(Value::Uuid(Uuid::try_from(bytes)?)),
+        PendingMarker::Marker(Marker::Lazy) => lazy_value(alloc, bytes),
         _ => Err(Error::InvalidValue),
     }
 }

@@ -3,18 +3,18 @@
 ghost use Rattle.std.specs.Prelude.{◌≡◌, ◌++◌, ◌∷◌, [], List, Option, Result, Err, MatchResult, IfErr, IsErr};
 ghost use Rattle.amqp_ser.specs.Tree.{Tree};
 ghost use Rattle.amqp_to_value.specs.PendingDescriptors.{standing};
-ghost use Rattle.amqp_to_value.specs.ValueSerializer.{IsFresh, value_permits};
+ghost use Rattle.amqp_to_value.specs.ValueSerializer.{IsFresh, ValuePermits};
 ghost use Rattle.amqp_to_value.specs.ImageOf.{IsImageOf};
-ghost use Rattle.amqp_to_value.specs.PendingMark.{meant};
+ghost use Rattle.amqp_to_value.specs.PendingMarker.{meant};
 
 use crate::open_value::{OpenBody, OpenValue, set_first};
 use crate::parts::let_go;
 use crate::pending_descriptors::PendingDescriptors;
-use crate::pending_mark::PendingMark;
+use crate::pending_marker::PendingMarker;
 use crate::scalars::{descriptor_from, marked_bytes, marked_fixed, marked_text};
 use amqp_data::Error;
 use amqp_ser::{
-    Fixed, Kind, Mark, SerializeMap, SerializeSeq, SerializeStruct, SerializeStructVariant,
+    Fixed, CompoundKind, Marker, SerializeMap, SerializeSeq, SerializeStruct, SerializeStructVariant,
     SerializeTuple, SerializeTupleStruct, SerializeTupleVariant,
 };
 use amqp_value::Value;
@@ -32,7 +32,7 @@ use std::mem;
 #[derive(Drop)]
 pub struct Serializer {
     alloc: Global,
-    pending: PendingMark,
+    pending: PendingMarker,
     descriptors: PendingDescriptors,
 }
 
@@ -68,19 +68,19 @@ impl Serializer {
     {
         Serializer {
             alloc,
-            pending: PendingMark::Mark(Mark::Other),
+            pending: PendingMarker::Marker(Marker::Other),
             descriptors: PendingDescriptors::new(alloc),
         }
     }
 
     // Returns the pending marker of the next tree, and clears it.
     #[inline(always)]
-    fn take_pending(&mut self) -> PendingMark
+    fn take_pending(&mut self) -> PendingMarker
         ensures pending { result ≡ self.old.pending }
-        ensures none { self.new.pending ≡ PendingMark.Mark Mark.Other }
+        ensures none { self.new.pending ≡ PendingMarker.Marker Marker.Other }
         ensures descriptors { self.new.descriptors ≡ self.old.descriptors }
     {
-        mem::replace(&mut self.pending, PendingMark::Mark(Mark::Other))
+        mem::replace(&mut self.pending, PendingMarker::Marker(Marker::Other))
     }
 
     // Returns the value inside its pending descriptors. On an error, leaves them in the stack.
@@ -89,9 +89,9 @@ impl Serializer {
         ensures { (start : Serializer) (t : Option Tree) →
             self.old.descriptors.kept ≡ start.descriptors.kept →
             standing self.old.descriptors ≡ standing start.descriptors →
-            self.old.pending ≡ PendingMark.Mark Mark.Other →
+            self.old.pending ≡ PendingMarker.Marker Marker.Other →
             IsImageOf (meant start.pending t) answer →
-            value_permits start t result self.new }
+            ValuePermits start t result self.new }
     {
         match answer {
             Ok(value) => Ok(self.descriptors.wrap(value)),
@@ -106,9 +106,9 @@ impl Serializer {
 impl amqp_ser::Serializer for Serializer {
     ghost use Rattle.amqp_data.specs.declared.error.Error.TheVariants.{InvalidValue};
     ghost use Rattle.amqp_ser.specs.Composites.{as_described, descriptor_of};
-    ghost use Rattle.amqp_ser.specs.Compounds.{whole};
-    ghost use Rattle.amqp_ser.specs.declared.kind.Kind.{Kind};
-    ghost use Rattle.amqp_to_value.specs.ValueSerializer.{all_held, value_permits, value_has, value_awaits, value_awaits_descriptor, no_value_of_none};
+    ghost use Rattle.amqp_ser.specs.Compounds.{tree_of_parts};
+    ghost use Rattle.amqp_ser.specs.declared.kind.CompoundKind.{CompoundKind};
+    ghost use Rattle.amqp_to_value.specs.ValueSerializer.{all_held, ValuePermits, ValueHas, ValueAwaits, ValueAwaitsDescriptor, no_value_of_none};
 
     type Ok = Value;
 
@@ -116,15 +116,15 @@ impl amqp_ser::Serializer for Serializer {
 
     type Open = OpenValue;
 
-    ghost permits = { value_permits };
+    ghost permits = { ValuePermits };
 
-    ghost has = { value_has };
+    ghost has = { ValueHas };
 
-    ghost awaits = { value_awaits };
+    ghost awaits = { ValueAwaits };
 
-    ghost awaits_descriptor = { value_awaits_descriptor };
+    ghost awaits_descriptor = { ValueAwaitsDescriptor };
 
-    ghost is_misuse = { λ e. e ≡ InvalidValue };
+    ghost is_misuse_error = { λ e. e ≡ InvalidValue };
 
     ghost refuses_none = { no_value_of_none };
 
@@ -152,15 +152,15 @@ impl amqp_ser::Serializer for Serializer {
     }
 
     #[inline(always)]
-    fn mark(&mut self, mark: Mark) {
-        self.pending = self.pending.with(mark);
+    fn set_marker(&mut self, marker: Marker) {
+        self.pending = self.pending.with_marker(marker);
     }
 
     #[inline(always)]
-    fn begin(&mut self, kind: Kind) -> OpenValue
-        ensures opened { value_has self.old kind self.new result [] }
+    fn begin_compound(&mut self, kind: CompoundKind) -> OpenValue
+        ensures opened { ValueHas self.old kind self.new result [] }
         // Descriptors left over from failed values are dropped.
-        ensures held { all_held self.new
+        ensures compound { all_held self.new
             ≡ self.old.descriptors.kept ++ standing self.old.descriptors }
     {
         let pending = self.take_pending();
@@ -172,41 +172,41 @@ impl amqp_ser::Serializer for Serializer {
     }
 
     #[inline(always)]
-    fn vacant(&self) -> OpenValue {
+    fn placeholder(&self) -> OpenValue {
         OpenValue {
-            saved: self.descriptors.vacant(),
+            saved: self.descriptors.placeholder(),
             body: OpenBody::Single(self.pending, None),
         }
     }
 
     #[inline(always)]
-    fn begin_part(&mut self, held: &mut OpenValue) {
-        match &held.body {
+    fn begin_part(&mut self, compound: &mut OpenValue) {
+        match &compound.body {
             OpenBody::Single(pending, None) => {
                 self.pending = *pending;
-                self.descriptors.restore(held.saved);
+                self.descriptors.restore(compound.saved);
             }
-            _ => self.descriptors.keep(held.saved),
+            _ => self.descriptors.keep(compound.saved),
         }
     }
 
     #[inline(always)]
-    fn end_part(&mut self, held: &mut OpenValue, part: Result<Value, Error>) -> Result<(), Error>
-        ensures step { (start : Serializer) (kind : Kind) (before : Serializer)
+    fn end_part(&mut self, compound: &mut OpenValue, part: Result<Value, Error>) -> Result<(), Error>
+        ensures step { (start : Serializer) (kind : CompoundKind) (before : Serializer)
             (ps : List (Option Tree)) (p : Option Tree) →
-            value_awaits start kind before held.old ps → value_permits before p part self.old →
+            ValueAwaits start kind before compound.old ps → ValuePermits before p part self.old →
             MatchResult result
-            (λ _. value_has start kind self.new held.new (ps ++ (p ∷ [])))
-            (λ e. value_has start kind self.new held.new ps × ((rest : List (Option Tree)) →
-            value_permits start (whole kind (ps ++ (p ∷ rest))) (Err e) self.new)) }
+            (λ _. ValueHas start kind self.new compound.new (ps ++ (p ∷ [])))
+            (λ e. ValueHas start kind self.new compound.new ps × ((rest : List (Option Tree)) →
+            ValuePermits start (tree_of_parts kind (ps ++ (p ∷ rest))) (Err e) self.new)) }
         ensures refused { IfErr part (λ _. IsErr result) }
     {
-        self.descriptors.release(held.saved);
+        self.descriptors.release(compound.saved);
         let value = part?;
-        match &mut held.body {
+        match &mut compound.body {
             OpenBody::Single(_, first) => match first {
                 None => {
-                    set_first(first, self.descriptors.unwrap(held.saved, value)?);
+                    set_first(first, self.descriptors.unwrap(compound.saved, value)?);
                     Ok(())
                 }
                 Some(_) => {
@@ -214,7 +214,7 @@ impl amqp_ser::Serializer for Serializer {
                     Err(Error::InvalidValue)
                 }
             },
-            OpenBody::Parts(parts) => match parts.add_part(value) {
+            OpenBody::CollectedParts(parts) => match parts.add_part(value) {
                 Ok(()) => Ok(()),
                 Err(_) => Err(Error::OutOfMemory),
             },
@@ -222,54 +222,54 @@ impl amqp_ser::Serializer for Serializer {
     }
 
     #[inline(always)]
-    fn undo_part(&mut self, held: &mut OpenValue) {
-        held.body.undo();
+    fn undo_part(&mut self, compound: &mut OpenValue) {
+        compound.body.undo();
     }
 
     #[inline(always)]
-    fn misuse(&mut self, _held: &mut OpenValue) -> Error {
+    fn misuse_error(&mut self, _compound: &mut OpenValue) -> Error {
         Error::InvalidValue
     }
 
     #[inline(always)]
-    fn begin_descriptor(&mut self, held: &mut OpenValue) {
-        self.pending = PendingMark::Descriptor;
-        self.descriptors.keep(held.saved);
+    fn begin_descriptor(&mut self, compound: &mut OpenValue) {
+        self.pending = PendingMarker::Descriptor;
+        self.descriptors.keep(compound.saved);
     }
 
     #[inline(always)]
     fn end_descriptor(
         &mut self,
-        held: &mut OpenValue,
+        compound: &mut OpenValue,
         part: Result<Value, Error>,
     ) -> Result<(), Error>
         ensures step { (start before : Serializer) (d : Option Tree) →
-            value_awaits_descriptor start before held.old → value_permits before d part self.old →
+            ValueAwaitsDescriptor start before compound.old → ValuePermits before d part self.old →
             MatchResult result
             (λ _. (mid : Serializer)
-            × (value_has mid Kind.Single self.new held.new []
+            × (ValueHas mid CompoundKind.Single self.new compound.new []
             × ((t : Option Tree) (r : Result Value Error) (after : Serializer) →
-            value_permits mid t r after →
-            value_permits start (as_described (descriptor_of d) t) r after)))
-            (λ e. value_has start Kind.Single self.new held.new [] × ((t : Option Tree) →
-            value_permits start (as_described (descriptor_of d) t) (Err e) self.new)) }
+            ValuePermits mid t r after →
+            ValuePermits start (as_described (descriptor_of d) t) r after)))
+            (λ e. ValueHas start CompoundKind.Single self.new compound.new [] × ((t : Option Tree) →
+            ValuePermits start (as_described (descriptor_of d) t) (Err e) self.new)) }
         ensures refused { IfErr part (λ _. IsErr result) }
         ensures other_kinds { (start before : Serializer) (d : Option Tree) →
-            value_awaits_descriptor start before held.old → value_permits before d part self.old →
+            ValueAwaitsDescriptor start before compound.old → ValuePermits before d part self.old →
             descriptor_of d ≡ None → IsErr result }
     {
-        self.descriptors.release(held.saved);
+        self.descriptors.release(compound.saved);
         let descriptor = descriptor_from(part?)?;
-        held.saved = self
+        compound.saved = self
             .descriptors
-            .describe(held.saved, self.alloc, descriptor)?;
-        held.body.describe();
+            .describe(compound.saved, self.alloc, descriptor)?;
+        compound.body.describe();
         Ok(())
     }
 
     #[inline(always)]
-    fn end(&mut self, held: OpenValue) -> Result<Value, Error> {
-        let OpenValue { saved, body } = held;
+    fn end(&mut self, compound: OpenValue) -> Result<Value, Error> {
+        let OpenValue { saved, body } = compound;
         let answer = body.into_value(self.alloc);
         self.descriptors.restore(saved);
         self.finish(answer)

@@ -2,8 +2,8 @@
 use Rattle.std.proofs.Common.{◌≡◌, ℕ, List, [], ◌∷◌, map, refl, sym, ap, ◌∙◌, rules}
 use Rattle.amqp_data.specs.Pairs.{entries_of}
 use Rattle.amqp_data.specs.declared.ordered_map.OrderedMap.{OrderedMap}
-use Rattle.amqp_ser.specs.Compounds.{whole, parts_of}
-use Rattle.amqp_ser.specs.declared.kind.Kind.TheVariants as kind
+use Rattle.amqp_ser.specs.Compounds.{tree_of_parts, parts_of}
+use Rattle.amqp_ser.specs.declared.kind.CompoundKind.TheVariants as kind
 use Rattle.amqp_trees.specs.TreeOf.{tree_of, number, itself}
 use Rattle.amqp_trees.specs.declared.node.Node.{Node, the_lemmas}
 use Rattle.amqp_trees.specs.declared.node.Node.TheVariants.{Numbered}
@@ -12,8 +12,8 @@ parts : (es : List (ℕ × Node)) → parts_of number itself (map (λ e. (e.0, t
 parts [] = refl
 parts (e ∷ es) = ap (λ ps. number e.0 ∷ tree_of e.1 ∷ ps) (parts es)
 
-opened : (m : OrderedMap ℕ Node) → tree_of (Numbered m) ≡ whole kind.Map (parts_of number itself (map (λ e. (e.0, tree_of e.1)) (entries_of m)))
+opened : (m : OrderedMap ℕ Node) → tree_of (Numbered m) ≡ tree_of_parts kind.Map (parts_of number itself (map (λ e. (e.0, tree_of e.1)) (entries_of m)))
 opened m = search (rules, the_lemmas)
 
-pub numbered-tree : (m : OrderedMap ℕ Node) → whole kind.Map (parts_of number tree_of (entries_of m)) ≡ tree_of (Numbered m)
-numbered-tree m = sym (opened m ∙ ap (whole kind.Map) (parts (entries_of m)))
+pub numbered-tree : (m : OrderedMap ℕ Node) → tree_of_parts kind.Map (parts_of number tree_of (entries_of m)) ≡ tree_of (Numbered m)
+numbered-tree m = sym (opened m ∙ ap (tree_of_parts kind.Map) (parts (entries_of m)))

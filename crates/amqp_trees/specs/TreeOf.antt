@@ -4,8 +4,8 @@ use Rattle.amqp_data.specs.Items.{array_items, transparent_items}
 use Rattle.amqp_data.specs.Pairs.{entries_of}
 use Rattle.amqp_ser.specs.Tree.{Tree, lazy, scalar, uint}
 use Rattle.amqp_ser.specs.Carried.{array_of, transparent_of}
-use Rattle.amqp_ser.specs.Compounds.{whole, parts_of}
-use Rattle.amqp_ser.specs.declared.kind.Kind.TheVariants as kind
+use Rattle.amqp_ser.specs.Compounds.{tree_of_parts, parts_of}
+use Rattle.amqp_ser.specs.declared.kind.CompoundKind.TheVariants as kind
 use Rattle.amqp_value.specs.TreeOf as value
 use Rattle.amqp_trees.specs.Fed.{fed}
 use Rattle.amqp_trees.specs.declared.node.Node.{Node, fold-Node}
@@ -21,10 +21,10 @@ itself t = t
 abbrev pub tree_step : Node-F (Option Tree) → Option Tree
 tree_step (Node-F.Value v) = Some (value.tree_of v)
 tree_step (Node-F.Lazy v) = Some (lazy v)
-tree_step (Node-F.List v) = whole kind.List v.items
+tree_step (Node-F.List v) = tree_of_parts kind.List v.items
 tree_step (Node-F.Array v) = array_of itself (array_items v)
 tree_step (Node-F.Transparent v) = transparent_of itself (transparent_items v)
-tree_step (Node-F.Numbered m) = whole kind.Map (parts_of number itself (entries_of m))
+tree_step (Node-F.Numbered m) = tree_of_parts kind.Map (parts_of number itself (entries_of m))
 tree_step (Node-F.Fed b) = fed b.value.way b.value.first b.value.second b.value.third
 
 abbrev pub tree_of : Node → Option Tree

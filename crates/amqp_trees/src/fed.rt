@@ -1,17 +1,17 @@
 //! Ways to serialize three values with explicit calls, including misuse.
 
 ghost use Rattle.std.specs.Prelude.{◌≡◌};
-ghost use Rattle.amqp_ser.specs.Marked.{mark_of};
+ghost use Rattle.amqp_ser.specs.Marked.{marker_of};
 
 use crate::{maps, structs};
 use amqp_data::markers;
-use amqp_ser::{Mark, Serialize, Serializer};
+use amqp_ser::{Marker, Serialize, Serializer};
 
 /// Way to combine three values, or some of them.
 #[derive(Clone, Copy)]
 pub enum Way {
     /// The first value with a marker.
-    Marked(Mark),
+    Marked(Marker),
     /// The second value, described by the first.
     Described,
     /// The newtype variant of the first value.
@@ -54,20 +54,20 @@ pub struct Fed<T> {
 }
 
 /// Returns the newtype name for a marker.
-fn name_of(mark: Mark) -> &'static str
-    ensures { mark_of result.now ≡ mark }
+fn name_of(marker: Marker) -> &'static str
+    ensures { marker_of result.now ≡ marker }
 {
-    match mark {
-        Mark::Symbol => markers::SYMBOL,
-        Mark::Timestamp => markers::TIMESTAMP,
-        Mark::Decimal32 => markers::DECIMAL32,
-        Mark::Decimal64 => markers::DECIMAL64,
-        Mark::Decimal128 => markers::DECIMAL128,
-        Mark::Uuid => markers::UUID,
-        Mark::Array => markers::ARRAY,
-        Mark::Transparent => markers::TRANSPARENT_VEC,
-        Mark::Lazy => markers::LAZY_VALUE,
-        Mark::Other => "Sample",
+    match marker {
+        Marker::Symbol => markers::SYMBOL,
+        Marker::Timestamp => markers::TIMESTAMP,
+        Marker::Decimal32 => markers::DECIMAL32,
+        Marker::Decimal64 => markers::DECIMAL64,
+        Marker::Decimal128 => markers::DECIMAL128,
+        Marker::Uuid => markers::UUID,
+        Marker::Array => markers::ARRAY,
+        Marker::Transparent => markers::TRANSPARENT_VEC,
+        Marker::Lazy => markers::LAZY_VALUE,
+        Marker::Other => "Sample",
     }
 }
 
@@ -79,7 +79,7 @@ impl<T: Serialize> Serialize for Fed<T> {
     fn serialize<S: Serializer>(&self, s: &mut S) -> Result<S::Ok, S::Error> {
         let (a, b, c) = (&self.first, &self.second, &self.third);
         match self.way {
-            Way::Marked(mark) => s.serialize_newtype_struct(name_of(mark), a),
+            Way::Marked(marker) => s.serialize_newtype_struct(name_of(marker), a),
             Way::Described => s.serialize_described(a, b),
             Way::Newtype(index) => s.serialize_newtype_variant("Sample", index, "First", a),
             Way::Bare => s.serialize_newtype_variant(markers::VALUE, 1, "First", a),

@@ -6,7 +6,7 @@ use crate::node::Node;
 use crate::random::Random;
 use crate::scalar::scalar;
 use amqp_data::{Array, Error, OrderedMap, TransparentVec};
-use amqp_ser::Mark;
+use amqp_ser::Marker;
 use amqp_to_value::to_value;
 use std::alloc::Global;
 
@@ -202,15 +202,15 @@ fn way(random: &mut Random) -> (Way, &'static str) {
 
 fn marked(random: &mut Random) -> (Way, &'static str) {
     match random.below(10) {
-        0 => (Way::Marked(Mark::Symbol), "SYMBOL"),
-        1 => (Way::Marked(Mark::Timestamp), "TIMESTAMP"),
-        2 => (Way::Marked(Mark::Decimal32), "DECIMAL32"),
-        3 => (Way::Marked(Mark::Decimal64), "DECIMAL64"),
-        4 => (Way::Marked(Mark::Decimal128), "DECIMAL128"),
-        5 => (Way::Marked(Mark::Uuid), "UUID"),
-        6 => (Way::Marked(Mark::Array), "ARRAY"),
-        7 => (Way::Marked(Mark::Transparent), "TRANSPARENT_VEC"),
-        8 => (Way::Marked(Mark::Lazy), "LAZY_VALUE"),
-        _ => (Way::Marked(Mark::Other), "OTHER"),
+        0 => (Way::Marked(Marker::Symbol), "SYMBOL"),
+        1 => (Way::Marked(Marker::Timestamp), "TIMESTAMP"),
+        2 => (Way::Marked(Marker::Decimal32), "DECIMAL32"),
+        3 => (Way::Marked(Marker::Decimal64), "DECIMAL64"),
+        4 => (Way::Marked(Marker::Decimal128), "DECIMAL128"),
+        5 => (Way::Marked(Marker::Uuid), "UUID"),
+        6 => (Way::Marked(Marker::Array), "ARRAY"),
+        7 => (Way::Marked(Marker::Transparent), "TRANSPARENT_VEC"),
+        8 => (Way::Marked(Marker::Lazy), "LAZY_VALUE"),
+        _ => (Way::Marked(Marker::Other), "OTHER"),
     }
 }

@@ -1,8 +1,8 @@
 //! Maps built with explicit calls; the tree of each has only the entries whose calls succeed.
 
 ghost use Rattle.std.specs.Prelude.{◌∷◌, []};
-ghost use Rattle.amqp_ser.specs.Compounds.{whole};
-ghost use Rattle.amqp_ser.specs.declared.kind.Kind.TheVariants.{Map};
+ghost use Rattle.amqp_ser.specs.Compounds.{tree_of_parts};
+ghost use Rattle.amqp_ser.specs.declared.kind.CompoundKind.TheVariants.{Map};
 
 use amqp_ser::{Serialize, Serializer};
 
@@ -12,7 +12,7 @@ pub fn entry<S: Serializer, T: Serialize>(
     key: &T,
     value: &T,
 ) -> Result<S::Ok, S::Error>
-    ensures { S.permits serializer.old (whole Map (T.tree key.now ∷ T.tree value.now ∷ [])) result
+    ensures { S.permits serializer.old (tree_of_parts Map (T.tree key.now ∷ T.tree value.now ∷ [])) result
         serializer.new }
 {
     let mut map = serializer.serialize_map(None)?;
@@ -28,7 +28,7 @@ pub fn entries<S: Serializer, T: Serialize>(
     third: &T,
 ) -> Result<S::Ok, S::Error>
     ensures { S.permits serializer.old
-        (whole Map
+        (tree_of_parts Map
         (T.tree first.now ∷ T.tree second.now ∷ T.tree third.now ∷ T.tree first.now ∷ []))
         result serializer.new }
 {
@@ -44,7 +44,7 @@ pub fn key_alone<S: Serializer, T: Serialize>(
     serializer: &mut S,
     key: &T,
 ) -> Result<S::Ok, S::Error>
-    ensures { S.permits serializer.old (whole Map (T.tree key.now ∷ [])) result serializer.new }
+    ensures { S.permits serializer.old (tree_of_parts Map (T.tree key.now ∷ [])) result serializer.new }
 {
     let mut map = serializer.serialize_map(None)?;
     map.serialize_key(key)?;
@@ -58,7 +58,7 @@ pub fn value_first<S: Serializer, T: Serialize>(
     value: &T,
     other: &T,
 ) -> Result<S::Ok, S::Error>
-    ensures { S.permits serializer.old (whole Map (T.tree key.now ∷ T.tree value.now ∷ [])) result
+    ensures { S.permits serializer.old (tree_of_parts Map (T.tree key.now ∷ T.tree value.now ∷ [])) result
         serializer.new }
 {
     let mut map = serializer.serialize_map(None)?;
@@ -76,7 +76,7 @@ pub fn two_keys<S: Serializer, T: Serialize>(
     value: &T,
     other: &T,
 ) -> Result<S::Ok, S::Error>
-    ensures { S.permits serializer.old (whole Map (T.tree key.now ∷ T.tree value.now ∷ [])) result
+    ensures { S.permits serializer.old (tree_of_parts Map (T.tree key.now ∷ T.tree value.now ∷ [])) result
         serializer.new }
 {
     let mut map = serializer.serialize_map(None)?;
@@ -95,7 +95,7 @@ pub fn entry_within<S: Serializer, T: Serialize>(
     value: &T,
     other: &T,
 ) -> Result<S::Ok, S::Error>
-    ensures { S.permits serializer.old (whole Map (T.tree key.now ∷ T.tree value.now ∷ [])) result
+    ensures { S.permits serializer.old (tree_of_parts Map (T.tree key.now ∷ T.tree value.now ∷ [])) result
         serializer.new }
 {
     let mut map = serializer.serialize_map(None)?;

@@ -2,9 +2,9 @@
 
 ghost use Rattle.std.specs.Prelude.{◌∷◌, [], Some, codes};
 ghost use Rattle.amqp_ser.specs.Composites.{as_described, descriptor_of};
-ghost use Rattle.amqp_ser.specs.Compounds.{whole};
+ghost use Rattle.amqp_ser.specs.Compounds.{tree_of_parts};
 ghost use Rattle.amqp_ser.specs.Tree.{scalar, string};
-ghost use Rattle.amqp_ser.specs.declared.kind.Kind.TheVariants.{List, Map, Variant};
+ghost use Rattle.amqp_ser.specs.declared.kind.CompoundKind.TheVariants.{List, Map, Variant};
 
 use amqp_data::markers;
 use amqp_ser::{Serialize, Serializer};
@@ -18,7 +18,7 @@ pub fn list<S: Serializer, T: Serialize>(
 ) -> Result<S::Ok, S::Error>
     ensures { S.permits serializer.old
         (as_described (descriptor_of (T.tree descriptor.now))
-        (whole List (T.tree first.now ∷ T.tree second.now ∷ [])))
+        (tree_of_parts List (T.tree first.now ∷ T.tree second.now ∷ [])))
         result serializer.new }
 {
     let mut fields = serializer.serialize_struct(markers::DESCRIBED_LIST, 3)?;
@@ -37,7 +37,7 @@ pub fn map<S: Serializer, T: Serialize>(
 ) -> Result<S::Ok, S::Error>
     ensures { S.permits serializer.old
         (as_described (descriptor_of (T.tree descriptor.now))
-        (whole Map
+        (tree_of_parts Map
         (Some (scalar (string (codes "a"))) ∷ T.tree first.now
         ∷ Some (scalar (string (codes "b"))) ∷ T.tree second.now ∷ [])))
         result serializer.new }
@@ -72,7 +72,7 @@ pub fn wrong_descriptor<S: Serializer, T: Serialize>(
     value: &T,
 ) -> Result<S::Ok, S::Error>
     ensures { S.permits serializer.old
-        (as_described (descriptor_of (T.tree descriptor.now)) (whole List (T.tree value.now ∷ [])))
+        (as_described (descriptor_of (T.tree descriptor.now)) (tree_of_parts List (T.tree value.now ∷ [])))
         result serializer.new }
 {
     let mut fields = serializer.serialize_tuple_struct(markers::DESCRIBED_LIST, 2)?;
@@ -92,7 +92,7 @@ pub fn variant<S: Serializer, T: Serialize>(
     second: &T,
 ) -> Result<S::Ok, S::Error>
     ensures { S.permits serializer.old
-        (whole (Variant index) (T.tree first.now ∷ T.tree second.now ∷ [])) result serializer.new }
+        (tree_of_parts (Variant index) (T.tree first.now ∷ T.tree second.now ∷ [])) result serializer.new }
 {
     let mut fields = serializer.serialize_tuple_variant("Sample", index, "Second", 2)?;
     fields.serialize_field(first)?;

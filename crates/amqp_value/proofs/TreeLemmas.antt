@@ -8,10 +8,10 @@ use Rattle.amqp_data.specs.declared.ordered_map.OrderedMap as ordered_map
 use Rattle.amqp_ser.specs.Carried.{descriptor_content}
 use Rattle.amqp_ser.specs.Tree as tree
 use Rattle.amqp_ser.specs.Tree.{Tree, trees_of, more, pair}
-use Rattle.amqp_ser.specs.Compounds.{all_trees, prepend, prepend_pair, in_pairs, as_map, as_kind, whole, parts_of}
-use Rattle.amqp_ser.specs.Marked.{marked}
-use Rattle.amqp_ser.specs.declared.kind.Kind.TheVariants as kind
-use Rattle.amqp_ser.specs.declared.mark.Mark.TheVariants as mark
+use Rattle.amqp_ser.specs.Compounds.{all_trees, prepend, prepend_pair, in_pairs, as_map, as_kind, tree_of_parts, parts_of}
+use Rattle.amqp_ser.specs.Marked.{with_marker}
+use Rattle.amqp_ser.specs.declared.kind.CompoundKind.TheVariants as kind
+use Rattle.amqp_ser.specs.declared.marker.Marker.TheVariants as marker
 use Rattle.amqp_value.specs.Image.{insert_tree}
 use Rattle.amqp_value.specs.TreeOf.{tree_of, all_of, pairs_of, pairs_trees}
 use Rattle.amqp_value.specs.declared.value.Value.{Value, the_lemmas}
@@ -47,8 +47,8 @@ all_trees-Some f [] = refl
 all_trees-Some f (x ∷ xs) = ap (prepend (Some (f x))) (all_trees-Some f xs)
 
 -- The parts make a list.
-pub whole-List : {X : Type 0} (f : X → Tree) (xs : List X) → whole kind.List (map (λ x. Some (f x)) xs) ≡ Some (tree.list (trees_of (map f xs)))
-unfolding whole
+pub whole-List : {X : Type 0} (f : X → Tree) (xs : List X) → tree_of_parts kind.List (map (λ x. Some (f x)) xs) ≡ Some (tree.list (trees_of (map f xs)))
+unfolding tree_of_parts
 whole-List f xs = ap (as_kind kind.List) (all_trees-Some f xs)
 
 -- The keys and values in turn.
@@ -69,20 +69,20 @@ module _ {K V : Type 0} (f : K → Tree) (g : V → Tree) where
   in_pairs-in_turn (e ∷ es) = ap (prepend_pair e.0 e.1) (in_pairs-in_turn es)
 
   -- The parts make a map.
-  pub whole-Map : (es : List (K × V)) → whole kind.Map (parts_of (λ k. Some (f k)) (λ v. Some (g v)) es) ≡ Some (tree.map (pairs_of (map both es)))
-  unfolding whole
+  pub whole-Map : (es : List (K × V)) → tree_of_parts kind.Map (parts_of (λ k. Some (f k)) (λ v. Some (g v)) es) ≡ Some (tree.map (pairs_of (map both es)))
+  unfolding tree_of_parts
   whole-Map es = ap (as_kind kind.Map) (parts_of-Some es) ∙ ap as_map (in_pairs-in_turn (map both es))
 
 -- A container of values is serialized as the tree of the value that contains it.
-pub list-tree : (v : Vec Value Global) → whole kind.List (map (λ x. Some (tree_of x)) v.items) ≡ Some (tree_of (ListValue v))
+pub list-tree : (v : Vec Value Global) → tree_of_parts kind.List (map (λ x. Some (tree_of x)) v.items) ≡ Some (tree_of (ListValue v))
 list-tree v = whole-List tree_of v.items ∙ ap Some (sym (tree_of-List v))
 
 pub map-tree : (m : ordered_map.OrderedMap Value Value)
-    → whole kind.Map (parts_of (λ k. Some (tree_of k)) (λ v. Some (tree_of v)) (entries_of m)) ≡ Some (tree_of (MapValue m))
+    → tree_of_parts kind.Map (parts_of (λ k. Some (tree_of k)) (λ v. Some (tree_of v)) (entries_of m)) ≡ Some (tree_of (MapValue m))
 map-tree m = whole-Map tree_of tree_of (entries_of m) ∙ ap Some (sym (tree_of-Map m))
 
-pub array-tree : (a : array.Array Value) → marked mark.Array (whole kind.List (map (λ x. Some (tree_of x)) (array_items a))) ≡ Some (tree_of (ArrayValue a))
-array-tree a = ap (marked mark.Array) (whole-List tree_of (array_items a)) ∙ ap Some (sym (tree_of-Array a))
+pub array-tree : (a : array.Array Value) → with_marker marker.Array (tree_of_parts kind.List (map (λ x. Some (tree_of x)) (array_items a))) ≡ Some (tree_of (ArrayValue a))
+array-tree a = ap (with_marker marker.Array) (whole-List tree_of (array_items a)) ∙ ap Some (sym (tree_of-Array a))
 
 module _ (k v : Value) (e : Value × Value) (es : List (Value × Value)) (rest : pairs_trees (insert_pair equal es k v) ≡ insert_tree (pairs_trees es) (tree_of k) (tree_of v)) where
   present_or_not : (b c : Bool) → b ≡ c → pairs_trees (if b then (e.0, v) ∷ es else e ∷ insert_pair equal es k v)

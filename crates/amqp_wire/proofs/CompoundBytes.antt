@@ -8,19 +8,19 @@ use Rattle.amqp_ser.specs.Scalars.{scalar_form}
 use Rattle.amqp_ser.specs.Encoding.{encoding, encoding_each, payload_each, encoding_pairs, array_constructor, code_list, counted, list_form, map_form, array_form, wide}
 use Rattle.amqp_ser.specs.Writable.{within_limits, within_limits_each, within_limits_pairs}
 use Rattle.amqp_ser.specs.Compounds.{as_kind, as_map, as_variant, in_pairs, only}
-use Rattle.amqp_ser.specs.declared.kind.Kind.{Kind}
-use Rattle.amqp_ser.specs.declared.kind.Kind.TheVariants as kinds
+use Rattle.amqp_ser.specs.declared.kind.CompoundKind.{CompoundKind}
+use Rattle.amqp_ser.specs.declared.kind.CompoundKind.TheVariants as kinds
 use Rattle.amqp_ser.proofs.Bools.{left_true, right_true, both, is_le, le_true}
-use Rattle.amqp_size.specs.Position.{meant, shape_of}
+use Rattle.amqp_size.specs.Position.{meant, resolved_kind_of}
 use Rattle.amqp_size.specs.WholePosition.{Position}
 use Rattle.amqp_size.specs.WholePosition as position
-use Rattle.amqp_size.specs.declared.shape.Shape.{Shape}
-use Rattle.amqp_size.specs.declared.shape.Shape.TheVariants as shape
-use Rattle.amqp_size.specs.WholePending.{Pending}
-use Rattle.amqp_size.specs.WholePending as pending
+use Rattle.amqp_size.specs.declared.resolved_kind.ResolvedKind.{ResolvedKind}
+use Rattle.amqp_size.specs.declared.resolved_kind.ResolvedKind.TheVariants as resolved_kind
+use Rattle.amqp_size.specs.WholeContext.{Context}
+use Rattle.amqp_size.specs.WholeContext as context
 use Rattle.amqp_size.proofs.Whole.{refused_shape}
 use Rattle.amqp_wire.specs.TreeHeaders.{header, compound_headers, first_constructor}
-use Rattle.amqp_wire.specs.HeaderBytes.{is_element, pick, bytes_at, opening, header_bytes, whole_header, counted_header, after_opening, small_headers}
+use Rattle.amqp_wire.specs.HeaderBytes.{is_element, pick, bytes_at, opening, header_bytes, whole_header, counted_header, after_opening, SmallHeaders}
 use Rattle.amqp_wire.specs.Dense.{count_fits, is_opaque, fit, dense, dense_at, dense_each, dense_pairs}
 use Rattle.amqp_wire.specs.Positions.{part_position, is_single}
 use Rattle.amqp_wire.specs.declared.opening.HeaderKind.{HeaderKind}
@@ -29,11 +29,11 @@ use Rattle.amqp_wire.proofs.CountWithinBytes.{no_false}
 use Rattle.amqp_wire.proofs.CompoundHeaders.{pairs_are}
 use Rattle.amqp_wire.proofs.Positions.{is_not}
 
-pub record Spelled (a : Bool) (kind : Shape) (ts : Trees) (t : Tree) : Type 0 where
+pub record Spelled (a : Bool) (kind : ResolvedKind) (ts : Trees) (t : Tree) : Type 0 where
   pub bytes : bytes_at a t ≡ opening a kind (compound_headers kind ts) ++ after_opening kind ts
   pub within_limits_parts : within_limits_each ts ≡ true
   pub dense_parts : dense_each (part_position kind) ts ≡ true
-  pub small : small_headers kind (compound_headers kind ts)
+  pub small : SmallHeaders kind (compound_headers kind ts)
 
 if_app : (b : Bool) (x y z : List ℕ) → (if b then x ++ z else y ++ z) ≡ (if b then x else y) ++ z
 if_app true x y z = refl
@@ -71,23 +71,23 @@ code_first : (ts : Trees) → code_list (first_constructor ts) ≡ array_constru
 code_first no_trees = refl
 code_first (more t ts) = refl
 
-spelled_list : (z : Position) (ts : Trees) → within_limits (list ts) ≡ true → dense_at z (list ts) ≡ true → Spelled (is_element z) shape.List ts (list ts)
+spelled_list : (z : Position) (ts : Trees) → within_limits (list ts) ≡ true → dense_at z (list ts) ≡ true → Spelled (is_element z) resolved_kind.List ts (list ts)
 spelled_list z ts w h =
     let body = encoding_each ts in
     let s = right_true (fit z (list ts)) (dense (list ts)) h in
     record {
-      bytes = pick_is (is_element z) header_kind.List (count ts) None (list_form (count ts) body) body (list_is (count ts) body (few_parts (count ts) body (left_true (count_fits (count ts) body) (dense_each position.Inside ts) s)));
+      bytes = pick_is (is_element z) header_kind.List (count ts) None (list_form (count ts) body) body (list_is (count ts) body (few_parts (count ts) body (left_true (count_fits (count ts) body) (dense_each position.InCompound ts) s)));
       within_limits_parts = right_true (fits (length body)) (within_limits_each ts) w;
-      dense_parts = right_true (count_fits (count ts) body) (dense_each position.Inside ts) s;
+      dense_parts = right_true (count_fits (count ts) body) (dense_each position.InCompound ts) s;
       small = is_le (length body) 4294967291 (left_true (fits (length body)) (within_limits_each ts) w);
     }
 
-spelled_map : (z : Position) (ts : Trees) (prs : Pairs) → in_pairs ts ≡ Some prs → within_limits (map prs) ≡ true → dense_at z (map prs) ≡ true → Spelled (is_element z) shape.Map ts (map prs)
+spelled_map : (z : Position) (ts : Trees) (prs : Pairs) → in_pairs ts ≡ Some prs → within_limits (map prs) ≡ true → dense_at z (map prs) ≡ true → Spelled (is_element z) resolved_kind.Map ts (map prs)
 spelled_map z ts prs is w h =
     let r = pairs_are ts prs is in
     let body = encoding_each ts in
     let s = right_true (fit z (map prs)) (dense (map prs)) h in
-    let solids : dense_each position.Inside ts ≡ true = sym r.dense_too ∙ right_true (count_fits (pair_count prs * 2) (encoding_pairs prs)) (dense_pairs prs) s in
+    let solids : dense_each position.InCompound ts ≡ true = sym r.dense_too ∙ right_true (count_fits (pair_count prs * 2) (encoding_pairs prs)) (dense_pairs prs) s in
     let thick : count_fits (count ts) body ≡ true = ap (count_fits (count ts)) (sym r.bytes) ∙ ap (λ n. count_fits n (encoding_pairs prs)) (sym r.counted) ∙ left_true (count_fits (pair_count prs * 2) (encoding_pairs prs)) (dense_pairs prs) s in
     let same : map_form (pair_count prs * 2) (encoding_pairs prs) ≡ map_form (count ts) body = ap (λ b. map_form (pair_count prs * 2) b) r.bytes ∙ ap (λ n. map_form n body) r.counted in
     let wides : wide (pair_count prs * 2) (encoding_pairs prs) ≡ wide (count ts) body = ap (λ b. wide (pair_count prs * 2) b) r.bytes ∙ ap (λ n. wide n body) r.counted in
@@ -99,7 +99,7 @@ spelled_map z ts prs is w h =
       small = is_le (length body) 4294967291 (ap (λ b. fits (length b)) (sym r.bytes) ∙ left_true (fits (length (encoding_pairs prs))) (within_limits_pairs prs) w);
     }
 
-spelled_array : (z : Position) (ts : Trees) → within_limits (array ts) ≡ true → dense_at z (array ts) ≡ true → Spelled (is_element z) shape.Array ts (array ts)
+spelled_array : (z : Position) (ts : Trees) → within_limits (array ts) ≡ true → dense_at z (array ts) ≡ true → Spelled (is_element z) resolved_kind.Array ts (array ts)
 spelled_array z ts w s =
     let body = array_constructor ts ++ payload_each ts in
     let h = header (length body) (count ts) (first_constructor ts) in
@@ -112,7 +112,7 @@ spelled_array z ts w s =
       small = is_le (length body) 4294967291 (left_true (fits (length body)) (is_count (count ts) && within_limits_each ts) w);
     }
 
-spelled_fields : (z : Position) (i : ℕ) (ts : Trees) → within_limits (variant i (list ts)) ≡ true → dense_at z (variant i (list ts)) ≡ true → Spelled (is_element z) (shape.Variant i) ts (variant i (list ts))
+spelled_fields : (z : Position) (i : ℕ) (ts : Trees) → within_limits (variant i (list ts)) ≡ true → dense_at z (variant i (list ts)) ≡ true → Spelled (is_element z) (resolved_kind.Variant i) ts (variant i (list ts))
 spelled_fields z i ts w k =
     let s = right_true (fit z (variant i (list ts))) (dense (list ts)) k in
     let index = scalar_form (uint i) in
@@ -120,17 +120,17 @@ spelled_fields z i ts w k =
     let body = index ++ encoding (list ts) in
     let h = header_bytes (is_element z) header_kind.Map (header (length body) 2 None) in
     let g = header_bytes false header_kind.List (header (length fields) (count ts) None) in
-    let inner = right_true (fits (length body)) (within_limits (list ts)) w in
+    let inner_context = right_true (fits (length body)) (within_limits (list ts)) w in
     record {
       bytes = pick_is (is_element z) header_kind.Map 2 None (map_form 2 body) body (counted_is 0xc1 0xd1 2 body (λ e. omega arith))
-          ∙ ap (λ b. h ++ (index ++ b)) (list_is (count ts) fields (few_parts (count ts) fields (left_true (count_fits (count ts) fields) (dense_each position.Inside ts) s)))
+          ∙ ap (λ b. h ++ (index ++ b)) (list_is (count ts) fields (few_parts (count ts) fields (left_true (count_fits (count ts) fields) (dense_each position.InCompound ts) s)))
           ∙ sym (append_assoc h index (g ++ fields)) ∙ sym (append_assoc (h ++ index) g fields);
-      within_limits_parts = right_true (fits (length fields)) (within_limits_each ts) inner;
-      dense_parts = right_true (count_fits (count ts) fields) (dense_each position.Inside ts) s;
-      small = (is_le (length body) 4294967291 (left_true (fits (length body)) (within_limits (list ts)) w), is_le (length fields) 4294967291 (left_true (fits (length fields)) (within_limits_each ts) inner));
+      within_limits_parts = right_true (fits (length fields)) (within_limits_each ts) inner_context;
+      dense_parts = right_true (count_fits (count ts) fields) (dense_each position.InCompound ts) s;
+      small = (is_le (length body) 4294967291 (left_true (fits (length body)) (within_limits (list ts)) w), is_le (length fields) 4294967291 (left_true (fits (length fields)) (within_limits_each ts) inner_context));
     }
 
-spelled_only : (z : Position) (i : ℕ) (t : Tree) → within_limits (variant i t) ≡ true → dense_at z (variant i t) ≡ true → Spelled (is_element z) (shape.NewtypeVariant i) (more t no_trees) (variant i t)
+spelled_only : (z : Position) (i : ℕ) (t : Tree) → within_limits (variant i t) ≡ true → dense_at z (variant i t) ≡ true → Spelled (is_element z) (resolved_kind.NewtypeVariant i) (more t no_trees) (variant i t)
 spelled_only z i t w k =
     let s = right_true (fit z (variant i t)) (is_opaque t && dense t) k in
     let index = scalar_form (uint i) in
@@ -145,7 +145,7 @@ spelled_only z i t w k =
       small = is_le (length long) 4294967291 (ap (λ b. fits (length b)) (sym same) ∙ left_true (fits (length body)) (within_limits t) w);
     }
 
-spelled_transparent : (z : Position) (ts : Trees) → within_limits (transparent ts) ≡ true → dense_at z (transparent ts) ≡ true → Spelled (is_element z) shape.Transparent ts (transparent ts)
+spelled_transparent : (z : Position) (ts : Trees) → within_limits (transparent ts) ≡ true → dense_at z (transparent ts) ≡ true → Spelled (is_element z) resolved_kind.Transparent ts (transparent ts)
 spelled_transparent position.Root ts w s =
     record {
       bytes = refl;
@@ -153,37 +153,37 @@ spelled_transparent position.Root ts w s =
       dense_parts = s;
       small = tt;
     }
-spelled_transparent position.Inside ts w s = absurd (no_false s)
-spelled_transparent position.First ts w s = absurd (no_false s)
-spelled_transparent (position.Element c) ts w s = absurd (no_false s)
+spelled_transparent position.InCompound ts w s = absurd (no_false s)
+spelled_transparent position.FirstElement ts w s = absurd (no_false s)
+spelled_transparent (position.OtherElement c) ts w s = absurd (no_false s)
 spelled_transparent position.Descriptor ts w s = absurd (no_false s)
 spelled_transparent (position.Value n b) ts w s = absurd (no_false s)
 
-map_case : (z : Position) (ts : Trees) (t : Tree) (o : Option Pairs) → in_pairs ts ≡ o → as_map o ≡ Some t → within_limits t ≡ true → dense_at z t ≡ true → Spelled (is_element z) shape.Map ts t
+map_case : (z : Position) (ts : Trees) (t : Tree) (o : Option Pairs) → in_pairs ts ≡ o → as_map o ≡ Some t → within_limits t ≡ true → dense_at z t ≡ true → Spelled (is_element z) resolved_kind.Map ts t
 map_case z ts t None e h = cc
-map_case z ts t (Some prs) e h = let q : map prs ≡ t = cc in subst (λ x. within_limits x ≡ true → dense_at z x ≡ true → Spelled (is_element z) shape.Map ts x) q (spelled_map z ts prs e)
+map_case z ts t (Some prs) e h = let q : map prs ≡ t = cc in subst (λ x. within_limits x ≡ true → dense_at z x ≡ true → Spelled (is_element z) resolved_kind.Map ts x) q (spelled_map z ts prs e)
 
-only_case : (z : Position) (i : ℕ) (ts : Trees) (t : Tree) → as_variant i (only ts) ≡ Some t → within_limits t ≡ true → dense_at z t ≡ true → Spelled (is_element z) (shape.NewtypeVariant i) ts t
+only_case : (z : Position) (i : ℕ) (ts : Trees) (t : Tree) → as_variant i (only ts) ≡ Some t → within_limits t ≡ true → dense_at z t ≡ true → Spelled (is_element z) (resolved_kind.NewtypeVariant i) ts t
 only_case z i no_trees t h = cc
-only_case z i (more u no_trees) t h = let q : variant i u ≡ t = cc in subst (λ x. within_limits x ≡ true → dense_at z x ≡ true → Spelled (is_element z) (shape.NewtypeVariant i) (more u no_trees) x) q (spelled_only z i u)
+only_case z i (more u no_trees) t h = let q : variant i u ≡ t = cc in subst (λ x. within_limits x ≡ true → dense_at z x ≡ true → Spelled (is_element z) (resolved_kind.NewtypeVariant i) (more u no_trees) x) q (spelled_only z i u)
 only_case z i (more u (more v ts)) t h = cc
 
-pub spelled : (z : Position) (u : Pending) (k : Kind) (ts : Trees) (t : Tree) → is_single k ≡ false → meant u (as_kind k (Some ts)) ≡ Some t → within_limits t ≡ true → dense_at z t ≡ true → Spelled (is_element z) (shape_of u k) ts t
+pub spelled : (z : Position) (u : Context) (k : CompoundKind) (ts : Trees) (t : Tree) → is_single k ≡ false → meant u (as_kind k (Some ts)) ≡ Some t → within_limits t ≡ true → dense_at z t ≡ true → Spelled (is_element z) (resolved_kind_of u k) ts t
 spelled z u kinds.Single ts t b h = cc
-spelled z (pending.Plain p) kinds.List ts t b h = let q : list ts ≡ t = cc in subst (λ x. within_limits x ≡ true → dense_at z x ≡ true → Spelled (is_element z) shape.List ts x) q (spelled_list z ts)
-spelled z (pending.Plain p) kinds.Map ts t b h = map_case z ts t (in_pairs ts) refl h
-spelled z (pending.Plain p) (kinds.Variant i) ts t b h = let q : variant i (list ts) ≡ t = cc in subst (λ x. within_limits x ≡ true → dense_at z x ≡ true → Spelled (is_element z) (shape.Variant i) ts x) q (spelled_fields z i ts)
-spelled z (pending.Plain p) (kinds.NewtypeVariant i) ts t b h = only_case z i ts t h
-spelled z (pending.Array p) kinds.List ts t b h = let q : array ts ≡ t = cc in subst (λ x. within_limits x ≡ true → dense_at z x ≡ true → Spelled (is_element z) shape.Array ts x) q (spelled_array z ts)
-spelled z (pending.Transparent p) kinds.List ts t b h = let q : transparent ts ≡ t = cc in subst (λ x. within_limits x ≡ true → dense_at z x ≡ true → Spelled (is_element z) shape.Transparent ts x) q (spelled_transparent z ts)
-spelled z (pending.Array p) kinds.Map ts t b h = is_not _ t (refused_shape (pending.Array p) kinds.Map (Some ts) refl) h
-spelled z (pending.Array p) (kinds.Variant i) ts t b h = is_not _ t (refused_shape (pending.Array p) (kinds.Variant i) (Some ts) refl) h
-spelled z (pending.Array p) (kinds.NewtypeVariant i) ts t b h = is_not _ t (refused_shape (pending.Array p) (kinds.NewtypeVariant i) (Some ts) refl) h
-spelled z (pending.Transparent p) kinds.Map ts t b h = is_not _ t (refused_shape (pending.Transparent p) kinds.Map (Some ts) refl) h
-spelled z (pending.Transparent p) (kinds.Variant i) ts t b h = is_not _ t (refused_shape (pending.Transparent p) (kinds.Variant i) (Some ts) refl) h
-spelled z (pending.Transparent p) (kinds.NewtypeVariant i) ts t b h = is_not _ t (refused_shape (pending.Transparent p) (kinds.NewtypeVariant i) (Some ts) refl) h
-spelled z (pending.Scalar m p) kinds.List ts t b h = is_not _ t (refused_shape (pending.Scalar m p) kinds.List (Some ts) refl) h
-spelled z (pending.Scalar m p) kinds.Map ts t b h = is_not _ t (refused_shape (pending.Scalar m p) kinds.Map (Some ts) refl) h
-spelled z (pending.Scalar m p) (kinds.Variant i) ts t b h = is_not _ t (refused_shape (pending.Scalar m p) (kinds.Variant i) (Some ts) refl) h
-spelled z (pending.Scalar m p) (kinds.NewtypeVariant i) ts t b h = is_not _ t (refused_shape (pending.Scalar m p) (kinds.NewtypeVariant i) (Some ts) refl) h
-spelled z (pending.Nothing p) k ts t b h = is_not _ t refl h
+spelled z (context.Plain p) kinds.List ts t b h = let q : list ts ≡ t = cc in subst (λ x. within_limits x ≡ true → dense_at z x ≡ true → Spelled (is_element z) resolved_kind.List ts x) q (spelled_list z ts)
+spelled z (context.Plain p) kinds.Map ts t b h = map_case z ts t (in_pairs ts) refl h
+spelled z (context.Plain p) (kinds.Variant i) ts t b h = let q : variant i (list ts) ≡ t = cc in subst (λ x. within_limits x ≡ true → dense_at z x ≡ true → Spelled (is_element z) (resolved_kind.Variant i) ts x) q (spelled_fields z i ts)
+spelled z (context.Plain p) (kinds.NewtypeVariant i) ts t b h = only_case z i ts t h
+spelled z (context.Array p) kinds.List ts t b h = let q : array ts ≡ t = cc in subst (λ x. within_limits x ≡ true → dense_at z x ≡ true → Spelled (is_element z) resolved_kind.Array ts x) q (spelled_array z ts)
+spelled z (context.Transparent p) kinds.List ts t b h = let q : transparent ts ≡ t = cc in subst (λ x. within_limits x ≡ true → dense_at z x ≡ true → Spelled (is_element z) resolved_kind.Transparent ts x) q (spelled_transparent z ts)
+spelled z (context.Array p) kinds.Map ts t b h = is_not _ t (refused_shape (context.Array p) kinds.Map (Some ts) refl) h
+spelled z (context.Array p) (kinds.Variant i) ts t b h = is_not _ t (refused_shape (context.Array p) (kinds.Variant i) (Some ts) refl) h
+spelled z (context.Array p) (kinds.NewtypeVariant i) ts t b h = is_not _ t (refused_shape (context.Array p) (kinds.NewtypeVariant i) (Some ts) refl) h
+spelled z (context.Transparent p) kinds.Map ts t b h = is_not _ t (refused_shape (context.Transparent p) kinds.Map (Some ts) refl) h
+spelled z (context.Transparent p) (kinds.Variant i) ts t b h = is_not _ t (refused_shape (context.Transparent p) (kinds.Variant i) (Some ts) refl) h
+spelled z (context.Transparent p) (kinds.NewtypeVariant i) ts t b h = is_not _ t (refused_shape (context.Transparent p) (kinds.NewtypeVariant i) (Some ts) refl) h
+spelled z (context.Scalar m p) kinds.List ts t b h = is_not _ t (refused_shape (context.Scalar m p) kinds.List (Some ts) refl) h
+spelled z (context.Scalar m p) kinds.Map ts t b h = is_not _ t (refused_shape (context.Scalar m p) kinds.Map (Some ts) refl) h
+spelled z (context.Scalar m p) (kinds.Variant i) ts t b h = is_not _ t (refused_shape (context.Scalar m p) (kinds.Variant i) (Some ts) refl) h
+spelled z (context.Scalar m p) (kinds.NewtypeVariant i) ts t b h = is_not _ t (refused_shape (context.Scalar m p) (kinds.NewtypeVariant i) (Some ts) refl) h
+spelled z (context.Nothing p) k ts t b h = is_not _ t refl h

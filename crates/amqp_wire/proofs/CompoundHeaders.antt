@@ -5,14 +5,14 @@ use Rattle.amqp_ser.specs.Scalars.{scalar_form}
 use Rattle.amqp_ser.specs.Encoding.{encoding, encoding_each, encoding_pairs}
 use Rattle.amqp_ser.specs.Writable.{within_limits, within_limits_each, within_limits_pairs, inside, inside_each, inside_pairs}
 use Rattle.amqp_ser.specs.Compounds.{as_kind, as_map, as_variant, in_pairs, prepend_pair, only}
-use Rattle.amqp_ser.specs.declared.kind.Kind.{Kind}
-use Rattle.amqp_ser.specs.declared.kind.Kind.TheVariants as kinds
+use Rattle.amqp_ser.specs.declared.kind.CompoundKind.{CompoundKind}
+use Rattle.amqp_ser.specs.declared.kind.CompoundKind.TheVariants as kinds
 use Rattle.amqp_ser.proofs.Joins.{join}
-use Rattle.amqp_size.specs.Position.{meant, shape_of}
-use Rattle.amqp_size.specs.WholePosition.{Inside}
-use Rattle.amqp_size.specs.WholePending.{Pending}
-use Rattle.amqp_size.specs.WholePending as pending
-use Rattle.amqp_size.specs.declared.shape.Shape.TheVariants as shape
+use Rattle.amqp_size.specs.Position.{meant, resolved_kind_of}
+use Rattle.amqp_size.specs.WholePosition.{InCompound}
+use Rattle.amqp_size.specs.WholeContext.{Context}
+use Rattle.amqp_size.specs.WholeContext as context
+use Rattle.amqp_size.specs.declared.resolved_kind.ResolvedKind.TheVariants as resolved_kind
 use Rattle.amqp_size.proofs.Whole.{refused_shape}
 use Rattle.amqp_wire.specs.TreeHeaders.{header, headers_of, headers_of_each, headers_of_pairs, compound_headers}
 use Rattle.amqp_wire.specs.Dense.{is_opaque, dense, dense_each, dense_pairs}
@@ -25,7 +25,7 @@ pub record Paired (ts : Trees) (prs : Pairs) : Type 0 where
   pub counted : pair_count prs * 2 ≡ count ts
   pub entered : headers_of_pairs prs ≡ headers_of_each ts
   pub within_too : within_limits_pairs prs ≡ within_limits_each ts
-  pub dense_too : dense_pairs prs ≡ dense_each Inside ts
+  pub dense_too : dense_pairs prs ≡ dense_each InCompound ts
   pub inside_too : inside_pairs prs ≡ inside_each ts
 
 one_pair : (k v : Tree) (ts : Trees) (prs : Pairs) (o : Option Pairs) → ((qs : Pairs) → o ≡ Some qs → Paired ts qs) → prepend_pair k v o ≡ Some prs → Paired (more k (more v ts)) prs
@@ -68,25 +68,25 @@ only_entries i (more u no_trees) t h =
 only_entries i (more u (more v ts)) t h = cc
 
 -- The table of a compound is its own headers, then those of its parts.
-pub split : (u : Pending) (k : Kind) (ts : Trees) (t : Tree) → is_single k ≡ false → meant u (as_kind k (Some ts)) ≡ Some t → headers_of t ≡ compound_headers (shape_of u k) ts ++ headers_of_each ts
+pub split : (u : Context) (k : CompoundKind) (ts : Trees) (t : Tree) → is_single k ≡ false → meant u (as_kind k (Some ts)) ≡ Some t → headers_of t ≡ compound_headers (resolved_kind_of u k) ts ++ headers_of_each ts
 split u kinds.Single ts t b h = cc
-split (pending.Plain p) kinds.List ts t b h = let q : list ts ≡ t = cc in subst (λ x. headers_of x ≡ compound_headers shape.List ts ++ headers_of_each ts) q refl
-split (pending.Plain p) kinds.Map ts t b h = map_entries ts t (in_pairs ts) refl h
-split (pending.Plain p) (kinds.Variant i) ts t b h = let q : variant i (list ts) ≡ t = cc in subst (λ x. headers_of x ≡ compound_headers (shape.Variant i) ts ++ headers_of_each ts) q refl
-split (pending.Plain p) (kinds.NewtypeVariant i) ts t b h = only_entries i ts t h
-split (pending.Array p) kinds.List ts t b h = let q : array ts ≡ t = cc in subst (λ x. headers_of x ≡ compound_headers shape.Array ts ++ headers_of_each ts) q refl
-split (pending.Array p) kinds.Map ts t b h = is_not _ t (refused_shape (pending.Array p) kinds.Map (Some ts) refl) h
-split (pending.Array p) (kinds.Variant i) ts t b h = is_not _ t (refused_shape (pending.Array p) (kinds.Variant i) (Some ts) refl) h
-split (pending.Array p) (kinds.NewtypeVariant i) ts t b h = is_not _ t (refused_shape (pending.Array p) (kinds.NewtypeVariant i) (Some ts) refl) h
-split (pending.Transparent p) kinds.List ts t b h = let q : transparent ts ≡ t = cc in subst (λ x. headers_of x ≡ compound_headers shape.Transparent ts ++ headers_of_each ts) q refl
-split (pending.Transparent p) kinds.Map ts t b h = is_not _ t (refused_shape (pending.Transparent p) kinds.Map (Some ts) refl) h
-split (pending.Transparent p) (kinds.Variant i) ts t b h = is_not _ t (refused_shape (pending.Transparent p) (kinds.Variant i) (Some ts) refl) h
-split (pending.Transparent p) (kinds.NewtypeVariant i) ts t b h = is_not _ t (refused_shape (pending.Transparent p) (kinds.NewtypeVariant i) (Some ts) refl) h
-split (pending.Scalar m p) kinds.List ts t b h = is_not _ t (refused_shape (pending.Scalar m p) kinds.List (Some ts) refl) h
-split (pending.Scalar m p) kinds.Map ts t b h = is_not _ t (refused_shape (pending.Scalar m p) kinds.Map (Some ts) refl) h
-split (pending.Scalar m p) (kinds.Variant i) ts t b h = is_not _ t (refused_shape (pending.Scalar m p) (kinds.Variant i) (Some ts) refl) h
-split (pending.Scalar m p) (kinds.NewtypeVariant i) ts t b h = is_not _ t (refused_shape (pending.Scalar m p) (kinds.NewtypeVariant i) (Some ts) refl) h
-split (pending.Nothing p) k ts t b h = is_not _ t refl h
+split (context.Plain p) kinds.List ts t b h = let q : list ts ≡ t = cc in subst (λ x. headers_of x ≡ compound_headers resolved_kind.List ts ++ headers_of_each ts) q refl
+split (context.Plain p) kinds.Map ts t b h = map_entries ts t (in_pairs ts) refl h
+split (context.Plain p) (kinds.Variant i) ts t b h = let q : variant i (list ts) ≡ t = cc in subst (λ x. headers_of x ≡ compound_headers (resolved_kind.Variant i) ts ++ headers_of_each ts) q refl
+split (context.Plain p) (kinds.NewtypeVariant i) ts t b h = only_entries i ts t h
+split (context.Array p) kinds.List ts t b h = let q : array ts ≡ t = cc in subst (λ x. headers_of x ≡ compound_headers resolved_kind.Array ts ++ headers_of_each ts) q refl
+split (context.Array p) kinds.Map ts t b h = is_not _ t (refused_shape (context.Array p) kinds.Map (Some ts) refl) h
+split (context.Array p) (kinds.Variant i) ts t b h = is_not _ t (refused_shape (context.Array p) (kinds.Variant i) (Some ts) refl) h
+split (context.Array p) (kinds.NewtypeVariant i) ts t b h = is_not _ t (refused_shape (context.Array p) (kinds.NewtypeVariant i) (Some ts) refl) h
+split (context.Transparent p) kinds.List ts t b h = let q : transparent ts ≡ t = cc in subst (λ x. headers_of x ≡ compound_headers resolved_kind.Transparent ts ++ headers_of_each ts) q refl
+split (context.Transparent p) kinds.Map ts t b h = is_not _ t (refused_shape (context.Transparent p) kinds.Map (Some ts) refl) h
+split (context.Transparent p) (kinds.Variant i) ts t b h = is_not _ t (refused_shape (context.Transparent p) (kinds.Variant i) (Some ts) refl) h
+split (context.Transparent p) (kinds.NewtypeVariant i) ts t b h = is_not _ t (refused_shape (context.Transparent p) (kinds.NewtypeVariant i) (Some ts) refl) h
+split (context.Scalar m p) kinds.List ts t b h = is_not _ t (refused_shape (context.Scalar m p) kinds.List (Some ts) refl) h
+split (context.Scalar m p) kinds.Map ts t b h = is_not _ t (refused_shape (context.Scalar m p) kinds.Map (Some ts) refl) h
+split (context.Scalar m p) (kinds.Variant i) ts t b h = is_not _ t (refused_shape (context.Scalar m p) (kinds.Variant i) (Some ts) refl) h
+split (context.Scalar m p) (kinds.NewtypeVariant i) ts t b h = is_not _ t (refused_shape (context.Scalar m p) (kinds.NewtypeVariant i) (Some ts) refl) h
+split (context.Nothing p) k ts t b h = is_not _ t refl h
 
 pub headers_of-join : (ts us : Trees) → headers_of_each (join ts us) ≡ headers_of_each ts ++ headers_of_each us
 headers_of-join no_trees us = refl

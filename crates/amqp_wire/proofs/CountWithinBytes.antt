@@ -56,8 +56,8 @@ pub one_byte : (t : Tree) → inside t ≡ true → dense t ≡ true → 1 ≤ l
 one_byte (scalar s) i h = scalar_some s
 one_byte (list ts) i h = list_some (count ts) (encoding_each ts)
 one_byte (array ts) i h =
-    let content = array_constructor ts ++ payload_each ts in
-    if_some (is_short (length content) && nat_le (count ts) 255) (0xe0 ∷ (length content + 1) ∷ count ts ∷ content) (0xf0 ∷ wide (count ts) content) (omega arith) (omega arith)
+    let body_bytes = array_constructor ts ++ payload_each ts in
+    if_some (is_short (length body_bytes) && nat_le (count ts) 255) (0xe0 ∷ (length body_bytes + 1) ∷ count ts ∷ body_bytes) (0xf0 ∷ wide (count ts) body_bytes) (omega arith) (omega arith)
 one_byte (map ps) i h = counted_some 0xc1 0xd1 (pair_count ps * 2) (encoding_pairs ps)
 one_byte (described d t) i h = omega arith
 one_byte (variant n t) i h = counted_some 0xc1 0xd1 2 (scalar_form (uint n) ++ encoding t)

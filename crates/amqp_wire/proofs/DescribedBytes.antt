@@ -1,28 +1,28 @@
 -- The bytes of a described value: its format code and its descriptor before the value.
 use Rattle.std.proofs.Common.{◌≡◌, ◌+◌, ◌≤◌, [], ◌∷◌, ◌++◌, Option, Some, None, true, false, ◌&&◌, Result, Ok, Err, is_some, length, refl, ap, sym, ◌∙◌, subst, arith, append_assoc, length-append, drop}
 use Rattle.std.specs.Vec.{vec_capacity}
-use Rattle.amqp_size.specs.declared.walk_error.WalkError.{WalkError}
-use Rattle.amqp_size.specs.declared.walk_error.WalkError.TheVariants as error
+use Rattle.amqp_size.specs.declared.size_error.SizeError.{SizeError}
+use Rattle.amqp_size.specs.declared.size_error.SizeError.TheVariants as error
 use Rattle.amqp_ser.specs.Tree.{Tree, Descriptor, scalar, list, array, map, described, variant, lazy, transparent}
 use Rattle.amqp_ser.specs.Limits.{is_length}
 use Rattle.amqp_ser.specs.Encoding.{encoding, descriptor_form}
 use Rattle.amqp_ser.specs.Writable.{within_limits, descriptor_fits}
 use Rattle.amqp_ser.specs.Composites.{as_described, descriptor_of}
-use Rattle.amqp_ser.specs.declared.kind.Kind.TheVariants as kinds
+use Rattle.amqp_ser.specs.declared.kind.CompoundKind.TheVariants as kinds
 use Rattle.amqp_ser.proofs.Bools.{left_true, right_true}
-use Rattle.amqp_size.specs.SizeSerializer.{at_position}
+use Rattle.amqp_size.specs.SizeSerializer.{AtPosition}
 use Rattle.amqp_size.specs.Position.{position_of, meant, without_prefix}
 use Rattle.amqp_size.specs.WholePosition.{Position}
 use Rattle.amqp_size.specs.WholePosition as position
-use Rattle.amqp_size.specs.WholePending.{Pending}
-use Rattle.amqp_size.specs.WholePending as pending
+use Rattle.amqp_size.specs.WholeContext.{Context}
+use Rattle.amqp_size.specs.WholeContext as context
 use Rattle.amqp_size.proofs.Described.{of_tree, no_nested, no_scalar_described, no_array_described, no_transparent_described}
 use Rattle.amqp_size.proofs.Positions.{meant_none, refusal}
 use Rattle.amqp_wire.specs.TreeHeaders.{headers_of}
 use Rattle.amqp_wire.specs.HeaderBytes.{is_element, bytes_at}
 use Rattle.amqp_wire.specs.Dense.{dense_at}
 use Rattle.amqp_wire.specs.Positions.{after_descriptor}
-use Rattle.amqp_wire.specs.Writer.{Kept, FitsOutput, Written, takes, wrote, writes_tree, accepts, writer_permits, writer_has, WrittenSingle, stands_at, AwaitsDescriptor}
+use Rattle.amqp_wire.specs.Writer.{Kept, FitsOutput, Written, takes, wrote, WritesTree, IsAccepted, WriterPermits, WriterHas, WrittenSingle, StandsAt, AwaitsDescriptor}
 use Rattle.amqp_wire.specs.declared.output.Output.{Output}
 use Rattle.amqp_wire.specs.declared.writer.Writer.{Writer}
 use Rattle.amqp_wire.specs.declared.writer_compound.WriterCompound.{WriterCompound}
@@ -111,21 +111,21 @@ described_wrote p q start mid after x (Some v) b k f h = λ m.
 nothing_wrote : (p : Position) (s after : Output) (o : Option Tree) → o ≡ None → wrote p s o after
 nothing_wrote p s after o e = subst (λ x. wrote p s x after) (sym e) tt
 
-described_writes : (u w : Pending) (start mid after : Output) (x : Descriptor) (o : Option Tree) → after_descriptor u ≡ Some w → Kept start mid → stands_headed (position_of u) start mid x → wrote (position_of w) mid (meant w o) after → wrote (position_of u) start (meant u (as_described (Some x) o)) after
-described_writes (pending.Plain p) w start mid after x o e k f h =
+described_writes : (u w : Context) (start mid after : Output) (x : Descriptor) (o : Option Tree) → after_descriptor u ≡ Some w → Kept start mid → stands_headed (position_of u) start mid x → wrote (position_of w) mid (meant w o) after → wrote (position_of u) start (meant u (as_described (Some x) o)) after
+described_writes (context.Plain p) w start mid after x o e k f h =
     let q = plain_behind p w e in
     described_wrote p q.0 start mid after x o (behind p q.0 q.1.0) k f (subst (λ v. wrote (position_of v) mid (meant v o) after) (sym q.1.1) h)
-described_writes (pending.Array p) w start mid after x o e k f h = nothing_wrote p start after _ (no_array_described x o)
-described_writes (pending.Transparent p) w start mid after x o e k f h = nothing_wrote p start after _ (no_transparent_described x o)
-described_writes (pending.Scalar m p) w start mid after x o e k f h = nothing_wrote p start after _ (no_scalar_described m x o)
-described_writes (pending.Nothing p) w start mid after x o e k f h = tt
+described_writes (context.Array p) w start mid after x o e k f h = nothing_wrote p start after _ (no_array_described x o)
+described_writes (context.Transparent p) w start mid after x o e k f h = nothing_wrote p start after _ (no_transparent_described x o)
+described_writes (context.Scalar m p) w start mid after x o e k f h = nothing_wrote p start after _ (no_scalar_described m x o)
+described_writes (context.Nothing p) w start mid after x o e k f h = tt
 
-described_permits : (start mid : Writer) (x : Descriptor) → after_descriptor start.pending ≡ Some mid.pending → Kept start.output mid.output → stands_headed (position_of start.pending) start.output mid.output x →
-    (o : Option Tree) (r : Result (Unit {0}) WalkError) (after : Writer) → writer_permits mid o r after → writer_permits start (as_described (Some x) o) r after
+described_permits : (start mid : Writer) (x : Descriptor) → after_descriptor start.context ≡ Some mid.context → Kept start.output mid.output → stands_headed (position_of start.context) start.output mid.output x →
+    (o : Option Tree) (r : Result (Unit {0}) SizeError) (after : Writer) → WriterPermits mid o r after → WriterPermits start (as_described (Some x) o) r after
 described_permits start mid x e k f o (Ok u) after p =
-    (kept-more start.output mid.output after.output k p.0, (described_accepts start.pending mid.pending x e o (Ok u) after.pending p.1.0, described_writes start.pending mid.pending start.output mid.output after.output x o e k f p.1.1))
+    (kept-more start.output mid.output after.output k p.0, (described_accepts start.context mid.context x e o (Ok u) after.context p.1.0, described_writes start.context mid.context start.output mid.output after.output x o e k f p.1.1))
 described_permits start mid x e k f o (Err v) after p =
-    (kept-more start.output mid.output after.output k p.0, (described_accepts start.pending mid.pending x e o (Err v) after.pending p.1.0, tt))
+    (kept-more start.output mid.output after.output k p.0, (described_accepts start.context mid.context x e o (Err v) after.context p.1.0, tt))
 
 -- What is written before the value, after the descriptor.
 head_written : (p : Position) (start before mid : Output) (x : Descriptor) (t : Tree) → ((v : Tree) → dense_at p (described x v) ≡ true → is_element p ≡ false) → Kept start before →
@@ -141,33 +141,33 @@ head_written p start before mid x t own k header_bytes o f v m =
       (let a = w.taken in omega arith),
     )
 
-own_there : (u w : Pending) (x : Descriptor) (v : Tree) → after_descriptor u ≡ Some w → dense_at (position_of u) (described x v) ≡ true → is_element (position_of u) ≡ false
+own_there : (u w : Context) (x : Descriptor) (v : Tree) → after_descriptor u ≡ Some w → dense_at (position_of u) (described x v) ≡ true → is_element (position_of u) ≡ false
 own_there u w x v e = go (position_of u)
   where
     go : (p : Position) → dense_at p (described x v) ≡ true → is_element p ≡ false
     go position.Root h = refl
-    go position.Inside h = refl
-    go position.First h = absurd (no_false h)
-    go (position.Element c) h = absurd (no_false h)
+    go position.InCompound h = refl
+    go position.FirstElement h = absurd (no_false h)
+    go (position.OtherElement c) h = absurd (no_false h)
     go position.Descriptor h = refl
     go (position.Value n b) h = refl
 
 -- A tree that is accepted as a descriptor is one.
-one_taken : (d : Option Tree) (after : Pending) (o : Option Descriptor) → descriptor_of d ≡ o → takes position.Descriptor d after → (x : Descriptor) × ((o ≡ Some x) × ((t : Tree) × (d ≡ Some t)))
+one_taken : (d : Option Tree) (after : Context) (o : Option Descriptor) → descriptor_of d ≡ o → takes position.Descriptor d after → (x : Descriptor) × ((o ≡ Some x) × ((t : Tree) × (d ≡ Some t)))
 one_taken None after o q h = absurd h
 one_taken (Some t) after None q h = absurd (no_false (sym (ap is_some q) ∙ h.suited))
 one_taken (Some t) after (Some x) q h = (x, (refl, (t, refl)))
 
 -- The next value is described.
-pub value_described : (start before now : Writer) (held new : WriterCompound) (d : Option Tree) (part : Result (Unit {0}) WalkError) → AwaitsDescriptor start before held → writer_permits before d part now → part ≡ Ok tt →
-    after_descriptor held.inner ≡ Some new.inner → new.position ≡ held.position → new.shape ≡ held.shape →
-    (mid : Writer) × (writer_has mid kinds.Single (record { pending = pending.Plain (without_prefix held.position); output = now.output }) new [] × ((t : Option Tree) (r : Result (Unit {0}) WalkError) (after : Writer) → writer_permits mid t r after → writer_permits start (as_described (descriptor_of d) t) r after))
-value_described start before now held new d part w p e to same is =
-    let mid : Writer = record { pending = new.inner; output = now.output } in
-    let there : after_descriptor start.pending ≡ Some new.inner = ap after_descriptor (sym w.inner) ∙ to in
-    let here = subst (λ r. accepts (position_of before.pending) (meant before.pending d) r now.pending × writes_tree (position_of before.pending) before.output (meant before.pending d) r now.output) e p.1 in
-    let at = subst (λ u. takes (position_of u) (meant u d) now.pending × wrote (position_of u) before.output (meant u d) now.output) w.at here in
-    let one = one_taken d now.pending (descriptor_of d) refl at.0 in
+pub value_described : (start before now : Writer) (compound new : WriterCompound) (d : Option Tree) (part : Result (Unit {0}) SizeError) → AwaitsDescriptor start before compound → WriterPermits before d part now → part ≡ Ok tt →
+    after_descriptor compound.inner_context ≡ Some new.inner_context → new.position ≡ compound.position → new.resolved_kind ≡ compound.resolved_kind →
+    (mid : Writer) × (WriterHas mid kinds.Single (record { context = context.Plain (without_prefix compound.position); output = now.output }) new [] × ((t : Option Tree) (r : Result (Unit {0}) SizeError) (after : Writer) → WriterPermits mid t r after → WriterPermits start (as_described (descriptor_of d) t) r after))
+value_described start before now compound new d part w p e to same is =
+    let mid : Writer = record { context = new.inner_context; output = now.output } in
+    let there : after_descriptor start.context ≡ Some new.inner_context = ap after_descriptor (sym w.inner_context) ∙ to in
+    let here = subst (λ r. IsAccepted (position_of before.context) (meant before.context d) r now.context × WritesTree (position_of before.context) before.output (meant before.context d) r now.output) e p.1 in
+    let at = subst (λ u. takes (position_of u) (meant u d) now.context × wrote (position_of u) before.output (meant u d) now.output) w.at here in
+    let one = one_taken d now.context (descriptor_of d) refl at.0 in
     let x = one.0 in
     let t = one.1.1.0 in
     let is_one : descriptor_of (Some t) ≡ Some x = ap descriptor_of (sym one.1.1.1) ∙ one.1.0 in
@@ -175,53 +175,53 @@ value_described start before now held new d part w p e to same is =
     let k = kept-more start.output before.output now.output w.kept p.0 in (
       mid,
       (
-        (alone_open mid now.output new (kept-refl now.output) (refl, refl) (ap without_prefix same ∙ w.position ∙ sym (behind_without_prefix start.pending new.inner there)) refl (is ∙ w.shape), ap (λ q. pending.Plain (without_prefix q)) (sym same)),
-        λ v r after q. subst (λ y. writer_permits start (as_described y v) r after) (sym one.1.0)
+        (alone_open mid now.output new (kept-refl now.output) (refl, refl) (ap without_prefix same ∙ w.position ∙ sym (behind_without_prefix start.context new.inner_context there)) refl (is ∙ w.resolved_kind), ap (λ q. context.Plain (without_prefix q)) (sym same)),
+        λ v r after q. subst (λ y. WriterPermits start (as_described y v) r after) (sym one.1.0)
             (described_permits start mid x there k
-            (head_written (position_of start.pending) start.output before.output now.output x t (λ c s. own_there start.pending new.inner x c there s) w.kept w.code is_one f) v r after q),
+            (head_written (position_of start.context) start.output before.output now.output x t (λ c s. own_there start.context new.inner_context x c there s) w.kept w.code is_one f) v r after q),
       ),
     )
 
 -- The error of a descriptor is permitted for the described value.
-refused_pending : (start before : Writer) (held : WriterCompound) (d : Option Tree) (e : WalkError) (after : Pending) → AwaitsDescriptor start before held → at_position position.Descriptor d (Err e) after → (o : Option Descriptor) → descriptor_of d ≡ o → (t : Option Tree) →
-    at_position (position_of start.pending) (meant start.pending (as_described o t)) (Err e) (pending.Plain (without_prefix (position_of start.pending)))
-refused_pending start before held d e after w h None q t =
-    subst (λ x. at_position (position_of start.pending) x (Err e) (pending.Plain (without_prefix (position_of start.pending)))) (sym (meant_none start.pending)) ((refusal position.Descriptor d e after h).0, refl)
-refused_pending start before held None e after w h (Some y) q t = absurd (no_some y q)
-refused_pending start before held (Some x) e after w h (Some y) q t = descriptor_refused start.pending y x e q h.0 t
+refused_context : (start before : Writer) (compound : WriterCompound) (d : Option Tree) (e : SizeError) (after : Context) → AwaitsDescriptor start before compound → AtPosition position.Descriptor d (Err e) after → (o : Option Descriptor) → descriptor_of d ≡ o → (t : Option Tree) →
+    AtPosition (position_of start.context) (meant start.context (as_described o t)) (Err e) (context.Plain (without_prefix (position_of start.context)))
+refused_context start before compound d e after w h None q t =
+    subst (λ x. AtPosition (position_of start.context) x (Err e) (context.Plain (without_prefix (position_of start.context)))) (sym (meant_none start.context)) ((refusal position.Descriptor d e after h).0, refl)
+refused_context start before compound None e after w h (Some y) q t = absurd (no_some y q)
+refused_context start before compound (Some x) e after w h (Some y) q t = descriptor_refused start.context y x e q h.0 t
 
-pub described_refused : (start before : Writer) (cut : Output) (held : WriterCompound) (d : Option Tree) (part : Result (Unit {0}) WalkError) (e : WalkError) (after : Pending) → AwaitsDescriptor start before held → part ≡ Err e → accepts (position_of before.pending) (meant before.pending d) part after → Kept start.output cut →
-    (t : Option Tree) → writer_permits start (as_described (descriptor_of d) t) (Err e) (record { pending = pending.Plain (without_prefix held.position); output = cut })
-described_refused start before cut held d part e after w is h k t =
-    let here = subst (λ u. at_position (position_of u) (meant u d) (Err e) after) w.at (subst (λ r. accepts (position_of before.pending) (meant before.pending d) r after) is h) in
-    (k, (subst (λ q. at_position (position_of start.pending) (meant start.pending (as_described (descriptor_of d) t)) (Err e) (pending.Plain q)) (sym w.position) (refused_pending start before held d e after w here (descriptor_of d) refl t), tt))
+pub described_refused : (start before : Writer) (cut : Output) (compound : WriterCompound) (d : Option Tree) (part : Result (Unit {0}) SizeError) (e : SizeError) (after : Context) → AwaitsDescriptor start before compound → part ≡ Err e → IsAccepted (position_of before.context) (meant before.context d) part after → Kept start.output cut →
+    (t : Option Tree) → WriterPermits start (as_described (descriptor_of d) t) (Err e) (record { context = context.Plain (without_prefix compound.position); output = cut })
+described_refused start before cut compound d part e after w is h k t =
+    let here = subst (λ u. AtPosition (position_of u) (meant u d) (Err e) after) w.at (subst (λ r. IsAccepted (position_of before.context) (meant before.context d) r after) is h) in
+    (k, (subst (λ q. AtPosition (position_of start.context) (meant start.context (as_described (descriptor_of d) t)) (Err e) (context.Plain q)) (sym w.position) (refused_context start before compound d e after w here (descriptor_of d) refl t), tt))
 
 -- A described value is not a descriptor.
-pub nested_refused : (start before : Writer) (cut : Output) (held : WriterCompound) (d : Option Tree) (part : Result (Unit {0}) WalkError) (after : Pending) (e : WalkError) → AwaitsDescriptor start before held → part ≡ Ok tt → accepts (position_of before.pending) (meant before.pending d) part after → held.inner ≡ pending.Plain position.Descriptor → e ≡ error.InvalidValue → Kept start.output cut →
-    (t : Option Tree) → writer_permits start (as_described (descriptor_of d) t) (Err e) (record { pending = pending.Plain (without_prefix held.position); output = cut })
-nested_refused start before cut held d part after e w is h at q k t =
-    let here = subst (λ u. takes (position_of u) (meant u d) after) w.at (subst (λ r. accepts (position_of before.pending) (meant before.pending d) r after) is h) in
+pub nested_refused : (start before : Writer) (cut : Output) (compound : WriterCompound) (d : Option Tree) (part : Result (Unit {0}) SizeError) (after : Context) (e : SizeError) → AwaitsDescriptor start before compound → part ≡ Ok tt → IsAccepted (position_of before.context) (meant before.context d) part after → compound.inner_context ≡ context.Plain position.Descriptor → e ≡ error.InvalidValue → Kept start.output cut →
+    (t : Option Tree) → WriterPermits start (as_described (descriptor_of d) t) (Err e) (record { context = context.Plain (without_prefix compound.position); output = cut })
+nested_refused start before cut compound d part after e w is h at q k t =
+    let here = subst (λ u. takes (position_of u) (meant u d) after) w.at (subst (λ r. IsAccepted (position_of before.context) (meant before.context d) r after) is h) in
     let one = one_taken d after (descriptor_of d) refl here in
-    let root : start.pending ≡ pending.Plain position.Descriptor = sym w.inner ∙ at in (
+    let root : start.context ≡ context.Plain position.Descriptor = sym w.inner_context ∙ at in (
       k,
       (
-        subst (λ p. at_position (position_of start.pending) (meant start.pending (as_described (descriptor_of d) t)) (Err e) (pending.Plain p)) (sym w.position)
-            (subst (λ u. at_position (position_of u) (meant u (as_described (descriptor_of d) t)) (Err e) (pending.Plain (without_prefix (position_of u)))) (sym root)
-            (subst (λ y. at_position position.Descriptor (as_described y t) (Err e) (pending.Plain position.Descriptor)) (sym one.1.0) (no_nested one.0 t e q))),
+        subst (λ p. AtPosition (position_of start.context) (meant start.context (as_described (descriptor_of d) t)) (Err e) (context.Plain p)) (sym w.position)
+            (subst (λ u. AtPosition (position_of u) (meant u (as_described (descriptor_of d) t)) (Err e) (context.Plain (without_prefix (position_of u)))) (sym root)
+            (subst (λ y. AtPosition position.Descriptor (as_described y t) (Err e) (context.Plain position.Descriptor)) (sym one.1.0) (no_nested one.0 t e q))),
         tt,
       ),
     )
 
 -- A compound without parts is ready for a descriptor.
-pub ready : (start s : Writer) (held new : WriterCompound) → WrittenSingle start s.output held [] → new.position ≡ held.position → new.inner ≡ held.inner → new.shape ≡ held.shape → stands_at new s.output → (after : Writer) → Kept s.output after.output → after.pending ≡ pending.Plain position.Descriptor →
+pub ready : (start s : Writer) (compound new : WriterCompound) → WrittenSingle start s.output compound [] → new.position ≡ compound.position → new.inner_context ≡ compound.inner_context → new.resolved_kind ≡ compound.resolved_kind → StandsAt new s.output → (after : Writer) → Kept s.output after.output → after.context ≡ context.Plain position.Descriptor →
     (length s.output.out.items + 1 ≤ vec_capacity s.output.out → (after.output.out.items ≡ s.output.out.items ++ (0x00 ∷ [])) × (after.output.taken ≡ s.output.taken)) → AwaitsDescriptor start after new
-ready start s held new h same inner is at after k d f =
+ready start s compound new h same inner_context is at after k d f =
     let n = h.none refl in
     record {
       kept = kept-more start.output s.output after.output h.kept k;
       position = ap without_prefix same ∙ h.position;
-      shape = is ∙ h.shape;
-      inner = inner ∙ n.0;
+      resolved_kind = is ∙ h.resolved_kind;
+      inner_context = inner_context ∙ n.0;
       stands = (at.0 ∙ n.1.1, at.1 ∙ ap length n.1.0);
       at = d;
       code = λ room.

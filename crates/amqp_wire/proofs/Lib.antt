@@ -17,4 +17,4 @@ pub mod WrittenSteps
 pub mod DescribedPosition
 pub mod DescribedBytes
 pub mod EndedBytes
-pub mod TwoWalks
+pub mod EncodePasses

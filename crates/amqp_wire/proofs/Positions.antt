@@ -1,22 +1,22 @@
 -- The positions of the parts of a compound, and the tree of parts that are accepted there.
 use Rattle.std.proofs.Common.{◌≡◌, ℕ, Option, Some, None, Bool, true, false, ◌&&◌, Err, refl, ap, sym, ◌∙◌, subst}
-use Rattle.amqp_size.specs.declared.walk_error.WalkError.{WalkError}
+use Rattle.amqp_size.specs.declared.size_error.SizeError.{SizeError}
 use Rattle.amqp_ser.specs.Tree.{Tree, Trees, list, array, map, variant, transparent, no_trees, more}
 use Rattle.amqp_ser.specs.Encoding.{constructor}
 use Rattle.amqp_ser.specs.Writable.{uniform_arrays, uniform_arrays_each, inside, inside_each, placed, placed_each, one_constructor}
 use Rattle.amqp_ser.specs.Compounds.{as_kind, as_map, as_variant, in_pairs, only, prepend}
-use Rattle.amqp_ser.specs.declared.kind.Kind.{Kind}
-use Rattle.amqp_ser.specs.declared.kind.Kind.TheVariants as kinds
+use Rattle.amqp_ser.specs.declared.kind.CompoundKind.{CompoundKind}
+use Rattle.amqp_ser.specs.declared.kind.CompoundKind.TheVariants as kinds
 use Rattle.amqp_ser.proofs.Bools.{both, left_true, right_true}
 use Rattle.amqp_ser.proofs.Joins.{join, joined, uniform_arrays-join, inside-join, kind_none}
 use Rattle.amqp_ser.proofs.Pairing.{pairing, even}
-use Rattle.amqp_size.specs.SizeSerializer.{at_position, inner_of, one_in, first_position}
-use Rattle.amqp_size.specs.Position.{position_of, meant, without_prefix, suits, element, next, shape_of, is_array, is_gathered, inner_pending}
+use Rattle.amqp_size.specs.SizeSerializer.{AtPosition, inner_position_of, one_in, first_position}
+use Rattle.amqp_size.specs.Position.{position_of, meant, without_prefix, suits, element, next, resolved_kind_of, is_array, is_gathered, inner_context_of}
 use Rattle.amqp_size.specs.WholePosition as position
-use Rattle.amqp_size.specs.WholePending.{Pending}
-use Rattle.amqp_size.specs.WholePending as pending
-use Rattle.amqp_size.specs.declared.shape.Shape.{Shape}
-use Rattle.amqp_size.specs.declared.shape.Shape.TheVariants as shape
+use Rattle.amqp_size.specs.WholeContext.{Context}
+use Rattle.amqp_size.specs.WholeContext as context
+use Rattle.amqp_size.specs.declared.resolved_kind.ResolvedKind.{ResolvedKind}
+use Rattle.amqp_size.specs.declared.resolved_kind.ResolvedKind.TheVariants as resolved_kind
 use Rattle.amqp_size.proofs.Part.{next_inner, suited_inside, more_one}
 use Rattle.amqp_size.proofs.Refusing.{part_bad}
 use Rattle.amqp_size.proofs.Spoil.{bad_in, odd_none, spoiled_rest}
@@ -26,85 +26,85 @@ use Rattle.amqp_size.proofs.Whole.{refused_shape, stands, stands_none}
 use Rattle.amqp_size.proofs.Positions.{meant_none, refusal}
 use Rattle.amqp_wire.specs.HeaderBytes.{is_element}
 use Rattle.amqp_wire.specs.Dense.{fit}
-use Rattle.amqp_wire.specs.Positions.{part_position, part_at, suited_parts, is_single, inner_after}
+use Rattle.amqp_wire.specs.Positions.{part_position, part_at, suited_parts, is_single, inner_context_after}
 use Rattle.amqp_wire.proofs.HeldKinds.{never_single}
 
 -- Only the kind `Single` has the shape `Single`.
-pub not_single : (u : Pending) (k : Kind) → is_single k ≡ false → shape_of u k ≡ shape.Single → ⊥
+pub not_single : (u : Context) (k : CompoundKind) → is_single k ≡ false → resolved_kind_of u k ≡ resolved_kind.Single → ⊥
 not_single u k c e = never_single k (single_kind u k e) c
 
 -- The elements of a map have no common constructor.
-pub map_inside : (u : Pending) (ts : Trees) → part_at (shape_of u kinds.Map) ts ≡ position.Inside
-map_inside (pending.Plain p) ts = refl
-map_inside (pending.Array p) ts = refl
-map_inside (pending.Transparent p) ts = refl
-map_inside (pending.Scalar m p) ts = refl
-map_inside (pending.Nothing p) ts = refl
+pub map_inside : (u : Context) (ts : Trees) → part_at (resolved_kind_of u kinds.Map) ts ≡ position.InCompound
+map_inside (context.Plain p) ts = refl
+map_inside (context.Array p) ts = refl
+map_inside (context.Transparent p) ts = refl
+map_inside (context.Scalar m p) ts = refl
+map_inside (context.Nothing p) ts = refl
 
 -- The position of the first part.
-pub first_inner : (u : Pending) (k : Kind) → is_single k ≡ false → inner_pending (shape_of u k) u ≡ pending.Plain (part_at (shape_of u k) no_trees)
-first_inner u k b = go (shape_of u k) (not_single u k b)
+pub first_inner : (u : Context) (k : CompoundKind) → is_single k ≡ false → inner_context_of (resolved_kind_of u k) u ≡ context.Plain (part_at (resolved_kind_of u k) no_trees)
+first_inner u k b = go (resolved_kind_of u k) (not_single u k b)
   where
-    go : (s : Shape) → (s ≡ shape.Single → ⊥) → inner_pending s u ≡ pending.Plain (part_at s no_trees)
-    go shape.List n = refl
-    go shape.Map n = refl
-    go (shape.Variant i) n = refl
-    go (shape.NewtypeVariant i) n = refl
-    go shape.Array n = refl
-    go shape.Transparent n = refl
-    go shape.Single n = absurd (n refl)
-    go shape.Refused n = refl
+    go : (s : ResolvedKind) → (s ≡ resolved_kind.Single → ⊥) → inner_context_of s u ≡ context.Plain (part_at s no_trees)
+    go resolved_kind.List n = refl
+    go resolved_kind.Map n = refl
+    go (resolved_kind.Variant i) n = refl
+    go (resolved_kind.NewtypeVariant i) n = refl
+    go resolved_kind.Array n = refl
+    go resolved_kind.Transparent n = refl
+    go resolved_kind.Single n = absurd (n refl)
+    go resolved_kind.Refused n = refl
 
-element_same : (o : Option ℕ) (t : Tree) → (fit (element o) t ≡ fit position.First t) × (is_element (element o) ≡ true)
+element_same : (o : Option ℕ) (t : Tree) → (fit (element o) t ≡ fit position.FirstElement t) × (is_element (element o) ≡ true)
 element_same None t = (refl, refl)
 element_same (Some c) t = (refl, refl)
 
-first_same : (ts : Trees) (t : Tree) → (fit (first_position ts) t ≡ fit position.First t) × (is_element (first_position ts) ≡ true)
+first_same : (ts : Trees) (t : Tree) → (fit (first_position ts) t ≡ fit position.FirstElement t) × (is_element (first_position ts) ≡ true)
 first_same no_trees t = (refl, refl)
 first_same (more v ts) t = element_same (constructor v) t
 
 -- All parts of a compound have the same form.
-pub same_form : (s : Shape) (ts : Trees) (t : Tree) → (fit (part_at s ts) t ≡ fit (part_position s) t) × (is_element (part_at s ts) ≡ is_element (part_position s))
-same_form shape.List ts t = (refl, refl)
-same_form shape.Map ts t = (refl, refl)
-same_form (shape.Variant i) ts t = (refl, refl)
-same_form (shape.NewtypeVariant i) ts t = (refl, refl)
-same_form shape.Array ts t = first_same ts t
-same_form shape.Transparent ts t = (refl, refl)
-same_form shape.Single ts t = (refl, refl)
-same_form shape.Refused ts t = (refl, refl)
+pub same_form : (s : ResolvedKind) (ts : Trees) (t : Tree) → (fit (part_at s ts) t ≡ fit (part_position s) t) × (is_element (part_at s ts) ≡ is_element (part_position s))
+same_form resolved_kind.List ts t = (refl, refl)
+same_form resolved_kind.Map ts t = (refl, refl)
+same_form (resolved_kind.Variant i) ts t = (refl, refl)
+same_form (resolved_kind.NewtypeVariant i) ts t = (refl, refl)
+same_form resolved_kind.Array ts t = first_same ts t
+same_form resolved_kind.Transparent ts t = (refl, refl)
+same_form resolved_kind.Single ts t = (refl, refl)
+same_form resolved_kind.Refused ts t = (refl, refl)
 
 -- Without parts.
-pub no_parts : (s : Shape) → suited_parts s no_trees ≡ true
-no_parts shape.List = refl
-no_parts shape.Map = refl
-no_parts (shape.Variant i) = refl
-no_parts (shape.NewtypeVariant i) = refl
-no_parts shape.Array = refl
-no_parts shape.Transparent = refl
-no_parts shape.Single = refl
-no_parts shape.Refused = refl
+pub no_parts : (s : ResolvedKind) → suited_parts s no_trees ≡ true
+no_parts resolved_kind.List = refl
+no_parts resolved_kind.Map = refl
+no_parts (resolved_kind.Variant i) = refl
+no_parts (resolved_kind.NewtypeVariant i) = refl
+no_parts resolved_kind.Array = refl
+no_parts resolved_kind.Transparent = refl
+no_parts resolved_kind.Single = refl
+no_parts resolved_kind.Refused = refl
 
 -- After one more part.
-next_part : (s : Shape) (ts : Trees) (t : Tree) → suited_parts s ts ≡ true → next (part_at s ts) t ≡ part_at s (join ts (more t no_trees))
-next_part shape.List ts t h = refl
-next_part shape.Map ts t h = refl
-next_part (shape.Variant i) ts t h = refl
-next_part (shape.NewtypeVariant i) ts t h = refl
-next_part shape.Array ts t h = next_inner true ts t (left_true (one_constructor ts) (uniform_arrays_each ts && inside_each ts) h)
-next_part shape.Transparent ts t h = refl
-next_part shape.Single ts t h = refl
-next_part shape.Refused ts t h = refl
+next_part : (s : ResolvedKind) (ts : Trees) (t : Tree) → suited_parts s ts ≡ true → next (part_at s ts) t ≡ part_at s (join ts (more t no_trees))
+next_part resolved_kind.List ts t h = refl
+next_part resolved_kind.Map ts t h = refl
+next_part (resolved_kind.Variant i) ts t h = refl
+next_part (resolved_kind.NewtypeVariant i) ts t h = refl
+next_part resolved_kind.Array ts t h = next_inner true ts t (left_true (one_constructor ts) (uniform_arrays_each ts && inside_each ts) h)
+next_part resolved_kind.Transparent ts t h = refl
+next_part resolved_kind.Single ts t h = refl
+next_part resolved_kind.Refused ts t h = refl
 
-pub next_stands : (s : Shape) (ts : Trees) (t : Tree) (inner after : Pending) → suited_parts s ts ≡ true → inner ≡ pending.Plain (part_at s ts) → after ≡ pending.Plain (next (part_at s ts) t) → inner_after s inner after ≡ pending.Plain (part_at s (join ts (more t no_trees)))
-next_stands shape.List ts t inner after h i a = i
-next_stands shape.Map ts t inner after h i a = i
-next_stands (shape.Variant n) ts t inner after h i a = i
-next_stands (shape.NewtypeVariant n) ts t inner after h i a = i
-next_stands shape.Array ts t inner after h i a = a ∙ ap pending.Plain (next_part shape.Array ts t h)
-next_stands shape.Transparent ts t inner after h i a = i
-next_stands shape.Single ts t inner after h i a = a
-next_stands shape.Refused ts t inner after h i a = i
+pub next_stands : (s : ResolvedKind) (ts : Trees) (t : Tree) (inner_context after : Context) → suited_parts s ts ≡ true → inner_context ≡ context.Plain (part_at s ts) → after ≡ context.Plain (next (part_at s ts) t) → inner_context_after s inner_context after ≡ context.Plain (part_at s (join ts (more t no_trees)))
+next_stands resolved_kind.List ts t inner_context after h i a = i
+next_stands resolved_kind.Map ts t inner_context after h i a = i
+next_stands (resolved_kind.Variant n) ts t inner_context after h i a = i
+next_stands (resolved_kind.NewtypeVariant n) ts t inner_context after h i a = i
+next_stands resolved_kind.Array ts t inner_context after h i a = a ∙ ap context.Plain (next_part resolved_kind.Array ts t h)
+next_stands resolved_kind.Transparent ts t inner_context after h i a = i
+next_stands resolved_kind.Single ts t inner_context after h i a = a
+next_stands resolved_kind.Refused ts t inner_context after h i a = i
 
 one_more : (ts : Trees) (t : Tree) → (uniform_arrays_each ts && inside_each ts) ≡ true → uniform_arrays t ≡ true → inside t ≡ true → (uniform_arrays_each (join ts (more t no_trees)) && inside_each (join ts (more t no_trees))) ≡ true
 one_more ts t h a i =
@@ -112,62 +112,62 @@ one_more ts t h a i =
     (uniform_arrays-join ts (more t no_trees) ∙ both (uniform_arrays_each ts) (uniform_arrays t && true) (left_true (uniform_arrays_each ts) (inside_each ts) h) (both (uniform_arrays t) true a refl))
     (inside-join ts (more t no_trees) ∙ both (inside_each ts) (inside t && true) (right_true (uniform_arrays_each ts) (inside_each ts) h) (both (inside t) true i refl))
 
-pub suited_more : (s : Shape) (ts : Trees) (t : Tree) → suited_parts s ts ≡ true → uniform_arrays t ≡ true → suits (part_at s ts) t ≡ true → suited_parts s (join ts (more t no_trees)) ≡ true
-suited_more shape.List ts t h a i = one_more ts t h a i
-suited_more shape.Map ts t h a i = one_more ts t h a i
-suited_more (shape.Variant n) ts t h a i = one_more ts t h a i
-suited_more (shape.NewtypeVariant n) ts t h a i = one_more ts t h a i
-suited_more shape.Array ts t h a i =
+pub suited_more : (s : ResolvedKind) (ts : Trees) (t : Tree) → suited_parts s ts ≡ true → uniform_arrays t ≡ true → suits (part_at s ts) t ≡ true → suited_parts s (join ts (more t no_trees)) ≡ true
+suited_more resolved_kind.List ts t h a i = one_more ts t h a i
+suited_more resolved_kind.Map ts t h a i = one_more ts t h a i
+suited_more (resolved_kind.Variant n) ts t h a i = one_more ts t h a i
+suited_more (resolved_kind.NewtypeVariant n) ts t h a i = one_more ts t h a i
+suited_more resolved_kind.Array ts t h a i =
     let one = left_true (one_constructor ts) (uniform_arrays_each ts && inside_each ts) h in
     both (one_constructor (join ts (more t no_trees))) _ (more_one true ts t one i)
     (one_more ts t (right_true (one_constructor ts) (uniform_arrays_each ts && inside_each ts) h) a (suited_inside true ts t one i))
-suited_more shape.Transparent ts t h a i =
+suited_more resolved_kind.Transparent ts t h a i =
     both (uniform_arrays_each (join ts (more t no_trees))) (placed_each (join ts (more t no_trees)))
     (uniform_arrays-join ts (more t no_trees) ∙ both (uniform_arrays_each ts) (uniform_arrays t && true) (left_true (uniform_arrays_each ts) (placed_each ts) h) (both (uniform_arrays t) true a refl))
     (placed-join ts (more t no_trees) ∙ both (placed_each ts) (placed t && true) (right_true (uniform_arrays_each ts) (placed_each ts) h) (both (placed t) true i refl))
-suited_more shape.Single ts t h a i = one_more ts t h a i
-suited_more shape.Refused ts t h a i = one_more ts t h a i
+suited_more resolved_kind.Single ts t h a i = one_more ts t h a i
+suited_more resolved_kind.Refused ts t h a i = one_more ts t h a i
 
 -- An error of a part is permitted for the compound, whether it is collected in one body or a
 -- transparent vector.
-gathered_spoils : (s : Shape) (u : Pending) (k : Kind) (ts : Trees) (p : Option Tree) (e : WalkError) (after : Pending) (o : Option Trees) → shape_of u k ≡ s → is_gathered s ≡ true → inner_of (is_array s) ts ≡ part_at s ts → one_in (is_array s) ts ≡ true →
-    at_position (part_at s ts) p (Err e) after → at_position (position_of u) (meant u (as_kind k (joined (Some ts) (prepend p o)))) (Err e) (pending.Plain (without_prefix (position_of u)))
+gathered_spoils : (s : ResolvedKind) (u : Context) (k : CompoundKind) (ts : Trees) (p : Option Tree) (e : SizeError) (after : Context) (o : Option Trees) → resolved_kind_of u k ≡ s → is_gathered s ≡ true → inner_position_of (is_array s) ts ≡ part_at s ts → one_in (is_array s) ts ≡ true →
+    AtPosition (part_at s ts) p (Err e) after → AtPosition (position_of u) (meant u (as_kind k (joined (Some ts) (prepend p o)))) (Err e) (context.Plain (without_prefix (position_of u)))
 gathered_spoils s u k ts None e after o q g i one r =
     spoiled_rest u k ts e (ap is_gathered q ∙ g) r.0 None o (λ t us n. let no : None ≡ Some t = n in cc)
 gathered_spoils s u k ts (Some t) e after o q g i one r =
-    let here = subst (λ p. at_position p (Some t) (Err e) after) (sym i) r in
+    let here = subst (λ p. AtPosition p (Some t) (Err e) after) (sym i) r in
     spoiled_rest u k ts e (ap is_gathered q ∙ g) (refusal (part_at s ts) (Some t) e after r).0 (Some t) o (λ v us n.
     let same : t ≡ v = let m : Some t ≡ Some v = n in cc in
     subst (λ x. bad x v us) (sym q) (subst (λ x. bad s x us) same (part_bad (is_array s) ts t us e one here.0)))
   where
-    bad : Shape → Tree → Trees → Type 0
+    bad : ResolvedKind → Tree → Trees → Type 0
     bad x v us = bad_in (is_array x) (join ts (more v us)) e
 
-transparent_spoils : (u : Pending) (k : Kind) (ts : Trees) (p : Option Tree) (e : WalkError) (after : Pending) (o : Option Trees) → shape_of u k ≡ shape.Transparent → at_position position.Root p (Err e) after →
-    at_position (position_of u) (meant u (as_kind k (joined (Some ts) (prepend p o)))) (Err e) (pending.Plain (without_prefix (position_of u)))
+transparent_spoils : (u : Context) (k : CompoundKind) (ts : Trees) (p : Option Tree) (e : SizeError) (after : Context) (o : Option Trees) → resolved_kind_of u k ≡ resolved_kind.Transparent → AtPosition position.Root p (Err e) after →
+    AtPosition (position_of u) (meant u (as_kind k (joined (Some ts) (prepend p o)))) (Err e) (context.Plain (without_prefix (position_of u)))
 transparent_spoils u k ts None e after o q r =
-    stands_none u (position_of u) (as_kind k None) (Err e) (pending.Plain (without_prefix (position_of u))) refl (ap (meant u) (kind_none k) ∙ meant_none u) (r.0, refl)
+    stands_none u (position_of u) (as_kind k None) (Err e) (context.Plain (without_prefix (position_of u))) refl (ap (meant u) (kind_none k) ∙ meant_none u) (r.0, refl)
 transparent_spoils u k ts (Some t) e after None q r =
-    stands_none u (position_of u) (as_kind k None) (Err e) (pending.Plain (without_prefix (position_of u))) refl (ap (meant u) (kind_none k) ∙ meant_none u) ((refusal position.Root (Some t) e after r).0, refl)
+    stands_none u (position_of u) (as_kind k None) (Err e) (context.Plain (without_prefix (position_of u))) refl (ap (meant u) (kind_none k) ∙ meant_none u) ((refusal position.Root (Some t) e after r).0, refl)
 transparent_spoils u k ts (Some t) e after (Some us) q r =
     let inv = transparent_shape u k q in
     let all = join ts (more t us) in
-    let is : meant u (as_kind k (Some all)) ≡ Some (transparent all) = ap (λ v. meant v (as_kind k (Some all))) inv.0 ∙ ap (λ j. meant (pending.Transparent (position_of u)) (as_kind j (Some all))) inv.1 in
-    stands u (position_of u) (as_kind k (Some all)) (transparent all) (Err e) (pending.Plain (without_prefix (position_of u))) refl is (spoiled_transparent (position_of u) all e (element_bad ts t us e r.0))
+    let is : meant u (as_kind k (Some all)) ≡ Some (transparent all) = ap (λ v. meant v (as_kind k (Some all))) inv.0 ∙ ap (λ j. meant (context.Transparent (position_of u)) (as_kind j (Some all))) inv.1 in
+    stands u (position_of u) (as_kind k (Some all)) (transparent all) (Err e) (context.Plain (without_prefix (position_of u))) refl is (spoiled_transparent (position_of u) all e (element_bad ts t us e r.0))
 
-pub part_spoils : (u : Pending) (k : Kind) (ts : Trees) (p : Option Tree) (e : WalkError) (after : Pending) (o : Option Trees) → is_single k ≡ false → suited_parts (shape_of u k) ts ≡ true →
-    at_position (part_at (shape_of u k) ts) p (Err e) after → at_position (position_of u) (meant u (as_kind k (joined (Some ts) (prepend p o)))) (Err e) (pending.Plain (without_prefix (position_of u)))
-part_spoils u k ts p e after o b = go (shape_of u k) refl
+pub part_spoils : (u : Context) (k : CompoundKind) (ts : Trees) (p : Option Tree) (e : SizeError) (after : Context) (o : Option Trees) → is_single k ≡ false → suited_parts (resolved_kind_of u k) ts ≡ true →
+    AtPosition (part_at (resolved_kind_of u k) ts) p (Err e) after → AtPosition (position_of u) (meant u (as_kind k (joined (Some ts) (prepend p o)))) (Err e) (context.Plain (without_prefix (position_of u)))
+part_spoils u k ts p e after o b = go (resolved_kind_of u k) refl
   where
-    go : (s : Shape) → shape_of u k ≡ s → suited_parts s ts ≡ true → at_position (part_at s ts) p (Err e) after → at_position (position_of u) (meant u (as_kind k (joined (Some ts) (prepend p o)))) (Err e) (pending.Plain (without_prefix (position_of u)))
-    go shape.List q h r = gathered_spoils shape.List u k ts p e after o q refl refl refl r
-    go shape.Map q h r = gathered_spoils shape.Map u k ts p e after o q refl refl refl r
-    go (shape.Variant i) q h r = gathered_spoils (shape.Variant i) u k ts p e after o q refl refl refl r
-    go (shape.NewtypeVariant i) q h r = gathered_spoils (shape.NewtypeVariant i) u k ts p e after o q refl refl refl r
-    go shape.Array q h r = gathered_spoils shape.Array u k ts p e after o q refl refl (left_true (one_constructor ts) (uniform_arrays_each ts && inside_each ts) h) r
-    go shape.Transparent q h r = transparent_spoils u k ts p e after o q r
-    go shape.Single q h r = absurd (not_single u k b q)
-    go shape.Refused q h r = gathered_spoils shape.Refused u k ts p e after o q refl refl refl r
+    go : (s : ResolvedKind) → resolved_kind_of u k ≡ s → suited_parts s ts ≡ true → AtPosition (part_at s ts) p (Err e) after → AtPosition (position_of u) (meant u (as_kind k (joined (Some ts) (prepend p o)))) (Err e) (context.Plain (without_prefix (position_of u)))
+    go resolved_kind.List q h r = gathered_spoils resolved_kind.List u k ts p e after o q refl refl refl r
+    go resolved_kind.Map q h r = gathered_spoils resolved_kind.Map u k ts p e after o q refl refl refl r
+    go (resolved_kind.Variant i) q h r = gathered_spoils (resolved_kind.Variant i) u k ts p e after o q refl refl refl r
+    go (resolved_kind.NewtypeVariant i) q h r = gathered_spoils (resolved_kind.NewtypeVariant i) u k ts p e after o q refl refl refl r
+    go resolved_kind.Array q h r = gathered_spoils resolved_kind.Array u k ts p e after o q refl refl (left_true (one_constructor ts) (uniform_arrays_each ts && inside_each ts) h) r
+    go resolved_kind.Transparent q h r = transparent_spoils u k ts p e after o q r
+    go resolved_kind.Single q h r = absurd (not_single u k b q)
+    go resolved_kind.Refused q h r = gathered_spoils resolved_kind.Refused u k ts p e after o q refl refl refl r
 
 -- A compound with parts that are accepted: its constructor, and that it is accepted inside others.
 pub record Whole (code : ℕ) (t : Tree) : Type 0 where
@@ -176,15 +176,15 @@ pub record Whole (code : ℕ) (t : Tree) : Type 0 where
   pub inside_it : inside t ≡ true
   pub placed_it : placed t ≡ true
 
-abbrev pub ended : Shape → Tree → Type 0
-ended shape.List t = Whole 0xd0 t
-ended shape.Map t = Whole 0xd1 t
-ended (shape.Variant i) t = Whole 0xd1 t
-ended (shape.NewtypeVariant i) t = Whole 0xd1 t
-ended shape.Array t = Whole 0xf0 t
-ended shape.Transparent t = (ts : Trees) × ((t ≡ transparent ts) × ((uniform_arrays_each ts ≡ true) × (placed_each ts ≡ true)))
-ended shape.Single t = ⊥
-ended shape.Refused t = ⊥
+abbrev pub ended : ResolvedKind → Tree → Type 0
+ended resolved_kind.List t = Whole 0xd0 t
+ended resolved_kind.Map t = Whole 0xd1 t
+ended (resolved_kind.Variant i) t = Whole 0xd1 t
+ended (resolved_kind.NewtypeVariant i) t = Whole 0xd1 t
+ended resolved_kind.Array t = Whole 0xf0 t
+ended resolved_kind.Transparent t = (ts : Trees) × ((t ≡ transparent ts) × ((uniform_arrays_each ts ≡ true) × (placed_each ts ≡ true)))
+ended resolved_kind.Single t = ⊥
+ended resolved_kind.Refused t = ⊥
 
 ended_map : (ts : Trees) (t : Tree) → (b : Bool) → even ts ≡ b → as_map (in_pairs ts) ≡ Some t → (uniform_arrays_each ts && inside_each ts) ≡ true → Whole 0xd1 t
 ended_map ts t true q e h =
@@ -228,22 +228,22 @@ plain_array ts h =
     let n = right_true (uniform_arrays_each ts) (inside_each ts) r in
     record { constructor_is = refl; uniform_arrays_it = both (one_constructor ts) (uniform_arrays_each ts) (left_true (one_constructor ts) (uniform_arrays_each ts && inside_each ts) h) (left_true (uniform_arrays_each ts) (inside_each ts) r); inside_it = n; placed_it = n }
 
-pub whole_ended : (u : Pending) (k : Kind) (ts : Trees) (t : Tree) → is_single k ≡ false → meant u (as_kind k (Some ts)) ≡ Some t → suited_parts (shape_of u k) ts ≡ true → ended (shape_of u k) t
+pub whole_ended : (u : Context) (k : CompoundKind) (ts : Trees) (t : Tree) → is_single k ≡ false → meant u (as_kind k (Some ts)) ≡ Some t → suited_parts (resolved_kind_of u k) ts ≡ true → ended (resolved_kind_of u k) t
 whole_ended u kinds.Single ts t b e = cc
-whole_ended (pending.Plain p) kinds.List ts t b e = λ h. subst (Whole 0xd0) (some_is (list ts) t e) (plain_list ts h)
-whole_ended (pending.Plain p) kinds.Map ts t b e = λ h. ended_map ts t (even ts) refl e h
-whole_ended (pending.Plain p) (kinds.Variant i) ts t b e = λ h. subst (Whole 0xd1) (some_is (variant i (list ts)) t e) (plain_fields i ts h)
-whole_ended (pending.Plain p) (kinds.NewtypeVariant i) ts t b e = λ h. ended_only i ts t e h
-whole_ended (pending.Array p) kinds.List ts t b e = λ h. subst (Whole 0xf0) (some_is (array ts) t e) (plain_array ts h)
-whole_ended (pending.Transparent p) kinds.List ts t b e = λ h. (ts, (sym (some_is (transparent ts) t e), (left_true (uniform_arrays_each ts) (placed_each ts) h, right_true (uniform_arrays_each ts) (placed_each ts) h)))
-whole_ended (pending.Array p) kinds.Map ts t b e = is_not _ t (refused_shape (pending.Array p) kinds.Map (Some ts) refl) e
-whole_ended (pending.Array p) (kinds.Variant i) ts t b e = is_not _ t (refused_shape (pending.Array p) (kinds.Variant i) (Some ts) refl) e
-whole_ended (pending.Array p) (kinds.NewtypeVariant i) ts t b e = is_not _ t (refused_shape (pending.Array p) (kinds.NewtypeVariant i) (Some ts) refl) e
-whole_ended (pending.Transparent p) kinds.Map ts t b e = is_not _ t (refused_shape (pending.Transparent p) kinds.Map (Some ts) refl) e
-whole_ended (pending.Transparent p) (kinds.Variant i) ts t b e = is_not _ t (refused_shape (pending.Transparent p) (kinds.Variant i) (Some ts) refl) e
-whole_ended (pending.Transparent p) (kinds.NewtypeVariant i) ts t b e = is_not _ t (refused_shape (pending.Transparent p) (kinds.NewtypeVariant i) (Some ts) refl) e
-whole_ended (pending.Scalar m p) kinds.List ts t b e = is_not _ t (refused_shape (pending.Scalar m p) kinds.List (Some ts) refl) e
-whole_ended (pending.Scalar m p) kinds.Map ts t b e = is_not _ t (refused_shape (pending.Scalar m p) kinds.Map (Some ts) refl) e
-whole_ended (pending.Scalar m p) (kinds.Variant i) ts t b e = is_not _ t (refused_shape (pending.Scalar m p) (kinds.Variant i) (Some ts) refl) e
-whole_ended (pending.Scalar m p) (kinds.NewtypeVariant i) ts t b e = is_not _ t (refused_shape (pending.Scalar m p) (kinds.NewtypeVariant i) (Some ts) refl) e
-whole_ended (pending.Nothing p) k ts t b e = is_not _ t refl e
+whole_ended (context.Plain p) kinds.List ts t b e = λ h. subst (Whole 0xd0) (some_is (list ts) t e) (plain_list ts h)
+whole_ended (context.Plain p) kinds.Map ts t b e = λ h. ended_map ts t (even ts) refl e h
+whole_ended (context.Plain p) (kinds.Variant i) ts t b e = λ h. subst (Whole 0xd1) (some_is (variant i (list ts)) t e) (plain_fields i ts h)
+whole_ended (context.Plain p) (kinds.NewtypeVariant i) ts t b e = λ h. ended_only i ts t e h
+whole_ended (context.Array p) kinds.List ts t b e = λ h. subst (Whole 0xf0) (some_is (array ts) t e) (plain_array ts h)
+whole_ended (context.Transparent p) kinds.List ts t b e = λ h. (ts, (sym (some_is (transparent ts) t e), (left_true (uniform_arrays_each ts) (placed_each ts) h, right_true (uniform_arrays_each ts) (placed_each ts) h)))
+whole_ended (context.Array p) kinds.Map ts t b e = is_not _ t (refused_shape (context.Array p) kinds.Map (Some ts) refl) e
+whole_ended (context.Array p) (kinds.Variant i) ts t b e = is_not _ t (refused_shape (context.Array p) (kinds.Variant i) (Some ts) refl) e
+whole_ended (context.Array p) (kinds.NewtypeVariant i) ts t b e = is_not _ t (refused_shape (context.Array p) (kinds.NewtypeVariant i) (Some ts) refl) e
+whole_ended (context.Transparent p) kinds.Map ts t b e = is_not _ t (refused_shape (context.Transparent p) kinds.Map (Some ts) refl) e
+whole_ended (context.Transparent p) (kinds.Variant i) ts t b e = is_not _ t (refused_shape (context.Transparent p) (kinds.Variant i) (Some ts) refl) e
+whole_ended (context.Transparent p) (kinds.NewtypeVariant i) ts t b e = is_not _ t (refused_shape (context.Transparent p) (kinds.NewtypeVariant i) (Some ts) refl) e
+whole_ended (context.Scalar m p) kinds.List ts t b e = is_not _ t (refused_shape (context.Scalar m p) kinds.List (Some ts) refl) e
+whole_ended (context.Scalar m p) kinds.Map ts t b e = is_not _ t (refused_shape (context.Scalar m p) kinds.Map (Some ts) refl) e
+whole_ended (context.Scalar m p) (kinds.Variant i) ts t b e = is_not _ t (refused_shape (context.Scalar m p) (kinds.Variant i) (Some ts) refl) e
+whole_ended (context.Scalar m p) (kinds.NewtypeVariant i) ts t b e = is_not _ t (refused_shape (context.Scalar m p) (kinds.NewtypeVariant i) (Some ts) refl) e
+whole_ended (context.Nothing p) k ts t b e = is_not _ t refl e

@@ -17,9 +17,9 @@ is_opaque t = true
 -- A transparent tree is only at the root, and an array element has a constructor.
 abbrev pub fit : Position → Tree → Bool
 fit position.Root t = true
-fit position.Inside t = is_opaque t
-fit position.First t = is_some (constructor t)
-fit (position.Element c) t = is_some (constructor t)
+fit position.InCompound t = is_opaque t
+fit position.FirstElement t = is_some (constructor t)
+fit (position.OtherElement c) t = is_some (constructor t)
 fit position.Descriptor t = is_opaque t
 fit (position.Value n b) t = is_opaque t
 
@@ -27,8 +27,8 @@ fit (position.Value n b) t = is_opaque t
 abbrev mutual
   pub dense : Tree → Bool
   dense (scalar s) = true
-  dense (list ts) = count_fits (count ts) (encoding_each ts) && dense_each position.Inside ts
-  dense (array ts) = dense_each position.First ts
+  dense (list ts) = count_fits (count ts) (encoding_each ts) && dense_each position.InCompound ts
+  dense (array ts) = dense_each position.FirstElement ts
   dense (map ps) = count_fits (pair_count ps * 2) (encoding_pairs ps) && dense_pairs ps
   dense (described d t) = is_opaque t && dense t
   dense (variant i t) = is_opaque t && dense t

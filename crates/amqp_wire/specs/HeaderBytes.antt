@@ -6,18 +6,18 @@ use Rattle.amqp_ser.specs.Limits.{is_short}
 use Rattle.amqp_ser.specs.Scalars.{scalar_form}
 use Rattle.amqp_ser.specs.Encoding.{encoding, payload, encoding_each, payload_each, code_list}
 use Rattle.amqp_size.specs.WholePosition.{Position}
-use Rattle.amqp_size.specs.WholePosition.{Root, Inside, First, Element, Descriptor, Value}
-use Rattle.amqp_size.specs.declared.shape.Shape.{Shape}
-use Rattle.amqp_size.specs.declared.shape.Shape.TheVariants as shape
+use Rattle.amqp_size.specs.WholePosition.{Root, InCompound, FirstElement, OtherElement, Descriptor, Value}
+use Rattle.amqp_size.specs.declared.resolved_kind.ResolvedKind.{ResolvedKind}
+use Rattle.amqp_size.specs.declared.resolved_kind.ResolvedKind.TheVariants as resolved_kind
 use Rattle.amqp_wire.specs.declared.header.Header.{Header}
 use Rattle.amqp_wire.specs.declared.opening.HeaderKind.{HeaderKind}
 use Rattle.amqp_wire.specs.declared.opening.HeaderKind.TheVariants as header_kind
 
 abbrev pub is_element : Position → Bool
 is_element Root = false
-is_element Inside = false
-is_element First = true
-is_element (Element c) = true
+is_element InCompound = false
+is_element FirstElement = true
+is_element (OtherElement c) = true
 is_element Descriptor = false
 is_element (Value h b) = false
 
@@ -47,29 +47,29 @@ abbrev pub header_bytes : Bool → HeaderKind → Header → List ℕ
 header_bytes a y h = pick a (whole_header y h.len h.count) (to_be_bytes w32 (h.len + 4) ++ to_be_bytes w32 h.count)
 
 -- The bytes before the parts, given the headers.
-abbrev pub opening : Bool → Shape → List Header → List ℕ
-opening a shape.List (h ∷ hs) = header_bytes a header_kind.List h
-opening a shape.Map (h ∷ hs) = header_bytes a header_kind.Map h
-opening a (shape.Variant i) (h ∷ (g ∷ hs)) = (header_bytes a header_kind.Map h ++ scalar_form (uint i)) ++ header_bytes false header_kind.List g
-opening a (shape.NewtypeVariant i) (h ∷ hs) = header_bytes a header_kind.Map h ++ scalar_form (uint i)
-opening a shape.Array (h ∷ hs) = header_bytes a header_kind.Array h ++ code_list h.constructor
+abbrev pub opening : Bool → ResolvedKind → List Header → List ℕ
+opening a resolved_kind.List (h ∷ hs) = header_bytes a header_kind.List h
+opening a resolved_kind.Map (h ∷ hs) = header_bytes a header_kind.Map h
+opening a (resolved_kind.Variant i) (h ∷ (g ∷ hs)) = (header_bytes a header_kind.Map h ++ scalar_form (uint i)) ++ header_bytes false header_kind.List g
+opening a (resolved_kind.NewtypeVariant i) (h ∷ hs) = header_bytes a header_kind.Map h ++ scalar_form (uint i)
+opening a resolved_kind.Array (h ∷ hs) = header_bytes a header_kind.Array h ++ code_list h.constructor
 opening a s hs = []
 
 -- The bytes of the parts, after the opening.
-abbrev pub after_opening : Shape → Trees → List ℕ
-after_opening shape.Array ts = payload_each ts
-after_opening shape.Refused ts = []
+abbrev pub after_opening : ResolvedKind → Trees → List ℕ
+after_opening resolved_kind.Array ts = payload_each ts
+after_opening resolved_kind.Refused ts = []
 after_opening s ts = encoding_each ts
 
 -- With the four bytes of the count, the length fits in 32 bits.
 abbrev pub small : Header → Type 0
 small h = h.len ≤ 4294967291
 
-abbrev pub small_headers : Shape → List Header → Type 0
-small_headers shape.Refused hs = ⊥
-small_headers shape.Single hs = ⊥
-small_headers shape.Transparent hs = Unit {0}
-small_headers (shape.Variant i) (h ∷ (g ∷ hs)) = small h × small g
-small_headers (shape.Variant i) hs = ⊥
-small_headers s (h ∷ hs) = small h
-small_headers s [] = ⊥
+abbrev pub SmallHeaders : ResolvedKind → List Header → Type 0
+SmallHeaders resolved_kind.Refused hs = ⊥
+SmallHeaders resolved_kind.Single hs = ⊥
+SmallHeaders resolved_kind.Transparent hs = Unit {0}
+SmallHeaders (resolved_kind.Variant i) (h ∷ (g ∷ hs)) = small h × small g
+SmallHeaders (resolved_kind.Variant i) hs = ⊥
+SmallHeaders s (h ∷ hs) = small h
+SmallHeaders s [] = ⊥

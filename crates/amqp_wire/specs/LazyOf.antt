@@ -5,14 +5,14 @@ use Rattle.amqp_data.specs.declared.error.Error.TheVariants as error
 use Rattle.amqp_frame.specs.Frame.{IsFrame}
 use Rattle.amqp_ser.specs.Tree.{Tree}
 use Rattle.amqp_ser.specs.Encoding.{encoding}
-use Rattle.amqp_ser.specs.SizeAndBytes.{refuses_none, refuses_tree}
+use Rattle.amqp_ser.specs.SizeAndBytes.{refuses_none, RefusesTree}
 use Rattle.amqp_ser.specs.Writable.{writable}
 
 -- `TooLong` only if a limit is exceeded; `InvalidValue` only for another reason or if the bytes are
 -- not one encoded value.
-abbrev pub refuses_lazy : Tree → Error → Type 0
-refuses_lazy t error.InvalidValue = refuses_tree t error.InvalidValue ⊎ ¬ IsFrame (encoding t)
-refuses_lazy t e = refuses_tree t e
+abbrev pub RefusesLazy : Tree → Error → Type 0
+RefusesLazy t error.InvalidValue = RefusesTree t error.InvalidValue ⊎ ¬ IsFrame (encoding t)
+RefusesLazy t e = RefusesTree t e
 
 -- The bytes, if and only if the tree is writable and they are one encoded value, unless memory runs
 -- out.
@@ -21,4 +21,4 @@ IsLazyOf None (Ok bs) = ⊥
 IsLazyOf (Some t) (Ok bs) = (writable t ≡ true) × (bs ≡ encoding t) × IsFrame (encoding t)
 IsLazyOf t (Err error.OutOfMemory) = Unit {0}
 IsLazyOf None (Err e) = refuses_none e
-IsLazyOf (Some t) (Err e) = refuses_lazy t e
+IsLazyOf (Some t) (Err e) = RefusesLazy t e

@@ -5,8 +5,8 @@ use Rattle.amqp_ser.specs.Tree.{Tree, Trees, Pairs, uint, scalar, list, array, m
 use Rattle.amqp_ser.specs.Scalars.{scalar_form}
 use Rattle.amqp_ser.specs.Encoding.{encoding, encoding_each, encoding_pairs, payload_each, array_constructor, constructor}
 use Rattle.amqp_size.specs.Width.{uint_width, list_width}
-use Rattle.amqp_size.specs.declared.shape.Shape.{Shape}
-use Rattle.amqp_size.specs.declared.shape.Shape.TheVariants as shape
+use Rattle.amqp_size.specs.declared.resolved_kind.ResolvedKind.{ResolvedKind}
+use Rattle.amqp_size.specs.declared.resolved_kind.ResolvedKind.TheVariants as resolved_kind
 use Rattle.amqp_wire.specs.declared.header.Header.{Header}
 
 abbrev pub header : ℕ → ℕ → Option ℕ → Header
@@ -38,36 +38,36 @@ abbrev mutual
 
 -- The headers of a compound with these parts. A variant with fields has two: one for its map, and
 -- one for the list of fields in it.
-abbrev pub compound_headers : Shape → Trees → List Header
-compound_headers shape.List ts = header (length (encoding_each ts)) (count ts) None ∷ []
-compound_headers shape.Map ts = header (length (encoding_each ts)) (count ts) None ∷ []
-compound_headers (shape.Variant i) ts = header (length (scalar_form (uint i) ++ encoding (list ts))) 2 None ∷ header (length (encoding_each ts)) (count ts) None ∷ []
-compound_headers (shape.NewtypeVariant i) ts = header (length (scalar_form (uint i) ++ encoding_each ts)) 2 None ∷ []
-compound_headers shape.Array ts = header (length (array_constructor ts ++ payload_each ts)) (count ts) (first_constructor ts) ∷ []
+abbrev pub compound_headers : ResolvedKind → Trees → List Header
+compound_headers resolved_kind.List ts = header (length (encoding_each ts)) (count ts) None ∷ []
+compound_headers resolved_kind.Map ts = header (length (encoding_each ts)) (count ts) None ∷ []
+compound_headers (resolved_kind.Variant i) ts = header (length (scalar_form (uint i) ++ encoding (list ts))) 2 None ∷ header (length (encoding_each ts)) (count ts) None ∷ []
+compound_headers (resolved_kind.NewtypeVariant i) ts = header (length (scalar_form (uint i) ++ encoding_each ts)) 2 None ∷ []
+compound_headers resolved_kind.Array ts = header (length (array_constructor ts ++ payload_each ts)) (count ts) (first_constructor ts) ∷ []
 compound_headers s ts = []
 
 -- The number of slots in the table. A transparent vector and a single compound have none.
-abbrev pub header_count : Shape → ℕ
-header_count (shape.Variant i) = 2
-header_count shape.Transparent = 0
-header_count shape.Single = 0
-header_count shape.Refused = 0
+abbrev pub header_count : ResolvedKind → ℕ
+header_count (resolved_kind.Variant i) = 2
+header_count resolved_kind.Transparent = 0
+header_count resolved_kind.Single = 0
+header_count resolved_kind.Refused = 0
 header_count s = 1
 
 -- The headers of a compound, given the header of its parts.
-abbrev pub headers_from : Shape → Header → List Header
-headers_from (shape.Variant i) h = header (uint_width i + list_width h.len) 2 None ∷ h ∷ []
-headers_from (shape.NewtypeVariant i) h = header (uint_width i + h.len) 2 None ∷ []
-headers_from shape.Transparent h = []
-headers_from shape.Single h = []
-headers_from shape.Refused h = []
+abbrev pub headers_from : ResolvedKind → Header → List Header
+headers_from (resolved_kind.Variant i) h = header (uint_width i + list_width h.len) 2 None ∷ h ∷ []
+headers_from (resolved_kind.NewtypeVariant i) h = header (uint_width i + h.len) 2 None ∷ []
+headers_from resolved_kind.Transparent h = []
+headers_from resolved_kind.Single h = []
+headers_from resolved_kind.Refused h = []
 headers_from s h = h ∷ []
 
 -- The lengths of the headers fit in four bytes.
-abbrev pub headers_fit : Shape → ℕ → Type 0
-headers_fit (shape.Variant i) n = uint_width i + list_width n ≤ 4294967295
-headers_fit (shape.NewtypeVariant i) n = uint_width i + n ≤ 4294967295
-headers_fit shape.Transparent n = Unit {0}
-headers_fit shape.Single n = Unit {0}
-headers_fit shape.Refused n = Unit {0}
-headers_fit s n = n ≤ 4294967295
+abbrev pub HeadersFit : ResolvedKind → ℕ → Type 0
+HeadersFit (resolved_kind.Variant i) n = uint_width i + list_width n ≤ 4294967295
+HeadersFit (resolved_kind.NewtypeVariant i) n = uint_width i + n ≤ 4294967295
+HeadersFit resolved_kind.Transparent n = Unit {0}
+HeadersFit resolved_kind.Single n = Unit {0}
+HeadersFit resolved_kind.Refused n = Unit {0}
+HeadersFit s n = n ≤ 4294967295

@@ -2,7 +2,7 @@
 
 ghost use Rattle.amqp_wire.specs.LazyOf.{IsLazyOf};
 
-use crate::two_walks::to_vec;
+use crate::encode::to_vec;
 use amqp_data::Error;
 use amqp_frame::LazyValue;
 use amqp_ser::Serialize;

@@ -6,20 +6,20 @@
 //! value is writable, and returns the encoding of the tree.
 #![tactic(auto)]
 
-mod accept;
+mod position_checks;
 mod header;
 mod lazy_value;
 mod measurer;
 mod opening;
 mod output;
-mod position;
+mod next_context;
 mod scalars;
 mod table;
 #[cfg(test)]
 mod tests;
-mod two_walks;
+mod encode;
 mod writer;
 mod writer_compound;
 
 pub use lazy_value::to_lazy_value;
-pub use two_walks::to_vec;
+pub use encode::to_vec;

@@ -5,9 +5,9 @@ ghost use Rattle.amqp_ser.specs.Tree.{Tree};
 
 use crate::header::Header;
 use crate::table::Table;
-use amqp_ser::{Fixed, Kind, Mark, Serializer};
-use amqp_size::width::LONGEST;
-use amqp_size::{OpenCompound, SizeSerializer, WalkError};
+use amqp_ser::{Fixed, CompoundKind, Marker, Serializer};
+use amqp_size::width::MAX_LEN;
+use amqp_size::{OpenCompound, SizeSerializer, SizeError};
 use std::alloc::Global;
 
 /// A serializer that measures encodings and lists the headers of their compounds.
@@ -36,17 +36,17 @@ pub struct MeasurerCompound {
     parts: u32,
 }
 
-/// Returns `sum` if it is within `LONGEST`. The result never exceeds `LONGEST`.
+/// Returns `sum` if it is within `MAX_LEN`. The result never exceeds `MAX_LEN`.
 #[inline(always)]
 fn limited(sum: usize) -> u32
     ensures same { sum ≤ 4294967291 → result ≡ sum }
     ensures limit { result ≤ 4294967291 }
 {
-    sum.min(LONGEST) as u32
+    sum.min(MAX_LEN) as u32
 }
 
 impl Measurer {
-    ghost use Rattle.amqp_size.specs.WholePending.{Plain};
+    ghost use Rattle.amqp_size.specs.WholeContext.{Plain};
     ghost use Rattle.amqp_size.specs.WholePosition.{Root};
 
     /// Creates a measurer at the root, with an empty table.
@@ -54,7 +54,7 @@ impl Measurer {
     pub fn new(alloc: Global) -> Measurer
         ensures table { result.table.headers.items ≡ [] }
         ensures refused { result.table.refused ≡ false }
-        ensures pending { result.size.pending ≡ Plain Root }
+        ensures context { result.size.context ≡ Plain Root }
     {
         Measurer {
             size: SizeSerializer::new(),
@@ -85,93 +85,93 @@ impl MeasurerCompound {
 
     /// Returns the result of a part, or `OutOfMemory` if the compound has no slot in the table.
     #[inline(always)]
-    fn answer(&self, part: Result<usize, WalkError>) -> Result<usize, WalkError>
+    fn answer(&self, part: Result<usize, SizeError>) -> Result<usize, SizeError>
         ensures { answered self.now part result }
     {
         if self.missed {
-            return Err(WalkError::OutOfMemory);
+            return Err(SizeError::OutOfMemory);
         }
         part
     }
 }
 
 impl Serializer for Measurer {
-    ghost use Rattle.amqp_size.specs.declared.walk_error.WalkError.TheVariants.{InvalidValue, TooLong};
-    ghost use Rattle.amqp_wire.specs.Measurer.{measurer_permits, measurer_has, measurer_awaits, measurer_awaits_descriptor, no_length_of_none};
-    ghost use Rattle.amqp_ser.specs.Compounds.{whole, complete};
+    ghost use Rattle.amqp_size.specs.declared.size_error.SizeError.TheVariants.{InvalidValue, TooLong};
+    ghost use Rattle.amqp_wire.specs.Measurer.{MeasurerPermits, MeasurerHas, MeasurerAwaits, MeasurerAwaitsDescriptor, no_length_of_none};
+    ghost use Rattle.amqp_ser.specs.Compounds.{tree_of_parts, complete};
     ghost use Rattle.amqp_ser.specs.Fixed.{fixed_scalar};
     ghost use Rattle.amqp_ser.specs.Tree.{scalar, null, string, binary};
     ghost use Rattle.amqp_size.specs.Position.{meant};
     ghost use Rattle.amqp_ser.specs.Composites.{as_described, descriptor_of};
-    ghost use Rattle.amqp_ser.specs.declared.kind.Kind.{Kind};
+    ghost use Rattle.amqp_ser.specs.declared.kind.CompoundKind.{CompoundKind};
 
     type Ok = usize;
 
-    type Error = WalkError;
+    type Error = SizeError;
 
     type Open = MeasurerCompound;
 
-    ghost permits = { measurer_permits };
+    ghost permits = { MeasurerPermits };
 
-    ghost has = { measurer_has };
+    ghost has = { MeasurerHas };
 
-    ghost awaits = { measurer_awaits };
+    ghost awaits = { MeasurerAwaits };
 
-    ghost awaits_descriptor = { measurer_awaits_descriptor };
+    ghost awaits_descriptor = { MeasurerAwaitsDescriptor };
 
-    ghost is_misuse = { λ e. e ≡ InvalidValue };
+    ghost is_misuse_error = { λ e. e ≡ InvalidValue };
 
     ghost refuses_none = { no_length_of_none };
 
     #[inline(always)]
-    fn serialize_fixed(&mut self, fixed: Fixed) -> Result<usize, WalkError>
-        ensures answered { measurer_permits self.old (Some (scalar (fixed_scalar fixed))) result
+    fn serialize_fixed(&mut self, fixed: Fixed) -> Result<usize, SizeError>
+        ensures answered { MeasurerPermits self.old (Some (scalar (fixed_scalar fixed))) result
             self.new }
-        ensures no_tree { meant self.old.size.pending (Some (scalar (fixed_scalar fixed))) ≡ None →
+        ensures no_tree { meant self.old.size.context (Some (scalar (fixed_scalar fixed))) ≡ None →
             result ≡ Err InvalidValue }
     {
         self.size.serialize_fixed(fixed)
     }
 
     #[inline(always)]
-    fn serialize_null(&mut self) -> Result<usize, WalkError>
-        ensures answered { measurer_permits self.old (Some (scalar null)) result self.new }
-        ensures no_tree { meant self.old.size.pending (Some (scalar null)) ≡ None →
+    fn serialize_null(&mut self) -> Result<usize, SizeError>
+        ensures answered { MeasurerPermits self.old (Some (scalar null)) result self.new }
+        ensures no_tree { meant self.old.size.context (Some (scalar null)) ≡ None →
             result ≡ Err InvalidValue }
     {
         self.size.serialize_null()
     }
 
     #[inline(always)]
-    fn serialize_str(&mut self, v: &str) -> Result<usize, WalkError>
-        ensures answered { measurer_permits self.old (Some (scalar (string v.now))) result
+    fn serialize_str(&mut self, v: &str) -> Result<usize, SizeError>
+        ensures answered { MeasurerPermits self.old (Some (scalar (string v.now))) result
             self.new }
-        ensures no_tree { meant self.old.size.pending (Some (scalar (string v.now))) ≡ None →
+        ensures no_tree { meant self.old.size.context (Some (scalar (string v.now))) ≡ None →
             result ≡ Err InvalidValue }
     {
         self.size.serialize_str(v)
     }
 
     #[inline(always)]
-    fn serialize_bytes(&mut self, v: &[u8]) -> Result<usize, WalkError>
-        ensures answered { measurer_permits self.old (Some (scalar (binary v.now))) result
+    fn serialize_bytes(&mut self, v: &[u8]) -> Result<usize, SizeError>
+        ensures answered { MeasurerPermits self.old (Some (scalar (binary v.now))) result
             self.new }
-        ensures no_tree { meant self.old.size.pending (Some (scalar (binary v.now))) ≡ None →
+        ensures no_tree { meant self.old.size.context (Some (scalar (binary v.now))) ≡ None →
             result ≡ Err InvalidValue }
     {
         self.size.serialize_bytes(v)
     }
 
     #[inline(always)]
-    fn mark(&mut self, mark: Mark) {
-        self.size.mark(mark);
+    fn set_marker(&mut self, marker: Marker) {
+        self.size.set_marker(marker);
     }
 
     #[inline(always)]
-    fn begin(&mut self, kind: Kind) -> MeasurerCompound {
+    fn begin_compound(&mut self, kind: CompoundKind) -> MeasurerCompound {
         let at = self.table.len();
-        let size = self.size.begin(kind);
-        let missed = self.table.open(size.shape());
+        let size = self.size.begin_compound(kind);
+        let missed = self.table.open(size.resolved_kind());
         MeasurerCompound {
             size,
             at,
@@ -183,9 +183,9 @@ impl Serializer for Measurer {
     }
 
     #[inline(always)]
-    fn vacant(&self) -> MeasurerCompound {
+    fn placeholder(&self) -> MeasurerCompound {
         MeasurerCompound {
-            size: self.size.vacant(),
+            size: self.size.placeholder(),
             at: 0,
             missed: true,
             before_current: 0,
@@ -195,73 +195,73 @@ impl Serializer for Measurer {
     }
 
     #[inline(always)]
-    fn begin_part(&mut self, held: &mut MeasurerCompound) {
-        held.before_current = self.table.len();
-        self.size.begin_part(&mut held.size);
+    fn begin_part(&mut self, compound: &mut MeasurerCompound) {
+        compound.before_current = self.table.len();
+        self.size.begin_part(&mut compound.size);
     }
 
     #[inline(always)]
     fn end_part(
         &mut self,
-        held: &mut MeasurerCompound,
-        part: Result<usize, WalkError>,
-    ) -> Result<(), WalkError>
-        ensures step { (start : Measurer) (kind : Kind) (before : Measurer)
+        compound: &mut MeasurerCompound,
+        part: Result<usize, SizeError>,
+    ) -> Result<(), SizeError>
+        ensures step { (start : Measurer) (kind : CompoundKind) (before : Measurer)
             (ps : List (Option Tree))
-            (p : Option Tree) → measurer_awaits start kind before held.old ps →
-            measurer_permits before p part self.old →
+            (p : Option Tree) → MeasurerAwaits start kind before compound.old ps →
+            MeasurerPermits before p part self.old →
             MatchResult result
-            (λ _. measurer_has start kind self.new held.new (ps ++ (p ∷ [])))
-            (λ e. measurer_has start kind self.new held.new ps × ((rest : List (Option Tree)) →
-            measurer_permits start (whole kind (ps ++ (p ∷ rest))) (Err e) self.new)) }
+            (λ _. MeasurerHas start kind self.new compound.new (ps ++ (p ∷ [])))
+            (λ e. MeasurerHas start kind self.new compound.new ps × ((rest : List (Option Tree)) →
+            MeasurerPermits start (tree_of_parts kind (ps ++ (p ∷ rest))) (Err e) self.new)) }
         ensures refused { IfErr part (λ _. IsErr result) }
     {
-        let answer = held.answer(part);
-        match self.size.end_part(&mut held.size, answer) {
+        let answer = compound.answer(part);
+        match self.size.end_part(&mut compound.size, answer) {
             Ok(()) => {
-                held.before_last = held.before_current;
-                held.parts = held.parts.saturating_add(1);
+                compound.before_last = compound.before_current;
+                compound.parts = compound.parts.saturating_add(1);
                 Ok(())
             }
             Err(e) => {
-                self.table.truncate(held.before_current);
+                self.table.truncate(compound.before_current);
                 Err(e)
             }
         }
     }
 
     #[inline(always)]
-    fn begin_descriptor(&mut self, held: &mut MeasurerCompound) {
-        held.before_current = self.table.len();
-        self.size.begin_descriptor(&mut held.size);
+    fn begin_descriptor(&mut self, compound: &mut MeasurerCompound) {
+        compound.before_current = self.table.len();
+        self.size.begin_descriptor(&mut compound.size);
     }
 
     #[inline(always)]
     fn end_descriptor(
         &mut self,
-        held: &mut MeasurerCompound,
-        part: Result<usize, WalkError>,
-    ) -> Result<(), WalkError>
+        compound: &mut MeasurerCompound,
+        part: Result<usize, SizeError>,
+    ) -> Result<(), SizeError>
         ensures step { (start before : Measurer) (d : Option Tree) →
-            measurer_awaits_descriptor start before held.old →
-            measurer_permits before d part self.old →
+            MeasurerAwaitsDescriptor start before compound.old →
+            MeasurerPermits before d part self.old →
             MatchResult result
             (λ _. (mid : Measurer)
-            × (measurer_has mid Kind.Single self.new held.new []
-            × ((t : Option Tree) (r : Result ℕ WalkError) (after : Measurer) →
-            measurer_permits mid t r after →
-            measurer_permits start (as_described (descriptor_of d) t) r after)))
-            (λ e. measurer_has start Kind.Single self.new held.new [] × ((t : Option Tree) →
-            measurer_permits start (as_described (descriptor_of d) t) (Err e) self.new)) }
+            × (MeasurerHas mid CompoundKind.Single self.new compound.new []
+            × ((t : Option Tree) (r : Result ℕ SizeError) (after : Measurer) →
+            MeasurerPermits mid t r after →
+            MeasurerPermits start (as_described (descriptor_of d) t) r after)))
+            (λ e. MeasurerHas start CompoundKind.Single self.new compound.new [] × ((t : Option Tree) →
+            MeasurerPermits start (as_described (descriptor_of d) t) (Err e) self.new)) }
         ensures refused { IfErr part (λ _. IsErr result) }
         ensures other_kinds { (start before : Measurer) (d : Option Tree) →
-            measurer_awaits_descriptor start before held.old →
-            measurer_permits before d part self.old → descriptor_of d ≡ None → IsErr result }
+            MeasurerAwaitsDescriptor start before compound.old →
+            MeasurerPermits before d part self.old → descriptor_of d ≡ None → IsErr result }
     {
-        match self.size.end_descriptor(&mut held.size, part) {
+        match self.size.end_descriptor(&mut compound.size, part) {
             Ok(()) => Ok(()),
             Err(e) => {
-                let len = held.before_current;
+                let len = compound.before_current;
                 self.table.truncate(len);
                 Err(e)
             }
@@ -269,25 +269,25 @@ impl Serializer for Measurer {
     }
 
     #[inline(always)]
-    fn undo_part(&mut self, held: &mut MeasurerCompound) {
-        self.size.undo_part(&mut held.size);
-        self.table.truncate(held.before_last);
-        held.parts = held.parts.saturating_sub(1);
+    fn undo_part(&mut self, compound: &mut MeasurerCompound) {
+        self.size.undo_part(&mut compound.size);
+        self.table.truncate(compound.before_last);
+        compound.parts = compound.parts.saturating_sub(1);
     }
 
     #[inline(always)]
-    fn misuse(&mut self, held: &mut MeasurerCompound) -> WalkError {
-        self.size.misuse(&mut held.size)
+    fn misuse_error(&mut self, compound: &mut MeasurerCompound) -> SizeError {
+        self.size.misuse_error(&mut compound.size)
     }
 
     #[inline(always)]
-    fn end(&mut self, held: MeasurerCompound) -> Result<usize, WalkError>
-        ensures answered { (start : Measurer) (kind : Kind) (ps : List (Option Tree)) →
-            measurer_has start kind self.old held ps → complete kind ps ≡ true →
-            measurer_permits start (whole kind ps) result self.new }
-        ensures no_tree { (start : Measurer) (kind : Kind) (ps : List (Option Tree)) →
-            measurer_has start kind self.old held ps → complete kind ps ≡ true →
-            meant start.size.pending (whole kind ps) ≡ None → result ≡ Err TooLong → ⊥ }
+    fn end(&mut self, compound: MeasurerCompound) -> Result<usize, SizeError>
+        ensures answered { (start : Measurer) (kind : CompoundKind) (ps : List (Option Tree)) →
+            MeasurerHas start kind self.old compound ps → complete kind ps ≡ true →
+            MeasurerPermits start (tree_of_parts kind ps) result self.new }
+        ensures no_tree { (start : Measurer) (kind : CompoundKind) (ps : List (Option Tree)) →
+            MeasurerHas start kind self.old compound ps → complete kind ps ≡ true →
+            meant start.size.context (tree_of_parts kind ps) ≡ None → result ≡ Err TooLong → ⊥ }
     {
         let MeasurerCompound {
             size,
@@ -296,11 +296,11 @@ impl Serializer for Measurer {
             before_current: _,
             before_last: _,
             parts,
-        } = held;
+        } = compound;
         if missed {
-            return Err(WalkError::OutOfMemory);
+            return Err(SizeError::OutOfMemory);
         }
-        let shape = size.shape();
+        let resolved_kind = size.resolved_kind();
         // The constructor of an array is known only after its first element: `end_part` of the size
         // serializer stores it in `size`. Therefore the header is filled in here.
         let header = Header {
@@ -309,7 +309,7 @@ impl Serializer for Measurer {
             constructor: size.constructor(),
         };
         let len = self.size.end(size)?;
-        self.table.fill(at, shape, header);
+        self.table.fill(at, resolved_kind, header);
         Ok(len)
     }
 }

@@ -8,7 +8,7 @@ use crate::header::Header;
 use crate::output::Output;
 use amqp_data::EncodingCodes;
 use amqp_ser::Fixed;
-use amqp_size::{Shape, WalkError};
+use amqp_size::{ResolvedKind, SizeError};
 
 /// The kind of a header, which determines its format codes.
 #[derive(Clone, Copy, Debug)]
@@ -32,7 +32,7 @@ impl Output {
     /// Appends a code, a size and a count: `short` with one byte each if both fit, otherwise `long`
     /// with four bytes each.
     #[inline(always)]
-    fn put_counted(&mut self, short: u8, long: u8, len: u32, count: u32) -> Result<(), WalkError>
+    fn put_counted(&mut self, short: u8, long: u8, len: u32, count: u32) -> Result<(), SizeError>
         ensures kept { Kept self.old self.new }
         ensures taken { self.new.taken ≡ self.old.taken }
         ensures written { len ≤ 4294967291 →
@@ -53,7 +53,7 @@ impl Output {
         header_kind: HeaderKind,
         len: u32,
         count: u32,
-    ) -> Result<(), WalkError>
+    ) -> Result<(), SizeError>
         ensures kept { Kept self.old self.new }
         ensures taken { self.new.taken ≡ self.old.taken }
         ensures written { len ≤ 4294967291 →
@@ -94,7 +94,7 @@ impl Output {
         header_kind: HeaderKind,
         len: u32,
         count: u32,
-    ) -> Result<(), WalkError>
+    ) -> Result<(), SizeError>
         ensures kept { Kept self.old self.new }
         ensures taken { self.new.taken ≡ self.old.taken }
         ensures written { len ≤ 4294967291 →
@@ -116,7 +116,7 @@ impl Output {
         &mut self,
         in_array: bool,
         header_kind: HeaderKind,
-    ) -> Result<Option<u8>, WalkError>
+    ) -> Result<Option<u8>, SizeError>
         ensures kept { Kept self.old self.new }
         ensures written { (h : Header) (rest : List Header) →
             drop self.old.taken self.old.table.items ≡ h ∷ rest → small h →
@@ -129,7 +129,7 @@ impl Output {
             (header_bytes in_array header_kind h)) }
     {
         match self.next() {
-            None => Err(WalkError::InvalidValue),
+            None => Err(SizeError::InvalidValue),
             Some(header) => {
                 self.put_header(in_array, header_kind, header.len, header.count)?;
                 Ok(header.constructor)
@@ -139,7 +139,7 @@ impl Output {
 
     /// Opens a list or a map.
     #[inline(always)]
-    fn open_plain(&mut self, in_array: bool, header_kind: HeaderKind) -> Result<(), WalkError>
+    fn open_plain(&mut self, in_array: bool, header_kind: HeaderKind) -> Result<(), SizeError>
         ensures kept { Kept self.old self.new }
         ensures opened { (h : Header) (rest : List Header) →
             drop self.old.taken self.old.table.items ≡ h ∷ rest → small h →
@@ -152,7 +152,7 @@ impl Output {
     }
 
     /// Opens a variant with one value.
-    fn open_newtype_variant(&mut self, in_array: bool, index: u32) -> Result<(), WalkError>
+    fn open_newtype_variant(&mut self, in_array: bool, index: u32) -> Result<(), SizeError>
         ensures kept { Kept self.old self.new }
         ensures opened { (h : Header) (rest : List Header) →
             drop self.old.taken self.old.table.items ≡ h ∷ rest → small h →
@@ -167,7 +167,7 @@ impl Output {
     }
 
     /// Opens a variant with a list of fields.
-    fn open_variant(&mut self, in_array: bool, index: u32) -> Result<(), WalkError>
+    fn open_variant(&mut self, in_array: bool, index: u32) -> Result<(), SizeError>
         ensures kept { Kept self.old self.new }
         ensures opened { (h g : Header) (rest : List Header) →
             drop self.old.taken self.old.table.items ≡ h ∷ (g ∷ rest) → small h → small g →
@@ -184,7 +184,7 @@ impl Output {
 
     /// Opens an array.
     #[inline(always)]
-    fn open_array(&mut self, in_array: bool) -> Result<(), WalkError>
+    fn open_array(&mut self, in_array: bool) -> Result<(), SizeError>
         ensures kept { Kept self.old self.new }
         ensures opened { (h : Header) (rest : List Header) →
             drop self.old.taken self.old.table.items ≡ h ∷ rest → small h →
@@ -202,23 +202,23 @@ impl Output {
     /// Opens a compound: appends the bytes before its parts.
     ///
     /// # Errors
-    /// Returns `InvalidValue` for `Shape::Single` and `Shape::Refused`, and if the table has no
+    /// Returns `InvalidValue` for `ResolvedKind::Single` and `ResolvedKind::Refused`, and if the table has no
     /// header left. Returns `TooLong` if the remaining capacity is too small.
     #[inline(never)]
-    pub fn open(&mut self, in_array: bool, shape: Shape) -> Result<(), WalkError>
+    pub fn open(&mut self, in_array: bool, resolved_kind: ResolvedKind) -> Result<(), SizeError>
         ensures kept { Kept self.old self.new }
-        ensures opened { (ts : Trees) → PartsFitOutput in_array shape self.old ts →
-            opens in_array shape self.old (compound_headers shape ts) result self.new }
-        ensures none { shape ≡ Shape.Refused → is_err result ≡ true }
+        ensures opened { (ts : Trees) → PartsFitOutput in_array resolved_kind self.old ts →
+            opens in_array resolved_kind self.old (compound_headers resolved_kind ts) result self.new }
+        ensures none { resolved_kind ≡ ResolvedKind.Refused → is_err result ≡ true }
     {
-        match shape {
-            Shape::Refused | Shape::Single => Err(WalkError::InvalidValue),
-            Shape::Transparent => Ok(()),
-            Shape::List => self.open_plain(in_array, HeaderKind::List),
-            Shape::Map => self.open_plain(in_array, HeaderKind::Map),
-            Shape::NewtypeVariant(index) => self.open_newtype_variant(in_array, index),
-            Shape::Variant(index) => self.open_variant(in_array, index),
-            Shape::Array => self.open_array(in_array),
+        match resolved_kind {
+            ResolvedKind::Refused | ResolvedKind::Single => Err(SizeError::InvalidValue),
+            ResolvedKind::Transparent => Ok(()),
+            ResolvedKind::List => self.open_plain(in_array, HeaderKind::List),
+            ResolvedKind::Map => self.open_plain(in_array, HeaderKind::Map),
+            ResolvedKind::NewtypeVariant(index) => self.open_newtype_variant(in_array, index),
+            ResolvedKind::Variant(index) => self.open_variant(in_array, index),
+            ResolvedKind::Array => self.open_array(in_array),
         }
     }
 }

@@ -6,7 +6,7 @@ ghost use Rattle.std.specs.Vec.{vec_capacity};
 use crate::header::Header;
 use amqp_data::EncodingCodes;
 use amqp_ser::Fixed;
-use amqp_size::{Form, WalkError};
+use amqp_size::{ScalarEncoding, SizeError};
 
 /// A position in an output.
 #[derive(Clone, Copy, Debug)]
@@ -31,7 +31,7 @@ impl Output {
     ghost use Rattle.amqp_ser.specs.Fixed.{fixed_scalar};
     ghost use Rattle.amqp_ser.specs.Scalars.{scalar_form, scalar_payload};
     ghost use Rattle.amqp_size.specs.Width.{text_at};
-    ghost use Rattle.amqp_size.specs.Form.{form_bytes, form_payload};
+    ghost use Rattle.amqp_size.specs.ScalarEncoding.{form_bytes, form_payload};
 
     /// Creates an output that has consumed no header and appends to `out`.
     #[inline(always)]
@@ -121,18 +121,18 @@ impl Output {
     /// # Errors
     /// Returns `TooLong` if the remaining capacity is too small.
     #[inline(always)]
-    pub fn put(&mut self, bytes: &[u8]) -> Result<(), WalkError>
+    pub fn put(&mut self, bytes: &[u8]) -> Result<(), SizeError>
         ensures kept { Kept self.old self.new }
         ensures taken { self.new.taken ≡ self.old.taken }
         ensures written { puts self.old bytes.now result self.new }
-        ensures full { IfErr result (λ e. e ≡ WalkError.TooLong) }
+        ensures full { IfErr result (λ e. e ≡ SizeError.TooLong) }
     {
         if bytes.len() > self.out.capacity() - self.out.len() {
-            return Err(WalkError::TooLong);
+            return Err(SizeError::TooLong);
         }
         match self.out.extend_from_slice(bytes) {
             Ok(()) => Ok(()),
-            Err(_) => Err(WalkError::TooLong),
+            Err(_) => Err(SizeError::TooLong),
         }
     }
 
@@ -141,14 +141,14 @@ impl Output {
     /// # Errors
     /// Returns `TooLong` if the remaining capacity is too small.
     #[inline(always)]
-    pub fn put_few(&mut self, bytes: &[u8]) -> Result<(), WalkError>
+    pub fn put_few(&mut self, bytes: &[u8]) -> Result<(), SizeError>
         ensures kept { Kept self.old self.new }
         ensures taken { self.new.taken ≡ self.old.taken }
         ensures written { puts self.old bytes.now result self.new }
-        ensures full { IfErr result (λ e. e ≡ WalkError.TooLong) }
+        ensures full { IfErr result (λ e. e ≡ SizeError.TooLong) }
     {
         if bytes.len() > self.out.capacity() - self.out.len() {
-            return Err(WalkError::TooLong);
+            return Err(SizeError::TooLong);
         }
         for byte in bytes {
             self.out.push_reserved(*byte);
@@ -158,12 +158,12 @@ impl Output {
 
     /// Appends the code and the bytes of a form.
     #[inline(always)]
-    fn put_form(&mut self, form: Form) -> Result<(), WalkError>
+    fn put_form(&mut self, form: ScalarEncoding) -> Result<(), SizeError>
         requires { form.width ≤ 8 }
         ensures kept { Kept self.old self.new }
         ensures taken { self.new.taken ≡ self.old.taken }
         ensures written { puts self.old (form_bytes form) result self.new }
-        ensures full { IfErr result (λ e. e ≡ WalkError.TooLong) }
+        ensures full { IfErr result (λ e. e ≡ SizeError.TooLong) }
     {
         let [a, b, c, d, e, f, g, h] = form.bits.to_be_bytes();
         match form.width {
@@ -181,12 +181,12 @@ impl Output {
 
     /// Appends the bytes of a form, without its code.
     #[inline(always)]
-    fn put_payload(&mut self, form: Form) -> Result<(), WalkError>
+    fn put_payload(&mut self, form: ScalarEncoding) -> Result<(), SizeError>
         requires { form.width ≤ 8 }
         ensures kept { Kept self.old self.new }
         ensures taken { self.new.taken ≡ self.old.taken }
         ensures written { puts self.old (form_payload form) result self.new }
-        ensures full { IfErr result (λ e. e ≡ WalkError.TooLong) }
+        ensures full { IfErr result (λ e. e ≡ SizeError.TooLong) }
     {
         let [a, b, c, d, e, f, g, h] = form.bits.to_be_bytes();
         match form.width {
@@ -201,12 +201,12 @@ impl Output {
 
     /// Like `put_payload`, for any width up to 8.
     #[inline(never)]
-    fn put_bits(&mut self, form: Form) -> Result<(), WalkError>
+    fn put_bits(&mut self, form: ScalarEncoding) -> Result<(), SizeError>
         requires { form.width ≤ 8 }
         ensures kept { Kept self.old self.new }
         ensures taken { self.new.taken ≡ self.old.taken }
         ensures written { puts self.old (form_payload form) result self.new }
-        ensures full { IfErr result (λ e. e ≡ WalkError.TooLong) }
+        ensures full { IfErr result (λ e. e ≡ SizeError.TooLong) }
     {
         let bytes = form.bits.to_be_bytes();
         self.put(&bytes[8 - form.width..])
@@ -220,30 +220,30 @@ impl Output {
     /// # Example
     /// `Fixed::Uint(0)` is `43`, and `00000000` in an array.
     #[inline(always)]
-    pub fn put_fixed(&mut self, in_array: bool, fixed: Fixed) -> Result<(), WalkError>
+    pub fn put_fixed(&mut self, in_array: bool, fixed: Fixed) -> Result<(), SizeError>
         ensures kept { Kept self.old self.new }
         ensures taken { self.new.taken ≡ self.old.taken }
         ensures written { puts self.old
             (pick in_array (scalar_form (fixed_scalar fixed)) (scalar_payload (fixed_scalar fixed)))
             result self.new }
-        ensures full { IfErr result (λ e. e ≡ WalkError.TooLong) }
+        ensures full { IfErr result (λ e. e ≡ SizeError.TooLong) }
     {
         if in_array {
-            self.put_payload(Form::in_array(fixed))
+            self.put_payload(ScalarEncoding::in_array(fixed))
         } else {
-            self.put_form(Form::ordinary(fixed))
+            self.put_form(ScalarEncoding::ordinary(fixed))
         }
     }
 
     /// Appends the length of a text or a binary of `n` bytes. Outside an array, the code is `short`
     /// before a length of one byte, and `long` before a length of four bytes.
     #[inline(always)]
-    fn put_length(&mut self, in_array: bool, short: u8, long: u8, n: usize) -> Result<(), WalkError>
+    fn put_length(&mut self, in_array: bool, short: u8, long: u8, n: usize) -> Result<(), SizeError>
         requires { n ≤ 4294967291 }
         ensures kept { Kept self.old self.new }
         ensures taken { self.new.taken ≡ self.old.taken }
         ensures written { puts self.old (text_header in_array short long n) result self.new }
-        ensures full { IfErr result (λ e. e ≡ WalkError.TooLong) }
+        ensures full { IfErr result (λ e. e ≡ SizeError.TooLong) }
     {
         let [a, b, c, d] = (n as u32).to_be_bytes();
         if in_array {
@@ -264,11 +264,11 @@ impl Output {
     /// # Example
     /// `40`, and no byte in an array.
     #[inline(always)]
-    pub fn put_null(&mut self, in_array: bool) -> Result<(), WalkError>
+    pub fn put_null(&mut self, in_array: bool) -> Result<(), SizeError>
         ensures kept { Kept self.old self.new }
         ensures taken { self.new.taken ≡ self.old.taken }
         ensures written { puts self.old (pick in_array (0x40 ∷ []) []) result self.new }
-        ensures full { IfErr result (λ e. e ≡ WalkError.TooLong) }
+        ensures full { IfErr result (λ e. e ≡ SizeError.TooLong) }
     {
         if in_array {
             return Ok(());
@@ -291,12 +291,12 @@ impl Output {
         short: u8,
         long: u8,
         bytes: &[u8],
-    ) -> Result<(), WalkError>
+    ) -> Result<(), SizeError>
         requires { length bytes.now ≤ 4294967291 }
         ensures kept { Kept self.old self.new }
         ensures taken { self.new.taken ≡ self.old.taken }
         ensures written { puts self.old (text_at in_array short long bytes.now) result self.new }
-        ensures full { IfErr result (λ e. e ≡ WalkError.TooLong) }
+        ensures full { IfErr result (λ e. e ≡ SizeError.TooLong) }
     {
         self.put_length(in_array, short, long, bytes.len())?;
         self.put(bytes)
@@ -310,12 +310,12 @@ impl Output {
     /// # Example
     /// The code `74` and 01, 02, 03, 04 are `7401020304`, and `01020304` in an array.
     #[inline(always)]
-    pub fn put_exact(&mut self, in_array: bool, code: u8, bytes: &[u8]) -> Result<(), WalkError>
+    pub fn put_exact(&mut self, in_array: bool, code: u8, bytes: &[u8]) -> Result<(), SizeError>
         ensures kept { Kept self.old self.new }
         ensures taken { self.new.taken ≡ self.old.taken }
         ensures written { puts self.old (pick in_array (code ∷ bytes.now) bytes.now) result
             self.new }
-        ensures full { IfErr result (λ e. e ≡ WalkError.TooLong) }
+        ensures full { IfErr result (λ e. e ≡ SizeError.TooLong) }
     {
         if !in_array {
             self.put_few(&[code])?;

@@ -9,33 +9,33 @@ ghost use Rattle.amqp_ser.specs.Writable.{within_limits};
 ghost use Rattle.amqp_size.specs.Position.{without_prefix};
 ghost use Rattle.amqp_size.specs.State.{position_at};
 ghost use Rattle.amqp_size.specs.Width.{text_at};
-ghost use Rattle.amqp_size.specs.WholePending.{Plain};
+ghost use Rattle.amqp_size.specs.WholeContext.{Plain};
 ghost use Rattle.amqp_wire.specs.HeaderBytes.{pick, bytes_at};
-ghost use Rattle.amqp_wire.specs.Writer.{Kept, accepts, writes_tree};
+ghost use Rattle.amqp_wire.specs.Writer.{Kept, IsAccepted, WritesTree};
 
-use crate::position::{is_element, pending_after};
+use crate::next_context::{is_element, context_after};
 use crate::writer::Writer;
 use amqp_data::EncodingCodes;
 use amqp_ser::Fixed;
-use amqp_size::width::LONGEST;
-use amqp_size::{Form, Position, WalkError};
+use amqp_size::width::MAX_LEN;
+use amqp_size::{ScalarEncoding, Position, SizeError};
 
 impl Writer {
     /// Writes a value of fixed width.
     #[inline(always)]
-    pub(crate) fn fixed(&mut self, position: Position, fixed: Fixed) -> Result<(), WalkError>
+    pub(crate) fn fixed(&mut self, position: Position, fixed: Fixed) -> Result<(), SizeError>
         ensures kept { Kept self.old.output self.new.output }
-        ensures accepted { self.old.pending ≡ Plain (without_prefix (position_at position 0)) →
-            accepts (position_at position 0) (Some (scalar (fixed_scalar fixed))) result
-            self.new.pending }
-        ensures written { writes_tree (position_at position 0) self.old.output
+        ensures accepted { self.old.context ≡ Plain (without_prefix (position_at position 0)) →
+            IsAccepted (position_at position 0) (Some (scalar (fixed_scalar fixed))) result
+            self.new.context }
+        ensures written { WritesTree (position_at position 0) self.old.output
             (Some (scalar (fixed_scalar fixed))) result self.new.output }
     {
-        match pending_after(position, Form::in_array(fixed).code) {
+        match context_after(position, ScalarEncoding::in_array(fixed).code) {
             Ok(after) => {
                 let put = self.output.put_fixed(is_element(position), fixed);
                 self.spoil_unless_put(put);
-                self.pending = after;
+                self.context = after;
                 Ok(())
             }
             Err(e) => Err(e),
@@ -44,18 +44,18 @@ impl Writer {
 
     /// Writes null.
     #[inline(always)]
-    pub(crate) fn null(&mut self, position: Position) -> Result<(), WalkError>
+    pub(crate) fn null(&mut self, position: Position) -> Result<(), SizeError>
         ensures kept { Kept self.old.output self.new.output }
-        ensures accepted { self.old.pending ≡ Plain (without_prefix (position_at position 0)) →
-            accepts (position_at position 0) (Some (scalar null)) result self.new.pending }
-        ensures written { writes_tree (position_at position 0) self.old.output (Some (scalar null))
+        ensures accepted { self.old.context ≡ Plain (without_prefix (position_at position 0)) →
+            IsAccepted (position_at position 0) (Some (scalar null)) result self.new.context }
+        ensures written { WritesTree (position_at position 0) self.old.output (Some (scalar null))
             result self.new.output }
     {
-        match pending_after(position, EncodingCodes::Null as u8) {
+        match context_after(position, EncodingCodes::Null as u8) {
             Ok(after) => {
                 let put = self.output.put_null(is_element(position));
                 self.spoil_unless_put(put);
-                self.pending = after;
+                self.context = after;
                 Ok(())
             }
             Err(e) => Err(e),
@@ -70,27 +70,27 @@ impl Writer {
         short: u8,
         long: u8,
         bytes: &[u8],
-    ) -> Result<(), WalkError>
+    ) -> Result<(), SizeError>
         ensures kept { Kept self.old.output self.new.output }
-        ensures accepted { self.old.pending ≡ Plain (without_prefix (position_at position 0)) →
+        ensures accepted { self.old.context ≡ Plain (without_prefix (position_at position 0)) →
             (s : Scalar) → scalar_code s ≡ long →
             within_limits (scalar s) ≡ fits (length bytes.now) →
-            accepts (position_at position 0) (Some (scalar s)) result self.new.pending }
+            IsAccepted (position_at position 0) (Some (scalar s)) result self.new.context }
         ensures written { (s : Scalar) →
             ((a : Bool) → bytes_at a (scalar s) ≡ text_at a short long bytes.now) →
-            writes_tree (position_at position 0) self.old.output (Some (scalar s)) result
+            WritesTree (position_at position 0) self.old.output (Some (scalar s)) result
             self.new.output }
     {
-        if bytes.len() > LONGEST {
-            return Err(WalkError::TooLong);
+        if bytes.len() > MAX_LEN {
+            return Err(SizeError::TooLong);
         }
-        match pending_after(position, long) {
+        match context_after(position, long) {
             Ok(after) => {
                 let put = self
                     .output
                     .put_text(is_element(position), short, long, bytes);
                 self.spoil_unless_put(put);
-                self.pending = after;
+                self.context = after;
                 Ok(())
             }
             Err(e) => Err(e),
@@ -104,21 +104,21 @@ impl Writer {
         position: Position,
         code: u8,
         bytes: &[u8],
-    ) -> Result<(), WalkError>
+    ) -> Result<(), SizeError>
         ensures kept { Kept self.old.output self.new.output }
-        ensures accepted { self.old.pending ≡ Plain (without_prefix (position_at position 0)) →
+        ensures accepted { self.old.context ≡ Plain (without_prefix (position_at position 0)) →
             (s : Scalar) → scalar_code s ≡ code →
-            accepts (position_at position 0) (Some (scalar s)) result self.new.pending }
+            IsAccepted (position_at position 0) (Some (scalar s)) result self.new.context }
         ensures written { (s : Scalar) →
             ((a : Bool) → bytes_at a (scalar s) ≡ pick a (code ∷ bytes.now) bytes.now) →
-            writes_tree (position_at position 0) self.old.output (Some (scalar s)) result
+            WritesTree (position_at position 0) self.old.output (Some (scalar s)) result
             self.new.output }
     {
-        match pending_after(position, code) {
+        match context_after(position, code) {
             Ok(after) => {
                 let put = self.output.put_exact(is_element(position), code, bytes);
                 self.spoil_unless_put(put);
-                self.pending = after;
+                self.context = after;
                 Ok(())
             }
             Err(e) => Err(e),
@@ -127,17 +127,17 @@ impl Writer {
 
     /// Writes an encoded value unchanged.
     #[inline(never)]
-    pub(crate) fn lazy(&mut self, position: Position, bytes: &[u8]) -> Result<(), WalkError>
+    pub(crate) fn lazy(&mut self, position: Position, bytes: &[u8]) -> Result<(), SizeError>
         ensures kept { Kept self.old.output self.new.output }
-        ensures accepted { self.old.pending ≡ Plain (without_prefix (position_at position 0)) →
-            accepts (position_at position 0) (Some (lazy bytes.now)) result self.new.pending }
-        ensures written { writes_tree (position_at position 0) self.old.output
+        ensures accepted { self.old.context ≡ Plain (without_prefix (position_at position 0)) →
+            IsAccepted (position_at position 0) (Some (lazy bytes.now)) result self.new.context }
+        ensures written { WritesTree (position_at position 0) self.old.output
             (Some (lazy bytes.now)) result self.new.output }
     {
         match position {
-            Position::Root | Position::Inside => {}
+            Position::Root | Position::InCompound => {}
             Position::Value(base) if base.takes_described() => {}
-            _ => return Err(WalkError::InvalidValue),
+            _ => return Err(SizeError::InvalidValue),
         }
         let put = self.output.put(bytes);
         self.spoil_unless_put(put);

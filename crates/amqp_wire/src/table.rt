@@ -3,7 +3,7 @@
 ghost use Rattle.std.specs.Prelude.{◌≡◌, ◌+◌, ◌≤◌, ◌++◌, ◌∷◌, ◌||◌, [], false, length, take, slice_set};
 
 use crate::header::Header;
-use amqp_size::Shape;
+use amqp_size::ResolvedKind;
 use amqp_size::width::{list_width, uint_width};
 use std::alloc::Global;
 
@@ -27,7 +27,7 @@ fn narrow(n: usize) -> u32
 }
 
 impl Table {
-    ghost use Rattle.amqp_wire.specs.TreeHeaders.{header_count, headers_from, headers_fit};
+    ghost use Rattle.amqp_wire.specs.TreeHeaders.{header_count, headers_from, HeadersFit};
     ghost use Rattle.amqp_wire.specs.Measurer.{appended, fills};
 
     /// Creates an empty table.
@@ -101,15 +101,15 @@ impl Table {
 
     /// Appends the slots of a compound, and returns whether an allocation failed.
     #[inline(always)]
-    pub fn open(&mut self, shape: Shape) -> bool
-        ensures appended { appended (header_count shape) self.old.headers.items result
+    pub fn open(&mut self, resolved_kind: ResolvedKind) -> bool
+        ensures appended { appended (header_count resolved_kind) self.old.headers.items result
             self.new.headers.items }
-        ensures none { header_count shape ≡ 0 → self.new.headers.items ≡ self.old.headers.items }
+        ensures none { header_count resolved_kind ≡ 0 → self.new.headers.items ≡ self.old.headers.items }
         ensures refused { self.new.refused ≡ (self.old.refused || result) }
     {
-        match shape {
-            Shape::Refused | Shape::Transparent | Shape::Single => false,
-            Shape::Variant(_) => {
+        match resolved_kind {
+            ResolvedKind::Refused | ResolvedKind::Transparent | ResolvedKind::Single => false,
+            ResolvedKind::Variant(_) => {
                 if self.append() {
                     return true;
                 }
@@ -134,17 +134,17 @@ impl Table {
 
     /// Stores the headers of a compound in its slots. `header` is the header of its parts.
     #[inline(always)]
-    pub fn fill(&mut self, at: usize, shape: Shape, header: Header)
+    pub fn fill(&mut self, at: usize, resolved_kind: ResolvedKind, header: Header)
         requires { header.len ≤ 4294967291 }
-        ensures filled { headers_fit shape header.len →
-            at + header_count shape ≤ length self.old.headers.items →
-            self.new.headers.items ≡ fills (headers_from shape header) at self.old.headers.items }
-        ensures none { header_count shape ≡ 0 → self.new.headers.items ≡ self.old.headers.items }
+        ensures filled { HeadersFit resolved_kind header.len →
+            at + header_count resolved_kind ≤ length self.old.headers.items →
+            self.new.headers.items ≡ fills (headers_from resolved_kind header) at self.old.headers.items }
+        ensures none { header_count resolved_kind ≡ 0 → self.new.headers.items ≡ self.old.headers.items }
         ensures refused { self.new.refused ≡ self.old.refused }
     {
-        match shape {
-            Shape::Refused | Shape::Transparent | Shape::Single => {}
-            Shape::NewtypeVariant(index) => self.put(
+        match resolved_kind {
+            ResolvedKind::Refused | ResolvedKind::Transparent | ResolvedKind::Single => {}
+            ResolvedKind::NewtypeVariant(index) => self.put(
                 at,
                 Header {
                     len: narrow(uint_width(index) + header.len as usize),
@@ -152,7 +152,7 @@ impl Table {
                     constructor: None,
                 },
             ),
-            Shape::Variant(index) => {
+            ResolvedKind::Variant(index) => {
                 self.put(
                     at,
                     Header {

@@ -10,12 +10,12 @@ ghost use Rattle.amqp_ser.specs.Tree.{Tree};
 
 use crate::header::Header;
 use crate::output::{Checkpoint, Output};
-use crate::position::{after_descriptor, inner_after, is_element};
+use crate::next_context::{after_descriptor, inner_context_after, is_element};
 use crate::writer_compound::WriterCompound;
 use amqp_data::EncodingCodes;
 use amqp_frame::is_frame;
-use amqp_ser::{Fixed, Kind, Mark, Serializer};
-use amqp_size::{Pending, Position, ScalarMark, Shape, WalkError};
+use amqp_ser::{Fixed, CompoundKind, Marker, Serializer};
+use amqp_size::{Context, Position, ScalarMarker, ResolvedKind, SizeError};
 use std::marker::Model;
 
 /// A serializer that writes into a buffer whose capacity is allocated in advance, with the headers
@@ -26,18 +26,18 @@ use std::marker::Model;
 #[derive(Drop)]
 pub struct Writer {
     /// Position of the next value. The constructor of an array's first element is stored here
-    /// (`pending_after`), and `end_part` reads it; no result contains it.
-    pub(crate) pending: Pending,
+    /// (`context_after`), and `end_part` reads it; no result contains it.
+    pub(crate) context: Context,
     pub(crate) output: Output,
 }
 
 impl Model for Writer {
-    ghost use Rattle.amqp_size.specs.State.{pending_at};
+    ghost use Rattle.amqp_size.specs.State.{context_at};
     ghost use Rattle.amqp_wire.specs.State.{WriterState};
 
     ghost Value = { WriterState };
 
-    ghost view = { λ w. record { pending = pending_at w.pending 0; output = w.output } };
+    ghost view = { λ w. record { context = context_at w.context 0; output = w.output } };
 }
 
 impl Writer {
@@ -45,7 +45,7 @@ impl Writer {
     ghost use Rattle.std.specs.Vec.{vec_capacity};
     ghost use Rattle.amqp_ser.specs.Tree.{Trees};
     ghost use Rattle.amqp_size.specs.State.{position_at};
-    ghost use Rattle.amqp_size.specs.WholePending.{Plain};
+    ghost use Rattle.amqp_size.specs.WholeContext.{Plain};
     ghost use Rattle.amqp_size.specs.WholePosition.{Root};
     ghost use Rattle.amqp_wire.specs.HeaderBytes.{is_element};
     ghost use Rattle.amqp_wire.specs.TreeHeaders.{compound_headers};
@@ -57,10 +57,10 @@ impl Writer {
         ensures table { result.output.table ≡ table }
         ensures taken { result.output.taken ≡ 0 }
         ensures out { result.output.out ≡ out }
-        ensures pending { result.pending ≡ Plain Root }
+        ensures context { result.context ≡ Plain Root }
     {
         Writer {
-            pending: Pending::Plain(Position::Root),
+            context: Context::Plain(Position::Root),
             output: Output::new(table, out),
         }
     }
@@ -70,7 +70,7 @@ impl Writer {
     pub fn into_bytes(self) -> Vec<u8>
         ensures { result ≡ self.output.out }
     {
-        let Writer { pending: _, output } = self;
+        let Writer { context: _, output } = self;
         output.into_bytes()
     }
 
@@ -84,10 +84,10 @@ impl Writer {
 
     /// Invalidates the output if `put` is an error: what is written is then discarded.
     #[inline(always)]
-    pub(crate) fn spoil_unless_put(&mut self, put: Result<(), WalkError>)
+    pub(crate) fn spoil_unless_put(&mut self, put: Result<(), SizeError>)
         ensures kept { Kept self.old.output self.new.output }
-        ensures pending { self.new.pending ≡ self.old.pending }
-        ensures whole { is_err put ≡ false → self.new.output ≡ self.old.output }
+        ensures context { self.new.context ≡ self.old.context }
+        ensures tree_of_parts { is_err put ≡ false → self.new.output ≡ self.old.output }
     {
         if put.is_err() {
             self.output.spoil();
@@ -96,15 +96,15 @@ impl Writer {
 
     /// Writes the bytes before the parts of a compound.
     #[inline(always)]
-    pub(crate) fn open(&mut self, position: Position, shape: Shape)
+    pub(crate) fn open(&mut self, position: Position, resolved_kind: ResolvedKind)
         ensures kept { Kept self.old.output self.new.output }
-        ensures pending { self.new.pending ≡ self.old.pending }
+        ensures context { self.new.context ≡ self.old.context }
         ensures opened { (ts : Trees) →
-            PartsFitOutput (is_element (position_at position 0)) shape self.old.output ts →
-            opens (is_element (position_at position 0)) shape self.old.output
-            (compound_headers shape ts) (Ok tt) self.new.output }
+            PartsFitOutput (is_element (position_at position 0)) resolved_kind self.old.output ts →
+            opens (is_element (position_at position 0)) resolved_kind self.old.output
+            (compound_headers resolved_kind ts) (Ok tt) self.new.output }
     {
-        let put = self.output.open(is_element(position), shape);
+        let put = self.output.open(is_element(position), resolved_kind);
         self.spoil_unless_put(put);
     }
 
@@ -112,7 +112,7 @@ impl Writer {
     #[inline(always)]
     pub(crate) fn put_described(&mut self)
         ensures kept { Kept self.old.output self.new.output }
-        ensures pending { self.new.pending ≡ self.old.pending }
+        ensures context { self.new.context ≡ self.old.context }
         ensures written { length self.old.output.out.items + 1 ≤ vec_capacity self.old.output.out →
             (self.new.output.out.items ≡ self.old.output.out.items ++ (0x00 ∷ []))
             × (self.new.output.taken ≡ self.old.output.taken) }
@@ -123,268 +123,268 @@ impl Writer {
 }
 
 impl Serializer for Writer {
-    ghost use Rattle.amqp_size.specs.declared.walk_error.WalkError.TheVariants.{InvalidValue};
-    ghost use Rattle.amqp_wire.specs.Writer.{writer_permits, writer_has, writer_awaits, AwaitsDescriptor, nothing_of_none};
-    ghost use Rattle.amqp_ser.specs.Compounds.{whole};
+    ghost use Rattle.amqp_size.specs.declared.size_error.SizeError.TheVariants.{InvalidValue};
+    ghost use Rattle.amqp_wire.specs.Writer.{WriterPermits, WriterHas, WriterAwaits, AwaitsDescriptor, nothing_of_none};
+    ghost use Rattle.amqp_ser.specs.Compounds.{tree_of_parts};
     ghost use Rattle.amqp_ser.specs.Composites.{as_described, descriptor_of};
-    ghost use Rattle.amqp_ser.specs.declared.kind.Kind.{Kind};
+    ghost use Rattle.amqp_ser.specs.declared.kind.CompoundKind.{CompoundKind};
 
     type Ok = ();
 
-    type Error = WalkError;
+    type Error = SizeError;
 
     type Open = WriterCompound;
 
-    ghost permits = { writer_permits };
+    ghost permits = { WriterPermits };
 
-    ghost has = { writer_has };
+    ghost has = { WriterHas };
 
-    ghost awaits = { writer_awaits };
+    ghost awaits = { WriterAwaits };
 
     ghost awaits_descriptor = { AwaitsDescriptor };
 
-    ghost is_misuse = { λ e. e ≡ InvalidValue };
+    ghost is_misuse_error = { λ e. e ≡ InvalidValue };
 
     ghost refuses_none = { nothing_of_none };
 
     #[inline(always)]
-    fn serialize_fixed(&mut self, fixed: Fixed) -> Result<(), WalkError> {
-        let pending = self.pending;
-        self.reset();
-        match pending {
-            Pending::Plain(position) => self.fixed(position, fixed),
-            Pending::Scalar(position, ScalarMark::Timestamp) => match fixed {
+    fn serialize_fixed(&mut self, fixed: Fixed) -> Result<(), SizeError> {
+        let context = self.context;
+        self.clear_prefix();
+        match context {
+            Context::Plain(position) => self.fixed(position, fixed),
+            Context::Scalar(position, ScalarMarker::Timestamp) => match fixed {
                 Fixed::Long(v) => self.exact(
                     position,
                     EncodingCodes::Timestamp as u8,
                     &v.to_be_bytes(),
                 ),
-                _ => Err(WalkError::InvalidValue),
+                _ => Err(SizeError::InvalidValue),
             },
-            _ => Err(WalkError::InvalidValue),
+            _ => Err(SizeError::InvalidValue),
         }
     }
 
     #[inline(always)]
-    fn serialize_null(&mut self) -> Result<(), WalkError> {
-        let pending = self.pending;
-        self.reset();
-        match pending {
-            Pending::Plain(position) => self.null(position),
-            _ => Err(WalkError::InvalidValue),
+    fn serialize_null(&mut self) -> Result<(), SizeError> {
+        let context = self.context;
+        self.clear_prefix();
+        match context {
+            Context::Plain(position) => self.null(position),
+            _ => Err(SizeError::InvalidValue),
         }
     }
 
     #[inline(always)]
-    fn serialize_str(&mut self, v: &str) -> Result<(), WalkError> {
-        let pending = self.pending;
-        self.reset();
-        match pending {
-            Pending::Plain(position) => self.text(
+    fn serialize_str(&mut self, v: &str) -> Result<(), SizeError> {
+        let context = self.context;
+        self.clear_prefix();
+        match context {
+            Context::Plain(position) => self.text(
                 position,
                 EncodingCodes::Str8 as u8,
                 EncodingCodes::Str32 as u8,
                 v.as_bytes(),
             ),
-            Pending::Scalar(position, ScalarMark::Symbol) => self.text(
+            Context::Scalar(position, ScalarMarker::Symbol) => self.text(
                 position,
                 EncodingCodes::Sym8 as u8,
                 EncodingCodes::Sym32 as u8,
                 v.as_bytes(),
             ),
-            _ => Err(WalkError::InvalidValue),
+            _ => Err(SizeError::InvalidValue),
         }
     }
 
     #[inline(always)]
-    fn serialize_bytes(&mut self, v: &[u8]) -> Result<(), WalkError> {
-        let pending = self.pending;
-        self.reset();
-        match pending {
-            Pending::Plain(position) => self.text(
+    fn serialize_bytes(&mut self, v: &[u8]) -> Result<(), SizeError> {
+        let context = self.context;
+        self.clear_prefix();
+        match context {
+            Context::Plain(position) => self.text(
                 position,
                 EncodingCodes::Vbin8 as u8,
                 EncodingCodes::Vbin32 as u8,
                 v,
             ),
-            Pending::Scalar(position, ScalarMark::Decimal32) if v.len() == 4 => self.exact(
+            Context::Scalar(position, ScalarMarker::Decimal32) if v.len() == 4 => self.exact(
                 position,
                 EncodingCodes::Decimal32 as u8,
                 v,
             ),
-            Pending::Scalar(position, ScalarMark::Decimal64) if v.len() == 8 => self.exact(
+            Context::Scalar(position, ScalarMarker::Decimal64) if v.len() == 8 => self.exact(
                 position,
                 EncodingCodes::Decimal64 as u8,
                 v,
             ),
-            Pending::Scalar(position, ScalarMark::Decimal128) if v.len() == 16 => self.exact(
+            Context::Scalar(position, ScalarMarker::Decimal128) if v.len() == 16 => self.exact(
                 position,
                 EncodingCodes::Decimal128 as u8,
                 v,
             ),
-            Pending::Scalar(position, ScalarMark::Uuid) if v.len() == 16 => self.exact(
+            Context::Scalar(position, ScalarMarker::Uuid) if v.len() == 16 => self.exact(
                 position,
                 EncodingCodes::Uuid as u8,
                 v,
             ),
-            // The same test as in the first pass: `accepts` is required of each call in this pass
+            // The same test as in the first pass: `IsAccepted` is required of each call in this pass
             // too.
-            Pending::Scalar(position, ScalarMark::Lazy) if is_frame(v) => self.lazy(position, v),
-            _ => Err(WalkError::InvalidValue),
+            Context::Scalar(position, ScalarMarker::Lazy) if is_frame(v) => self.lazy(position, v),
+            _ => Err(SizeError::InvalidValue),
         }
     }
 
     #[inline(always)]
-    fn mark(&mut self, mark: Mark) {
-        self.pending = self.pending.marked(mark);
+    fn set_marker(&mut self, marker: Marker) {
+        self.context = self.context.marked(marker);
     }
 
     #[inline(always)]
-    fn begin(&mut self, kind: Kind) -> WriterCompound {
-        let pending = self.pending;
-        let position = pending.position();
-        self.reset();
-        if let Kind::Single = kind {
+    fn begin_compound(&mut self, kind: CompoundKind) -> WriterCompound {
+        let context = self.context;
+        let position = context.position();
+        self.clear_prefix();
+        if let CompoundKind::Single = kind {
             let checkpoint = self.output.checkpoint();
             return WriterCompound {
                 position,
-                shape: Shape::Single,
-                inner: pending,
+                resolved_kind: ResolvedKind::Single,
+                inner_context: context,
                 before_current: checkpoint,
                 before_last: checkpoint,
             };
         }
-        let shape = pending.shape(kind);
-        self.open(position, shape);
+        let resolved_kind = context.resolved_kind(kind);
+        self.open(position, resolved_kind);
         let checkpoint = self.output.checkpoint();
         WriterCompound {
             position,
-            shape,
-            inner: pending.inner(shape),
+            resolved_kind,
+            inner_context: context.inner_context(resolved_kind),
             before_current: checkpoint,
             before_last: checkpoint,
         }
     }
 
     #[inline(always)]
-    fn vacant(&self) -> WriterCompound {
+    fn placeholder(&self) -> WriterCompound {
         let checkpoint = Checkpoint { taken: 0, len: 0 };
         WriterCompound {
             position: Position::Root,
-            shape: Shape::Refused,
-            inner: Pending::Plain(Position::Root),
+            resolved_kind: ResolvedKind::Refused,
+            inner_context: Context::Plain(Position::Root),
             before_current: checkpoint,
             before_last: checkpoint,
         }
     }
 
     #[inline(always)]
-    fn begin_part(&mut self, held: &mut WriterCompound) {
-        held.before_current = self.output.checkpoint();
-        self.pending = held.inner;
+    fn begin_part(&mut self, compound: &mut WriterCompound) {
+        compound.before_current = self.output.checkpoint();
+        self.context = compound.inner_context;
     }
 
     #[inline(always)]
     fn end_part(
         &mut self,
-        held: &mut WriterCompound,
-        part: Result<(), WalkError>,
-    ) -> Result<(), WalkError>
-        ensures step { (start : Writer) (kind : Kind) (before : Writer) (ps : List (Option Tree))
-            (p : Option Tree) → writer_awaits start kind before held.old ps →
-            writer_permits before p part self.old →
+        compound: &mut WriterCompound,
+        part: Result<(), SizeError>,
+    ) -> Result<(), SizeError>
+        ensures step { (start : Writer) (kind : CompoundKind) (before : Writer) (ps : List (Option Tree))
+            (p : Option Tree) → WriterAwaits start kind before compound.old ps →
+            WriterPermits before p part self.old →
             MatchResult result
-            (λ _. writer_has start kind self.new held.new (ps ++ (p ∷ [])))
-            (λ e. writer_has start kind self.new held.new ps × ((rest : List (Option Tree)) →
-            writer_permits start (whole kind (ps ++ (p ∷ rest))) (Err e) self.new)) }
+            (λ _. WriterHas start kind self.new compound.new (ps ++ (p ∷ [])))
+            (λ e. WriterHas start kind self.new compound.new ps × ((rest : List (Option Tree)) →
+            WriterPermits start (tree_of_parts kind (ps ++ (p ∷ rest))) (Err e) self.new)) }
         ensures refused { IfErr part (λ _. IsErr result) }
     {
-        let after = self.pending;
-        self.pending = Pending::Plain(held.position.without_prefix());
+        let after = self.context;
+        self.context = Context::Plain(compound.position.without_prefix());
         match part {
             Ok(()) => {
-                held.inner = inner_after(held.shape, held.inner, after);
-                held.before_last = held.before_current;
+                compound.inner_context = inner_context_after(compound.resolved_kind, compound.inner_context, after);
+                compound.before_last = compound.before_current;
                 Ok(())
             }
             Err(e) => {
-                self.output.restore(held.before_current);
+                self.output.restore(compound.before_current);
                 Err(e)
             }
         }
     }
 
     #[inline(always)]
-    fn begin_descriptor(&mut self, held: &mut WriterCompound) {
-        held.before_current = self.output.checkpoint();
-        self.pending = Pending::Plain(Position::Descriptor);
+    fn begin_descriptor(&mut self, compound: &mut WriterCompound) {
+        compound.before_current = self.output.checkpoint();
+        self.context = Context::Plain(Position::Descriptor);
         self.put_described();
     }
 
     #[inline(always)]
     fn end_descriptor(
         &mut self,
-        held: &mut WriterCompound,
-        part: Result<(), WalkError>,
-    ) -> Result<(), WalkError>
+        compound: &mut WriterCompound,
+        part: Result<(), SizeError>,
+    ) -> Result<(), SizeError>
         ensures step { (start before : Writer) (d : Option Tree) →
-            AwaitsDescriptor start before held.old → writer_permits before d part self.old →
+            AwaitsDescriptor start before compound.old → WriterPermits before d part self.old →
             MatchResult result
             (λ _. (mid : Writer)
-            × (writer_has mid Kind.Single self.new held.new []
-            × ((t : Option Tree) (r : Result (Unit {0}) WalkError) (after : Writer) →
-            writer_permits mid t r after →
-            writer_permits start (as_described (descriptor_of d) t) r after)))
-            (λ e. writer_has start Kind.Single self.new held.new [] × ((t : Option Tree) →
-            writer_permits start (as_described (descriptor_of d) t) (Err e) self.new)) }
+            × (WriterHas mid CompoundKind.Single self.new compound.new []
+            × ((t : Option Tree) (r : Result (Unit {0}) SizeError) (after : Writer) →
+            WriterPermits mid t r after →
+            WriterPermits start (as_described (descriptor_of d) t) r after)))
+            (λ e. WriterHas start CompoundKind.Single self.new compound.new [] × ((t : Option Tree) →
+            WriterPermits start (as_described (descriptor_of d) t) (Err e) self.new)) }
         ensures refused { IfErr part (λ _. IsErr result) }
         ensures other_kinds { (start before : Writer) (d : Option Tree) →
-            AwaitsDescriptor start before held.old → writer_permits before d part self.old →
+            AwaitsDescriptor start before compound.old → WriterPermits before d part self.old →
             descriptor_of d ≡ None → IsErr result }
     {
-        self.pending = Pending::Plain(held.position.without_prefix());
+        self.context = Context::Plain(compound.position.without_prefix());
         match part {
-            Ok(()) => match after_descriptor(held.inner) {
-                Ok(inner) => {
-                    held.inner = inner;
+            Ok(()) => match after_descriptor(compound.inner_context) {
+                Ok(inner_context) => {
+                    compound.inner_context = inner_context;
                     Ok(())
                 }
                 Err(e) => {
-                    self.output.restore(held.before_current);
+                    self.output.restore(compound.before_current);
                     Err(e)
                 }
             },
             Err(e) => {
-                self.output.restore(held.before_current);
+                self.output.restore(compound.before_current);
                 Err(e)
             }
         }
     }
 
     #[inline(always)]
-    fn undo_part(&mut self, held: &mut WriterCompound) {
-        self.output.restore(held.before_last);
+    fn undo_part(&mut self, compound: &mut WriterCompound) {
+        self.output.restore(compound.before_last);
     }
 
     #[inline(always)]
-    fn misuse(&mut self, _held: &mut WriterCompound) -> WalkError {
-        WalkError::InvalidValue
+    fn misuse_error(&mut self, _compound: &mut WriterCompound) -> SizeError {
+        SizeError::InvalidValue
     }
 
     #[inline(always)]
-    fn end(&mut self, held: WriterCompound) -> Result<(), WalkError> {
-        match held.shape {
-            Shape::List => self.accept(held.position, EncodingCodes::List32 as u8),
-            Shape::Map => self.accept(held.position, EncodingCodes::Map32 as u8),
-            Shape::Variant(_) => self.accept(held.position, EncodingCodes::Map32 as u8),
-            Shape::NewtypeVariant(_) => self.accept(held.position, EncodingCodes::Map32 as u8),
-            Shape::Array => self.accept(held.position, EncodingCodes::Array32 as u8),
-            Shape::Transparent => self.accept_transparent(held.position),
-            Shape::Single => {
-                self.pending = held.inner;
+    fn end(&mut self, compound: WriterCompound) -> Result<(), SizeError> {
+        match compound.resolved_kind {
+            ResolvedKind::List => self.check_position(compound.position, EncodingCodes::List32 as u8),
+            ResolvedKind::Map => self.check_position(compound.position, EncodingCodes::Map32 as u8),
+            ResolvedKind::Variant(_) => self.check_position(compound.position, EncodingCodes::Map32 as u8),
+            ResolvedKind::NewtypeVariant(_) => self.check_position(compound.position, EncodingCodes::Map32 as u8),
+            ResolvedKind::Array => self.check_position(compound.position, EncodingCodes::Array32 as u8),
+            ResolvedKind::Transparent => self.check_transparent(compound.position),
+            ResolvedKind::Single => {
+                self.context = compound.inner_context;
                 Ok(())
             }
-            Shape::Refused => Err(WalkError::InvalidValue),
+            ResolvedKind::Refused => Err(SizeError::InvalidValue),
         }
     }
 }

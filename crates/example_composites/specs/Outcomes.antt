@@ -4,7 +4,7 @@
 -- An absent field is omitted at the end of the list, and null before a present field.
 use Rattle.std.specs.Prelude.{[], ◌∷◌, Option}
 use Rattle.amqp_ser.specs.Tree.{Tree, code}
-use Rattle.amqp_ser.specs.Words.{must, may, short_composite, of_bool, of_string, of_symbol, of_u32, of_u64}
+use Rattle.amqp_ser.specs.Words.{required_value, optional_value, short_composite, of_bool, of_string, of_symbol, of_u32, of_u64}
 use Rattle.example_composites.specs.Values.{of_fields}
 use Rattle.example_composites.specs.declared.outcomes.Accepted.{Accepted}
 use Rattle.example_composites.specs.declared.outcomes.DeliveryState.{DeliveryState}
@@ -19,11 +19,11 @@ use Rattle.example_composites.specs.declared.outcomes.Released.{Released}
 
 -- condition, description, info (part 2, section 2.8.14)
 abbrev pub of_error : ErrorReport → Option Tree
-of_error e = short_composite (code 0x1d) (must (of_symbol e.condition) ∷ may of_string e.description ∷ may of_fields e.info ∷ [])
+of_error e = short_composite (code 0x1d) (required_value (of_symbol e.condition) ∷ optional_value of_string e.description ∷ optional_value of_fields e.info ∷ [])
 
 -- section-number, section-offset (part 3, section 3.4.1)
 abbrev pub of_received : Received → Option Tree
-of_received r = short_composite (code 0x23) (must (of_u32 r.section_number) ∷ must (of_u64 r.section_offset) ∷ [])
+of_received r = short_composite (code 0x23) (required_value (of_u32 r.section_number) ∷ required_value (of_u64 r.section_offset) ∷ [])
 
 -- no fields (part 3, section 3.4.2)
 abbrev pub of_accepted : Accepted → Option Tree
@@ -31,7 +31,7 @@ of_accepted _ = short_composite (code 0x24) []
 
 -- error (part 3, section 3.4.3)
 abbrev pub of_rejected : Rejected → Option Tree
-of_rejected r = short_composite (code 0x25) (may of_error r.error ∷ [])
+of_rejected r = short_composite (code 0x25) (optional_value of_error r.error ∷ [])
 
 -- no fields (part 3, section 3.4.4)
 abbrev pub of_released : Released → Option Tree
@@ -39,7 +39,7 @@ of_released _ = short_composite (code 0x26) []
 
 -- delivery-failed, undeliverable-here, message-annotations (part 3, section 3.4.5)
 abbrev pub of_modified : Modified → Option Tree
-of_modified m = short_composite (code 0x27) (may of_bool m.delivery_failed ∷ may of_bool m.undeliverable_here ∷ may of_fields m.message_annotations ∷ [])
+of_modified m = short_composite (code 0x27) (optional_value of_bool m.delivery_failed ∷ optional_value of_bool m.undeliverable_here ∷ optional_value of_fields m.message_annotations ∷ [])
 
 -- the terminal states (part 3, section 3.4)
 abbrev pub of_outcome : Outcome → Option Tree

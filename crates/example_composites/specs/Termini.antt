@@ -2,7 +2,7 @@
 -- the contracts of `src/termini.rt`.
 use Rattle.std.specs.Prelude.{[], ◌∷◌, Option}
 use Rattle.amqp_ser.specs.Tree.{Tree, code}
-use Rattle.amqp_ser.specs.Words.{may, short_composite, of_bool, of_symbol, of_u32}
+use Rattle.amqp_ser.specs.Words.{optional_value, short_composite, of_bool, of_symbol, of_u32}
 use Rattle.example_composites.specs.Outcomes.{of_outcome}
 use Rattle.example_composites.specs.Restricted.{of_distribution, of_durability, of_expiry}
 use Rattle.example_composites.specs.Values.{of_address, of_fields, of_multiple}
@@ -14,15 +14,15 @@ use Rattle.example_composites.specs.declared.termini.Target.{Target}
 abbrev pub of_source : Source → Option Tree
 of_source s =
     short_composite (code 0x28) (
-    may of_address s.address ∷ may of_durability s.durable ∷ may of_expiry s.expiry_policy ∷ may of_u32 s.timeout
-    ∷ may of_bool s.dynamic ∷ may of_fields s.dynamic_node_properties ∷ may of_distribution s.distribution_mode
-    ∷ may of_fields s.filter ∷ may of_outcome s.default_outcome ∷ may (of_multiple of_symbol) s.outcomes
-    ∷ may (of_multiple of_symbol) s.capabilities ∷ [])
+    optional_value of_address s.address ∷ optional_value of_durability s.durable ∷ optional_value of_expiry s.expiry_policy ∷ optional_value of_u32 s.timeout
+    ∷ optional_value of_bool s.dynamic ∷ optional_value of_fields s.dynamic_node_properties ∷ optional_value of_distribution s.distribution_mode
+    ∷ optional_value of_fields s.filter ∷ optional_value of_outcome s.default_outcome ∷ optional_value (of_multiple of_symbol) s.outcomes
+    ∷ optional_value (of_multiple of_symbol) s.capabilities ∷ [])
 
 -- address, durable, expiry-policy, timeout, dynamic, dynamic-node-properties, capabilities (part 3,
 -- section 3.5.4)
 abbrev pub of_target : Target → Option Tree
 of_target t =
     short_composite (code 0x29) (
-    may of_address t.address ∷ may of_durability t.durable ∷ may of_expiry t.expiry_policy ∷ may of_u32 t.timeout
-    ∷ may of_bool t.dynamic ∷ may of_fields t.dynamic_node_properties ∷ may (of_multiple of_symbol) t.capabilities ∷ [])
+    optional_value of_address t.address ∷ optional_value of_durability t.durable ∷ optional_value of_expiry t.expiry_policy ∷ optional_value of_u32 t.timeout
+    ∷ optional_value of_bool t.dynamic ∷ optional_value of_fields t.dynamic_node_properties ∷ optional_value (of_multiple of_symbol) t.capabilities ∷ [])

@@ -4,7 +4,7 @@
 
 ghost use Rattle.std.specs.Prelude.{◌∷◌, []};
 ghost use Rattle.amqp_ser.specs.Tree.{code};
-ghost use Rattle.amqp_ser.specs.Words.{must, may, short_composite, of_binary, of_bool, of_u32};
+ghost use Rattle.amqp_ser.specs.Words.{required_value, optional_value, short_composite, of_binary, of_bool, of_u32};
 ghost use Rattle.example_composites.specs.Outcomes.{of_state};
 ghost use Rattle.example_composites.specs.Restricted.{of_receiver_mode, of_role};
 ghost use Rattle.example_composites.specs.Values.{of_fields};
@@ -35,12 +35,12 @@ pub struct Flow {
 
 impl Serialize for Flow {
     ghost tree = { λ f. short_composite (code 0x13) (
-        may of_u32 f.next_incoming_id ∷ must (of_u32 f.incoming_window)
-        ∷ must (of_u32 f.next_outgoing_id)
-        ∷ must (of_u32 f.outgoing_window) ∷ may of_u32 f.handle ∷ may of_u32 f.delivery_count
-        ∷ may of_u32 f.link_credit ∷ may of_u32 f.available ∷ may of_bool f.drain
-        ∷ may of_bool f.echo
-        ∷ may of_fields f.properties ∷ []) };
+        optional_value of_u32 f.next_incoming_id ∷ required_value (of_u32 f.incoming_window)
+        ∷ required_value (of_u32 f.next_outgoing_id)
+        ∷ required_value (of_u32 f.outgoing_window) ∷ optional_value of_u32 f.handle ∷ optional_value of_u32 f.delivery_count
+        ∷ optional_value of_u32 f.link_credit ∷ optional_value of_u32 f.available ∷ optional_value of_bool f.drain
+        ∷ optional_value of_bool f.echo
+        ∷ optional_value of_fields f.properties ∷ []) };
 
     fn serialize<S: Serializer>(&self, serializer: &mut S) -> Result<S::Ok, S::Error> {
         serializer.serialize_described(
@@ -81,11 +81,11 @@ pub struct Transfer {
 
 impl Serialize for Transfer {
     ghost tree = { λ t. short_composite (code 0x14) (
-        must (of_u32 t.handle) ∷ may of_u32 t.delivery_id ∷ may of_binary t.delivery_tag
-        ∷ may of_u32 t.message_format
-        ∷ may of_bool t.settled ∷ may of_bool t.more ∷ may of_receiver_mode t.rcv_settle_mode
-        ∷ may of_state t.state
-        ∷ may of_bool t.resume ∷ may of_bool t.aborted ∷ may of_bool t.batchable ∷ []) };
+        required_value (of_u32 t.handle) ∷ optional_value of_u32 t.delivery_id ∷ optional_value of_binary t.delivery_tag
+        ∷ optional_value of_u32 t.message_format
+        ∷ optional_value of_bool t.settled ∷ optional_value of_bool t.more ∷ optional_value of_receiver_mode t.rcv_settle_mode
+        ∷ optional_value of_state t.state
+        ∷ optional_value of_bool t.resume ∷ optional_value of_bool t.aborted ∷ optional_value of_bool t.batchable ∷ []) };
 
     fn serialize<S: Serializer>(&self, serializer: &mut S) -> Result<S::Ok, S::Error> {
         serializer.serialize_described(
@@ -121,8 +121,8 @@ pub struct Disposition {
 
 impl Serialize for Disposition {
     ghost tree = { λ d. short_composite (code 0x15) (
-        must (of_role d.role) ∷ must (of_u32 d.first) ∷ may of_u32 d.last ∷ may of_bool d.settled
-        ∷ may of_state d.state ∷ may of_bool d.batchable ∷ []) };
+        required_value (of_role d.role) ∷ required_value (of_u32 d.first) ∷ optional_value of_u32 d.last ∷ optional_value of_bool d.settled
+        ∷ optional_value of_state d.state ∷ optional_value of_bool d.batchable ∷ []) };
 
     fn serialize<S: Serializer>(&self, serializer: &mut S) -> Result<S::Ok, S::Error> {
         serializer.serialize_described(

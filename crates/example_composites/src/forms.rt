@@ -6,7 +6,7 @@
 
 ghost use Rattle.std.specs.Prelude.{◌∷◌, [], Some, codes, string_bytes};
 ghost use Rattle.amqp_ser.specs.Tree.{code, name, scalar, symbol};
-ghost use Rattle.amqp_ser.specs.Words.{list_composite, list_of, map_composite, must, may, short_list_of, short_symbol_map_of, of_bool, of_string, of_symbol, of_u8, of_u32};
+ghost use Rattle.amqp_ser.specs.Words.{list_composite, list_of, map_composite, required_value, optional_value, short_list_of, short_symbol_map_of, of_bool, of_string, of_symbol, of_u8, of_u32};
 ghost use Rattle.example_composites.specs.Shapes.{of_shape};
 
 use amqp_data::{F64Bits, Symbol, SymbolRef};
@@ -54,8 +54,8 @@ pub struct Configured {
 
 impl Serialize for Configured {
     ghost tree = { λ c. short_symbol_map_of (
-        (codes "product", must (of_string c.product)) ∷ (codes "version", may of_string c.version)
-        ∷ (codes "platform", may of_symbol c.platform) ∷ []) };
+        (codes "product", required_value (of_string c.product)) ∷ (codes "version", optional_value of_string c.version)
+        ∷ (codes "platform", optional_value of_symbol c.platform) ∷ []) };
 
     fn serialize<S: Serializer>(&self, serializer: &mut S) -> Result<S::Ok, S::Error> {
         SymbolMapOf(fields! {
@@ -168,7 +168,7 @@ pub struct Tagged<T>(pub u32, pub Option<T>);
 
 impl<T: Serialize> Serialize for Tagged<T> {
     ghost tree = { λ t. short_list_of
-        (must (Some (scalar (symbol (codes "tag")))) ∷ must (of_u32 t.0) ∷ may T.tree t.1 ∷ []) };
+        (required_value (Some (scalar (symbol (codes "tag")))) ∷ required_value (of_u32 t.0) ∷ optional_value T.tree t.1 ∷ []) };
 
     fn serialize<S: Serializer>(&self, serializer: &mut S) -> Result<S::Ok, S::Error> {
         ListOf(

@@ -5,7 +5,7 @@
 ghost use Rattle.std.specs.Prelude.{◌∷◌, []};
 ghost use Rattle.amqp_ser.specs.Carried.{optional};
 ghost use Rattle.amqp_ser.specs.Tree.{code};
-ghost use Rattle.amqp_ser.specs.Words.{must, may, short_composite, of_binary, of_bool, of_map, of_string, of_symbol, of_u32, of_u64};
+ghost use Rattle.amqp_ser.specs.Words.{required_value, optional_value, short_composite, of_binary, of_bool, of_map, of_string, of_symbol, of_u32, of_u64};
 ghost use Rattle.example_composites.specs.Outcomes.{of_error, of_state};
 ghost use Rattle.example_composites.specs.Restricted.{of_receiver_mode, of_role, of_sender_mode};
 ghost use Rattle.example_composites.specs.Termini.{of_source, of_target};
@@ -41,15 +41,15 @@ pub struct Attach {
 
 impl Serialize for Attach {
     ghost tree = { λ a. short_composite (code 0x12) (
-        must (of_string a.name) ∷ must (of_u32 a.handle) ∷ must (of_role a.role)
-        ∷ may of_sender_mode a.snd_settle_mode ∷ may of_receiver_mode a.rcv_settle_mode
-        ∷ may of_source a.source ∷ may of_target a.target
-        ∷ may (of_map of_binary (optional of_state)) a.unsettled
-        ∷ may of_bool a.incomplete_unsettled
-        ∷ may of_u32 a.initial_delivery_count ∷ may of_u64 a.max_message_size
-        ∷ may (of_multiple of_symbol) a.offered_capabilities
-        ∷ may (of_multiple of_symbol) a.desired_capabilities
-        ∷ may of_fields a.properties ∷ []) };
+        required_value (of_string a.name) ∷ required_value (of_u32 a.handle) ∷ required_value (of_role a.role)
+        ∷ optional_value of_sender_mode a.snd_settle_mode ∷ optional_value of_receiver_mode a.rcv_settle_mode
+        ∷ optional_value of_source a.source ∷ optional_value of_target a.target
+        ∷ optional_value (of_map of_binary (optional of_state)) a.unsettled
+        ∷ optional_value of_bool a.incomplete_unsettled
+        ∷ optional_value of_u32 a.initial_delivery_count ∷ optional_value of_u64 a.max_message_size
+        ∷ optional_value (of_multiple of_symbol) a.offered_capabilities
+        ∷ optional_value (of_multiple of_symbol) a.desired_capabilities
+        ∷ optional_value of_fields a.properties ∷ []) };
 
     fn serialize<S: Serializer>(&self, serializer: &mut S) -> Result<S::Ok, S::Error> {
         serializer.serialize_described(
@@ -84,7 +84,7 @@ pub struct Detach {
 
 impl Serialize for Detach {
     ghost tree = { λ d. short_composite (code 0x16) (
-        must (of_u32 d.handle) ∷ may of_bool d.closed ∷ may of_error d.error ∷ []) };
+        required_value (of_u32 d.handle) ∷ optional_value of_bool d.closed ∷ optional_value of_error d.error ∷ []) };
 
     fn serialize<S: Serializer>(&self, serializer: &mut S) -> Result<S::Ok, S::Error> {
         serializer.serialize_described(

@@ -5,7 +5,7 @@
 
 ghost use Rattle.std.specs.Prelude.{◌∷◌, [], map};
 ghost use Rattle.amqp_ser.specs.Tree.{code};
-ghost use Rattle.amqp_ser.specs.Words.{must, may, basic_composite, short_composite, list_of, of_binary, of_bool, of_string, of_symbol, of_timestamp, of_u8, of_u32};
+ghost use Rattle.amqp_ser.specs.Words.{required_value, optional_value, basic_composite, short_composite, list_of, of_binary, of_bool, of_string, of_symbol, of_timestamp, of_u8, of_u32};
 ghost use Rattle.example_composites.specs.Values.{of_address, of_annotations, of_application, of_message_id, of_value};
 
 use crate::values::{Address, Annotations, MessageId, Milliseconds, SequenceNumber, SimpleValue};
@@ -25,9 +25,9 @@ pub struct Header {
 
 impl Serialize for Header {
     ghost tree = { λ h. short_composite (code 0x70) (
-        may of_bool h.durable ∷ may of_u8 h.priority ∷ may of_u32 h.ttl
-        ∷ may of_bool h.first_acquirer
-        ∷ may of_u32 h.delivery_count ∷ []) };
+        optional_value of_bool h.durable ∷ optional_value of_u8 h.priority ∷ optional_value of_u32 h.ttl
+        ∷ optional_value of_bool h.first_acquirer
+        ∷ optional_value of_u32 h.delivery_count ∷ []) };
 
     fn serialize<S: Serializer>(&self, serializer: &mut S) -> Result<S::Ok, S::Error> {
         serializer.serialize_described(
@@ -87,13 +87,13 @@ pub struct Properties {
 
 impl Serialize for Properties {
     ghost tree = { λ p. short_composite (code 0x73) (
-        may of_message_id p.message_id ∷ may of_binary p.user_id ∷ may of_address p.to
-        ∷ may of_string p.subject
-        ∷ may of_address p.reply_to ∷ may of_message_id p.correlation_id
-        ∷ may of_symbol p.content_type
-        ∷ may of_symbol p.content_encoding ∷ may of_timestamp p.absolute_expiry_time
-        ∷ may of_timestamp p.creation_time
-        ∷ may of_string p.group_id ∷ may of_u32 p.group_sequence ∷ may of_string p.reply_to_group_id
+        optional_value of_message_id p.message_id ∷ optional_value of_binary p.user_id ∷ optional_value of_address p.to
+        ∷ optional_value of_string p.subject
+        ∷ optional_value of_address p.reply_to ∷ optional_value of_message_id p.correlation_id
+        ∷ optional_value of_symbol p.content_type
+        ∷ optional_value of_symbol p.content_encoding ∷ optional_value of_timestamp p.absolute_expiry_time
+        ∷ optional_value of_timestamp p.creation_time
+        ∷ optional_value of_string p.group_id ∷ optional_value of_u32 p.group_sequence ∷ optional_value of_string p.reply_to_group_id
         ∷ []) };
 
     fn serialize<S: Serializer>(&self, serializer: &mut S) -> Result<S::Ok, S::Error> {

@@ -4,7 +4,7 @@
 
 ghost use Rattle.std.specs.Prelude.{◌∷◌, []};
 ghost use Rattle.amqp_ser.specs.Tree.{code};
-ghost use Rattle.amqp_ser.specs.Words.{must, may, short_composite, of_string, of_symbol, of_u16, of_u32};
+ghost use Rattle.amqp_ser.specs.Words.{required_value, optional_value, short_composite, of_string, of_symbol, of_u16, of_u32};
 ghost use Rattle.example_composites.specs.Outcomes.{of_error};
 ghost use Rattle.example_composites.specs.Values.{of_fields, of_multiple};
 
@@ -30,13 +30,13 @@ pub struct Open {
 
 impl Serialize for Open {
     ghost tree = { λ o. short_composite (code 0x10) (
-        must (of_string o.container_id) ∷ may of_string o.hostname ∷ may of_u32 o.max_frame_size
-        ∷ may of_u16 o.channel_max ∷ may of_u32 o.idle_time_out
-        ∷ may (of_multiple of_symbol) o.outgoing_locales
-        ∷ may (of_multiple of_symbol) o.incoming_locales
-        ∷ may (of_multiple of_symbol) o.offered_capabilities
-        ∷ may (of_multiple of_symbol) o.desired_capabilities
-        ∷ may of_fields o.properties ∷ []) };
+        required_value (of_string o.container_id) ∷ optional_value of_string o.hostname ∷ optional_value of_u32 o.max_frame_size
+        ∷ optional_value of_u16 o.channel_max ∷ optional_value of_u32 o.idle_time_out
+        ∷ optional_value (of_multiple of_symbol) o.outgoing_locales
+        ∷ optional_value (of_multiple of_symbol) o.incoming_locales
+        ∷ optional_value (of_multiple of_symbol) o.offered_capabilities
+        ∷ optional_value (of_multiple of_symbol) o.desired_capabilities
+        ∷ optional_value of_fields o.properties ∷ []) };
 
     fn serialize<S: Serializer>(&self, serializer: &mut S) -> Result<S::Ok, S::Error> {
         serializer.serialize_described(
@@ -72,12 +72,12 @@ pub struct Begin {
 
 impl Serialize for Begin {
     ghost tree = { λ b. short_composite (code 0x11) (
-        may of_u16 b.remote_channel ∷ must (of_u32 b.next_outgoing_id)
-        ∷ must (of_u32 b.incoming_window)
-        ∷ must (of_u32 b.outgoing_window) ∷ may of_u32 b.handle_max
-        ∷ may (of_multiple of_symbol) b.offered_capabilities
-        ∷ may (of_multiple of_symbol) b.desired_capabilities
-        ∷ may of_fields b.properties ∷ []) };
+        optional_value of_u16 b.remote_channel ∷ required_value (of_u32 b.next_outgoing_id)
+        ∷ required_value (of_u32 b.incoming_window)
+        ∷ required_value (of_u32 b.outgoing_window) ∷ optional_value of_u32 b.handle_max
+        ∷ optional_value (of_multiple of_symbol) b.offered_capabilities
+        ∷ optional_value (of_multiple of_symbol) b.desired_capabilities
+        ∷ optional_value of_fields b.properties ∷ []) };
 
     fn serialize<S: Serializer>(&self, serializer: &mut S) -> Result<S::Ok, S::Error> {
         serializer.serialize_described(
@@ -103,7 +103,7 @@ pub struct End {
 }
 
 impl Serialize for End {
-    ghost tree = { λ e. short_composite (code 0x17) (may of_error e.error ∷ []) };
+    ghost tree = { λ e. short_composite (code 0x17) (optional_value of_error e.error ∷ []) };
 
     fn serialize<S: Serializer>(&self, serializer: &mut S) -> Result<S::Ok, S::Error> {
         serializer.serialize_described(&0x17u64, &ListOf(fields! { "error"?: &self.error }))
@@ -117,7 +117,7 @@ pub struct Close {
 }
 
 impl Serialize for Close {
-    ghost tree = { λ c. short_composite (code 0x18) (may of_error c.error ∷ []) };
+    ghost tree = { λ c. short_composite (code 0x18) (optional_value of_error c.error ∷ []) };
 
     fn serialize<S: Serializer>(&self, serializer: &mut S) -> Result<S::Ok, S::Error> {
         serializer.serialize_described(&0x18u64, &ListOf(fields! { "error"?: &self.error }))

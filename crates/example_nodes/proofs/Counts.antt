@@ -5,18 +5,18 @@ use Rattle.std.proofs.Common.{◌≡◌, ℕ, ◌+◌, ◌^◌, ◌≤◌, inr, 
 use Rattle.amqp_data.specs.declared.error.Error.{Error}
 use Rattle.amqp_data.specs.declared.error.Error.TheVariants.{TooLong}
 use Rattle.amqp_ser.specs.Tree.{Tree, Trees, Pairs, list, map, variant, no_trees, more}
-use Rattle.amqp_ser.specs.Compounds.{all_trees, prepend, prepend_pair, in_pairs, as_kind, as_map, as_variant, only, whole, paired, complete}
-use Rattle.amqp_ser.specs.declared.kind.Kind.{Kind}
-use Rattle.amqp_ser.specs.declared.kind.Kind.TheVariants as kinds
+use Rattle.amqp_ser.specs.Compounds.{all_trees, prepend, prepend_pair, in_pairs, as_kind, as_map, as_variant, only, tree_of_parts, paired, complete}
+use Rattle.amqp_ser.specs.declared.kind.CompoundKind.{CompoundKind}
+use Rattle.amqp_ser.specs.declared.kind.CompoundKind.TheVariants as kinds
 use Rattle.amqp_ser.proofs.Joins.{join, joined, all_trees-append, kind_none}
 use Rattle.amqp_ser.proofs.Last.{last_off, paired-last}
 use Rattle.amqp_ser.proofs.Pairing.{even, paired-even, pairing}
 use Rattle.example_nodes.specs.Nodes.{nodes, nodes_each, nodes_of_pairs, CountsFrom, CountsParts, Holds, IsRefusal, fresh, own_nodes, for_part, meant_parts}
-use Rattle.example_nodes.specs.PendingMark.{fits, meant}
+use Rattle.example_nodes.specs.PendingMarker.{fits, meant}
 use Rattle.example_nodes.proofs.Meanings.{Sums, as_it_is, barred, is_refusal, never, through}
 use Rattle.example_nodes.specs.declared.counter.Counting.{Counting}
 use Rattle.example_nodes.specs.declared.counter.NodeCounter.{NodeCounter}
-use Rattle.example_nodes.specs.declared.pending_mark.PendingMark.{PendingMark}
+use Rattle.example_nodes.specs.declared.pending_marker.PendingMarker.{PendingMarker}
 
 nodes_each-join : (ts us : Trees) → nodes_each (join ts us) ≡ nodes_each ts + nodes_each us
 nodes_each-join no_trees us = omega arith
@@ -56,55 +56,55 @@ counted_at : (descriptors n : ℕ) (o : Option Trees) (ts : Trees) → CountsPar
 counted_at descriptors n o ts h e = subst (λ x. CountsParts descriptors x n) e h
 
 -- the intended trees of parts are those before a part, that of the part, and the others unchanged
-meant_more : (kind : Kind) (start : NodeCounter) (ps rest : List (Option Tree)) (p : Option Tree) →
+meant_more : (kind : CompoundKind) (start : NodeCounter) (ps rest : List (Option Tree)) (p : Option Tree) →
     meant_parts kind start.pending (ps ++ (p ∷ rest)) ≡ meant_parts kind start.pending ps ++ (meant (for_part kind ps start).pending p ∷ rest)
 meant_more kinds.Single start [] rest p = refl
 meant_more kinds.Single start (q ∷ ps) rest p = ap (λ x. meant start.pending q ∷ (ps ++ (x ∷ rest))) (as_it_is p)
 meant_more kind start ps rest p = ap (λ x. ps ++ (x ∷ rest)) (as_it_is p)
 
-held_more : (start : NodeCounter) (kind : Kind) (held : Counting) (ps rest : List (Option Tree)) (p : Option Tree) → Holds start kind held ps →
-    meant_parts kind start.pending (ps ++ (p ∷ rest)) ≡ meant_parts kind start.pending ps ++ (meant held.next.pending p ∷ rest)
-held_more start kind held ps rest p h =
+held_more : (start : NodeCounter) (kind : CompoundKind) (compound : Counting) (ps rest : List (Option Tree)) (p : Option Tree) → Holds start kind compound ps →
+    meant_parts kind start.pending (ps ++ (p ∷ rest)) ≡ meant_parts kind start.pending ps ++ (meant compound.next.pending p ∷ rest)
+held_more start kind compound ps rest p h =
     meant_more kind start ps rest p ∙ ap (λ (a : NodeCounter). meant_parts kind start.pending ps ++ (meant a.pending p ∷ rest)) (sym h.next)
 
-for_next : (start : NodeCounter) (kind : Kind) (ps : List (Option Tree)) (p : Option Tree) → fresh ≡ for_part kind (ps ++ (p ∷ [])) start
+for_next : (start : NodeCounter) (kind : CompoundKind) (ps : List (Option Tree)) (p : Option Tree) → fresh ≡ for_part kind (ps ++ (p ∷ [])) start
 for_next start kinds.Single [] p = refl
 for_next start kinds.Single (q ∷ ps) p = refl
 for_next start kind ps p = refl
 
 -- markers leave the parts of a map unchanged, so `count` counts them
-map_count : (start : NodeCounter) (kind : Kind) (held : Counting) (ps : List (Option Tree)) → kind ≡ kinds.Map → Holds start kind held ps → CountsParts start.descriptors (all_trees ps) (held.count + 0)
-map_count start kind held ps is h =
-    subst (λ k. CountsParts start.descriptors (all_trees (meant_parts k start.pending ps)) (held.count + (for_part k ps start).descriptors)) is
-    (subst (λ (a : NodeCounter). CountsParts start.descriptors (all_trees (meant_parts kind start.pending ps)) (held.count + a.descriptors)) h.next h.count)
+map_count : (start : NodeCounter) (kind : CompoundKind) (compound : Counting) (ps : List (Option Tree)) → kind ≡ kinds.Map → Holds start kind compound ps → CountsParts start.descriptors (all_trees ps) (compound.count + 0)
+map_count start kind compound ps is h =
+    subst (λ k. CountsParts start.descriptors (all_trees (meant_parts k start.pending ps)) (compound.count + (for_part k ps start).descriptors)) is
+    (subst (λ (a : NodeCounter). CountsParts start.descriptors (all_trees (meant_parts kind start.pending ps)) (compound.count + a.descriptors)) h.next h.count)
 
-pub taken : (start : NodeCounter) (n : ℕ) (kind : Kind) (held new : Counting) (ps : List (Option Tree)) (p : Option Tree) → Holds start kind held ps →
-    CountsFrom held.next.descriptors (meant held.next.pending p) (Ok n) → new.own ≡ held.own → new.fits ≡ held.fits → new.next ≡ fresh → new.count ≡ held.count + n → new.before_last ≡ held.count →
+pub taken : (start : NodeCounter) (n : ℕ) (kind : CompoundKind) (compound new : Counting) (ps : List (Option Tree)) (p : Option Tree) → Holds start kind compound ps →
+    CountsFrom compound.next.descriptors (meant compound.next.pending p) (Ok n) → new.own ≡ compound.own → new.fits ≡ compound.fits → new.next ≡ fresh → new.count ≡ compound.count + n → new.before_last ≡ compound.count →
     Holds start kind new (ps ++ (p ∷ []))
-taken start n kind held new ps p h g a b c d f = record {
+taken start n kind compound new ps p h g a b c d f = record {
   own = a ∙ h.own;
   fits = b ∙ h.fits;
   next = c ∙ for_next start kind ps p;
   count =
       let qs = meant_parts kind start.pending ps in
-      let q = meant held.next.pending p in
+      let q = meant compound.next.pending p in
       let i : new.next.descriptors ≡ 0 = ap (λ (a : NodeCounter). a.descriptors) c in
-      at_parts start.descriptors (held.count + n) (new.count + new.next.descriptors) (joined (all_trees qs) (prepend q (Some no_trees))) (all_trees (meant_parts kind start.pending (ps ++ (p ∷ []))))
-      (sym (all_trees-append qs (q ∷ [])) ∙ ap all_trees (sym (held_more start kind held ps [] p h)))
+      at_parts start.descriptors (compound.count + n) (new.count + new.next.descriptors) (joined (all_trees qs) (prepend q (Some no_trees))) (all_trees (meant_parts kind start.pending (ps ++ (p ∷ []))))
+      (sym (all_trees-append qs (q ∷ [])) ∙ ap all_trees (sym (held_more start kind compound ps [] p h)))
       (omega arith)
-      (one_more start.descriptors held.count n held.next.descriptors (all_trees qs) q h.count g);
-  before_last = λ is odd qs q e. at_parts start.descriptors (held.count + 0) new.before_last (all_trees ps) (all_trees qs) (ap all_trees (last_off ps qs p q e)) (omega arith) (map_count start kind held ps is h);
+      (one_more start.descriptors compound.count n compound.next.descriptors (all_trees qs) q h.count g);
+  before_last = λ is odd qs q e. at_parts start.descriptors (compound.count + 0) new.before_last (all_trees ps) (all_trees qs) (ap all_trees (last_off ps qs p q e)) (omega arith) (map_count start kind compound ps is h);
 }
 
-pub undone : (start : NodeCounter) (held new : Counting) (ps : List (Option Tree)) (p : Option Tree) → Holds start kinds.Map held (ps ++ (p ∷ [])) → paired ps ≡ true →
-    new.own ≡ held.own → new.fits ≡ held.fits → new.next ≡ held.next → new.count ≡ held.before_last → Holds start kinds.Map new ps
-undone start held new ps p h even a b c d = record {
+pub undone : (start : NodeCounter) (compound new : Counting) (ps : List (Option Tree)) (p : Option Tree) → Holds start kinds.Map compound (ps ++ (p ∷ [])) → paired ps ≡ true →
+    new.own ≡ compound.own → new.fits ≡ compound.fits → new.next ≡ compound.next → new.count ≡ compound.before_last → Holds start kinds.Map new ps
+undone start compound new ps p h even a b c d = record {
   own = a ∙ h.own;
   fits = b ∙ h.fits;
   next = c ∙ h.next;
   count =
       let i : new.next.descriptors ≡ 0 = ap (λ (a : NodeCounter). a.descriptors) (c ∙ h.next) in
-      at_parts start.descriptors held.before_last (new.count + new.next.descriptors) (all_trees ps) (all_trees ps) refl (omega arith) (h.before_last refl (paired-last ps p ∙ ap not even) ps p refl);
+      at_parts start.descriptors compound.before_last (new.count + new.next.descriptors) (all_trees ps) (all_trees ps) refl (omega arith) (h.before_last refl (paired-last ps p ∙ ap not even) ps p refl);
   before_last = λ is odd. absurd (never (sym even ∙ odd));
 }
 
@@ -136,7 +136,7 @@ only_nodes (more t no_trees) w e = let same : w ≡ t = cc in let k = ap nodes s
 only_nodes (more t (more u ts)) w e = cc
 
 -- a compound has the nodes of its parts and its own
-kind_nodes : (kind : Kind) (ts : Trees) (w : Tree) → as_kind kind (Some ts) ≡ Some w → nodes w ≡ nodes_each ts + own_nodes kind
+kind_nodes : (kind : CompoundKind) (ts : Trees) (w : Tree) → as_kind kind (Some ts) ≡ Some w → nodes w ≡ nodes_each ts + own_nodes kind
 kind_nodes kinds.List ts w e = let same : w ≡ list ts = cc in ap nodes same
 kind_nodes kinds.Map ts w e = map_nodes (in_pairs ts) (nodes_each ts) w (pairs_nodes ts) e
 kind_nodes (kinds.Variant i) ts w e = let same : w ≡ variant i (list ts) = cc in let k = ap nodes same in omega arith
@@ -147,7 +147,7 @@ kind_nodes (kinds.NewtypeVariant i) ts w e =
     omega arith
 kind_nodes kinds.Single ts w e = let k = only_nodes ts w e in omega arith
 
-whole_nodes : (kind : Kind) (o : Option Trees) (w : Tree) → as_kind kind o ≡ Some w → (ts : Trees) × ((o ≡ Some ts) × (nodes w ≡ nodes_each ts + own_nodes kind))
+whole_nodes : (kind : CompoundKind) (o : Option Trees) (w : Tree) → as_kind kind o ≡ Some w → (ts : Trees) × ((o ≡ Some ts) × (nodes w ≡ nodes_each ts + own_nodes kind))
 whole_nodes kind None w e = let k = kind_none kind in cc
 whole_nodes kind (Some ts) w e = (ts, (refl, kind_nodes kind ts w e))
 
@@ -160,7 +160,7 @@ only_variant : (i : ℕ) (o : Option Tree) → is_some o ≡ true → is_some (a
 only_variant i None h = h
 only_variant i (Some t) h = refl
 
-makes_tree : (kind : Kind) (ps : List (Option Tree)) (ts : Trees) → complete kind ps ≡ true → all_trees ps ≡ Some ts → is_some (as_kind kind (Some ts)) ≡ true
+makes_tree : (kind : CompoundKind) (ps : List (Option Tree)) (ts : Trees) → complete kind ps ≡ true → all_trees ps ≡ Some ts → is_some (as_kind kind (Some ts)) ≡ true
 makes_tree kinds.List ps ts done e = refl
 makes_tree kinds.Map ps ts done e = ap (λ o. is_some (as_map o)) ((pairing ts (sym (paired-even ps ts e) ∙ done)).are)
 makes_tree (kinds.Variant i) ps ts done e = refl
@@ -171,13 +171,13 @@ makes_tree kinds.Single [] ts done e = absurd (never (sym done))
 makes_tree kinds.Single (p ∷ []) ts done e = only_tree p ts e
 makes_tree kinds.Single (p ∷ (q ∷ ps)) ts done e = absurd (never (sym done))
 
-complete_meant : (kind : Kind) (u : PendingMark) (ps : List (Option Tree)) → complete kind (meant_parts kind u ps) ≡ complete kind ps
+complete_meant : (kind : CompoundKind) (u : PendingMarker) (ps : List (Option Tree)) → complete kind (meant_parts kind u ps) ≡ complete kind ps
 complete_meant kinds.Single u [] = refl
 complete_meant kinds.Single u (p ∷ []) = refl
 complete_meant kinds.Single u (p ∷ (q ∷ ps)) = refl
 complete_meant kind u ps = refl
 
-nothing_left : (start : NodeCounter) (kind : Kind) (ps : List (Option Tree)) → complete kind ps ≡ true → (for_part kind ps start).descriptors ≡ 0
+nothing_left : (start : NodeCounter) (kind : CompoundKind) (ps : List (Option Tree)) → complete kind ps ≡ true → (for_part kind ps start).descriptors ≡ 0
 nothing_left start kinds.Single [] e = absurd (never (sym e))
 nothing_left start kinds.Single (p ∷ ps) e = refl
 nothing_left start kind ps e = refl
@@ -188,19 +188,19 @@ summed descriptors m None r is h f = absurd (never (sym is))
 summed descriptors m (Some w) (Ok n) is h f = h ∙ f w refl
 summed descriptors m (Some w) (Err x) is h f = (h.0, let k = h.1 in let e = f w refl in omega arith)
 
-ended_on : (descriptors m own : ℕ) (kind : Kind) (o : Option Trees) (r : Result ℕ Error) → CountsParts descriptors o m → own ≡ own_nodes kind → ((ts : Trees) → o ≡ Some ts → is_some (as_kind kind (Some ts)) ≡ true) →
+ended_on : (descriptors m own : ℕ) (kind : CompoundKind) (o : Option Trees) (r : Result ℕ Error) → CountsParts descriptors o m → own ≡ own_nodes kind → ((ts : Trees) → o ≡ Some ts → is_some (as_kind kind (Some ts)) ≡ true) →
     Sums (m + own) r → CountsFrom descriptors (as_kind kind o) r
 ended_on descriptors m own kind None r h e f sum = absurd h
 ended_on descriptors m own kind (Some ts) r h e f sum = summed descriptors (m + own) (as_kind kind (Some ts)) r (f ts refl) sum (λ w is. let k = kind_nodes kind ts w is in omega arith)
 
-pub ended : (start : NodeCounter) (kind : Kind) (held : Counting) (ps : List (Option Tree)) (r : Result ℕ Error) → Holds start kind held ps → complete kind ps ≡ true → held.fits ≡ true →
-    Sums (held.count + held.own) r → CountsFrom start.descriptors (meant start.pending (whole kind ps)) r
-unfolding whole
-ended start kind held ps r h done fit sum =
+pub ended : (start : NodeCounter) (kind : CompoundKind) (compound : Counting) (ps : List (Option Tree)) (r : Result ℕ Error) → Holds start kind compound ps → complete kind ps ≡ true → compound.fits ≡ true →
+    Sums (compound.count + compound.own) r → CountsFrom start.descriptors (meant start.pending (tree_of_parts kind ps)) r
+unfolding tree_of_parts
+ended start kind compound ps r h done fit sum =
     let qs = meant_parts kind start.pending ps in
-    let i : held.next.descriptors ≡ 0 = ap (λ (a : NodeCounter). a.descriptors) h.next ∙ nothing_left start kind ps done in
+    let i : compound.next.descriptors ≡ 0 = ap (λ (a : NodeCounter). a.descriptors) h.next ∙ nothing_left start kind ps done in
     through start.pending kind start.descriptors ps r (sym h.fits ∙ fit)
-    (ended_on start.descriptors held.count held.own kind (all_trees qs) r (at_parts start.descriptors (held.count + held.next.descriptors) held.count (all_trees qs) (all_trees qs) refl (omega arith) h.count) h.own
+    (ended_on start.descriptors compound.count compound.own kind (all_trees qs) r (at_parts start.descriptors (compound.count + compound.next.descriptors) compound.count (all_trees qs) (all_trees qs) refl (omega arith) h.count) h.own
     (λ ts e. makes_tree kind qs ts (complete_meant kind start.pending ps ∙ done) e) sum)
 
 -- an error is permitted if it is permitted on the tree, if there is one
@@ -209,10 +209,10 @@ on_tree descriptors None e h f = h
 on_tree descriptors (Some w) e h f = f w refl
 
 -- the error of a part is permitted on the compound, with any parts after it
-past : (descriptors m inner : ℕ) (kind : Kind) (qs rest : List (Option Tree)) (q : Option Tree) (e : Error) → CountsParts descriptors (all_trees qs) (m + inner) → IsRefusal e →
-    ((t : Tree) → q ≡ Some t → (e ≡ TooLong) × (2 ^ 64 ≤ m + (nodes t + inner))) → CountsFrom descriptors (whole kind (qs ++ (q ∷ rest))) (Err e)
-unfolding whole
-past descriptors m inner kind qs rest q e h refusal f = on_tree descriptors (whole kind (qs ++ (q ∷ rest))) e refusal (λ w is.
+past : (descriptors m inner : ℕ) (kind : CompoundKind) (qs rest : List (Option Tree)) (q : Option Tree) (e : Error) → CountsParts descriptors (all_trees qs) (m + inner) → IsRefusal e →
+    ((t : Tree) → q ≡ Some t → (e ≡ TooLong) × (2 ^ 64 ≤ m + (nodes t + inner))) → CountsFrom descriptors (tree_of_parts kind (qs ++ (q ∷ rest))) (Err e)
+unfolding tree_of_parts
+past descriptors m inner kind qs rest q e h refusal f = on_tree descriptors (tree_of_parts kind (qs ++ (q ∷ rest))) e refusal (λ w is.
     let b = whole_nodes kind (all_trees (qs ++ (q ∷ rest))) w is in
     let a = among_parts qs rest q b.0 b.1.0 in
     let k = counted_at descriptors (m + inner) (all_trees qs) a.ts h a.first in
@@ -223,28 +223,28 @@ past descriptors m inner kind qs rest q e h refusal f = on_tree descriptors (who
     (g.0, omega arith))
 
 -- like `past`, for the intended tree of the compound
-past_held : (b : Bool) (start : NodeCounter) (kind : Kind) (held : Counting) (ps rest : List (Option Tree)) (p : Option Tree) (e : Error) → fits start.pending kind ≡ b → Holds start kind held ps → IsRefusal e →
-    ((t : Tree) → meant held.next.pending p ≡ Some t → (e ≡ TooLong) × (2 ^ 64 ≤ held.count + (nodes t + held.next.descriptors))) →
-    CountsFrom start.descriptors (meant start.pending (whole kind (ps ++ (p ∷ rest)))) (Err e)
-past_held true start kind held ps rest p e fit h refusal f =
+past_held : (b : Bool) (start : NodeCounter) (kind : CompoundKind) (compound : Counting) (ps rest : List (Option Tree)) (p : Option Tree) (e : Error) → fits start.pending kind ≡ b → Holds start kind compound ps → IsRefusal e →
+    ((t : Tree) → meant compound.next.pending p ≡ Some t → (e ≡ TooLong) × (2 ^ 64 ≤ compound.count + (nodes t + compound.next.descriptors))) →
+    CountsFrom start.descriptors (meant start.pending (tree_of_parts kind (ps ++ (p ∷ rest)))) (Err e)
+past_held true start kind compound ps rest p e fit h refusal f =
     through start.pending kind start.descriptors (ps ++ (p ∷ rest)) (Err e) fit
-    (subst (λ xs. CountsFrom start.descriptors (whole kind xs) (Err e)) (sym (held_more start kind held ps rest p h))
-    (past start.descriptors held.count held.next.descriptors kind (meant_parts kind start.pending ps) rest (meant held.next.pending p) e h.count refusal f))
-past_held false start kind held ps rest p e fit h refusal f = barred start.pending kind start.descriptors (ps ++ (p ∷ rest)) e fit refusal
+    (subst (λ xs. CountsFrom start.descriptors (tree_of_parts kind xs) (Err e)) (sym (held_more start kind compound ps rest p h))
+    (past start.descriptors compound.count compound.next.descriptors kind (meant_parts kind start.pending ps) rest (meant compound.next.pending p) e h.count refusal f))
+past_held false start kind compound ps rest p e fit h refusal f = barred start.pending kind start.descriptors (ps ++ (p ∷ rest)) e fit refusal
 
 -- the result for a part that has a tree
 answer : (descriptors : ℕ) (o : Option Tree) (r : Result ℕ Error) (t : Tree) → CountsFrom descriptors o r → o ≡ Some t → CountsFrom descriptors (Some t) r
 answer descriptors o r t h e = subst (λ q. CountsFrom descriptors q r) e h
 
-pub refused : (start : NodeCounter) (kind : Kind) (held : Counting) (ps : List (Option Tree)) (p : Option Tree) (e : Error) → Holds start kind held ps → CountsFrom held.next.descriptors (meant held.next.pending p) (Err e) →
-    (rest : List (Option Tree)) → CountsFrom start.descriptors (meant start.pending (whole kind (ps ++ (p ∷ rest)))) (Err e)
-refused start kind held ps p e h g rest = past_held (fits start.pending kind) start kind held ps rest p e refl h (is_refusal held.next.descriptors (meant held.next.pending p) e g) (λ t is.
-    let a = answer held.next.descriptors (meant held.next.pending p) (Err e) t g is in
+pub refused : (start : NodeCounter) (kind : CompoundKind) (compound : Counting) (ps : List (Option Tree)) (p : Option Tree) (e : Error) → Holds start kind compound ps → CountsFrom compound.next.descriptors (meant compound.next.pending p) (Err e) →
+    (rest : List (Option Tree)) → CountsFrom start.descriptors (meant start.pending (tree_of_parts kind (ps ++ (p ∷ rest)))) (Err e)
+refused start kind compound ps p e h g rest = past_held (fits start.pending kind) start kind compound ps rest p e refl h (is_refusal compound.next.descriptors (meant compound.next.pending p) e g) (λ t is.
+    let a = answer compound.next.descriptors (meant compound.next.pending p) (Err e) t g is in
     let m = a.1 in
     (a.0, omega arith))
 
-pub too_many : (start : NodeCounter) (n : ℕ) (kind : Kind) (held : Counting) (ps : List (Option Tree)) (p : Option Tree) → Holds start kind held ps → CountsFrom held.next.descriptors (meant held.next.pending p) (Ok n) →
-    2 ^ 64 ≤ held.count + n → (rest : List (Option Tree)) → CountsFrom start.descriptors (meant start.pending (whole kind (ps ++ (p ∷ rest)))) (Err TooLong)
-too_many start n kind held ps p h g m rest = past_held (fits start.pending kind) start kind held ps rest p TooLong refl h (inr refl) (λ t is.
-    let a = answer held.next.descriptors (meant held.next.pending p) (Ok n) t g is in
+pub too_many : (start : NodeCounter) (n : ℕ) (kind : CompoundKind) (compound : Counting) (ps : List (Option Tree)) (p : Option Tree) → Holds start kind compound ps → CountsFrom compound.next.descriptors (meant compound.next.pending p) (Ok n) →
+    2 ^ 64 ≤ compound.count + n → (rest : List (Option Tree)) → CountsFrom start.descriptors (meant start.pending (tree_of_parts kind (ps ++ (p ∷ rest)))) (Err TooLong)
+too_many start n kind compound ps p h g m rest = past_held (fits start.pending kind) start kind compound ps rest p TooLong refl h (inr refl) (λ t is.
+    let a = answer compound.next.descriptors (meant compound.next.pending p) (Ok n) t g is in
     (refl, omega arith))

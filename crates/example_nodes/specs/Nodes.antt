@@ -8,14 +8,14 @@ use Rattle.amqp_data.specs.declared.error.Error.{Error}
 use Rattle.amqp_data.specs.declared.error.Error.TheVariants.{InvalidValue, TooLong}
 use Rattle.amqp_ser.specs.Tree.{Tree, Trees, Pairs, scalar, list, array, map, described, variant, lazy, transparent, no_trees, more, no_pairs, pair}
 use Rattle.amqp_ser.specs.Compounds.{all_trees, paired}
-use Rattle.amqp_ser.specs.declared.kind.Kind.{Kind}
-use Rattle.amqp_ser.specs.declared.kind.Kind.TheVariants as kinds
-use Rattle.amqp_ser.specs.declared.mark.Mark.TheVariants as mark
-use Rattle.example_nodes.specs.PendingMark.{fits, meant}
+use Rattle.amqp_ser.specs.declared.kind.CompoundKind.{CompoundKind}
+use Rattle.amqp_ser.specs.declared.kind.CompoundKind.TheVariants as kinds
+use Rattle.amqp_ser.specs.declared.marker.Marker.TheVariants as marker
+use Rattle.example_nodes.specs.PendingMarker.{fits, meant}
 use Rattle.example_nodes.specs.declared.counter.Counting.{Counting}
 use Rattle.example_nodes.specs.declared.counter.NodeCounter.{NodeCounter}
-use Rattle.example_nodes.specs.declared.pending_mark.PendingMark.{PendingMark}
-use Rattle.example_nodes.specs.declared.pending_mark.PendingMark.TheVariants as pending
+use Rattle.example_nodes.specs.declared.pending_marker.PendingMarker.{PendingMarker}
+use Rattle.example_nodes.specs.declared.pending_marker.PendingMarker.TheVariants as pending
 
 abbrev mutual
   pub nodes : Tree → ℕ
@@ -54,7 +54,7 @@ CountsNodes t r = CountsFrom 0 t r
 
 -- the state before a top-level tree: no descriptors and no marker
 abbrev pub fresh : NodeCounter
-fresh = record { descriptors = 0; pending = pending.Mark mark.Other }
+fresh = record { descriptors = 0; pending = pending.Marker marker.Other }
 
 -- the counter's result for a tree; afterwards the counter is `fresh`
 abbrev pub Permits : NodeCounter → Option Tree → Result ℕ Error → NodeCounter → Type 0
@@ -65,19 +65,19 @@ pub no_count_on_none : (before : NodeCounter) (n : ℕ) (after : NodeCounter) �
 no_count_on_none before n after h = h.0
 
 -- the number of nodes that a compound adds to those of its parts
-abbrev pub own_nodes : Kind → ℕ
+abbrev pub own_nodes : CompoundKind → ℕ
 own_nodes (kinds.Variant i) = 2
 own_nodes kinds.Single = 0
 own_nodes k = 1
 
 -- the state before the next part: for the one part of a single compound, the state before the
 -- compound; otherwise `fresh`
-abbrev pub for_part : Kind → List (Option Tree) → NodeCounter → NodeCounter
+abbrev pub for_part : CompoundKind → List (Option Tree) → NodeCounter → NodeCounter
 for_part kinds.Single [] start = start
 for_part k ps start = fresh
 
 -- the intended trees of the parts: what precedes a single compound applies to its one part
-abbrev pub meant_parts : Kind → PendingMark → List (Option Tree) → List (Option Tree)
+abbrev pub meant_parts : CompoundKind → PendingMarker → List (Option Tree) → List (Option Tree)
 meant_parts kinds.Single u (p ∷ ps) = meant u p ∷ ps
 meant_parts k u ps = ps
 
@@ -87,21 +87,21 @@ CountsParts descriptors None n = ⊥
 CountsParts descriptors (Some ts) n = n ≡ nodes_each ts + descriptors
 
 -- an open compound with these parts
-pub record Holds (start : NodeCounter) (kind : Kind) (held : Counting) (ps : List (Option Tree)) : Type 0 where
-  pub own : held.own ≡ own_nodes kind
-  pub fits : held.fits ≡ fits start.pending kind
-  pub next : held.next ≡ for_part kind ps start
-  pub count : CountsParts start.descriptors (all_trees (meant_parts kind start.pending ps)) (held.count + held.next.descriptors)
-  pub before_last : kind ≡ kinds.Map → paired ps ≡ false → (qs : List (Option Tree)) (q : Option Tree) → ps ≡ qs ++ (q ∷ []) → CountsParts start.descriptors (all_trees qs) held.before_last
+pub record Holds (start : NodeCounter) (kind : CompoundKind) (compound : Counting) (ps : List (Option Tree)) : Type 0 where
+  pub own : compound.own ≡ own_nodes kind
+  pub fits : compound.fits ≡ fits start.pending kind
+  pub next : compound.next ≡ for_part kind ps start
+  pub count : CountsParts start.descriptors (all_trees (meant_parts kind start.pending ps)) (compound.count + compound.next.descriptors)
+  pub before_last : kind ≡ kinds.Map → paired ps ≡ false → (qs : List (Option Tree)) (q : Option Tree) → ps ≡ qs ++ (q ∷ []) → CountsParts start.descriptors (all_trees qs) compound.before_last
 
 -- a compound that `start` opened, and the counter between two parts
-abbrev pub Has : NodeCounter → Kind → NodeCounter → Counting → List (Option Tree) → Type 0
-Has start kind now held ps = Holds start kind held ps × (now ≡ fresh)
+abbrev pub Has : NodeCounter → CompoundKind → NodeCounter → Counting → List (Option Tree) → Type 0
+Has start kind now compound ps = Holds start kind compound ps × (now ≡ fresh)
 
 -- like `Has`, with the counter before the next part
-abbrev pub Awaits : NodeCounter → Kind → NodeCounter → Counting → List (Option Tree) → Type 0
-Awaits start kind now held ps = Holds start kind held ps × (now ≡ held.next)
+abbrev pub Awaits : NodeCounter → CompoundKind → NodeCounter → Counting → List (Option Tree) → Type 0
+Awaits start kind now compound ps = Holds start kind compound ps × (now ≡ compound.next)
 
 -- a single compound, with the counter at the descriptor of its value
 abbrev pub AwaitsDescriptor : NodeCounter → NodeCounter → Counting → Type 0
-AwaitsDescriptor start now held = Holds start kinds.Single held [] × (now ≡ record { descriptors = 0; pending = pending.Descriptor })
+AwaitsDescriptor start now compound = Holds start kinds.Single compound [] × (now ≡ record { descriptors = 0; pending = pending.Descriptor })

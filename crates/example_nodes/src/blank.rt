@@ -7,16 +7,16 @@ ghost use Rattle.std.specs.Prelude.{◌≡◌, ◌++◌, ◌∷◌, [], ℕ, Lis
 ghost use Rattle.amqp_ser.specs.Tree.{Tree};
 
 use amqp_data::Error;
-use amqp_ser::{Fixed, Kind, Mark, Serializer};
+use amqp_ser::{Fixed, CompoundKind, Marker, Serializer};
 
 /// A serializer that returns an error for every value.
 #[derive(Drop)]
 pub struct Blank;
 
 impl Serializer for Blank {
-    ghost use Rattle.amqp_ser.specs.declared.kind.Kind.{Kind};
+    ghost use Rattle.amqp_ser.specs.declared.kind.CompoundKind.{CompoundKind};
     ghost use Rattle.example_nodes.specs.Blank.{BlankPermits, Refuses, no_answer};
-    ghost use Rattle.amqp_ser.specs.Compounds.{whole};
+    ghost use Rattle.amqp_ser.specs.Compounds.{tree_of_parts};
     ghost use Rattle.amqp_ser.specs.Composites.{as_described, descriptor_of};
 
     type Ok = ();
@@ -27,13 +27,13 @@ impl Serializer for Blank {
 
     ghost permits = { BlankPermits };
 
-    ghost has = { λ start kind now held parts. Unit {0} };
+    ghost has = { λ start kind now compound parts. Unit {0} };
 
-    ghost awaits = { λ start kind now held parts. Unit {0} };
+    ghost awaits = { λ start kind now compound parts. Unit {0} };
 
-    ghost awaits_descriptor = { λ start now held. Unit {0} };
+    ghost awaits_descriptor = { λ start now compound. Unit {0} };
 
-    ghost is_misuse = { λ e. Unit {0} };
+    ghost is_misuse_error = { λ e. Unit {0} };
 
     ghost refuses_none = { no_answer };
 
@@ -53,16 +53,16 @@ impl Serializer for Blank {
         Err(Error::InvalidValue)
     }
 
-    fn mark(&mut self, _mark: Mark) {}
+    fn set_marker(&mut self, _marker: Marker) {}
 
-    fn begin(&mut self, _kind: Kind) {}
+    fn begin_compound(&mut self, _kind: CompoundKind) {}
 
-    fn vacant(&self) {}
+    fn placeholder(&self) {}
 
-    fn begin_part(&mut self, _held: &mut ()) {}
+    fn begin_part(&mut self, _compound: &mut ()) {}
 
-    fn end_part(&mut self, _held: &mut (), part: Result<(), Error>) -> Result<(), Error>
-        ensures step { (start : Blank) (kind : Kind) (before : Blank)
+    fn end_part(&mut self, _compound: &mut (), part: Result<(), Error>) -> Result<(), Error>
+        ensures step { (start : Blank) (kind : CompoundKind) (before : Blank)
             (ps : List (Option Tree)) (p : Option Tree) →
             Unit {0} → Refuses part →
             MatchResult result (λ _. Unit {0})
@@ -72,15 +72,15 @@ impl Serializer for Blank {
         part
     }
 
-    fn undo_part(&mut self, _held: &mut ()) {}
+    fn undo_part(&mut self, _compound: &mut ()) {}
 
-    fn misuse(&mut self, _held: &mut ()) -> Error {
+    fn misuse_error(&mut self, _compound: &mut ()) -> Error {
         Error::InvalidValue
     }
 
-    fn begin_descriptor(&mut self, _held: &mut ()) {}
+    fn begin_descriptor(&mut self, _compound: &mut ()) {}
 
-    fn end_descriptor(&mut self, _held: &mut (), part: Result<(), Error>) -> Result<(), Error>
+    fn end_descriptor(&mut self, _compound: &mut (), part: Result<(), Error>) -> Result<(), Error>
         ensures step { (start before : Blank) (d : Option Tree) → Unit {0} → Refuses part →
             MatchResult result
             (λ _. (mid : Blank) × (Unit {0} ×
@@ -94,7 +94,7 @@ impl Serializer for Blank {
         Err(Error::InvalidValue)
     }
 
-    fn end(&mut self, _held: ()) -> Result<(), Error> {
+    fn end(&mut self, _compound: ()) -> Result<(), Error> {
         Err(Error::InvalidValue)
     }
 }

@@ -8,9 +8,9 @@ ghost use Rattle.amqp_data.specs.declared.error.Error.TheVariants.{InvalidValue,
 ghost use Rattle.amqp_ser.specs.Tree.{Tree};
 ghost use Rattle.example_nodes.specs.Nodes.{CountsNodes, fresh};
 
-use crate::pending_mark::PendingMark;
+use crate::pending_marker::PendingMarker;
 use amqp_data::Error;
-use amqp_ser::{Fixed, Kind, Mark, Serialize, Serializer};
+use amqp_ser::{Fixed, CompoundKind, Marker, Serialize, Serializer};
 use std::mem;
 
 /// A serializer that counts the nodes of a tree.
@@ -22,7 +22,7 @@ pub struct NodeCounter {
     /// The number of descriptors before the next tree. Each adds one node.
     descriptors: u64,
     /// The marker of the next tree, or the position of a descriptor.
-    pending: PendingMark,
+    pending: PendingMarker,
 }
 
 /// A compound that is being counted.
@@ -57,7 +57,7 @@ impl NodeCounter {
     {
         NodeCounter {
             descriptors: 0,
-            pending: PendingMark::Mark(Mark::Other),
+            pending: PendingMarker::Marker(Marker::Other),
         }
     }
 
@@ -90,8 +90,8 @@ impl NodeCounter {
 }
 
 impl Serializer for NodeCounter {
-    ghost use Rattle.amqp_ser.specs.declared.kind.Kind.{Kind};
-    ghost use Rattle.amqp_ser.specs.Compounds.{whole};
+    ghost use Rattle.amqp_ser.specs.declared.kind.CompoundKind.{CompoundKind};
+    ghost use Rattle.amqp_ser.specs.Compounds.{tree_of_parts};
     ghost use Rattle.amqp_ser.specs.Composites.{as_described, descriptor_of};
     ghost use Rattle.example_nodes.specs.Nodes.{Awaits, AwaitsDescriptor, Has, Permits, no_count_on_none};
 
@@ -109,7 +109,7 @@ impl Serializer for NodeCounter {
 
     ghost awaits_descriptor = { AwaitsDescriptor };
 
-    ghost is_misuse = { λ e. e ≡ InvalidValue };
+    ghost is_misuse_error = { λ e. e ≡ InvalidValue };
 
     ghost refuses_none = { no_count_on_none };
 
@@ -133,18 +133,18 @@ impl Serializer for NodeCounter {
     ///
     /// The marked tree has as many nodes as the tree itself, but some trees are invalid under the
     /// marker.
-    fn mark(&mut self, mark: Mark) {
-        self.pending = self.pending.with(mark);
+    fn set_marker(&mut self, marker: Marker) {
+        self.pending = self.pending.with_marker(marker);
     }
 
     /// Opens a compound.
     ///
     /// The descriptors and the marker before a compound of kind `Single` apply to its one part.
-    fn begin(&mut self, kind: Kind) -> Counting {
+    fn begin_compound(&mut self, kind: CompoundKind) -> Counting {
         let start = self.take();
         let (own, next, count) = match kind {
-            Kind::Single => (0, start, 0),
-            Kind::Variant(_) => (2, *self, start.descriptors),
+            CompoundKind::Single => (0, start, 0),
+            CompoundKind::Variant(_) => (2, *self, start.descriptors),
             _ => (1, *self, start.descriptors),
         };
         Counting {
@@ -156,7 +156,7 @@ impl Serializer for NodeCounter {
         }
     }
 
-    fn vacant(&self) -> Counting {
+    fn placeholder(&self) -> Counting {
         Counting {
             own: 0,
             fits: false,
@@ -166,64 +166,64 @@ impl Serializer for NodeCounter {
         }
     }
 
-    fn begin_part(&mut self, held: &mut Counting) {
-        *self = held.next;
+    fn begin_part(&mut self, compound: &mut Counting) {
+        *self = compound.next;
     }
 
-    fn end_part(&mut self, held: &mut Counting, part: Result<u64, Error>) -> Result<(), Error>
-        ensures step { (start : NodeCounter) (kind : Kind) (before : NodeCounter)
+    fn end_part(&mut self, compound: &mut Counting, part: Result<u64, Error>) -> Result<(), Error>
+        ensures step { (start : NodeCounter) (kind : CompoundKind) (before : NodeCounter)
             (ps : List (Option Tree)) (p : Option Tree) →
-            Awaits start kind before held.old ps → Permits before p part self.old →
+            Awaits start kind before compound.old ps → Permits before p part self.old →
             MatchResult result
-            (λ _. Has start kind self.new held.new (ps ++ (p ∷ [])))
-            (λ e. Has start kind self.new held.new ps × ((rest : List (Option Tree)) →
-            Permits start (whole kind (ps ++ (p ∷ rest))) (Err e) self.new)) }
+            (λ _. Has start kind self.new compound.new (ps ++ (p ∷ [])))
+            (λ e. Has start kind self.new compound.new ps × ((rest : List (Option Tree)) →
+            Permits start (tree_of_parts kind (ps ++ (p ∷ rest))) (Err e) self.new)) }
         ensures refused { IfErr part (λ _. IsErr result) }
     {
         let nodes = part?;
-        let count = add(held.count, nodes)?;
-        held.before_last = held.count;
-        held.count = count;
-        held.next = NodeCounter::new();
+        let count = add(compound.count, nodes)?;
+        compound.before_last = compound.count;
+        compound.count = count;
+        compound.next = NodeCounter::new();
         Ok(())
     }
 
-    fn undo_part(&mut self, held: &mut Counting) {
-        held.count = held.before_last;
+    fn undo_part(&mut self, compound: &mut Counting) {
+        compound.count = compound.before_last;
     }
 
-    fn misuse(&mut self, _held: &mut Counting) -> Error {
+    fn misuse_error(&mut self, _compound: &mut Counting) -> Error {
         Error::InvalidValue
     }
 
-    fn begin_descriptor(&mut self, _held: &mut Counting) {
-        self.pending = PendingMark::Descriptor;
+    fn begin_descriptor(&mut self, _compound: &mut Counting) {
+        self.pending = PendingMarker::Descriptor;
     }
 
-    fn end_descriptor(&mut self, held: &mut Counting, part: Result<u64, Error>) -> Result<(), Error>
+    fn end_descriptor(&mut self, compound: &mut Counting, part: Result<u64, Error>) -> Result<(), Error>
         ensures step { (start before : NodeCounter) (d : Option Tree) →
-            AwaitsDescriptor start before held.old → Permits before d part self.old →
+            AwaitsDescriptor start before compound.old → Permits before d part self.old →
             MatchResult result
-            (λ _. (mid : NodeCounter) × (Has mid Kind.Single self.new held.new [] ×
+            (λ _. (mid : NodeCounter) × (Has mid CompoundKind.Single self.new compound.new [] ×
             ((t : Option Tree) (r : Result ℕ Error) (after : NodeCounter) →
             Permits mid t r after → Permits start (as_described (descriptor_of d) t) r after)))
-            (λ e. Has start Kind.Single self.new held.new [] ×
+            (λ e. Has start CompoundKind.Single self.new compound.new [] ×
             ((t : Option Tree) →
             Permits start (as_described (descriptor_of d) t) (Err e) self.new)) }
         ensures refused { IfErr part (λ _. IsErr result) }
         ensures other_kinds { (start before : NodeCounter) (d : Option Tree) →
-            AwaitsDescriptor start before held.old → Permits before d part self.old →
+            AwaitsDescriptor start before compound.old → Permits before d part self.old →
             descriptor_of d ≡ None → IsErr result }
     {
         part?;
-        held.next.descriptors = add(held.next.descriptors, 1)?;
-        held.next.pending = held.next.pending.with_descriptor();
+        compound.next.descriptors = add(compound.next.descriptors, 1)?;
+        compound.next.pending = compound.next.pending.with_descriptor();
         Ok(())
     }
 
-    fn end(&mut self, held: Counting) -> Result<u64, Error> {
-        if held.fits {
-            add(held.count, held.own)
+    fn end(&mut self, compound: Counting) -> Result<u64, Error> {
+        if compound.fits {
+            add(compound.count, compound.own)
         } else {
             Err(Error::InvalidValue)
         }

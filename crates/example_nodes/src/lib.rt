@@ -7,10 +7,10 @@
 
 mod blank;
 mod counter;
-mod pending_mark;
+mod pending_marker;
 mod reading;
 
 pub use blank::Blank;
 pub use counter::{Counting, NodeCounter, count_nodes};
-pub use pending_mark::PendingMark;
+pub use pending_marker::PendingMarker;
 pub use reading::Reading;

@@ -5,8 +5,8 @@
 
 ghost use Rattle.std.specs.Prelude.{[], ◌∷◌, Some, string_bytes};
 ghost use Rattle.amqp_ser.specs.Tree.{scalar, string, uint, int};
-ghost use Rattle.amqp_ser.specs.Compounds.{whole};
-ghost use Rattle.amqp_ser.specs.declared.kind.Kind.TheVariants.{List};
+ghost use Rattle.amqp_ser.specs.Compounds.{tree_of_parts};
+ghost use Rattle.amqp_ser.specs.declared.kind.CompoundKind.TheVariants.{List};
 
 use amqp_ser::{Serialize, Serializer};
 
@@ -22,7 +22,7 @@ pub struct Reading {
 }
 
 impl Serialize for Reading {
-    ghost tree = { λ r. whole List
+    ghost tree = { λ r. tree_of_parts List
         (Some (scalar (string (string_bytes r.sensor))) ∷ Some (scalar (uint r.seconds))
         ∷ Some (scalar (int r.degrees)) ∷ []) };
 

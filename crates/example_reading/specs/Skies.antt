@@ -5,26 +5,26 @@ use Rattle.std.specs.Prelude.{ℕ, [], ◌∷◌, Option}
 use Rattle.std.specs.declared.string.String.{String}
 use Rattle.std.specs.declared.alloc.Global.{Global}
 use Rattle.amqp_de.specs.declared.enums.variants.Never.{Never}
-use Rattle.amqp_de.specs.declared.enums.variants.OneOf.{OneOf}
-use Rattle.amqp_de.specs.declared.enums.variants.OneOf.TheVariants.{This, Other}
+use Rattle.amqp_de.specs.declared.enums.variants.Either.{Either}
+use Rattle.amqp_de.specs.declared.enums.variants.Either.TheVariants.{This, Other}
 use Rattle.amqp_ser.specs.Carried.{optional}
-use Rattle.amqp_ser.specs.Compounds.{whole}
+use Rattle.amqp_ser.specs.Compounds.{tree_of_parts}
 use Rattle.amqp_ser.specs.Tree.{Tree}
 use Rattle.amqp_ser.specs.Words.{variant_of, of_string, of_u8, of_u16, of_u32}
-use Rattle.amqp_ser.specs.declared.kind.Kind.TheVariants as kind
+use Rattle.amqp_ser.specs.declared.kind.CompoundKind.TheVariants as kind
 use Rattle.example_reading.specs.declared.sky.Sky.{Sky}
 use Rattle.example_reading.specs.declared.sky.Sky.TheVariants as sky
 
 -- the index, the variant of one value, or the variant of a list of fields
 abbrev pub of_sky : Sky → Option Tree
 of_sky sky.Clear = of_u32 0
-of_sky (sky.Cloudy eighths) = whole (kind.NewtypeVariant 1) (of_u8 eighths ∷ [])
+of_sky (sky.Cloudy eighths) = tree_of_parts (kind.NewtypeVariant 1) (of_u8 eighths ∷ [])
 of_sky (sky.Windy speed from) = variant_of 2 (of_u16 speed ∷ of_u16 from ∷ [])
 of_sky (sky.Storm name until) = variant_of 3 (of_string name ∷ optional of_u32 until ∷ [])
 
 -- the fields of each variant, as they are read
 abbrev pub sky_parts : Sky →
-    OneOf (Unit {0}) (OneOf ℕ (OneOf (ℕ × (ℕ × Unit {0})) (OneOf (String Global × (Option ℕ × Unit {0})) Never)))
+    Either (Unit {0}) (Either ℕ (Either (ℕ × (ℕ × Unit {0})) (Either (String Global × (Option ℕ × Unit {0})) Never)))
 sky_parts sky.Clear = This tt
 sky_parts (sky.Cloudy eighths) = Other (This eighths)
 sky_parts (sky.Windy speed from) = Other (Other (This (speed, (from, tt))))

@@ -5,7 +5,7 @@
 
 use amqp_data::Symbol;
 use amqp_de::de::{Deserialize, Deserializer};
-use amqp_de::{NamedOf, Of, Record, named, read_described};
+use amqp_de::{NamedSeed, TypeSeed, Record, named, read_described};
 use amqp_ser::{Serialize, Serializer};
 use std::alloc::Global;
 use std::marker::PhantomData;
@@ -32,7 +32,7 @@ impl Serialize for Span {
 }
 
 impl Record for Span {
-    type Parts = (u64, (u64, ()));
+    type Values = (u64, (u64, ()));
 
     ghost parts = { λ s. (s.0, (s.1, tt)) };
 }
@@ -40,12 +40,12 @@ impl Record for Span {
 impl Deserialize for Span {
     ghost use Rattle.std.specs.Prelude.{◌≡◌, [], ◌∷◌, codes};
     ghost use Rattle.amqp_ser.specs.Tree.{code, described, list, scalar, trees_of, ulong};
-    ghost use Rattle.amqp_de.specs.Fields.{OnDescribed, OnFields, must, end};
+    ghost use Rattle.amqp_de.specs.Fields.{OnDescribed, OnFields, ReadsRequired, NoMoreFields};
     ghost use Rattle.amqp_de.specs.Reads.{Always};
 
     ghost reads = { λ t s. OnDescribed (code 0x16) (OnFields (
-        must (codes "0") ⟦<u64 as Deserialize>⟧.reads s.0 (
-        must (codes "1") ⟦<u64 as Deserialize>⟧.reads s.1 end))) t };
+        ReadsRequired (codes "0") ⟦<u64 as Deserialize>⟧.reads s.0 (
+        ReadsRequired (codes "1") ⟦<u64 as Deserialize>⟧.reads s.1 NoMoreFields))) t };
 
     ghost image = { λ s. described (code 0x16) (list (trees_of (
         scalar (ulong s.0) ∷ scalar (ulong s.1) ∷ []))) };
@@ -55,11 +55,11 @@ impl Deserialize for Span {
     ghost same = { λ s r. (s.0 ≡ r.0) × (s.1 ≡ r.1) };
 
     fn deserialize<D: Deserializer>(alloc: Global, deserializer: D) -> Result<Span, D::Error> {
-        let amqp_de::fields! { first, last } = read_described::<Span, D, _, _>(
+        let amqp_de::values! { first, last } = read_described::<Span, D, _, _>(
             alloc,
             deserializer,
             &0x16u64,
-            amqp_de::ListOf(named! { "0", "1" }),
+            amqp_de::ListSeed(named! { "0", "1" }),
         )?;
         Ok(Span(first, last))
     }
@@ -81,7 +81,7 @@ impl Serialize for Title {
 }
 
 impl Record for Title {
-    type Parts = String;
+    type Values = String;
 
     ghost parts = { λ x. x.0 };
 }
@@ -106,7 +106,7 @@ impl Deserialize for Title {
             alloc,
             deserializer,
             &0x13u64,
-            Of(PhantomData::<String>),
+            TypeSeed(PhantomData::<String>),
         )?))
     }
 }
@@ -142,7 +142,7 @@ impl Serialize for Limits {
 }
 
 impl Record for Limits {
-    type Parts = (i32, (i32, (Option<Symbol>, ())));
+    type Values = (i32, (i32, (Option<Symbol>, ())));
 
     ghost parts = { λ l. (l.lowest, (l.highest, (l.unit, tt))) };
 }
@@ -150,12 +150,12 @@ impl Record for Limits {
 impl Deserialize for Limits {
     ghost use Rattle.std.specs.Prelude.{◌≡◌, [], ◌∷◌, codes};
     ghost use Rattle.amqp_ser.specs.Tree.{code, described, int, list, scalar, trees_of};
-    ghost use Rattle.amqp_de.specs.Fields.{OnDescribed, OnNamed, must, may, end};
+    ghost use Rattle.amqp_de.specs.Fields.{OnDescribed, OnNamed, ReadsRequired, ReadsOptional, NoMoreFields};
 
     ghost reads = { λ t l. OnDescribed (code 0x14) (OnNamed (
-        must (codes "lowest") ⟦<i32 as Deserialize>⟧.reads l.lowest (
-        must (codes "highest") ⟦<i32 as Deserialize>⟧.reads l.highest (
-        may (codes "unit") ⟦<Symbol as Deserialize>⟧.reads l.unit end)))) t };
+        ReadsRequired (codes "lowest") ⟦<i32 as Deserialize>⟧.reads l.lowest (
+        ReadsRequired (codes "highest") ⟦<i32 as Deserialize>⟧.reads l.highest (
+        ReadsOptional (codes "unit") ⟦<Symbol as Deserialize>⟧.reads l.unit NoMoreFields)))) t };
 
     ghost image = { λ l. described (code 0x14) (list (trees_of (
         scalar (int l.lowest) ∷ scalar (int l.highest)
@@ -167,11 +167,11 @@ impl Deserialize for Limits {
         × ⟦<Option<Symbol> as Deserialize>⟧.same l.unit m.unit };
 
     fn deserialize<D: Deserializer>(alloc: Global, deserializer: D) -> Result<Limits, D::Error> {
-        let amqp_de::fields! { lowest, highest, unit } = read_described::<Limits, D, _, _>(
+        let amqp_de::values! { lowest, highest, unit } = read_described::<Limits, D, _, _>(
             alloc,
             deserializer,
             &0x14u64,
-            NamedOf(named! { "lowest", "highest", "unit"? }),
+            NamedSeed(named! { "lowest", "highest", "unit"? }),
         )?;
         Ok(Limits {
             lowest,

@@ -1,7 +1,7 @@
 //! A struct with a map and an array of fixed length, and a composite described by a symbol.
 //!
 //! For readers whose fields are collections, or whose descriptors are symbols. The field `light`
-//! comes first because it is copied: the check of `amqp_de::fields!` does not cover a copied field
+//! comes first because it is copied: the check of `amqp_de::values!` does not cover a copied field
 //! after two moved ones.
 
 use amqp_data::{Symbol, SymbolRef};
@@ -40,7 +40,7 @@ impl Serialize for Day {
 }
 
 impl Record for Day {
-    type Parts = ([u32; 2], (Symbol, (BTreeMap<u32, i32>, ())));
+    type Values = ([u32; 2], (Symbol, (BTreeMap<u32, i32>, ())));
 
     ghost parts = { λ d. (d.light, (d.station, (d.hours, tt))) };
 }
@@ -49,12 +49,12 @@ impl Deserialize for Day {
     ghost use Rattle.std.specs.Prelude.{◌≡◌, [], ◌∷◌, codes};
     ghost use Rattle.amqp_data.specs.Text.{symbol_text};
     ghost use Rattle.amqp_ser.specs.Tree.{scalar, symbol, list, trees_of};
-    ghost use Rattle.amqp_de.specs.Fields.{OnFields, must, end};
+    ghost use Rattle.amqp_de.specs.Fields.{OnFields, ReadsRequired, NoMoreFields};
 
     ghost reads = { λ t d. OnFields (
-        must (codes "light") ⟦<[u32; 2] as Deserialize>⟧.reads d.light (
-        must (codes "station") ⟦<Symbol as Deserialize>⟧.reads d.station (
-        must (codes "hours") ⟦<BTreeMap<u32, i32> as Deserialize>⟧.reads d.hours end))) t };
+        ReadsRequired (codes "light") ⟦<[u32; 2] as Deserialize>⟧.reads d.light (
+        ReadsRequired (codes "station") ⟦<Symbol as Deserialize>⟧.reads d.station (
+        ReadsRequired (codes "hours") ⟦<BTreeMap<u32, i32> as Deserialize>⟧.reads d.hours NoMoreFields))) t };
 
     ghost image = { λ d. list (trees_of (⟦<[u32; 2] as Deserialize>⟧.image d.light
         ∷ scalar (symbol (symbol_text d.station))
@@ -68,10 +68,10 @@ impl Deserialize for Day {
         × ⟦<BTreeMap<u32, i32> as Deserialize>⟧.same d.hours e.hours };
 
     fn deserialize<D: Deserializer>(alloc: Global, deserializer: D) -> Result<Day, D::Error> {
-        let amqp_de::fields! { light, station, hours } = read::<Day, D, _>(
+        let amqp_de::values! { light, station, hours } = read::<Day, D, _>(
             alloc,
             deserializer,
-            amqp_de::ListOf(named! { "light", "station", "hours" }),
+            amqp_de::ListSeed(named! { "light", "station", "hours" }),
         )?;
         Ok(Day {
             light,
@@ -107,7 +107,7 @@ impl Serialize for Rain {
 }
 
 impl Record for Rain {
-    type Parts = (u32, (u16, ()));
+    type Values = (u32, (u16, ()));
 
     ghost parts = { λ r. (r.amount, (r.time, tt)) };
 }
@@ -115,12 +115,12 @@ impl Record for Rain {
 impl Deserialize for Rain {
     ghost use Rattle.std.specs.Prelude.{◌≡◌, [], ◌∷◌, codes};
     ghost use Rattle.amqp_ser.specs.Tree.{name, described, list, scalar, trees_of, uint, ushort};
-    ghost use Rattle.amqp_de.specs.Fields.{OnDescribed, OnFields, must, end};
+    ghost use Rattle.amqp_de.specs.Fields.{OnDescribed, OnFields, ReadsRequired, NoMoreFields};
     ghost use Rattle.amqp_de.specs.Reads.{Always};
 
     ghost reads = { λ t r. OnDescribed (name (codes "station:rain:list")) (OnFields (
-        must (codes "amount") ⟦<u32 as Deserialize>⟧.reads r.amount (
-        must (codes "time") ⟦<u16 as Deserialize>⟧.reads r.time end))) t };
+        ReadsRequired (codes "amount") ⟦<u32 as Deserialize>⟧.reads r.amount (
+        ReadsRequired (codes "time") ⟦<u16 as Deserialize>⟧.reads r.time NoMoreFields))) t };
 
     ghost image = { λ r. described (name (codes "station:rain:list")) (list (trees_of (
         scalar (uint r.amount) ∷ scalar (ushort r.time) ∷ []))) };
@@ -130,11 +130,11 @@ impl Deserialize for Rain {
     ghost same = { λ r s. (r.amount ≡ s.amount) × (r.time ≡ s.time) };
 
     fn deserialize<D: Deserializer>(alloc: Global, deserializer: D) -> Result<Rain, D::Error> {
-        let amqp_de::fields! { amount, time } = read_described::<Rain, D, _, _>(
+        let amqp_de::values! { amount, time } = read_described::<Rain, D, _, _>(
             alloc,
             deserializer,
             &"station:rain:list",
-            amqp_de::ListOf(named! { "amount", "time" }),
+            amqp_de::ListSeed(named! { "amount", "time" }),
         )?;
         Ok(Rain { amount, time })
     }

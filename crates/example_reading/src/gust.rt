@@ -22,10 +22,10 @@ pub struct Gust {
 impl Serialize for Gust {
     ghost use Rattle.std.specs.Prelude.{[], ◌∷◌};
     ghost use Rattle.amqp_ser.specs.Tree.{code};
-    ghost use Rattle.amqp_ser.specs.Words.{may, must, of_u16, of_u32, short_composite};
+    ghost use Rattle.amqp_ser.specs.Words.{optional_value, required_value, of_u16, of_u32, short_composite};
 
     ghost tree = { λ g. short_composite (code 0x17) (
-        must (of_u32 g.speed) ∷ may of_u16 g.from ∷ may of_u16 g.at ∷ []) };
+        required_value (of_u32 g.speed) ∷ optional_value of_u16 g.from ∷ optional_value of_u16 g.at ∷ []) };
 
     fn serialize<S: Serializer>(&self, serializer: &mut S) -> Result<S::Ok, S::Error> {
         serializer.serialize_described(
@@ -40,7 +40,7 @@ impl Serialize for Gust {
 }
 
 impl Record for Gust {
-    type Parts = (u32, (Option<u16>, (Option<u16>, ())));
+    type Values = (u32, (Option<u16>, (Option<u16>, ())));
 
     ghost parts = { λ g. (g.speed, (g.from, (g.at, tt))) };
 }
@@ -48,13 +48,13 @@ impl Record for Gust {
 impl Deserialize for Gust {
     ghost use Rattle.std.specs.Prelude.{◌≡◌, [], ◌∷◌, codes};
     ghost use Rattle.amqp_ser.specs.Tree.{code, described, scalar, uint};
-    ghost use Rattle.amqp_de.specs.Fields.{OnDescribed, OnFields, must, may, end};
+    ghost use Rattle.amqp_de.specs.Fields.{OnDescribed, OnFields, ReadsRequired, ReadsOptional, NoMoreFields};
     ghost use Rattle.amqp_de.specs.Present.{short_list, required, optional};
 
     ghost reads = { λ t g. OnDescribed (code 0x17) (OnFields (
-        must (codes "speed") ⟦<u32 as Deserialize>⟧.reads g.speed (
-        may (codes "from") ⟦<u16 as Deserialize>⟧.reads g.from (
-        may (codes "at") ⟦<u16 as Deserialize>⟧.reads g.at end)))) t };
+        ReadsRequired (codes "speed") ⟦<u32 as Deserialize>⟧.reads g.speed (
+        ReadsOptional (codes "from") ⟦<u16 as Deserialize>⟧.reads g.from (
+        ReadsOptional (codes "at") ⟦<u16 as Deserialize>⟧.reads g.at NoMoreFields)))) t };
 
     ghost image = { λ g. described (code 0x17) (short_list (
         required (scalar (uint g.speed))
@@ -69,11 +69,11 @@ impl Deserialize for Gust {
         × ⟦<Option<u16> as Deserialize>⟧.same g.at h.at };
 
     fn deserialize<D: Deserializer>(alloc: Global, deserializer: D) -> Result<Gust, D::Error> {
-        let amqp_de::fields! { speed, from, at } = read_described::<Gust, D, _, _>(
+        let amqp_de::values! { speed, from, at } = read_described::<Gust, D, _, _>(
             alloc,
             deserializer,
             &0x17u64,
-            amqp_de::ListOf(named! { "speed", "from"?, "at"? }),
+            amqp_de::ListSeed(named! { "speed", "from"?, "at"? }),
         )?;
         Ok(Gust { speed, from, at })
     }

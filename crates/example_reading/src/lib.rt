@@ -11,7 +11,7 @@ mod gust;
 mod maps;
 mod position;
 mod region;
-mod restored;
+mod round_trips;
 mod sky;
 
 pub use composites::{Limits, Span, Title};

@@ -20,11 +20,11 @@ impl Serialize for Calibration {
     ghost use Rattle.std.specs.Prelude.{Some, [], ◌∷◌, codes};
     ghost use Rattle.amqp_ser.specs.Composites.{as_described};
     ghost use Rattle.amqp_ser.specs.Tree.{code};
-    ghost use Rattle.amqp_ser.specs.Words.{short_map_of, must, may, of_i32, of_string, of_u32};
+    ghost use Rattle.amqp_ser.specs.Words.{short_map_of, required_value, optional_value, of_i32, of_string, of_u32};
 
     ghost tree = { λ c. as_described (Some (code 0x15)) (short_map_of (
-        (codes "offset", must (of_i32 c.offset)) ∷ (codes "divisor", may of_u32 c.divisor)
-        ∷ (codes "remark", may of_string c.remark) ∷ [])) };
+        (codes "offset", required_value (of_i32 c.offset)) ∷ (codes "divisor", optional_value of_u32 c.divisor)
+        ∷ (codes "remark", optional_value of_string c.remark) ∷ [])) };
 
     fn serialize<S: Serializer>(&self, serializer: &mut S) -> Result<S::Ok, S::Error> {
         serializer.serialize_described(
@@ -39,7 +39,7 @@ impl Serialize for Calibration {
 }
 
 impl Record for Calibration {
-    type Parts = (i32, (Option<u32>, (Option<String>, ())));
+    type Values = (i32, (Option<u32>, (Option<String>, ())));
 
     ghost parts = { λ c. (c.offset, (c.divisor, (c.remark, tt))) };
 }
@@ -47,13 +47,13 @@ impl Record for Calibration {
 impl Deserialize for Calibration {
     ghost use Rattle.std.specs.Prelude.{◌≡◌, [], ◌∷◌, codes};
     ghost use Rattle.amqp_ser.specs.Tree.{code, described, int, scalar};
-    ghost use Rattle.amqp_de.specs.Fields.{OnDescribed, OnNamed, must, may, end};
+    ghost use Rattle.amqp_de.specs.Fields.{OnDescribed, OnNamed, ReadsRequired, ReadsOptional, NoMoreFields};
     ghost use Rattle.amqp_de.specs.Present.{short_map, required, optional};
 
     ghost reads = { λ t c. OnDescribed (code 0x15) (OnNamed (
-        must (codes "offset") ⟦<i32 as Deserialize>⟧.reads c.offset (
-        may (codes "divisor") ⟦<u32 as Deserialize>⟧.reads c.divisor (
-        may (codes "remark") ⟦<String as Deserialize>⟧.reads c.remark end)))) t };
+        ReadsRequired (codes "offset") ⟦<i32 as Deserialize>⟧.reads c.offset (
+        ReadsOptional (codes "divisor") ⟦<u32 as Deserialize>⟧.reads c.divisor (
+        ReadsOptional (codes "remark") ⟦<String as Deserialize>⟧.reads c.remark NoMoreFields)))) t };
 
     ghost image = { λ c. described (code 0x15) (short_map
         (codes "offset" ∷ codes "divisor" ∷ codes "remark" ∷ []) (
@@ -71,7 +71,7 @@ impl Deserialize for Calibration {
         alloc: Global,
         deserializer: D,
     ) -> Result<Calibration, D::Error> {
-        let amqp_de::fields! { offset, divisor, remark } = read_described_map::<
+        let amqp_de::values! { offset, divisor, remark } = read_described_map::<
             Calibration,
             D,
             _,
@@ -99,10 +99,10 @@ pub struct Contact {
 
 impl Serialize for Contact {
     ghost use Rattle.std.specs.Prelude.{[], ◌∷◌, codes};
-    ghost use Rattle.amqp_ser.specs.Words.{short_map_of, must, may, of_string};
+    ghost use Rattle.amqp_ser.specs.Words.{short_map_of, required_value, optional_value, of_string};
 
-    ghost tree = { λ c. short_map_of ((codes "name", must (of_string c.name))
-        ∷ (codes "telephone", may of_string c.telephone) ∷ []) };
+    ghost tree = { λ c. short_map_of ((codes "name", required_value (of_string c.name))
+        ∷ (codes "telephone", optional_value of_string c.telephone) ∷ []) };
 
     fn serialize<S: Serializer>(&self, serializer: &mut S) -> Result<S::Ok, S::Error> {
         amqp_ser::MapOf(
@@ -112,7 +112,7 @@ impl Serialize for Contact {
 }
 
 impl Record for Contact {
-    type Parts = (String, (Option<String>, ()));
+    type Values = (String, (Option<String>, ()));
 
     ghost parts = { λ c. (c.name, (c.telephone, tt)) };
 }
@@ -120,12 +120,12 @@ impl Record for Contact {
 impl Deserialize for Contact {
     ghost use Rattle.std.specs.Prelude.{◌≡◌, [], ◌∷◌, codes, string_bytes};
     ghost use Rattle.amqp_ser.specs.Tree.{scalar, string};
-    ghost use Rattle.amqp_de.specs.Fields.{OnNamed, must, may, end};
+    ghost use Rattle.amqp_de.specs.Fields.{OnNamed, ReadsRequired, ReadsOptional, NoMoreFields};
     ghost use Rattle.amqp_de.specs.Present.{short_map, required, optional};
 
     ghost reads = { λ t c. OnNamed (
-        must (codes "name") ⟦<String as Deserialize>⟧.reads c.name (
-        may (codes "telephone") ⟦<String as Deserialize>⟧.reads c.telephone end)) t };
+        ReadsRequired (codes "name") ⟦<String as Deserialize>⟧.reads c.name (
+        ReadsOptional (codes "telephone") ⟦<String as Deserialize>⟧.reads c.telephone NoMoreFields)) t };
 
     ghost image = { λ c. short_map (codes "name" ∷ codes "telephone" ∷ []) (
         required (scalar (string (string_bytes c.name)))
@@ -137,7 +137,7 @@ impl Deserialize for Contact {
         × ⟦<Option<String> as Deserialize>⟧.same c.telephone d.telephone };
 
     fn deserialize<D: Deserializer>(alloc: Global, deserializer: D) -> Result<Contact, D::Error> {
-        let amqp_de::fields! { name, telephone } = read_map::<Contact, D, _>(
+        let amqp_de::values! { name, telephone } = read_map::<Contact, D, _>(
             alloc,
             deserializer,
             named! { "name", "telephone"? },

@@ -38,7 +38,7 @@ impl Serialize for Position {
 }
 
 impl Record for Position {
-    type Parts = (i32, (i32, (Option<u32>, ())));
+    type Values = (i32, (i32, (Option<u32>, ())));
 
     ghost parts = { λ p. (p.latitude, (p.longitude, (p.height, tt))) };
 }
@@ -46,12 +46,12 @@ impl Record for Position {
 impl Deserialize for Position {
     ghost use Rattle.std.specs.Prelude.{◌≡◌, [], ◌∷◌, codes};
     ghost use Rattle.amqp_ser.specs.Tree.{scalar, int, uint, list, trees_of};
-    ghost use Rattle.amqp_de.specs.Fields.{OnFields, must, may, end};
+    ghost use Rattle.amqp_de.specs.Fields.{OnFields, ReadsRequired, ReadsOptional, NoMoreFields};
 
     ghost reads = { λ t p. OnFields (
-        must (codes "latitude") ⟦<i32 as Deserialize>⟧.reads p.latitude (
-        must (codes "longitude") ⟦<i32 as Deserialize>⟧.reads p.longitude (
-        may (codes "height") ⟦<u32 as Deserialize>⟧.reads p.height end))) t };
+        ReadsRequired (codes "latitude") ⟦<i32 as Deserialize>⟧.reads p.latitude (
+        ReadsRequired (codes "longitude") ⟦<i32 as Deserialize>⟧.reads p.longitude (
+        ReadsOptional (codes "height") ⟦<u32 as Deserialize>⟧.reads p.height NoMoreFields))) t };
 
     ghost image = { λ p. list (trees_of (scalar (int p.latitude) ∷ scalar (int p.longitude)
         ∷ ⟦<Option<u32> as Deserialize>⟧.image p.height ∷ [])) };
@@ -62,10 +62,10 @@ impl Deserialize for Position {
         × ⟦<Option<u32> as Deserialize>⟧.same p.height q.height };
 
     fn deserialize<D: Deserializer>(alloc: Global, deserializer: D) -> Result<Position, D::Error> {
-        let amqp_de::fields! { latitude, longitude, height } = read::<Position, D, _>(
+        let amqp_de::values! { latitude, longitude, height } = read::<Position, D, _>(
             alloc,
             deserializer,
-            amqp_de::ListOf(named! { "latitude", "longitude", "height"? }),
+            amqp_de::ListSeed(named! { "latitude", "longitude", "height"? }),
         )?;
         Ok(Position {
             latitude,

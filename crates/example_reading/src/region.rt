@@ -63,7 +63,7 @@ impl Serialize for Region {
 }
 
 impl Record for Region {
-    type Parts = (u32, (Vec<Value>, ()));
+    type Values = (u32, (Vec<Value>, ()));
 
     ghost parts = { λ r. (r.number, (r.inner, tt)) };
 }
@@ -71,11 +71,11 @@ impl Record for Region {
 impl Deserialize for Region {
     ghost use Rattle.std.specs.Prelude.{◌≡◌, [], ◌∷◌, codes};
     ghost use Rattle.amqp_ser.specs.Tree.{scalar, uint, list, trees_of};
-    ghost use Rattle.amqp_de.specs.Fields.{OnFields, must, end};
+    ghost use Rattle.amqp_de.specs.Fields.{OnFields, ReadsRequired, NoMoreFields};
 
     ghost reads = { λ t r. OnFields (
-        must (codes "number") ⟦<u32 as Deserialize>⟧.reads r.number (
-        must (codes "inner") ⟦<Vec<Value> as Deserialize>⟧.reads r.inner end)) t };
+        ReadsRequired (codes "number") ⟦<u32 as Deserialize>⟧.reads r.number (
+        ReadsRequired (codes "inner") ⟦<Vec<Value> as Deserialize>⟧.reads r.inner NoMoreFields)) t };
 
     ghost image = { λ r. list (trees_of (scalar (uint r.number)
         ∷ ⟦<Vec<Value> as Deserialize>⟧.image r.inner ∷ [])) };
@@ -86,10 +86,10 @@ impl Deserialize for Region {
         × ⟦<Vec<Value> as Deserialize>⟧.same r.inner s.inner };
 
     fn deserialize<D: Deserializer>(alloc: Global, deserializer: D) -> Result<Region, D::Error> {
-        let amqp_de::fields! { number, inner } = read::<Region, D, _>(
+        let amqp_de::values! { number, inner } = read::<Region, D, _>(
             alloc,
             deserializer,
-            amqp_de::ListOf(named! { "number", "inner" }),
+            amqp_de::ListSeed(named! { "number", "inner" }),
         )?;
         Ok(Region { number, inner })
     }

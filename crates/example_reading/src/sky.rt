@@ -5,7 +5,7 @@
 
 use amqp_de::de::{Deserialize, Deserializer};
 use amqp_de::{
-    DataOr, EnumOf, ListOf, May, Must, Never, Of, OneOf, Record, Seed, UnitOr, named, read,
+    DataVariant, EnumSeed, ListSeed, Optional, Required, Never, TypeSeed, Either, Record, DeserializeSeed, UnitVariant, named, read,
     variant, variants,
 };
 use amqp_ser::{Serialize, Serializer, VariantOf};
@@ -26,10 +26,10 @@ pub enum Sky {
 }
 
 /// The types that read the variants, in the order of the indices.
-type Variants = UnitOr<
-    DataOr<
-        Of<u8>,
-        DataOr<ListOf<Must<u16, Must<u16, ()>>>, DataOr<ListOf<Must<String, May<u32, ()>>>, ()>>,
+type Variants = UnitVariant<
+    DataVariant<
+        TypeSeed<u8>,
+        DataVariant<ListSeed<Required<u16, Required<u16, ()>>>, DataVariant<ListSeed<Required<String, Optional<u32, ()>>>, ()>>,
     >,
 >;
 
@@ -59,9 +59,9 @@ impl Serialize for Sky {
 impl Record for Sky {
     ghost use Rattle.example_reading.specs.Skies.{sky_parts};
 
-    type Parts = OneOf<
+    type Values = Either<
         (),
-        OneOf<u8, OneOf<(u16, (u16, ())), OneOf<(String, (Option<u32>, ())), Never>>>,
+        Either<u8, Either<(u16, (u16, ())), Either<(String, (Option<u32>, ())), Never>>>,
     >;
 
     ghost parts = { sky_parts };
@@ -69,42 +69,42 @@ impl Record for Sky {
 
 impl Deserialize for Sky {
     ghost use Rattle.std.specs.Prelude.{codes};
-    ghost use Rattle.amqp_de.specs.Enums.{OnEnum, unit_or, data_or, no_variant};
-    ghost use Rattle.amqp_de.specs.Fields.{OnFields, must, may, end};
+    ghost use Rattle.amqp_de.specs.Enums.{OnEnum, IsUnitVariant, IsDataVariant, IsNoVariant};
+    ghost use Rattle.amqp_de.specs.Fields.{OnFields, ReadsRequired, ReadsOptional, NoMoreFields};
     ghost use Rattle.example_reading.specs.Skies.{sky_parts};
 
     ghost reads = { λ t s. OnEnum (
-        unit_or (
-        data_or ⟦<u8 as Deserialize>⟧.reads (
-        data_or (λ u x. OnFields (
-        must (codes "0") ⟦<u16 as Deserialize>⟧.reads x.0 (
-        must (codes "1") ⟦<u16 as Deserialize>⟧.reads x.1.0 end)) u) (
-        data_or (λ u x. OnFields (
-        must (codes "name") ⟦<String as Deserialize>⟧.reads x.0 (
-        may (codes "until") ⟦<u32 as Deserialize>⟧.reads x.1.0 end)) u)
-        no_variant)))) t (sky_parts s) };
+        IsUnitVariant (
+        IsDataVariant ⟦<u8 as Deserialize>⟧.reads (
+        IsDataVariant (λ u x. OnFields (
+        ReadsRequired (codes "0") ⟦<u16 as Deserialize>⟧.reads x.0 (
+        ReadsRequired (codes "1") ⟦<u16 as Deserialize>⟧.reads x.1.0 NoMoreFields)) u) (
+        IsDataVariant (λ u x. OnFields (
+        ReadsRequired (codes "name") ⟦<String as Deserialize>⟧.reads x.0 (
+        ReadsOptional (codes "until") ⟦<u32 as Deserialize>⟧.reads x.1.0 NoMoreFields)) u)
+        IsNoVariant)))) t (sky_parts s) };
 
-    ghost image = { λ s. ⟦<EnumOf<Variants> as Seed>⟧.image (sky_parts s) };
+    ghost image = { λ s. ⟦<EnumSeed<Variants> as DeserializeSeed>⟧.image (sky_parts s) };
 
-    ghost restorable = { λ s. ⟦<EnumOf<Variants> as Seed>⟧.restorable (sky_parts s) };
+    ghost restorable = { λ s. ⟦<EnumSeed<Variants> as DeserializeSeed>⟧.restorable (sky_parts s) };
 
-    ghost same = { λ s r. ⟦<EnumOf<Variants> as Seed>⟧.same (sky_parts s) (sky_parts r) };
+    ghost same = { λ s r. ⟦<EnumSeed<Variants> as DeserializeSeed>⟧.same (sky_parts s) (sky_parts r) };
 
     fn deserialize<D: Deserializer>(alloc: Global, deserializer: D) -> Result<Sky, D::Error> {
         let sky = read::<Sky, D, _>(
             alloc,
             deserializer,
-            EnumOf(variants! { unit, newtype, named! { "0", "1" }, named! { "name", "until"? } }),
+            EnumSeed(variants! { unit, newtype, named! { "0", "1" }, named! { "name", "until"? } }),
         )?;
         match sky {
             variant!(0, ()) => Ok(Sky::Clear),
             variant!(1, eighths) => Ok(Sky::Cloudy(eighths)),
             variant!(2, parts) => {
-                let amqp_de::fields! { speed, from } = parts;
+                let amqp_de::values! { speed, from } = parts;
                 Ok(Sky::Windy(speed, from))
             }
             variant!(3, parts) => {
-                let amqp_de::fields! { name, until } = parts;
+                let amqp_de::values! { name, until } = parts;
                 Ok(Sky::Storm { name, until })
             }
             variant!(none 4, never) => match never {},

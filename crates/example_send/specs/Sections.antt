@@ -3,7 +3,7 @@
 -- For newcomers: shows how to state the tree of a user-defined type outside of its `impl`.
 use Rattle.std.specs.Prelude.{[], ◌∷◌, Option}
 use Rattle.amqp_ser.specs.Tree.{Tree, code}
-use Rattle.amqp_ser.specs.Words.{must, may, basic_composite, short_composite, of_binary, of_bool, of_i32, of_map, of_string, of_u8, of_u32, of_u64}
+use Rattle.amqp_ser.specs.Words.{required_value, optional_value, basic_composite, short_composite, of_binary, of_bool, of_i32, of_map, of_string, of_u8, of_u32, of_u64}
 use Rattle.example_send.specs.declared.message.Header.{Header}
 use Rattle.example_send.specs.declared.message.Properties.{Properties}
 use Rattle.example_send.specs.declared.message.Section.{Section}
@@ -11,11 +11,11 @@ use Rattle.example_send.specs.declared.message.Section.TheVariants as section
 
 -- durable, priority, ttl (section 3.2.1)
 abbrev pub of_header : Header → Option Tree
-of_header h = short_composite (code 0x70) (may of_bool h.durable ∷ may of_u8 h.priority ∷ may of_u32 h.ttl ∷ [])
+of_header h = short_composite (code 0x70) (optional_value of_bool h.durable ∷ optional_value of_u8 h.priority ∷ optional_value of_u32 h.ttl ∷ [])
 
 -- message-id, user-id, to, subject (section 3.2.4)
 abbrev pub of_properties : Properties → Option Tree
-of_properties p = short_composite (code 0x73) (may of_u64 p.message_id ∷ may of_binary p.user_id ∷ may of_string p.to ∷ may of_string p.subject ∷ [])
+of_properties p = short_composite (code 0x73) (optional_value of_u64 p.message_id ∷ optional_value of_binary p.user_id ∷ optional_value of_string p.to ∷ optional_value of_string p.subject ∷ [])
 
 -- application-properties (section 3.2.5) and amqp-value (section 3.2.8): one described value each
 abbrev pub of_section : Section → Option Tree

@@ -3,15 +3,15 @@ use Rattle.std.proofs.Common.{◌≡◌, ℕ, ◌⊎◌, inl, inr, ◌&&◌, Lis
 use Rattle.amqp_data.specs.declared.error.Error.{Error}
 use Rattle.amqp_data.specs.declared.error.Error.TheVariants.{OutOfMemory, TooLong, InvalidValue, InvalidFormatCode, UnexpectedEof, Io, Message}
 use Rattle.amqp_ser.specs.Tree.{string, Tree, Trees, scalar, trees_of}
-use Rattle.amqp_ser.specs.Compounds.{all_trees, prepend, as_kind, whole}
-use Rattle.amqp_ser.specs.declared.kind.Kind.TheVariants as kind
+use Rattle.amqp_ser.specs.Compounds.{all_trees, prepend, as_kind, tree_of_parts}
+use Rattle.amqp_ser.specs.declared.kind.CompoundKind.TheVariants as kind
 use Rattle.amqp_ser.specs.Encoding.{encoding}
 use Rattle.amqp_ser.specs.Writable.{uniform_arrays, uniform_arrays_each, inside_each, placed, writable}
 use Rattle.amqp_ser.specs.SizeAndBytes.{IsSizeOf, AreBytesOf}
 use Rattle.amqp_to_value.specs.HasLazy.{has_lazy, has_lazy_each}
 use Rattle.amqp_to_value.specs.ImageOf.{IsImageOf}
 use Rattle.amqp_to_value.proofs.LazyLemmas.{read_refused}
-use Rattle.amqp_to_value.proofs.ReadLemmas.{opened-itself, stands-image}
+use Rattle.amqp_to_value.proofs.ReadLemmas.{opened-itself, represents-image}
 use Rattle.amqp_value.specs.declared.value.Value.{Value}
 use Rattle.amqp_value.specs.Image.{image}
 use Rattle.amqp_value.specs.Text.{text_of}
@@ -27,11 +27,11 @@ all-strings (x ∷ items) = ap (prepend (Some (scalar (string x.now)))) (all-str
 
 -- The tree of a vector of strings.
 abbrev pub vector_tree : List (Bor (List ℕ)) → Option Tree
-vector_tree items = whole kind.List (map (λ s. Some (scalar (string s.now))) items)
+vector_tree items = tree_of_parts kind.List (map (λ s. Some (scalar (string s.now))) items)
 
 -- The tree of a vector of strings is the list of these strings.
 pub strings-whole : (items : List (Bor (List ℕ))) → vector_tree items ≡ Some (strings_tree (texts items))
-unfolding whole strings_tree
+unfolding tree_of_parts strings_tree
 strings-whole items = ap (as_kind kind.List) (all-strings items)
 
 each-uniform_arrays : (lines : List (List ℕ)) → uniform_arrays_each (string_trees lines) ≡ true
@@ -99,7 +99,7 @@ pub reported : (items : List (Bor (List ℕ))) (size : ℕ) (bytes : List ℕ) (
 reported items size bytes value s b v =
     let size_is : (writable (strings_tree (texts items)) ≡ true) × (size ≡ length (encoding (strings_tree (texts items)))) = subst (λ t. IsSizeOf t (Ok size)) (strings-whole items) s in
     let bytes_are : (writable (strings_tree (texts items)) ≡ true) × (bytes ≡ encoding (strings_tree (texts items))) = subst (λ t. AreBytesOf t (Ok bytes)) (strings-whole items) b in
-    let value_is : tree_of value ≡ image (strings_tree (texts items)) = stands-image (strings_tree (texts items)) value (strings-not_lazy (texts items)) (subst (λ t. IsImageOf t (Ok value)) (strings-whole items) v) in (
+    let value_is : tree_of value ≡ image (strings_tree (texts items)) = represents-image (strings_tree (texts items)) value (strings-not_lazy (texts items)) (subst (λ t. IsImageOf t (Ok value)) (strings-whole items) v) in (
       size_is.0,
       ap (λ n. three_lines n bytes (text_of (tree_of value))) size_is.1
           ∙ (ap (λ l. three_lines (length (encoding (strings_tree (texts items)))) l (text_of (tree_of value))) bytes_are.1

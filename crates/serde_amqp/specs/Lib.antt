@@ -28,8 +28,8 @@ pub use Rattle.amqp_ser.specs.Structs
 pub use Rattle.amqp_ser.specs.Tree
 pub use Rattle.amqp_ser.specs.Words
 pub use Rattle.amqp_ser.specs.Writable
-pub use Rattle.amqp_ser.specs.declared.kind.Kind
-pub use Rattle.amqp_ser.specs.declared.mark.Mark
+pub use Rattle.amqp_ser.specs.declared.kind.CompoundKind
+pub use Rattle.amqp_ser.specs.declared.marker.Marker
 pub use Rattle.amqp_size.specs.Width
 pub use Rattle.amqp_value.specs.Image
 pub use Rattle.amqp_value.specs.Plain

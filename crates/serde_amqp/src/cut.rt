@@ -62,11 +62,11 @@ pub fn run_cut<R: Read, W: Write>(
     laws::one_case();
     laws::one_cut();
     laws::some_byte();
-    print_frames(alloc, reader, writer)
+    print_encoded_values(alloc, reader, writer)
 }
 
 // Prints a line for each encoded value.
-fn print_frames<R: Read, W: Write>(
+fn print_encoded_values<R: Read, W: Write>(
     alloc: Global,
     reader: &mut R,
     writer: &mut W,

@@ -4,11 +4,11 @@
 //! crate cannot re-export the macros of another.
 
 pub use amqp_de::de::{
-    Content, Deserialize, Deserializer, EnumAccess, MapAccess, Plain, Refusal, SeqAccess,
+    Content, Deserialize, Deserializer, EnumAccess, MapAccess, Plain, DeserializeError, SeqAccess,
     VariantAccess, Visit, Visitor,
 };
 pub use amqp_de::{
-    ContentOf, DataOr, Describes, ElementsOf, EntriesOf, EnumAccessOf, EnumOf, Fields, ListOf, May,
-    Must, NamedOf, Never, Of, OneOf, Record, Seed, UnitOr, Variants, laws, read, read_composite,
+    ContentOf, DataVariant, Describes, ElementsOf, EntriesOf, EnumAccessOf, EnumSeed, FieldSeeds, ListSeed, Optional,
+    Required, NamedSeed, Never, TypeSeed, Either, Record, DeserializeSeed, UnitVariant, Variants, laws, read, read_composite,
     read_described, read_described_map, read_map,
 };

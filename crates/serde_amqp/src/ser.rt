@@ -5,8 +5,8 @@
 
 pub use amqp_data::markers;
 pub use amqp_ser::{
-    Field, Fields, Fixed, Keys, Kind, ListOf, MapOf, Mark, OptionalField, Serialize, SerializeMap,
+    Field, Fields, Fixed, Keys, CompoundKind, ListOf, MapOf, Marker, OptionalField, Serialize, SerializeMap,
     SerializeSeq, SerializeStruct, SerializeStructVariant, SerializeTuple, SerializeTupleStruct,
-    SerializeTupleVariant, Serializer, SymbolMapOf, VariantOf, mark_named,
+    SerializeTupleVariant, Serializer, SymbolMapOf, VariantOf, marker_named,
 };
 pub use amqp_wire::{to_lazy_value, to_vec};

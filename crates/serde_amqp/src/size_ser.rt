@@ -3,5 +3,5 @@
 
 pub use amqp_size::{
     MapSerializer, SeqSerializer, SizeSerializer, StructSerializer, StructVariantSerializer,
-    TupleSerializer, TupleStructSerializer, VariantSerializer, WalkError, serialized_size, width,
+    TupleSerializer, TupleStructSerializer, VariantSerializer, SizeError, serialized_size, width,
 };

@@ -9,7 +9,7 @@ mod containers;
 mod made;
 mod readers;
 mod scalars;
-mod shapes;
+mod resolved_kinds;
 mod shown;
 mod sizes;
 mod written;

@@ -6,7 +6,7 @@
 //! | Row | Result |
 //! |---|---|
 //! | `decode BYTES` | the value, as the bytes that `to_vec` returns and its text |
-//! | `decode_within LIMIT BYTES` | like `decode`, with `decode_value_within` |
+//! | `decode_within LIMIT BYTES` | like `decode`, with `decode_value_limited` |
 //! | `code BYTES` | the format code of the value |
 //! | `count BYTES` | the number of elements or pairs of the compound |
 //! | `depth BYTES` | the number of lists around the empty one |

@@ -2,7 +2,7 @@
 
 use crate::notation::{bytes_of, number_of, word_of};
 use amqp_data::Error;
-use amqp_decode::{decode_value, decode_value_within};
+use amqp_decode::{decode_value, decode_value_limited};
 use amqp_value::Value;
 use amqp_wire::to_vec;
 use std::alloc::Global;
@@ -21,7 +21,7 @@ pub fn decode_within(alloc: Global, arguments: &str) -> Result<String, Error> {
     let bytes = bytes_of(alloc, bytes)?;
     shown(
         alloc,
-        &decode_value_within(alloc, &bytes, number_of(limit)?)?,
+        &decode_value_limited(alloc, &bytes, number_of(limit)?)?,
     )
 }
 

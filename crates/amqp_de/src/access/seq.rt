@@ -7,8 +7,8 @@ ghost use Rattle.amqp_de.specs.Answers.{TakesNext};
 
 use crate::deserialize::Deserialize;
 use crate::deserializer::Deserializer;
-use crate::refusal::Refusal;
-use crate::seed::{Of, Seed};
+use crate::deserialize_error::DeserializeError;
+use crate::seed::{TypeSeed, DeserializeSeed};
 use std::alloc::Global;
 use std::marker::PhantomData;
 
@@ -18,7 +18,7 @@ use std::marker::PhantomData;
 /// Required method: `next_item`, which removes the first of the elements in `left`.
 pub trait SeqAccess: Sized + Drop {
     /// The error type.
-    type Error: Refusal;
+    type Error: DeserializeError;
 
     /// The deserializer of an element.
     type Item: Deserializer<Error = Self::Error>;
@@ -41,20 +41,20 @@ pub trait SeqAccess: Sized + Drop {
     /// Returns the seed's error, which is out of memory or means that the element cannot be read.
     ///
     /// # Example
-    /// For the string `a` and the ubyte 2, with `Of(PhantomData::<u8>)`, returns an error for the
+    /// For the string `a` and the ubyte 2, with `TypeSeed(PhantomData::<u8>)`, returns an error for the
     /// invalid value, then `Some(2)`, then `None`.
-    final fn next_element_seed<S: Seed>(
+    final fn next_element_seed<S: DeserializeSeed>(
         &mut self,
         alloc: Global,
         seed: S,
     ) -> Result<Option<S::Value>, Self::Error>
-        ensures read { ReadsNext Self.Error.is_memory (S.reads seed)
+        ensures read { ReadsNext Self.Error.is_out_of_memory (S.reads seed)
             (left self.old) (left self.new) result }
         ensures law { RestoresNext S.image S.restorable S.same
-            Self.Error.is_memory (left self.old) result }
+            Self.Error.is_out_of_memory (left self.old) result }
     {
         match self.next_item() {
-            Some(item) => match seed.read(alloc, item) {
+            Some(item) => match seed.deserialize(alloc, item) {
                 Ok(value) => Ok(Some(value)),
                 Err(error) => Err(error),
             },
@@ -77,12 +77,12 @@ pub trait SeqAccess: Sized + Drop {
         &mut self,
         alloc: Global,
     ) -> Result<Option<T>, Self::Error>
-        ensures read { ReadsNext Self.Error.is_memory T.reads
+        ensures read { ReadsNext Self.Error.is_out_of_memory T.reads
             (left self.old) (left self.new) result }
         ensures law { RestoresNext T.image T.restorable T.same
-            Self.Error.is_memory (left self.old) result }
+            Self.Error.is_out_of_memory (left self.old) result }
     {
-        self.next_element_seed(alloc, Of(PhantomData::<T>))
+        self.next_element_seed(alloc, TypeSeed(PhantomData::<T>))
     }
 }
 

@@ -2,7 +2,7 @@
 
 ghost use Rattle.std.specs.Prelude.{◌≡◌, Ok, Option, Some};
 ghost use Rattle.amqp_ser.specs.Tree.{Tree};
-ghost use Rattle.amqp_de.specs.Access.{Picks, RestoresPicked, RestoresOwed};
+ghost use Rattle.amqp_de.specs.Access.{Picks, RestoresPicked, RestoresPendingValue};
 ghost use Rattle.amqp_de.specs.Answers.{Answers};
 ghost use Rattle.amqp_de.specs.Enums.{value_of};
 ghost use Rattle.amqp_de.specs.Events.{ByList, Returns};
@@ -10,8 +10,8 @@ ghost use Rattle.amqp_de.specs.Fields.{There};
 
 use crate::deserialize::Deserialize;
 use crate::deserializer::Deserializer;
-use crate::refusal::Refusal;
-use crate::seed::{Of, Seed};
+use crate::deserialize_error::DeserializeError;
+use crate::seed::{TypeSeed, DeserializeSeed};
 use crate::visitor::Visitor;
 use std::alloc::Global;
 use std::marker::PhantomData;
@@ -22,7 +22,7 @@ use std::marker::PhantomData;
 /// Required method: `split`, which returns `index` and `content`.
 pub trait EnumAccess: Sized + Drop {
     /// The error type.
-    type Error: Refusal;
+    type Error: DeserializeError;
 
     /// The deserializer of the index.
     type Item: Deserializer<Error = Self::Error>;
@@ -50,19 +50,19 @@ pub trait EnumAccess: Sized + Drop {
     /// Returns the seed's error, which is out of memory or means that the index cannot be read.
     ///
     /// # Example
-    /// For the index 1, with `Of(PhantomData::<u32>)`, returns 1 and the accessor of the value.
-    final fn variant_seed<S: Seed>(
+    /// For the index 1, with `TypeSeed(PhantomData::<u32>)`, returns 1 and the accessor of the value.
+    final fn variant_seed<S: DeserializeSeed>(
         self,
         alloc: Global,
         seed: S,
     ) -> Result<(S::Value, Self::Variant), Self::Error>
-        ensures read { Picks Self.Error.is_memory (S.reads seed)
+        ensures read { Picks Self.Error.is_out_of_memory (S.reads seed)
             Self.Variant.content (index self) (content self) result }
         ensures law { RestoresPicked S.image S.restorable S.same
-            Self.Error.is_memory (index self) result }
+            Self.Error.is_out_of_memory (index self) result }
     {
         let (item, variant) = self.split();
-        match seed.read(alloc, item) {
+        match seed.deserialize(alloc, item) {
             Ok(value) => Ok((value, variant)),
             Err(error) => Err(error),
         }
@@ -77,12 +77,12 @@ pub trait EnumAccess: Sized + Drop {
     /// # Example
     /// For the index 1, as a `u32`, returns 1 and the accessor of the value.
     final fn variant<T: Deserialize>(self, alloc: Global) -> Result<(T, Self::Variant), Self::Error>
-        ensures read { Picks Self.Error.is_memory T.reads
+        ensures read { Picks Self.Error.is_out_of_memory T.reads
             Self.Variant.content (index self) (content self) result }
         ensures law { RestoresPicked T.image T.restorable T.same
-            Self.Error.is_memory (index self) result }
+            Self.Error.is_out_of_memory (index self) result }
     {
-        self.variant_seed(alloc, Of(PhantomData::<T>))
+        self.variant_seed(alloc, TypeSeed(PhantomData::<T>))
     }
 }
 
@@ -92,7 +92,7 @@ pub trait EnumAccess: Sized + Drop {
 /// Required method: `into_item`, which returns `content`.
 pub trait VariantAccess: Sized + Drop {
     /// The error type.
-    type Error: Refusal;
+    type Error: DeserializeError;
 
     /// The deserializer of the value.
     type Item: Deserializer<Error = Self::Error>;
@@ -128,23 +128,23 @@ pub trait VariantAccess: Sized + Drop {
     /// error other than out of memory is returned only if no value is read.
     ///
     /// # Example
-    /// For the ulong 13, with `Of(PhantomData::<u64>)`, returns 13. If there is no value, returns
+    /// For the ulong 13, with `TypeSeed(PhantomData::<u64>)`, returns 13. If there is no value, returns
     /// the message.
-    final fn newtype_variant_seed<S: Seed>(
+    final fn newtype_variant_seed<S: DeserializeSeed>(
         self,
         alloc: Global,
         seed: S,
     ) -> Result<S::Value, Self::Error>
-        ensures read { Answers Self.Error.is_memory (There (S.reads seed) (content self)) result }
-        ensures law { RestoresOwed S.image S.restorable S.same
-            Self.Error.is_memory (content self) result }
+        ensures read { Answers Self.Error.is_out_of_memory (There (S.reads seed) (content self)) result }
+        ensures law { RestoresPendingValue S.image S.restorable S.same
+            Self.Error.is_out_of_memory (content self) result }
     {
         match self.into_item() {
-            Some(item) => match seed.read(alloc, item) {
+            Some(item) => match seed.deserialize(alloc, item) {
                 Ok(value) => Ok(value),
                 Err(error) => Err(error),
             },
-            None => Err(Self::Error::message("Expecting a value")),
+            None => Err(Self::Error::custom("Expecting a value")),
         }
     }
 
@@ -156,30 +156,30 @@ pub trait VariantAccess: Sized + Drop {
     /// # Example
     /// For the ulong 13, as a `u64`, returns 13.
     final fn newtype_variant<T: Deserialize>(self, alloc: Global) -> Result<T, Self::Error>
-        ensures read { Answers Self.Error.is_memory (There T.reads (content self)) result }
-        ensures law { RestoresOwed T.image T.restorable T.same
-            Self.Error.is_memory (content self) result }
+        ensures read { Answers Self.Error.is_out_of_memory (There T.reads (content self)) result }
+        ensures law { RestoresPendingValue T.image T.restorable T.same
+            Self.Error.is_out_of_memory (content self) result }
     {
-        self.newtype_variant_seed(alloc, Of(PhantomData::<T>))
+        self.newtype_variant_seed(alloc, TypeSeed(PhantomData::<T>))
     }
 
     /// Deserializes a tuple variant: reports the list of its fields to the visitor.
     ///
     /// # Errors
-    /// Returns the message `Expecting Value::List` if there is no value, and `Refusal::invalid` if
+    /// Returns the message `Expecting Value::List` if there is no value, and `DeserializeError::invalid_value` if
     /// the value is not a list; otherwise the visitor's error.
     ///
     /// # Example
     /// For the list of the ubytes 1 and 2, calls `visit_seq` with these two elements.
     final fn tuple_variant<V: Visitor>(self, visitor: V) -> Result<V::Value, Self::Error>
-        ensures read { Answers Self.Error.is_memory
+        ensures read { Answers Self.Error.is_out_of_memory
             (There (ByList (V.gives visitor)) (content self)) result }
-        ensures law { Returns (There (ByList (V.stands visitor)) (content self))
-            V.same Self.Error.is_memory result }
+        ensures law { Returns (There (ByList (V.represents visitor)) (content self))
+            V.same Self.Error.is_out_of_memory result }
     {
         match self.into_item() {
             Some(item) => item.deserialize_seq(visitor),
-            None => Err(Self::Error::message("Expecting Value::List")),
+            None => Err(Self::Error::custom("Expecting Value::List")),
         }
     }
 
@@ -191,10 +191,10 @@ pub trait VariantAccess: Sized + Drop {
     /// # Example
     /// For the list of the ubytes 1 and 2, calls `visit_seq` with these two elements.
     final fn struct_variant<V: Visitor>(self, visitor: V) -> Result<V::Value, Self::Error>
-        ensures read { Answers Self.Error.is_memory
+        ensures read { Answers Self.Error.is_out_of_memory
             (There (ByList (V.gives visitor)) (content self)) result }
-        ensures law { Returns (There (ByList (V.stands visitor)) (content self))
-            V.same Self.Error.is_memory result }
+        ensures law { Returns (There (ByList (V.represents visitor)) (content self))
+            V.same Self.Error.is_out_of_memory result }
     {
         self.tuple_variant(visitor)
     }

@@ -8,8 +8,8 @@ ghost use Rattle.amqp_de.specs.Enums.{OnEnum, OnListed, OnKeyed, enum_image, val
 use super::variants::Variants;
 use crate::content::Content;
 use crate::deserializer::Deserializer;
-use crate::refusal::Refusal;
-use crate::seed::Seed;
+use crate::deserialize_error::DeserializeError;
+use crate::seed::DeserializeSeed;
 use std::alloc::Global;
 
 /// Reads the variant with this index and value.
@@ -19,18 +19,18 @@ fn read_at<D: Deserializer, V: Variants>(
     index: D,
     value: Option<D>,
 ) -> Result<V::Value, D::Error>
-    ensures read { Answers D.Error.is_memory (λ x. AtIndex (V.reads variants)
+    ensures read { Answers D.Error.is_out_of_memory (λ x. AtIndex (V.reads variants)
         (index_of_tree (D.value index)) (value_of D.value value) x) result }
     ensures law { (x : V.Value) → V.restorable x →
         D.value index ≡ scalar (uint (V.position x)) → value_of D.value value ≡ V.content x →
-        MatchResult result (λ y. V.same y x) D.Error.is_memory }
+        MatchResult result (λ y. V.same y x) D.Error.is_out_of_memory }
 {
     match index.open() {
-        Content::Uint(index) => match variants.read(alloc, index, value) {
+        Content::Uint(index) => match variants.deserialize(alloc, index, value) {
             Ok(value) => Ok(value),
             Err(error) => Err(error),
         },
-        _ => Err(D::Error::invalid()),
+        _ => Err(D::Error::invalid_value()),
     }
 }
 
@@ -40,7 +40,7 @@ fn read_listed<D: Deserializer, V: Variants>(
     variants: V,
     elements: &mut D::Elements,
 ) -> Result<V::Value, D::Error>
-    ensures { Answers D.Error.is_memory
+    ensures { Answers D.Error.is_out_of_memory
         (OnListed (V.reads variants) (D.items elements.old)) result }
 {
     match D::next_element(&mut *elements) {
@@ -51,7 +51,7 @@ fn read_listed<D: Deserializer, V: Variants>(
                 Err(error) => Err(error),
             }
         }
-        None => Err(D::Error::message("Expecting a Value")),
+        None => Err(D::Error::custom("Expecting a Value")),
     }
 }
 
@@ -61,31 +61,31 @@ fn read_keyed<D: Deserializer, V: Variants>(
     variants: V,
     entries: &mut D::Entries,
 ) -> Result<V::Value, D::Error>
-    ensures read { Answers D.Error.is_memory
+    ensures read { Answers D.Error.is_out_of_memory
         (OnKeyed (V.reads variants) (D.pairs entries.old)) result }
     ensures law { (x : V.Value) (t : Tree) → V.restorable x → V.content x ≡ Some t →
         D.pairs entries.old ≡ (scalar (uint (V.position x)), t) ∷ [] →
-        MatchResult result (λ y. V.same y x) D.Error.is_memory }
+        MatchResult result (λ y. V.same y x) D.Error.is_out_of_memory }
 {
     match D::next_pair(&mut *entries) {
         Some((index, value)) => match D::next_pair(entries) {
-            Some(_) => Err(D::Error::invalid()),
+            Some(_) => Err(D::Error::invalid_value()),
             None => match read_at::<D, V>(alloc, variants, index, Some(value)) {
                 Ok(value) => Ok(value),
                 Err(error) => Err(error),
             },
         },
-        None => Err(D::Error::message("Expecting a Value")),
+        None => Err(D::Error::custom("Expecting a Value")),
     }
 }
 
 /// A seed that reads a variant from its index, from a list of the index and the value, or from a
 /// map from the index to the value.
 #[derive(Drop)]
-pub struct EnumOf<V>(pub V);
+pub struct EnumSeed<V>(pub V);
 
 #[tactic(auto, using(crate::proofs::Lists::list_of_trees, crate::proofs::Lists::entries_in_pairs, crate::proofs::Lists::same_pairs), unfolding(crate::specs::Enums::OnEnum))]
-impl<V: Variants> Seed for EnumOf<V> {
+impl<V: Variants> DeserializeSeed for EnumSeed<V> {
     type Value = V::Value;
 
     ghost reads = { λ s. OnEnum (V.reads s.0) };
@@ -102,9 +102,9 @@ impl<V: Variants> Seed for EnumOf<V> {
 
     ghost is_named = { λ _. ⊥ };
 
-    fn read<D: Deserializer>(self, alloc: Global, deserializer: D) -> Result<V::Value, D::Error> {
+    fn deserialize<D: Deserializer>(self, alloc: Global, deserializer: D) -> Result<V::Value, D::Error> {
         match deserializer.open() {
-            Content::Uint(index) => match self.0.read(alloc, index, None::<D>) {
+            Content::Uint(index) => match self.0.deserialize(alloc, index, None::<D>) {
                 Ok(value) => Ok(value),
                 Err(error) => Err(error),
             },
@@ -118,7 +118,7 @@ impl<V: Variants> Seed for EnumOf<V> {
                 Ok(value) => Ok(value),
                 Err(error) => Err(error),
             },
-            _ => Err(D::Error::invalid()),
+            _ => Err(D::Error::invalid_value()),
         }
     }
 }

@@ -3,17 +3,17 @@
 ghost use Rattle.std.specs.Prelude.{◌≡◌, ℕ, Option, Some, None, MatchResult};
 ghost use Rattle.amqp_ser.specs.Tree.{Tree};
 ghost use Rattle.amqp_de.specs.Answers.{Answers};
-ghost use Rattle.amqp_de.specs.Enums.{unit_or, data_or, no_variant, value_of};
+ghost use Rattle.amqp_de.specs.Enums.{IsUnitVariant, IsDataVariant, IsNoVariant, value_of};
 ghost use Rattle.amqp_de.specs.Reads.{Always};
 
 use crate::deserializer::Deserializer;
-use crate::refusal::Refusal;
-use crate::seed::Seed;
+use crate::deserialize_error::DeserializeError;
+use crate::seed::DeserializeSeed;
 use std::alloc::Global;
 
 /// A variant, or one of the variants after it.
 #[derive(Drop)]
-pub enum OneOf<A, R> {
+pub enum Either<A, R> {
     /// The variant.
     This(A),
     /// A later variant.
@@ -53,28 +53,28 @@ pub trait Variants: Sized + Drop {
     /// Reads the variant with this index.
     ///
     /// # Errors
-    /// Returns `Refusal::invalid` if no variant has this index, a message if the variant's value is
+    /// Returns `DeserializeError::invalid_value` if no variant has this index, a message if the variant's value is
     /// missing, and the seed's error if the value cannot be read.
     ///
     /// # Example
     /// For three variants, the index 3 is invalid.
-    fn read<D: Deserializer>(
+    fn deserialize<D: Deserializer>(
         self,
         alloc: Global,
         index: u32,
         value: Option<D>,
     ) -> Result<Self::Value, D::Error>
-        ensures read { Answers D.Error.is_memory
+        ensures read { Answers D.Error.is_out_of_memory
             (λ x. reads self index (value_of D.value value) x) result }
         ensures law { (x : Self.Value) → restorable x →
             index ≡ position x → value_of D.value value ≡ content x →
-            MatchResult result (λ y. same y x) D.Error.is_memory };
+            MatchResult result (λ y. same y x) D.Error.is_out_of_memory };
 }
 
 impl Variants for () {
     type Value = Never;
 
-    ghost reads = { λ _. no_variant };
+    ghost reads = { λ _. IsNoVariant };
 
     ghost position = { λ _. 0 };
 
@@ -84,49 +84,49 @@ impl Variants for () {
 
     ghost same = { λ _ _. ⊥ };
 
-    fn read<D: Deserializer>(
+    fn deserialize<D: Deserializer>(
         self,
         _alloc: Global,
         _index: u32,
         _value: Option<D>,
     ) -> Result<Never, D::Error> {
-        Err(D::Error::invalid())
+        Err(D::Error::invalid_value())
     }
 }
 
 /// A variant without a value, and the variants after it. A value after the index is ignored.
 #[derive(Drop)]
-pub struct UnitOr<R> {
+pub struct UnitVariant<R> {
     /// The variants after it; `()` if there are none.
     pub rest: R,
 }
 
-impl<R: Variants> Variants for UnitOr<R> {
-    ghost use Rattle.amqp_de.specs.Enums.{index_of, data_of, restorable_of, same_of};
+impl<R: Variants> Variants for UnitVariant<R> {
+    ghost use Rattle.amqp_de.specs.Enums.{index_of, data_of, RestorableEither, SameEither};
 
-    type Value = OneOf<(), R::Value>;
+    type Value = Either<(), R::Value>;
 
-    ghost reads = { λ s. unit_or (R.reads s.rest) };
+    ghost reads = { λ s. IsUnitVariant (R.reads s.rest) };
 
     ghost position = { index_of R.position };
 
     ghost content = { data_of (λ _. None) R.content };
 
-    ghost restorable = { restorable_of Always R.restorable };
+    ghost restorable = { RestorableEither Always R.restorable };
 
-    ghost same = { same_of (λ x y. x ≡ y) R.same };
+    ghost same = { SameEither (λ x y. x ≡ y) R.same };
 
-    fn read<D: Deserializer>(
+    fn deserialize<D: Deserializer>(
         self,
         alloc: Global,
         index: u32,
         value: Option<D>,
-    ) -> Result<OneOf<(), R::Value>, D::Error> {
+    ) -> Result<Either<(), R::Value>, D::Error> {
         if index == 0 {
-            return Ok(OneOf::This(()));
+            return Ok(Either::This(()));
         }
-        match self.rest.read(alloc, index - 1, value) {
-            Ok(other) => Ok(OneOf::Other(other)),
+        match self.rest.deserialize(alloc, index - 1, value) {
+            Ok(other) => Ok(Either::Other(other)),
             Err(error) => Err(error),
         }
     }
@@ -134,7 +134,7 @@ impl<R: Variants> Variants for UnitOr<R> {
 
 /// A variant with a value, and the variants after it.
 #[derive(Drop)]
-pub struct DataOr<S, R> {
+pub struct DataVariant<S, R> {
     /// The seed of the value.
     pub seed: S,
     /// The error message if the value is missing.
@@ -143,38 +143,38 @@ pub struct DataOr<S, R> {
     pub rest: R,
 }
 
-impl<S: Seed, R: Variants> Variants for DataOr<S, R> {
-    ghost use Rattle.amqp_de.specs.Enums.{index_of, data_of, restorable_of, same_of};
+impl<S: DeserializeSeed, R: Variants> Variants for DataVariant<S, R> {
+    ghost use Rattle.amqp_de.specs.Enums.{index_of, data_of, RestorableEither, SameEither};
 
-    type Value = OneOf<S::Value, R::Value>;
+    type Value = Either<S::Value, R::Value>;
 
-    ghost reads = { λ s. data_or (S.reads s.seed) (R.reads s.rest) };
+    ghost reads = { λ s. IsDataVariant (S.reads s.seed) (R.reads s.rest) };
 
     ghost position = { index_of R.position };
 
     ghost content = { data_of (λ x. Some (S.image x)) R.content };
 
-    ghost restorable = { restorable_of S.restorable R.restorable };
+    ghost restorable = { RestorableEither S.restorable R.restorable };
 
-    ghost same = { same_of S.same R.same };
+    ghost same = { SameEither S.same R.same };
 
-    fn read<D: Deserializer>(
+    fn deserialize<D: Deserializer>(
         self,
         alloc: Global,
         index: u32,
         value: Option<D>,
-    ) -> Result<OneOf<S::Value, R::Value>, D::Error> {
+    ) -> Result<Either<S::Value, R::Value>, D::Error> {
         if index == 0 {
             return match value {
-                Some(first) => match self.seed.read(alloc, first) {
-                    Ok(this) => Ok(OneOf::This(this)),
+                Some(first) => match self.seed.deserialize(alloc, first) {
+                    Ok(this) => Ok(Either::This(this)),
                     Err(error) => Err(error),
                 },
-                None => Err(D::Error::message(self.missing)),
+                None => Err(D::Error::custom(self.missing)),
             };
         }
-        match self.rest.read(alloc, index - 1, value) {
-            Ok(other) => Ok(OneOf::Other(other)),
+        match self.rest.deserialize(alloc, index - 1, value) {
+            Ok(other) => Ok(Either::Other(other)),
             Err(error) => Err(error),
         }
     }

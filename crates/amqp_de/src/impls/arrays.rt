@@ -9,25 +9,25 @@ ghost use Rattle.amqp_de.specs.Reads.{OnList, ReadsFirst};
 use crate::content::Content;
 use crate::deserialize::Deserialize;
 use crate::deserializer::Deserializer;
-use crate::refusal::Refusal;
+use crate::deserialize_error::DeserializeError;
 use std::alloc::Global;
 
 /// Reads `count` elements, in order. Further elements are ignored.
 ///
 /// # Errors
-/// Returns `Refusal::invalid` if there are fewer elements, the error of the first element that
-/// cannot be read, and `Refusal::memory` if an allocation fails.
+/// Returns `DeserializeError::invalid_value` if there are fewer elements, the error of the first element that
+/// cannot be read, and `DeserializeError::out_of_memory` if an allocation fails.
 fn read_first<T: Deserialize, D: Deserializer>(
     alloc: Global,
     elements: &mut D::Elements,
     count: usize,
 ) -> Result<Vec<T>, D::Error>
     ensures read { MatchResult result (λ v. ReadsFirst T.reads count (D.items elements.old) v.items)
-        (Refuses D.Error.is_memory (λ (xs : List T).
+        (Refuses D.Error.is_out_of_memory (λ (xs : List T).
         ReadsFirst T.reads count (D.items elements.old) xs)) }
     ensures law { (xs : List T) → AllByRecursion T.restorable xs →
         length xs ≡ count → D.items elements.old ≡ map T.image xs →
-        MatchResult result (λ v. AllZip T.same v.items xs) D.Error.is_memory }
+        MatchResult result (λ v. AllZip T.same v.items xs) D.Error.is_out_of_memory }
 {
     let mut values = Vec::new(alloc);
     'elements: while values.len() < count {
@@ -35,12 +35,12 @@ fn read_first<T: Deserialize, D: Deserializer>(
             Some(element) => match T::deserialize(alloc, element) {
                 Ok(value) => {
                     if values.push(value).is_err() {
-                        return Err(D::Error::memory());
+                        return Err(D::Error::out_of_memory());
                     }
                 }
                 Err(error) => return Err(error),
             },
-            None => return Err(D::Error::invalid()),
+            None => return Err(D::Error::invalid_value()),
         }
     }
     Ok(values)
@@ -61,11 +61,11 @@ impl<T: Deserialize, const N: usize> Deserialize for [T; N] {
             Content::List(mut elements) => match read_first::<T, D>(alloc, &mut elements, N) {
                 Ok(values) => match <[T; N]>::try_from(values) {
                     Ok(array) => Ok(array),
-                    Err(_) => Err(D::Error::invalid()),
+                    Err(_) => Err(D::Error::invalid_value()),
                 },
                 Err(error) => Err(error),
             },
-            _ => Err(D::Error::invalid()),
+            _ => Err(D::Error::invalid_value()),
         }
     }
 }

@@ -9,7 +9,7 @@ ghost use Rattle.amqp_de.specs.Reads.{Always, descriptor_tree};
 use crate::content::Content;
 use crate::deserialize::Deserialize;
 use crate::deserializer::Deserializer;
-use crate::refusal::Refusal;
+use crate::deserialize_error::DeserializeError;
 use amqp_data::{Described, Descriptor};
 use std::alloc::Global;
 
@@ -29,7 +29,7 @@ impl Deserialize for Descriptor {
         match deserializer.open() {
             Content::Ulong(code) => Ok(Descriptor::Code(code)),
             Content::Symbol(name) => Ok(Descriptor::Name(name)),
-            _ => Err(D::Error::invalid()),
+            _ => Err(D::Error::invalid_value()),
         }
     }
 }
@@ -55,7 +55,7 @@ impl<T: Deserialize> Deserialize for Described<T> {
                 Ok(value) => Ok(Described { descriptor, value }),
                 Err(error) => Err(error),
             },
-            _ => Err(D::Error::invalid()),
+            _ => Err(D::Error::invalid_value()),
         }
     }
 }

@@ -8,7 +8,7 @@ ghost use Rattle.amqp_de.specs.Reads.{Always};
 use crate::content::Content;
 use crate::deserialize::Deserialize;
 use crate::deserializer::Deserializer;
-use crate::refusal::Refusal;
+use crate::deserialize_error::DeserializeError;
 use amqp_data::{Dec32, Dec64, Dec128, F32Bits, F64Bits, Timestamp, Uuid};
 use std::alloc::Global;
 
@@ -24,7 +24,7 @@ impl Deserialize for F32Bits {
     fn deserialize<D: Deserializer>(_alloc: Global, deserializer: D) -> Result<F32Bits, D::Error> {
         match deserializer.open() {
             Content::Float(value) => Ok(value),
-            _ => Err(D::Error::invalid()),
+            _ => Err(D::Error::invalid_value()),
         }
     }
 }
@@ -41,7 +41,7 @@ impl Deserialize for F64Bits {
     fn deserialize<D: Deserializer>(_alloc: Global, deserializer: D) -> Result<F64Bits, D::Error> {
         match deserializer.open() {
             Content::Double(value) => Ok(value),
-            _ => Err(D::Error::invalid()),
+            _ => Err(D::Error::invalid_value()),
         }
     }
 }
@@ -58,7 +58,7 @@ impl Deserialize for Dec32 {
     fn deserialize<D: Deserializer>(_alloc: Global, deserializer: D) -> Result<Dec32, D::Error> {
         match deserializer.open() {
             Content::Decimal32(value) => Ok(value),
-            _ => Err(D::Error::invalid()),
+            _ => Err(D::Error::invalid_value()),
         }
     }
 }
@@ -75,7 +75,7 @@ impl Deserialize for Dec64 {
     fn deserialize<D: Deserializer>(_alloc: Global, deserializer: D) -> Result<Dec64, D::Error> {
         match deserializer.open() {
             Content::Decimal64(value) => Ok(value),
-            _ => Err(D::Error::invalid()),
+            _ => Err(D::Error::invalid_value()),
         }
     }
 }
@@ -92,7 +92,7 @@ impl Deserialize for Dec128 {
     fn deserialize<D: Deserializer>(_alloc: Global, deserializer: D) -> Result<Dec128, D::Error> {
         match deserializer.open() {
             Content::Decimal128(value) => Ok(value),
-            _ => Err(D::Error::invalid()),
+            _ => Err(D::Error::invalid_value()),
         }
     }
 }
@@ -112,7 +112,7 @@ impl Deserialize for Timestamp {
     ) -> Result<Timestamp, D::Error> {
         match deserializer.open() {
             Content::Timestamp(value) => Ok(value),
-            _ => Err(D::Error::invalid()),
+            _ => Err(D::Error::invalid_value()),
         }
     }
 }
@@ -129,7 +129,7 @@ impl Deserialize for Uuid {
     fn deserialize<D: Deserializer>(_alloc: Global, deserializer: D) -> Result<Uuid, D::Error> {
         match deserializer.open() {
             Content::Uuid(value) => Ok(value),
-            _ => Err(D::Error::invalid()),
+            _ => Err(D::Error::invalid_value()),
         }
     }
 }

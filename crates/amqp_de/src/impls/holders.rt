@@ -7,7 +7,7 @@ ghost use Rattle.amqp_de.specs.Reads.{ReadsOption, image_option, RestorableOptio
 
 use crate::deserialize::Deserialize;
 use crate::deserializer::Deserializer;
-use crate::refusal::Refusal;
+use crate::deserialize_error::DeserializeError;
 use amqp_value::Value;
 use std::alloc::Global;
 
@@ -41,7 +41,7 @@ impl<T: Deserialize> Deserialize for Box<T> {
     fn deserialize<D: Deserializer>(alloc: Global, deserializer: D) -> Result<Box<T>, D::Error> {
         match Box::new(alloc, T::deserialize(alloc, deserializer)?) {
             Ok(boxed) => Ok(boxed),
-            Err(_) => Err(D::Error::memory()),
+            Err(_) => Err(D::Error::out_of_memory()),
         }
     }
 }

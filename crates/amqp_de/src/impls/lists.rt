@@ -10,24 +10,24 @@ ghost use Rattle.amqp_de.specs.Reads.{OnList, OnArray};
 use crate::content::Content;
 use crate::deserialize::Deserialize;
 use crate::deserializer::Deserializer;
-use crate::refusal::Refusal;
+use crate::deserialize_error::DeserializeError;
 use amqp_data::{Array, TransparentVec};
 use std::alloc::Global;
 
 /// Reads all remaining elements, in order.
 ///
 /// # Errors
-/// Returns the error of the first element that cannot be read, and `Refusal::memory` if an
+/// Returns the error of the first element that cannot be read, and `DeserializeError::out_of_memory` if an
 /// allocation fails.
 fn read_all<T: Deserialize, D: Deserializer>(
     alloc: Global,
     elements: &mut D::Elements,
 ) -> Result<Vec<T>, D::Error>
     ensures read { MatchResult result (λ v. AllZip T.reads (D.items elements.old) v.items)
-        (Refuses D.Error.is_memory (λ (xs : List T). AllZip T.reads (D.items elements.old) xs)) }
+        (Refuses D.Error.is_out_of_memory (λ (xs : List T). AllZip T.reads (D.items elements.old) xs)) }
     ensures law { (xs : List T) → AllByRecursion T.restorable xs →
         D.items elements.old ≡ map T.image xs →
-        MatchResult result (λ v. AllZip T.same v.items xs) D.Error.is_memory }
+        MatchResult result (λ v. AllZip T.same v.items xs) D.Error.is_out_of_memory }
 {
     let mut values = Vec::new(alloc);
     'elements: loop {
@@ -35,7 +35,7 @@ fn read_all<T: Deserialize, D: Deserializer>(
             Some(element) => match T::deserialize(alloc, element) {
                 Ok(value) => {
                     if values.push(value).is_err() {
-                        return Err(D::Error::memory());
+                        return Err(D::Error::out_of_memory());
                     }
                 }
                 Err(error) => return Err(error),
@@ -61,7 +61,7 @@ impl<T: Deserialize> Deserialize for Vec<T> {
                 Ok(values) => Ok(values),
                 Err(error) => Err(error),
             },
-            _ => Err(D::Error::invalid()),
+            _ => Err(D::Error::invalid_value()),
         }
     }
 }
@@ -82,7 +82,7 @@ impl<T: Deserialize> Deserialize for Array<T> {
                 Ok(values) => Ok(Array::from(values)),
                 Err(error) => Err(error),
             },
-            _ => Err(D::Error::invalid()),
+            _ => Err(D::Error::invalid_value()),
         }
     }
 }
@@ -106,7 +106,7 @@ impl<T: Deserialize> Deserialize for TransparentVec<T> {
                 Ok(values) => Ok(TransparentVec::new(values)),
                 Err(error) => Err(error),
             },
-            _ => Err(D::Error::invalid()),
+            _ => Err(D::Error::invalid_value()),
         }
     }
 }

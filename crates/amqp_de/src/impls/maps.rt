@@ -14,7 +14,7 @@ ghost use Rattle.amqp_de.specs.Maps.{HoldsInOrder, HoldsSorted, HoldsHashed, Sam
 use crate::content::Content;
 use crate::deserialize::Deserialize;
 use crate::deserializer::Deserializer;
-use crate::refusal::Refusal;
+use crate::deserialize_error::DeserializeError;
 use amqp_data::OrderedMap;
 use std::alloc::Global;
 use std::collections::{BTreeMap, HashMap};
@@ -41,11 +41,11 @@ fn read_pair<K: Deserialize, V: Deserialize, D: Deserializer>(
     key: D,
     value: D,
 ) -> Result<(K, V), D::Error>
-    ensures read { Answers D.Error.is_memory
+    ensures read { Answers D.Error.is_out_of_memory
         (ReadsPair K.reads V.reads (D.value key, D.value value)) result }
     ensures law { (x : K × V) → IsPair K.restorable V.restorable x →
         (D.value key, D.value value) ≡ pair_image K.image V.image x →
-        MatchResult result (λ y. SamePair K.same V.same y x) D.Error.is_memory }
+        MatchResult result (λ y. SamePair K.same V.same y x) D.Error.is_out_of_memory }
 {
     let key = K::deserialize(alloc, key)?;
     let value = V::deserialize(alloc, value)?;
@@ -55,19 +55,19 @@ fn read_pair<K: Deserialize, V: Deserialize, D: Deserializer>(
 /// Reads all remaining pairs and inserts them in order.
 ///
 /// # Errors
-/// Returns the error of the first key or value that cannot be read, and `Refusal::memory` if an
+/// Returns the error of the first key or value that cannot be read, and `DeserializeError::out_of_memory` if an
 /// allocation fails.
 fn read_pairs<K: Deserialize, V: Deserialize, M: Inserts<K, V>, D: Deserializer>(
     alloc: Global,
     entries: &mut D::Entries,
 ) -> Result<M, D::Error>
     ensures read { MatchResult result (ReadsPairs K.reads V.reads M.holds (D.pairs entries.old))
-        (Refuses D.Error.is_memory (λ (ps : List (K × V)).
+        (Refuses D.Error.is_out_of_memory (λ (ps : List (K × V)).
         AllZip (ReadsPair K.reads V.reads) (D.pairs entries.old) ps)) }
     ensures law { (xs : List (K × V)) → AllByRecursion (IsPair K.restorable V.restorable) xs →
         D.pairs entries.old ≡ map (pair_image K.image V.image) xs →
         MatchResult result (λ m. (ys : List (K × V))
-        × AllZip (SamePair K.same V.same) ys xs × M.holds ys m) D.Error.is_memory }
+        × AllZip (SamePair K.same V.same) ys xs × M.holds ys m) D.Error.is_out_of_memory }
 {
     let mut map = M::empty(alloc);
     'entries: loop {
@@ -75,7 +75,7 @@ fn read_pairs<K: Deserialize, V: Deserialize, M: Inserts<K, V>, D: Deserializer>
             Some((key, value)) => match read_pair::<K, V, D>(alloc, key, value) {
                 Ok((key, value)) => {
                     if !map.put(key, value) {
-                        return Err(D::Error::memory());
+                        return Err(D::Error::out_of_memory());
                     }
                 }
                 Err(error) => return Err(error),
@@ -143,7 +143,7 @@ impl<K: Deserialize + Hash + Eq, V: Deserialize> Deserialize for OrderedMap<K, V
                     Err(error) => Err(error),
                 }
             }
-            _ => Err(D::Error::invalid()),
+            _ => Err(D::Error::invalid_value()),
         }
     }
 }
@@ -170,7 +170,7 @@ impl<K: Deserialize + Ord, V: Deserialize> Deserialize for BTreeMap<K, V> {
                     Err(error) => Err(error),
                 }
             }
-            _ => Err(D::Error::invalid()),
+            _ => Err(D::Error::invalid_value()),
         }
     }
 }
@@ -198,7 +198,7 @@ impl<K: Deserialize + Hash + Eq, V: Deserialize> Deserialize for HashMap<K, V> {
                     Err(error) => Err(error),
                 }
             }
-            _ => Err(D::Error::invalid()),
+            _ => Err(D::Error::invalid_value()),
         }
     }
 }

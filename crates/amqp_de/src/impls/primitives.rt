@@ -7,7 +7,7 @@ ghost use Rattle.amqp_de.specs.Reads.{Always};
 use crate::content::Content;
 use crate::deserialize::Deserialize;
 use crate::deserializer::Deserializer;
-use crate::refusal::Refusal;
+use crate::deserialize_error::DeserializeError;
 use std::alloc::Global;
 
 impl Deserialize for () {
@@ -23,7 +23,7 @@ impl Deserialize for () {
         if deserializer.is_null() {
             Ok(())
         } else {
-            Err(D::Error::invalid())
+            Err(D::Error::invalid_value())
         }
     }
 }
@@ -40,7 +40,7 @@ impl Deserialize for bool {
     fn deserialize<D: Deserializer>(_alloc: Global, deserializer: D) -> Result<bool, D::Error> {
         match deserializer.open() {
             Content::Bool(value) => Ok(value),
-            _ => Err(D::Error::invalid()),
+            _ => Err(D::Error::invalid_value()),
         }
     }
 }
@@ -57,7 +57,7 @@ impl Deserialize for u8 {
     fn deserialize<D: Deserializer>(_alloc: Global, deserializer: D) -> Result<u8, D::Error> {
         match deserializer.open() {
             Content::Ubyte(value) => Ok(value),
-            _ => Err(D::Error::invalid()),
+            _ => Err(D::Error::invalid_value()),
         }
     }
 }
@@ -74,7 +74,7 @@ impl Deserialize for u16 {
     fn deserialize<D: Deserializer>(_alloc: Global, deserializer: D) -> Result<u16, D::Error> {
         match deserializer.open() {
             Content::Ushort(value) => Ok(value),
-            _ => Err(D::Error::invalid()),
+            _ => Err(D::Error::invalid_value()),
         }
     }
 }
@@ -91,7 +91,7 @@ impl Deserialize for u32 {
     fn deserialize<D: Deserializer>(_alloc: Global, deserializer: D) -> Result<u32, D::Error> {
         match deserializer.open() {
             Content::Uint(value) => Ok(value),
-            _ => Err(D::Error::invalid()),
+            _ => Err(D::Error::invalid_value()),
         }
     }
 }
@@ -108,7 +108,7 @@ impl Deserialize for u64 {
     fn deserialize<D: Deserializer>(_alloc: Global, deserializer: D) -> Result<u64, D::Error> {
         match deserializer.open() {
             Content::Ulong(value) => Ok(value),
-            _ => Err(D::Error::invalid()),
+            _ => Err(D::Error::invalid_value()),
         }
     }
 }
@@ -125,7 +125,7 @@ impl Deserialize for i8 {
     fn deserialize<D: Deserializer>(_alloc: Global, deserializer: D) -> Result<i8, D::Error> {
         match deserializer.open() {
             Content::Byte(value) => Ok(value),
-            _ => Err(D::Error::invalid()),
+            _ => Err(D::Error::invalid_value()),
         }
     }
 }
@@ -142,7 +142,7 @@ impl Deserialize for i16 {
     fn deserialize<D: Deserializer>(_alloc: Global, deserializer: D) -> Result<i16, D::Error> {
         match deserializer.open() {
             Content::Short(value) => Ok(value),
-            _ => Err(D::Error::invalid()),
+            _ => Err(D::Error::invalid_value()),
         }
     }
 }
@@ -159,7 +159,7 @@ impl Deserialize for i32 {
     fn deserialize<D: Deserializer>(_alloc: Global, deserializer: D) -> Result<i32, D::Error> {
         match deserializer.open() {
             Content::Int(value) => Ok(value),
-            _ => Err(D::Error::invalid()),
+            _ => Err(D::Error::invalid_value()),
         }
     }
 }
@@ -176,7 +176,7 @@ impl Deserialize for i64 {
     fn deserialize<D: Deserializer>(_alloc: Global, deserializer: D) -> Result<i64, D::Error> {
         match deserializer.open() {
             Content::Long(value) => Ok(value),
-            _ => Err(D::Error::invalid()),
+            _ => Err(D::Error::invalid_value()),
         }
     }
 }
@@ -193,7 +193,7 @@ impl Deserialize for char {
     fn deserialize<D: Deserializer>(_alloc: Global, deserializer: D) -> Result<char, D::Error> {
         match deserializer.open() {
             Content::Char(value) => Ok(value),
-            _ => Err(D::Error::invalid()),
+            _ => Err(D::Error::invalid_value()),
         }
     }
 }

@@ -9,7 +9,7 @@ ghost use Rattle.amqp_de.specs.Reads.{Always};
 use crate::content::Content;
 use crate::deserialize::Deserialize;
 use crate::deserializer::Deserializer;
-use crate::refusal::Refusal;
+use crate::deserialize_error::DeserializeError;
 use amqp_data::{ByteBuf, Symbol};
 use std::alloc::Global;
 
@@ -25,7 +25,7 @@ impl Deserialize for ByteBuf {
     fn deserialize<D: Deserializer>(_alloc: Global, deserializer: D) -> Result<ByteBuf, D::Error> {
         match deserializer.open() {
             Content::Binary(value) => Ok(value),
-            _ => Err(D::Error::invalid()),
+            _ => Err(D::Error::invalid_value()),
         }
     }
 }
@@ -43,7 +43,7 @@ impl Deserialize for String {
     fn deserialize<D: Deserializer>(_alloc: Global, deserializer: D) -> Result<String, D::Error> {
         match deserializer.open() {
             Content::String(value) => Ok(value),
-            _ => Err(D::Error::invalid()),
+            _ => Err(D::Error::invalid_value()),
         }
     }
 }
@@ -60,7 +60,7 @@ impl Deserialize for Symbol {
     fn deserialize<D: Deserializer>(_alloc: Global, deserializer: D) -> Result<Symbol, D::Error> {
         match deserializer.open() {
             Content::Symbol(value) => Ok(value),
-            _ => Err(D::Error::invalid()),
+            _ => Err(D::Error::invalid_value()),
         }
     }
 }

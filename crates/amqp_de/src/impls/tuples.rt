@@ -2,23 +2,23 @@
 
 ghost use Rattle.std.specs.Prelude.{[], ◌∷◌};
 ghost use Rattle.amqp_ser.specs.Tree.{list, trees_of};
-ghost use Rattle.amqp_de.specs.Fields.{OnFields, must, end};
+ghost use Rattle.amqp_de.specs.Fields.{OnFields, ReadsRequired, NoMoreFields};
 
 use crate::deserialize::Deserialize;
 use crate::deserializer::Deserializer;
 use crate::record::{Record, read};
-use crate::seed::ListOf;
+use crate::seed::ListSeed;
 use crate::{fields, named};
 use std::alloc::Global;
 
 impl<A: Deserialize> Record for (A,) {
-    type Parts = (A, ());
+    type Values = (A, ());
 
     ghost parts = { λ x. (x.0, tt) };
 }
 
 impl<A: Deserialize> Deserialize for (A,) {
-    ghost reads = { λ t x. OnFields (must [] A.reads x.0 end) t };
+    ghost reads = { λ t x. OnFields (ReadsRequired [] A.reads x.0 NoMoreFields) t };
 
     ghost image = { λ x. list (trees_of (A.image x.0 ∷ [])) };
 
@@ -27,19 +27,19 @@ impl<A: Deserialize> Deserialize for (A,) {
     ghost same = { λ x y. A.same x.0 y.0 };
 
     fn deserialize<De: Deserializer>(alloc: Global, deserializer: De) -> Result<(A,), De::Error> {
-        let fields! { a } = read::<(A,), De, _>(alloc, deserializer, ListOf(named! { "" }))?;
+        let values! { a } = read::<(A,), De, _>(alloc, deserializer, ListSeed(named! { "" }))?;
         Ok((a,))
     }
 }
 
 impl<A: Deserialize, B: Deserialize> Record for (A, B) {
-    type Parts = (A, (B, ()));
+    type Values = (A, (B, ()));
 
     ghost parts = { λ x. (x.0, (x.1, tt)) };
 }
 
 impl<A: Deserialize, B: Deserialize> Deserialize for (A, B) {
-    ghost reads = { λ t x. OnFields (must [] A.reads x.0 (must [] B.reads x.1 end)) t };
+    ghost reads = { λ t x. OnFields (ReadsRequired [] A.reads x.0 (ReadsRequired [] B.reads x.1 NoMoreFields)) t };
 
     ghost image = { λ x. list (trees_of (A.image x.0 ∷ B.image x.1 ∷ [])) };
 
@@ -48,24 +48,24 @@ impl<A: Deserialize, B: Deserialize> Deserialize for (A, B) {
     ghost same = { λ x y. A.same x.0 y.0 × B.same x.1 y.1 };
 
     fn deserialize<De: Deserializer>(alloc: Global, deserializer: De) -> Result<(A, B), De::Error> {
-        let fields! { a, b } = read::<(A, B), De, _>(
+        let values! { a, b } = read::<(A, B), De, _>(
             alloc,
             deserializer,
-            ListOf(named! { "", "" }),
+            ListSeed(named! { "", "" }),
         )?;
         Ok((a, b))
     }
 }
 
 impl<A: Deserialize, B: Deserialize, C: Deserialize> Record for (A, B, C) {
-    type Parts = (A, (B, (C, ())));
+    type Values = (A, (B, (C, ())));
 
     ghost parts = { λ x. (x.0, (x.1, (x.2, tt))) };
 }
 
 impl<A: Deserialize, B: Deserialize, C: Deserialize> Deserialize for (A, B, C) {
     ghost reads = { λ t x.
-        OnFields (must [] A.reads x.0 (must [] B.reads x.1 (must [] C.reads x.2 end))) t };
+        OnFields (ReadsRequired [] A.reads x.0 (ReadsRequired [] B.reads x.1 (ReadsRequired [] C.reads x.2 NoMoreFields))) t };
 
     ghost image = { λ x. list (trees_of (A.image x.0 ∷ B.image x.1 ∷ C.image x.2 ∷ [])) };
 
@@ -77,24 +77,24 @@ impl<A: Deserialize, B: Deserialize, C: Deserialize> Deserialize for (A, B, C) {
         alloc: Global,
         deserializer: De,
     ) -> Result<(A, B, C), De::Error> {
-        let fields! { a, b, c } = read::<(A, B, C), De, _>(
+        let values! { a, b, c } = read::<(A, B, C), De, _>(
             alloc,
             deserializer,
-            ListOf(named! { "", "", "" }),
+            ListSeed(named! { "", "", "" }),
         )?;
         Ok((a, b, c))
     }
 }
 
 impl<A: Deserialize, B: Deserialize, C: Deserialize, D: Deserialize> Record for (A, B, C, D) {
-    type Parts = (A, (B, (C, (D, ()))));
+    type Values = (A, (B, (C, (D, ()))));
 
     ghost parts = { λ x. (x.0, (x.1, (x.2, (x.3, tt)))) };
 }
 
 impl<A: Deserialize, B: Deserialize, C: Deserialize, D: Deserialize> Deserialize for (A, B, C, D) {
-    ghost reads = { λ t x. OnFields (must [] A.reads x.0
-        (must [] B.reads x.1 (must [] C.reads x.2 (must [] D.reads x.3 end)))) t };
+    ghost reads = { λ t x. OnFields (ReadsRequired [] A.reads x.0
+        (ReadsRequired [] B.reads x.1 (ReadsRequired [] C.reads x.2 (ReadsRequired [] D.reads x.3 NoMoreFields)))) t };
 
     ghost image = { λ x.
         list (trees_of (A.image x.0 ∷ B.image x.1 ∷ C.image x.2 ∷ D.image x.3 ∷ [])) };
@@ -108,10 +108,10 @@ impl<A: Deserialize, B: Deserialize, C: Deserialize, D: Deserialize> Deserialize
         alloc: Global,
         deserializer: De,
     ) -> Result<(A, B, C, D), De::Error> {
-        let fields! { a, b, c, d } = read::<(A, B, C, D), De, _>(
+        let values! { a, b, c, d } = read::<(A, B, C, D), De, _>(
             alloc,
             deserializer,
-            ListOf(named! { "", "", "", "" }),
+            ListSeed(named! { "", "", "", "" }),
         )?;
         Ok((a, b, c, d))
     }

@@ -2,47 +2,47 @@
 
 ghost use Rattle.std.specs.Prelude.{◌≡◌, ◌++◌, ◌∷◌, [], List, Option, None, Err, MatchResult, IfErr, IsErr, true, false};
 ghost use Rattle.amqp_ser.specs.Tree.{Tree};
-ghost use Rattle.amqp_ser.specs.Compounds.{whole, paired};
+ghost use Rattle.amqp_ser.specs.Compounds.{tree_of_parts, paired};
 ghost use Rattle.amqp_ser.specs.Structs.{Stands, form_kind, fields_kind, field_parts};
 
 use super::described::end_single;
 use super::feed::{feed_entry, feed_part};
-use crate::kind::Kind;
+use crate::kind::CompoundKind;
 use crate::serialize::Serialize;
 use crate::serializer::Serializer;
-use crate::struct_form::StructForm;
+use crate::struct_encoding::StructEncoding;
 
 /// Returns the kind of a body: a map if the fields have names, otherwise a list.
 #[inline(always)]
-fn fields_kind(named: bool) -> Kind
+fn fields_kind(named: bool) -> CompoundKind
     ensures { result ≡ fields_kind named }
 {
-    if named { Kind::Map } else { Kind::List }
+    if named { CompoundKind::Map } else { CompoundKind::List }
 }
 
 /// Serializes the first field of an open list or map. On an error the compound is unchanged.
 #[inline(always)]
 fn feed_field<S: Serializer, T: Serialize>(
     serializer: &mut S,
-    held: &mut S::Open,
+    compound: &mut S::Open,
     named: bool,
     key: &'static str,
     value: &T,
 ) -> Result<(), S::Error>
-    ensures { (start : S) → S.has start (fields_kind named) serializer.old held.old [] →
+    ensures { (start : S) → S.has start (fields_kind named) serializer.old compound.old [] →
         MatchResult result
-        (λ _. S.has start (fields_kind named) serializer.new held.new
+        (λ _. S.has start (fields_kind named) serializer.new compound.new
         (field_parts named key.now (T.tree value.now)))
-        (λ e. S.has start (fields_kind named) serializer.new held.new []
+        (λ e. S.has start (fields_kind named) serializer.new compound.new []
         × ((rest : List (Option Tree)) →
         S.permits start
-        (whole (fields_kind named) (field_parts named key.now (T.tree value.now) ++ rest))
+        (tree_of_parts (fields_kind named) (field_parts named key.now (T.tree value.now) ++ rest))
         (Err e) serializer.new)) }
 {
     if named {
-        feed_entry(serializer, held, &key, value)
+        feed_entry(serializer, compound, &key, value)
     } else {
-        feed_part(serializer, held, value)
+        feed_part(serializer, compound, value)
     }
 }
 
@@ -58,30 +58,30 @@ fn feed_field<S: Serializer, T: Serialize>(
 #[inline(always)]
 pub fn open_body<S: Serializer, T: Serialize>(
     serializer: &mut S,
-    held: &mut S::Open,
+    compound: &mut S::Open,
     named: bool,
     key: &'static str,
     value: &T,
 ) -> Result<(), S::Error>
-    ensures { (start : S) → S.has start Kind.Single serializer.old held.old [] →
+    ensures { (start : S) → S.has start CompoundKind.Single serializer.old compound.old [] →
         MatchResult result
-        (λ _. Stands S.permits S.has start None (fields_kind named) serializer.new held.new
+        (λ _. Stands S.permits S.has start None (fields_kind named) serializer.new compound.new
         (field_parts named key.now (T.tree value.now)))
-        (λ e. S.has start Kind.Single serializer.new held.new [] × ((rest : List (Option Tree)) →
+        (λ e. S.has start CompoundKind.Single serializer.new compound.new [] × ((rest : List (Option Tree)) →
         S.permits start
-        (whole (fields_kind named) (field_parts named key.now (T.tree value.now) ++ rest))
+        (tree_of_parts (fields_kind named) (field_parts named key.now (T.tree value.now) ++ rest))
         (Err e) serializer.new)) }
 {
-    serializer.begin_part(held);
-    let mut fields = serializer.begin(fields_kind(named));
+    serializer.begin_part(compound);
+    let mut fields = serializer.begin_compound(fields_kind(named));
     match feed_field(&mut *serializer, &mut fields, named, key, value) {
         Ok(()) => {
-            *held = fields;
+            *compound = fields;
             Ok(())
         }
-        Err(e) => match serializer.end_part(held, Err(e)) {
+        Err(e) => match serializer.end_part(compound, Err(e)) {
             Err(e) => Err(e),
-            Ok(()) => Err(serializer.misuse(held)),
+            Ok(()) => Err(serializer.misuse_error(compound)),
         },
     }
 }
@@ -90,20 +90,20 @@ pub fn open_body<S: Serializer, T: Serialize>(
 #[inline(always)]
 fn end_empty<S: Serializer>(
     serializer: &mut S,
-    mut held: S::Open,
-    form: StructForm,
+    mut compound: S::Open,
+    form: StructEncoding,
 ) -> Result<S::Ok, S::Error>
-    ensures empty { (start : S) → S.has start Kind.Single serializer.old held [] →
-        S.permits start (whole (form_kind form) []) result serializer.new }
-    ensures invalid { form ≡ StructForm.Single → IsErr result × IfErr result S.is_misuse }
+    ensures empty { (start : S) → S.has start CompoundKind.Single serializer.old compound [] →
+        S.permits start (tree_of_parts (form_kind form) []) result serializer.new }
+    ensures invalid { form ≡ StructEncoding.Single → IsErr result × IfErr result S.is_misuse_error }
 {
     let kind = match form {
-        StructForm::Single => return Err(serializer.misuse(&mut held)),
-        StructForm::List => Kind::List,
-        StructForm::Map => Kind::Map,
+        StructEncoding::Single => return Err(serializer.misuse_error(&mut compound)),
+        StructEncoding::List => CompoundKind::List,
+        StructEncoding::Map => CompoundKind::Map,
     };
-    serializer.begin_part(&mut held);
-    let fields = serializer.begin(kind);
+    serializer.begin_part(&mut compound);
+    let fields = serializer.begin_compound(kind);
     serializer.end(fields)
 }
 
@@ -118,30 +118,30 @@ fn end_empty<S: Serializer>(
 #[inline(always)]
 pub fn end_fields<S: Serializer>(
     serializer: &mut S,
-    held: S::Open,
-    form: StructForm,
+    compound: S::Open,
+    form: StructEncoding,
     opened: bool,
 ) -> Result<S::Ok, S::Error>
-    ensures list { opened ≡ true → form ≡ StructForm.List → (start : S) (ps : List (Option Tree)) →
-        S.has start Kind.List serializer.old held ps →
-        S.permits start (whole Kind.List ps) result serializer.new }
-    ensures map { opened ≡ true → form ≡ StructForm.Map → (start : S) (ps : List (Option Tree)) →
-        S.has start Kind.Map serializer.old held ps → paired ps ≡ true →
-        S.permits start (whole Kind.Map ps) result serializer.new }
-    ensures alone { opened ≡ true → form ≡ StructForm.Single → (start : S) (p : Option Tree) →
-        S.has start Kind.Single serializer.old held (p ∷ []) →
+    ensures list { opened ≡ true → form ≡ StructEncoding.List → (start : S) (ps : List (Option Tree)) →
+        S.has start CompoundKind.List serializer.old compound ps →
+        S.permits start (tree_of_parts CompoundKind.List ps) result serializer.new }
+    ensures map { opened ≡ true → form ≡ StructEncoding.Map → (start : S) (ps : List (Option Tree)) →
+        S.has start CompoundKind.Map serializer.old compound ps → paired ps ≡ true →
+        S.permits start (tree_of_parts CompoundKind.Map ps) result serializer.new }
+    ensures alone { opened ≡ true → form ≡ StructEncoding.Single → (start : S) (p : Option Tree) →
+        S.has start CompoundKind.Single serializer.old compound (p ∷ []) →
         S.permits start p result serializer.new }
-    ensures empty { opened ≡ false → (start : S) → S.has start Kind.Single serializer.old held [] →
-        S.permits start (whole (form_kind form) []) result serializer.new }
-    ensures invalid { opened ≡ false → form ≡ StructForm.Single → IsErr result
-        × IfErr result S.is_misuse }
+    ensures empty { opened ≡ false → (start : S) → S.has start CompoundKind.Single serializer.old compound [] →
+        S.permits start (tree_of_parts (form_kind form) []) result serializer.new }
+    ensures invalid { opened ≡ false → form ≡ StructEncoding.Single → IsErr result
+        × IfErr result S.is_misuse_error }
 {
     if !opened {
-        return end_empty(serializer, held, form);
+        return end_empty(serializer, compound, form);
     }
     match form {
-        StructForm::Single => end_single(serializer, held),
-        StructForm::List => serializer.end(held),
-        StructForm::Map => serializer.end(held),
+        StructEncoding::Single => end_single(serializer, compound),
+        StructEncoding::List => serializer.end(compound),
+        StructEncoding::Map => serializer.end(compound),
     }
 }

@@ -6,7 +6,7 @@ ghost use Rattle.amqp_ser.specs.Composites.{as_described, descriptor_of};
 ghost use Rattle.amqp_ser.specs.Structs.{Stands};
 
 use super::feed::feed_part;
-use crate::kind::Kind;
+use crate::kind::CompoundKind;
 use crate::serialize::Serialize;
 use crate::serializer::Serializer;
 
@@ -23,22 +23,22 @@ use crate::serializer::Serializer;
 #[inline(always)]
 pub fn feed_descriptor<S: Serializer, T: Serialize>(
     serializer: &mut S,
-    held: &mut S::Open,
+    compound: &mut S::Open,
     value: &T,
 ) -> Result<(), S::Error>
-    ensures fed { (start : S) → S.has start Kind.Single serializer.old held.old [] →
+    ensures fed { (start : S) → S.has start CompoundKind.Single serializer.old compound.old [] →
         MatchResult result
-        (λ _. Stands S.permits S.has start (Some (T.tree value.now)) Kind.Single serializer.new
-        held.new [])
-        (λ e. S.has start Kind.Single serializer.new held.new [] × ((t : Option Tree) →
+        (λ _. Stands S.permits S.has start (Some (T.tree value.now)) CompoundKind.Single serializer.new
+        compound.new [])
+        (λ e. S.has start CompoundKind.Single serializer.new compound.new [] × ((t : Option Tree) →
         S.permits start (as_described (descriptor_of (T.tree value.now)) t)
         (Err e) serializer.new)) }
-    ensures other_kinds { (start : S) → S.has start Kind.Single serializer.old held.old [] →
+    ensures other_kinds { (start : S) → S.has start CompoundKind.Single serializer.old compound.old [] →
         descriptor_of (T.tree value.now) ≡ None → IsErr result }
 {
-    serializer.begin_descriptor(held);
+    serializer.begin_descriptor(compound);
     let part = value.serialize(serializer);
-    serializer.end_descriptor(held, part)
+    serializer.end_descriptor(compound, part)
 }
 
 /// Serializes the one value of a single compound. On an error the compound is unchanged.
@@ -51,16 +51,16 @@ pub fn feed_descriptor<S: Serializer, T: Serialize>(
 #[inline(always)]
 pub fn feed_single<S: Serializer, T: Serialize>(
     serializer: &mut S,
-    held: &mut S::Open,
+    compound: &mut S::Open,
     value: &T,
 ) -> Result<(), S::Error>
-    ensures { (start : S) → S.has start Kind.Single serializer.old held.old [] →
+    ensures { (start : S) → S.has start CompoundKind.Single serializer.old compound.old [] →
         MatchResult result
-        (λ _. S.has start Kind.Single serializer.new held.new (T.tree value.now ∷ []))
-        (λ e. S.has start Kind.Single serializer.new held.new []
+        (λ _. S.has start CompoundKind.Single serializer.new compound.new (T.tree value.now ∷ []))
+        (λ e. S.has start CompoundKind.Single serializer.new compound.new []
         × S.permits start (T.tree value.now) (Err e) serializer.new) }
 {
-    feed_part(serializer, held, value)
+    feed_part(serializer, compound, value)
 }
 
 /// Ends a single compound that has its one value.
@@ -71,11 +71,11 @@ pub fn feed_single<S: Serializer, T: Serialize>(
 /// # Example
 /// `true` is `41`, and after the descriptor 1 it is `00530141`.
 #[inline(always)]
-pub fn end_single<S: Serializer>(serializer: &mut S, held: S::Open) -> Result<S::Ok, S::Error>
-    ensures { (start : S) (p : Option Tree) → S.has start Kind.Single serializer.old held (p ∷ []) →
+pub fn end_single<S: Serializer>(serializer: &mut S, compound: S::Open) -> Result<S::Ok, S::Error>
+    ensures { (start : S) (p : Option Tree) → S.has start CompoundKind.Single serializer.old compound (p ∷ []) →
         S.permits start p result serializer.new }
 {
-    serializer.end(held)
+    serializer.end(compound)
 }
 
 /// Serializes a described value, like a struct named `DESCRIBED_BASIC` with a descriptor and one
@@ -101,8 +101,8 @@ pub fn serialize_described<S: Serializer, D: Serialize, T: Serialize>(
         (as_described (descriptor_of (D.tree descriptor.now)) (T.tree value.now)) result
         serializer.new }
 {
-    let mut held = serializer.begin(Kind::Single);
-    feed_descriptor(&mut *serializer, &mut held, descriptor)?;
-    feed_single(&mut *serializer, &mut held, value)?;
-    end_single(serializer, held)
+    let mut compound = serializer.begin_compound(CompoundKind::Single);
+    feed_descriptor(&mut *serializer, &mut compound, descriptor)?;
+    feed_single(&mut *serializer, &mut compound, value)?;
+    end_single(serializer, compound)
 }

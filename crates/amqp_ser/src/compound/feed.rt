@@ -2,10 +2,10 @@
 
 ghost use Rattle.std.specs.Prelude.{◌≡◌, ◌++◌, ◌∷◌, [], List, Option, Err, MatchResult, true};
 ghost use Rattle.amqp_ser.specs.Tree.{Tree};
-ghost use Rattle.amqp_ser.specs.Compounds.{whole, paired};
+ghost use Rattle.amqp_ser.specs.Compounds.{tree_of_parts, paired};
 ghost use Rattle.amqp_ser.specs.Feeding.{Feeds};
 
-use crate::kind::Kind;
+use crate::kind::CompoundKind;
 use crate::serialize::Serialize;
 use crate::serializer::Serializer;
 
@@ -19,16 +19,16 @@ use crate::serializer::Serializer;
 #[inline(always)]
 pub fn feed_part<S: Serializer, T: Serialize>(
     serializer: &mut S,
-    held: &mut S::Open,
+    compound: &mut S::Open,
     value: &T,
 ) -> Result<(), S::Error>
-    ensures { (kind : Kind) →
-        Feeds S.permits S.has kind (T.tree value.now) serializer.old held.old result serializer.new
-        held.new }
+    ensures { (kind : CompoundKind) →
+        Feeds S.permits S.has kind (T.tree value.now) serializer.old compound.old result serializer.new
+        compound.new }
 {
-    serializer.begin_part(held);
+    serializer.begin_part(compound);
     let part = value.serialize(serializer);
-    serializer.end_part(held, part)
+    serializer.end_part(compound, part)
 }
 
 /// Serializes one more entry of an open map. On an error the map is unchanged.
@@ -41,24 +41,24 @@ pub fn feed_part<S: Serializer, T: Serialize>(
 #[inline(always)]
 pub fn feed_entry<S: Serializer, K: Serialize, V: Serialize>(
     serializer: &mut S,
-    held: &mut S::Open,
+    compound: &mut S::Open,
     key: &K,
     value: &V,
 ) -> Result<(), S::Error>
     ensures { (start : S) (ps : List (Option Tree)) →
-        S.has start Kind.Map serializer.old held.old ps → paired ps ≡ true →
+        S.has start CompoundKind.Map serializer.old compound.old ps → paired ps ≡ true →
         MatchResult result
-        (λ _. S.has start Kind.Map serializer.new held.new
+        (λ _. S.has start CompoundKind.Map serializer.new compound.new
         (ps ++ (K.tree key.now ∷ (V.tree value.now ∷ []))))
-        (λ e. S.has start Kind.Map serializer.new held.new ps × ((rest : List (Option Tree)) →
-        S.permits start (whole Kind.Map (ps ++ (K.tree key.now ∷ (V.tree value.now ∷ rest))))
+        (λ e. S.has start CompoundKind.Map serializer.new compound.new ps × ((rest : List (Option Tree)) →
+        S.permits start (tree_of_parts CompoundKind.Map (ps ++ (K.tree key.now ∷ (V.tree value.now ∷ rest))))
         (Err e) serializer.new)) }
 {
-    feed_part(&mut *serializer, &mut *held, key)?;
-    match feed_part(&mut *serializer, &mut *held, value) {
+    feed_part(&mut *serializer, &mut *compound, key)?;
+    match feed_part(&mut *serializer, &mut *compound, value) {
         Ok(()) => Ok(()),
         Err(e) => {
-            serializer.undo_part(held);
+            serializer.undo_part(compound);
             Err(e)
         }
     }

@@ -2,12 +2,12 @@
 
 ghost use Rattle.std.specs.Prelude.{◌≡◌, ◌∷◌, [], List, Option, Some, None, Result, Err, MatchResult, true, false};
 ghost use Rattle.amqp_ser.specs.Tree.{Tree};
-ghost use Rattle.amqp_ser.specs.Compounds.{whole};
+ghost use Rattle.amqp_ser.specs.Compounds.{tree_of_parts};
 ghost use Rattle.amqp_ser.specs.Feeding.{Feeds};
 ghost use Rattle.amqp_ser.specs.Structs.{Stands};
 
 use super::feed::feed_part;
-use crate::kind::Kind;
+use crate::kind::CompoundKind;
 use crate::serialize::Serialize;
 use crate::serializer::Serializer;
 use std::mem;
@@ -15,25 +15,25 @@ use std::mem;
 /// Opens a list in place of a single compound and returns the single compound, or returns `None` if
 /// a list is open already.
 #[inline(always)]
-fn open_list<S: Serializer>(serializer: &mut S, held: &mut S::Open, opened: bool) -> Option<S::Open>
+fn open_list<S: Serializer>(serializer: &mut S, compound: &mut S::Open, opened: bool) -> Option<S::Open>
     ensures next { opened ≡ true →
-        (result ≡ None) × ((serializer.new ≡ serializer.old) × (held.new ≡ held.old)) }
+        (result ≡ None) × ((serializer.new ≡ serializer.old) × (compound.new ≡ compound.old)) }
     ensures first { opened ≡ false → (start : S) →
-        S.has start Kind.Single serializer.old held.old [] →
+        S.has start CompoundKind.Single serializer.old compound.old [] →
         (single : S.Open)
         × ((result ≡ Some single)
         × ((mid : S)
-        × (S.awaits start Kind.Single mid single []
-        × (S.has mid Kind.List serializer.new held.new [] ×
+        × (S.awaits start CompoundKind.Single mid single []
+        × (S.has mid CompoundKind.List serializer.new compound.new [] ×
         ((t : Option Tree) (r : Result S.Ok S.Error) (after : S) → S.permits mid t r after →
         S.permits start t r after))))) }
 {
     if opened {
         return None;
     }
-    serializer.begin_part(held);
-    let fields = serializer.begin(Kind::List);
-    Some(mem::replace(held, fields))
+    serializer.begin_part(compound);
+    let fields = serializer.begin_compound(CompoundKind::List);
+    Some(mem::replace(compound, fields))
 }
 
 /// Returns the single compound unchanged, and the error, after its first field failed.
@@ -44,16 +44,16 @@ fn close_first<S: Serializer>(
     single: S::Open,
     e: S::Error,
 ) -> (S::Open, S::Error)
-    ensures { (start before : S) → S.awaits start Kind.Single before single [] →
+    ensures { (start before : S) → S.awaits start CompoundKind.Single before single [] →
         ((p : Option Tree) → S.permits before p (Err e) serializer.old →
-        S.has start Kind.Single serializer.new result.0 []
+        S.has start CompoundKind.Single serializer.new result.0 []
         × S.permits start p (Err result.1) serializer.new) }
 {
     let mut single = single;
     match serializer.end_part(&mut single, Err(e)) {
         Err(e) => (single, e),
         Ok(()) => {
-            let e = serializer.misuse(&mut single);
+            let e = serializer.misuse_error(&mut single);
             (single, e)
         }
     }
@@ -71,29 +71,29 @@ fn close_first<S: Serializer>(
 #[inline(always)]
 pub fn feed_list_field<S: Serializer, T: Serialize>(
     serializer: &mut S,
-    held: &mut S::Open,
+    compound: &mut S::Open,
     opened: bool,
     value: &T,
 ) -> Result<(), S::Error>
     ensures first { opened ≡ false → (start : S) →
-        S.has start Kind.Single serializer.old held.old [] →
+        S.has start CompoundKind.Single serializer.old compound.old [] →
         MatchResult result
-        (λ _. Stands S.permits S.has start None Kind.List serializer.new held.new
+        (λ _. Stands S.permits S.has start None CompoundKind.List serializer.new compound.new
         (T.tree value.now ∷ []))
-        (λ e. S.has start Kind.Single serializer.new held.new [] × ((rest : List (Option Tree)) →
-        S.permits start (whole Kind.List (T.tree value.now ∷ rest)) (Err e) serializer.new)) }
+        (λ e. S.has start CompoundKind.Single serializer.new compound.new [] × ((rest : List (Option Tree)) →
+        S.permits start (tree_of_parts CompoundKind.List (T.tree value.now ∷ rest)) (Err e) serializer.new)) }
     ensures next { opened ≡ true →
-        Feeds S.permits S.has Kind.List (T.tree value.now) serializer.old held.old result
-        serializer.new held.new }
+        Feeds S.permits S.has CompoundKind.List (T.tree value.now) serializer.old compound.old result
+        serializer.new compound.new }
 {
-    let single = open_list(serializer, held, opened);
-    match feed_part(serializer, held, value) {
+    let single = open_list(serializer, compound, opened);
+    match feed_part(serializer, compound, value) {
         Ok(()) => Ok(()),
         Err(e) => match single {
             None => Err(e),
             Some(single) => {
                 let (single, e) = close_first(serializer, single, e);
-                *held = single;
+                *compound = single;
                 Err(e)
             }
         },

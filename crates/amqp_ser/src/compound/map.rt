@@ -4,11 +4,11 @@ ghost use Rattle.std.specs.Prelude.{◌≡◌, [], List, Option, Err, MatchResul
 ghost use mir.Syntax.{named};
 ghost use Rattle.std.specs.Borrow.{Lends, sem};
 ghost use Rattle.amqp_ser.specs.Tree.{Tree};
-ghost use Rattle.amqp_ser.specs.Compounds.{whole, paired};
+ghost use Rattle.amqp_ser.specs.Compounds.{tree_of_parts, paired};
 ghost use Rattle.amqp_ser.specs.OpenCompounds.{map_reference, map_with_serializer, MapHas, has_key, FeedsMap, FeedsPair, RefusesInTurn};
 
 use super::feed::{feed_entry, feed_part};
-use crate::kind::Kind;
+use crate::kind::CompoundKind;
 use crate::serialize::Serialize;
 use crate::serializer::Serializer;
 
@@ -21,7 +21,7 @@ use crate::serializer::Serializer;
 /// The key 1, a ubyte, and the value `true`: `c10402500141`.
 pub struct SerializeMap<'a, S: Serializer> {
     serializer: &'a mut S,
-    held: S::Open,
+    compound: S::Open,
     pending: bool,
 }
 
@@ -32,7 +32,7 @@ impl<S: Serializer> Drop for SerializeMap<'_, S> {
     {
         let SerializeMap {
             serializer: _,
-            held: _,
+            compound: _,
             pending: _,
         } = self;
     }
@@ -42,15 +42,15 @@ impl<'a, S: Serializer> SerializeMap<'a, S> {
     ghost use Rattle.amqp_ser.specs.contracts.compound.map.SerializeMap.{the_row};
 
     #[inline(always)]
-    pub(crate) fn new(serializer: &'a mut S, held: S::Open) -> SerializeMap<'a, S>
+    pub(crate) fn new(serializer: &'a mut S, compound: S::Open) -> SerializeMap<'a, S>
         ensures same_reference { result.serializer.ghost_name ≡ serializer.entry.ghost_name }
         ensures now { result.serializer.now ≡ serializer.old }
-        ensures held { result.held ≡ held }
+        ensures compound { result.compound ≡ compound }
         ensures no_key { result.pending ≡ false }
     {
         SerializeMap {
             serializer,
-            held,
+            compound,
             pending: false,
         }
     }
@@ -86,14 +86,14 @@ impl<'a, S: Serializer> SerializeMap<'a, S> {
             (λ _. has_key self.new ≡ has_key self.old) }
         ensures step { has_key self.old ≡ false →
             FeedsMap S.permits S.has (T.tree key.now) self.old result self.new }
-        ensures misuse { has_key self.old ≡ true →
+        ensures misuse_error { has_key self.old ≡ true →
             RefusesInTurn S.permits S.has self.old result self.new }
-        ensures invalid { has_key self.old ≡ true → IfErr result S.is_misuse }
+        ensures invalid { has_key self.old ≡ true → IfErr result S.is_misuse_error }
     {
         if self.pending {
-            return Err(self.serializer.misuse(&mut self.held));
+            return Err(self.serializer.misuse_error(&mut self.compound));
         }
-        feed_part(&mut *self.serializer, &mut self.held, key)?;
+        feed_part(&mut *self.serializer, &mut self.compound, key)?;
         self.pending = true;
         Ok(())
     }
@@ -115,14 +115,14 @@ impl<'a, S: Serializer> SerializeMap<'a, S> {
             (λ _. has_key self.new ≡ has_key self.old) }
         ensures step { has_key self.old ≡ true →
             FeedsMap S.permits S.has (T.tree value.now) self.old result self.new }
-        ensures misuse { has_key self.old ≡ false →
+        ensures misuse_error { has_key self.old ≡ false →
             RefusesInTurn S.permits S.has self.old result self.new }
-        ensures invalid { has_key self.old ≡ false → IfErr result S.is_misuse }
+        ensures invalid { has_key self.old ≡ false → IfErr result S.is_misuse_error }
     {
         if !self.pending {
-            return Err(self.serializer.misuse(&mut self.held));
+            return Err(self.serializer.misuse_error(&mut self.compound));
         }
-        feed_part(&mut *self.serializer, &mut self.held, value)?;
+        feed_part(&mut *self.serializer, &mut self.compound, value)?;
         self.pending = false;
         Ok(())
     }
@@ -146,14 +146,14 @@ impl<'a, S: Serializer> SerializeMap<'a, S> {
         ensures pending { has_key self.new ≡ has_key self.old }
         ensures step { has_key self.old ≡ false →
             FeedsPair S.permits S.has (K.tree key.now) (V.tree value.now) self.old result self.new }
-        ensures misuse { has_key self.old ≡ true →
+        ensures misuse_error { has_key self.old ≡ true →
             IsErr result × RefusesInTurn S.permits S.has self.old result self.new }
-        ensures invalid { has_key self.old ≡ true → IfErr result S.is_misuse }
+        ensures invalid { has_key self.old ≡ true → IfErr result S.is_misuse_error }
     {
         if self.pending {
-            return Err(self.serializer.misuse(&mut self.held));
+            return Err(self.serializer.misuse_error(&mut self.compound));
         }
-        feed_entry(&mut *self.serializer, &mut self.held, key, value)
+        feed_entry(&mut *self.serializer, &mut self.compound, key, value)
     }
 
     /// Ends the map and returns the serializer's result for the tree of its entries.
@@ -167,17 +167,17 @@ impl<'a, S: Serializer> SerializeMap<'a, S> {
     pub fn end(self) -> Result<S::Ok, S::Error>
         ensures ended { (start : S) (ps : List (Option Tree)) →
             MapHas S.has start self.entry ps → not (has_key self.entry) ≡ paired ps →
-            S.permits start (whole Kind.Map ps) result self.exit.0.now }
-        ensures invalid { has_key self.entry ≡ true → IsErr result × IfErr result S.is_misuse }
+            S.permits start (tree_of_parts CompoundKind.Map ps) result self.exit.0.now }
+        ensures invalid { has_key self.entry ≡ true → IsErr result × IfErr result S.is_misuse_error }
     {
         let SerializeMap {
             serializer,
-            mut held,
+            mut compound,
             pending,
         } = self;
         if pending {
-            return Err(serializer.misuse(&mut held));
+            return Err(serializer.misuse_error(&mut compound));
         }
-        serializer.end(held)
+        serializer.end(compound)
     }
 }

@@ -4,11 +4,11 @@ ghost use Rattle.std.specs.Prelude.{◌≡◌, [], List, Option};
 ghost use mir.Syntax.{named};
 ghost use Rattle.std.specs.Borrow.{Lends, sem};
 ghost use Rattle.amqp_ser.specs.Tree.{Tree};
-ghost use Rattle.amqp_ser.specs.Compounds.{whole};
+ghost use Rattle.amqp_ser.specs.Compounds.{tree_of_parts};
 ghost use Rattle.amqp_ser.specs.OpenCompounds.{list_reference, list_with_serializer, ListHas, FeedsList};
 
 use super::feed::feed_part;
-use crate::kind::Kind;
+use crate::kind::CompoundKind;
 use crate::serialize::Serialize;
 use crate::serializer::Serializer;
 
@@ -21,7 +21,7 @@ use crate::serializer::Serializer;
 /// The strings `a` and `bc`: `c00802a10161a1026263`.
 pub struct SerializeSeq<'a, S: Serializer> {
     serializer: &'a mut S,
-    held: S::Open,
+    compound: S::Open,
 }
 
 impl<S: Serializer> Drop for SerializeSeq<'_, S> {
@@ -31,7 +31,7 @@ impl<S: Serializer> Drop for SerializeSeq<'_, S> {
     {
         let SerializeSeq {
             serializer: _,
-            held: _,
+            compound: _,
         } = self;
     }
 }
@@ -40,12 +40,12 @@ impl<'a, S: Serializer> SerializeSeq<'a, S> {
     ghost use Rattle.amqp_ser.specs.contracts.compound.sequence.SerializeSeq.{the_row};
 
     #[inline(always)]
-    pub(crate) fn new(serializer: &'a mut S, held: S::Open) -> SerializeSeq<'a, S>
+    pub(crate) fn new(serializer: &'a mut S, compound: S::Open) -> SerializeSeq<'a, S>
         ensures same_reference { result.serializer.ghost_name ≡ serializer.entry.ghost_name }
         ensures now { result.serializer.now ≡ serializer.old }
-        ensures held { result.held ≡ held }
+        ensures compound { result.compound ≡ compound }
     {
-        SerializeSeq { serializer, held }
+        SerializeSeq { serializer, compound }
     }
 
     /// Returns the serializer of the list. The list continues with the state that the caller leaves
@@ -69,7 +69,7 @@ impl<'a, S: Serializer> SerializeSeq<'a, S> {
     /// accepting elements.
     ///
     /// # Example
-    /// The string `a` appends `a10161`. Under `Mark::Array` it appends `0000000161`, and the first
+    /// The string `a` appends `a10161`. Under `Marker::Array` it appends `0000000161`, and the first
     /// element also the constructor `b1`.
     #[inline(always)]
     pub fn serialize_element<T: Serialize>(&mut self, value: &T) -> Result<(), S::Error>
@@ -77,7 +77,7 @@ impl<'a, S: Serializer> SerializeSeq<'a, S> {
             ≡ (list_reference self.old).ghost_name }
         ensures step { FeedsList S.permits S.has (T.tree value.now) self.old result self.new }
     {
-        feed_part(&mut *self.serializer, &mut self.held, value)
+        feed_part(&mut *self.serializer, &mut self.compound, value)
     }
 
     /// Ends the list and returns the serializer's result for the tree of its elements.
@@ -91,10 +91,10 @@ impl<'a, S: Serializer> SerializeSeq<'a, S> {
     pub fn end(self) -> Result<S::Ok, S::Error>
         ensures { (start : S) (ps : List (Option Tree)) →
             ListHas S.has start self.entry ps →
-            S.permits start (whole Kind.List ps) result self.exit.0.now }
+            S.permits start (tree_of_parts CompoundKind.List ps) result self.exit.0.now }
     {
-        let SerializeSeq { serializer, held } = self;
-        serializer.end(held)
+        let SerializeSeq { serializer, compound } = self;
+        serializer.end(compound)
     }
 }
 

@@ -4,7 +4,7 @@ ghost use Rattle.std.specs.Prelude.{◌≡◌, ◌∷◌, ◌||◌, [], List, Op
 ghost use mir.Syntax.{named};
 ghost use Rattle.std.specs.Borrow.{Lends, sem};
 ghost use Rattle.amqp_ser.specs.Tree.{Tree, scalar, string};
-ghost use Rattle.amqp_ser.specs.Compounds.{whole, paired};
+ghost use Rattle.amqp_ser.specs.Compounds.{tree_of_parts, paired};
 ghost use Rattle.amqp_ser.specs.Composites.{descriptor_of};
 ghost use Rattle.amqp_ser.specs.Marked.{is_descriptor_name};
 ghost use Rattle.amqp_ser.specs.OpenStructs.{struct_reference, struct_with_serializer, form_of, has_descriptor, has_field, is_field_misplaced, StructHas, FeedsStructDescriptor, FeedsFirstField, FeedsListField, FeedsMapField, FeedsOnlyField, RefusesStructField};
@@ -13,11 +13,11 @@ ghost use Rattle.amqp_ser.specs.Structs.{form_kind, optionally_described};
 use super::any_field::feed_any;
 use super::body::end_fields;
 use super::list_field::feed_list_field;
-use crate::kind::Kind;
+use crate::kind::CompoundKind;
 use crate::names::is_descriptor_name;
 use crate::serialize::Serialize;
 use crate::serializer::Serializer;
-use crate::struct_form::StructForm;
+use crate::struct_encoding::StructEncoding;
 
 /// A struct that is being serialized. The name of the struct determines its body: a list of the
 /// fields, a map from their names, or the one field itself. A first field with the key `DESCRIPTOR`
@@ -32,8 +32,8 @@ use crate::struct_form::StructForm;
 /// `005301c10502a1017841`.
 pub struct SerializeStruct<'a, S: Serializer> {
     serializer: &'a mut S,
-    held: S::Open,
-    form: StructForm,
+    compound: S::Open,
+    form: StructEncoding,
     /// Whether the descriptor has been serialized.
     described: bool,
     /// Whether a field has been serialized.
@@ -47,7 +47,7 @@ impl<S: Serializer> Drop for SerializeStruct<'_, S> {
     {
         let SerializeStruct {
             serializer: _,
-            held: _,
+            compound: _,
             form: _,
             described: _,
             opened: _,
@@ -61,19 +61,19 @@ impl<'a, S: Serializer> SerializeStruct<'a, S> {
     #[inline(always)]
     pub(crate) fn new(
         serializer: &'a mut S,
-        held: S::Open,
-        form: StructForm,
+        compound: S::Open,
+        form: StructEncoding,
     ) -> SerializeStruct<'a, S>
         ensures same_reference { result.serializer.ghost_name ≡ serializer.entry.ghost_name }
         ensures now { result.serializer.now ≡ serializer.old }
-        ensures held { result.held ≡ held }
+        ensures compound { result.compound ≡ compound }
         ensures form { result.form ≡ form }
         ensures described { result.described ≡ false }
         ensures opened { result.opened ≡ false }
     {
         SerializeStruct {
             serializer,
-            held,
+            compound,
             form,
             described: false,
             opened: false,
@@ -127,39 +127,39 @@ impl<'a, S: Serializer> SerializeStruct<'a, S> {
             has_field self.old ≡ false →
             FeedsStructDescriptor S.permits S.has (T.tree value.now) self.old result self.new }
         ensures first_of_list { is_descriptor_name key.now ≡ false → has_field self.old ≡ false →
-            form_of self.old ≡ StructForm.List →
-            FeedsFirstField S.permits S.has Kind.List (T.tree value.now ∷ []) self.old result
+            form_of self.old ≡ StructEncoding.List →
+            FeedsFirstField S.permits S.has CompoundKind.List (T.tree value.now ∷ []) self.old result
             self.new }
         ensures next_of_list { is_descriptor_name key.now ≡ false → has_field self.old ≡ true →
-            form_of self.old ≡ StructForm.List →
+            form_of self.old ≡ StructEncoding.List →
             FeedsListField S.permits S.has (T.tree value.now) self.old result self.new }
         ensures first_of_map { is_descriptor_name key.now ≡ false → has_field self.old ≡ false →
-            form_of self.old ≡ StructForm.Map →
-            FeedsFirstField S.permits S.has Kind.Map
+            form_of self.old ≡ StructEncoding.Map →
+            FeedsFirstField S.permits S.has CompoundKind.Map
             (Some (scalar (string key.now)) ∷ (T.tree value.now ∷ [])) self.old result self.new }
         ensures next_of_map { is_descriptor_name key.now ≡ false → has_field self.old ≡ true →
-            form_of self.old ≡ StructForm.Map →
+            form_of self.old ≡ StructEncoding.Map →
             FeedsMapField S.permits S.has (Some (scalar (string key.now))) (T.tree value.now)
             self.old result self.new }
         ensures alone { is_descriptor_name key.now ≡ false → has_field self.old ≡ false →
-            form_of self.old ≡ StructForm.Single →
+            form_of self.old ≡ StructEncoding.Single →
             FeedsOnlyField S.permits S.has (T.tree value.now) self.old result self.new }
-        ensures misuse { is_field_misplaced key.now self.old ≡ true →
+        ensures misuse_error { is_field_misplaced key.now self.old ≡ true →
             IsErr result × RefusesStructField S.permits S.has self.old result self.new }
-        ensures invalid { is_field_misplaced key.now self.old ≡ true → IfErr result S.is_misuse }
+        ensures invalid { is_field_misplaced key.now self.old ≡ true → IfErr result S.is_misuse_error }
         ensures other_kinds { is_descriptor_name key.now ≡ true → has_descriptor self.old ≡ false →
             has_field self.old ≡ false → (start : S) →
-            StructHas S.permits S.has start None Kind.Single self.old [] →
+            StructHas S.permits S.has start None CompoundKind.Single self.old [] →
             descriptor_of (T.tree value.now) ≡ None → IsErr result }
     {
         // Most structs are lists, so the fields of a list have a path of their own, which is
         // inlined into the caller. A descriptor, and the fields of a map or of a single value,
         // share one function call.
         let descriptor = is_descriptor_name(key);
-        if descriptor || !matches!(self.form, StructForm::List) {
+        if descriptor || !matches!(self.form, StructEncoding::List) {
             return match feed_any(
                 &mut *self.serializer,
-                &mut self.held,
+                &mut self.compound,
                 self.form,
                 self.described,
                 self.opened,
@@ -177,7 +177,7 @@ impl<'a, S: Serializer> SerializeStruct<'a, S> {
                 Err(e) => Err(e),
             };
         }
-        match feed_list_field(&mut *self.serializer, &mut self.held, self.opened, value) {
+        match feed_list_field(&mut *self.serializer, &mut self.compound, self.opened, value) {
             Ok(()) => {
                 self.opened = true;
                 Ok(())
@@ -198,36 +198,36 @@ impl<'a, S: Serializer> SerializeStruct<'a, S> {
     #[tactic(auto, unfolding(crate::specs::Structs::Stands))]
     #[inline(always)]
     pub fn end(self) -> Result<S::Ok, S::Error>
-        ensures list { has_field self.entry ≡ true → form_of self.entry ≡ StructForm.List →
+        ensures list { has_field self.entry ≡ true → form_of self.entry ≡ StructEncoding.List →
             (start : S) (prefix : Option (Option Tree)) (ps : List (Option Tree)) →
-            StructHas S.permits S.has start prefix Kind.List self.entry ps →
-            S.permits start (optionally_described prefix (whole Kind.List ps)) result
+            StructHas S.permits S.has start prefix CompoundKind.List self.entry ps →
+            S.permits start (optionally_described prefix (tree_of_parts CompoundKind.List ps)) result
             self.exit.0.now }
-        ensures map { has_field self.entry ≡ true → form_of self.entry ≡ StructForm.Map →
+        ensures map { has_field self.entry ≡ true → form_of self.entry ≡ StructEncoding.Map →
             (start : S) (prefix : Option (Option Tree)) (ps : List (Option Tree)) →
-            StructHas S.permits S.has start prefix Kind.Map self.entry ps → paired ps ≡ true →
-            S.permits start (optionally_described prefix (whole Kind.Map ps)) result
+            StructHas S.permits S.has start prefix CompoundKind.Map self.entry ps → paired ps ≡ true →
+            S.permits start (optionally_described prefix (tree_of_parts CompoundKind.Map ps)) result
             self.exit.0.now }
-        ensures alone { has_field self.entry ≡ true → form_of self.entry ≡ StructForm.Single →
+        ensures alone { has_field self.entry ≡ true → form_of self.entry ≡ StructEncoding.Single →
             (start : S) (prefix : Option (Option Tree)) (p : Option Tree) →
-            StructHas S.permits S.has start prefix Kind.Single self.entry (p ∷ []) →
+            StructHas S.permits S.has start prefix CompoundKind.Single self.entry (p ∷ []) →
             S.permits start (optionally_described prefix p) result self.exit.0.now }
         ensures empty { has_field self.entry ≡ false →
             (start : S) (prefix : Option (Option Tree)) →
-            StructHas S.permits S.has start prefix Kind.Single self.entry [] →
+            StructHas S.permits S.has start prefix CompoundKind.Single self.entry [] →
             S.permits start
-            (optionally_described prefix (whole (form_kind (form_of self.entry)) []))
+            (optionally_described prefix (tree_of_parts (form_kind (form_of self.entry)) []))
             result self.exit.0.now }
-        ensures invalid { has_field self.entry ≡ false → form_of self.entry ≡ StructForm.Single →
-            IsErr result × IfErr result S.is_misuse }
+        ensures invalid { has_field self.entry ≡ false → form_of self.entry ≡ StructEncoding.Single →
+            IsErr result × IfErr result S.is_misuse_error }
     {
         let SerializeStruct {
             serializer,
-            held,
+            compound,
             form,
             described: _,
             opened,
         } = self;
-        end_fields(serializer, held, form, opened)
+        end_fields(serializer, compound, form, opened)
     }
 }

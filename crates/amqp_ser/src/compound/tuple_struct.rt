@@ -4,7 +4,7 @@ ghost use Rattle.std.specs.Prelude.{◌≡◌, ◌∷◌, [], List, Option, None
 ghost use mir.Syntax.{named};
 ghost use Rattle.std.specs.Borrow.{Lends, sem};
 ghost use Rattle.amqp_ser.specs.Tree.{Tree};
-ghost use Rattle.amqp_ser.specs.Compounds.{whole};
+ghost use Rattle.amqp_ser.specs.Compounds.{tree_of_parts};
 ghost use Rattle.amqp_ser.specs.Composites.{descriptor_of};
 ghost use Rattle.amqp_ser.specs.OpenStructs.{tuple_struct_reference, tuple_struct_with_serializer, is_single, lacks_descriptor, is_open, is_full, TupleStructHas, FeedsTupleStructDescriptor, FeedsFirstTupleStructField, FeedsTupleStructField, FeedsOnlyTupleStructField, RefusesTupleStructField};
 ghost use Rattle.amqp_ser.specs.Structs.{single_or_list, form_kind, optionally_described};
@@ -12,10 +12,10 @@ ghost use Rattle.amqp_ser.specs.Structs.{single_or_list, form_kind, optionally_d
 use super::body::{end_fields, open_body};
 use super::described::{feed_descriptor, feed_single};
 use super::feed::feed_part;
-use crate::kind::Kind;
+use crate::kind::CompoundKind;
 use crate::serialize::Serialize;
 use crate::serializer::Serializer;
-use crate::struct_form::StructForm;
+use crate::struct_encoding::StructEncoding;
 
 /// A tuple struct that is being serialized: a list of its fields, or the one field itself. The name
 /// of the struct determines whether the first field is the descriptor.
@@ -29,7 +29,7 @@ use crate::struct_form::StructForm;
 /// `00530141`.
 pub struct SerializeTupleStruct<'a, S: Serializer> {
     serializer: &'a mut S,
-    held: S::Open,
+    compound: S::Open,
     /// Whether the body is a single field.
     single: bool,
     /// Whether the descriptor is still to be serialized.
@@ -45,7 +45,7 @@ impl<S: Serializer> Drop for SerializeTupleStruct<'_, S> {
     {
         let SerializeTupleStruct {
             serializer: _,
-            held: _,
+            compound: _,
             single: _,
             wants_descriptor: _,
             opened: _,
@@ -59,20 +59,20 @@ impl<'a, S: Serializer> SerializeTupleStruct<'a, S> {
     #[inline(always)]
     pub(crate) fn new(
         serializer: &'a mut S,
-        held: S::Open,
+        compound: S::Open,
         single: bool,
         wants_descriptor: bool,
     ) -> SerializeTupleStruct<'a, S>
         ensures same_reference { result.serializer.ghost_name ≡ serializer.entry.ghost_name }
         ensures now { result.serializer.now ≡ serializer.old }
-        ensures held { result.held ≡ held }
+        ensures compound { result.compound ≡ compound }
         ensures single { result.single ≡ single }
         ensures wants_descriptor { result.wants_descriptor ≡ wants_descriptor }
         ensures opened { result.opened ≡ not wants_descriptor }
     {
         SerializeTupleStruct {
             serializer,
-            held,
+            compound,
             single,
             wants_descriptor,
             opened: !wants_descriptor,
@@ -118,7 +118,7 @@ impl<'a, S: Serializer> SerializeTupleStruct<'a, S> {
             FeedsTupleStructDescriptor S.permits S.has (T.tree value.now) self.old result self.new }
         ensures first { lacks_descriptor self.old ≡ false → is_open self.old ≡ false →
             is_single self.old ≡ false →
-            FeedsFirstTupleStructField S.permits S.has Kind.List (T.tree value.now ∷ []) self.old
+            FeedsFirstTupleStructField S.permits S.has CompoundKind.List (T.tree value.now ∷ []) self.old
             result self.new }
         ensures next { lacks_descriptor self.old ≡ false → is_open self.old ≡ true →
             is_single self.old ≡ false →
@@ -126,28 +126,28 @@ impl<'a, S: Serializer> SerializeTupleStruct<'a, S> {
         ensures alone { lacks_descriptor self.old ≡ false → is_open self.old ≡ false →
             is_single self.old ≡ true →
             FeedsOnlyTupleStructField S.permits S.has (T.tree value.now) self.old result self.new }
-        ensures misuse { is_full self.old ≡ true →
+        ensures misuse_error { is_full self.old ≡ true →
             IsErr result × RefusesTupleStructField S.permits S.has self.old result self.new }
-        ensures invalid { is_full self.old ≡ true → IfErr result S.is_misuse }
+        ensures invalid { is_full self.old ≡ true → IfErr result S.is_misuse_error }
         ensures other_kinds { lacks_descriptor self.old ≡ true → (start : S) →
-            TupleStructHas S.permits S.has start None Kind.Single self.old [] →
+            TupleStructHas S.permits S.has start None CompoundKind.Single self.old [] →
             descriptor_of (T.tree value.now) ≡ None → IsErr result }
     {
         if self.wants_descriptor {
-            feed_descriptor(&mut *self.serializer, &mut self.held, value)?;
+            feed_descriptor(&mut *self.serializer, &mut self.compound, value)?;
             self.wants_descriptor = false;
             return Ok(());
         }
         if self.opened {
             if self.single {
-                return Err(self.serializer.misuse(&mut self.held));
+                return Err(self.serializer.misuse_error(&mut self.compound));
             }
-            return feed_part(&mut *self.serializer, &mut self.held, value);
+            return feed_part(&mut *self.serializer, &mut self.compound, value);
         }
         if self.single {
-            feed_single(&mut *self.serializer, &mut self.held, value)?;
+            feed_single(&mut *self.serializer, &mut self.compound, value)?;
         } else {
-            open_body(&mut *self.serializer, &mut self.held, false, "", value)?;
+            open_body(&mut *self.serializer, &mut self.compound, false, "", value)?;
         }
         self.opened = true;
         Ok(())
@@ -167,35 +167,35 @@ impl<'a, S: Serializer> SerializeTupleStruct<'a, S> {
     pub fn end(self) -> Result<S::Ok, S::Error>
         ensures list { is_open self.entry ≡ true → is_single self.entry ≡ false →
             (start : S) (prefix : Option (Option Tree)) (ps : List (Option Tree)) →
-            TupleStructHas S.permits S.has start prefix Kind.List self.entry ps →
-            S.permits start (optionally_described prefix (whole Kind.List ps)) result
+            TupleStructHas S.permits S.has start prefix CompoundKind.List self.entry ps →
+            S.permits start (optionally_described prefix (tree_of_parts CompoundKind.List ps)) result
             self.exit.0.now }
         ensures alone { is_open self.entry ≡ true → is_single self.entry ≡ true →
             (start : S) (prefix : Option (Option Tree)) (p : Option Tree) →
-            TupleStructHas S.permits S.has start prefix Kind.Single self.entry (p ∷ []) →
+            TupleStructHas S.permits S.has start prefix CompoundKind.Single self.entry (p ∷ []) →
             S.permits start (optionally_described prefix p) result self.exit.0.now }
         ensures empty { is_open self.entry ≡ false →
             (start : S) (prefix : Option (Option Tree)) →
-            TupleStructHas S.permits S.has start prefix Kind.Single self.entry [] →
+            TupleStructHas S.permits S.has start prefix CompoundKind.Single self.entry [] →
             S.permits start
             (optionally_described prefix
-            (whole (form_kind (single_or_list (is_single self.entry))) []))
+            (tree_of_parts (form_kind (single_or_list (is_single self.entry))) []))
             result self.exit.0.now }
         ensures invalid { is_open self.entry ≡ false → is_single self.entry ≡ true →
-            IsErr result × IfErr result S.is_misuse }
+            IsErr result × IfErr result S.is_misuse_error }
     {
         let SerializeTupleStruct {
             serializer,
-            held,
+            compound,
             single,
             wants_descriptor: _,
             opened,
         } = self;
         let form = if single {
-            StructForm::Single
+            StructEncoding::Single
         } else {
-            StructForm::List
+            StructEncoding::List
         };
-        end_fields(serializer, held, form, opened)
+        end_fields(serializer, compound, form, opened)
     }
 }

@@ -4,11 +4,11 @@ ghost use Rattle.std.specs.Prelude.{ℕ, ◌≡◌, [], List, Option};
 ghost use mir.Syntax.{named};
 ghost use Rattle.std.specs.Borrow.{Lends, sem};
 ghost use Rattle.amqp_ser.specs.Tree.{Tree};
-ghost use Rattle.amqp_ser.specs.Compounds.{whole};
+ghost use Rattle.amqp_ser.specs.Compounds.{tree_of_parts};
 ghost use Rattle.amqp_ser.specs.OpenCompounds.{variant_reference, variant_with_serializer, VariantHas, FeedsVariant};
 
 use super::feed::feed_part;
-use crate::kind::Kind;
+use crate::kind::CompoundKind;
 use crate::serialize::Serialize;
 use crate::serializer::Serializer;
 
@@ -22,7 +22,7 @@ use crate::serializer::Serializer;
 /// The index 1, `true` and the ubyte 1: `c109025201c00402415001`.
 pub struct SerializeTupleVariant<'a, S: Serializer> {
     serializer: &'a mut S,
-    held: S::Open,
+    compound: S::Open,
 }
 
 impl<S: Serializer> Drop for SerializeTupleVariant<'_, S> {
@@ -32,7 +32,7 @@ impl<S: Serializer> Drop for SerializeTupleVariant<'_, S> {
     {
         let SerializeTupleVariant {
             serializer: _,
-            held: _,
+            compound: _,
         } = self;
     }
 }
@@ -41,12 +41,12 @@ impl<'a, S: Serializer> SerializeTupleVariant<'a, S> {
     ghost use Rattle.amqp_ser.specs.contracts.compound.variant.SerializeTupleVariant as tuple_variant;
 
     #[inline(always)]
-    pub(crate) fn new(serializer: &'a mut S, held: S::Open) -> SerializeTupleVariant<'a, S>
+    pub(crate) fn new(serializer: &'a mut S, compound: S::Open) -> SerializeTupleVariant<'a, S>
         ensures same_reference { result.serializer.ghost_name ≡ serializer.entry.ghost_name }
         ensures now { result.serializer.now ≡ serializer.old }
-        ensures held { result.held ≡ held }
+        ensures compound { result.compound ≡ compound }
     {
-        SerializeTupleVariant { serializer, held }
+        SerializeTupleVariant { serializer, compound }
     }
 
     /// Returns the serializer of the variant. The variant continues with the state that the caller
@@ -76,7 +76,7 @@ impl<'a, S: Serializer> SerializeTupleVariant<'a, S> {
             ≡ (variant_reference self.old).ghost_name }
         ensures step { FeedsVariant S.permits S.has (T.tree value.now) self.old result self.new }
     {
-        feed_part(&mut *self.serializer, &mut self.held, value)
+        feed_part(&mut *self.serializer, &mut self.compound, value)
     }
 
     /// Ends the variant and returns the serializer's result for its tree.
@@ -91,9 +91,9 @@ impl<'a, S: Serializer> SerializeTupleVariant<'a, S> {
     pub fn end(self) -> Result<S::Ok, S::Error>
         ensures { (start : S) (i : ℕ) (ps : List (Option Tree)) →
             VariantHas S.has start i self.entry ps →
-            S.permits start (whole (Kind.Variant i) ps) result self.exit.0.now }
+            S.permits start (tree_of_parts (CompoundKind.Variant i) ps) result self.exit.0.now }
     {
-        let SerializeTupleVariant { serializer, held } = self;
-        serializer.end(held)
+        let SerializeTupleVariant { serializer, compound } = self;
+        serializer.end(compound)
     }
 }

@@ -11,7 +11,7 @@ ghost use Rattle.amqp_data.specs.Text.{symbol_ref_text, symbol_text};
 
 use super::holders::serialize_items;
 use crate::compound::described::serialize_described;
-use crate::mark::Mark;
+use crate::marker::Marker;
 use crate::serialize::Serialize;
 use crate::serializer::Serializer;
 use amqp_data::{
@@ -42,7 +42,7 @@ impl Serialize for Dec32 {
 
     #[inline(always)]
     fn serialize<S: Serializer>(&self, serializer: &mut S) -> Result<S::Ok, S::Error> {
-        serializer.mark(Mark::Decimal32);
+        serializer.set_marker(Marker::Decimal32);
         serializer.serialize_bytes(self.as_inner())
     }
 }
@@ -52,7 +52,7 @@ impl Serialize for Dec64 {
 
     #[inline(always)]
     fn serialize<S: Serializer>(&self, serializer: &mut S) -> Result<S::Ok, S::Error> {
-        serializer.mark(Mark::Decimal64);
+        serializer.set_marker(Marker::Decimal64);
         serializer.serialize_bytes(self.as_inner())
     }
 }
@@ -62,7 +62,7 @@ impl Serialize for Dec128 {
 
     #[inline(always)]
     fn serialize<S: Serializer>(&self, serializer: &mut S) -> Result<S::Ok, S::Error> {
-        serializer.mark(Mark::Decimal128);
+        serializer.set_marker(Marker::Decimal128);
         serializer.serialize_bytes(self.as_inner())
     }
 }
@@ -72,7 +72,7 @@ impl Serialize for Timestamp {
 
     #[inline(always)]
     fn serialize<S: Serializer>(&self, serializer: &mut S) -> Result<S::Ok, S::Error> {
-        serializer.mark(Mark::Timestamp);
+        serializer.set_marker(Marker::Timestamp);
         serializer.serialize_i64(self.milliseconds())
     }
 }
@@ -82,7 +82,7 @@ impl Serialize for Uuid {
 
     #[inline(always)]
     fn serialize<S: Serializer>(&self, serializer: &mut S) -> Result<S::Ok, S::Error> {
-        serializer.mark(Mark::Uuid);
+        serializer.set_marker(Marker::Uuid);
         serializer.serialize_bytes(self.as_inner())
     }
 }
@@ -110,7 +110,7 @@ impl Serialize for SymbolRef<'_> {
 
     #[inline(always)]
     fn serialize<S: Serializer>(&self, serializer: &mut S) -> Result<S::Ok, S::Error> {
-        serializer.mark(Mark::Symbol);
+        serializer.set_marker(Marker::Symbol);
         serializer.serialize_str(self.as_inner())
     }
 }
@@ -120,7 +120,7 @@ impl<T: Serialize> Serialize for Array<T> {
 
     #[inline(always)]
     fn serialize<S: Serializer>(&self, serializer: &mut S) -> Result<S::Ok, S::Error> {
-        serializer.mark(Mark::Array);
+        serializer.set_marker(Marker::Array);
         self.as_inner().serialize(serializer)
     }
 }
@@ -130,7 +130,7 @@ impl<T: Serialize> Serialize for TransparentVec<T> {
 
     #[inline(always)]
     fn serialize<S: Serializer>(&self, serializer: &mut S) -> Result<S::Ok, S::Error> {
-        serializer.mark(Mark::Transparent);
+        serializer.set_marker(Marker::Transparent);
         serialize_items(self.as_slice(), serializer)
     }
 }

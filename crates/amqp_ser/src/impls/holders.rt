@@ -2,8 +2,8 @@
 
 ghost use Rattle.std.specs.Prelude.{map};
 ghost use Rattle.amqp_ser.specs.Carried.{optional};
-ghost use Rattle.amqp_ser.specs.Compounds.{whole};
-ghost use Rattle.amqp_ser.specs.declared.kind.Kind.TheVariants.{List};
+ghost use Rattle.amqp_ser.specs.Compounds.{tree_of_parts};
+ghost use Rattle.amqp_ser.specs.declared.kind.CompoundKind.TheVariants.{List};
 
 use crate::serialize::Serialize;
 use crate::serializer::Serializer;
@@ -39,7 +39,7 @@ impl<T: Serialize> Serialize for Option<T> {
 }
 
 impl<T: Serialize> Serialize for Vec<T> {
-    ghost tree = { λ v. whole List (map T.tree v.items) };
+    ghost tree = { λ v. tree_of_parts List (map T.tree v.items) };
 
     #[inline(always)]
     fn serialize<S: Serializer>(&self, serializer: &mut S) -> Result<S::Ok, S::Error> {
@@ -48,7 +48,7 @@ impl<T: Serialize> Serialize for Vec<T> {
 }
 
 impl<T: Serialize, const N: usize> Serialize for [T; N] {
-    ghost tree = { λ a. whole List (map T.tree a) };
+    ghost tree = { λ a. tree_of_parts List (map T.tree a) };
 
     #[inline(always)]
     fn serialize<S: Serializer>(&self, serializer: &mut S) -> Result<S::Ok, S::Error> {
@@ -71,7 +71,7 @@ pub fn serialize_items<T: Serialize, S: Serializer>(
     items: &[T],
     serializer: &mut S,
 ) -> Result<S::Ok, S::Error>
-    ensures { S.permits serializer.old (whole List (map T.tree items.now)) result serializer.new }
+    ensures { S.permits serializer.old (tree_of_parts List (map T.tree items.now)) result serializer.new }
 {
     let mut seq = serializer.serialize_seq(Some(items.len()))?;
     for item in items {

@@ -3,7 +3,7 @@
 ghost use Rattle.std.specs.Prelude.{Some};
 ghost use Rattle.amqp_ser.specs.Tree.{lazy};
 
-use crate::mark::Mark;
+use crate::marker::Marker;
 use crate::serialize::Serialize;
 use crate::serializer::Serializer;
 use amqp_frame::LazyValue;
@@ -14,7 +14,7 @@ impl Serialize for LazyValue {
     #[tactic(auto, using(amqp_frame::proofs::Whole::frame_passes))]
     #[inline(always)]
     fn serialize<S: Serializer>(&self, serializer: &mut S) -> Result<S::Ok, S::Error> {
-        serializer.mark(Mark::Lazy);
+        serializer.set_marker(Marker::Lazy);
         serializer.serialize_bytes(self.as_slice())
     }
 }

@@ -1,7 +1,7 @@
 //! Maps, with the entries in the order of the map.
 
-ghost use Rattle.amqp_ser.specs.Compounds.{parts_of, whole};
-ghost use Rattle.amqp_ser.specs.declared.kind.Kind.TheVariants.{Map};
+ghost use Rattle.amqp_ser.specs.Compounds.{parts_of, tree_of_parts};
+ghost use Rattle.amqp_ser.specs.declared.kind.CompoundKind.TheVariants.{Map};
 ghost use Rattle.amqp_data.specs.Pairs.{entries_of};
 
 use crate::serialize::Serialize;
@@ -10,7 +10,7 @@ use amqp_data::OrderedMap;
 use std::collections::BTreeMap;
 
 impl<K: Serialize + Ord, V: Serialize> Serialize for BTreeMap<K, V> {
-    ghost tree = { λ m. whole Map (parts_of K.tree V.tree m.entries) };
+    ghost tree = { λ m. tree_of_parts Map (parts_of K.tree V.tree m.entries) };
 
     fn serialize<S: Serializer>(&self, serializer: &mut S) -> Result<S::Ok, S::Error> {
         let mut map = serializer.serialize_map(Some(self.len()))?;
@@ -22,7 +22,7 @@ impl<K: Serialize + Ord, V: Serialize> Serialize for BTreeMap<K, V> {
 }
 
 impl<K: Serialize, V: Serialize> Serialize for OrderedMap<K, V> {
-    ghost tree = { λ m. whole Map (parts_of K.tree V.tree (entries_of m)) };
+    ghost tree = { λ m. tree_of_parts Map (parts_of K.tree V.tree (entries_of m)) };
 
     fn serialize<S: Serializer>(&self, serializer: &mut S) -> Result<S::Ok, S::Error> {
         let mut map = serializer.serialize_map(Some(self.len()))?;

@@ -1,14 +1,14 @@
 //! Tuples: lists of their elements.
 
 ghost use Rattle.std.specs.Prelude.{◌∷◌, []};
-ghost use Rattle.amqp_ser.specs.Compounds.{whole};
-ghost use Rattle.amqp_ser.specs.declared.kind.Kind.TheVariants.{List};
+ghost use Rattle.amqp_ser.specs.Compounds.{tree_of_parts};
+ghost use Rattle.amqp_ser.specs.declared.kind.CompoundKind.TheVariants.{List};
 
 use crate::serialize::Serialize;
 use crate::serializer::Serializer;
 
 impl<A: Serialize> Serialize for (A,) {
-    ghost tree = { λ t. whole List (A.tree t.0 ∷ []) };
+    ghost tree = { λ t. tree_of_parts List (A.tree t.0 ∷ []) };
 
     fn serialize<S: Serializer>(&self, serializer: &mut S) -> Result<S::Ok, S::Error> {
         let mut tuple = serializer.serialize_tuple(1)?;
@@ -18,7 +18,7 @@ impl<A: Serialize> Serialize for (A,) {
 }
 
 impl<A: Serialize, B: Serialize> Serialize for (A, B) {
-    ghost tree = { λ t. whole List (A.tree t.0 ∷ B.tree t.1 ∷ []) };
+    ghost tree = { λ t. tree_of_parts List (A.tree t.0 ∷ B.tree t.1 ∷ []) };
 
     fn serialize<S: Serializer>(&self, serializer: &mut S) -> Result<S::Ok, S::Error> {
         let mut tuple = serializer.serialize_tuple(2)?;
@@ -29,7 +29,7 @@ impl<A: Serialize, B: Serialize> Serialize for (A, B) {
 }
 
 impl<A: Serialize, B: Serialize, C: Serialize> Serialize for (A, B, C) {
-    ghost tree = { λ t. whole List (A.tree t.0 ∷ B.tree t.1 ∷ C.tree t.2 ∷ []) };
+    ghost tree = { λ t. tree_of_parts List (A.tree t.0 ∷ B.tree t.1 ∷ C.tree t.2 ∷ []) };
 
     fn serialize<S: Serializer>(&self, serializer: &mut S) -> Result<S::Ok, S::Error> {
         let mut tuple = serializer.serialize_tuple(3)?;
@@ -41,7 +41,7 @@ impl<A: Serialize, B: Serialize, C: Serialize> Serialize for (A, B, C) {
 }
 
 impl<A: Serialize, B: Serialize, C: Serialize, D: Serialize> Serialize for (A, B, C, D) {
-    ghost tree = { λ t. whole List (A.tree t.0 ∷ B.tree t.1 ∷ C.tree t.2 ∷ D.tree t.3 ∷ []) };
+    ghost tree = { λ t. tree_of_parts List (A.tree t.0 ∷ B.tree t.1 ∷ C.tree t.2 ∷ D.tree t.3 ∷ []) };
 
     fn serialize<S: Serializer>(&self, serializer: &mut S) -> Result<S::Ok, S::Error> {
         let mut tuple = serializer.serialize_tuple(4)?;

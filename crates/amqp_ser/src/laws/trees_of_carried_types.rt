@@ -12,12 +12,12 @@ ghost use Rattle.amqp_data.specs.Items.{array_items, byte_buf_bytes, transparent
 ghost use Rattle.amqp_data.specs.Pairs.{entries_of};
 ghost use Rattle.amqp_data.specs.Text.{symbol_ref_text, symbol_text};
 ghost use Rattle.amqp_data.specs.declared.descriptor.Descriptor.TheVariants.{Code, Name};
-ghost use Rattle.amqp_ser.specs.Compounds.{all_trees, parts_of, whole};
+ghost use Rattle.amqp_ser.specs.Compounds.{all_trees, parts_of, tree_of_parts};
 ghost use Rattle.amqp_ser.specs.Named as fields;
 ghost use Rattle.amqp_ser.specs.Named.{string_key, symbol_key, up_to_last, values_of};
 ghost use Rattle.amqp_ser.specs.Tree as tree;
 ghost use Rattle.amqp_ser.specs.Tree.{scalar};
-ghost use Rattle.amqp_ser.specs.declared.kind.Kind.TheVariants.{Map};
+ghost use Rattle.amqp_ser.specs.declared.kind.CompoundKind.TheVariants.{Map};
 
 use crate::{Field, Fields, ListOf, MapOf, OptionalField, Serialize, SymbolMapOf, VariantOf};
 use amqp_data::{
@@ -117,10 +117,10 @@ pub fn trees_of_tuples<A: Serialize, B: Serialize, C: Serialize, D: Serialize>()
 
 /// `BTreeMap` and `OrderedMap` are maps, with the entries in the order of the Rust map.
 pub fn trees_of_maps<K: Serialize + Ord, V: Serialize>(sorted: &BTreeMap<K, V>)
-    ensures sorted { ⟦<BTreeMap<K, V> as Serialize>⟧.tree sorted.now ≡ whole Map
+    ensures sorted { ⟦<BTreeMap<K, V> as Serialize>⟧.tree sorted.now ≡ tree_of_parts Map
         (parts_of K.tree V.tree sorted.now.entries) }
     ensures ordered { (m : OrderedMap K V) →
-        ⟦<OrderedMap<K, V> as Serialize>⟧.tree m ≡ whole Map
+        ⟦<OrderedMap<K, V> as Serialize>⟧.tree m ≡ tree_of_parts Map
         (parts_of K.tree V.tree (entries_of m)) }
 {}
 
@@ -164,7 +164,7 @@ pub fn trees_of_fields<F: Fields>()
         ≡ option_map (λ ts. tree.variant v.0 (tree.list ts))
         (all_trees (up_to_last (values_of (F.named v.1)))) }
     ensures strings { (m : MapOf F) → ⟦<MapOf<F> as Serialize>⟧.tree m
-        ≡ whole Map (fields.named_parts string_key (F.named m.0)) }
+        ≡ tree_of_parts Map (fields.named_parts string_key (F.named m.0)) }
     ensures symbols { (m : SymbolMapOf F) → ⟦<SymbolMapOf<F> as Serialize>⟧.tree m
-        ≡ whole Map (fields.named_parts symbol_key (F.named m.0)) }
+        ≡ tree_of_parts Map (fields.named_parts symbol_key (F.named m.0)) }
 {}

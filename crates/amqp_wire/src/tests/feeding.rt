@@ -1,15 +1,15 @@
 //! Structs that are serialized by hand and ignore errors: their lengths and bytes.
 
 ghost use Rattle.std.specs.Prelude.{◌∷◌, [], Some};
-ghost use Rattle.amqp_ser.specs.Compounds.{whole};
+ghost use Rattle.amqp_ser.specs.Compounds.{tree_of_parts};
 ghost use Rattle.amqp_ser.specs.Tree.{scalar, ubyte};
-ghost use Rattle.amqp_ser.specs.declared.kind.Kind.TheVariants.{List};
+ghost use Rattle.amqp_ser.specs.declared.kind.CompoundKind.TheVariants.{List};
 
 use super::refused::NoTree;
 use crate::measurer::Measurer;
 use crate::writer::Writer;
 use amqp_data::{Error, markers};
-use amqp_ser::{Mark, Serialize, Serializer};
+use amqp_ser::{Marker, Serialize, Serializer};
 use amqp_size::SizeSerializer;
 use std::alloc::Global;
 
@@ -170,7 +170,7 @@ struct MarkedBasic;
 
 impl Feed for MarkedBasic {
     fn feed<S: Serializer>(&self, serializer: &mut S) -> Result<S::Ok, S::Error> {
-        serializer.mark(Mark::Array);
+        serializer.set_marker(Marker::Array);
         let mut fields = serializer.serialize_struct(markers::DESCRIBED_BASIC, 1)?;
         if fields.serialize_field("no list", &5u8).is_ok() {
             fields.serialize_field("taken", &"taken")?;
@@ -187,7 +187,7 @@ struct Plain {
 }
 
 impl Serialize for Plain {
-    ghost tree = { λ p. whole List (Some (scalar (ubyte p.a)) ∷ []) };
+    ghost tree = { λ p. tree_of_parts List (Some (scalar (ubyte p.a)) ∷ []) };
 
     fn serialize<S: Serializer>(&self, serializer: &mut S) -> Result<S::Ok, S::Error> {
         let mut fields = serializer.serialize_struct("Plain", 1)?;

@@ -4,8 +4,8 @@
 use crate::measurer::Measurer;
 use crate::writer::Writer;
 use amqp_data::Error;
-use amqp_ser::{Fixed, Kind, Mark, Serializer};
-use amqp_size::{SizeSerializer, WalkError};
+use amqp_ser::{Fixed, CompoundKind, Marker, Serializer};
+use amqp_size::{SizeSerializer, SizeError};
 use std::alloc::Global;
 
 /// Returns the seed of a part of a compound, from the seed of the compound.
@@ -72,19 +72,19 @@ fn leaf<S: Serializer>(serializer: &mut S, seed: u64) -> Result<S::Ok, S::Error>
         4 => serializer.serialize_bytes(b"bc"),
         5 => serializer.serialize_bool(true),
         6 => {
-            serializer.mark(Mark::Symbol);
+            serializer.set_marker(Marker::Symbol);
             serializer.serialize_str("s")
         }
         7 => {
-            serializer.mark(Mark::Symbol);
+            serializer.set_marker(Marker::Symbol);
             serializer.serialize_u32(1)
         }
         8 => {
-            serializer.mark(Mark::Timestamp);
+            serializer.set_marker(Marker::Timestamp);
             serializer.serialize_i64(5)
         }
         9 => {
-            serializer.mark(Mark::Decimal32);
+            serializer.set_marker(Marker::Decimal32);
             serializer.serialize_bytes(b"abcd")
         }
         10 => serializer.serialize_u8(2),
@@ -97,7 +97,7 @@ fn leaf<S: Serializer>(serializer: &mut S, seed: u64) -> Result<S::Ok, S::Error>
 #[cycle(scripts)]
 fn feed<S: Serializer>(
     serializer: &mut S,
-    held: &mut S::Open,
+    compound: &mut S::Open,
     refused: &mut Refused,
     seed: u64,
     depth: u32,
@@ -105,9 +105,9 @@ fn feed<S: Serializer>(
     if refused.skips(seed) {
         return Ok(false);
     }
-    serializer.begin_part(held);
+    serializer.begin_part(compound);
     let part = value(&mut *serializer, &mut *refused, seed, depth);
-    match serializer.end_part(held, part) {
+    match serializer.end_part(compound, part) {
         Ok(()) => Ok(true),
         Err(e) => {
             refused.add(seed);
@@ -124,22 +124,22 @@ fn feed<S: Serializer>(
 #[cycle(scripts)]
 fn sequence<S: Serializer>(
     serializer: &mut S,
-    kind: Kind,
+    kind: CompoundKind,
     refused: &mut Refused,
     seed: u64,
     depth: u32,
 ) -> Result<S::Ok, S::Error> {
-    let mut held = serializer.begin(kind);
+    let mut compound = serializer.begin_compound(kind);
     for part in 0..pick(seed, 3, 5) {
         feed(
             &mut *serializer,
-            &mut held,
+            &mut compound,
             &mut *refused,
             child(seed, part),
             depth,
         )?;
     }
-    serializer.end(held)
+    serializer.end(compound)
 }
 
 /// Serializes a map. The key of a value that fails is kept or removed.
@@ -150,32 +150,32 @@ fn pairs<S: Serializer>(
     seed: u64,
     depth: u32,
 ) -> Result<S::Ok, S::Error> {
-    let mut held = serializer.begin(Kind::Map);
-    let mut pending = false;
+    let mut compound = serializer.begin_compound(CompoundKind::Map);
+    let mut context = false;
     let mut key = 0;
     for part in 0..pick(seed, 3, 6) {
         let next = child(seed, part);
-        let taken = feed(&mut *serializer, &mut held, &mut *refused, next, depth)?;
+        let taken = feed(&mut *serializer, &mut compound, &mut *refused, next, depth)?;
         if taken {
-            pending = !pending;
+            context = !context;
             key = next;
-        } else if pending && !refused.leaves_out && pick(next, 8, 2) == 0 {
-            serializer.undo_part(&mut held);
+        } else if context && !refused.leaves_out && pick(next, 8, 2) == 0 {
+            serializer.undo_part(&mut compound);
             refused.add(key);
-            pending = false;
+            context = false;
         }
     }
-    if pending {
-        return Err(serializer.misuse(&mut held));
+    if context {
+        return Err(serializer.misuse_error(&mut compound));
     }
-    serializer.end(held)
+    serializer.end(compound)
 }
 
 /// Serializes the one part, in up to three attempts until one is accepted, and ends the compound.
 #[cycle(scripts)]
 fn feed_one<S: Serializer>(
     serializer: &mut S,
-    mut held: S::Open,
+    mut compound: S::Open,
     refused: &mut Refused,
     seed: u64,
     depth: u32,
@@ -183,15 +183,15 @@ fn feed_one<S: Serializer>(
     for part in 0..3u64 {
         if feed(
             &mut *serializer,
-            &mut held,
+            &mut compound,
             &mut *refused,
             child(seed, part),
             depth,
         )? {
-            return serializer.end(held);
+            return serializer.end(compound);
         }
     }
-    Err(serializer.misuse(&mut held))
+    Err(serializer.misuse_error(&mut compound))
 }
 
 /// Serializes a single compound, with or without descriptors.
@@ -202,23 +202,23 @@ fn alone<S: Serializer>(
     seed: u64,
     depth: u32,
 ) -> Result<S::Ok, S::Error> {
-    let mut held = serializer.begin(Kind::Single);
+    let mut compound = serializer.begin_compound(CompoundKind::Single);
     for part in 0..pick(seed, 3, 3) {
         let next = child(seed, part.wrapping_add(100));
         if refused.skips(next) {
             continue;
         }
-        serializer.begin_descriptor(&mut held);
+        serializer.begin_descriptor(&mut compound);
         let descriptor = if pick(next, 4, 3) == 0 {
             value(&mut *serializer, &mut *refused, next, depth)
         } else {
             serializer.serialize_u64(pick(next, 5, 300))
         };
-        if serializer.end_descriptor(&mut held, descriptor).is_err() {
+        if serializer.end_descriptor(&mut compound, descriptor).is_err() {
             refused.add(next);
         }
     }
-    feed_one(serializer, held, refused, seed, depth)
+    feed_one(serializer, compound, refused, seed, depth)
 }
 
 /// Serializes a variant with one value.
@@ -229,8 +229,8 @@ fn only<S: Serializer>(
     seed: u64,
     depth: u32,
 ) -> Result<S::Ok, S::Error> {
-    let held = serializer.begin(Kind::NewtypeVariant(7));
-    feed_one(serializer, held, refused, seed, depth)
+    let compound = serializer.begin_compound(CompoundKind::NewtypeVariant(7));
+    feed_one(serializer, compound, refused, seed, depth)
 }
 
 /// Serializes any value of this depth, from a seed.
@@ -246,20 +246,20 @@ fn value<S: Serializer>(
     }
     let below = depth - 1;
     match pick(seed, 0, 14) {
-        0 | 1 => sequence(serializer, Kind::List, refused, seed, below),
+        0 | 1 => sequence(serializer, CompoundKind::List, refused, seed, below),
         2 | 3 | 4 => {
-            serializer.mark(Mark::Array);
-            sequence(serializer, Kind::List, refused, seed, below)
+            serializer.set_marker(Marker::Array);
+            sequence(serializer, CompoundKind::List, refused, seed, below)
         }
         5 => {
-            serializer.mark(Mark::Transparent);
-            sequence(serializer, Kind::List, refused, seed, below)
+            serializer.set_marker(Marker::Transparent);
+            sequence(serializer, CompoundKind::List, refused, seed, below)
         }
         6 => {
-            serializer.mark(Mark::Symbol);
-            sequence(serializer, Kind::List, refused, seed, below)
+            serializer.set_marker(Marker::Symbol);
+            sequence(serializer, CompoundKind::List, refused, seed, below)
         }
-        7 => sequence(serializer, Kind::Variant(3), refused, seed, below),
+        7 => sequence(serializer, CompoundKind::Variant(3), refused, seed, below),
         8 => only(serializer, refused, seed, below),
         9 | 10 => alone(serializer, refused, seed, below),
         11 => pairs(serializer, refused, seed, below),

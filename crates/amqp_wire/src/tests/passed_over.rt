@@ -3,7 +3,7 @@
 
 use super::feeding::{Feed, built, is};
 use amqp_data::{Array, TransparentVec, markers};
-use amqp_ser::{Kind, Mark, Serializer};
+use amqp_ser::{CompoundKind, Marker, Serializer};
 use std::alloc::Global;
 
 /// A map whose first key is an array with elements of two kinds.
@@ -24,7 +24,7 @@ impl Feed for MixedKey {
 
 /// Serializes an array of a null. A number after it is rejected.
 fn nulls<S: Serializer>(serializer: &mut S) -> Result<S::Ok, S::Error> {
-    serializer.mark(Mark::Array);
+    serializer.set_marker(Marker::Array);
     let mut array = serializer.serialize_seq(None)?;
     array.serialize_element(&())?;
     if array.serialize_element(&1u8).is_ok() {
@@ -38,12 +38,12 @@ struct MixedArray;
 
 impl Feed for MixedArray {
     fn feed<S: Serializer>(&self, serializer: &mut S) -> Result<S::Ok, S::Error> {
-        let mut list = serializer.begin(Kind::List);
+        let mut list = serializer.begin_compound(CompoundKind::List);
         serializer.begin_part(&mut list);
         let array = nulls(&mut *serializer);
         serializer.end_part(&mut list, array)?;
         serializer.begin_part(&mut list);
-        let empty = serializer.begin(Kind::List);
+        let empty = serializer.begin_compound(CompoundKind::List);
         let part = serializer.end(empty);
         serializer.end_part(&mut list, part)?;
         serializer.end(list)
@@ -82,8 +82,8 @@ struct DescribedElement;
 
 impl Feed for DescribedElement {
     fn feed<S: Serializer>(&self, serializer: &mut S) -> Result<S::Ok, S::Error> {
-        serializer.mark(Mark::Array);
-        let mut array = serializer.begin(Kind::List);
+        serializer.set_marker(Marker::Array);
+        let mut array = serializer.begin_compound(CompoundKind::List);
         serializer.begin_part(&mut array);
         let part = described(&mut *serializer);
         if serializer.end_part(&mut array, part).is_ok() {

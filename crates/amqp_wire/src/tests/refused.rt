@@ -3,7 +3,7 @@
 ghost use Rattle.std.specs.Prelude.{None};
 
 use super::feeding::{Feed, has};
-use amqp_ser::{Mark, Serialize, Serializer};
+use amqp_ser::{Marker, Serialize, Serializer};
 
 /// A number with the symbol marker: it has no tree.
 pub struct NoTree;
@@ -12,7 +12,7 @@ impl Serialize for NoTree {
     ghost tree = { λ _. None };
 
     fn serialize<S: Serializer>(&self, serializer: &mut S) -> Result<S::Ok, S::Error> {
-        serializer.mark(Mark::Symbol);
+        serializer.set_marker(Marker::Symbol);
         serializer.serialize_u32(1)
     }
 }

@@ -7,9 +7,9 @@ use super::calls::samples::NoName;
 use super::compare::is;
 use super::made::{array as array_of, nested_texts, transparent, vector};
 use amqp_data::{Error, TransparentVec};
-use amqp_ser::{Kind, Mark, Serialize, SerializeMap, SerializeSeq, Serializer};
+use amqp_ser::{CompoundKind, Marker, Serialize, SerializeMap, SerializeSeq, Serializer};
 use amqp_size::width::{array_len, list_len, map_len, text_len};
-use amqp_size::{SizeSerializer, WalkError, serialized_size};
+use amqp_size::{SizeSerializer, SizeError, serialized_size};
 
 fn text(rt: &HostRuntime, len: usize, in_array: bool, length: usize) -> bool {
     is(
@@ -129,7 +129,7 @@ fn list_of_two<S: Serializer, T: Serialize, U: Serialize>(
 
 /// Serializes an array of two ints; a string between them must fail.
 fn mixed_array<S: Serializer>(serializer: &mut S) -> Option<S::Ok> {
-    serializer.mark(Mark::Array);
+    serializer.set_marker(Marker::Array);
     list_of_two(serializer, &1i32, &"a", &2i32)
 }
 
@@ -149,7 +149,7 @@ fn key_alone<S: Serializer>(serializer: &mut S) -> Option<S::Error> {
     if accepted { end.err() } else { None }
 }
 
-fn refused_parts<S: Serializer<Ok = usize, Error = WalkError>>(
+fn refused_parts<S: Serializer<Ok = usize, Error = SizeError>>(
     rt: &HostRuntime,
     serializer: &mut S,
 ) -> bool {
@@ -165,7 +165,7 @@ fn refused_parts<S: Serializer<Ok = usize, Error = WalkError>>(
             rt,
             "a key alone",
             key_alone(serializer),
-            Some(WalkError::InvalidValue),
+            Some(SizeError::InvalidValue),
         )
         && is(rt, "fresh afterwards", serializer.serialize_str("b"), Ok(3))
 }
@@ -181,7 +181,7 @@ fn vector_as_value<S: Serializer>(
     if accepted { end.ok() } else { None }
 }
 
-fn misplaced_vector<S: Serializer<Ok = usize, Error = WalkError>>(
+fn misplaced_vector<S: Serializer<Ok = usize, Error = SizeError>>(
     rt: &HostRuntime,
     serializer: &mut S,
     vector: Option<TransparentVec<bool>>,
@@ -204,7 +204,7 @@ fn misplaced_vector<S: Serializer<Ok = usize, Error = WalkError>>(
     }
 }
 
-fn misplaced_vectors<S: Serializer<Ok = usize, Error = WalkError>>(
+fn misplaced_vectors<S: Serializer<Ok = usize, Error = SizeError>>(
     rt: &HostRuntime,
     serializer: &mut S,
 ) -> bool {
@@ -212,52 +212,52 @@ fn misplaced_vectors<S: Serializer<Ok = usize, Error = WalkError>>(
         && misplaced_vector(rt, serializer, transparent(rt, []))
 }
 
-fn second_value<S: Serializer<Ok = usize, Error = WalkError>>(
+fn second_value<S: Serializer<Ok = usize, Error = SizeError>>(
     rt: &HostRuntime,
     serializer: &mut S,
 ) -> bool {
-    let mut held = serializer.begin(Kind::Single);
-    serializer.begin_part(&mut held);
+    let mut compound = serializer.begin_compound(CompoundKind::Single);
+    serializer.begin_part(&mut compound);
     let first = serializer.serialize_u8(1);
-    let taken = serializer.end_part(&mut held, first);
-    serializer.begin_part(&mut held);
+    let taken = serializer.end_part(&mut compound, first);
+    serializer.begin_part(&mut compound);
     let second = serializer.serialize_u64(2);
-    let refused = serializer.end_part(&mut held, second);
+    let refused = serializer.end_part(&mut compound, second);
     is(rt, "the first value", taken, Ok(()))
-        && is(rt, "a second value", refused, Err(WalkError::InvalidValue))
-        && is(rt, "the first value alone", serializer.end(held), Ok(2))
+        && is(rt, "a second value", refused, Err(SizeError::InvalidValue))
+        && is(rt, "the first value alone", serializer.end(compound), Ok(2))
         && is(rt, "fresh afterwards", serializer.serialize_str("b"), Ok(3))
 }
 
-fn descriptor_after_a_string<S: Serializer<Ok = usize, Error = WalkError>>(
+fn descriptor_after_a_string<S: Serializer<Ok = usize, Error = SizeError>>(
     rt: &HostRuntime,
     serializer: &mut S,
 ) -> bool {
-    let mut held = serializer.begin(Kind::Single);
-    serializer.begin_descriptor(&mut held);
+    let mut compound = serializer.begin_compound(CompoundKind::Single);
+    serializer.begin_descriptor(&mut compound);
     let text = serializer.serialize_str("a");
-    let refused = serializer.end_descriptor(&mut held, text);
-    serializer.begin_descriptor(&mut held);
+    let refused = serializer.end_descriptor(&mut compound, text);
+    serializer.begin_descriptor(&mut compound);
     let code = serializer.serialize_u64(0x24);
-    let taken = serializer.end_descriptor(&mut held, code);
-    serializer.begin_part(&mut held);
-    let list = serializer.begin(Kind::List);
+    let taken = serializer.end_descriptor(&mut compound, code);
+    serializer.begin_part(&mut compound);
+    let list = serializer.begin_compound(CompoundKind::List);
     let fields = serializer.end(list);
-    let body = serializer.end_part(&mut held, fields);
+    let body = serializer.end_part(&mut compound, fields);
     is(
         rt,
         "a string as descriptor",
         refused,
-        Err(WalkError::InvalidValue),
+        Err(SizeError::InvalidValue),
     ) && is(rt, "a code", taken, Ok(()))
         && is(rt, "a list after it", body, Ok(()))
-        && is(rt, "the bytes 00532445", serializer.end(held), Ok(4))
+        && is(rt, "the bytes 00532445", serializer.end(compound), Ok(4))
         && is(rt, "fresh afterwards", serializer.serialize_str("b"), Ok(3))
 }
 
 /// Returns the length of the second value, by a serializer that has serialized, or failed to
 /// serialize, the first.
-fn counted_after<A: Serialize, B: Serialize>(first: &A, second: &B) -> Result<usize, WalkError>
+fn counted_after<A: Serialize, B: Serialize>(first: &A, second: &B) -> Result<usize, SizeError>
     ensures { IsSizeOf (B.tree second.now) (told result) }
 {
     let mut serializer = SizeSerializer::default();

@@ -2,7 +2,7 @@
 
 use super::compare::{for_bytes, is, slice_is};
 use super::made::{array, nested_texts, symbol, transparent, vector};
-use super::shapes::{Again, NoTree, Number, Pair};
+use super::resolved_kinds::{Again, NoTree, Number, Pair};
 use amqp_data::{
     Array, Dec32, Described, Descriptor, Error, OrderedMap, SymbolRef, Timestamp, TransparentVec,
     Uuid,

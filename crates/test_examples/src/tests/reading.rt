@@ -14,7 +14,7 @@ use amqp_data::{Error, Symbol};
 use amqp_de::de::Deserialize;
 use amqp_decode::decode_value;
 use amqp_from_value::from_value;
-use amqp_restore::{Restore, restored};
+use amqp_round_trip::{RoundTrip, round_trip};
 use amqp_ser::Serialize;
 use amqp_to_value::to_value;
 use amqp_value::Value;
@@ -72,9 +72,9 @@ fn is_read<T: Serialize + Deserialize + PartialEq>(
 }
 
 /// Returns `true` if the value round-trips.
-fn is_restored<T: Restore + PartialEq>(rt: &HostRuntime, name: &str, value: Option<T>) -> bool {
+fn is_restored<T: RoundTrip + PartialEq>(rt: &HostRuntime, name: &str, value: Option<T>) -> bool {
     match value {
-        Some(value) => is_same(rt, name, restored(rt.alloc(), &value), &value),
+        Some(value) => is_same(rt, name, round_trip(rt.alloc(), &value), &value),
         None => wrong(rt, name, "no memory for the value"),
     }
 }

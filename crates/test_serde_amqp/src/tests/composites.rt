@@ -2,9 +2,9 @@
 
 ghost use Rattle.std.specs.Prelude.{◌∷◌, [], Some};
 ghost use Rattle.amqp_ser.specs.Composites.{as_described};
-ghost use Rattle.amqp_ser.specs.Compounds.{whole};
+ghost use Rattle.amqp_ser.specs.Compounds.{tree_of_parts};
 ghost use Rattle.amqp_ser.specs.Tree.{code, scalar, ubyte, bool};
-ghost use Rattle.amqp_ser.specs.declared.kind.Kind.TheVariants.{List};
+ghost use Rattle.amqp_ser.specs.declared.kind.CompoundKind.TheVariants.{List};
 
 use super::made::{array, described, list, pairs, symbol, text};
 use super::rows::{begins, begins_of, only_imaged, own_image_of, refused_of, row, row_of, wrong};
@@ -19,7 +19,7 @@ struct Pair<A, B>(A, B);
 
 impl<A: Serialize, B: Serialize> Serialize for Pair<A, B> {
     ghost tree = { λ p.
-        as_described (Some (code 0x13)) (whole List (A.tree p.0 ∷ (B.tree p.1 ∷ []))) };
+        as_described (Some (code 0x13)) (tree_of_parts List (A.tree p.0 ∷ (B.tree p.1 ∷ []))) };
 
     fn serialize<S: Serializer>(&self, serializer: &mut S) -> Result<S::Ok, S::Error> {
         let mut fields = serializer.serialize_struct(markers::DESCRIBED_LIST, 3)?;
@@ -35,7 +35,7 @@ impl<A: Serialize, B: Serialize> Serialize for Pair<A, B> {
 struct One<T>(T);
 
 impl<T: Serialize> Serialize for One<T> {
-    ghost tree = { λ o. as_described (Some (code 1)) (whole List (T.tree o.0 ∷ [])) };
+    ghost tree = { λ o. as_described (Some (code 1)) (tree_of_parts List (T.tree o.0 ∷ [])) };
 
     fn serialize<S: Serializer>(&self, serializer: &mut S) -> Result<S::Ok, S::Error> {
         let mut fields = serializer.serialize_tuple_struct(markers::DESCRIBED_LIST, 2)?;
@@ -50,7 +50,7 @@ impl<T: Serialize> Serialize for One<T> {
 struct Empty;
 
 impl Serialize for Empty {
-    ghost tree = { λ _. as_described (Some (code 1)) (whole List []) };
+    ghost tree = { λ _. as_described (Some (code 1)) (tree_of_parts List []) };
 
     fn serialize<S: Serializer>(&self, serializer: &mut S) -> Result<S::Ok, S::Error> {
         let mut fields = serializer.serialize_struct(markers::DESCRIBED_LIST, 1)?;
@@ -81,7 +81,7 @@ struct Plain {
 }
 
 impl Serialize for Plain {
-    ghost tree = { λ p. whole List (Some (scalar (ubyte p.a)) ∷ []) };
+    ghost tree = { λ p. tree_of_parts List (Some (scalar (ubyte p.a)) ∷ []) };
 
     fn serialize<S: Serializer>(&self, serializer: &mut S) -> Result<S::Ok, S::Error> {
         let mut fields = serializer.serialize_struct("Plain", 1)?;

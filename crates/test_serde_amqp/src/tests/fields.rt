@@ -3,10 +3,10 @@
 
 use super::rows::{row, shows};
 use serde_amqp::ser::{
-    Field, Fields, Fixed, Keys, Kind, ListOf, MapOf, OptionalField, SerializeTuple, Serializer,
+    Field, Fields, Fixed, Keys, CompoundKind, ListOf, MapOf, OptionalField, SerializeTuple, Serializer,
     SymbolMapOf, VariantOf,
 };
-use serde_amqp::size_ser::{SizeSerializer, WalkError};
+use serde_amqp::size_ser::{SizeSerializer, SizeError};
 
 /// Fields that forward each call.
 #[derive(Drop)]
@@ -19,17 +19,17 @@ impl<F: Fields> Fields for Same<F> {
         self.0.any_there()
     }
 
-    fn feed<S: Serializer>(&self, serializer: &mut S, held: &mut S::Open) -> Result<(), S::Error> {
-        self.0.feed(serializer, held)
+    fn feed<S: Serializer>(&self, serializer: &mut S, compound: &mut S::Open) -> Result<(), S::Error> {
+        self.0.feed(serializer, compound)
     }
 
     fn feed_named<S: Serializer>(
         &self,
         serializer: &mut S,
-        held: &mut S::Open,
+        compound: &mut S::Open,
         keys: Keys,
     ) -> Result<(), S::Error> {
-        self.0.feed_named(serializer, held, keys)
+        self.0.feed_named(serializer, compound, keys)
     }
 }
 
@@ -75,15 +75,15 @@ fn fields_are_lists_maps_and_variants(rt: &HostRuntime) -> bool {
 }
 
 fn empty_map<S: Serializer>(serializer: &mut S) -> Result<S::Ok, S::Error> {
-    let map = serializer.begin(Kind::Map);
+    let map = serializer.begin_compound(CompoundKind::Map);
     serializer.end(map)
 }
 
-fn length_of_tuple(parts: SerializeTuple<'_, SizeSerializer>) -> Result<usize, WalkError> {
+fn length_of_tuple(parts: SerializeTuple<'_, SizeSerializer>) -> Result<usize, SizeError> {
     parts.end()
 }
 
-fn empty_tuple(lengths: &mut SizeSerializer) -> Result<usize, WalkError> {
+fn empty_tuple(lengths: &mut SizeSerializer) -> Result<usize, SizeError> {
     length_of_tuple(lengths.serialize_tuple(0)?)
 }
 

@@ -24,7 +24,7 @@ pub fn lazy(alloc: Global, hexadecimal: &str) -> Option<LazyValue> {
 const HELLO: &str = "a10d48656c6c6f2c20576f726c6421";
 
 // Returns whether the lazy value of the value has these bytes and their length, and this image.
-fn held<T: Serialize>(rt: &HostRuntime, name: &str, value: &T, bytes: &str, image: &str) -> bool {
+fn compound<T: Serialize>(rt: &HostRuntime, name: &str, value: &T, bytes: &str, image: &str) -> bool {
     match to_lazy_value(rt.alloc(), value) {
         Ok(lazy) => {
             is_text(rt, name, hexadecimal(rt.alloc(), lazy.as_slice()), bytes)
@@ -36,12 +36,12 @@ fn held<T: Serialize>(rt: &HostRuntime, name: &str, value: &T, bytes: &str, imag
 
 fn text_is_held(rt: &HostRuntime) -> bool {
     let image = "String(\"Hello, World!\")";
-    held(rt, "a string", &"Hello, World!", HELLO, image)
+    compound(rt, "a string", &"Hello, World!", HELLO, image)
         && match lazy(rt.alloc(), HELLO) {
-            Some(hello) => held(rt, "a lazy string", &hello, HELLO, image),
+            Some(hello) => compound(rt, "a lazy string", &hello, HELLO, image),
             None => wrong(rt, "a lazy string", "no memory"),
         }
-        && held(rt, "null", &(), "40", "Null")
+        && compound(rt, "null", &(), "40", "Null")
 }
 
 fn described_timestamps(alloc: Global) -> Option<Described<Vec<Timestamp>>> {
@@ -55,7 +55,7 @@ fn a_composite_is_held(rt: &HostRuntime) -> bool {
     match described_timestamps(rt.alloc()) {
         Some(composite) => {
             is_length(rt, "a composite", serialized_size(&composite), 15)
-                && held(
+                && compound(
                     rt,
                     "a composite",
                     &composite,
@@ -238,7 +238,7 @@ fn a_transparent_vector_of_just_one_is_held(rt: &HostRuntime) -> bool {
     let a = rt.alloc();
     is_not_held(rt, "of none", transparent(a, [true; 0]))
         && match transparent(a, [true]) {
-            Some(one) => held(rt, "of one", &one, "41", "Bool(true)"),
+            Some(one) => compound(rt, "of one", &one, "41", "Bool(true)"),
             None => wrong(rt, "of one", "no memory"),
         }
         && is_not_held(rt, "of two", transparent(a, [true, false]))

@@ -3,7 +3,7 @@
 
 ghost use Rattle.std.specs.Prelude.{Some};
 ghost use Rattle.amqp_ser.specs.Composites.{as_described, descriptor_of};
-ghost use Rattle.amqp_ser.specs.Marked.{marked, mark_of};
+ghost use Rattle.amqp_ser.specs.Marked.{with_marker, marker_of};
 ghost use Rattle.amqp_ser.specs.Tree.{scalar, ubyte};
 
 use super::made::list;
@@ -23,7 +23,7 @@ pub struct Newtype<'a, T> {
 }
 
 impl<T: Serialize> Serialize for Newtype<'_, T> {
-    ghost tree = { λ n. marked (mark_of n.name.now) (T.tree n.value.now) };
+    ghost tree = { λ n. with_marker (marker_of n.name.now) (T.tree n.value.now) };
 
     fn serialize<S: Serializer>(&self, serializer: &mut S) -> Result<S::Ok, S::Error> {
         serializer.serialize_newtype_struct(self.name, self.value)

@@ -15,7 +15,7 @@ use serde_amqp::ser::{
     Serialize, SerializeMap, SerializeSeq, SerializeStruct, SerializeStructVariant,
     SerializeTupleStruct, SerializeTupleVariant, Serializer as _,
 };
-use serde_amqp::size_ser::{SizeSerializer, WalkError, width};
+use serde_amqp::size_ser::{SizeSerializer, SizeError, width};
 use serde_amqp::{
     Error, Value, decode, described, descriptor, extensions, format_code, laws, lazy, primitives,
     read, ser, size_ser, to_value, value,
@@ -104,7 +104,7 @@ fn lazy_values(rt: &HostRuntime) -> bool {
 }
 
 fn readers_and_codes(rt: &HostRuntime) -> bool {
-    let limited = decode::decode_value_within(rt.alloc(), NULLS, 2);
+    let limited = decode::decode_value_limited(rt.alloc(), NULLS, 2);
     let next = read::Read::next(&mut read::IoReader::new(TWO));
     let code = format_code::EncodingCodes::try_from(0x40);
     shows(rt, "the first length", &lazy::frame_len(TWO), "Some(1)")
@@ -137,7 +137,7 @@ fn widths(rt: &HostRuntime) -> bool {
         && holds(
             rt,
             "a mark",
-            matches!(ser::mark_named(ser::markers::UUID), ser::Mark::Uuid),
+            matches!(ser::marker_named(ser::markers::UUID), ser::Marker::Uuid),
         )
 }
 
@@ -194,63 +194,63 @@ fn days_and_laws(rt: &HostRuntime) -> bool {
 
 // `end` of each compound alias in `size_ser` returns a length.
 
-fn length_of_list(parts: size_ser::SeqSerializer<'_>) -> Result<usize, size_ser::WalkError> {
+fn length_of_list(parts: size_ser::SeqSerializer<'_>) -> Result<usize, size_ser::SizeError> {
     parts.end()
 }
 
-fn length_of_tuple(parts: size_ser::TupleSerializer<'_>) -> Result<usize, size_ser::WalkError> {
+fn length_of_tuple(parts: size_ser::TupleSerializer<'_>) -> Result<usize, size_ser::SizeError> {
     parts.end()
 }
 
-fn length_of_map(parts: size_ser::MapSerializer<'_>) -> Result<usize, size_ser::WalkError> {
+fn length_of_map(parts: size_ser::MapSerializer<'_>) -> Result<usize, size_ser::SizeError> {
     parts.end()
 }
 
 fn length_of_tuple_struct(
     parts: size_ser::TupleStructSerializer<'_>,
-) -> Result<usize, size_ser::WalkError> {
+) -> Result<usize, size_ser::SizeError> {
     parts.end()
 }
 
-fn length_of_struct(parts: size_ser::StructSerializer<'_>) -> Result<usize, size_ser::WalkError> {
+fn length_of_struct(parts: size_ser::StructSerializer<'_>) -> Result<usize, size_ser::SizeError> {
     parts.end()
 }
 
-fn length_of_variant(parts: size_ser::VariantSerializer<'_>) -> Result<usize, size_ser::WalkError> {
+fn length_of_variant(parts: size_ser::VariantSerializer<'_>) -> Result<usize, size_ser::SizeError> {
     parts.end()
 }
 
 fn length_of_struct_variant(
     parts: size_ser::StructVariantSerializer<'_>,
-) -> Result<usize, size_ser::WalkError> {
+) -> Result<usize, size_ser::SizeError> {
     parts.end()
 }
 
-fn list_length(lengths: &mut SizeSerializer) -> Result<usize, WalkError> {
+fn list_length(lengths: &mut SizeSerializer) -> Result<usize, SizeError> {
     length_of_list(lengths.serialize_seq(None)?)
 }
 
-fn tuple_length(lengths: &mut SizeSerializer) -> Result<usize, WalkError> {
+fn tuple_length(lengths: &mut SizeSerializer) -> Result<usize, SizeError> {
     length_of_tuple(lengths.serialize_tuple(0)?)
 }
 
-fn map_length(lengths: &mut SizeSerializer) -> Result<usize, WalkError> {
+fn map_length(lengths: &mut SizeSerializer) -> Result<usize, SizeError> {
     length_of_map(lengths.serialize_map(None)?)
 }
 
-fn tuple_struct_length(lengths: &mut SizeSerializer) -> Result<usize, WalkError> {
+fn tuple_struct_length(lengths: &mut SizeSerializer) -> Result<usize, SizeError> {
     length_of_tuple_struct(lengths.serialize_tuple_struct("T", 0)?)
 }
 
-fn struct_length(lengths: &mut SizeSerializer) -> Result<usize, WalkError> {
+fn struct_length(lengths: &mut SizeSerializer) -> Result<usize, SizeError> {
     length_of_struct(lengths.serialize_struct("S", 0)?)
 }
 
-fn variant_length(lengths: &mut SizeSerializer) -> Result<usize, WalkError> {
+fn variant_length(lengths: &mut SizeSerializer) -> Result<usize, SizeError> {
     length_of_variant(lengths.serialize_tuple_variant("E", 0, "V", 0)?)
 }
 
-fn struct_variant_length(lengths: &mut SizeSerializer) -> Result<usize, WalkError> {
+fn struct_variant_length(lengths: &mut SizeSerializer) -> Result<usize, SizeError> {
     length_of_struct_variant(lengths.serialize_struct_variant("E", 1, "V", 0)?)
 }
 

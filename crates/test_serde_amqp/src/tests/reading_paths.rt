@@ -4,7 +4,7 @@ use super::made::{self, described, pairs};
 use super::rows::holds;
 use super::support::is;
 use serde_amqp::de::{
-    Deserialize as _, Deserializer as _, EnumAccess as _, MapAccess as _, Seed as _,
+    Deserialize as _, Deserializer as _, EnumAccess as _, MapAccess as _, DeserializeSeed as _,
     SeqAccess as _, VariantAccess as _,
 };
 use serde_amqp::primitives::OrderedMap;
@@ -41,7 +41,7 @@ fn values_are_read(rt: &HostRuntime) -> bool {
         value::de::from_value::<u32>(a, Value::Uint(1)),
         "Ok(1)",
     ) && is(rt, "deserialize", u32::deserialize(a, uint(a)), "Ok(1)")
-        && is(rt, "restored", value::restored(a, &7u64), "Ok(7)")
+        && is(rt, "restored", value::round_trip(a, &7u64), "Ok(7)")
 }
 
 fn first_of_elements(alloc: Global) -> Option<u32> {
@@ -72,13 +72,13 @@ fn parts_are_read_by_accessors(rt: &HostRuntime) -> bool {
 }
 
 // Calls the law that the values of a type round-trip.
-fn comes_back<T: value::Restore>() {
-    T::returns();
+fn comes_back<T: value::RoundTrip>() {
+    T::law();
 }
 
 // Calls the law that keys of a type have distinct images.
 fn keys_are_distinct<K: value::MapKey>() {
-    K::images_tell_contents();
+    K::image_is_injective();
 }
 
 fn laws_are_called() -> bool {
@@ -89,8 +89,8 @@ fn laws_are_called() -> bool {
 }
 
 // Returns the required field `x`.
-fn required() -> de::Must<u32, ()> {
-    de::Must {
+fn required() -> de::Required<u32, ()> {
+    de::Required {
         name: "x",
         of: PhantomData,
         rest: (),
@@ -98,26 +98,26 @@ fn required() -> de::Must<u32, ()> {
 }
 
 // Returns the optional field `x`.
-fn optional() -> de::May<u32, ()> {
-    de::May {
+fn optional() -> de::Optional<u32, ()> {
+    de::Optional {
         name: "x",
         of: PhantomData,
         rest: (),
     }
 }
 
-fn seeded<S: de::Seed>(alloc: Global, seed: S) -> Result<S::Value, Error> {
-    seed.read(alloc, source(alloc, list(alloc)))
+fn seeded<S: de::DeserializeSeed>(alloc: Global, seed: S) -> Result<S::Value, Error> {
+    seed.deserialize(alloc, source(alloc, list(alloc)))
 }
 
 // Returns whether the second of two unit variants is read.
 fn second_variant(alloc: Global) -> bool {
-    let variants = de::UnitOr {
-        rest: de::UnitOr { rest: () },
+    let variants = de::UnitVariant {
+        rest: de::UnitVariant { rest: () },
     };
     matches!(
-        de::EnumOf(variants).read(alloc, uint(alloc)),
-        Ok(de::OneOf::Other(de::OneOf::This(())))
+        de::EnumSeed(variants).read(alloc, uint(alloc)),
+        Ok(de::Either::Other(de::Either::This(())))
     )
 }
 
@@ -126,17 +126,17 @@ fn seeds_read_parts_of_types(rt: &HostRuntime) -> bool {
     is(
         rt,
         "a type",
-        de::Of(PhantomData::<u32>).read(a, uint(a)),
+        de::TypeSeed(PhantomData::<u32>).deserialize(a, uint(a)),
         "Ok(1)",
     ) && is(
         rt,
         "a required field",
-        seeded(a, de::ListOf(required())),
+        seeded(a, de::ListSeed(required())),
         "Ok((1, ()))",
     ) && is(
         rt,
         "an optional field",
-        seeded(a, de::NamedOf(optional())),
+        seeded(a, de::NamedSeed(optional())),
         "Ok((Some(1), ()))",
     ) && holds(rt, "the second variant", second_variant(a))
 }
@@ -151,7 +151,7 @@ fn first_element<D: de::Deserializer>(
             let mut elements = de::ElementsOf::<D>::new(elements);
             elements.next_element(alloc)
         }
-        _ => Err(<D::Error as de::Refusal>::invalid()),
+        _ => Err(<D::Error as de::DeserializeError>::invalid()),
     }
 }
 
@@ -165,7 +165,7 @@ fn first_entry<D: de::Deserializer>(
             let mut entries = de::EntriesOf::<D>::new(entries);
             entries.next_entry(alloc)
         }
-        _ => Err(<D::Error as de::Refusal>::invalid()),
+        _ => Err(<D::Error as de::DeserializeError>::invalid()),
     }
 }
 
@@ -200,7 +200,7 @@ impl de::Visitor for Shown {
 
     ghost gives = { λ _ _ _. Unit {0} };
 
-    ghost stands = { λ _ _ _. ⊥ };
+    ghost represents = { λ _ _ _. ⊥ };
 
     ghost same = { λ _ _. ⊥ };
 
@@ -208,7 +208,7 @@ impl de::Visitor for Shown {
         false
     }
 
-    fn visit_plain<E: de::Refusal>(self, plain: de::Plain) -> Result<de::Plain, E> {
+    fn visit_plain<E: de::DeserializeError>(self, plain: de::Plain) -> Result<de::Plain, E> {
         Ok(plain)
     }
 }
@@ -217,7 +217,7 @@ impl de::Visitor for Shown {
 struct Count(u32);
 
 impl de::Record for Count {
-    type Parts = (u32, ());
+    type Values = (u32, ());
 
     ghost parts = { λ c. (c.0, tt) };
 }
@@ -226,7 +226,7 @@ impl de::Record for Count {
 struct Whole(u32);
 
 impl de::Record for Whole {
-    type Parts = u32;
+    type Values = u32;
 
     ghost parts = { λ w. w.0 };
 }
@@ -243,17 +243,17 @@ fn described_map(alloc: Global) -> Option<Value> {
 }
 
 fn count_of_a_list(alloc: Global) -> Result<(u32, ()), Error> {
-    de::read::<Count, _, _>(alloc, source(alloc, list(alloc)), de::ListOf(required()))
+    de::read::<Count, _, _>(alloc, source(alloc, list(alloc)), de::ListSeed(required()))
 }
 
 fn count_after_a_descriptor(alloc: Global) -> Result<u32, Error> {
-    let of = de::Of(PhantomData::<u32>);
+    let of = de::TypeSeed(PhantomData::<u32>);
     let value = source(alloc, described(alloc, 1, Value::Uint(1)));
     de::read_described::<Whole, _, _, _>(alloc, value, &1u64, of)
 }
 
 fn count_of_a_composite(alloc: Global) -> Result<u32, Error> {
-    let of = de::Of(PhantomData::<u32>);
+    let of = de::TypeSeed(PhantomData::<u32>);
     let value = source(alloc, described(alloc, 1, Value::Uint(1)));
     de::read_composite::<Whole, _, _>(alloc, value, 1, of)
 }
@@ -287,18 +287,18 @@ fn any_value(alloc: Global) -> bool {
 
 // Reads a variant.
 fn variant<V: de::Variants>(alloc: Global, variants: V) -> Result<V::Value, Error> {
-    de::EnumOf(variants).read(alloc, uint(alloc))
+    de::EnumSeed(variants).read(alloc, uint(alloc))
 }
 
 fn variant_without_its_value(alloc: Global) -> bool {
-    let variants = de::UnitOr {
-        rest: de::DataOr {
-            seed: de::Of(PhantomData::<u32>),
+    let variants = de::UnitVariant {
+        rest: de::DataVariant {
+            seed: de::TypeSeed(PhantomData::<u32>),
             missing: "Expecting a value",
             rest: (),
         },
     };
-    let answer: Result<de::OneOf<(), de::OneOf<u32, de::Never>>, Error> = variant(alloc, variants);
+    let answer: Result<de::Either<(), de::Either<u32, de::Never>>, Error> = variant(alloc, variants);
     matches!(answer, Err(Error::Message("Expecting a value")))
 }
 

@@ -4,13 +4,13 @@
 ghost use Rattle.std.specs.Prelude.{◌≡◌, ◌∷◌, [], Some, None, IsErr};
 ghost use Rattle.amqp_ser.specs.Tree.{scalar, int, string, ubyte};
 ghost use Rattle.amqp_ser.specs.Feeding.{Feeds};
-ghost use Rattle.amqp_ser.specs.Compounds.{whole};
-ghost use Rattle.amqp_ser.specs.Marked.{marked, mark_of};
-ghost use Rattle.amqp_ser.specs.declared.kind.Kind.TheVariants as kind;
+ghost use Rattle.amqp_ser.specs.Compounds.{tree_of_parts};
+ghost use Rattle.amqp_ser.specs.Marked.{with_marker, marker_of};
+ghost use Rattle.amqp_ser.specs.declared.kind.CompoundKind.TheVariants as kind;
 
-use super::marked::Newtype;
+use super::with_marker::Newtype;
 use super::rows::{has_no_tree, row};
-use serde_amqp::ser::{Kind, Serialize, Serializer, markers};
+use serde_amqp::ser::{CompoundKind, Serialize, Serializer, markers};
 
 /// Serializes an element; fails if the element has no tree.
 fn element<S: Serializer, T: Serialize>(
@@ -18,7 +18,7 @@ fn element<S: Serializer, T: Serialize>(
     list: &mut S::Open,
     value: &T,
 ) -> Result<(), S::Error>
-    ensures step { (kind : Kind) →
+    ensures step { (kind : CompoundKind) →
         Feeds S.permits S.has kind (T.tree value.now) serializer.old list.old result serializer.new
         list.new }
     ensures refused { T.tree value.now ≡ None → IsErr result }
@@ -34,10 +34,10 @@ struct RefusedElement(i32, u8, i32);
 
 impl Serialize for RefusedElement {
     ghost tree = { λ l.
-        whole kind.List (Some (scalar (int l.0)) ∷ (Some (scalar (int l.2)) ∷ [])) };
+        tree_of_parts kind.List (Some (scalar (int l.0)) ∷ (Some (scalar (int l.2)) ∷ [])) };
 
     fn serialize<S: Serializer>(&self, serializer: &mut S) -> Result<S::Ok, S::Error> {
-        let mut list = serializer.begin(Kind::List);
+        let mut list = serializer.begin_compound(CompoundKind::List);
         element(serializer, &mut list, &self.0)?;
         let number = Newtype {
             name: markers::SYMBOL,
@@ -58,7 +58,7 @@ struct RefusedKey(&'static str, &'static str, u8);
 
 impl Serialize for RefusedKey {
     ghost tree = { λ m.
-        whole kind.Map (Some (scalar (string m.0.now)) ∷ (Some (scalar (ubyte m.2)) ∷ [])) };
+        tree_of_parts kind.Map (Some (scalar (string m.0.now)) ∷ (Some (scalar (ubyte m.2)) ∷ [])) };
 
     fn serialize<S: Serializer>(&self, serializer: &mut S) -> Result<S::Ok, S::Error> {
         let mut map = serializer.serialize_map(None)?;
@@ -77,7 +77,7 @@ impl Serialize for RefusedKey {
 struct KeyAlone(&'static str);
 
 impl Serialize for KeyAlone {
-    ghost tree = { λ m. whole kind.Map (Some (scalar (string m.0.now)) ∷ []) };
+    ghost tree = { λ m. tree_of_parts kind.Map (Some (scalar (string m.0.now)) ∷ []) };
 
     fn serialize<S: Serializer>(&self, serializer: &mut S) -> Result<S::Ok, S::Error> {
         let mut map = serializer.serialize_map(None)?;
@@ -91,7 +91,7 @@ impl Serialize for KeyAlone {
 struct NoField;
 
 impl Serialize for NoField {
-    ghost tree = { λ _. whole kind.Single [] };
+    ghost tree = { λ _. tree_of_parts kind.Single [] };
 
     fn serialize<S: Serializer>(&self, serializer: &mut S) -> Result<S::Ok, S::Error> {
         let fields = serializer.serialize_struct(markers::DESCRIBED_BASIC, 1)?;

@@ -2,8 +2,8 @@
 
 ghost use Rattle.std.specs.Prelude.{◌∷◌, [], Some};
 ghost use Rattle.amqp_ser.specs.Tree.{scalar, int};
-ghost use Rattle.amqp_ser.specs.Compounds.{whole};
-ghost use Rattle.amqp_ser.specs.declared.kind.Kind.TheVariants.{List};
+ghost use Rattle.amqp_ser.specs.Compounds.{tree_of_parts};
+ghost use Rattle.amqp_ser.specs.declared.kind.CompoundKind.TheVariants.{List};
 
 use super::rows::row;
 use amqp_ser::{Serialize, Serializer};
@@ -27,7 +27,7 @@ struct Outer {
 }
 
 impl Serialize for Outer {
-    ghost tree = { λ o. whole List (Some (scalar (int o.inner.0)) ∷ []) };
+    ghost tree = { λ o. tree_of_parts List (Some (scalar (int o.inner.0)) ∷ []) };
 
     fn serialize<S: Serializer>(&self, serializer: &mut S) -> Result<S::Ok, S::Error> {
         let mut fields = serializer.serialize_struct("Outer", 1)?;

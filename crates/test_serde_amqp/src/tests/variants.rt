@@ -1,9 +1,9 @@
 //! Variants: maps of one pair, from the index to the payload.
 
 ghost use Rattle.std.specs.Prelude.{◌∷◌, [], Some};
-ghost use Rattle.amqp_ser.specs.Compounds.{whole};
+ghost use Rattle.amqp_ser.specs.Compounds.{tree_of_parts};
 ghost use Rattle.amqp_ser.specs.Tree.{scalar, bool, int, string, uint, ulong};
-ghost use Rattle.amqp_ser.specs.declared.kind.Kind.TheVariants as kind;
+ghost use Rattle.amqp_ser.specs.declared.kind.CompoundKind.TheVariants as kind;
 
 use super::made::{array, pairs};
 use super::rows::{own_image_of, row, row_of};
@@ -16,7 +16,7 @@ use std::alloc::Global;
 struct Newtype(u64);
 
 impl Serialize for Newtype {
-    ghost tree = { λ n. whole (kind.NewtypeVariant 1) (Some (scalar (ulong n.0)) ∷ []) };
+    ghost tree = { λ n. tree_of_parts (kind.NewtypeVariant 1) (Some (scalar (ulong n.0)) ∷ []) };
 
     fn serialize<S: Serializer>(&self, serializer: &mut S) -> Result<S::Ok, S::Error> {
         serializer.serialize_newtype_variant("Sample", 1, "Newtype", &self.0)
@@ -29,7 +29,7 @@ struct Tuple(i32, &'static str);
 
 impl Serialize for Tuple {
     ghost tree = { λ t.
-        whole (kind.Variant 1) (Some (scalar (int t.0)) ∷ (Some (scalar (string t.1.now)) ∷ [])) };
+        tree_of_parts (kind.Variant 1) (Some (scalar (int t.0)) ∷ (Some (scalar (string t.1.now)) ∷ [])) };
 
     fn serialize<S: Serializer>(&self, serializer: &mut S) -> Result<S::Ok, S::Error> {
         let mut fields = serializer.serialize_tuple_variant("Sample", 1, "Tuple", 2)?;
@@ -45,7 +45,7 @@ struct Struct(u32, bool);
 
 impl Serialize for Struct {
     ghost tree = { λ s.
-        whole (kind.Variant 0) (Some (scalar (uint s.0)) ∷ (Some (scalar (bool s.1)) ∷ [])) };
+        tree_of_parts (kind.Variant 0) (Some (scalar (uint s.0)) ∷ (Some (scalar (bool s.1)) ∷ [])) };
 
     fn serialize<S: Serializer>(&self, serializer: &mut S) -> Result<S::Ok, S::Error> {
         let mut fields = serializer.serialize_struct_variant("Sample", 0, "Struct", 2)?;

@@ -14,8 +14,8 @@ decreases-read_item l = 9 * l.depth
 abbrev pub decreases-read_frame_on : goal.decreases-read_frame_on
 decreases-read_frame_on l = 9 * l.depth
 
-abbrev pub decreases-read_frame : goal.decreases-read_frame
-decreases-read_frame l = 9 * l.depth + 1
+abbrev pub decreases-read_encoded_value : goal.decreases-read_encoded_value
+decreases-read_encoded_value l = 9 * l.depth + 1
 
 abbrev pub decreases-read_list : goal.decreases-read_list
 decreases-read_list l = 9 * l.depth + 2

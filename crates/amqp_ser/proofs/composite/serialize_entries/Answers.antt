@@ -1,11 +1,11 @@
 use Rattle.std.proofs.Common.{rules, [], ap, append-nil}
-use Rattle.amqp_ser.specs.Compounds.{whole}
-use Rattle.amqp_ser.specs.declared.kind.Kind.TheVariants.{Map}
+use Rattle.amqp_ser.specs.Compounds.{tree_of_parts}
+use Rattle.amqp_ser.specs.declared.kind.CompoundKind.TheVariants.{Map}
 use Rattle.amqp_ser.proofs.Feeding.{moved}
 use Rattle.amqp_ser.proofs.composite.serialize_entries.Goals as goal
 
 -- An error of the fields is permitted for the map of the fields.
 pub returns-in_err-feed_named : goal.returns-in_err-feed_named
 returns-in_err-feed_named g c =
-    moved (g.S.Serializer.permits c.args.serializer.now) (ap (whole Map) (append-nil _)) (search rules) (search rules)
-    (c.in_err-feed_named.ensures c.args.serializer.now Map [] c.begin-held.ensures [])
+    moved (g.S.Serializer.permits c.args.serializer.now) (ap (tree_of_parts Map) (append-nil _)) (search rules) (search rules)
+    (c.in_err-feed_named.ensures c.args.serializer.now Map [] c.begin_compound-compound.ensures [])

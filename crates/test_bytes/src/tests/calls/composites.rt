@@ -3,10 +3,10 @@
 ghost use Rattle.std.specs.Prelude.{◌∷◌, [], Some, codes};
 ghost use Rattle.amqp_ser.specs.Carried.{optional};
 ghost use Rattle.amqp_ser.specs.Composites.{as_described};
-ghost use Rattle.amqp_ser.specs.Compounds.{whole};
+ghost use Rattle.amqp_ser.specs.Compounds.{tree_of_parts};
 ghost use Rattle.amqp_ser.specs.Structs.{named_variant};
 ghost use Rattle.amqp_ser.specs.Tree.{code, scalar, string, ubyte, ushort, uint, bool};
-ghost use Rattle.amqp_ser.specs.declared.kind.Kind.TheVariants as kind;
+ghost use Rattle.amqp_ser.specs.declared.kind.CompoundKind.TheVariants as kind;
 
 use amqp_data::markers;
 use amqp_ser::{MapOf, Serialize, Serializer, fields};
@@ -21,7 +21,7 @@ pub struct Opens {
 
 impl Serialize for Opens {
     ghost tree = { λ o. as_described (Some (code 0x10))
-        (whole kind.List
+        (tree_of_parts kind.List
         (Some (scalar (string o.container.now))
         ∷ (optional (λ h. Some (scalar (string h.now))) o.host
         ∷ (optional (λ n. Some (scalar (uint n))) o.frame_size ∷ [])))) };
@@ -45,7 +45,7 @@ pub struct Properties {
 
 impl Serialize for Properties {
     ghost tree = { λ p. as_described (Some (code 0x13))
-        (whole kind.Map
+        (tree_of_parts kind.Map
         (Some (scalar (string (codes "is_fool")))
         ∷ (Some (scalar (bool p.is_fool))
         ∷ (Some (scalar (string (codes "a"))) ∷ (Some (scalar (ubyte p.a)) ∷ []))))) };
@@ -77,7 +77,7 @@ pub struct Tuple(pub u64, pub bool);
 
 impl Serialize for Tuple {
     ghost tree = { λ t. as_described (Some (code t.0))
-        (whole kind.List (Some (scalar (bool t.1)) ∷ [])) };
+        (tree_of_parts kind.List (Some (scalar (bool t.1)) ∷ [])) };
 
     fn serialize<S: Serializer>(&self, serializer: &mut S) -> Result<S::Ok, S::Error> {
         let mut fields = serializer.serialize_tuple_struct(markers::DESCRIBED_LIST, 2)?;

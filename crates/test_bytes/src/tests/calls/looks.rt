@@ -1,21 +1,21 @@
 //! Uses of the serializer of an open compound between two of its elements.
 
 ghost use Rattle.std.specs.Prelude.{◌∷◌, [], Some, codes};
-ghost use Rattle.amqp_ser.specs.Compounds.{whole};
+ghost use Rattle.amqp_ser.specs.Compounds.{tree_of_parts};
 ghost use Rattle.amqp_ser.specs.Feeding.{Feeds};
 ghost use Rattle.amqp_ser.specs.Tree.{scalar, string, symbol, ubyte};
-ghost use Rattle.amqp_ser.specs.declared.kind.Kind.TheVariants as kind;
+ghost use Rattle.amqp_ser.specs.declared.kind.CompoundKind.TheVariants as kind;
 
 use super::recorded;
 use super::recorder::new_calls;
-use amqp_ser::{Mark, SerializeSeq, Serializer};
+use amqp_ser::{Marker, SerializeSeq, Serializer};
 use std::mem;
 
 /// Serializes a key, reads from the serializer, and serializes the value: the result is that of a
 /// map with this pair.
 pub fn looks_between<S: Serializer>(serializer: &mut S) -> Result<S::Ok, S::Error>
     ensures { S.permits serializer.old
-        (whole kind.Map (Some (scalar (string (codes "a"))) ∷ Some (scalar (ubyte 1)) ∷ [])) result
+        (tree_of_parts kind.Map (Some (scalar (string (codes "a"))) ∷ Some (scalar (ubyte 1)) ∷ [])) result
         serializer.new }
 {
     let mut map = serializer.serialize_map(Some(1))?;
@@ -30,7 +30,7 @@ fn marks_behind<S: Serializer>(list: &mut SerializeSeq<'_, S>) -> Result<S::Ok, 
     ensures { S.permits list.old.serializer.now (Some (scalar (symbol (codes "a")))) result
         list.new.serializer.now }
 {
-    list.as_mut().mark(Mark::Symbol);
+    list.as_mut().set_marker(Marker::Symbol);
     list.as_mut().serialize_str("a")
 }
 
@@ -45,8 +45,8 @@ fn goes_on_with<S: Serializer>(
     list: &mut SerializeSeq<'_, S>,
     other: S,
 ) -> (S, Result<(), S::Error>)
-    ensures { Feeds S.permits S.has kind.List (Some (scalar (ubyte 1))) other list.old.held result.1
-        list.new.serializer.now list.new.held }
+    ensures { Feeds S.permits S.has kind.List (Some (scalar (ubyte 1))) other list.old.compound result.1
+        list.new.serializer.now list.new.compound }
 {
     let before = mem::replace(list.as_mut(), other);
     (before, list.serialize_element(&1u8))
@@ -67,7 +67,7 @@ fn peeked_at(rt: &HostRuntime) -> bool {
     recorded(rt, &calls, "{ a, ubyte, }")
 }
 
-fn left_mark(rt: &HostRuntime) -> bool {
+fn left_marker(rt: &HostRuntime) -> bool {
     let mut calls = new_calls(rt.alloc());
     drop(marks_behind_a_list(&mut calls));
     recorded(rt, &calls, "[symbol a")
@@ -81,5 +81,5 @@ fn left_serializer(rt: &HostRuntime) -> bool {
 
 /// A call that only reads changes nothing; a marker and a replaced serializer remain.
 pub fn rows(rt: &HostRuntime) -> bool {
-    peeked_at(rt) && left_mark(rt) && left_serializer(rt)
+    peeked_at(rt) && left_marker(rt) && left_serializer(rt)
 }

@@ -3,8 +3,8 @@
 ghost use Rattle.std.specs.Prelude.{◌≡◌, ◌++◌, ◌∷◌, [], ℕ, Err, IfErr, IsErr, List, MatchResult, None, Option, Result};
 ghost use Rattle.amqp_ser.specs.Tree.{Tree};
 
-use amqp_ser::{Fixed, Kind, Mark, Serialize, Serializer};
-use amqp_size::{OpenCompound, Shape, SizeSerializer, WalkError};
+use amqp_ser::{Fixed, CompoundKind, Marker, Serialize, Serializer};
+use amqp_size::{OpenCompound, ResolvedKind, SizeSerializer, SizeError};
 use std::alloc::Global;
 
 /// Records each call and passes it to a [`SizeSerializer`].
@@ -36,31 +36,31 @@ impl Calls {
 }
 
 impl Serializer for Calls {
-    ghost use Rattle.amqp_size.specs.SizeSerializer.{size_permits, size_has, size_awaits, size_awaits_descriptor, no_count_on_none};
-    ghost use Rattle.amqp_size.specs.declared.walk_error.WalkError.TheVariants.{InvalidValue};
-    ghost use Rattle.amqp_ser.specs.Compounds.{whole};
+    ghost use Rattle.amqp_size.specs.SizeSerializer.{SizePermits, SizeHas, SizeAwaits, SizeAwaitsDescriptor, no_count_on_none};
+    ghost use Rattle.amqp_size.specs.declared.size_error.SizeError.TheVariants.{InvalidValue};
+    ghost use Rattle.amqp_ser.specs.Compounds.{tree_of_parts};
     ghost use Rattle.amqp_ser.specs.Composites.{as_described, descriptor_of};
-    ghost use Rattle.amqp_ser.specs.declared.kind.Kind.{Kind};
+    ghost use Rattle.amqp_ser.specs.declared.kind.CompoundKind.{CompoundKind};
 
     type Ok = usize;
 
-    type Error = WalkError;
+    type Error = SizeError;
 
     type Open = OpenCompound;
 
-    ghost permits = { λ s t r after. size_permits s.inner t r after.inner };
+    ghost permits = { λ s t r after. SizePermits s.inner t r after.inner };
 
-    ghost has = { λ start kind s held ps. size_has start.inner kind s.inner held ps };
+    ghost has = { λ start kind s compound ps. SizeHas start.inner kind s.inner compound ps };
 
-    ghost awaits = { λ start kind s held ps. size_awaits start.inner kind s.inner held ps };
+    ghost awaits = { λ start kind s compound ps. SizeAwaits start.inner kind s.inner compound ps };
 
-    ghost awaits_descriptor = { λ start s held. size_awaits_descriptor start.inner s.inner held };
+    ghost awaits_descriptor = { λ start s compound. SizeAwaitsDescriptor start.inner s.inner compound };
 
-    ghost is_misuse = { λ e. e ≡ InvalidValue };
+    ghost is_misuse_error = { λ e. e ≡ InvalidValue };
 
     ghost refuses_none = { λ before n after. no_count_on_none before.inner n after.inner };
 
-    fn serialize_fixed(&mut self, fixed: Fixed) -> Result<usize, WalkError> {
+    fn serialize_fixed(&mut self, fixed: Fixed) -> Result<usize, SizeError> {
         self.note(match fixed {
             Fixed::Null => "null",
             Fixed::Bool(_) => "bool",
@@ -79,123 +79,123 @@ impl Serializer for Calls {
         self.inner.serialize_fixed(fixed)
     }
 
-    fn serialize_null(&mut self) -> Result<usize, WalkError> {
+    fn serialize_null(&mut self) -> Result<usize, SizeError> {
         self.note("null");
         self.inner.serialize_null()
     }
 
-    fn serialize_str(&mut self, v: &str) -> Result<usize, WalkError> {
+    fn serialize_str(&mut self, v: &str) -> Result<usize, SizeError> {
         self.note(v);
         self.inner.serialize_str(v)
     }
 
-    fn serialize_bytes(&mut self, v: &[u8]) -> Result<usize, WalkError> {
+    fn serialize_bytes(&mut self, v: &[u8]) -> Result<usize, SizeError> {
         self.note("binary");
         self.inner.serialize_bytes(v)
     }
 
-    fn mark(&mut self, mark: Mark) {
-        self.note(match mark {
-            Mark::Symbol => "symbol ",
-            Mark::Timestamp => "timestamp ",
-            Mark::Decimal32 => "decimal32 ",
-            Mark::Decimal64 => "decimal64 ",
-            Mark::Decimal128 => "decimal128 ",
-            Mark::Uuid => "uuid ",
-            Mark::Array => "array ",
-            Mark::Transparent => "transparent ",
-            Mark::Lazy => "lazy ",
-            Mark::Other => "",
+    fn set_marker(&mut self, marker: Marker) {
+        self.note(match marker {
+            Marker::Symbol => "symbol ",
+            Marker::Timestamp => "timestamp ",
+            Marker::Decimal32 => "decimal32 ",
+            Marker::Decimal64 => "decimal64 ",
+            Marker::Decimal128 => "decimal128 ",
+            Marker::Uuid => "uuid ",
+            Marker::Array => "array ",
+            Marker::Transparent => "transparent ",
+            Marker::Lazy => "lazy ",
+            Marker::Other => "",
         });
-        self.inner.mark(mark);
+        self.inner.set_marker(marker);
     }
 
-    fn begin(&mut self, kind: Kind) -> OpenCompound {
+    fn begin_compound(&mut self, kind: CompoundKind) -> OpenCompound {
         self.note(match kind {
-            Kind::List => "[",
-            Kind::Map => "{",
-            Kind::Variant(_) => "fields [",
-            Kind::NewtypeVariant(_) => "only [",
-            Kind::Single => "bare [",
+            CompoundKind::List => "[",
+            CompoundKind::Map => "{",
+            CompoundKind::Variant(_) => "fields [",
+            CompoundKind::NewtypeVariant(_) => "only [",
+            CompoundKind::Single => "bare [",
         });
-        self.inner.begin(kind)
+        self.inner.begin_compound(kind)
     }
 
-    fn vacant(&self) -> OpenCompound {
-        self.inner.vacant()
+    fn placeholder(&self) -> OpenCompound {
+        self.inner.placeholder()
     }
 
-    fn begin_part(&mut self, held: &mut OpenCompound) {
+    fn begin_part(&mut self, compound: &mut OpenCompound) {
         self.note(" ");
-        self.inner.begin_part(held);
+        self.inner.begin_part(compound);
     }
 
     fn end_part(
         &mut self,
-        held: &mut OpenCompound,
-        part: Result<usize, WalkError>,
-    ) -> Result<(), WalkError>
-        ensures step { (start : Calls) (kind : Kind) (before : Calls) (ps : List (Option Tree))
+        compound: &mut OpenCompound,
+        part: Result<usize, SizeError>,
+    ) -> Result<(), SizeError>
+        ensures step { (start : Calls) (kind : CompoundKind) (before : Calls) (ps : List (Option Tree))
             (p : Option Tree) →
-            size_awaits start.inner kind before.inner held.old ps →
-            size_permits before.inner p part self.old.inner →
+            SizeAwaits start.inner kind before.inner compound.old ps →
+            SizePermits before.inner p part self.old.inner →
             MatchResult result
-            (λ _. size_has start.inner kind self.new.inner held.new (ps ++ (p ∷ [])))
-            (λ e. size_has start.inner kind self.new.inner held.new ps
+            (λ _. SizeHas start.inner kind self.new.inner compound.new (ps ++ (p ∷ [])))
+            (λ e. SizeHas start.inner kind self.new.inner compound.new ps
             × ((rest : List (Option Tree)) →
-            size_permits start.inner (whole kind (ps ++ (p ∷ rest))) (Err e) self.new.inner)) }
+            SizePermits start.inner (tree_of_parts kind (ps ++ (p ∷ rest))) (Err e) self.new.inner)) }
         ensures refused { IfErr part (λ _. IsErr result) }
     {
         self.note(if part.is_ok() { "," } else { "refused," });
-        self.inner.end_part(held, part)
+        self.inner.end_part(compound, part)
     }
 
-    fn begin_descriptor(&mut self, held: &mut OpenCompound) {
+    fn begin_descriptor(&mut self, compound: &mut OpenCompound) {
         self.note(" by ");
-        self.inner.begin_descriptor(held);
+        self.inner.begin_descriptor(compound);
     }
 
     fn end_descriptor(
         &mut self,
-        held: &mut OpenCompound,
-        part: Result<usize, WalkError>,
-    ) -> Result<(), WalkError>
+        compound: &mut OpenCompound,
+        part: Result<usize, SizeError>,
+    ) -> Result<(), SizeError>
         ensures step { (start before : Calls) (d : Option Tree) →
-            size_awaits_descriptor start.inner before.inner held.old →
-            size_permits before.inner d part self.old.inner →
+            SizeAwaitsDescriptor start.inner before.inner compound.old →
+            SizePermits before.inner d part self.old.inner →
             MatchResult result
             (λ _. (mid : Calls)
-            × (size_has mid.inner Kind.Single self.new.inner held.new []
-            × ((t : Option Tree) (r : Result ℕ WalkError) (after : Calls) →
-            size_permits mid.inner t r after.inner →
-            size_permits start.inner (as_described (descriptor_of d) t) r after.inner)))
-            (λ e. size_has start.inner Kind.Single self.new.inner held.new [] × ((t : Option Tree) →
-            size_permits start.inner (as_described (descriptor_of d) t) (Err e) self.new.inner)) }
+            × (SizeHas mid.inner CompoundKind.Single self.new.inner compound.new []
+            × ((t : Option Tree) (r : Result ℕ SizeError) (after : Calls) →
+            SizePermits mid.inner t r after.inner →
+            SizePermits start.inner (as_described (descriptor_of d) t) r after.inner)))
+            (λ e. SizeHas start.inner CompoundKind.Single self.new.inner compound.new [] × ((t : Option Tree) →
+            SizePermits start.inner (as_described (descriptor_of d) t) (Err e) self.new.inner)) }
         ensures refused { IfErr part (λ _. IsErr result) }
         ensures other_kinds { (start before : Calls) (d : Option Tree) →
-            size_awaits_descriptor start.inner before.inner held.old →
-            size_permits before.inner d part self.old.inner → descriptor_of d ≡ None →
+            SizeAwaitsDescriptor start.inner before.inner compound.old →
+            SizePermits before.inner d part self.old.inner → descriptor_of d ≡ None →
             IsErr result }
     {
-        self.inner.end_descriptor(held, part)
+        self.inner.end_descriptor(compound, part)
     }
 
-    fn undo_part(&mut self, held: &mut OpenCompound) {
+    fn undo_part(&mut self, compound: &mut OpenCompound) {
         self.note(" undone,");
-        self.inner.undo_part(held);
+        self.inner.undo_part(compound);
     }
 
-    fn misuse(&mut self, held: &mut OpenCompound) -> WalkError {
+    fn misuse_error(&mut self, compound: &mut OpenCompound) -> SizeError {
         self.note(" misuse,");
-        self.inner.misuse(held)
+        self.inner.misuse_error(compound)
     }
 
-    fn end(&mut self, held: OpenCompound) -> Result<usize, WalkError> {
-        self.note(match held.shape() {
-            Shape::Map => " }",
+    fn end(&mut self, compound: OpenCompound) -> Result<usize, SizeError> {
+        self.note(match compound.resolved_kind() {
+            ResolvedKind::Map => " }",
             _ => " ]",
         });
-        self.inner.end(held)
+        self.inner.end(compound)
     }
 }
 

@@ -2,9 +2,9 @@
 
 ghost use Rattle.std.specs.Prelude.{◌∷◌, [], Some, None};
 ghost use Rattle.amqp_ser.specs.Carried.{optional};
-ghost use Rattle.amqp_ser.specs.Compounds.{whole};
+ghost use Rattle.amqp_ser.specs.Compounds.{tree_of_parts};
 ghost use Rattle.amqp_ser.specs.Tree.{scalar, symbol, timestamp, ubyte, bool, int};
-ghost use Rattle.amqp_ser.specs.declared.kind.Kind.TheVariants as kind;
+ghost use Rattle.amqp_ser.specs.declared.kind.CompoundKind.TheVariants as kind;
 ghost use Rattle.amqp_data.specs.Text.{symbol_text};
 ghost use Rattle.amqp_data.specs.Fixed.{milliseconds_of};
 
@@ -20,7 +20,7 @@ pub struct Reading {
 }
 
 impl Serialize for Reading {
-    ghost tree = { λ r. whole kind.List
+    ghost tree = { λ r. tree_of_parts kind.List
         (Some (scalar (symbol (symbol_text r.position)))
         ∷ Some (scalar (timestamp (milliseconds_of r.at))) ∷ optional (λ n. Some (scalar (ubyte n)))
         r.value ∷ []) };
@@ -38,7 +38,7 @@ impl Serialize for Reading {
 pub struct Pair(pub u8, pub bool);
 
 impl Serialize for Pair {
-    ghost tree = { λ p. whole kind.List
+    ghost tree = { λ p. tree_of_parts kind.List
         (Some (scalar (ubyte p.0)) ∷ Some (scalar (bool p.1)) ∷ []) };
 
     fn serialize<S: Serializer>(&self, serializer: &mut S) -> Result<S::Ok, S::Error> {

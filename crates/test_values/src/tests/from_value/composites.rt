@@ -2,14 +2,14 @@
 
 ghost use Rattle.std.specs.Prelude.{◌≡◌, codes, [], ◌∷◌};
 ghost use Rattle.amqp_ser.specs.Tree.{code, described, list, trees_of};
-ghost use Rattle.amqp_de.specs.Fields.{OnDescribed, OnFields, OnNamed, must, may, end};
+ghost use Rattle.amqp_de.specs.Fields.{OnDescribed, OnFields, OnNamed, ReadsRequired, ReadsOptional, NoMoreFields};
 ghost use Rattle.amqp_de.specs.Reads.{image_option, RestorableOption, SameOption};
 
 use super::super::values::{described, list, map, string};
 use super::{reads, refuses};
 use amqp_data::Descriptor;
 use amqp_de::de::{Deserialize, Deserializer};
-use amqp_de::{ListOf, NamedOf, Record, fields, named, read_described};
+use amqp_de::{ListSeed, NamedSeed, Record, values, named, read_described};
 use amqp_value::Value;
 use std::alloc::Global;
 
@@ -21,15 +21,15 @@ struct Flow {
 }
 
 impl Record for Flow {
-    type Parts = (u32, (Option<u32>, ()));
+    type Values = (u32, (Option<u32>, ()));
 
     ghost parts = { λ x. (x.handle, (x.credit, tt)) };
 }
 
 impl Deserialize for Flow {
     ghost reads = { λ t x. OnDescribed (code 0x13) (OnFields (
-        must (codes "handle") ⟦<u32 as Deserialize>⟧.reads x.handle (
-        may (codes "credit") ⟦<u32 as Deserialize>⟧.reads x.credit end))) t };
+        ReadsRequired (codes "handle") ⟦<u32 as Deserialize>⟧.reads x.handle (
+        ReadsOptional (codes "credit") ⟦<u32 as Deserialize>⟧.reads x.credit NoMoreFields))) t };
 
     ghost image = { λ x. described (code 0x13) (list (trees_of (
         ⟦<u32 as Deserialize>⟧.image x.handle
@@ -42,11 +42,11 @@ impl Deserialize for Flow {
         × SameOption ⟦<u32 as Deserialize>⟧.same x.credit y.credit };
 
     fn deserialize<D: Deserializer>(alloc: Global, deserializer: D) -> Result<Flow, D::Error> {
-        let fields! { handle, credit } = read_described::<Flow, D, _, _>(
+        let values! { handle, credit } = read_described::<Flow, D, _, _>(
             alloc,
             deserializer,
             &0x13u64,
-            ListOf(named! { "handle", "credit"? }),
+            ListSeed(named! { "handle", "credit"? }),
         )?;
         Ok(Flow { handle, credit })
     }
@@ -60,15 +60,15 @@ struct Limits {
 }
 
 impl Record for Limits {
-    type Parts = (i32, (Option<u32>, ()));
+    type Values = (i32, (Option<u32>, ()));
 
     ghost parts = { λ x. (x.low, (x.high, tt)) };
 }
 
 impl Deserialize for Limits {
     ghost reads = { λ t x. OnDescribed (code 0x15) (OnNamed (
-        must (codes "low") ⟦<i32 as Deserialize>⟧.reads x.low (
-        may (codes "high") ⟦<u32 as Deserialize>⟧.reads x.high end))) t };
+        ReadsRequired (codes "low") ⟦<i32 as Deserialize>⟧.reads x.low (
+        ReadsOptional (codes "high") ⟦<u32 as Deserialize>⟧.reads x.high NoMoreFields))) t };
 
     ghost image = { λ x. described (code 0x15) (list (trees_of (
         ⟦<i32 as Deserialize>⟧.image x.low
@@ -80,11 +80,11 @@ impl Deserialize for Limits {
     ghost same = { λ x y. (x.low ≡ y.low) × SameOption ⟦<u32 as Deserialize>⟧.same x.high y.high };
 
     fn deserialize<D: Deserializer>(alloc: Global, deserializer: D) -> Result<Limits, D::Error> {
-        let fields! { low, high } = read_described::<Limits, D, _, _>(
+        let values! { low, high } = read_described::<Limits, D, _, _>(
             alloc,
             deserializer,
             &0x15u64,
-            NamedOf(named! { "low", "high"? }),
+            NamedSeed(named! { "low", "high"? }),
         )?;
         Ok(Limits { low, high })
     }

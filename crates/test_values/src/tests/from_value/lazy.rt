@@ -4,7 +4,7 @@ use super::super::rows::{is, wrong};
 use super::super::values::{array, list, string};
 use super::refuses;
 use amqp_data::Error;
-use amqp_de::de::Refusal;
+use amqp_de::de::DeserializeError;
 use amqp_frame::LazyValue;
 use amqp_from_value::from_value;
 use amqp_value::Value;
@@ -56,10 +56,10 @@ fn what_cannot_be_written_is_no_lazy_value(rt: &HostRuntime) -> bool {
 
 // The contracts state which error is out of memory; these rows state the error of each other cause.
 fn each_cause_has_its_error(rt: &HostRuntime) -> bool {
-    let memory: Error = Refusal::memory();
-    let invalid: Error = Refusal::invalid();
-    let too_long: Error = Refusal::too_long();
-    let message: Error = Refusal::message("not a direction");
+    let memory: Error = DeserializeError::memory();
+    let invalid: Error = DeserializeError::invalid();
+    let too_long: Error = DeserializeError::too_long();
+    let message: Error = DeserializeError::custom("not a direction");
     is(rt, "memory", &memory, &Error::OutOfMemory)
         && is(rt, "invalid", &invalid, &Error::InvalidValue)
         && is(rt, "too long", &too_long, &Error::TooLong)

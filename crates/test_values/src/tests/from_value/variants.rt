@@ -3,7 +3,7 @@
 use super::super::rows::{fails, gives, invalid};
 use super::super::values::{list, map, string, text};
 use amqp_data::Error;
-use amqp_de::{EnumOf, Seed, named, variant, variants};
+use amqp_de::{EnumSeed, DeserializeSeed, named, variant, variants};
 use amqp_from_value::Deserializer;
 use amqp_value::Value;
 
@@ -18,8 +18,8 @@ enum Variant {
 
 // Reads a struct variant, a newtype variant, a unit variant or a tuple variant.
 fn four(rt: &HostRuntime, value: Value) -> Result<Variant, Error> {
-    let variants = EnumOf(variants! { named! { "a", "b" }, newtype, unit, named! { "0", "1" } });
-    match variants.read(rt.alloc(), Deserializer::new(rt.alloc(), value))? {
+    let variants = EnumSeed(variants! { named! { "a", "b" }, newtype, unit, named! { "0", "1" } });
+    match variants.deserialize(rt.alloc(), Deserializer::new(rt.alloc(), value))? {
         variant!(0, (a, (b, ()))) => Ok(Variant::Struct(a, b)),
         variant!(1, number) => Ok(Variant::Newtype(number)),
         variant!(2, ()) => Ok(Variant::Unit(2)),
@@ -30,8 +30,8 @@ fn four(rt: &HostRuntime, value: Value) -> Result<Variant, Error> {
 
 // Reads one of two unit variants.
 fn units(rt: &HostRuntime, value: Value) -> Result<Variant, Error> {
-    let variants = EnumOf(variants! { unit, unit });
-    match variants.read(rt.alloc(), Deserializer::new(rt.alloc(), value))? {
+    let variants = EnumSeed(variants! { unit, unit });
+    match variants.deserialize(rt.alloc(), Deserializer::new(rt.alloc(), value))? {
         variant!(0, ()) => Ok(Variant::Unit(0)),
         variant!(1, ()) => Ok(Variant::Unit(1)),
         variant!(none 2, never) => match never {},
@@ -40,8 +40,8 @@ fn units(rt: &HostRuntime, value: Value) -> Result<Variant, Error> {
 
 // Reads a unit variant or a tuple variant.
 fn two(rt: &HostRuntime, value: Value) -> Result<Variant, Error> {
-    let variants = EnumOf(variants! { unit, named! { "0", "1" } });
-    match variants.read(rt.alloc(), Deserializer::new(rt.alloc(), value))? {
+    let variants = EnumSeed(variants! { unit, named! { "0", "1" } });
+    match variants.deserialize(rt.alloc(), Deserializer::new(rt.alloc(), value))? {
         variant!(0, ()) => Ok(Variant::Unit(0)),
         variant!(1, (number, (text, ()))) => Ok(Variant::Tuple(number, text)),
         variant!(none 2, never) => match never {},

@@ -12,7 +12,7 @@ use super::super::values::{array, described, list, map, name, string, symbol};
 use super::{reads, refuses, variant_1};
 use amqp_data::{Descriptor, Error, Symbol};
 use amqp_de::de::{
-    self, Deserialize, Deserializer as _, EnumAccess, MapAccess, Plain, Refusal, SeqAccess,
+    self, Deserialize, Deserializer as _, EnumAccess, MapAccess, Plain, DeserializeError, SeqAccess,
     VariantAccess, Visit, Visitor,
 };
 use amqp_from_value::Deserializer;
@@ -37,7 +37,7 @@ impl Visitor for PointVisitor {
     ghost gives = { λ _ e p. (ts : List Tree)
         × (e ≡ seq_event (scalar (uint p.x) ∷ scalar (uint p.y) ∷ ts)) };
 
-    ghost stands = { λ _ e p. e ≡ seq_event (scalar (uint p.x) ∷ scalar (uint p.y) ∷ []) };
+    ghost represents = { λ _ e p. e ≡ seq_event (scalar (uint p.x) ∷ scalar (uint p.y) ∷ []) };
 
     ghost same = { λ p q. p ≡ q };
 
@@ -47,10 +47,10 @@ impl Visitor for PointVisitor {
 
     fn visit_seq<A: SeqAccess>(self, mut elements: A) -> Result<Point, A::Error> {
         let Some(x) = elements.next_element(self.alloc)? else {
-            return Err(A::Error::invalid());
+            return Err(A::Error::invalid_value());
         };
         let Some(y) = elements.next_element(self.alloc)? else {
-            return Err(A::Error::invalid());
+            return Err(A::Error::invalid_value());
         };
         Ok(Point { x, y })
     }
@@ -93,7 +93,7 @@ impl Visitor for LightVisitor {
         ⊎ ((n : ℕ) × (d : Option Tree) × (e ≡ enum_event (scalar (uint 1)) d)
         × There ⟦<u32 as Deserialize>⟧.reads d n × (x ≡ light.On n)) };
 
-    ghost stands = { λ _ _ _. ⊥ };
+    ghost represents = { λ _ _ _. ⊥ };
 
     ghost same = { λ x y. x ≡ y };
 
@@ -109,7 +109,7 @@ impl Visitor for LightVisitor {
                 Ok(Light::Off)
             }
             1 => Ok(Light::On(content.newtype_variant(self.alloc)?)),
-            _ => Err(A::Error::invalid()),
+            _ => Err(A::Error::invalid_value()),
         }
     }
 }
@@ -130,7 +130,7 @@ impl Visitor for NameVisitor {
     ghost gives = { λ _ e name. (d : Option Tree)
         × (e ≡ enum_event (scalar (symbol (symbol_text name))) d) };
 
-    ghost stands = { λ _ _ _. ⊥ };
+    ghost represents = { λ _ _ _. ⊥ };
 
     ghost same = { λ x y. x ≡ y };
 
@@ -157,7 +157,7 @@ impl Visitor for Which {
 
     ghost gives = { λ _ e visit. visit ≡ visit_of e };
 
-    ghost stands = { λ _ e visit. visit ≡ visit_of e };
+    ghost represents = { λ _ e visit. visit ≡ visit_of e };
 
     ghost same = { λ x y. x ≡ y };
 
@@ -165,7 +165,7 @@ impl Visitor for Which {
         false
     }
 
-    fn visit_plain<E: Refusal>(self, _plain: Plain) -> Result<Visit, E> {
+    fn visit_plain<E: DeserializeError>(self, _plain: Plain) -> Result<Visit, E> {
         Ok(Visit::Plain)
     }
 
@@ -200,7 +200,7 @@ impl Visitor for Which {
         Ok(Visit::Described)
     }
 
-    fn visit_value<E: Refusal>(self, _value: Value) -> Result<Visit, E> {
+    fn visit_value<E: DeserializeError>(self, _value: Value) -> Result<Visit, E> {
         Ok(Visit::Value)
     }
 }

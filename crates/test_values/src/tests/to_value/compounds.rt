@@ -4,7 +4,7 @@ use super::super::rows::{gives, invalid, is};
 use super::super::values::{array, described, list, map, string, vec_of};
 use super::{newtype_variant, unit};
 use amqp_data::{Descriptor, Error, OrderedMap, TransparentVec, markers};
-use amqp_ser::Kind;
+use amqp_ser::CompoundKind;
 use amqp_to_value::{Serializer, to_value};
 use amqp_value::Value;
 
@@ -82,12 +82,12 @@ fn described_with_refusals<S: amqp_ser::Serializer>(
 // Serializes a described value whose first value, a compound of kind `Single`, fails at its second
 // element. Then another value is serialized.
 fn refuse_late<S: amqp_ser::Serializer>(serializer: &mut S) -> Result<S::Ok, S::Error> {
-    let mut outer = serializer.begin(Kind::Single);
+    let mut outer = serializer.begin_compound(CompoundKind::Single);
     serializer.begin_descriptor(&mut outer);
     let code = serializer.serialize_u64(1);
     serializer.end_descriptor(&mut outer, code)?;
     serializer.begin_part(&mut outer);
-    let mut inner = serializer.begin(Kind::Single);
+    let mut inner = serializer.begin_compound(CompoundKind::Single);
     for n in [2u8, 3] {
         serializer.begin_part(&mut inner);
         let part = serializer.serialize_u8(n);

@@ -1,6 +1,6 @@
 //! Examples of images.
 
-ghost use Rattle.amqp_ser.specs.Marked.{marked, mark_of};
+ghost use Rattle.amqp_ser.specs.Marked.{with_marker, marker_of};
 
 use super::super::rows::{gives, invalid};
 use super::super::values::{array, bytes, described, list, map, name, string, symbol, vec_of};
@@ -22,7 +22,7 @@ struct Named<T> {
 }
 
 impl<T: Serialize> Serialize for Named<T> {
-    ghost tree = { λ v. marked (mark_of v.name.now) (T.tree v.inner) };
+    ghost tree = { λ v. with_marker (marker_of v.name.now) (T.tree v.inner) };
 
     fn serialize<S: Serializer>(&self, serializer: &mut S) -> Result<S::Ok, S::Error> {
         serializer.serialize_newtype_struct(self.name, &self.inner)
@@ -211,7 +211,7 @@ fn described_values_keep_their_descriptors(rt: &HostRuntime) -> bool {
         descriptor: Descriptor::Code(1),
         value: ("a", 2u8),
     };
-    let marked = Named {
+    let with_marker = Named {
         name: markers::SYMBOL,
         inner: described_by_name(rt),
     };
@@ -222,7 +222,7 @@ fn described_values_keep_their_descriptors(rt: &HostRuntime) -> bool {
             &described_by_name(rt),
             described_by_name(rt),
         )
-        && refuses(rt, "a described value under a marker", &marked)
+        && refuses(rt, "a described value under a marker", &with_marker)
 }
 
 fn transparent_vectors_are_lists(rt: &HostRuntime) -> bool {

@@ -22,7 +22,7 @@ pub returns-in-Err-clause-read : goal.returns-in-Err-clause-read
 returns-in-Err-clause-read g c =
     let (most, so, same) = c.elements.invariant in
     let more : length c.elements.values.items < c.args.count = search (arith, rules) in
-    firsts_refused g.T.Deserialize.reads g.D.Error.Refusal.is_memory c.in-Err.error c.args.count _ _ _ c.elements.values.items _ so more c.in-Some.ensures c.in-Err.ensures.read
+    firsts_refused g.T.Deserialize.reads g.D.Error.DeserializeError.is_out_of_memory c.in-Err.error c.args.count _ _ _ c.elements.values.items _ so more c.in-Some.ensures c.in-Err.ensures.read
 
 pub returns-in-Err-clause-law : goal.returns-in-Err-clause-law
 returns-in-Err-clause-law g c xs all long is =

@@ -13,7 +13,7 @@ elements-preserved g c =
 
 pub returns-in-Err-clause-read : goal.returns-in-Err-clause-read
 returns-in-Err-clause-read g c =
-    read_refused g.T.Deserialize.reads g.D.Error.Refusal.is_memory _ _ _ _ c.elements.values.items _ c.elements.invariant.0 c.in-Some.ensures c.in-Err.ensures.read
+    read_refused g.T.Deserialize.reads g.D.Error.DeserializeError.is_out_of_memory _ _ _ _ c.elements.values.items _ c.elements.invariant.0 c.in-Some.ensures c.in-Err.ensures.read
 
 pub returns-in-Err-clause-law : goal.returns-in-Err-clause-law
 returns-in-Err-clause-law g c =

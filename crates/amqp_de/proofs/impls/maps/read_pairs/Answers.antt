@@ -22,7 +22,7 @@ returns-in-Err-clause-read g c =
     let key = g.K.Deserialize in
     let value = g.V.Deserialize in
     let (done, holds, so, same) = c.entries.invariant in
-    read_refused (ReadsPair key.reads value.reads) g.D.Error.Refusal.is_memory c.in-Err.error _ _ _ done _ so c.in-Some.ensures c.in-Err.ensures.read
+    read_refused (ReadsPair key.reads value.reads) g.D.Error.DeserializeError.is_out_of_memory c.in-Err.error _ _ _ done _ so c.in-Some.ensures c.in-Err.ensures.read
 
 pub returns-in-Err-clause-law : goal.returns-in-Err-clause-law
 returns-in-Err-clause-law g c =

@@ -1,5 +1,5 @@
 use Rattle.std.proofs.Common.{[], ◌∷◌, refl, subst}
-use Rattle.amqp_ser.specs.declared.kind.Kind.TheVariants.{Single}
+use Rattle.amqp_ser.specs.declared.kind.CompoundKind.TheVariants.{Single}
 use Rattle.amqp_ser.proofs.Single.{whole_single}
 use Rattle.amqp_ser.proofs.compound.described.end_single.Goals as goal
 

@@ -1,6 +1,6 @@
 use Rattle.std.proofs.Common.{[], ◌∷◌, ◌++◌, Err, subst, append_assoc}
-use Rattle.amqp_ser.specs.Compounds.{whole}
-use Rattle.amqp_ser.specs.declared.kind.Kind.TheVariants.{Map}
+use Rattle.amqp_ser.specs.Compounds.{tree_of_parts}
+use Rattle.amqp_ser.specs.declared.kind.CompoundKind.TheVariants.{Map}
 use Rattle.amqp_ser.proofs.compound.feed.feed_entry.Goals as goal
 
 -- If the value fails, its key is removed.
@@ -12,5 +12,5 @@ returns-in-Err g c = λ start ps h e.
     let refused = c.in-Err.ensures Map start (ps ++ (k ∷ [])) fed in (
       c.undo_part.ensures.back start ps k refused.0 e,
       λ rest. c.undo_part.ensures.refusals start ps k _ _ refused.0 e
-          (subst (λ qs. g.S.Serializer.permits start (whole Map qs) (Err c.in-Err.e) c.feed_part-2.new.serializer) (append_assoc ps (k ∷ []) (v ∷ rest)) (refused.1 rest)),
+          (subst (λ qs. g.S.Serializer.permits start (tree_of_parts Map qs) (Err c.in-Err.e) c.feed_part-2.new.serializer) (append_assoc ps (k ∷ []) (v ∷ rest)) (refused.1 rest)),
     )

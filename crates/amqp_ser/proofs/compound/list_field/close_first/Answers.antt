@@ -1,5 +1,5 @@
 use Rattle.std.proofs.Common.{[], Err, subst}
-use Rattle.amqp_ser.specs.declared.kind.Kind.TheVariants.{Single}
+use Rattle.amqp_ser.specs.declared.kind.CompoundKind.TheVariants.{Single}
 use Rattle.amqp_ser.proofs.Single.{whole_single}
 use Rattle.amqp_ser.proofs.compound.list_field.close_first.Goals as goal
 

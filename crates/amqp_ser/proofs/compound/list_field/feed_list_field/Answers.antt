@@ -1,6 +1,6 @@
 use Rattle.std.proofs.Common.{◌≡◌, [], ◌∷◌, Some, sym, subst}
-use Rattle.amqp_ser.specs.Compounds.{whole}
-use Rattle.amqp_ser.specs.declared.kind.Kind.TheVariants as kinds
+use Rattle.amqp_ser.specs.Compounds.{tree_of_parts}
+use Rattle.amqp_ser.specs.declared.kind.CompoundKind.TheVariants as kinds
 use Rattle.amqp_ser.proofs.compound.list_field.feed_list_field.Goals as goal
 
 some_is : {X : Type 0} (a b : X) → Some a ≡ Some b → a ≡ b
@@ -15,4 +15,4 @@ returns-in-Some-clause-first g c = λ o start h.
     let refused = c.in-Err.ensures kinds.List mid [] f.1.1.1.1.0 in
     let close = c.close_first-single.ensures start mid waits in
     let tree = g.T.Serialize.tree c.args.value.now in
-    ((close (whole kinds.List (tree ∷ [])) (refused.1 [])).0, λ rest. (close (whole kinds.List (tree ∷ rest)) (refused.1 rest)).1)
+    ((close (tree_of_parts kinds.List (tree ∷ [])) (refused.1 [])).0, λ rest. (close (tree_of_parts kinds.List (tree ∷ rest)) (refused.1 rest)).1)

@@ -7,8 +7,8 @@ use Rattle.amqp_wire.proofs.DescribedBytes.{ready}
 use Rattle.amqp_wire.proofs.writer.WriterSerializer.begin_descriptor.Goals as goal
 
 pub returns : goal.returns
-returns c = rw (← c.self.view_is, ← c.held.view_is) (λ start h.
+returns c = rw (← c.self.view_is, ← c.compound.view_is) (λ start h.
     let s : Writer = (stance c.self.inside) in
-    let old : WriterCompound = (part_of c.held.inside) in
-    let new : WriterCompound = record { position = old.position; shape = old.shape; inner = old.inner; before_current = c.checkpoint-held-inside.result; before_last = old.before_last } in
-    ready start s old new h.0 refl refl refl (c.checkpoint-held-inside.ensures.taken, c.checkpoint-held-inside.ensures.len) c.put_described.new.self c.put_described.ensures.kept c.put_described.ensures.pending c.put_described.ensures.written)
+    let old : WriterCompound = (part_of c.compound.inside) in
+    let new : WriterCompound = record { position = old.position; resolved_kind = old.resolved_kind; inner_context = old.inner_context; before_current = c.checkpoint-compound-inside.result; before_last = old.before_last } in
+    ready start s old new h.0 refl refl refl (c.checkpoint-compound-inside.ensures.taken, c.checkpoint-compound-inside.ensures.len) c.put_described.new.self c.put_described.ensures.kept c.put_described.ensures.context c.put_described.ensures.written)

@@ -3,9 +3,9 @@ use Rattle.amqp_data.specs.declared.error.Error.{Error}
 use Rattle.amqp_ser.specs.Tree.{Tree, Descriptor}
 use Rattle.amqp_ser.specs.Composites.{as_described, descriptor_of}
 use Rattle.example_nodes.specs.Nodes.{CountsFrom}
-use Rattle.example_nodes.specs.PendingMark.{meant, only_as}
+use Rattle.example_nodes.specs.PendingMarker.{meant, only_as}
 use Rattle.example_nodes.specs.declared.counter.NodeCounter.{NodeCounter}
-use Rattle.example_nodes.specs.declared.pending_mark.PendingMark.TheVariants as pending
+use Rattle.example_nodes.specs.declared.pending_marker.PendingMarker.TheVariants as pending
 use Rattle.example_nodes.proofs.counter.NodeCounterSerializer.end_descriptor.Goals as goal
 
 -- a described value has one node more than its value
@@ -28,15 +28,15 @@ pub returns-clause-step : goal.returns-clause-step
 returns-clause-step c = λ start before p h given.
     let counts = subst (λ (a : NodeCounter). CountsFrom a.descriptors (meant a.pending p) c.args.part) h.1 given.0 in
     let there = descriptor_there p c.in_ok-part.field-0 (subst (CountsFrom 0 (meant pending.Descriptor p)) c.in_ok-part.was counts) in
-    let inner = c.with_descriptor-held.result in (
+    let inner = c.with_descriptor-compound.result in (
       record { descriptors = start.descriptors + 1; pending = inner },
       (
         (
           record {
             own = h.0.own;
             fits = h.0.fits;
-            next = ap (λ n. record { descriptors = n; pending = inner }) (c.in_ok-held.ensures ∙ ap (λ (a : NodeCounter). a.descriptors + 1) h.0.next);
-            count = let k = h.0.count in let j = c.in_ok-held.ensures in omega arith;
+            next = ap (λ n. record { descriptors = n; pending = inner }) (c.in_ok-compound.ensures ∙ ap (λ (a : NodeCounter). a.descriptors + 1) h.0.next);
+            count = let k = h.0.count in let j = c.in_ok-compound.ensures in omega arith;
             before_last = λ is. cc;
           },
           given.1,
@@ -44,7 +44,7 @@ returns-clause-step c = λ start before p h given.
         λ t r after k. (
           subst (λ d. CountsFrom start.descriptors (meant start.pending (as_described d t)) r) (sym there.1)
               (subst (λ (a : NodeCounter). CountsFrom start.descriptors (meant a.pending (as_described (Some there.0) t)) r) h.0.next
-              (subst (λ o. CountsFrom start.descriptors o r) (c.with_descriptor-held.ensures there.0 t) (described_from start.descriptors there.0 (meant inner t) r k.0))),
+              (subst (λ o. CountsFrom start.descriptors o r) (c.with_descriptor-compound.ensures there.0 t) (described_from start.descriptors there.0 (meant inner t) r k.0))),
           k.1,
         ),
       ),

@@ -16,4 +16,4 @@ returns-in-Ok-clause-law g c x restorable is =
 
 pub returns-in-Map-clause-read : goal.returns-in-Map-clause-read
 returns-in-Map-clause-read g c =
-    map_refused g.K.Deserialize.reads g.V.Deserialize.reads (HoldsInOrder g.K.PartialEq.eq) g.D.Error.Refusal.is_memory c.in-Err.error (g.D.Deserializer.pairs c.in-Map.entries) _ c.in-Map.ensures c.in-Err.ensures.read
+    map_refused g.K.Deserialize.reads g.V.Deserialize.reads (HoldsInOrder g.K.PartialEq.eq) g.D.Error.DeserializeError.is_out_of_memory c.in-Err.error (g.D.Deserializer.pairs c.in-Map.entries) _ c.in-Map.ensures c.in-Err.ensures.read

@@ -1,7 +1,7 @@
 use Rattle.std.proofs.lemmas.Map.Iter.{rest_more}
 use Rattle.std.specs.Map.Iter.{deref_pair}
 use Rattle.amqp_ser.proofs.Entries.{fed_entry}
-use Rattle.amqp_ser.specs.declared.kind.Kind.TheVariants.{Map}
+use Rattle.amqp_ser.specs.declared.kind.CompoundKind.TheVariants.{Map}
 use Rattle.amqp_ser.proofs.impls.maps.BTreeMapSerialize.serialize.Goals as goal
 
 pub loop-key-preserved : goal.loop-key-preserved
@@ -10,4 +10,4 @@ loop-key-preserved g c =
     let more = rest_more deref_pair _ _ _ (c.in-Some.key, c.in-Some.value) c.in-Some.is c.next.ensures.steps in
     let fed = c.in_ok-serialize_entry.ensures.step inv.no_key _ inv.fed.0 inv.fed.1 inv.fed.2 in
     let has = g.S.Serializer.has c.args.serializer.now Map in
-    record { same = cc; no_key = cc; fed = fed_entry g.K.Serialize.tree g.V.Serialize.tree (has c.loop-key.map.serializer.now c.loop-key.map.held) _ _ _ _ _ more inv.fed fed }
+    record { same = cc; no_key = cc; fed = fed_entry g.K.Serialize.tree g.V.Serialize.tree (has c.loop-key.map.serializer.now c.loop-key.map.compound) _ _ _ _ _ more inv.fed fed }

@@ -1,0 +1,62 @@
+//! Errors that a deserializer returns.
+
+ghost use Rattle.std.specs.Prelude.{◌≡◌};
+ghost use Rattle.amqp_data.specs.declared.error.Error.TheVariants as error;
+
+use amqp_data::Error;
+
+/// An error that a deserializer returns.
+///
+/// # Implementer notes
+/// Required functions: `memory`, `invalid`, `too_long` and `message`. `is_out_of_memory` must hold for the
+/// result of `memory` and for none of the others.
+pub trait DeserializeError: Sized + Drop {
+    /// Whether the error is out of memory.
+    ghost is_out_of_memory: { Self → Type 0 };
+
+    /// Returns the error for a failed allocation.
+    ///
+    /// # Example
+    /// For `Error`, returns `OutOfMemory`.
+    fn out_of_memory() -> Self
+        ensures { is_out_of_memory result };
+
+    /// Returns the error for an invalid value, such as a value of another kind than the one that is
+    /// read.
+    ///
+    /// # Example
+    /// For `Error`, returns `InvalidValue`.
+    fn invalid_value() -> Self
+        ensures { ¬ (is_out_of_memory result) };
+
+    /// Returns the error for a value that is too long to be encoded.
+    fn too_long() -> Self
+        ensures { ¬ (is_out_of_memory result) };
+
+    /// Returns an error with a message.
+    ///
+    /// # Example
+    /// For `Error`, returns `Message(words)`.
+    fn custom(words: &'static str) -> Self
+        ensures { ¬ (is_out_of_memory result) };
+}
+
+impl DeserializeError for Error {
+    ghost is_out_of_memory = { λ e. e ≡ error.OutOfMemory };
+
+    fn out_of_memory() -> Error {
+        Error::OutOfMemory
+    }
+
+    fn invalid_value() -> Error {
+        Error::InvalidValue
+    }
+
+    fn too_long() -> Error {
+        Error::TooLong
+    }
+
+    fn custom(words: &'static str) -> Error {
+        Error::Message(words)
+    }
+}

@@ -1,5 +1,0 @@
-use Rattle.amqp_restore.proofs.FieldLemmas.{short_list_stands, kept_stands}
-use Rattle.amqp_restore.proofs.laws.short_lists_return.Goals as goal
-
-pub returns : goal.returns
-returns c = record { whole = short_list_stands; field = kept_stands }

@@ -1,0 +1,5 @@
+use Rattle.amqp_round_trip.proofs.StandLemmas.{array_stands}
+use Rattle.amqp_round_trip.proofs.laws.arrays_return.Goals as goal
+
+pub returns : goal.returns
+returns c = array_stands

@@ -1,0 +1,5 @@
+use Rattle.amqp_round_trip.proofs.StandLemmas.{list_stands}
+use Rattle.amqp_round_trip.proofs.laws.lists_return.Goals as goal
+
+pub returns : goal.returns
+returns c = list_stands

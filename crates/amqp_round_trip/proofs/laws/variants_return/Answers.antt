@@ -1,0 +1,5 @@
+use Rattle.amqp_round_trip.proofs.StandLemmas.{fields_stand, value_stands}
+use Rattle.amqp_round_trip.proofs.laws.variants_return.Goals as goal
+
+pub returns : goal.returns
+returns c = record { value = value_stands; fields = fields_stand }

@@ -1,0 +1,13 @@
+//! Proofs that values round-trip through their untyped values.
+#![tactic(auto)]
+
+mod holders;
+pub mod laws;
+mod map_key;
+mod maps;
+mod round_trips;
+mod scalars;
+mod tuples;
+
+pub use map_key::MapKey;
+pub use round_trips::{RoundTrip, round_trip};

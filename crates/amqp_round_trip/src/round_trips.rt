@@ -1,0 +1,51 @@
+//! Types whose values round-trip through their untyped values.
+
+ghost use Rattle.std.specs.Prelude.{◌≡◌, MatchResult};
+ghost use Rattle.amqp_data.specs.declared.error.Error.TheVariants.{OutOfMemory};
+ghost use Rattle.amqp_round_trip.specs.Stands.{StandsAs};
+
+use amqp_data::Error;
+use amqp_de::de::Deserialize;
+use amqp_from_value::from_value;
+use amqp_ser::Serialize;
+use amqp_to_value::to_value;
+use std::alloc::Global;
+
+/// A type that can be read from the untyped value that it is converted to.
+///
+/// # Implementer notes
+/// `returns` is required and does nothing. Its contract is the law: it relates what the type reads
+/// to what it writes. The body calls `returns` of the type of each field or element, and the
+/// functions of `laws` for lists and described values.
+pub trait RoundTrip: Serialize + Deserialize {
+    /// States that a restorable value has a tree, which contains nothing lazy, and that the tree's
+    /// image is the image declared for the value.
+    ///
+    /// # Memory
+    /// None.
+    fn law()
+        ensures { (x : Self) → Self.restorable x → StandsAs (Self.tree x) (Self.image x) };
+}
+
+/// Converts a value to its untyped value and reads it from that.
+///
+/// A restorable value round-trips: `T::same` is true of the result and the value.
+///
+/// # Errors
+/// For a restorable value, returns only `Error::OutOfMemory`, if an allocation fails.
+///
+/// # Memory
+/// Allocates from `alloc`.
+pub fn round_trip<T: RoundTrip>(alloc: Global, value: &T) -> Result<T, Error>
+    ensures { T.restorable value.now →
+        MatchResult result (λ y. T.same y value.now) (λ e. e ≡ OutOfMemory) }
+{
+    T::law();
+    match to_value(alloc, value) {
+        Ok(untyped) => match from_value::<T>(alloc, untyped) {
+            Ok(read) => Ok(read),
+            Err(error) => Err(error),
+        },
+        Err(error) => Err(error),
+    }
+}

@@ -1,0 +1,195 @@
+//! The sizes of trees at each position, and the trees that a position rejects.
+
+ghost use Rattle.std.specs.Prelude.{◌≡◌, ◌+◌, ◌&&◌, ℕ, List, Some, Err, true, length};
+ghost use Rattle.amqp_ser.specs.Tree.{Tree, Trees, lazy, transparent};
+ghost use Rattle.amqp_ser.specs.Limits.{fits};
+ghost use Rattle.amqp_ser.specs.Encoding.{encoding, encoding_each, payload, constructor};
+ghost use Rattle.amqp_ser.specs.Writable.{uniform_arrays, uniform_arrays_each, within_limits, within_limits_each, inside, placed, placed_each};
+ghost use Rattle.amqp_size.specs.Width.{uint_width, text_width, map_width};
+ghost use Rattle.amqp_size.specs.Position.{position_of, without_prefix};
+
+use crate::descriptor::{described_len, descriptor_len};
+use crate::limits::MAX_LEN;
+use crate::context::Context;
+use crate::position::Position;
+use crate::serializer::SizeSerializer;
+use crate::size_error::SizeError;
+use crate::width::{map_width, text_width, uint_width};
+use amqp_data::EncodingCodes;
+
+impl SizeSerializer {
+    ghost use Rattle.amqp_size.specs.WholeContext.{Plain};
+    ghost use Rattle.amqp_size.specs.State.{position_at};
+    ghost use Rattle.amqp_size.specs.SizeSerializer.{AtPosition};
+
+    /// Clears the pending marker and descriptor.
+    #[inline(always)]
+    pub(crate) fn clear_prefix(&mut self)
+        ensures { self.new.context ≡ Plain (without_prefix (position_of self.old.context)) }
+    {
+        match self.context {
+            Context::Plain(Position::Value(base)) => self.context = Context::Plain(base.position()),
+            Context::Plain(_) => {}
+            context => self.context = Context::Plain(context.without_prefix()),
+        }
+    }
+
+    /// Returns the size, at this position, of a writable tree with this constructor.
+    ///
+    /// `ordinary` is the length outside an array, and `wide` is the length of the payload in an
+    /// array. The serializer must have been reset.
+    ///
+    /// # Errors
+    /// Returns `InvalidValue` if the position does not accept the tree: as an array element with
+    /// another constructor, as a descriptor that is neither a ulong nor a symbol, or as an array
+    /// element after a descriptor. Returns `TooLong` if the length with the descriptors exceeds
+    /// `usize::MAX`.
+    #[inline(always)]
+    pub(crate) fn size_at(
+        &mut self,
+        position: Position,
+        prefix_len: usize,
+        code: u8,
+        ordinary: usize,
+        wide: usize,
+    ) -> Result<usize, SizeError>
+        ensures { self.old.context ≡ Plain (without_prefix (position_at position prefix_len)) →
+            (t : Tree) →
+            constructor t ≡ Some code → within_limits t ≡ true → uniform_arrays t ≡ true →
+            inside t ≡ true →
+            placed t ≡ true →
+            length (encoding t) ≡ ordinary → length (payload t) ≡ wide →
+            AtPosition (position_at position prefix_len) (Some t) result self.new.context }
+    {
+        match position {
+            Position::Root => Ok(ordinary),
+            Position::InCompound => Ok(ordinary),
+            Position::FirstElement => {
+                // `end_part` reads the constructor of an array's first element from here.
+                self.context = Context::Plain(Position::OtherElement(code));
+                Ok(wide)
+            }
+            Position::OtherElement(c) => {
+                if c == code {
+                    Ok(wide)
+                } else {
+                    Err(SizeError::InvalidValue)
+                }
+            }
+            Position::Descriptor => descriptor_len(code, ordinary),
+            Position::Value(base) => described_len(prefix_len, base, ordinary),
+        }
+    }
+
+    /// Like `size_at`, for a text or a binary of `n` bytes with this constructor.
+    ///
+    /// # Errors
+    /// Also returns `TooLong` if `n` exceeds `MAX_LEN`.
+    #[inline(always)]
+    pub(crate) fn text(
+        &mut self,
+        position: Position,
+        prefix_len: usize,
+        code: u8,
+        n: usize,
+    ) -> Result<usize, SizeError>
+        ensures { self.old.context ≡ Plain (without_prefix (position_at position prefix_len)) →
+            (t : Tree) →
+            constructor t ≡ Some code → uniform_arrays t ≡ true → inside t ≡ true →
+            placed t ≡ true →
+            within_limits t ≡ fits n →
+            length (encoding t) ≡ text_width n → length (payload t) ≡ n + 4 →
+            AtPosition (position_at position prefix_len) (Some t) result self.new.context }
+    {
+        // A short text is within the limit: one comparison is enough.
+        if n <= 254 {
+            return self.size_at(position, prefix_len, code, text_width(n), n + 4);
+        }
+        if n > MAX_LEN {
+            return Err(SizeError::TooLong);
+        }
+        self.size_at(position, prefix_len, code, text_width(n), n + 4)
+    }
+
+    /// Like `size_at`, for a lazy tree of `len` bytes.
+    ///
+    /// A lazy tree has no constructor, so it is neither an array element nor a descriptor.
+    #[inline(never)]
+    pub(crate) fn lazy(
+        &mut self,
+        position: Position,
+        prefix_len: usize,
+        len: usize,
+    ) -> Result<usize, SizeError>
+        ensures { self.old.context ≡ Plain (without_prefix (position_at position prefix_len)) →
+            (bytes : List ℕ) → length bytes ≡ len →
+            AtPosition (position_at position prefix_len) (Some (lazy bytes)) result
+            self.new.context }
+    {
+        match position {
+            Position::Root | Position::InCompound => Ok(len),
+            Position::Value(base) => described_len(prefix_len, base, len),
+            _ => Err(SizeError::InvalidValue),
+        }
+    }
+
+    /// Like `size_at`, for the variant of this index whose value has `size` bytes.
+    ///
+    /// # Errors
+    /// Also returns `TooLong` if the index and the value exceed `MAX_LEN` bytes.
+    #[inline]
+    pub(crate) fn variant(
+        &mut self,
+        position: Position,
+        prefix_len: usize,
+        index: u32,
+        size: usize,
+    ) -> Result<usize, SizeError>
+        ensures { self.old.context ≡ Plain (without_prefix (position_at position prefix_len)) →
+            (t v : Tree) →
+            constructor t ≡ Some 0xd1 → uniform_arrays t ≡ true → inside t ≡ true →
+            placed t ≡ true →
+            within_limits v ≡ true →
+            within_limits t ≡ (fits (uint_width index + size) && within_limits v) →
+            length (encoding t) ≡ map_width (uint_width index + size) →
+            length (payload t) ≡ uint_width index + size + 8 →
+            AtPosition (position_at position prefix_len) (Some t) result self.new.context }
+    {
+        let first = uint_width(index);
+        if size > MAX_LEN - first {
+            return Err(SizeError::TooLong);
+        }
+        let body = first + size;
+        self.size_at(
+            position,
+            prefix_len,
+            EncodingCodes::Map32 as u8,
+            map_width(body),
+            body + 8,
+        )
+    }
+
+    /// Returns the size of a transparent vector whose elements have `sum` bytes.
+    ///
+    /// # Errors
+    /// Returns `InvalidValue` if the position is not the root.
+    #[inline(always)]
+    pub(crate) fn transparent(
+        &mut self,
+        position: Position,
+        prefix_len: usize,
+        sum: usize,
+    ) -> Result<usize, SizeError>
+        ensures { self.old.context ≡ Plain (without_prefix (position_at position prefix_len)) →
+            (ts : Trees) →
+            within_limits_each ts ≡ true → uniform_arrays_each ts ≡ true → placed_each ts ≡ true →
+            sum ≡ length (encoding_each ts) →
+            AtPosition (position_at position prefix_len) (Some (transparent ts)) result
+            self.new.context }
+    {
+        match position {
+            Position::Root => Ok(sum),
+            _ => Err(SizeError::InvalidValue),
+        }
+    }
+}

@@ -1,0 +1,57 @@
+//! Encodes a value.
+
+ghost use Rattle.std.specs.Prelude.{◌≡◌, Err, true, false};
+ghost use Rattle.amqp_ser.specs.SizeAndBytes.{AreBytesOf};
+ghost use Rattle.amqp_wire.specs.ResultBytes.{result_bytes};
+
+use crate::measurer::Measurer;
+use crate::writer::Writer;
+use amqp_data::Error;
+use amqp_ser::Serialize;
+use amqp_size::SizeError;
+use std::alloc::Global;
+
+/// Returns the encoding of `value`. Unless an allocation fails, it succeeds if and only if the tree
+/// of the value is writable.
+///
+/// # Encoding
+/// The shortest form of each value that this profile writes. In an array, the form of the array's
+/// constructor (AMQP 1.0 part 1, sections 1.2 to 1.6).
+///
+/// # Errors
+/// Returns `OutOfMemory` if an allocation fails. Returns `TooLong` only if a limit is exceeded, and
+/// `InvalidValue` only if the tree is not writable for another reason. Returns one of them if the
+/// value has no tree.
+///
+/// # Memory
+/// Allocates from `alloc` once for the bytes, and for a table of 12 bytes for each compound. A
+/// scalar needs no table.
+///
+/// # Example
+/// The list of the strings `a` and `bc` is `c00802a10161a1026263`.
+pub fn to_vec<T: Serialize>(alloc: Global, value: &T) -> Result<Vec<u8>, Error>
+    ensures { AreBytesOf (T.tree value.now) (result_bytes result) }
+{
+    let mut measurer = Measurer::new(alloc);
+    let answer = value.serialize(&mut measurer);
+    let len = unless_refused(&measurer, answer)?;
+    let out = Vec::with_capacity(alloc, len)?;
+    let mut writer = Writer::new(measurer.into_headers(), out);
+    value.serialize(&mut writer)?;
+    if !writer.is_whole() {
+        return Err(Error::InvalidValue);
+    }
+    Ok(writer.into_bytes())
+}
+
+// Returns `OutOfMemory` if the table ever failed to grow; otherwise the result of the first pass.
+#[inline(always)]
+fn unless_refused(measurer: &Measurer, answer: Result<usize, SizeError>) -> Result<usize, SizeError>
+    ensures marked { measurer.now.table.refused ≡ true → result ≡ Err SizeError.OutOfMemory }
+    ensures unmarked { measurer.now.table.refused ≡ false → result ≡ answer }
+{
+    if measurer.is_refused() {
+        return Err(SizeError::OutOfMemory);
+    }
+    answer
+}
