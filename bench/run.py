@@ -15,7 +15,7 @@ import sys
 import tempfile
 
 HERE = os.path.dirname(os.path.abspath(__file__))
-CRATE = os.path.join(HERE, '..', 'crates', 'amqp_bench')
+CRATE = os.path.join(HERE, '..', 'crates', 'tool_bench')
 CALLS = {0: 'size', 1: 'bytes', 3: 'value', 4: 'text', 5: 'read', 6: 'typed'}
 READ = 5
 WHO = ['table', 'buffers', 'project']
@@ -47,7 +47,7 @@ def library(folder):
     """The project's static library and the kit's heap functions, in one file."""
     subprocess.run(['rt', 'lib'], cwd=CRATE, check=True, stdout=subprocess.DEVNULL)
     kit = os.path.dirname(run(['rt', 'doc']).strip())
-    for made in [os.path.join(CRATE, 'out', 'libamqp_bench.a'), os.path.join(kit, 'c', 'liblibc_c.a')]:
+    for made in [os.path.join(CRATE, 'out', 'libtool_bench.a'), os.path.join(kit, 'c', 'liblibc_c.a')]:
         run(['ar', 'x', os.path.abspath(made)], cwd=folder)
     parts = [part for part in os.listdir(folder) if part.endswith('.o')]
     run(['ar', 'rcs', 'libamqp.a'] + parts, cwd=folder)

@@ -1,4 +1,4 @@
-"""Reads lines of the program amqp_trees, works out each tree's answers anew, and tells the first that differ.
+"""Reads lines of the program tool_trees, works out each tree's answers anew, and tells the first that differ.
 
 The encodings stand in definitions.py, and the text of a value in shown.py. The image of a lazy part is the value that
 its bytes spell, at most 256 deep.
@@ -189,12 +189,12 @@ def main():
         seen += 1
         refused += wanted[1] == INVALID
         if len(found) != len(wanted) or not all(map(holds, found, wanted)):
-            print("amqp_trees and the evaluator differ:")
+            print("tool_trees and the evaluator differ:")
             for ours, other in zip(found, wanted):
                 print("  " + ours if holds(ours, other) else f"! {ours}\n  {other}")
             sys.exit(1)
     if seen != int(sys.argv[1]):
-        print(f"amqp_trees printed {seen} lines")
+        print(f"tool_trees printed {seen} lines")
         sys.exit(1)
     print(f"of {seen} random trees, {refused} of which are refused, each answer is the evaluator's")
 

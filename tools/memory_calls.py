@@ -1,4 +1,4 @@
-"""Fails where a public call takes memory and the table at the head of the program amqp_memory does not have it.
+"""Fails where a public call takes memory and the table at the head of the program tool_memory does not have it.
 
 A call takes memory
 
@@ -17,8 +17,8 @@ from pathlib import Path
 
 ROOT = Path(__file__).resolve().parent.parent / "crates"
 LIBRARIES = (
-    "amqp_calendar amqp_data amqp_frame amqp_ser amqp_size amqp_wire amqp_value amqp_gather amqp_to_value amqp_decode "
-    "amqp_de amqp_from_value amqp_restore serde_amqp"
+    "amqp_calendar amqp_data amqp_frame amqp_ser amqp_size amqp_wire amqp_value amqp_to_value amqp_decode "
+    "amqp_de amqp_from_value amqp_round_trip serde_amqp"
 ).split()
 
 
@@ -123,7 +123,7 @@ def wanted():
 
 
 def table():
-    text = (ROOT / "amqp_memory/src/main.rt").read_text()
+    text = (ROOT / "tool_memory/src/main.rt").read_text()
     return {call for row in re.findall(r"^//! \| (.*) \|", text, re.M) for call in re.findall(r"`([\w:]+)`", row)}
 
 
@@ -131,12 +131,12 @@ def main():
     calls, known = wanted(), table()
     missing, gone = sorted(calls - known), sorted(known - calls)
     for call in missing:
-        print(f"{call} takes memory, and is not in the table of amqp_memory")
+        print(f"{call} takes memory, and is not in the table of tool_memory")
     for call in gone:
-        print(f"{call} stands in the table of amqp_memory, and is no public call that takes memory")
+        print(f"{call} stands in the table of tool_memory, and is no public call that takes memory")
     if missing or gone:
         sys.exit(1)
-    print(f"{len(calls)} public calls that take memory stand in the table of amqp_memory")
+    print(f"{len(calls)} public calls that take memory stand in the table of tool_memory")
 
 
 main()

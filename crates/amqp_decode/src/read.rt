@@ -11,7 +11,7 @@ use crate::payload_shape::{PayloadShape, has_no_payload, payload_shape, primitiv
 use crate::scalar::{read_descriptor, read_scalar};
 use crate::stack::take_from;
 use amqp_data::{Array, Described, EncodingCodes, Error};
-use amqp_gather::Gathered;
+use amqp_value::MapBuilder;
 use amqp_value::Value;
 use std::alloc::Global;
 
@@ -200,7 +200,7 @@ fn read_entries(
     if count % 2 != 0 {
         return Err(Error::InvalidValue);
     }
-    let mut pairs = Gathered::new(alloc);
+    let mut pairs = MapBuilder::new(alloc);
     let mut rest = body;
     for _ in 0..count / 2 {
         let key = read_encoded_value(alloc, &mut rest, depth, elements)?;

@@ -12,8 +12,8 @@ use Rattle.amqp_ser.specs.declared.marker.Marker.TheVariants as marker
 use Rattle.amqp_value.specs.Image.{image, images, insert_tree}
 use Rattle.amqp_value.specs.TreeOf.{tree_of, all_of}
 use Rattle.amqp_value.specs.declared.value.Value.{Value}
-use Rattle.amqp_gather.specs.Gathered.{gathered}
-use Rattle.amqp_to_value.specs.declared.map_builder.MapBuilder.{MapBuilder}
+use Rattle.amqp_value.specs.MapBuilder.{collected_pairs}
+use Rattle.amqp_to_value.specs.declared.open_map.OpenMap.{OpenMap}
 use Rattle.amqp_to_value.specs.declared.parts.CollectedParts.{CollectedParts}
 use Rattle.amqp_to_value.specs.declared.parts.CollectedParts.TheVariants as compound
 
@@ -23,8 +23,8 @@ then no_trees t = more t no_trees
 then (more u ts) t = more u (then ts t)
 
 -- The images of a map's entries, and of the key whose value is pending.
-abbrev pub held_pairs : MapBuilder → Pairs × Option Tree
-held_pairs g = (gathered g.pairs, option_map tree_of g.key)
+abbrev pub held_pairs : OpenMap → Pairs × Option Tree
+held_pairs g = (collected_pairs g.pairs, option_map tree_of g.key)
 
 -- Adds a key, or the value of the pending key.
 abbrev pub feed : Pairs × Option Tree → Tree → Pairs × Option Tree

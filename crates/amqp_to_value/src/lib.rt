@@ -12,7 +12,7 @@
 mod image;
 pub mod laws;
 mod lazy;
-mod map_builder;
+mod open_map;
 mod open_value;
 mod parts;
 mod pending_descriptors;

@@ -8,7 +8,7 @@ ghost use Rattle.amqp_value.specs.TreeOf.{tree_of};
 ghost use Rattle.amqp_to_value.specs.HeldImages.{HoldsImages, is_single, compound_tree, then, TakesPairs, IsOpenedImage};
 ghost use Rattle.amqp_to_value.specs.PendingMarker.{meant};
 
-use crate::map_builder::MapBuilder;
+use crate::open_map::OpenMap;
 use crate::pending_marker::PendingMarker;
 use amqp_data::{Array, Error, OrderedMap};
 use amqp_ser::{CompoundKind, Marker};
@@ -25,7 +25,7 @@ pub enum CollectedParts {
     /// A transparent vector of these elements, whose value is a list.
     Transparent(Vec<Value>),
     /// A map.
-    Map(MapBuilder),
+    Map(OpenMap),
     /// The variant with this index and these fields.
     Variant(u32, Vec<Value>),
     /// The variant with this index and this one value.
@@ -45,7 +45,7 @@ impl CollectedParts {
     {
         match (pending, kind) {
             (PendingMarker::Marker(Marker::Other), CompoundKind::List) => CollectedParts::List(Vec::new(alloc)),
-            (PendingMarker::Marker(Marker::Other), CompoundKind::Map) => CollectedParts::Map(MapBuilder::new(alloc)),
+            (PendingMarker::Marker(Marker::Other), CompoundKind::Map) => CollectedParts::Map(OpenMap::new(alloc)),
             (PendingMarker::Marker(Marker::Other), CompoundKind::Variant(index)) => CollectedParts::Variant(
                 index,
                 Vec::new(alloc),

@@ -11,3 +11,5 @@ pub mod FormatCode
 pub mod Order
 pub mod ComesBack
 pub mod Sound
+pub mod MapBuilder
+pub mod Places

@@ -9,10 +9,13 @@ mod escape;
 mod format_code;
 mod from;
 pub mod laws;
+mod map_builder;
+mod places;
 mod serialize;
 mod show;
 mod try_from;
 mod value;
 
+pub use map_builder::MapBuilder;
 pub use try_from::ConvertFault;
 pub use value::Value;

@@ -4,8 +4,6 @@
 //! that fails prints its name and the result.
 
 mod composites;
-mod filter;
-mod nodes;
 mod reading;
 
 use amqp_data::Error;

@@ -1,7 +1,7 @@
 use Rattle.std.proofs.Common.{◌≡◌, List, [], ◌++◌, map, ◌+◌, ◌-◌, ◌*◌, ◌/◌}
 use Rattle.amqp_ser.specs.Tree.{no_pairs}
 use Rattle.amqp_value.specs.TreeOf.{tree_of}
-use Rattle.amqp_gather.specs.Gathered.{gathered}
+use Rattle.amqp_value.specs.MapBuilder.{collected_pairs}
 use Rattle.amqp_value.specs.declared.value.Value.{Value}
 use Rattle.amqp_decode.specs.Parsed.{parse, parse_content, payload_in, gather, insert}
 use Rattle.amqp_decode.proofs.read.+read.Given as goal
@@ -40,7 +40,7 @@ invariant-read_list-loop l =
 
 abbrev pub invariant-read_map-loop : goal.invariant-read_map-loop
 invariant-read_map-loop l =
-    insert (parse l.depth) (l.end - l.counter) l.rest (gathered l.pairs) ≡ insert (parse l.depth) (l.count / 2) l.body no_pairs
+    insert (parse l.depth) (l.end - l.counter) l.rest (collected_pairs l.pairs) ≡ insert (parse l.depth) (l.count / 2) l.body no_pairs
 
 abbrev pub invariant-read_array-loop : goal.invariant-read_array-loop
 invariant-read_array-loop l =

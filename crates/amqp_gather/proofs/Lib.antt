@@ -1,4 +1,0 @@
-pub mod Inserted
-pub mod PlaceLemmas
-pub mod ValueKeys
-pub mod Results

@@ -1,0 +1,118 @@
+//! Three callers of the crates, as a user writes them: a sender and receiver of a message, a
+//! property filter, and a serializer.
+//!
+//! `main` computes the length of a message, writes its bytes, prints it as an untyped value, splits
+//! the bytes into the message's sections and decodes each section; counts the message's nodes with
+//! the serializer `NodeCounter`; and compares a property of another message.
+//!
+//! - `message`, `room`: the sections of a message, and a value that is written only if it fits.
+//! - `filter`: a filter by a property. It depends on the public contracts of `amqp_value` alone.
+//! - `counter`, `blank`, `pending_marker`: the serializer, which counts the nodes of a tree.
+//! - `reading`: a type with three fields.
+#![tactic(auto)]
+
+mod blank;
+mod counter;
+mod filter;
+mod message;
+mod pending_marker;
+mod reading;
+mod room;
+#[cfg(test)]
+mod tests;
+
+use amqp_data::{ByteBuf, Error, OrderedMap, Symbol, TransparentVec};
+use amqp_decode::decode_value;
+use amqp_frame::{LazyValue, SliceReader};
+use amqp_size::serialized_size;
+use amqp_to_value::to_value;
+use amqp_value::Value;
+use counter::count_nodes;
+use filter::{has_at_least, properties_of};
+use message::{Header, Properties, Section};
+use room::bytes_for_frame;
+use std::alloc::Global;
+use std::process::ExitCode;
+
+fn main(rt: HostRuntime) -> ExitCode {
+    match run(&rt) {
+        Ok(()) => ExitCode::SUCCESS,
+        Err(error) => {
+            let _ = eprintln!(rt; "example_callers: {error}");
+            ExitCode::from(1)
+        }
+    }
+}
+
+fn run(rt: &(impl Print + AllocGlobal)) -> Result<(), Error> {
+    let alloc = rt.alloc();
+    let message = new_order(alloc)?;
+
+    // The length is known before anything is written. Computing it allocates nothing.
+    let _ = println!(rt; "{} bytes", serialized_size(&message)?);
+    let bytes = bytes_for_frame(alloc, &message, 512)?;
+
+    // The untyped value is printed, for example to a log.
+    let value = to_value(alloc, &message)?;
+    let _ = println!(rt; "{value}");
+
+    // A receiver splits off one section at a time. It can decode a section or keep its bytes.
+    let mut reader = SliceReader::new(&bytes);
+    for _ in message.iter() {
+        let section = LazyValue::from_reader(alloc, &mut reader)?;
+        print_section(rt, alloc, &section)?;
+    }
+
+    // A user-defined serializer counts the nodes of the same message.
+    let _ = println!(rt; "{} nodes", count_nodes(&message)?);
+
+    // A subscriber takes the messages whose priority is at least 4.
+    let _ = println!(rt; "is urgent: {}", is_urgent(alloc, 4)?);
+    Ok(())
+}
+
+// Returns whether a message of priority 5 has at least the priority `wanted`.
+fn is_urgent(alloc: Global, wanted: i64) -> Result<bool, Error> {
+    let name = Symbol::try_from_str(alloc, "x-priority")?;
+    let mut entries = OrderedMap::new(alloc);
+    drop(entries.insert(Symbol::try_from_str(alloc, "x-priority")?, 5i64)?);
+    match properties_of(Value::try_from_ordered_map(alloc, entries)?) {
+        Ok(properties) => Ok(has_at_least(&properties, &name, &Value::Long(wanted))),
+        Err(_) => Err(Error::InvalidValue),
+    }
+}
+
+// Prints the bytes of a section in hexadecimal and, for the body, its text.
+fn print_section(rt: &impl Print, alloc: Global, section: &LazyValue) -> Result<(), Error> {
+    for byte in section.as_slice() {
+        let _ = print!(rt; "{byte:02x}");
+    }
+    let _ = println!(rt; "");
+    if let Value::Described(described) = decode_value(alloc, section.as_slice())? {
+        if let Value::String(body) = &described.value {
+            let _ = println!(rt; "the body is {body}");
+        }
+    }
+    Ok(())
+}
+
+// Returns the message: its sections in the order of AMQP 1.0 part 3, section 3.2.
+fn new_order(alloc: Global) -> Result<TransparentVec<Section>, Error> {
+    let mut entries = OrderedMap::new(alloc);
+    drop(entries.insert(String::from_str(alloc, "retries")?, 3)?);
+    let mut sections = Vec::new(alloc);
+    sections.push(Section::Header(Header {
+        durable: Some(true),
+        priority: Some(4),
+        ttl: None,
+    }))?;
+    sections.push(Section::Properties(Properties {
+        message_id: Some(7),
+        user_id: None,
+        to: Some(String::from_str(alloc, "orders")?),
+        subject: None,
+    }))?;
+    sections.push(Section::ApplicationProperties(entries))?;
+    sections.push(Section::Body(String::from_str(alloc, "Hello, World!")?))?;
+    Ok(TransparentVec::new(sections))
+}

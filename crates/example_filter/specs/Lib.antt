@@ -1,2 +1,0 @@
--- The contract of a public function refers to this module.
-pub mod Kept

@@ -1,2 +1,0 @@
--- The contracts of public types refer to this module.
-pub mod Sections

@@ -1,0 +1,111 @@
+//! Makes the calls that allocate, and prints a line after each.
+//!
+//! `tools/memory` runs the part `calls` once for each of its allocations, with that allocation
+//! failing. The call that allocates must return `OutOfMemory`, and the program must end with status
+//! 1, unless the failed call is repeated. Any other result is visible as different output. The
+//! first argument selects one part: `calls`, `lengths`, `deep`, `large`, or `none`, whose calls do
+//! not allocate.
+//!
+//! Each public call that allocates is in this table, next to the line that is printed after it;
+//! `tools/memory` checks that none is missing.
+//!
+//! | Line | Calls |
+//! |---|---|
+//! | names | `Symbol::try_from_str` |
+//! | maps | `OrderedMap::new`, `OrderedMap::insert` |
+//! | what an iterator gives | `TransparentVec::try_collect` |
+//! | bytes, refused values fed again | `to_vec`, `Serialize::serialize`, `Value::serialize` |
+//! | images | `to_value`, `TryFromSerializable::try_from_serializable`, `Serializer::new` |
+//! | frames | `LazyValue::from_reader`, `LazyValue::try_into_vec`, `to_lazy_value` |
+//! | conversions | `Value::try_from_str`, `Value::try_from_described`, `Value::try_from_array`, `Value::try_from_vec` |
+//! | the same | `Value::try_from_btree_map`, `Value::try_from_ordered_map`, `Vec::try_from`, `Array::try_from` |
+//! | the same | `OrderedMap::try_from`, `BTreeMap::try_from`, `HashMap::try_from`, `IndexMap::try_from` |
+//! | decoded values, types of one's own | `decode_value`, `decode_value_limited` |
+//! | images, decoded values | `MapBuilder::new`, `MapBuilder::into_value` |
+//! | types out of values, lazy values | `from_value`, `Deserializer::new` |
+//! | types of one's own | `round_trip`, `read`, `read_composite`, `read_described`, `TypeSeed::deserialize`, `ListSeed::deserialize`, `NamedSeed::deserialize` |
+//! | the same | `read_map`, `read_described_map` |
+//! | the same | `FieldSeeds::read_elements`, `Required::read_elements`, `Optional::read_elements`, `Elements::new` |
+//! | the same | `FieldSeeds::read_entries`, `Required::read_entries`, `Optional::read_entries`, `Entries::new`, `DeserializeSeed::deserialize` |
+//! | the same | `Variants::deserialize`, `EnumSeed::deserialize`, `UnitVariant::deserialize`, `DataVariant::deserialize` |
+//! | calls of a serializer | `Serializer::serialize_str`, `Serializer::serialize_bytes`, `Serializer::serialize_some` |
+//! | the same | `Serializer::serialize_newtype_struct`, `Serializer::serialize_newtype_variant` |
+//! | the same | `Serializer::serialize_described`, `Serializer::end_part`, `Serializer::end_descriptor` |
+//! | the same | `Serializer::end`, `SerializeSeq::serialize_element`, `SerializeSeq::end`, `SerializeMap::end` |
+//! | the same | `SerializeMap::serialize_key`, `SerializeMap::serialize_value`, `SerializeMap::serialize_entry` |
+//! | the same | `SerializeStruct::serialize_field`, `SerializeStruct::end`, `SerializeTupleStruct::serialize_field` |
+//! | the same | `SerializeTupleStruct::end`, `SerializeTupleVariant::serialize_field`, `SerializeTupleVariant::end` |
+//! | the same | `SerializeStructVariant::serialize_field`, `SerializeStructVariant::end` |
+//! | the same | `ListOf::serialize`, `MapOf::serialize`, `SymbolMapOf::serialize`, `VariantOf::serialize` |
+//! | the same | `Fields::feed`, `Fields::feed_named`, `Field::feed`, `Field::feed_named` |
+//! | the same | `OptionalField::feed`, `OptionalField::feed_named` |
+//! | accessors | `SeqAccess::new`, `SeqAccess::next_element`, `SeqAccess::next_element_seed`, `MapAccess::new` |
+//! | the same | `MapAccess::next_key`, `MapAccess::next_value`, `MapAccess::next_entry` |
+//! | the same | `MapAccess::next_key_seed`, `MapAccess::next_value_seed`, `MapAccess::next_entry_seed` |
+//! | the same | `EnumAccess::variant`, `EnumAccess::variant_seed`, `VariantAccess::newtype_variant` |
+//! | the same | `VariantAccess::newtype_variant_seed`, `Deserialize::deserialize` |
+//! | the same | `Deserializer::deserialize_written`, `Deserializer::deserialize_marked` |
+//! | the same | `Deserializer::deserialize_newtype_struct` |
+//! | a run over lines, over frames | `run_lines`, `run_cut`, `VecWriter::new`, `Write::put` |
+#![tactic(auto)]
+
+mod accessors;
+mod again;
+mod calls;
+mod composites;
+mod conversions;
+mod deep;
+mod large;
+mod lazy;
+mod lengths;
+mod own_types;
+mod reading;
+mod refused;
+mod report;
+mod runs;
+mod serializer;
+mod without;
+mod written;
+
+use amqp_data::Error;
+use std::env::Env;
+use std::process::ExitCode;
+
+fn main(rt: HostRuntime) -> ExitCode {
+    let mut word = [0; 8];
+    let part = match rt.arg(1, &mut word) {
+        Ok(len) => &word[..len],
+        Err(_) => b"",
+    };
+    match make(&rt, part) {
+        Ok(()) => ExitCode::SUCCESS,
+        Err(Error::OutOfMemory) => ExitCode::from(1),
+        Err(error) => {
+            let _ = println!(rt; "another refusal: {error}");
+            ExitCode::SUCCESS
+        }
+    }
+}
+
+// Makes the calls of one part, or of all if `part` is empty.
+fn make(rt: &(impl Print + AllocGlobal), part: &[u8]) -> Result<(), Error> {
+    if part.is_empty() || part == b"calls".as_slice() {
+        calls::all(rt)?;
+        composites::all(rt)?;
+        runs::all(rt)?;
+    }
+    if part.is_empty() || part == b"none".as_slice() {
+        without::all(rt);
+    }
+    if part.is_empty() || part == b"lengths".as_slice() {
+        lengths::all(rt)?;
+        refused::all(rt)?;
+    }
+    if part.is_empty() || part == b"deep".as_slice() {
+        deep::all(rt)?;
+    }
+    if part.is_empty() || part == b"large".as_slice() {
+        large::all(rt)?;
+    }
+    Ok(())
+}
