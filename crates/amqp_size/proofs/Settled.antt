@@ -1,23 +1,21 @@
 -- After a value is measured, the position is not after a descriptor: no length is stored next to
 -- it.
 use Rattle.std.proofs.Common.{◌≡◌, ℕ, ◌+◌, ◌<◌, Option, Some, None, Bool, true, false, Ok, refl, ap, ◌∙◌}
-use Rattle.amqp_size.specs.declared.size_error.SizeError.TheVariants as error
 use Rattle.amqp_ser.specs.Tree.{Tree}
 use Rattle.amqp_ser.specs.Encoding.{constructor}
-use Rattle.amqp_size.specs.Position.{base_position, element, next, described_position, prefix_len_of}
-use Rattle.amqp_size.specs.AddPart.{Undescribed}
+use Rattle.amqp_pass.specs.Position.{base_position, element, next}
 use Rattle.amqp_size.specs.SizeSerializer.{AtPosition}
-use Rattle.amqp_size.specs.State.{position_at, context_at}
-use Rattle.amqp_size.specs.WholePosition.{Position}
-use Rattle.amqp_size.specs.WholePosition as position
-use Rattle.amqp_size.specs.WholeContext.{Context}
-use Rattle.amqp_size.specs.WholeContext as context
-use Rattle.amqp_size.specs.declared.position.BasePosition.{BasePosition}
-use Rattle.amqp_size.specs.declared.position.BasePosition.TheVariants as base
-use Rattle.amqp_size.specs.declared.position.Position.{Position as KeptPosition}
-use Rattle.amqp_size.specs.declared.position.Position.TheVariants as kept
-use Rattle.amqp_size.specs.declared.context.Context.{Context as KeptContext}
-use Rattle.amqp_size.specs.declared.context.Context.TheVariants as kept_context
+use Rattle.amqp_pass.specs.State.{position_at, context_at}
+use Rattle.amqp_pass.specs.WholePosition.{Position}
+use Rattle.amqp_pass.specs.WholePosition as position
+use Rattle.amqp_pass.specs.WholeContext.{Context}
+use Rattle.amqp_pass.specs.WholeContext as context
+use Rattle.amqp_pass.specs.declared.position.BasePosition.{BasePosition}
+use Rattle.amqp_pass.specs.declared.position.BasePosition.TheVariants as base
+use Rattle.amqp_pass.specs.declared.position.Position.{Position as KeptPosition}
+use Rattle.amqp_pass.specs.declared.position.Position.TheVariants as kept
+use Rattle.amqp_pass.specs.declared.context.Context.{Context as KeptContext}
+use Rattle.amqp_pass.specs.declared.context.Context.TheVariants as kept_context
 
 abbrev is_alone : Position → Bool
 is_alone (position.Value h b) = false
@@ -64,12 +62,3 @@ same_context (kept_context.Nothing p) h k e = cc
 pub settled : (p : Position) (o : Option Tree) (n : ℕ) (u : KeptContext) (h k : ℕ) → AtPosition p o (Ok n) (context_at u h) → context_at u k ≡ context_at u h
 settled p None n u h k c = absurd c
 settled p (Some t) n u h k c = same_context u h k (ap alone c.position ∙ next_alone p t)
-
--- A descriptor is too long for a value after it.
-pub too_long : (p q : Position) (n : ℕ) → described_position p n ≡ Some q → 18446744073709551615 < prefix_len_of p + (n + 1) → Undescribed (context.Plain p) n error.TooLong
-too_long position.Root q n d l = (refl, l)
-too_long position.InCompound q n d l = (refl, l)
-too_long position.FirstElement q n d l = (refl, l)
-too_long (position.OtherElement c) q n d l = (refl, l)
-too_long position.Descriptor q n d l = cc
-too_long (position.Value h b) q n d l = (refl, l)

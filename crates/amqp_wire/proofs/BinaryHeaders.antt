@@ -4,14 +4,14 @@ use Rattle.amqp_frame.specs.Whole.{is_frame}
 use Rattle.amqp_frame.proofs.Whole.{some_byte_passes}
 use Rattle.amqp_ser.specs.Tree.{decimal32, decimal64, decimal128, uuid, binary, Tree, scalar, lazy}
 use Rattle.amqp_ser.proofs.Bools.{le_true}
-use Rattle.amqp_size.specs.Position.{meant}
+use Rattle.amqp_pass.specs.Position.{meant}
 use Rattle.amqp_size.specs.SizeSerializer.{AtPosition, SizePermits}
-use Rattle.amqp_size.specs.Position.{position_of}
-use Rattle.amqp_size.specs.WholePosition.{Position}
-use Rattle.amqp_size.specs.WholeContext.{Context}
-use Rattle.amqp_size.specs.WholeContext as context
-use Rattle.amqp_size.specs.declared.scalar_marker.ScalarMarker.TheVariants as scalar_marker
-use Rattle.amqp_size.specs.declared.size_error.SizeError.{SizeError}
+use Rattle.amqp_pass.specs.Position.{position_of}
+use Rattle.amqp_pass.specs.WholePosition.{Position}
+use Rattle.amqp_pass.specs.WholeContext.{Context}
+use Rattle.amqp_pass.specs.WholeContext as context
+use Rattle.amqp_pass.specs.declared.scalar_marker.ScalarMarker.TheVariants as scalar_marker
+use Rattle.amqp_pass.specs.declared.size_error.SizeError.{SizeError}
 use Rattle.amqp_wire.specs.Dense.{dense}
 use Rattle.amqp_wire.specs.Measurer.{listed, MeasurerPermits}
 use Rattle.amqp_wire.specs.TreeHeaders.{headers_of}

@@ -11,13 +11,13 @@ use Rattle.amqp_ser.specs.Compounds.{as_kind, as_map, as_variant, in_pairs, only
 use Rattle.amqp_ser.specs.declared.kind.CompoundKind.{CompoundKind}
 use Rattle.amqp_ser.specs.declared.kind.CompoundKind.TheVariants as kinds
 use Rattle.amqp_ser.proofs.Bools.{left_true, right_true, both, is_le, le_true}
-use Rattle.amqp_size.specs.Position.{meant, resolved_kind_of}
-use Rattle.amqp_size.specs.WholePosition.{Position}
-use Rattle.amqp_size.specs.WholePosition as position
-use Rattle.amqp_size.specs.declared.resolved_kind.ResolvedKind.{ResolvedKind}
-use Rattle.amqp_size.specs.declared.resolved_kind.ResolvedKind.TheVariants as resolved_kind
-use Rattle.amqp_size.specs.WholeContext.{Context}
-use Rattle.amqp_size.specs.WholeContext as context
+use Rattle.amqp_pass.specs.Position.{meant, resolved_kind_of}
+use Rattle.amqp_pass.specs.WholePosition.{Position}
+use Rattle.amqp_pass.specs.WholePosition as position
+use Rattle.amqp_pass.specs.declared.resolved_kind.ResolvedKind.{ResolvedKind}
+use Rattle.amqp_pass.specs.declared.resolved_kind.ResolvedKind.TheVariants as resolved_kind
+use Rattle.amqp_pass.specs.WholeContext.{Context}
+use Rattle.amqp_pass.specs.WholeContext as context
 use Rattle.amqp_size.proofs.Whole.{refused_shape}
 use Rattle.amqp_wire.specs.TreeHeaders.{header, compound_headers, first_constructor}
 use Rattle.amqp_wire.specs.HeaderBytes.{is_element, pick, bytes_at, opening, header_bytes, whole_header, counted_header, after_opening, SmallHeaders}

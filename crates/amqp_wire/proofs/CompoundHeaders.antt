@@ -8,11 +8,11 @@ use Rattle.amqp_ser.specs.Compounds.{as_kind, as_map, as_variant, in_pairs, prep
 use Rattle.amqp_ser.specs.declared.kind.CompoundKind.{CompoundKind}
 use Rattle.amqp_ser.specs.declared.kind.CompoundKind.TheVariants as kinds
 use Rattle.amqp_ser.proofs.Joins.{join}
-use Rattle.amqp_size.specs.Position.{meant, resolved_kind_of}
-use Rattle.amqp_size.specs.WholePosition.{InCompound}
-use Rattle.amqp_size.specs.WholeContext.{Context}
-use Rattle.amqp_size.specs.WholeContext as context
-use Rattle.amqp_size.specs.declared.resolved_kind.ResolvedKind.TheVariants as resolved_kind
+use Rattle.amqp_pass.specs.Position.{meant, resolved_kind_of}
+use Rattle.amqp_pass.specs.WholePosition.{InCompound}
+use Rattle.amqp_pass.specs.WholeContext.{Context}
+use Rattle.amqp_pass.specs.WholeContext as context
+use Rattle.amqp_pass.specs.declared.resolved_kind.ResolvedKind.TheVariants as resolved_kind
 use Rattle.amqp_size.proofs.Whole.{refused_shape}
 use Rattle.amqp_wire.specs.TreeHeaders.{header, headers_of, headers_of_each, headers_of_pairs, compound_headers}
 use Rattle.amqp_wire.specs.Dense.{is_opaque, dense, dense_each, dense_pairs}

@@ -8,7 +8,7 @@ use Rattle.amqp_ser.specs.Scalars.{scalar_form, sized, signed_bytes, is_small}
 use Rattle.amqp_ser.specs.Encoding.{encoding, encoding_each, encoding_pairs, payload_each, array_constructor, counted, list_form, wide}
 use Rattle.amqp_ser.specs.Writable.{inside, inside_each}
 use Rattle.amqp_ser.proofs.Bools.{left_true, right_true, is_le}
-use Rattle.amqp_size.specs.WholePosition.{Root}
+use Rattle.amqp_pass.specs.WholePosition.{Root}
 use Rattle.amqp_wire.specs.Dense.{dense, dense_each}
 
 pub no_false : false ≡ true → ⊥

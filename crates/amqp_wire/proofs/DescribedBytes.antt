@@ -1,8 +1,8 @@
 -- The bytes of a described value: its format code and its descriptor before the value.
 use Rattle.std.proofs.Common.{◌≡◌, ◌+◌, ◌≤◌, [], ◌∷◌, ◌++◌, Option, Some, None, true, false, ◌&&◌, Result, Ok, Err, is_some, length, refl, ap, sym, ◌∙◌, subst, arith, append_assoc, length-append, drop}
 use Rattle.std.specs.Vec.{vec_capacity}
-use Rattle.amqp_size.specs.declared.size_error.SizeError.{SizeError}
-use Rattle.amqp_size.specs.declared.size_error.SizeError.TheVariants as error
+use Rattle.amqp_pass.specs.declared.size_error.SizeError.{SizeError}
+use Rattle.amqp_pass.specs.declared.size_error.SizeError.TheVariants as error
 use Rattle.amqp_ser.specs.Tree.{Tree, Descriptor, scalar, list, array, map, described, variant, lazy, transparent}
 use Rattle.amqp_ser.specs.Limits.{is_length}
 use Rattle.amqp_ser.specs.Encoding.{encoding, descriptor_form}
@@ -11,11 +11,11 @@ use Rattle.amqp_ser.specs.Composites.{as_described, descriptor_of}
 use Rattle.amqp_ser.specs.declared.kind.CompoundKind.TheVariants as kinds
 use Rattle.amqp_ser.proofs.Bools.{left_true, right_true}
 use Rattle.amqp_size.specs.SizeSerializer.{AtPosition}
-use Rattle.amqp_size.specs.Position.{position_of, meant, without_prefix}
-use Rattle.amqp_size.specs.WholePosition.{Position}
-use Rattle.amqp_size.specs.WholePosition as position
-use Rattle.amqp_size.specs.WholeContext.{Context}
-use Rattle.amqp_size.specs.WholeContext as context
+use Rattle.amqp_pass.specs.Position.{position_of, meant, without_prefix}
+use Rattle.amqp_pass.specs.WholePosition.{Position}
+use Rattle.amqp_pass.specs.WholePosition as position
+use Rattle.amqp_pass.specs.WholeContext.{Context}
+use Rattle.amqp_pass.specs.WholeContext as context
 use Rattle.amqp_size.proofs.Described.{of_tree, no_nested, no_scalar_described, no_array_described, no_transparent_described}
 use Rattle.amqp_size.proofs.Positions.{meant_none, refusal}
 use Rattle.amqp_wire.specs.TreeHeaders.{headers_of}

@@ -1,8 +1,8 @@
 -- The position of the value after a descriptor. A result that is permitted there is permitted for
 -- the described value.
 use Rattle.std.proofs.Common.{◌≡◌, ℕ, ◌+◌, ◌<◌, inl, inr, Option, Some, None, true, false, ◌&&◌, Result, Ok, Err, length, is_some, refl, ap, sym, ◌∙◌, subst, arith}
-use Rattle.amqp_size.specs.declared.size_error.SizeError.{SizeError}
-use Rattle.amqp_size.specs.declared.size_error.SizeError.TheVariants as error
+use Rattle.amqp_pass.specs.declared.size_error.SizeError.{SizeError}
+use Rattle.amqp_pass.specs.declared.size_error.SizeError.TheVariants as error
 use Rattle.amqp_ser.specs.Tree.{Tree, Descriptor, described}
 use Rattle.amqp_ser.specs.Composites.{as_described, descriptor_of}
 use Rattle.amqp_ser.specs.Encoding.{encoding, descriptor_form}
@@ -10,12 +10,12 @@ use Rattle.amqp_ser.specs.Limits.{is_length}
 use Rattle.amqp_ser.specs.Writable.{uniform_arrays, within_limits, descriptor_fits}
 use Rattle.amqp_ser.proofs.Bools.{left_false, right_false, one_false, le_false, not_le}
 use Rattle.amqp_size.specs.SizeSerializer.{AtPosition, refused}
-use Rattle.amqp_size.specs.Position.{position_of, meant, without_prefix, suits, next, within_limits_at, plainly}
-use Rattle.amqp_size.specs.Refused.{refuses_none}
-use Rattle.amqp_size.specs.WholePosition.{Position}
-use Rattle.amqp_size.specs.WholePosition as position
-use Rattle.amqp_size.specs.WholeContext.{Context}
-use Rattle.amqp_size.specs.WholeContext as context
+use Rattle.amqp_pass.specs.Position.{position_of, meant, without_prefix, suits, next, within_limits_at, plainly}
+use Rattle.amqp_pass.specs.Refused.{refuses_none}
+use Rattle.amqp_pass.specs.WholePosition.{Position}
+use Rattle.amqp_pass.specs.WholePosition as position
+use Rattle.amqp_pass.specs.WholeContext.{Context}
+use Rattle.amqp_pass.specs.WholeContext as context
 use Rattle.amqp_size.proofs.Described.{of_tree, length-described, no_scalar_described, no_array_described, no_transparent_described}
 use Rattle.amqp_size.proofs.Positions.{long_at, refused-none}
 use Rattle.amqp_wire.specs.HeaderBytes.{is_element}

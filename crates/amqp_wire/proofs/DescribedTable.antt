@@ -1,21 +1,21 @@
 -- A descriptor has no slot in the table, and a described value has only those of its value.
 use Rattle.std.proofs.Common.{◌≡◌, ℕ, ◌+◌, inl, inr, List, [], ◌++◌, Option, Some, None, true, Result, Ok, Err, is_some, refl, ap, sym, ◌∙◌, subst, append-nil}
 use Rattle.std.specs.Prelude.{IfErr, IfOk}
-use Rattle.amqp_size.specs.declared.size_error.SizeError.{SizeError}
-use Rattle.amqp_size.specs.declared.size_error.SizeError.TheVariants.{OutOfMemory}
+use Rattle.amqp_pass.specs.declared.size_error.SizeError.{SizeError}
+use Rattle.amqp_pass.specs.declared.size_error.SizeError.TheVariants.{OutOfMemory}
 use Rattle.amqp_ser.specs.Tree.{Tree, Descriptor, scalar, list, array, map, described, variant, lazy, transparent}
 use Rattle.amqp_ser.specs.Composites.{as_described, descriptor_of}
 use Rattle.amqp_ser.specs.declared.kind.CompoundKind.TheVariants as kinds
 use Rattle.amqp_ser.proofs.Bools.{both}
-use Rattle.amqp_size.specs.Position.{position_of, meant, without_prefix, described_position, described_context, plainly}
+use Rattle.amqp_pass.specs.Position.{position_of, meant, without_prefix, described_position, described_context, plainly}
 use Rattle.amqp_size.specs.SizeSerializer.{AtPosition, SizePermits, SizeHas, HoldsSingle}
-use Rattle.amqp_size.specs.WholePosition.{Position}
-use Rattle.amqp_size.specs.WholePosition as position
-use Rattle.amqp_size.specs.declared.position.BasePosition.TheVariants as base
-use Rattle.amqp_size.specs.WholeContext.{Context}
-use Rattle.amqp_size.specs.WholeContext as context
+use Rattle.amqp_pass.specs.WholePosition.{Position}
+use Rattle.amqp_pass.specs.WholePosition as position
+use Rattle.amqp_pass.specs.declared.position.BasePosition.TheVariants as base
+use Rattle.amqp_pass.specs.WholeContext.{Context}
+use Rattle.amqp_pass.specs.WholeContext as context
 use Rattle.amqp_size.specs.declared.serializer.SizeSerializer.{SizeSerializer}
-use Rattle.amqp_size.specs.declared.open_compound.OpenCompound.{OpenCompound}
+use Rattle.amqp_pass.specs.declared.open_compound.OpenCompound.{OpenCompound}
 use Rattle.amqp_wire.specs.TreeHeaders.{headers_of}
 use Rattle.amqp_wire.specs.Measurer.{listed, CountsTree, MeasurerPermits, MeasurerHas}
 use Rattle.amqp_wire.specs.declared.header.Header.{Header}

@@ -7,12 +7,12 @@ use Rattle.amqp_ser.specs.Encoding.{encoding}
 use Rattle.amqp_ser.specs.SizeAndBytes.{AreBytesOf}
 use Rattle.amqp_ser.specs.Writable.{uniform_arrays, within_limits, placed}
 use Rattle.amqp_ser.proofs.Bools.{both, le_true}
-use Rattle.amqp_size.specs.Position.{position_of, meant}
+use Rattle.amqp_pass.specs.Position.{position_of, meant}
 use Rattle.amqp_size.specs.SizeSerializer.{AtPosition}
-use Rattle.amqp_size.specs.WholePosition.{Root}
-use Rattle.amqp_size.specs.WholeContext.{Context, Plain}
-use Rattle.amqp_size.specs.declared.size_error.SizeError.{SizeError}
-use Rattle.amqp_size.specs.declared.size_error.SizeError.TheVariants as size_error
+use Rattle.amqp_pass.specs.WholePosition.{Root}
+use Rattle.amqp_pass.specs.WholeContext.{Context, Plain}
+use Rattle.amqp_pass.specs.declared.size_error.SizeError.{SizeError}
+use Rattle.amqp_pass.specs.declared.size_error.SizeError.TheVariants as size_error
 use Rattle.amqp_wire.specs.TreeHeaders.{headers_of}
 use Rattle.amqp_wire.specs.Measurer.{listed, MeasurerPermits}
 use Rattle.amqp_wire.specs.Writer.{Kept, FitsOutput, Written, wrote, WritesTree, IsAccepted, WriterPermits}

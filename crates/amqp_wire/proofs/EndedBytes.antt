@@ -1,18 +1,18 @@
 -- The bytes of a compound that has ended.
 use Rattle.std.proofs.Common.{◌≡◌, ℕ, ◌+◌, List, [], ◌∷◌, ◌++◌, Option, Some, None, true, false, Result, Ok, Err, length, refl, ap, sym, ◌∙◌, subst, arith, length-append}
-use Rattle.amqp_size.specs.declared.size_error.SizeError.{SizeError}
+use Rattle.amqp_pass.specs.declared.size_error.SizeError.{SizeError}
 use Rattle.amqp_ser.specs.Tree.{Tree, Trees, list, array, map, variant, transparent, no_trees, more}
 use Rattle.amqp_ser.specs.Compounds.{all_trees, as_kind, as_map, as_variant, only, tree_of_parts, complete}
 use Rattle.amqp_ser.specs.declared.kind.CompoundKind.{CompoundKind}
 use Rattle.amqp_ser.specs.declared.kind.CompoundKind.TheVariants as kinds
 use Rattle.amqp_ser.proofs.Pairing.{pairing, paired-even}
-use Rattle.amqp_size.specs.declared.size_error.SizeError.TheVariants as size_error
+use Rattle.amqp_pass.specs.declared.size_error.SizeError.TheVariants as size_error
 use Rattle.amqp_size.specs.SizeSerializer.{AtPosition}
-use Rattle.amqp_size.specs.Position.{position_of, meant, without_prefix, resolved_kind_of}
-use Rattle.amqp_size.specs.WholePosition.{Position}
-use Rattle.amqp_size.specs.declared.resolved_kind.ResolvedKind.TheVariants as resolved_kind
-use Rattle.amqp_size.specs.WholeContext.{Context}
-use Rattle.amqp_size.specs.WholeContext as context
+use Rattle.amqp_pass.specs.Position.{position_of, meant, without_prefix, resolved_kind_of}
+use Rattle.amqp_pass.specs.WholePosition.{Position}
+use Rattle.amqp_pass.specs.declared.resolved_kind.ResolvedKind.TheVariants as resolved_kind
+use Rattle.amqp_pass.specs.WholeContext.{Context}
+use Rattle.amqp_pass.specs.WholeContext as context
 use Rattle.amqp_wire.specs.TreeHeaders.{headers_of, headers_of_each, compound_headers}
 use Rattle.amqp_wire.specs.HeaderBytes.{is_element, opening, after_opening}
 use Rattle.amqp_size.proofs.Whole.{stands_none, refused_shape}

@@ -11,17 +11,17 @@ use Rattle.amqp_ser.specs.Compounds.{as_kind, as_map, as_variant, in_pairs, only
 use Rattle.amqp_ser.specs.declared.kind.CompoundKind.{CompoundKind}
 use Rattle.amqp_ser.specs.declared.kind.CompoundKind.TheVariants as kinds
 use Rattle.amqp_ser.proofs.Bools.{left_true, right_true, both, is_le, le_true}
-use Rattle.amqp_size.specs.Position.{meant, suits, within_limits_at, takes_described, is_array, element_constructor, element}
+use Rattle.amqp_pass.specs.Position.{meant, suits, within_limits_at, takes_described, is_array, element_constructor, element}
 use Rattle.amqp_size.specs.SizeSerializer.{body_bytes, inner_position_of, first_position, counts, HoldsGathered}
-use Rattle.amqp_size.specs.Width.{uint_width, list_width}
-use Rattle.amqp_size.specs.WholePosition.{Position}
-use Rattle.amqp_size.specs.WholePosition as position
-use Rattle.amqp_size.specs.declared.resolved_kind.ResolvedKind.{ResolvedKind}
-use Rattle.amqp_size.specs.declared.resolved_kind.ResolvedKind.TheVariants as resolved_kind
-use Rattle.amqp_size.specs.WholeContext.{Context}
-use Rattle.amqp_size.specs.WholeContext as context
+use Rattle.amqp_pass.specs.Width.{uint_width, list_width}
+use Rattle.amqp_pass.specs.WholePosition.{Position}
+use Rattle.amqp_pass.specs.WholePosition as position
+use Rattle.amqp_pass.specs.declared.resolved_kind.ResolvedKind.{ResolvedKind}
+use Rattle.amqp_pass.specs.declared.resolved_kind.ResolvedKind.TheVariants as resolved_kind
+use Rattle.amqp_pass.specs.WholeContext.{Context}
+use Rattle.amqp_pass.specs.WholeContext as context
 use Rattle.amqp_size.specs.declared.serializer.SizeSerializer.{SizeSerializer}
-use Rattle.amqp_size.specs.declared.open_compound.OpenCompound.{OpenCompound}
+use Rattle.amqp_pass.specs.declared.open_compound.OpenCompound.{OpenCompound}
 use Rattle.amqp_size.proofs.Lengths.{length-uint, length-list_form, length-variant}
 use Rattle.amqp_size.proofs.Whole.{refused_shape}
 use Rattle.amqp_wire.specs.TreeHeaders.{header, compound_headers, header_count, headers_from, HeadersFit, first_constructor}

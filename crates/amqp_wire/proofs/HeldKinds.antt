@@ -4,13 +4,13 @@ use Rattle.amqp_ser.specs.Tree.{Tree, Trees}
 use Rattle.amqp_ser.specs.Compounds.{all_trees}
 use Rattle.amqp_ser.specs.declared.kind.CompoundKind.{CompoundKind}
 use Rattle.amqp_ser.specs.declared.kind.CompoundKind.TheVariants as kinds
-use Rattle.amqp_size.specs.Position.{resolved_kind_of}
+use Rattle.amqp_pass.specs.Position.{resolved_kind_of}
 use Rattle.amqp_size.specs.SizeSerializer.{HoldsSingle, Holding}
-use Rattle.amqp_size.specs.WholePosition.{Position}
-use Rattle.amqp_size.specs.WholePosition as position
-use Rattle.amqp_size.specs.WholeContext.{Plain}
+use Rattle.amqp_pass.specs.WholePosition.{Position}
+use Rattle.amqp_pass.specs.WholePosition as position
+use Rattle.amqp_pass.specs.WholeContext.{Plain}
 use Rattle.amqp_size.specs.declared.serializer.SizeSerializer.{SizeSerializer}
-use Rattle.amqp_size.specs.declared.open_compound.OpenCompound.{OpenCompound}
+use Rattle.amqp_pass.specs.declared.open_compound.OpenCompound.{OpenCompound}
 use Rattle.amqp_wire.specs.Positions.{is_single}
 use Rattle.amqp_size.proofs.Holding.{single_of}
 use Rattle.amqp_wire.proofs.CountWithinBytes.{no_false}

@@ -1,12 +1,12 @@
 -- Headers written one after another.
 use Rattle.std.proofs.Common.{◌≡◌, ℕ, Bool, false, ◌+◌, ◌<◌, List, ◌∷◌, ◌++◌, Result, Ok, Err, length, ap, sym, ◌∙◌, subst, arith, append_assoc, length-append, drop, refl, is_err}
 use Rattle.std.specs.Prelude.{IfOk}
-use Rattle.amqp_size.specs.declared.size_error.SizeError.{SizeError}
+use Rattle.amqp_pass.specs.declared.size_error.SizeError.{SizeError}
 use Rattle.amqp_ser.specs.Tree.{Trees, uint}
 use Rattle.amqp_ser.specs.Scalars.{scalar_form}
 use Rattle.amqp_ser.specs.Encoding.{code_list}
-use Rattle.amqp_size.specs.declared.resolved_kind.ResolvedKind.{ResolvedKind}
-use Rattle.amqp_size.specs.declared.resolved_kind.ResolvedKind.TheVariants as resolved_kind
+use Rattle.amqp_pass.specs.declared.resolved_kind.ResolvedKind.{ResolvedKind}
+use Rattle.amqp_pass.specs.declared.resolved_kind.ResolvedKind.TheVariants as resolved_kind
 use Rattle.amqp_wire.specs.TreeHeaders.{compound_headers}
 use Rattle.amqp_wire.specs.HeaderBytes.{header_bytes, small}
 use Rattle.amqp_wire.specs.Writer.{Kept, puts, leads, opens, PartsFitOutput}

@@ -1,6 +1,6 @@
 -- The positions of the parts of a compound, and the tree of parts that are accepted there.
 use Rattle.std.proofs.Common.{◌≡◌, ℕ, Option, Some, None, Bool, true, false, ◌&&◌, Err, refl, ap, sym, ◌∙◌, subst}
-use Rattle.amqp_size.specs.declared.size_error.SizeError.{SizeError}
+use Rattle.amqp_pass.specs.declared.size_error.SizeError.{SizeError}
 use Rattle.amqp_ser.specs.Tree.{Tree, Trees, list, array, map, variant, transparent, no_trees, more}
 use Rattle.amqp_ser.specs.Encoding.{constructor}
 use Rattle.amqp_ser.specs.Writable.{uniform_arrays, uniform_arrays_each, inside, inside_each, placed, placed_each, one_constructor}
@@ -11,12 +11,12 @@ use Rattle.amqp_ser.proofs.Bools.{both, left_true, right_true}
 use Rattle.amqp_ser.proofs.Joins.{join, joined, uniform_arrays-join, inside-join, kind_none}
 use Rattle.amqp_ser.proofs.Pairing.{pairing, even}
 use Rattle.amqp_size.specs.SizeSerializer.{AtPosition, inner_position_of, one_in, first_position}
-use Rattle.amqp_size.specs.Position.{position_of, meant, without_prefix, suits, element, next, resolved_kind_of, is_array, is_gathered, inner_context_of}
-use Rattle.amqp_size.specs.WholePosition as position
-use Rattle.amqp_size.specs.WholeContext.{Context}
-use Rattle.amqp_size.specs.WholeContext as context
-use Rattle.amqp_size.specs.declared.resolved_kind.ResolvedKind.{ResolvedKind}
-use Rattle.amqp_size.specs.declared.resolved_kind.ResolvedKind.TheVariants as resolved_kind
+use Rattle.amqp_pass.specs.Position.{position_of, meant, without_prefix, suits, element, next, resolved_kind_of, is_array, is_gathered, inner_context_of}
+use Rattle.amqp_pass.specs.WholePosition as position
+use Rattle.amqp_pass.specs.WholeContext.{Context}
+use Rattle.amqp_pass.specs.WholeContext as context
+use Rattle.amqp_pass.specs.declared.resolved_kind.ResolvedKind.{ResolvedKind}
+use Rattle.amqp_pass.specs.declared.resolved_kind.ResolvedKind.TheVariants as resolved_kind
 use Rattle.amqp_size.proofs.Part.{next_inner, suited_inside, more_one}
 use Rattle.amqp_size.proofs.Refusing.{part_bad}
 use Rattle.amqp_size.proofs.Spoil.{bad_in, odd_none, spoiled_rest}

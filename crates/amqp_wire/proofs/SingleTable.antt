@@ -3,7 +3,7 @@ use Rattle.std.proofs.Common.{◌≡◌, List, [], ◌∷◌, ◌++◌, Option, 
 use Rattle.amqp_ser.specs.Tree.{Tree}
 use Rattle.amqp_ser.specs.Compounds.{tree_of_parts, complete}
 use Rattle.amqp_ser.specs.declared.kind.CompoundKind.TheVariants as kinds
-use Rattle.amqp_size.specs.Position.{meant}
+use Rattle.amqp_pass.specs.Position.{meant}
 use Rattle.amqp_ser.proofs.Single.{whole_single}
 use Rattle.amqp_wire.specs.Measurer.{listed, SingleTable}
 use Rattle.amqp_wire.specs.Writer.{Extends}

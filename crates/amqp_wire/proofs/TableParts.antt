@@ -1,21 +1,21 @@
 -- The table after each part.
 use Rattle.std.proofs.Common.{◌≡◌, ℕ, ◌+◌, ◌-◌, ◌≤◌, inl, inr, List, [], ◌∷◌, ◌++◌, Option, Some, None, true, false, Result, Ok, Err, length, refl, ap, sym, ◌∙◌, subst, arith, append_assoc, append-nil, length-append, take}
 use Rattle.std.specs.Prelude.{IfErr}
-use Rattle.amqp_size.specs.declared.size_error.SizeError.{SizeError}
-use Rattle.amqp_size.specs.declared.size_error.SizeError.TheVariants.{OutOfMemory}
+use Rattle.amqp_pass.specs.declared.size_error.SizeError.{SizeError}
+use Rattle.amqp_pass.specs.declared.size_error.SizeError.TheVariants.{OutOfMemory}
 use Rattle.amqp_ser.specs.Tree.{Tree, Trees, no_trees, more, count}
 use Rattle.amqp_ser.specs.Compounds.{all_trees, as_kind, tree_of_parts, paired}
 use Rattle.amqp_ser.specs.declared.kind.CompoundKind.{CompoundKind}
 use Rattle.amqp_ser.specs.declared.kind.CompoundKind.TheVariants as kinds
 use Rattle.amqp_ser.proofs.Bools.{left_true, both, is_le}
 use Rattle.amqp_ser.proofs.Joins.{join, joined, all_trees-append, count-join}
-use Rattle.amqp_size.specs.Position.{position_of, meant, without_prefix, resolved_kind_of, is_array, element_constructor}
+use Rattle.amqp_pass.specs.Position.{position_of, meant, without_prefix, resolved_kind_of, is_array, element_constructor}
 use Rattle.amqp_size.specs.SizeSerializer.{SizePermits, SizeHas, AtPosition, HoldsGathered, HoldsTransparent, Holding, body_bytes, inner_position_of}
-use Rattle.amqp_size.specs.WholePosition.{Root}
-use Rattle.amqp_size.specs.declared.resolved_kind.ResolvedKind.{ResolvedKind}
-use Rattle.amqp_size.specs.WholeContext.{Plain}
+use Rattle.amqp_pass.specs.WholePosition.{Root}
+use Rattle.amqp_pass.specs.declared.resolved_kind.ResolvedKind.{ResolvedKind}
+use Rattle.amqp_pass.specs.WholeContext.{Plain}
 use Rattle.amqp_size.specs.declared.serializer.SizeSerializer.{SizeSerializer}
-use Rattle.amqp_size.specs.declared.open_compound.OpenCompound.{OpenCompound}
+use Rattle.amqp_pass.specs.declared.open_compound.OpenCompound.{OpenCompound}
 use Rattle.amqp_size.proofs.Holding.{at_rest}
 use Rattle.amqp_wire.specs.TreeHeaders.{header, headers_of, headers_of_each, compound_headers, header_count, headers_from, HeadersFit}
 use Rattle.amqp_wire.specs.Measurer.{CountsTree, listed, PartsTable, answered, fills}

@@ -1,16 +1,16 @@
 -- The table of a compound of each kind, step by step.
 use Rattle.std.proofs.Common.{◌≡◌, ℕ, ◌+◌, ◌≤◌, inl, inr, List, [], ◌∷◌, ◌++◌, Option, Bool, true, false, Result, Ok, Err, length, refl, ap, sym, ◌∙◌, subst, append-nil}
-use Rattle.amqp_size.specs.declared.size_error.SizeError.{SizeError}
+use Rattle.amqp_pass.specs.declared.size_error.SizeError.{SizeError}
 use Rattle.amqp_ser.specs.Tree.{Tree, no_trees, count}
 use Rattle.amqp_ser.specs.Compounds.{tree_of_parts, complete}
 use Rattle.amqp_ser.specs.declared.kind.CompoundKind.{CompoundKind}
 use Rattle.amqp_ser.specs.declared.kind.CompoundKind.TheVariants as kinds
-use Rattle.amqp_size.specs.Position.{position_of, meant, without_prefix, resolved_kind_of, element_constructor}
+use Rattle.amqp_pass.specs.Position.{position_of, meant, without_prefix, resolved_kind_of, element_constructor}
 use Rattle.amqp_size.specs.SizeSerializer.{AtPosition, SizePermits, Holding, SingleParts}
-use Rattle.amqp_size.specs.WholePosition.{Root}
-use Rattle.amqp_size.specs.declared.resolved_kind.ResolvedKind.{ResolvedKind}
-use Rattle.amqp_size.specs.WholeContext.{Context}
-use Rattle.amqp_size.specs.WholeContext.{Plain}
+use Rattle.amqp_pass.specs.WholePosition.{Root}
+use Rattle.amqp_pass.specs.declared.resolved_kind.ResolvedKind.{ResolvedKind}
+use Rattle.amqp_pass.specs.WholeContext.{Context}
+use Rattle.amqp_pass.specs.WholeContext.{Plain}
 use Rattle.amqp_wire.specs.TreeHeaders.{header, headers_of_each, header_count, headers_from, HeadersFit}
 use Rattle.amqp_wire.specs.Measurer.{appended, fills, listed, MeasurerPermits, SingleTable, PartsTable, TabledAs}
 use Rattle.amqp_wire.specs.Dense.{dense_each}

@@ -1,15 +1,15 @@
 -- The bytes of a compound of each kind, step by step.
 use Rattle.std.proofs.Common.{◌≡◌, List, [], ◌∷◌, ◌++◌, Option, Some, None, Bool, true, false, Result, Ok, Err, length, refl, ap, sym, ◌∙◌, subst}
-use Rattle.amqp_size.specs.declared.size_error.SizeError.{SizeError}
+use Rattle.amqp_pass.specs.declared.size_error.SizeError.{SizeError}
 use Rattle.amqp_ser.specs.Tree.{Tree}
 use Rattle.amqp_ser.specs.Compounds.{tree_of_parts}
 use Rattle.amqp_ser.specs.declared.kind.CompoundKind.{CompoundKind}
 use Rattle.amqp_ser.specs.declared.kind.CompoundKind.TheVariants as kinds
 use Rattle.amqp_size.specs.SizeSerializer.{AtPosition}
-use Rattle.amqp_size.specs.Position.{position_of, meant, without_prefix, resolved_kind_of}
-use Rattle.amqp_size.specs.WholeContext.{Context}
-use Rattle.amqp_size.specs.WholeContext as context
-use Rattle.amqp_size.specs.declared.resolved_kind.ResolvedKind.TheVariants as resolved_kind
+use Rattle.amqp_pass.specs.Position.{position_of, meant, without_prefix, resolved_kind_of}
+use Rattle.amqp_pass.specs.WholeContext.{Context}
+use Rattle.amqp_pass.specs.WholeContext as context
+use Rattle.amqp_pass.specs.declared.resolved_kind.ResolvedKind.TheVariants as resolved_kind
 use Rattle.amqp_wire.specs.Positions.{part_at, is_single, inner_context_after}
 use Rattle.amqp_wire.specs.Writer.{Kept, SameOutput, takes, wrote, WritesTree, IsAccepted, WriterPermits, WrittenSingle, WrittenParts, WrittenAs}
 use Rattle.amqp_wire.specs.declared.output.Output.{Output}

@@ -3,8 +3,8 @@
 use Rattle.std.specs.Prelude.{ℕ, ◌*◌, List, Bool, true, false, ◌&&◌, length, nat_le, is_some}
 use Rattle.amqp_ser.specs.Tree.{Tree, Trees, Pairs, scalar, list, array, map, described, variant, lazy, transparent, no_trees, more, no_pairs, pair, count, pair_count}
 use Rattle.amqp_ser.specs.Encoding.{encoding_each, encoding_pairs, constructor}
-use Rattle.amqp_size.specs.WholePosition.{Position}
-use Rattle.amqp_size.specs.WholePosition as position
+use Rattle.amqp_pass.specs.WholePosition.{Position}
+use Rattle.amqp_pass.specs.WholePosition as position
 
 -- There are no more parts than bytes.
 abbrev pub count_fits : ℕ → List ℕ → Bool

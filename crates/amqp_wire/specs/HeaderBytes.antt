@@ -5,10 +5,10 @@ use Rattle.amqp_ser.specs.Tree.{Tree, Trees, uint}
 use Rattle.amqp_ser.specs.Limits.{is_short}
 use Rattle.amqp_ser.specs.Scalars.{scalar_form}
 use Rattle.amqp_ser.specs.Encoding.{encoding, payload, encoding_each, payload_each, code_list}
-use Rattle.amqp_size.specs.WholePosition.{Position}
-use Rattle.amqp_size.specs.WholePosition.{Root, InCompound, FirstElement, OtherElement, Descriptor, Value}
-use Rattle.amqp_size.specs.declared.resolved_kind.ResolvedKind.{ResolvedKind}
-use Rattle.amqp_size.specs.declared.resolved_kind.ResolvedKind.TheVariants as resolved_kind
+use Rattle.amqp_pass.specs.WholePosition.{Position}
+use Rattle.amqp_pass.specs.WholePosition.{Root, InCompound, FirstElement, OtherElement, Descriptor, Value}
+use Rattle.amqp_pass.specs.declared.resolved_kind.ResolvedKind.{ResolvedKind}
+use Rattle.amqp_pass.specs.declared.resolved_kind.ResolvedKind.TheVariants as resolved_kind
 use Rattle.amqp_wire.specs.declared.header.Header.{Header}
 use Rattle.amqp_wire.specs.declared.opening.HeaderKind.{HeaderKind}
 use Rattle.amqp_wire.specs.declared.opening.HeaderKind.TheVariants as header_kind

@@ -1,15 +1,15 @@
 -- The permitted results of the first pass: the length of a tree, with its headers at the end of the
 -- table.
 use Rattle.std.specs.Prelude.{◌≡◌, ℕ, ◌+◌, ◌≤◌, ◌⊎◌, List, [], ◌∷◌, ◌++◌, Option, Some, None, Bool, true, false, Result, Ok, Err, length, slice_set}
-use Rattle.amqp_size.specs.declared.size_error.SizeError.{SizeError}
-use Rattle.amqp_size.specs.declared.size_error.SizeError.TheVariants.{OutOfMemory}
+use Rattle.amqp_pass.specs.declared.size_error.SizeError.{SizeError}
+use Rattle.amqp_pass.specs.declared.size_error.SizeError.TheVariants.{OutOfMemory}
 use Rattle.amqp_ser.specs.Tree.{Tree, Trees, count}
 use Rattle.amqp_ser.specs.Compounds.{all_trees, paired}
 use Rattle.amqp_ser.specs.declared.kind.CompoundKind.{CompoundKind}
-use Rattle.amqp_size.specs.Position.{position_of, meant, without_prefix, resolved_kind_of}
+use Rattle.amqp_pass.specs.Position.{position_of, meant, without_prefix, resolved_kind_of}
 use Rattle.amqp_size.specs.SizeSerializer.{SizePermits, SizeHas, SizeAwaits, SizeAwaitsDescriptor, no_count_on_none}
-use Rattle.amqp_size.specs.WholePosition.{Root}
-use Rattle.amqp_size.specs.WholeContext.{Plain}
+use Rattle.amqp_pass.specs.WholePosition.{Root}
+use Rattle.amqp_pass.specs.WholeContext.{Plain}
 use Rattle.amqp_wire.specs.TreeHeaders.{headers_of, headers_of_each, header_count}
 use Rattle.amqp_wire.specs.Dense.{dense, dense_each}
 use Rattle.amqp_wire.specs.Positions.{is_single}

@@ -6,14 +6,14 @@ use Rattle.amqp_ser.specs.Writable.{uniform_arrays_each, inside_each, placed_eac
 use Rattle.amqp_ser.specs.declared.kind.CompoundKind.{CompoundKind}
 use Rattle.amqp_ser.specs.declared.kind.CompoundKind.TheVariants as kinds
 use Rattle.amqp_size.specs.SizeSerializer.{first_position}
-use Rattle.amqp_size.specs.Position.{plainly}
-use Rattle.amqp_size.specs.WholePosition.{Position}
-use Rattle.amqp_size.specs.WholePosition as positions
-use Rattle.amqp_size.specs.WholeContext.{Context}
-use Rattle.amqp_size.specs.WholeContext as context
-use Rattle.amqp_size.specs.declared.position.BasePosition.TheVariants as base
-use Rattle.amqp_size.specs.declared.resolved_kind.ResolvedKind.{ResolvedKind}
-use Rattle.amqp_size.specs.declared.resolved_kind.ResolvedKind.TheVariants as resolved_kind
+use Rattle.amqp_pass.specs.Position.{plainly}
+use Rattle.amqp_pass.specs.WholePosition.{Position}
+use Rattle.amqp_pass.specs.WholePosition as positions
+use Rattle.amqp_pass.specs.WholeContext.{Context}
+use Rattle.amqp_pass.specs.WholeContext as context
+use Rattle.amqp_pass.specs.declared.position.BasePosition.TheVariants as base
+use Rattle.amqp_pass.specs.declared.resolved_kind.ResolvedKind.{ResolvedKind}
+use Rattle.amqp_pass.specs.declared.resolved_kind.ResolvedKind.TheVariants as resolved_kind
 
 -- The position after a descriptor, whose length is not stored. A described value is not a
 -- descriptor.

@@ -1,8 +1,8 @@
 -- The state of the second pass. No length of descriptors is stored next to a position, and none is
 -- needed.
-use Rattle.amqp_size.specs.WholePosition.{Position}
-use Rattle.amqp_size.specs.WholeContext.{Context}
-use Rattle.amqp_size.specs.declared.resolved_kind.ResolvedKind.{ResolvedKind}
+use Rattle.amqp_pass.specs.WholePosition.{Position}
+use Rattle.amqp_pass.specs.WholeContext.{Context}
+use Rattle.amqp_pass.specs.declared.resolved_kind.ResolvedKind.{ResolvedKind}
 use Rattle.amqp_wire.specs.declared.output.Output.{Output}
 use Rattle.amqp_wire.specs.declared.output.Checkpoint.{Checkpoint}
 

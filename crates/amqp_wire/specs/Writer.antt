@@ -2,20 +2,20 @@
 -- are those of the tree.
 use Rattle.std.specs.Prelude.{◌≡◌, ℕ, ◌+◌, ◌<◌, ◌≤◌, List, [], ◌∷◌, ◌++◌, Option, Some, None, Bool, true, false, Result, Ok, Err, length, drop}
 use Rattle.std.specs.Vec.{vec_capacity}
-use Rattle.amqp_size.specs.declared.size_error.SizeError.{SizeError}
+use Rattle.amqp_pass.specs.declared.size_error.SizeError.{SizeError}
 use Rattle.amqp_ser.specs.Tree.{Tree, Trees}
 use Rattle.amqp_ser.specs.Writable.{uniform_arrays, within_limits, within_limits_each}
 use Rattle.amqp_ser.specs.Compounds.{all_trees, paired}
 use Rattle.amqp_ser.specs.declared.kind.CompoundKind.{CompoundKind}
 use Rattle.amqp_ser.proofs.Joins.{join}
 use Rattle.amqp_size.specs.SizeSerializer.{AtPosition}
-use Rattle.amqp_size.specs.Position.{position_of, meant, without_prefix, suits, next, resolved_kind_of}
-use Rattle.amqp_size.specs.WholePosition.{Position}
-use Rattle.amqp_size.specs.WholePosition as positions
-use Rattle.amqp_size.specs.WholeContext.{Context, Plain}
-use Rattle.amqp_size.specs.WholeContext as context
-use Rattle.amqp_size.specs.declared.resolved_kind.ResolvedKind.{ResolvedKind}
-use Rattle.amqp_size.specs.declared.resolved_kind.ResolvedKind.TheVariants.{Single}
+use Rattle.amqp_pass.specs.Position.{position_of, meant, without_prefix, suits, next, resolved_kind_of}
+use Rattle.amqp_pass.specs.WholePosition.{Position}
+use Rattle.amqp_pass.specs.WholePosition as positions
+use Rattle.amqp_pass.specs.WholeContext.{Context, Plain}
+use Rattle.amqp_pass.specs.WholeContext as context
+use Rattle.amqp_pass.specs.declared.resolved_kind.ResolvedKind.{ResolvedKind}
+use Rattle.amqp_pass.specs.declared.resolved_kind.ResolvedKind.TheVariants.{Single}
 use Rattle.amqp_wire.specs.TreeHeaders.{headers_of, headers_of_each, compound_headers}
 use Rattle.amqp_wire.specs.HeaderBytes.{is_element, bytes_at, opening, after_opening, SmallHeaders}
 use Rattle.amqp_wire.specs.Dense.{dense_at, dense_each}

@@ -6,8 +6,9 @@ ghost use Rattle.amqp_ser.specs.Tree.{Tree};
 use crate::header::Header;
 use crate::table::Table;
 use amqp_ser::{Fixed, CompoundKind, Marker, Serializer};
-use amqp_size::width::MAX_LEN;
-use amqp_size::{OpenCompound, SizeSerializer, SizeError};
+use amqp_pass::width::MAX_LEN;
+use amqp_pass::{OpenCompound, SizeError};
+use amqp_size::SizeSerializer;
 use std::alloc::Global;
 
 /// A serializer that measures encodings and lists the headers of their compounds.
@@ -46,8 +47,8 @@ fn limited(sum: usize) -> u32
 }
 
 impl Measurer {
-    ghost use Rattle.amqp_size.specs.WholeContext.{Plain};
-    ghost use Rattle.amqp_size.specs.WholePosition.{Root};
+    ghost use Rattle.amqp_pass.specs.WholeContext.{Plain};
+    ghost use Rattle.amqp_pass.specs.WholePosition.{Root};
 
     /// Creates a measurer at the root, with an empty table.
     #[inline(always)]
@@ -96,12 +97,12 @@ impl MeasurerCompound {
 }
 
 impl Serializer for Measurer {
-    ghost use Rattle.amqp_size.specs.declared.size_error.SizeError.TheVariants.{InvalidValue, TooLong};
+    ghost use Rattle.amqp_pass.specs.declared.size_error.SizeError.TheVariants.{InvalidValue, TooLong};
     ghost use Rattle.amqp_wire.specs.Measurer.{MeasurerPermits, MeasurerHas, MeasurerAwaits, MeasurerAwaitsDescriptor, no_length_of_none};
     ghost use Rattle.amqp_ser.specs.Compounds.{tree_of_parts, complete};
     ghost use Rattle.amqp_ser.specs.Fixed.{fixed_scalar};
     ghost use Rattle.amqp_ser.specs.Tree.{scalar, null, string, binary};
-    ghost use Rattle.amqp_size.specs.Position.{meant};
+    ghost use Rattle.amqp_pass.specs.Position.{meant};
     ghost use Rattle.amqp_ser.specs.Composites.{as_described, descriptor_of};
     ghost use Rattle.amqp_ser.specs.declared.kind.CompoundKind.{CompoundKind};
 

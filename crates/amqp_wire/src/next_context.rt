@@ -1,7 +1,7 @@
 //! Positions of values in the second pass.
 
 ghost use Rattle.std.specs.Prelude.{◌≡◌, Some, MatchResult, true};
-ghost use Rattle.amqp_size.specs.State.{position_at, context_at};
+ghost use Rattle.amqp_pass.specs.State.{position_at, context_at};
 ghost use Rattle.amqp_wire.specs.HeaderBytes.{is_element};
 ghost use Rattle.amqp_wire.specs.Positions.{after_descriptor, inner_context_after};
 ghost use Rattle.amqp_wire.specs.Writer.{Taken};
@@ -9,11 +9,11 @@ ghost use Rattle.amqp_size.specs.SizeSerializer.{refused};
 ghost use Rattle.amqp_ser.specs.Tree.{Tree};
 ghost use Rattle.amqp_ser.specs.Encoding.{constructor};
 ghost use Rattle.amqp_ser.specs.Writable.{uniform_arrays, inside, placed};
-ghost use Rattle.amqp_size.specs.WholeContext.{Plain};
-ghost use Rattle.amqp_size.specs.WholePosition.{Descriptor};
+ghost use Rattle.amqp_pass.specs.WholeContext.{Plain};
+ghost use Rattle.amqp_pass.specs.WholePosition.{Descriptor};
 
 use amqp_data::EncodingCodes;
-use amqp_size::{BasePosition, Context, Position, ResolvedKind, SizeError};
+use amqp_pass::{BasePosition, Context, Position, ResolvedKind, SizeError};
 
 /// Returns whether this is the position of an array element.
 #[inline(always)]

@@ -8,7 +8,7 @@ use crate::header::Header;
 use crate::output::Output;
 use amqp_data::EncodingCodes;
 use amqp_ser::Fixed;
-use amqp_size::{ResolvedKind, SizeError};
+use amqp_pass::{ResolvedKind, SizeError};
 
 /// The kind of a header, which determines its format codes.
 #[derive(Clone, Copy, Debug)]

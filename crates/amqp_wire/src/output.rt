@@ -6,7 +6,7 @@ ghost use Rattle.std.specs.Vec.{vec_capacity};
 use crate::header::Header;
 use amqp_data::EncodingCodes;
 use amqp_ser::Fixed;
-use amqp_size::{ScalarEncoding, SizeError};
+use amqp_pass::{ScalarEncoding, SizeError};
 
 /// A position in an output.
 #[derive(Clone, Copy, Debug)]
@@ -30,8 +30,8 @@ impl Output {
     ghost use Rattle.amqp_wire.specs.Writer.{Kept, puts, nexts};
     ghost use Rattle.amqp_ser.specs.Fixed.{fixed_scalar};
     ghost use Rattle.amqp_ser.specs.Scalars.{scalar_form, scalar_payload};
-    ghost use Rattle.amqp_size.specs.Width.{text_at};
-    ghost use Rattle.amqp_size.specs.ScalarEncoding.{form_bytes, form_payload};
+    ghost use Rattle.amqp_pass.specs.Width.{text_at};
+    ghost use Rattle.amqp_pass.specs.ScalarEncoding.{form_bytes, form_payload};
 
     /// Creates an output that has consumed no header and appends to `out`.
     #[inline(always)]

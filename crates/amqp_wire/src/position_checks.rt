@@ -4,14 +4,14 @@ ghost use Rattle.std.specs.Prelude.{◌≡◌, Some, true};
 ghost use Rattle.amqp_ser.specs.Encoding.{constructor};
 ghost use Rattle.amqp_ser.specs.Tree.{Tree, Trees, transparent};
 ghost use Rattle.amqp_ser.specs.Writable.{uniform_arrays, uniform_arrays_each, inside, placed, placed_each};
-ghost use Rattle.amqp_size.specs.Position.{position_of, without_prefix};
-ghost use Rattle.amqp_size.specs.State.{position_at};
-ghost use Rattle.amqp_size.specs.WholeContext.{Plain};
+ghost use Rattle.amqp_pass.specs.Position.{position_of, without_prefix};
+ghost use Rattle.amqp_pass.specs.State.{position_at};
+ghost use Rattle.amqp_pass.specs.WholeContext.{Plain};
 ghost use Rattle.amqp_wire.specs.Writer.{IsAccepted};
 
 use crate::next_context::context_after;
 use crate::writer::Writer;
-use amqp_size::{Context, Position, SizeError};
+use amqp_pass::{Context, Position, SizeError};
 
 impl Writer {
     /// Clears the pending marker and descriptor.

@@ -6,10 +6,10 @@ ghost use Rattle.amqp_ser.specs.Limits.{fits};
 ghost use Rattle.amqp_ser.specs.Scalars.{scalar_code};
 ghost use Rattle.amqp_ser.specs.Tree.{Scalar, scalar, null, lazy};
 ghost use Rattle.amqp_ser.specs.Writable.{within_limits};
-ghost use Rattle.amqp_size.specs.Position.{without_prefix};
-ghost use Rattle.amqp_size.specs.State.{position_at};
-ghost use Rattle.amqp_size.specs.Width.{text_at};
-ghost use Rattle.amqp_size.specs.WholeContext.{Plain};
+ghost use Rattle.amqp_pass.specs.Position.{without_prefix};
+ghost use Rattle.amqp_pass.specs.State.{position_at};
+ghost use Rattle.amqp_pass.specs.Width.{text_at};
+ghost use Rattle.amqp_pass.specs.WholeContext.{Plain};
 ghost use Rattle.amqp_wire.specs.HeaderBytes.{pick, bytes_at};
 ghost use Rattle.amqp_wire.specs.Writer.{Kept, IsAccepted, WritesTree};
 
@@ -17,8 +17,8 @@ use crate::next_context::{is_element, context_after};
 use crate::writer::Writer;
 use amqp_data::EncodingCodes;
 use amqp_ser::Fixed;
-use amqp_size::width::MAX_LEN;
-use amqp_size::{ScalarEncoding, Position, SizeError};
+use amqp_pass::width::MAX_LEN;
+use amqp_pass::{Position, ScalarEncoding, SizeError};
 
 impl Writer {
     /// Writes a value of fixed width.

@@ -3,8 +3,8 @@
 ghost use Rattle.std.specs.Prelude.{◌≡◌, ◌+◌, ◌≤◌, ◌++◌, ◌∷◌, ◌||◌, [], false, length, take, slice_set};
 
 use crate::header::Header;
-use amqp_size::ResolvedKind;
-use amqp_size::width::{list_width, uint_width};
+use amqp_pass::ResolvedKind;
+use amqp_pass::width::{list_width, uint_width};
 use std::alloc::Global;
 
 /// A table of headers.

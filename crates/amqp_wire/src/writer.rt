@@ -15,7 +15,7 @@ use crate::writer_compound::WriterCompound;
 use amqp_data::EncodingCodes;
 use amqp_frame::is_frame;
 use amqp_ser::{Fixed, CompoundKind, Marker, Serializer};
-use amqp_size::{Context, Position, ScalarMarker, ResolvedKind, SizeError};
+use amqp_pass::{Context, Position, ResolvedKind, ScalarMarker, SizeError};
 use std::marker::Model;
 
 /// A serializer that writes into a buffer whose capacity is allocated in advance, with the headers
@@ -32,7 +32,7 @@ pub struct Writer {
 }
 
 impl Model for Writer {
-    ghost use Rattle.amqp_size.specs.State.{context_at};
+    ghost use Rattle.amqp_pass.specs.State.{context_at};
     ghost use Rattle.amqp_wire.specs.State.{WriterState};
 
     ghost Value = { WriterState };
@@ -44,9 +44,9 @@ impl Writer {
     ghost use Rattle.std.specs.Prelude.{◌≤◌, ◌+◌, false, is_err};
     ghost use Rattle.std.specs.Vec.{vec_capacity};
     ghost use Rattle.amqp_ser.specs.Tree.{Trees};
-    ghost use Rattle.amqp_size.specs.State.{position_at};
-    ghost use Rattle.amqp_size.specs.WholeContext.{Plain};
-    ghost use Rattle.amqp_size.specs.WholePosition.{Root};
+    ghost use Rattle.amqp_pass.specs.State.{position_at};
+    ghost use Rattle.amqp_pass.specs.WholeContext.{Plain};
+    ghost use Rattle.amqp_pass.specs.WholePosition.{Root};
     ghost use Rattle.amqp_wire.specs.HeaderBytes.{is_element};
     ghost use Rattle.amqp_wire.specs.TreeHeaders.{compound_headers};
     ghost use Rattle.amqp_wire.specs.Writer.{Kept, opens, PartsFitOutput};
@@ -123,7 +123,7 @@ impl Writer {
 }
 
 impl Serializer for Writer {
-    ghost use Rattle.amqp_size.specs.declared.size_error.SizeError.TheVariants.{InvalidValue};
+    ghost use Rattle.amqp_pass.specs.declared.size_error.SizeError.TheVariants.{InvalidValue};
     ghost use Rattle.amqp_wire.specs.Writer.{WriterPermits, WriterHas, WriterAwaits, AwaitsDescriptor, nothing_of_none};
     ghost use Rattle.amqp_ser.specs.Compounds.{tree_of_parts};
     ghost use Rattle.amqp_ser.specs.Composites.{as_described, descriptor_of};

@@ -1,7 +1,7 @@
 //! A compound that is being written.
 
 use crate::output::Checkpoint;
-use amqp_size::{Context, Position, ResolvedKind};
+use amqp_pass::{Context, Position, ResolvedKind};
 use std::marker::Model;
 
 /// A compound that is being written.
@@ -18,7 +18,7 @@ pub struct WriterCompound {
 }
 
 impl Model for WriterCompound {
-    ghost use Rattle.amqp_size.specs.State.{position_at, context_at};
+    ghost use Rattle.amqp_pass.specs.State.{position_at, context_at};
     ghost use Rattle.amqp_wire.specs.State.{WriterCompoundState};
 
     ghost Value = { WriterCompoundState };

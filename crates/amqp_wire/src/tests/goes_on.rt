@@ -5,7 +5,8 @@ use crate::measurer::Measurer;
 use crate::writer::Writer;
 use amqp_data::Error;
 use amqp_ser::{Fixed, CompoundKind, Marker, Serializer};
-use amqp_size::{SizeSerializer, SizeError};
+use amqp_pass::SizeError;
+use amqp_size::SizeSerializer;
 use std::alloc::Global;
 
 /// Returns the seed of a part of a compound, from the seed of the compound.

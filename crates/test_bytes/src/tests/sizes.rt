@@ -1,7 +1,7 @@
 //! Lengths of values, calculated by hand from the standard's encoding tables.
 
 ghost use Rattle.amqp_ser.specs.SizeAndBytes.{IsSizeOf};
-ghost use Rattle.amqp_size.specs.Refused.{told};
+ghost use Rattle.amqp_pass.specs.Refused.{told};
 
 use super::calls::samples::NoName;
 use super::compare::is;
@@ -9,7 +9,8 @@ use super::made::{array as array_of, nested_texts, transparent, vector};
 use amqp_data::{Error, TransparentVec};
 use amqp_ser::{CompoundKind, Marker, Serialize, SerializeMap, SerializeSeq, Serializer};
 use amqp_size::width::{array_len, list_len, map_len, text_len};
-use amqp_size::{SizeSerializer, SizeError, serialized_size};
+use amqp_pass::SizeError;
+use amqp_size::{SizeSerializer, serialized_size};
 
 fn text(rt: &HostRuntime, len: usize, in_array: bool, length: usize) -> bool {
     is(

@@ -4,7 +4,8 @@ ghost use Rattle.std.specs.Prelude.{◌≡◌, ◌++◌, ◌∷◌, [], ℕ, Err
 ghost use Rattle.amqp_ser.specs.Tree.{Tree};
 
 use amqp_ser::{Fixed, CompoundKind, Marker, Serialize, Serializer};
-use amqp_size::{OpenCompound, ResolvedKind, SizeSerializer, SizeError};
+use amqp_pass::{OpenCompound, ResolvedKind, SizeError};
+use amqp_size::SizeSerializer;
 use std::alloc::Global;
 
 /// Records each call and passes it to a [`SizeSerializer`].
@@ -37,7 +38,7 @@ impl Calls {
 
 impl Serializer for Calls {
     ghost use Rattle.amqp_size.specs.SizeSerializer.{SizePermits, SizeHas, SizeAwaits, SizeAwaitsDescriptor, no_count_on_none};
-    ghost use Rattle.amqp_size.specs.declared.size_error.SizeError.TheVariants.{InvalidValue};
+    ghost use Rattle.amqp_pass.specs.declared.size_error.SizeError.TheVariants.{InvalidValue};
     ghost use Rattle.amqp_ser.specs.Compounds.{tree_of_parts};
     ghost use Rattle.amqp_ser.specs.Composites.{as_described, descriptor_of};
     ghost use Rattle.amqp_ser.specs.declared.kind.CompoundKind.{CompoundKind};

@@ -1,8 +1,8 @@
 use Rattle.std.proofs.Common.{◌≡◌, ◌+◌, ◌≤◌, length, refl, subst}
 use Rattle.amqp_ser.specs.Compounds.{tree_of_parts}
-use Rattle.amqp_size.specs.Position.{meant}
+use Rattle.amqp_pass.specs.Position.{meant}
 use Rattle.amqp_size.specs.SizeSerializer.{SizePermits}
-use Rattle.amqp_size.specs.declared.resolved_kind.ResolvedKind.{ResolvedKind}
+use Rattle.amqp_pass.specs.declared.resolved_kind.ResolvedKind.{ResolvedKind}
 use Rattle.amqp_wire.specs.TreeHeaders.{header, headers_from, HeadersFit, header_count}
 use Rattle.amqp_wire.specs.Measurer.{fills}
 use Rattle.amqp_wire.specs.Positions.{is_single}

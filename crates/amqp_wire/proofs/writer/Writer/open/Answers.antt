@@ -1,5 +1,5 @@
 use Rattle.std.proofs.Common.{sym, subst}
-use Rattle.amqp_size.specs.State.{position_at}
+use Rattle.amqp_pass.specs.State.{position_at}
 use Rattle.amqp_wire.specs.TreeHeaders.{compound_headers}
 use Rattle.amqp_wire.specs.HeaderBytes.{is_element}
 use Rattle.amqp_wire.specs.Writer.{PartsFitOutput, opens}

@@ -1,11 +1,11 @@
 use Rattle.std.proofs.Common.{◌≡◌, [], refl, subst, ap, sym, ◌∙◌, Ok}
 use Rattle.amqp_ser.specs.Tree.{Trees}
-use Rattle.amqp_size.specs.Position.{position_of, without_prefix, resolved_kind_of, inner_context_of}
-use Rattle.amqp_size.specs.State.{position_at, context_at}
-use Rattle.amqp_size.specs.WholePosition.{Position}
-use Rattle.amqp_size.specs.WholeContext.{Plain}
-use Rattle.amqp_size.specs.declared.resolved_kind.ResolvedKind.{ResolvedKind}
-use Rattle.amqp_size.specs.declared.resolved_kind.ResolvedKind.TheVariants as resolved_kind
+use Rattle.amqp_pass.specs.Position.{position_of, without_prefix, resolved_kind_of, inner_context_of}
+use Rattle.amqp_pass.specs.State.{position_at, context_at}
+use Rattle.amqp_pass.specs.WholePosition.{Position}
+use Rattle.amqp_pass.specs.WholeContext.{Plain}
+use Rattle.amqp_pass.specs.declared.resolved_kind.ResolvedKind.{ResolvedKind}
+use Rattle.amqp_pass.specs.declared.resolved_kind.ResolvedKind.TheVariants as resolved_kind
 use Rattle.amqp_wire.specs.TreeHeaders.{compound_headers}
 use Rattle.amqp_wire.specs.HeaderBytes.{is_element}
 use Rattle.amqp_wire.specs.Positions.{is_single}

@@ -1,12 +1,12 @@
 use Rattle.std.proofs.Common.{◌∙◌, Err, refl, sym, subst, ap}
 use Rattle.amqp_ser.specs.Composites.{as_described, descriptor_of}
-use Rattle.amqp_size.specs.WholeContext.{Plain}
+use Rattle.amqp_pass.specs.WholeContext.{Plain}
 use Rattle.amqp_wire.specs.Writer.{WriterPermits}
 use Rattle.amqp_wire.specs.declared.output.Output.{Output}
 use Rattle.amqp_wire.specs.declared.writer_compound.WriterCompound.{WriterCompound}
 use Rattle.amqp_wire.specs.contracts.writer.Writer.{the_view as stance}
 use Rattle.amqp_wire.specs.contracts.writer_compound.WriterCompound.{the_view as part_of}
-use Rattle.amqp_size.specs.State.{context_at}
+use Rattle.amqp_pass.specs.State.{context_at}
 use Rattle.amqp_wire.proofs.SingleWritten.{alone_open}
 use Rattle.amqp_wire.proofs.DescribedBytes.{value_described, described_refused, nested_refused}
 use Rattle.amqp_wire.proofs.PartBytes.{kept_back, kept-more}

@@ -1,7 +1,7 @@
 use Rattle.std.proofs.Common.{◌∷◌, ◌++◌, ◌∙◌, refl, sym, subst, ap, Err}
 use Rattle.amqp_ser.specs.Compounds.{tree_of_parts}
-use Rattle.amqp_size.specs.State.{context_at}
-use Rattle.amqp_size.specs.WholeContext.{Plain}
+use Rattle.amqp_pass.specs.State.{context_at}
+use Rattle.amqp_pass.specs.WholeContext.{Plain}
 use Rattle.amqp_wire.specs.Positions.{is_single}
 use Rattle.amqp_wire.specs.Writer.{WriterPermits}
 use Rattle.amqp_wire.specs.declared.output.Output.{Output}

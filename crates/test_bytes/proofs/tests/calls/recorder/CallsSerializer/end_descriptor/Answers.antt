@@ -3,9 +3,9 @@ use Rattle.amqp_ser.specs.Tree.{Tree}
 use Rattle.amqp_ser.specs.Composites.{as_described, descriptor_of}
 use Rattle.amqp_ser.specs.declared.kind.CompoundKind.TheVariants as kinds
 use Rattle.amqp_size.specs.SizeSerializer.{SizeHas, SizePermits}
-use Rattle.amqp_size.specs.declared.size_error.SizeError.{SizeError}
+use Rattle.amqp_pass.specs.declared.size_error.SizeError.{SizeError}
 use Rattle.amqp_size.specs.declared.serializer.SizeSerializer.{SizeSerializer}
-use Rattle.amqp_size.specs.declared.open_compound.OpenCompound.{OpenCompound}
+use Rattle.amqp_pass.specs.declared.open_compound.OpenCompound.{OpenCompound}
 use Rattle.test_bytes.specs.declared.tests.calls.recorder.Calls.{Calls}
 use Rattle.test_bytes.proofs.tests.calls.recorder.CallsSerializer.end_descriptor.Goals as goal
 

@@ -19,7 +19,7 @@ pub const MAX_COUNT: usize = 4294967295;
 ///
 /// # Errors
 /// Returns `TooLong` if `n` exceeds `MAX_LEN`.
-pub(crate) fn within_limit(n: usize) -> Result<usize, Error>
+pub fn within_limit(n: usize) -> Result<usize, Error>
     ensures { MatchResult result (λ same. (fits n ≡ true) × (same ≡ n))
         (λ e. (fits n ≡ false) × (e ≡ Error.TooLong)) }
 {

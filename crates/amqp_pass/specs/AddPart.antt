@@ -1,12 +1,12 @@
 -- Adding a part to a compound.
 use Rattle.std.specs.Prelude.{◌≡◌, ℕ, ◌+◌, Bool, true, ◌⊎◌, ◌<◌, ◌≤◌}
-use Rattle.amqp_size.specs.declared.size_error.SizeError.{SizeError}
-use Rattle.amqp_size.specs.declared.size_error.SizeError.TheVariants as error
-use Rattle.amqp_size.specs.Position.{prefix_len_of}
-use Rattle.amqp_size.specs.WholePosition.{Position}
-use Rattle.amqp_size.specs.WholePosition.{FirstElement, OtherElement, Descriptor}
-use Rattle.amqp_size.specs.WholeContext.{Context}
-use Rattle.amqp_size.specs.WholeContext as context
+use Rattle.amqp_pass.specs.declared.size_error.SizeError.{SizeError}
+use Rattle.amqp_pass.specs.declared.size_error.SizeError.TheVariants as error
+use Rattle.amqp_pass.specs.Position.{prefix_len_of}
+use Rattle.amqp_pass.specs.WholePosition.{Position}
+use Rattle.amqp_pass.specs.WholePosition.{FirstElement, OtherElement, Descriptor}
+use Rattle.amqp_pass.specs.WholeContext.{Context}
+use Rattle.amqp_pass.specs.WholeContext as context
 
 -- The length of the constructor, which is counted at the first element.
 abbrev pub constructor_len : Position → Position → ℕ

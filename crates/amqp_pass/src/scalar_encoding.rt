@@ -22,7 +22,7 @@ pub struct ScalarEncoding {
 }
 
 impl ScalarEncoding {
-    ghost use Rattle.amqp_size.specs.ScalarEncoding.{form_bytes, form_payload};
+    ghost use Rattle.amqp_pass.specs.ScalarEncoding.{form_bytes, form_payload};
 
     #[inline(always)]
     fn new(code: u8, width: usize, bits: u64) -> ScalarEncoding

@@ -3,8 +3,8 @@
 ghost use Rattle.std.specs.Prelude.{◌≡◌, ℕ, Option};
 ghost use Rattle.amqp_ser.specs.Tree.{Tree};
 ghost use Rattle.amqp_ser.specs.Marked.{with_marker};
-ghost use Rattle.amqp_size.specs.State.{position_at, context_at};
-ghost use Rattle.amqp_size.specs.Position.{position_of, meant, without_prefix, inner_context_of, resolved_kind_of, the_marker};
+ghost use Rattle.amqp_pass.specs.State.{position_at, context_at};
+ghost use Rattle.amqp_pass.specs.Position.{position_of, meant, without_prefix, inner_context_of, resolved_kind_of, the_marker};
 
 use crate::position::Position;
 use crate::scalar_marker::ScalarMarker;

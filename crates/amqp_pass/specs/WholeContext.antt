@@ -1,6 +1,6 @@
 -- The position of a value with the lengths of its descriptors, and the pending marker.
-use Rattle.amqp_size.specs.declared.scalar_marker.ScalarMarker.{ScalarMarker}
-use Rattle.amqp_size.specs.WholePosition.{Position}
+use Rattle.amqp_pass.specs.declared.scalar_marker.ScalarMarker.{ScalarMarker}
+use Rattle.amqp_pass.specs.WholePosition.{Position}
 
 pub data Context : Type 0 where
   Plain : Position → Context

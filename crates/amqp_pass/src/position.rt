@@ -1,8 +1,8 @@
 //! The position of a value.
 
 ghost use Rattle.std.specs.Prelude.{◌≡◌, ◌+◌, ℕ, Some, MatchResult};
-ghost use Rattle.amqp_size.specs.State.{position_at};
-ghost use Rattle.amqp_size.specs.Position.{without_prefix, base_position, takes_described, element_constructor, described_position, prefix_len_of};
+ghost use Rattle.amqp_pass.specs.State.{position_at};
+ghost use Rattle.amqp_pass.specs.Position.{without_prefix, base_position, takes_described, element_constructor, described_position, prefix_len_of};
 
 use crate::size_error::SizeError;
 
@@ -77,7 +77,7 @@ impl Position {
     /// # Errors
     /// Returns `InvalidValue` at the position of a descriptor.
     #[inline(always)]
-    pub(crate) fn after_descriptor(self) -> Result<Position, SizeError>
+    pub fn after_descriptor(self) -> Result<Position, SizeError>
         ensures { MatchResult result
             (λ p. (h n : ℕ) →
             described_position (position_at self h) n
@@ -96,7 +96,7 @@ impl Position {
 
     /// Returns `prefix_len` after a descriptor, and 0 at any other position.
     #[inline(always)]
-    pub(crate) fn prefix_len(self, prefix_len: usize) -> usize
+    pub fn prefix_len(self, prefix_len: usize) -> usize
         ensures { result ≡ prefix_len_of (position_at self prefix_len) }
     {
         match self {

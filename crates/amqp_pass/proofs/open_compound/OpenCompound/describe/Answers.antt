@@ -1,11 +1,11 @@
 use Rattle.std.proofs.Common.{◌≡◌, refl, sym, ap, ◌∙◌, subst, arith}
-use Rattle.amqp_size.specs.declared.size_error.SizeError.TheVariants as error
-use Rattle.amqp_size.specs.State.{position_at, context_at}
-use Rattle.amqp_size.specs.AddPart.{Undescribed}
-use Rattle.amqp_size.specs.WholeContext.{Plain}
-use Rattle.amqp_size.specs.declared.open_compound.OpenCompound.{OpenCompound}
-use Rattle.amqp_size.proofs.Settled.{too_long}
-use Rattle.amqp_size.proofs.open_compound.OpenCompound.describe.Goals as goal
+use Rattle.amqp_pass.specs.declared.size_error.SizeError.TheVariants as error
+use Rattle.amqp_pass.specs.State.{position_at, context_at}
+use Rattle.amqp_pass.specs.AddPart.{Undescribed}
+use Rattle.amqp_pass.specs.WholeContext.{Plain}
+use Rattle.amqp_pass.specs.declared.open_compound.OpenCompound.{OpenCompound}
+use Rattle.amqp_pass.proofs.DescribedLemmas.{too_long}
+use Rattle.amqp_pass.proofs.open_compound.OpenCompound.describe.Goals as goal
 
 pub returns-then-size-prefix_len-clause-kept : goal.returns-then-size-prefix_len-clause-kept
 returns-then-size-prefix_len-clause-kept c =

@@ -5,7 +5,7 @@ ghost use Rattle.amqp_ser.specs.Tree.{Tree};
 ghost use Rattle.amqp_ser.specs.Limits.{is_length};
 ghost use Rattle.amqp_ser.specs.Composites.{descriptor_of};
 ghost use Rattle.amqp_ser.specs.Encoding.{constructor};
-ghost use Rattle.amqp_size.specs.Position.{takes_described};
+ghost use Rattle.amqp_pass.specs.Position.{takes_described};
 
 use crate::position::BasePosition;
 use crate::size_error::SizeError;
@@ -15,7 +15,7 @@ use amqp_data::EncodingCodes;
 ///
 /// # Errors
 /// Returns `InvalidValue` if the constructor is that of another type.
-pub(crate) fn descriptor_len(code: u8, ordinary: usize) -> Result<usize, SizeError>
+pub fn descriptor_len(code: u8, ordinary: usize) -> Result<usize, SizeError>
     ensures { (t : Tree) → constructor t ≡ Some code → MatchResult result
         (λ n. (is_some (descriptor_of (Some t)) ≡ true) × (n ≡ ordinary))
         (λ e. (is_some (descriptor_of (Some t)) ≡ false) × (e ≡ SizeError.InvalidValue)) }
@@ -32,7 +32,7 @@ pub(crate) fn descriptor_len(code: u8, ordinary: usize) -> Result<usize, SizeErr
 /// # Errors
 /// Returns `InvalidValue` if `base` does not accept a described value, and `TooLong` if the length
 /// exceeds `usize::MAX`.
-pub(crate) fn described_len(
+pub fn described_len(
     prefix_len: usize,
     base: BasePosition,
     ordinary: usize,

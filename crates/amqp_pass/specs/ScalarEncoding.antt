@@ -1,7 +1,7 @@
 -- A format code and the bytes of a number after it.
 use Rattle.std.specs.Prelude.{ℕ, List, ◌∷◌}
 use Rattle.std.specs.Int.{bytes_high_first}
-use Rattle.amqp_size.specs.declared.scalar_encoding.ScalarEncoding.{ScalarEncoding}
+use Rattle.amqp_pass.specs.declared.scalar_encoding.ScalarEncoding.{ScalarEncoding}
 
 -- The bytes after the code: the low bytes of `bits`, in big-endian order.
 abbrev pub form_payload : ScalarEncoding → List ℕ

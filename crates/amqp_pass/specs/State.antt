@@ -1,12 +1,12 @@
 -- Positions as they are stored, in single bytes, with the length of descriptors next to them.
 use Rattle.std.specs.Prelude.{ℕ}
-use Rattle.amqp_size.specs.declared.position.Position.{Position as KeptPosition}
-use Rattle.amqp_size.specs.declared.position.Position.TheVariants as kept
-use Rattle.amqp_size.specs.declared.context.Context.{Context as KeptContext}
-use Rattle.amqp_size.specs.declared.context.Context.TheVariants as kept_context
-use Rattle.amqp_size.specs.declared.resolved_kind.ResolvedKind.{ResolvedKind}
-use Rattle.amqp_size.specs.WholePosition.{Position, Root, InCompound, FirstElement, OtherElement, Descriptor, Value}
-use Rattle.amqp_size.specs.WholeContext.{Context, Plain, Array, Transparent, Scalar, Nothing}
+use Rattle.amqp_pass.specs.declared.position.Position.{Position as KeptPosition}
+use Rattle.amqp_pass.specs.declared.position.Position.TheVariants as kept
+use Rattle.amqp_pass.specs.declared.context.Context.{Context as KeptContext}
+use Rattle.amqp_pass.specs.declared.context.Context.TheVariants as kept_context
+use Rattle.amqp_pass.specs.declared.resolved_kind.ResolvedKind.{ResolvedKind}
+use Rattle.amqp_pass.specs.WholePosition.{Position, Root, InCompound, FirstElement, OtherElement, Descriptor, Value}
+use Rattle.amqp_pass.specs.WholeContext.{Context, Plain, Array, Transparent, Scalar, Nothing}
 
 -- The position after `h` bytes of descriptors, if it is after descriptors.
 abbrev pub position_at : KeptPosition → ℕ → Position

@@ -1,7 +1,7 @@
 //! Why a pass over a value fails.
 
 ghost use Rattle.std.specs.Prelude.{◌≡◌};
-ghost use Rattle.amqp_size.specs.Refused.{error_of};
+ghost use Rattle.amqp_pass.specs.Refused.{error_of};
 
 use amqp_data::Error;
 

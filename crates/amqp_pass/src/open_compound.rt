@@ -1,7 +1,7 @@
 //! A compound that is being measured.
 
 ghost use Rattle.std.specs.Prelude.{◌≡◌, ◌<◌, ◌+◌, ◌≤◌, ℕ, Some, true, false, MatchResult, IfOk, IfErr, if◌then◌else◌};
-ghost use Rattle.amqp_size.specs.Position.{limit_of};
+ghost use Rattle.amqp_pass.specs.Position.{limit_of};
 
 use crate::limits::{MAX_LEN, MAX_COUNT};
 use crate::context::Context;
@@ -26,8 +26,8 @@ pub struct OpenCompound {
 
 impl Model for OpenCompound {
     ghost use Rattle.std.specs.Prelude.{◌≤◌};
-    ghost use Rattle.amqp_size.specs.State.{position_at, context_at, OpenState};
-    ghost use Rattle.amqp_size.specs.Position.{limit_of};
+    ghost use Rattle.amqp_pass.specs.State.{position_at, context_at, OpenState};
+    ghost use Rattle.amqp_pass.specs.Position.{limit_of};
 
     ghost Value = { OpenState };
 
@@ -46,13 +46,13 @@ impl Model for OpenCompound {
 }
 
 impl OpenCompound {
-    ghost use Rattle.amqp_size.specs.State.{position_at, context_at};
-    ghost use Rattle.amqp_size.specs.AddPart.{constructor_len_in, PassesLimit, Undescribed};
-    ghost use Rattle.amqp_size.specs.Position.{position_of, without_prefix, element_constructor, is_array, is_gathered, inner_context_of, described_context};
+    ghost use Rattle.amqp_pass.specs.State.{position_at, context_at};
+    ghost use Rattle.amqp_pass.specs.AddPart.{constructor_len_in, PassesLimit, Undescribed};
+    ghost use Rattle.amqp_pass.specs.Position.{position_of, without_prefix, element_constructor, is_array, is_gathered, inner_context_of, described_context};
 
     /// Returns an empty compound of this shape at this position.
     #[inline(always)]
-    pub(crate) fn new(context: Context, prefix_len: usize, resolved_kind: ResolvedKind) -> OpenCompound
+    pub fn new(context: Context, prefix_len: usize, resolved_kind: ResolvedKind) -> OpenCompound
         ensures position { result.position ≡ position_of (context_at context prefix_len) }
         ensures resolved_kind { result.resolved_kind ≡ resolved_kind }
         ensures inner_context { result.inner_context ≡ inner_context_of resolved_kind (context_at context prefix_len) }
@@ -98,7 +98,7 @@ impl OpenCompound {
 
     /// Returns the position of the compound.
     #[inline(always)]
-    pub(crate) fn position(&self) -> Position
+    pub fn position(&self) -> Position
         ensures { position_at result self.now.prefix_len ≡ self.now.position }
     {
         self.position
@@ -107,7 +107,7 @@ impl OpenCompound {
     /// Returns the position of the next part. For a single compound that has its value, this is the
     /// position after the value.
     #[inline(always)]
-    pub(crate) fn inner_context(&self) -> Context
+    pub fn inner_context(&self) -> Context
         ensures { context_at result self.now.prefix_len ≡ self.now.inner_context }
     {
         self.inner_context
@@ -116,7 +116,7 @@ impl OpenCompound {
     /// Returns the length of the descriptors before the value, if `position` or `inner_context` is after a
     /// descriptor.
     #[inline(always)]
-    pub(crate) fn prefix_len(&self) -> usize
+    pub fn prefix_len(&self) -> usize
         ensures { result ≡ self.now.prefix_len }
     {
         self.prefix_len
@@ -124,7 +124,7 @@ impl OpenCompound {
 
     /// Returns the number of elements of an array.
     #[inline(always)]
-    pub(crate) fn count(&self) -> usize
+    pub fn count(&self) -> usize
         ensures { result ≡ self.now.count }
     {
         self.count
@@ -132,7 +132,7 @@ impl OpenCompound {
 
     /// Restores the total size before the last part.
     #[inline(always)]
-    pub(crate) fn undo(&mut self)
+    pub fn undo(&mut self)
         ensures sum { self.new.sum ≡ self.old.before_last }
         ensures position { self.new.position ≡ self.old.position }
         ensures resolved_kind { self.new.resolved_kind ≡ self.old.resolved_kind }
@@ -149,7 +149,7 @@ impl OpenCompound {
     /// Returns `TooLong` if a limit is exceeded, and `InvalidValue` for a second value of a single
     /// compound. The compound is then unchanged.
     #[inline(always)]
-    pub(crate) fn add_part(&mut self, size: usize, after: Context) -> Result<(), SizeError>
+    pub fn add_part(&mut self, size: usize, after: Context) -> Result<(), SizeError>
         ensures gathered { is_gathered self.old.resolved_kind ≡ true → MatchResult result
             (λ _.
             (self.new.sum ≡ size + constructor_len_in (is_array self.old.resolved_kind) self.old.inner_context
@@ -290,7 +290,7 @@ impl OpenCompound {
     /// Returns `InvalidValue` at the position of a descriptor, and `TooLong` if the length of the
     /// descriptors exceeds `usize::MAX`. The compound is then unchanged.
     #[inline(always)]
-    pub(crate) fn describe(&mut self, size: usize) -> Result<(), SizeError>
+    pub fn describe(&mut self, size: usize) -> Result<(), SizeError>
         ensures kept { MatchResult result
             (λ _. described_context self.old.inner_context size ≡ Some self.new.inner_context)
             (λ e. (self.new ≡ self.old) × Undescribed self.old.inner_context size e) }

@@ -5,7 +5,7 @@
 
 ghost use Rattle.std.specs.Prelude.{◌≡◌, ◌≤◌, ◌&&◌, ℕ, List, length, true, false, MatchResult, IfOk};
 ghost use Rattle.amqp_ser.specs.Limits.{fits, is_count};
-ghost use Rattle.amqp_size.specs.Width.{uint_width, text_width, map_width, list_width, array_width, text_at, list_at, map_at, array_at};
+ghost use Rattle.amqp_pass.specs.Width.{uint_width, text_width, map_width, list_width, array_width, text_at, list_at, map_at, array_at};
 
 use crate::limits::within_limit;
 pub use crate::limits::{MAX_LEN, MAX_COUNT};
@@ -25,7 +25,7 @@ pub fn uint_width(n: u32) -> usize
 }
 
 /// Returns the length of a text or a binary of `n` bytes outside an array.
-pub(crate) fn text_width(n: usize) -> usize
+pub fn text_width(n: usize) -> usize
     requires { n ≤ 4294967291 }
     ensures { result ≡ text_width n }
 {
@@ -33,7 +33,7 @@ pub(crate) fn text_width(n: usize) -> usize
 }
 
 /// Returns the length of a map whose body has `n` bytes.
-pub(crate) fn map_width(n: usize) -> usize
+pub fn map_width(n: usize) -> usize
     requires { n ≤ 4294967291 }
     ensures { result ≡ map_width n }
 {
@@ -49,7 +49,7 @@ pub fn list_width(n: usize) -> usize
 }
 
 /// Returns the length of an array of `count` elements whose content has `n` bytes.
-pub(crate) fn array_width(n: usize, count: usize) -> usize
+pub fn array_width(n: usize, count: usize) -> usize
     requires { n ≤ 4294967291 }
     ensures { result ≡ array_width n count }
 {
