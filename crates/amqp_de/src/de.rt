@@ -1,6 +1,8 @@
 //! The traits for reading, and the types of their methods.
 
 pub use crate::access::{EnumAccess, MapAccess, SeqAccess, VariantAccess};
+pub use crate::calls::compounds::DeserializeCompounds;
+pub use crate::calls::scalars::DeserializeScalars;
 pub use crate::content::Content;
 pub use crate::deserialize::Deserialize;
 pub use crate::deserializer::Deserializer;

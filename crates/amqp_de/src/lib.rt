@@ -2,6 +2,7 @@
 #![tactic(auto)]
 
 mod access;
+mod calls;
 mod composite;
 mod content;
 pub mod de;

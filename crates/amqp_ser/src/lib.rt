@@ -6,6 +6,7 @@
 //! traits, the compounds and the trees of Rust's own types. It does not write bytes.
 #![tactic(auto)]
 
+mod calls;
 mod composite;
 mod compound;
 mod fields;
@@ -20,6 +21,8 @@ mod serialize;
 mod serializer;
 mod struct_encoding;
 
+pub use calls::compounds::SerializeCompounds;
+pub use calls::scalars::SerializeScalars;
 pub use composite::{ListOf, MapOf, SymbolMapOf, VariantOf};
 pub use compound::{
     SerializeMap, SerializeSeq, SerializeStruct, SerializeStructVariant, SerializeTuple,

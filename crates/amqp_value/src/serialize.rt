@@ -4,7 +4,7 @@ ghost use Rattle.std.specs.Prelude.{Some};
 ghost use Rattle.amqp_value.specs.TreeOf.{tree_of};
 
 use crate::Value;
-use amqp_ser::{Serialize, Serializer};
+use amqp_ser::{Serialize, SerializeScalars, Serializer};
 
 impl Serialize for Value {
     ghost tree = { λ v. Some (tree_of v) };

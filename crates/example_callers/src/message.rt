@@ -6,7 +6,7 @@
 ghost use Rattle.example_callers.specs.Sections.{of_header, of_properties, of_section};
 
 use amqp_data::{ByteBuf, OrderedMap};
-use amqp_ser::{ListOf, Serialize, Serializer, fields};
+use amqp_ser::{ListOf, Serialize, SerializeCompounds, Serializer, fields};
 
 /// The header of a message: details of its delivery (AMQP 1.0 part 3, section 3.2.1). The first
 /// three fields.

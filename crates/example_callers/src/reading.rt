@@ -8,7 +8,7 @@ ghost use Rattle.amqp_ser.specs.Tree.{scalar, string, uint, int};
 ghost use Rattle.amqp_ser.specs.Compounds.{tree_of_parts};
 ghost use Rattle.amqp_ser.specs.declared.kind.CompoundKind.TheVariants.{List};
 
-use amqp_ser::{Serialize, Serializer};
+use amqp_ser::{Serialize, SerializeCompounds, Serializer};
 
 /// A reading of a thermometer.
 #[derive(Debug, Drop)]

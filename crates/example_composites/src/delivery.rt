@@ -14,7 +14,7 @@ use crate::restricted::{ReceiverSettleMode, Role};
 use crate::values::{
     DeliveryNumber, DeliveryTag, FieldMap, Handle, MessageFormat, SequenceNumber, TransferNumber,
 };
-use amqp_ser::{ListOf, Serialize, Serializer, fields};
+use amqp_ser::{ListOf, Serialize, SerializeCompounds, Serializer, fields};
 
 /// The flow performative, which updates how much may be sent in a session and on a link (AMQP 1.0
 /// part 2, section 2.7.4).

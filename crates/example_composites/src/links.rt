@@ -16,7 +16,7 @@ use crate::restricted::{ReceiverSettleMode, Role, SenderSettleMode};
 use crate::termini::{Source, Target};
 use crate::values::{DeliveryTag, FieldMap, Handle, Multiple, SequenceNumber};
 use amqp_data::{OrderedMap, Symbol};
-use amqp_ser::{ListOf, Serialize, Serializer, fields};
+use amqp_ser::{ListOf, Serialize, SerializeCompounds, Serializer, fields};
 
 /// The attach performative, which attaches a link (AMQP 1.0 part 2, section 2.7.3).
 ///

@@ -10,7 +10,7 @@ ghost use Rattle.example_composites.specs.Values.{of_address, of_annotations, of
 
 use crate::values::{Address, Annotations, MessageId, Milliseconds, SequenceNumber, SimpleValue};
 use amqp_data::{ByteBuf, OrderedMap, Symbol, Timestamp};
-use amqp_ser::{ListOf, Serialize, Serializer, fields};
+use amqp_ser::{ListOf, Serialize, SerializeCompounds, Serializer, fields};
 use amqp_value::Value;
 
 /// The header: details of the delivery of a message (AMQP 1.0 part 3, section 3.2.1).

@@ -11,7 +11,7 @@ ghost use Rattle.example_composites.specs.Values.{of_fields, of_multiple};
 use crate::outcomes::ErrorReport;
 use crate::values::{FieldMap, Handle, LanguageTag, Milliseconds, Multiple, TransferNumber};
 use amqp_data::Symbol;
-use amqp_ser::{ListOf, Serialize, Serializer, fields};
+use amqp_ser::{ListOf, Serialize, SerializeCompounds, Serializer, fields};
 
 /// The open performative, which opens a connection (AMQP 1.0 part 2, section 2.7.1).
 #[derive(Drop)]

@@ -8,7 +8,7 @@ ghost use Rattle.example_composites.specs.Values.{of_address, of_annotation_key,
 use amqp_data::{
     Array, ByteBuf, Dec32, Dec64, Dec128, F32Bits, F64Bits, OrderedMap, Symbol, Timestamp, Uuid,
 };
-use amqp_ser::{Serialize, Serializer};
+use amqp_ser::{Serialize, SerializeScalars, Serializer};
 use amqp_value::Value;
 
 /// The number of a link in its session (AMQP 1.0 part 2, section 2.8.4).

@@ -6,7 +6,7 @@
 use amqp_data::Symbol;
 use amqp_de::de::{Deserialize, Deserializer};
 use amqp_de::{NamedSeed, TypeSeed, Record, named, read_described};
-use amqp_ser::{Serialize, Serializer};
+use amqp_ser::{Serialize, SerializeCompounds, Serializer};
 use std::alloc::Global;
 use std::marker::PhantomData;
 

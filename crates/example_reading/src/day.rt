@@ -7,7 +7,7 @@
 use amqp_data::{Symbol, SymbolRef};
 use amqp_de::de::{Deserialize, Deserializer};
 use amqp_de::{Record, named, read, read_described};
-use amqp_ser::{Serialize, Serializer};
+use amqp_ser::{Serialize, SerializeCompounds, Serializer};
 use std::alloc::Global;
 use std::collections::BTreeMap;
 

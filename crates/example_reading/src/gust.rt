@@ -5,7 +5,7 @@
 
 use amqp_de::de::{Deserialize, Deserializer};
 use amqp_de::{Record, named, read_described};
-use amqp_ser::{Serialize, Serializer};
+use amqp_ser::{Serialize, SerializeCompounds, Serializer};
 use std::alloc::Global;
 
 /// A gust of wind: a list described by the code 0x17.

@@ -5,7 +5,7 @@
 
 use amqp_de::de::{Deserialize, Deserializer};
 use amqp_de::{Record, named, read_described_map, read_map};
-use amqp_ser::{Serialize, Serializer};
+use amqp_ser::{Serialize, SerializeCompounds, Serializer};
 use std::alloc::Global;
 
 /// Corrections to the readings of a thermometer: a map described by the code 0x15.

@@ -8,7 +8,7 @@ use amqp_de::{
     DataVariant, EnumSeed, ListSeed, Optional, Required, Never, TypeSeed, Either, Record, DeserializeSeed, UnitVariant, named, read,
     variant, variants,
 };
-use amqp_ser::{Serialize, Serializer, VariantOf};
+use amqp_ser::{Serialize, SerializeCompounds, SerializeScalars, Serializer, VariantOf};
 use std::alloc::Global;
 
 /// The state of the sky.

@@ -4,7 +4,7 @@
 //! crate cannot re-export the macros of another.
 
 pub use amqp_de::de::{
-    Content, Deserialize, Deserializer, EnumAccess, MapAccess, Plain, DeserializeError, SeqAccess,
+    Content, Deserialize, DeserializeCompounds, DeserializeScalars, Deserializer, EnumAccess, MapAccess, Plain, DeserializeError, SeqAccess,
     VariantAccess, Visit, Visitor,
 };
 pub use amqp_de::{

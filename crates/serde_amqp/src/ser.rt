@@ -5,7 +5,7 @@
 
 pub use amqp_data::markers;
 pub use amqp_ser::{
-    Field, Fields, Fixed, Keys, CompoundKind, ListOf, MapOf, Marker, OptionalField, Serialize, SerializeMap,
+    Field, Fields, Fixed, Keys, CompoundKind, ListOf, MapOf, Marker, OptionalField, Serialize, SerializeCompounds, SerializeMap, SerializeScalars,
     SerializeSeq, SerializeStruct, SerializeStructVariant, SerializeTuple, SerializeTupleStruct,
     SerializeTupleVariant, Serializer, SymbolMapOf, VariantOf, marker_named,
 };

@@ -1,7 +1,7 @@
 //! A list of fourteen fields.
 
 use amqp_data::Error;
-use amqp_ser::{ListOf, Serialize, Serializer, fields};
+use amqp_ser::{ListOf, Serialize, SerializeCompounds, Serializer, fields};
 use std::alloc::Global;
 
 /// The fields of an attach performative: strings, numbers, booleans, and some fields that are

@@ -2,7 +2,7 @@
 
 use crate::attach::Attach;
 use amqp_data::markers;
-use amqp_ser::{Serialize, Serializer};
+use amqp_ser::{Serialize, SerializeCompounds, Serializer};
 
 /// The fields, serialized one at a time.
 #[derive(Drop)]

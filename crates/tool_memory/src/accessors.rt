@@ -4,6 +4,7 @@ ghost use Rattle.std.specs.Prelude.{◌≡◌};
 ghost use Rattle.amqp_de.specs.Events.{visit_of};
 ghost use Rattle.amqp_de.specs.declared.shown.Visit.TheVariants as kind;
 
+use amqp_de::de::DeserializeCompounds;
 use amqp_data::{ByteBuf, Error, OrderedMap, markers};
 use amqp_de::de::{
     Deserialize, Deserializer as Reads, EnumAccess as Enum, MapAccess as Entries, Plain, DeserializeError,

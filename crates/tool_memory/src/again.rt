@@ -4,7 +4,7 @@ ghost use Rattle.std.specs.Prelude.{[], ◌∷◌};
 ghost use Rattle.amqp_ser.specs.Compounds.{tree_of_parts};
 ghost use Rattle.amqp_ser.specs.declared.kind.CompoundKind.TheVariants.{List};
 
-use amqp_ser::{Serialize, Serializer};
+use amqp_ser::{Serialize, SerializeCompounds, Serializer};
 
 /// A list of one element, which is serialized a second time if the first attempt fails.
 #[derive(Drop)]

@@ -9,7 +9,7 @@ ghost use Rattle.amqp_ser.specs.Words.{list_composite, map_composite, of_bool, o
 use crate::report::report;
 use crate::written;
 use amqp_data::{Array, Error, OrderedMap, Symbol, markers};
-use amqp_ser::{ListOf, MapOf, Serialize, Serializer, fields};
+use amqp_ser::{ListOf, MapOf, Serialize, SerializeCompounds, Serializer, fields};
 use std::alloc::Global;
 
 /// A composite of a bool and a number, as a list.

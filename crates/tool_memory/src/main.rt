@@ -28,9 +28,9 @@
 //! | the same | `FieldSeeds::read_elements`, `Required::read_elements`, `Optional::read_elements`, `Elements::new` |
 //! | the same | `FieldSeeds::read_entries`, `Required::read_entries`, `Optional::read_entries`, `Entries::new`, `DeserializeSeed::deserialize` |
 //! | the same | `Variants::deserialize`, `EnumSeed::deserialize`, `UnitVariant::deserialize`, `DataVariant::deserialize` |
-//! | calls of a serializer | `Serializer::serialize_str`, `Serializer::serialize_bytes`, `Serializer::serialize_some` |
-//! | the same | `Serializer::serialize_newtype_struct`, `Serializer::serialize_newtype_variant` |
-//! | the same | `Serializer::serialize_described`, `Serializer::end_part`, `Serializer::end_descriptor` |
+//! | calls of a serializer | `Serializer::serialize_str`, `Serializer::serialize_bytes`, `SerializeCompounds::serialize_some` |
+//! | the same | `SerializeCompounds::serialize_newtype_struct`, `SerializeCompounds::serialize_newtype_variant` |
+//! | the same | `SerializeCompounds::serialize_described`, `Serializer::end_part`, `Serializer::end_descriptor` |
 //! | the same | `Serializer::end`, `SerializeSeq::serialize_element`, `SerializeSeq::end`, `SerializeMap::end` |
 //! | the same | `SerializeMap::serialize_key`, `SerializeMap::serialize_value`, `SerializeMap::serialize_entry` |
 //! | the same | `SerializeStruct::serialize_field`, `SerializeStruct::end`, `SerializeTupleStruct::serialize_field` |
@@ -44,8 +44,8 @@
 //! | the same | `MapAccess::next_key_seed`, `MapAccess::next_value_seed`, `MapAccess::next_entry_seed` |
 //! | the same | `EnumAccess::variant`, `EnumAccess::variant_seed`, `VariantAccess::newtype_variant` |
 //! | the same | `VariantAccess::newtype_variant_seed`, `Deserialize::deserialize` |
-//! | the same | `Deserializer::deserialize_written`, `Deserializer::deserialize_marked` |
-//! | the same | `Deserializer::deserialize_newtype_struct` |
+//! | the same | `DeserializeCompounds::deserialize_written`, `DeserializeCompounds::deserialize_marked` |
+//! | the same | `DeserializeCompounds::deserialize_newtype_struct` |
 //! | a run over lines, over frames | `run_lines`, `run_cut`, `VecWriter::new`, `Write::put` |
 #![tactic(auto)]
 

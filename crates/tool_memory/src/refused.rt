@@ -5,7 +5,7 @@ ghost use Rattle.std.specs.Prelude.{None};
 
 use crate::report::report;
 use amqp_data::{Described, Descriptor, Error, markers};
-use amqp_ser::{Serialize, Serializer as Calls};
+use amqp_ser::{Serialize, SerializeCompounds, Serializer as Calls};
 use amqp_to_value::Serializer;
 use amqp_value::Value;
 use std::alloc::Global;

@@ -5,7 +5,7 @@ ghost use Rattle.amqp_ser.specs.Marked.{marker_of};
 
 use crate::{maps, structs};
 use amqp_data::markers;
-use amqp_ser::{Marker, Serialize, Serializer};
+use amqp_ser::{Marker, Serialize, SerializeCompounds, Serializer};
 
 /// Way to combine three values, or some of them.
 #[derive(Clone, Copy)]

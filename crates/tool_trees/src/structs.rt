@@ -7,7 +7,7 @@ ghost use Rattle.amqp_ser.specs.Tree.{scalar, string};
 ghost use Rattle.amqp_ser.specs.declared.kind.CompoundKind.TheVariants.{List, Map, Variant};
 
 use amqp_data::markers;
-use amqp_ser::{Serialize, Serializer};
+use amqp_ser::{Serialize, SerializeCompounds, Serializer};
 
 /// Serializes a described list of two fields.
 pub fn list<S: Serializer, T: Serialize>(

@@ -8,6 +8,7 @@ ghost use Rattle.amqp_de.specs.Enums.{value_of};
 ghost use Rattle.amqp_de.specs.Events.{ByList, Returns};
 ghost use Rattle.amqp_de.specs.Fields.{There};
 
+use crate::calls::compounds::DeserializeCompounds;
 use crate::deserialize::Deserialize;
 use crate::deserializer::Deserializer;
 use crate::deserialize_error::DeserializeError;

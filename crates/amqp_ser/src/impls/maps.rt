@@ -4,6 +4,7 @@ ghost use Rattle.amqp_ser.specs.Compounds.{parts_of, tree_of_parts};
 ghost use Rattle.amqp_ser.specs.declared.kind.CompoundKind.TheVariants.{Map};
 ghost use Rattle.amqp_data.specs.Pairs.{entries_of};
 
+use crate::calls::compounds::SerializeCompounds;
 use crate::serialize::Serialize;
 use crate::serializer::Serializer;
 use amqp_data::OrderedMap;

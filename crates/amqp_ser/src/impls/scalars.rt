@@ -3,6 +3,7 @@
 ghost use Rattle.std.specs.Prelude.{Some};
 ghost use Rattle.amqp_ser.specs.Tree.{scalar, null, bool, ubyte, ushort, uint, ulong, byte, short, int, long, char};
 
+use crate::calls::scalars::SerializeScalars;
 use crate::serialize::Serialize;
 use crate::serializer::Serializer;
 

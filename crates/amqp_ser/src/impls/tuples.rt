@@ -4,6 +4,7 @@ ghost use Rattle.std.specs.Prelude.{◌∷◌, []};
 ghost use Rattle.amqp_ser.specs.Compounds.{tree_of_parts};
 ghost use Rattle.amqp_ser.specs.declared.kind.CompoundKind.TheVariants.{List};
 
+use crate::calls::compounds::SerializeCompounds;
 use crate::serialize::Serialize;
 use crate::serializer::Serializer;
 

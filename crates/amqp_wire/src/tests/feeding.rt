@@ -9,7 +9,7 @@ use super::refused::NoTree;
 use crate::measurer::Measurer;
 use crate::writer::Writer;
 use amqp_data::{Error, markers};
-use amqp_ser::{Marker, Serialize, Serializer};
+use amqp_ser::{Marker, Serialize, SerializeCompounds, Serializer};
 use amqp_size::SizeSerializer;
 use std::alloc::Global;
 

@@ -4,7 +4,7 @@
 use crate::measurer::Measurer;
 use crate::writer::Writer;
 use amqp_data::Error;
-use amqp_ser::{Fixed, CompoundKind, Marker, Serializer};
+use amqp_ser::{CompoundKind, Fixed, Marker, SerializeScalars, Serializer};
 use amqp_pass::SizeError;
 use amqp_size::SizeSerializer;
 use std::alloc::Global;

@@ -3,7 +3,7 @@
 
 use super::feeding::{Feed, built, is};
 use amqp_data::{Array, Described, Descriptor, TransparentVec};
-use amqp_ser::Serializer;
+use amqp_ser::{SerializeCompounds, Serializer};
 use std::alloc::Global;
 
 #[derive(Drop)]

@@ -3,7 +3,7 @@
 
 use super::feeding::{Feed, built, is};
 use amqp_data::{Array, TransparentVec, markers};
-use amqp_ser::{CompoundKind, Marker, Serializer};
+use amqp_ser::{CompoundKind, Marker, SerializeCompounds, SerializeScalars, Serializer};
 use std::alloc::Global;
 
 /// A map whose first key is an array with elements of two kinds.

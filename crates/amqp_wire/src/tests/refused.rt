@@ -3,7 +3,7 @@
 ghost use Rattle.std.specs.Prelude.{None};
 
 use super::feeding::{Feed, has};
-use amqp_ser::{Marker, Serialize, Serializer};
+use amqp_ser::{Marker, Serialize, SerializeCompounds, SerializeScalars, Serializer};
 
 /// A number with the symbol marker: it has no tree.
 pub struct NoTree;

@@ -9,7 +9,7 @@ ghost use Rattle.amqp_ser.specs.Tree.{scalar, ubyte};
 
 use super::{wrong, wrong_error, wrong_number};
 use amqp_data::{Described, Descriptor, Error, markers};
-use amqp_ser::{Serialize, Serializer};
+use amqp_ser::{Serialize, SerializeCompounds, Serializer};
 use crate::counter::count_nodes;
 use crate::reading::Reading;
 use std::alloc::Global;

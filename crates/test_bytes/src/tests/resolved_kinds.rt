@@ -5,7 +5,7 @@ ghost use Rattle.amqp_ser.specs.Compounds.{tree_of_parts};
 ghost use Rattle.amqp_ser.specs.Tree.{scalar, ulong, int, string};
 ghost use Rattle.amqp_ser.specs.declared.kind.CompoundKind.TheVariants as kind;
 
-use amqp_ser::{Marker, Serialize, Serializer};
+use amqp_ser::{Marker, Serialize, SerializeCompounds, SerializeScalars, Serializer};
 use std::cell::Cell;
 
 /// A newtype variant with index 1.

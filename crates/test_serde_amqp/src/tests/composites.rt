@@ -9,7 +9,7 @@ ghost use Rattle.amqp_ser.specs.declared.kind.CompoundKind.TheVariants.{List};
 use super::made::{array, described, list, pairs, symbol, text};
 use super::rows::{begins, begins_of, only_imaged, own_image_of, refused_of, row, row_of, wrong};
 use amqp_data::{Described, Descriptor, OrderedMap, Symbol, SymbolRef, markers};
-use amqp_ser::{Serialize, Serializer};
+use amqp_ser::{Serialize, SerializeCompounds, Serializer};
 use serde_amqp::Value;
 use std::alloc::Global;
 

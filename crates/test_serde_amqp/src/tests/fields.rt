@@ -2,6 +2,7 @@
 //! names.
 
 use super::rows::{row, shows};
+use serde_amqp::ser::SerializeCompounds;
 use serde_amqp::ser::{
     Field, Fields, Fixed, Keys, CompoundKind, ListOf, MapOf, OptionalField, SerializeTuple, Serializer,
     SymbolMapOf, VariantOf,

@@ -11,6 +11,7 @@ ghost use Rattle.serde_amqp.specs.Lines.{AreLines, lines_of};
 
 use super::made::{array, list, pairs, symbol};
 use super::rows::{holds, is_bytes, is_length, is_value, shows, wrong};
+use serde_amqp::ser::{SerializeScalars, SerializeCompounds};
 use serde_amqp::ser::{
     Serialize, SerializeMap, SerializeSeq, SerializeStruct, SerializeStructVariant,
     SerializeTupleStruct, SerializeTupleVariant, Serializer as _,

@@ -3,6 +3,7 @@
 use super::made::{self, described, pairs};
 use super::rows::holds;
 use super::support::is;
+use serde_amqp::de::DeserializeCompounds;
 use serde_amqp::de::{
     Deserialize as _, Deserializer as _, EnumAccess as _, MapAccess as _, DeserializeSeed as _,
     SeqAccess as _, VariantAccess as _,

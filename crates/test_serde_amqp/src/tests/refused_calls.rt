@@ -10,6 +10,7 @@ ghost use Rattle.amqp_ser.specs.declared.kind.CompoundKind.TheVariants as kind;
 
 use super::with_marker::Newtype;
 use super::rows::{has_no_tree, row};
+use serde_amqp::ser::SerializeCompounds;
 use serde_amqp::ser::{CompoundKind, Serialize, Serializer, markers};
 
 /// Serializes an element; fails if the element has no tree.

@@ -7,7 +7,7 @@ ghost use Rattle.amqp_ser.specs.Tree.{scalar, ubyte};
 use super::made::{list, pairs};
 use super::rows::{has_no_tree, imaged_of, refused_of, row, row_of};
 use amqp_data::{OrderedMap, TransparentVec, markers};
-use amqp_ser::{Serialize, Serializer};
+use amqp_ser::{Serialize, SerializeCompounds, Serializer};
 use std::alloc::Global;
 
 /// A variant of the enum named `VALUE`.

@@ -7,7 +7,7 @@ ghost use Rattle.amqp_ser.specs.declared.kind.CompoundKind.TheVariants as kind;
 
 use super::made::{array, pairs};
 use super::rows::{own_image_of, row, row_of};
-use amqp_ser::{Serialize, Serializer};
+use amqp_ser::{Serialize, SerializeCompounds, SerializeScalars, Serializer};
 use serde_amqp::Value;
 use std::alloc::Global;
 

@@ -5,7 +5,7 @@ mod compounds;
 mod memory;
 mod rows;
 
-use amqp_ser::{Serialize, Serializer};
+use amqp_ser::{Serialize, SerializeCompounds, SerializeScalars, Serializer};
 
 fn unit<S: Serializer>(serializer: &mut S) -> Result<S::Ok, S::Error> {
     serializer.serialize_unit()

@@ -9,7 +9,7 @@ ghost use Rattle.amqp_ser.specs.Tree.{code, scalar, string, ubyte, ushort, uint,
 ghost use Rattle.amqp_ser.specs.declared.kind.CompoundKind.TheVariants as kind;
 
 use amqp_data::markers;
-use amqp_ser::{MapOf, Serialize, Serializer, fields};
+use amqp_ser::{MapOf, Serialize, SerializeCompounds, Serializer, fields};
 
 /// The first fields of the performative that opens a connection (AMQP 1.0 part 2, section 2.7.1).
 #[derive(Drop)]

@@ -8,7 +8,7 @@ ghost use Rattle.amqp_ser.specs.declared.kind.CompoundKind.TheVariants as kind;
 
 use super::recorded;
 use super::recorder::new_calls;
-use amqp_ser::{Marker, SerializeSeq, Serializer};
+use amqp_ser::{Marker, SerializeCompounds, SerializeScalars, SerializeSeq, Serializer};
 use std::mem;
 
 /// Serializes a key, reads from the serializer, and serializes the value: the result is that of a

@@ -9,7 +9,7 @@ ghost use Rattle.amqp_data.specs.Text.{symbol_text};
 ghost use Rattle.amqp_data.specs.Fixed.{milliseconds_of};
 
 use amqp_data::{Symbol, Timestamp, markers};
-use amqp_ser::{Serialize, Serializer};
+use amqp_ser::{Serialize, SerializeCompounds, Serializer};
 
 /// A struct of three fields, serialized as a list.
 #[derive(Drop)]

@@ -7,6 +7,8 @@ ghost use Rattle.amqp_de.specs.Events.{seq_event, enum_event, visit_of, ByList};
 ghost use Rattle.amqp_de.specs.Fields.{There};
 ghost use Rattle.amqp_de.specs.Reads.{Always};
 
+use amqp_de::de::{DeserializeScalars, DeserializeCompounds};
+use amqp_ser::SerializeScalars;
 use super::super::rows::{fails, gives, invalid, is};
 use super::super::values::{array, described, list, map, name, string, symbol};
 use super::{reads, refuses, variant_1};

@@ -4,7 +4,7 @@ use super::super::rows::{gives, invalid, is};
 use super::super::values::{array, described, list, map, string, vec_of};
 use super::{newtype_variant, unit};
 use amqp_data::{Descriptor, Error, OrderedMap, TransparentVec, markers};
-use amqp_ser::CompoundKind;
+use amqp_ser::{CompoundKind, SerializeCompounds, SerializeScalars};
 use amqp_to_value::{Serializer, to_value};
 use amqp_value::Value;
 

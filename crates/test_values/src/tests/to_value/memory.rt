@@ -1,5 +1,6 @@
 //! Rows that hold whichever allocation fails. Run them with `rt try --test --fail-alloc N`.
 
+use amqp_ser::SerializeCompounds;
 use super::super::rows::{gives, is, wrong};
 use super::{newtype_variant, unit};
 use amqp_data::{Array, ByteBuf, Described, Descriptor, Error, OrderedMap, Symbol, markers};

@@ -8,7 +8,7 @@ use amqp_data::{
     ByteBuf, Dec32, Dec64, Dec128, Described, Descriptor, F32Bits, F64Bits, SymbolRef, Timestamp,
     TransparentVec, Uuid, markers,
 };
-use amqp_ser::{Serialize, Serializer};
+use amqp_ser::{Serialize, SerializeCompounds, Serializer};
 use amqp_to_value::{TryFromSerializable, to_value};
 use amqp_value::Value;
 use amqp_wire::to_vec;

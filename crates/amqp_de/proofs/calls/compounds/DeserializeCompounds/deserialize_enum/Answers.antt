@@ -1,5 +1,5 @@
 use Rattle.std.proofs.Common.{sym, ◌∙◌}
-use Rattle.amqp_de.proofs.deserializer.Deserializer.deserialize_enum.Goals as goal
+use Rattle.amqp_de.proofs.calls.compounds.DeserializeCompounds.deserialize_enum.Goals as goal
 
 pub returns-then-is_descriptor_name-clause-read : goal.returns-then-is_descriptor_name-clause-read
 returns-then-is_descriptor_name-clause-read g c =
