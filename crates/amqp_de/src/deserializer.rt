@@ -1,11 +1,11 @@
 //! Source of one value, opened level by level.
 
-ghost use Rattle.std.specs.Prelude.{◌≡◌, ◌↔◌, IsTrue, List, false};
-ghost use Rattle.amqp_ser.specs.Tree.{Tree, scalar, null, bool, ubyte, uint, ulong, string};
+ghost use Rattle.std.specs.Prelude.{◌≡◌, ◌↔◌, IsTrue, List};
+ghost use Rattle.amqp_ser.specs.Tree.{Tree, scalar, null, bool};
 ghost use Rattle.amqp_value.specs.TreeOf.{tree_of};
 ghost use Rattle.amqp_de.specs.Answers.{TakesNext, TakesPair, TakesNamed};
 ghost use Rattle.amqp_de.specs.ContentTree.{content_tree};
-ghost use Rattle.amqp_de.specs.Events.{is_index, Returns};
+ghost use Rattle.amqp_de.specs.Events.{is_index};
 
 use crate::content::Content;
 use crate::deserialize_error::DeserializeError;

@@ -22,3 +22,4 @@ pub mod StructFeeding
 pub mod OpenStructs
 pub mod Named
 pub mod Words
+pub mod Ends

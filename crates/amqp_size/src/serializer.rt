@@ -1,8 +1,9 @@
 //! The serializer that measures values, and `serialized_size`.
 
-ghost use Rattle.std.specs.Prelude.{◌≡◌, ◌+◌, ◌≤◌, ◌++◌, ◌∷◌, ◌&&◌, ◌⊎◌, [], List, Option, Some, None, Result, Ok, Err, MatchResult, IfOk, IfErr, IsErr, is_some, true, false, length, ℕ};
+ghost use Rattle.std.specs.Prelude.{◌≡◌, ◌+◌, ◌≤◌, [], List, Option, Some, None, Result, Ok, Err, IfOk, IfErr, IsErr, true, ℕ};
 ghost use Rattle.amqp_ser.specs.Tree.{Tree};
-ghost use Rattle.amqp_ser.specs.Composites.{as_described, descriptor_of};
+ghost use Rattle.amqp_ser.specs.Ends.{EndsPart, EndsDescriptor};
+ghost use Rattle.amqp_ser.specs.Composites.{descriptor_of};
 ghost use Rattle.amqp_ser.specs.SizeAndBytes.{IsSizeOf};
 ghost use Rattle.amqp_pass.specs.WholeContext.{Plain};
 ghost use Rattle.amqp_pass.specs.WholePosition as whole_position;
@@ -276,13 +277,8 @@ impl Serializer for SizeSerializer {
         compound: &mut OpenCompound,
         part: Result<usize, SizeError>,
     ) -> Result<(), SizeError>
-        ensures step { (start : SizeSerializer) (kind : CompoundKind) (before : SizeSerializer)
-            (ps : List (Option Tree)) (p : Option Tree) →
-            SizeAwaits start kind before compound.old ps → SizePermits before p part self.old →
-            MatchResult result
-            (λ _. SizeHas start kind self.new compound.new (ps ++ (p ∷ [])))
-            (λ e. SizeHas start kind self.new compound.new ps × ((rest : List (Option Tree)) →
-            SizePermits start (tree_of_parts kind (ps ++ (p ∷ rest))) (Err e) self.new)) }
+        ensures step { EndsPart SizePermits SizeHas SizeAwaits
+            self.old compound.old part result self.new compound.new }
         ensures refused { IfErr part (λ _. IsErr result) }
         ensures same { IfErr part
             (λ e. (result ≡ Err e)
@@ -314,16 +310,8 @@ impl Serializer for SizeSerializer {
         compound: &mut OpenCompound,
         part: Result<usize, SizeError>,
     ) -> Result<(), SizeError>
-        ensures step { (start before : SizeSerializer) (d : Option Tree) →
-            SizeAwaitsDescriptor start before compound.old → SizePermits before d part self.old →
-            MatchResult result
-            (λ _. (mid : SizeSerializer)
-            × (SizeHas mid CompoundKind.Single self.new compound.new []
-            × ((t : Option Tree) (r : Result ℕ SizeError) (after : SizeSerializer) →
-            SizePermits mid t r after →
-            SizePermits start (as_described (descriptor_of d) t) r after)))
-            (λ e. SizeHas start CompoundKind.Single self.new compound.new [] × ((t : Option Tree) →
-            SizePermits start (as_described (descriptor_of d) t) (Err e) self.new)) }
+        ensures step { EndsDescriptor SizePermits SizeHas SizeAwaitsDescriptor
+            self.old compound.old part result self.new compound.new }
         ensures refused { IfErr part (λ _. IsErr result) }
         ensures other_kinds { (start before : SizeSerializer) (d : Option Tree) →
             SizeAwaitsDescriptor start before compound.old → SizePermits before d part self.old →

@@ -1,6 +1,6 @@
 //! The serializer that returns untyped values.
 
-ghost use Rattle.std.specs.Prelude.{◌≡◌, ◌++◌, ◌∷◌, [], List, Option, Result, Err, MatchResult, IfErr, IsErr};
+ghost use Rattle.std.specs.Prelude.{◌≡◌, ◌++◌, [], Option, Result, Err, IfErr, IsErr};
 ghost use Rattle.amqp_ser.specs.Tree.{Tree};
 ghost use Rattle.amqp_to_value.specs.PendingDescriptors.{standing};
 ghost use Rattle.amqp_to_value.specs.ValueSerializer.{IsFresh, ValuePermits};
@@ -105,8 +105,8 @@ impl Serializer {
 
 impl amqp_ser::Serializer for Serializer {
     ghost use Rattle.amqp_data.specs.declared.error.Error.TheVariants.{InvalidValue};
-    ghost use Rattle.amqp_ser.specs.Composites.{as_described, descriptor_of};
-    ghost use Rattle.amqp_ser.specs.Compounds.{tree_of_parts};
+    ghost use Rattle.amqp_ser.specs.Ends.{EndsPart, EndsDescriptor};
+    ghost use Rattle.amqp_ser.specs.Composites.{descriptor_of};
     ghost use Rattle.amqp_ser.specs.declared.kind.CompoundKind.{CompoundKind};
     ghost use Rattle.amqp_to_value.specs.ValueSerializer.{all_held, ValuePermits, ValueHas, ValueAwaits, ValueAwaitsDescriptor, no_value_of_none};
 
@@ -192,13 +192,8 @@ impl amqp_ser::Serializer for Serializer {
 
     #[inline(always)]
     fn end_part(&mut self, compound: &mut OpenValue, part: Result<Value, Error>) -> Result<(), Error>
-        ensures step { (start : Serializer) (kind : CompoundKind) (before : Serializer)
-            (ps : List (Option Tree)) (p : Option Tree) →
-            ValueAwaits start kind before compound.old ps → ValuePermits before p part self.old →
-            MatchResult result
-            (λ _. ValueHas start kind self.new compound.new (ps ++ (p ∷ [])))
-            (λ e. ValueHas start kind self.new compound.new ps × ((rest : List (Option Tree)) →
-            ValuePermits start (tree_of_parts kind (ps ++ (p ∷ rest))) (Err e) self.new)) }
+        ensures step { EndsPart ValuePermits ValueHas ValueAwaits
+            self.old compound.old part result self.new compound.new }
         ensures refused { IfErr part (λ _. IsErr result) }
     {
         self.descriptors.release(compound.saved);
@@ -243,16 +238,8 @@ impl amqp_ser::Serializer for Serializer {
         compound: &mut OpenValue,
         part: Result<Value, Error>,
     ) -> Result<(), Error>
-        ensures step { (start before : Serializer) (d : Option Tree) →
-            ValueAwaitsDescriptor start before compound.old → ValuePermits before d part self.old →
-            MatchResult result
-            (λ _. (mid : Serializer)
-            × (ValueHas mid CompoundKind.Single self.new compound.new []
-            × ((t : Option Tree) (r : Result Value Error) (after : Serializer) →
-            ValuePermits mid t r after →
-            ValuePermits start (as_described (descriptor_of d) t) r after)))
-            (λ e. ValueHas start CompoundKind.Single self.new compound.new [] × ((t : Option Tree) →
-            ValuePermits start (as_described (descriptor_of d) t) (Err e) self.new)) }
+        ensures step { EndsDescriptor ValuePermits ValueHas ValueAwaitsDescriptor
+            self.old compound.old part result self.new compound.new }
         ensures refused { IfErr part (λ _. IsErr result) }
         ensures other_kinds { (start before : Serializer) (d : Option Tree) →
             ValueAwaitsDescriptor start before compound.old → ValuePermits before d part self.old →

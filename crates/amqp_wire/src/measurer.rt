@@ -1,6 +1,6 @@
 //! The first pass: measures an encoding and lists the headers of its compounds.
 
-ghost use Rattle.std.specs.Prelude.{◌≡◌, ◌≤◌, ◌++◌, ◌∷◌, [], List, Option, Result, Ok, Err, MatchResult, IfErr, IsErr, true, false, ℕ};
+ghost use Rattle.std.specs.Prelude.{◌≡◌, ◌≤◌, [], List, Option, Result, Ok, Err, IfErr, IsErr, true, false};
 ghost use Rattle.amqp_ser.specs.Tree.{Tree};
 
 use crate::header::Header;
@@ -99,11 +99,12 @@ impl MeasurerCompound {
 impl Serializer for Measurer {
     ghost use Rattle.amqp_pass.specs.declared.size_error.SizeError.TheVariants.{InvalidValue, TooLong};
     ghost use Rattle.amqp_wire.specs.Measurer.{MeasurerPermits, MeasurerHas, MeasurerAwaits, MeasurerAwaitsDescriptor, no_length_of_none};
+    ghost use Rattle.amqp_ser.specs.Ends.{EndsPart, EndsDescriptor};
     ghost use Rattle.amqp_ser.specs.Compounds.{tree_of_parts, complete};
     ghost use Rattle.amqp_ser.specs.Fixed.{fixed_scalar};
     ghost use Rattle.amqp_ser.specs.Tree.{scalar, null, string, binary};
     ghost use Rattle.amqp_pass.specs.Position.{meant};
-    ghost use Rattle.amqp_ser.specs.Composites.{as_described, descriptor_of};
+    ghost use Rattle.amqp_ser.specs.Composites.{descriptor_of};
     ghost use Rattle.amqp_ser.specs.declared.kind.CompoundKind.{CompoundKind};
 
     type Ok = usize;
@@ -207,14 +208,8 @@ impl Serializer for Measurer {
         compound: &mut MeasurerCompound,
         part: Result<usize, SizeError>,
     ) -> Result<(), SizeError>
-        ensures step { (start : Measurer) (kind : CompoundKind) (before : Measurer)
-            (ps : List (Option Tree))
-            (p : Option Tree) → MeasurerAwaits start kind before compound.old ps →
-            MeasurerPermits before p part self.old →
-            MatchResult result
-            (λ _. MeasurerHas start kind self.new compound.new (ps ++ (p ∷ [])))
-            (λ e. MeasurerHas start kind self.new compound.new ps × ((rest : List (Option Tree)) →
-            MeasurerPermits start (tree_of_parts kind (ps ++ (p ∷ rest))) (Err e) self.new)) }
+        ensures step { EndsPart MeasurerPermits MeasurerHas MeasurerAwaits
+            self.old compound.old part result self.new compound.new }
         ensures refused { IfErr part (λ _. IsErr result) }
     {
         let answer = compound.answer(part);
@@ -243,17 +238,8 @@ impl Serializer for Measurer {
         compound: &mut MeasurerCompound,
         part: Result<usize, SizeError>,
     ) -> Result<(), SizeError>
-        ensures step { (start before : Measurer) (d : Option Tree) →
-            MeasurerAwaitsDescriptor start before compound.old →
-            MeasurerPermits before d part self.old →
-            MatchResult result
-            (λ _. (mid : Measurer)
-            × (MeasurerHas mid CompoundKind.Single self.new compound.new []
-            × ((t : Option Tree) (r : Result ℕ SizeError) (after : Measurer) →
-            MeasurerPermits mid t r after →
-            MeasurerPermits start (as_described (descriptor_of d) t) r after)))
-            (λ e. MeasurerHas start CompoundKind.Single self.new compound.new [] × ((t : Option Tree) →
-            MeasurerPermits start (as_described (descriptor_of d) t) (Err e) self.new)) }
+        ensures step { EndsDescriptor MeasurerPermits MeasurerHas MeasurerAwaitsDescriptor
+            self.old compound.old part result self.new compound.new }
         ensures refused { IfErr part (λ _. IsErr result) }
         ensures other_kinds { (start before : Measurer) (d : Option Tree) →
             MeasurerAwaitsDescriptor start before compound.old →

@@ -5,7 +5,7 @@
 //! of a tree only if no call returns an error. If they do not suffice, what is written is
 //! discarded.
 
-ghost use Rattle.std.specs.Prelude.{◌≡◌, ◌++◌, ◌∷◌, [], List, Option, Some, None, Result, Ok, Err, MatchResult, IfErr, IsErr, nat_le, length};
+ghost use Rattle.std.specs.Prelude.{◌≡◌, ◌++◌, ◌∷◌, [], List, Option, None, Result, Ok, Err, IfErr, IsErr, nat_le, length};
 ghost use Rattle.amqp_ser.specs.Tree.{Tree};
 
 use crate::header::Header;
@@ -125,8 +125,9 @@ impl Writer {
 impl Serializer for Writer {
     ghost use Rattle.amqp_pass.specs.declared.size_error.SizeError.TheVariants.{InvalidValue};
     ghost use Rattle.amqp_wire.specs.Writer.{WriterPermits, WriterHas, WriterAwaits, AwaitsDescriptor, nothing_of_none};
+    ghost use Rattle.amqp_ser.specs.Ends.{EndsPart, EndsDescriptor};
     ghost use Rattle.amqp_ser.specs.Compounds.{tree_of_parts};
-    ghost use Rattle.amqp_ser.specs.Composites.{as_described, descriptor_of};
+    ghost use Rattle.amqp_ser.specs.Composites.{descriptor_of};
     ghost use Rattle.amqp_ser.specs.declared.kind.CompoundKind.{CompoundKind};
 
     type Ok = ();
@@ -290,13 +291,8 @@ impl Serializer for Writer {
         compound: &mut WriterCompound,
         part: Result<(), SizeError>,
     ) -> Result<(), SizeError>
-        ensures step { (start : Writer) (kind : CompoundKind) (before : Writer) (ps : List (Option Tree))
-            (p : Option Tree) → WriterAwaits start kind before compound.old ps →
-            WriterPermits before p part self.old →
-            MatchResult result
-            (λ _. WriterHas start kind self.new compound.new (ps ++ (p ∷ [])))
-            (λ e. WriterHas start kind self.new compound.new ps × ((rest : List (Option Tree)) →
-            WriterPermits start (tree_of_parts kind (ps ++ (p ∷ rest))) (Err e) self.new)) }
+        ensures step { EndsPart WriterPermits WriterHas WriterAwaits
+            self.old compound.old part result self.new compound.new }
         ensures refused { IfErr part (λ _. IsErr result) }
     {
         let after = self.context;
@@ -327,16 +323,8 @@ impl Serializer for Writer {
         compound: &mut WriterCompound,
         part: Result<(), SizeError>,
     ) -> Result<(), SizeError>
-        ensures step { (start before : Writer) (d : Option Tree) →
-            AwaitsDescriptor start before compound.old → WriterPermits before d part self.old →
-            MatchResult result
-            (λ _. (mid : Writer)
-            × (WriterHas mid CompoundKind.Single self.new compound.new []
-            × ((t : Option Tree) (r : Result (Unit {0}) SizeError) (after : Writer) →
-            WriterPermits mid t r after →
-            WriterPermits start (as_described (descriptor_of d) t) r after)))
-            (λ e. WriterHas start CompoundKind.Single self.new compound.new [] × ((t : Option Tree) →
-            WriterPermits start (as_described (descriptor_of d) t) (Err e) self.new)) }
+        ensures step { EndsDescriptor WriterPermits WriterHas AwaitsDescriptor
+            self.old compound.old part result self.new compound.new }
         ensures refused { IfErr part (λ _. IsErr result) }
         ensures other_kinds { (start before : Writer) (d : Option Tree) →
             AwaitsDescriptor start before compound.old → WriterPermits before d part self.old →

@@ -3,7 +3,7 @@
 //! For readers who implement `Serializer`: shows all required methods. The definitions of its
 //! contract are in `specs/Nodes.antt`, and the proofs in `proofs/`.
 
-ghost use Rattle.std.specs.Prelude.{◌≡◌, ◌≤◌, ◌+◌, ◌^◌, ◌++◌, ◌∷◌, [], ℕ, List, Option, Some, None, Result, Ok, Err, MatchResult, IfErr, IsErr, true, false};
+ghost use Rattle.std.specs.Prelude.{◌≡◌, ◌≤◌, ◌+◌, ◌^◌, Option, None, Result, Ok, Err, MatchResult, IfErr, IsErr, true, false};
 ghost use Rattle.amqp_data.specs.declared.error.Error.TheVariants.{InvalidValue, TooLong};
 ghost use Rattle.amqp_ser.specs.Tree.{Tree};
 ghost use Rattle.example_callers.specs.Nodes.{CountsNodes, fresh};
@@ -91,8 +91,8 @@ impl NodeCounter {
 
 impl Serializer for NodeCounter {
     ghost use Rattle.amqp_ser.specs.declared.kind.CompoundKind.{CompoundKind};
-    ghost use Rattle.amqp_ser.specs.Compounds.{tree_of_parts};
-    ghost use Rattle.amqp_ser.specs.Composites.{as_described, descriptor_of};
+    ghost use Rattle.amqp_ser.specs.Ends.{EndsPart, EndsDescriptor};
+    ghost use Rattle.amqp_ser.specs.Composites.{descriptor_of};
     ghost use Rattle.example_callers.specs.Nodes.{Awaits, AwaitsDescriptor, Has, Permits, no_count_on_none};
 
     type Ok = u64;
@@ -171,13 +171,8 @@ impl Serializer for NodeCounter {
     }
 
     fn end_part(&mut self, compound: &mut Counting, part: Result<u64, Error>) -> Result<(), Error>
-        ensures step { (start : NodeCounter) (kind : CompoundKind) (before : NodeCounter)
-            (ps : List (Option Tree)) (p : Option Tree) →
-            Awaits start kind before compound.old ps → Permits before p part self.old →
-            MatchResult result
-            (λ _. Has start kind self.new compound.new (ps ++ (p ∷ [])))
-            (λ e. Has start kind self.new compound.new ps × ((rest : List (Option Tree)) →
-            Permits start (tree_of_parts kind (ps ++ (p ∷ rest))) (Err e) self.new)) }
+        ensures step { EndsPart Permits Has Awaits
+            self.old compound.old part result self.new compound.new }
         ensures refused { IfErr part (λ _. IsErr result) }
     {
         let nodes = part?;
@@ -201,15 +196,8 @@ impl Serializer for NodeCounter {
     }
 
     fn end_descriptor(&mut self, compound: &mut Counting, part: Result<u64, Error>) -> Result<(), Error>
-        ensures step { (start before : NodeCounter) (d : Option Tree) →
-            AwaitsDescriptor start before compound.old → Permits before d part self.old →
-            MatchResult result
-            (λ _. (mid : NodeCounter) × (Has mid CompoundKind.Single self.new compound.new [] ×
-            ((t : Option Tree) (r : Result ℕ Error) (after : NodeCounter) →
-            Permits mid t r after → Permits start (as_described (descriptor_of d) t) r after)))
-            (λ e. Has start CompoundKind.Single self.new compound.new [] ×
-            ((t : Option Tree) →
-            Permits start (as_described (descriptor_of d) t) (Err e) self.new)) }
+        ensures step { EndsDescriptor Permits Has AwaitsDescriptor
+            self.old compound.old part result self.new compound.new }
         ensures refused { IfErr part (λ _. IsErr result) }
         ensures other_kinds { (start before : NodeCounter) (d : Option Tree) →
             AwaitsDescriptor start before compound.old → Permits before d part self.old →

@@ -5,7 +5,7 @@
 
 ghost use Rattle.std.specs.Prelude.{◌∷◌, [], map};
 ghost use Rattle.amqp_ser.specs.Tree.{code};
-ghost use Rattle.amqp_ser.specs.Words.{required_value, optional_value, basic_composite, short_composite, list_of, of_binary, of_bool, of_string, of_symbol, of_timestamp, of_u8, of_u32};
+ghost use Rattle.amqp_ser.specs.Words.{optional_value, basic_composite, short_composite, list_of, of_binary, of_bool, of_string, of_symbol, of_timestamp, of_u8, of_u32};
 ghost use Rattle.example_composites.specs.Values.{of_address, of_annotations, of_application, of_message_id, of_value};
 
 use crate::values::{Address, Annotations, MessageId, Milliseconds, SequenceNumber, SimpleValue};

@@ -5,8 +5,8 @@
 
 use amqp_data::Symbol;
 use amqp_de::de::{Deserialize, Deserializer};
-use amqp_de::{NamedSeed, TypeSeed, Record, named, read_described};
-use amqp_ser::{Serialize, SerializeCompounds, Serializer};
+use amqp_de::{ListSeed, NamedSeed, Record, TypeSeed, named, read_described, values};
+use amqp_ser::{ListOf, Serialize, SerializeCompounds, Serializer, fields};
 use std::alloc::Global;
 use std::marker::PhantomData;
 
@@ -26,7 +26,7 @@ impl Serialize for Span {
     fn serialize<S: Serializer>(&self, serializer: &mut S) -> Result<S::Ok, S::Error> {
         serializer.serialize_described(
             &0x16u64,
-            &amqp_ser::ListOf(amqp_ser::fields! { "0": &self.0, "1": &self.1 }),
+            &ListOf(fields! { "0": &self.0, "1": &self.1 }),
         )
     }
 }
@@ -55,11 +55,11 @@ impl Deserialize for Span {
     ghost same = { λ s r. (s.0 ≡ r.0) × (s.1 ≡ r.1) };
 
     fn deserialize<D: Deserializer>(alloc: Global, deserializer: D) -> Result<Span, D::Error> {
-        let amqp_de::values! { first, last } = read_described::<Span, D, _, _>(
+        let values! { first, last } = read_described::<Span, D, _, _>(
             alloc,
             deserializer,
             &0x16u64,
-            amqp_de::ListSeed(named! { "0", "1" }),
+            ListSeed(named! { "0", "1" }),
         )?;
         Ok(Span(first, last))
     }
@@ -132,7 +132,7 @@ impl Serialize for Limits {
     fn serialize<S: Serializer>(&self, serializer: &mut S) -> Result<S::Ok, S::Error> {
         serializer.serialize_described(
             &0x14u64,
-            &amqp_ser::ListOf(amqp_ser::fields! {
+            &ListOf(fields! {
                 "lowest": &self.lowest,
                 "highest": &self.highest,
                 "unit": &self.unit,
@@ -167,7 +167,7 @@ impl Deserialize for Limits {
         × ⟦<Option<Symbol> as Deserialize>⟧.same l.unit m.unit };
 
     fn deserialize<D: Deserializer>(alloc: Global, deserializer: D) -> Result<Limits, D::Error> {
-        let amqp_de::values! { lowest, highest, unit } = read_described::<Limits, D, _, _>(
+        let values! { lowest, highest, unit } = read_described::<Limits, D, _, _>(
             alloc,
             deserializer,
             &0x14u64,

@@ -6,8 +6,8 @@
 
 use amqp_data::{Symbol, SymbolRef};
 use amqp_de::de::{Deserialize, Deserializer};
-use amqp_de::{Record, named, read, read_described};
-use amqp_ser::{Serialize, SerializeCompounds, Serializer};
+use amqp_de::{ListSeed, Record, named, read, read_described, values};
+use amqp_ser::{ListOf, Serialize, SerializeCompounds, Serializer, fields};
 use std::alloc::Global;
 use std::collections::BTreeMap;
 
@@ -30,7 +30,7 @@ impl Serialize for Day {
         ∷ of_symbol d.station ∷ ⟦<BTreeMap<u32, i32> as Serialize>⟧.tree d.hours ∷ []) };
 
     fn serialize<S: Serializer>(&self, serializer: &mut S) -> Result<S::Ok, S::Error> {
-        amqp_ser::ListOf(amqp_ser::fields! {
+        ListOf(fields! {
                 "light": &self.light,
                 "station": &self.station,
                 "hours": &self.hours,
@@ -68,10 +68,10 @@ impl Deserialize for Day {
         × ⟦<BTreeMap<u32, i32> as Deserialize>⟧.same d.hours e.hours };
 
     fn deserialize<D: Deserializer>(alloc: Global, deserializer: D) -> Result<Day, D::Error> {
-        let amqp_de::values! { light, station, hours } = read::<Day, D, _>(
+        let values! { light, station, hours } = read::<Day, D, _>(
             alloc,
             deserializer,
-            amqp_de::ListSeed(named! { "light", "station", "hours" }),
+            ListSeed(named! { "light", "station", "hours" }),
         )?;
         Ok(Day {
             light,
@@ -101,7 +101,7 @@ impl Serialize for Rain {
     fn serialize<S: Serializer>(&self, serializer: &mut S) -> Result<S::Ok, S::Error> {
         serializer.serialize_described(
             &SymbolRef::from("station:rain:list"),
-            &amqp_ser::ListOf(amqp_ser::fields! { "amount": &self.amount, "time": &self.time }),
+            &ListOf(fields! { "amount": &self.amount, "time": &self.time }),
         )
     }
 }
@@ -130,11 +130,11 @@ impl Deserialize for Rain {
     ghost same = { λ r s. (r.amount ≡ s.amount) × (r.time ≡ s.time) };
 
     fn deserialize<D: Deserializer>(alloc: Global, deserializer: D) -> Result<Rain, D::Error> {
-        let amqp_de::values! { amount, time } = read_described::<Rain, D, _, _>(
+        let values! { amount, time } = read_described::<Rain, D, _, _>(
             alloc,
             deserializer,
             &"station:rain:list",
-            amqp_de::ListSeed(named! { "amount", "time" }),
+            ListSeed(named! { "amount", "time" }),
         )?;
         Ok(Rain { amount, time })
     }

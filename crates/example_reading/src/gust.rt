@@ -4,8 +4,8 @@
 //! `"from"?` and `"at"?`. An absent field before a present one is null.
 
 use amqp_de::de::{Deserialize, Deserializer};
-use amqp_de::{Record, named, read_described};
-use amqp_ser::{Serialize, SerializeCompounds, Serializer};
+use amqp_de::{ListSeed, Record, named, read_described, values};
+use amqp_ser::{ListOf, Serialize, SerializeCompounds, Serializer, fields};
 use std::alloc::Global;
 
 /// A gust of wind: a list described by the code 0x17.
@@ -30,7 +30,7 @@ impl Serialize for Gust {
     fn serialize<S: Serializer>(&self, serializer: &mut S) -> Result<S::Ok, S::Error> {
         serializer.serialize_described(
             &0x17u64,
-            &amqp_ser::ListOf(amqp_ser::fields! {
+            &ListOf(fields! {
                 "speed": &self.speed,
                 "from"?: &self.from,
                 "at"?: &self.at,
@@ -69,11 +69,11 @@ impl Deserialize for Gust {
         × ⟦<Option<u16> as Deserialize>⟧.same g.at h.at };
 
     fn deserialize<D: Deserializer>(alloc: Global, deserializer: D) -> Result<Gust, D::Error> {
-        let amqp_de::values! { speed, from, at } = read_described::<Gust, D, _, _>(
+        let values! { speed, from, at } = read_described::<Gust, D, _, _>(
             alloc,
             deserializer,
             &0x17u64,
-            amqp_de::ListSeed(named! { "speed", "from"?, "at"? }),
+            ListSeed(named! { "speed", "from"?, "at"? }),
         )?;
         Ok(Gust { speed, from, at })
     }

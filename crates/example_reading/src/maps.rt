@@ -4,8 +4,8 @@
 //! without a descriptor. Absent fields are omitted.
 
 use amqp_de::de::{Deserialize, Deserializer};
-use amqp_de::{Record, named, read_described_map, read_map};
-use amqp_ser::{Serialize, SerializeCompounds, Serializer};
+use amqp_de::{Record, named, read_described_map, read_map, values};
+use amqp_ser::{MapOf, Serialize, SerializeCompounds, Serializer, fields};
 use std::alloc::Global;
 
 /// Corrections to the readings of a thermometer: a map described by the code 0x15.
@@ -29,7 +29,7 @@ impl Serialize for Calibration {
     fn serialize<S: Serializer>(&self, serializer: &mut S) -> Result<S::Ok, S::Error> {
         serializer.serialize_described(
             &0x15u64,
-            &amqp_ser::MapOf(amqp_ser::fields! {
+            &MapOf(fields! {
                 "offset": &self.offset,
                 "divisor"?: &self.divisor,
                 "remark"?: &self.remark,
@@ -71,7 +71,7 @@ impl Deserialize for Calibration {
         alloc: Global,
         deserializer: D,
     ) -> Result<Calibration, D::Error> {
-        let amqp_de::values! { offset, divisor, remark } = read_described_map::<
+        let values! { offset, divisor, remark } = read_described_map::<
             Calibration,
             D,
             _,
@@ -105,8 +105,8 @@ impl Serialize for Contact {
         ∷ (codes "telephone", optional_value of_string c.telephone) ∷ []) };
 
     fn serialize<S: Serializer>(&self, serializer: &mut S) -> Result<S::Ok, S::Error> {
-        amqp_ser::MapOf(
-            amqp_ser::fields! { "name": &self.name, "telephone"?: &self.telephone },
+        MapOf(
+            fields! { "name": &self.name, "telephone"?: &self.telephone },
         ).serialize(serializer)
     }
 }
@@ -137,7 +137,7 @@ impl Deserialize for Contact {
         × ⟦<Option<String> as Deserialize>⟧.same c.telephone d.telephone };
 
     fn deserialize<D: Deserializer>(alloc: Global, deserializer: D) -> Result<Contact, D::Error> {
-        let amqp_de::values! { name, telephone } = read_map::<Contact, D, _>(
+        let values! { name, telephone } = read_map::<Contact, D, _>(
             alloc,
             deserializer,
             named! { "name", "telephone"? },

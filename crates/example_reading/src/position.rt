@@ -4,8 +4,8 @@
 //! last field.
 
 use amqp_de::de::{Deserialize, Deserializer};
-use amqp_de::{Record, named, read};
-use amqp_ser::{Serialize, Serializer};
+use amqp_de::{ListSeed, Record, named, read, values};
+use amqp_ser::{ListOf, Serialize, Serializer, fields};
 use std::alloc::Global;
 
 /// The geographic position of a station.
@@ -28,7 +28,7 @@ impl Serialize for Position {
         of_i32 p.latitude ∷ of_i32 p.longitude ∷ optional of_u32 p.height ∷ []) };
 
     fn serialize<S: Serializer>(&self, serializer: &mut S) -> Result<S::Ok, S::Error> {
-        amqp_ser::ListOf(amqp_ser::fields! {
+        ListOf(fields! {
                 "latitude": &self.latitude,
                 "longitude": &self.longitude,
                 "height": &self.height,
@@ -45,7 +45,7 @@ impl Record for Position {
 
 impl Deserialize for Position {
     ghost use Rattle.std.specs.Prelude.{◌≡◌, [], ◌∷◌, codes};
-    ghost use Rattle.amqp_ser.specs.Tree.{scalar, int, uint, list, trees_of};
+    ghost use Rattle.amqp_ser.specs.Tree.{scalar, int, list, trees_of};
     ghost use Rattle.amqp_de.specs.Fields.{OnFields, ReadsRequired, ReadsOptional, NoMoreFields};
 
     ghost reads = { λ t p. OnFields (
@@ -62,10 +62,10 @@ impl Deserialize for Position {
         × ⟦<Option<u32> as Deserialize>⟧.same p.height q.height };
 
     fn deserialize<D: Deserializer>(alloc: Global, deserializer: D) -> Result<Position, D::Error> {
-        let amqp_de::values! { latitude, longitude, height } = read::<Position, D, _>(
+        let values! { latitude, longitude, height } = read::<Position, D, _>(
             alloc,
             deserializer,
-            amqp_de::ListSeed(named! { "latitude", "longitude", "height"? }),
+            ListSeed(named! { "latitude", "longitude", "height"? }),
         )?;
         Ok(Position {
             latitude,

@@ -11,9 +11,9 @@ ghost use Rattle.amqp_de.specs.Answers.{Answers, Restores};
 
 use amqp_data::Error;
 use amqp_de::de::{Deserialize, Deserializer};
-use amqp_de::{Record, named, read};
+use amqp_de::{ListSeed, Record, named, read, values};
 use amqp_from_value::from_value;
-use amqp_ser::{Serialize, Serializer};
+use amqp_ser::{ListOf, Serialize, Serializer, fields};
 use amqp_value::Value;
 use std::alloc::Global;
 
@@ -56,8 +56,8 @@ impl Serialize for Region {
     ghost tree = { λ r. list_of (of_u32 r.number ∷ ⟦<Vec<Value> as Serialize>⟧.tree r.inner ∷ []) };
 
     fn serialize<S: Serializer>(&self, serializer: &mut S) -> Result<S::Ok, S::Error> {
-        amqp_ser::ListOf(
-            amqp_ser::fields! { "number": &self.number, "inner": &self.inner },
+        ListOf(
+            fields! { "number": &self.number, "inner": &self.inner },
         ).serialize(serializer)
     }
 }
@@ -86,10 +86,10 @@ impl Deserialize for Region {
         × ⟦<Vec<Value> as Deserialize>⟧.same r.inner s.inner };
 
     fn deserialize<D: Deserializer>(alloc: Global, deserializer: D) -> Result<Region, D::Error> {
-        let amqp_de::values! { number, inner } = read::<Region, D, _>(
+        let values! { number, inner } = read::<Region, D, _>(
             alloc,
             deserializer,
-            amqp_de::ListSeed(named! { "number", "inner" }),
+            ListSeed(named! { "number", "inner" }),
         )?;
         Ok(Region { number, inner })
     }

@@ -4,11 +4,8 @@
 //! are defined in `specs/Skies.antt`.
 
 use amqp_de::de::{Deserialize, Deserializer};
-use amqp_de::{
-    DataVariant, EnumSeed, ListSeed, Optional, Required, Never, TypeSeed, Either, Record, DeserializeSeed, UnitVariant, named, read,
-    variant, variants,
-};
-use amqp_ser::{Serialize, SerializeCompounds, SerializeScalars, Serializer, VariantOf};
+use amqp_de::{DataVariant, DeserializeSeed, Either, EnumSeed, ListSeed, Never, Optional, Record, Required, TypeSeed, UnitVariant, named, read, values, variant, variants};
+use amqp_ser::{Serialize, SerializeCompounds, SerializeScalars, Serializer, VariantOf, fields};
 use std::alloc::Global;
 
 /// The state of the sky.
@@ -46,11 +43,11 @@ impl Serialize for Sky {
             }
             Sky::Windy(speed, from) => VariantOf(
                 2,
-                amqp_ser::fields! { "0": speed, "1": from },
+                fields! { "0": speed, "1": from },
             ).serialize(serializer),
             Sky::Storm { name, until } => VariantOf(
                 3,
-                amqp_ser::fields! { "name": name, "until": until },
+                fields! { "name": name, "until": until },
             ).serialize(serializer),
         }
     }
@@ -100,11 +97,11 @@ impl Deserialize for Sky {
             variant!(0, ()) => Ok(Sky::Clear),
             variant!(1, eighths) => Ok(Sky::Cloudy(eighths)),
             variant!(2, parts) => {
-                let amqp_de::values! { speed, from } = parts;
+                let values! { speed, from } = parts;
                 Ok(Sky::Windy(speed, from))
             }
             variant!(3, parts) => {
-                let amqp_de::values! { name, until } = parts;
+                let values! { name, until } = parts;
                 Ok(Sky::Storm { name, until })
             }
             variant!(none 4, never) => match never {},

@@ -1,6 +1,5 @@
 //! Nested lists.
 
-ghost use Rattle.std.specs.Prelude.{◌≡◌, IfOk};
 
 use amqp_data::Error;
 use amqp_ser::{Serialize, SerializeCompounds, Serializer};

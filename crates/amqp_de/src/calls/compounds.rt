@@ -2,7 +2,7 @@
 
 ghost use Rattle.std.specs.Prelude.{List};
 ghost use Rattle.amqp_ser.specs.Marked.{is_descriptor_name, is_value_name, marker_of};
-ghost use Rattle.amqp_ser.specs.Tree.{null, ubyte, uint, ulong, string};
+ghost use Rattle.amqp_ser.specs.Tree.{null};
 ghost use Rattle.amqp_de.specs.Answers.{Answers};
 ghost use Rattle.amqp_de.specs.Events.{plain_event, any_event, is_array_name, is_described_name, Returns, ByList, ByMap, ByIdentifier, ByDescribed, ByStruct, ByDescriptor, ByFormat, ByVariant, ByEnum, ByArray, ByWritten, ByMarker};
 

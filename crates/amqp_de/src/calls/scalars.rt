@@ -1,7 +1,7 @@
 //! The calls that deserialize scalars of Rust's types.
 
 ghost use Rattle.std.specs.Prelude.{◌≡◌, false};
-ghost use Rattle.amqp_ser.specs.Tree.{null, bool, ubyte, ushort, uint, ulong, byte, short, int, long, float, double, char, string, binary};
+ghost use Rattle.amqp_ser.specs.Tree.{bool, ubyte, ushort, uint, ulong, byte, short, int, long, float, double, char, string, binary};
 ghost use Rattle.amqp_de.specs.Answers.{Answers};
 ghost use Rattle.amqp_de.specs.Events.{Returns, ByPlain, ByOption, ByUnit};
 

@@ -1,7 +1,6 @@
 //! The calls that serialize sequences, tuples, structs, maps, variants and described values.
 
-ghost use Rattle.std.specs.Prelude.{◌≡◌, [], List, Option, Some, None, Result, Ok, Err, IfOk, IfErr, IsOk, IsErr, not, true, false};
-ghost use Rattle.amqp_ser.specs.Tree.{ubyte, uint, ulong, string};
+ghost use Rattle.std.specs.Prelude.{◌≡◌, [], List, Option, None, Result, Ok, Err, IfOk, IfErr, IsOk, IsErr, not, true, false};
 ghost use Rattle.amqp_ser.specs.Composites.{as_described, descriptor_of};
 ghost use Rattle.amqp_ser.specs.Marked.{is_descriptor_name, is_value_name, with_marker, marker_of};
 ghost use Rattle.amqp_ser.specs.OpenCompounds.{list_reference, ListHas, map_reference, MapHas, has_key, variant_reference, VariantHas, struct_variant_reference, StructVariantHas};

@@ -1,6 +1,6 @@
 //! The calls that serialize scalars of Rust's types.
 
-ghost use Rattle.std.specs.Prelude.{◌≡◌, Some, None, Result, Ok, not, true, false};
+ghost use Rattle.std.specs.Prelude.{◌≡◌, Some, Result, Ok, false};
 ghost use Rattle.amqp_ser.specs.Tree.{scalar, null, bool, ubyte, ushort, uint, ulong, byte, short, int, long, float, double, char};
 ghost use Rattle.amqp_data.specs.Fixed.{f32_bits, f64_bits};
 

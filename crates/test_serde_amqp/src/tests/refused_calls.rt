@@ -5,7 +5,6 @@ ghost use Rattle.std.specs.Prelude.{◌≡◌, ◌∷◌, [], Some, None, IsErr}
 ghost use Rattle.amqp_ser.specs.Tree.{scalar, int, string, ubyte};
 ghost use Rattle.amqp_ser.specs.Feeding.{Feeds};
 ghost use Rattle.amqp_ser.specs.Compounds.{tree_of_parts};
-ghost use Rattle.amqp_ser.specs.Marked.{with_marker, marker_of};
 ghost use Rattle.amqp_ser.specs.declared.kind.CompoundKind.TheVariants as kind;
 
 use super::with_marker::Newtype;
