@@ -2,7 +2,7 @@
 pub mod Values
 pub mod Maps
 pub mod Reads
-pub mod FieldSeeds
+pub mod Fields
 pub mod Present
 pub mod Answers
 pub mod ContentTree

@@ -1,11 +1,11 @@
 //! The serializer trait: its laws, its required methods, and the methods that values call.
 
-ghost use Rattle.std.specs.Prelude.{◌≡◌, ◌++◌, ◌∷◌, [], List, Option, Some, None, Result, Ok, Err, IfErr, IsErr, true};
+ghost use Rattle.std.specs.Prelude.{◌≡◌, ◌++◌, ◌∷◌, [], List, Option, Some, None, Result, Ok, Err, MatchResult, IfErr, IsErr, true};
 ghost use Rattle.amqp_ser.specs.Tree.{Tree, scalar, null, string, binary};
 ghost use Rattle.amqp_ser.specs.Fixed.{fixed_scalar};
-ghost use Rattle.amqp_ser.specs.Ends.{EndsPart, EndsDescriptor};
+ghost use Rattle.amqp_ser.specs.Ends.{EndsPart};
 ghost use Rattle.amqp_ser.specs.Compounds.{tree_of_parts, complete, paired};
-ghost use Rattle.amqp_ser.specs.Composites.{descriptor_of};
+ghost use Rattle.amqp_ser.specs.Composites.{as_described, descriptor_of};
 ghost use Rattle.amqp_ser.specs.Marked.{with_marker};
 
 use crate::fixed::Fixed;
@@ -222,8 +222,15 @@ pub trait Serializer {
         compound: &mut Self::Open,
         part: Result<Self::Ok, Self::Error>,
     ) -> Result<(), Self::Error>
-        ensures step { EndsDescriptor permits has awaits_descriptor
-            self.old compound.old part result self.new compound.new }
+        ensures step { (start before : Self) (d : Option Tree) →
+            awaits_descriptor start before compound.old → permits before d part self.old →
+            MatchResult result
+            (λ _. (mid : Self)
+            × (has mid CompoundKind.Single self.new compound.new []
+            × ((t : Option Tree) (r : Result Self.Ok Self.Error) (after : Self) →
+            permits mid t r after → permits start (as_described (descriptor_of d) t) r after)))
+            (λ e. has start CompoundKind.Single self.new compound.new [] × ((t : Option Tree) →
+            permits start (as_described (descriptor_of d) t) (Err e) self.new)) }
         ensures refused { IfErr part (λ _. IsErr result) }
         ensures other_kinds { (start before : Self) (d : Option Tree) →
             awaits_descriptor start before compound.old → permits before d part self.old →
