@@ -5,9 +5,9 @@ ghost use Rattle.amqp_de.specs.Answers.{PartsOf, RestoresValues};
 ghost use Rattle.amqp_de.specs.Fields.{OnDescribed};
 
 use crate::content::Content;
+use crate::deserialize_error::DeserializeError;
 use crate::deserializer::Deserializer;
 use crate::record::Record;
-use crate::deserialize_error::DeserializeError;
 use crate::seed::DeserializeSeed;
 use amqp_data::Descriptor;
 use std::alloc::Global;

@@ -5,7 +5,7 @@ pub use crate::calls::compounds::DeserializeCompounds;
 pub use crate::calls::scalars::DeserializeScalars;
 pub use crate::content::Content;
 pub use crate::deserialize::Deserialize;
-pub use crate::deserializer::Deserializer;
 pub use crate::deserialize_error::DeserializeError;
+pub use crate::deserializer::Deserializer;
 pub use crate::shown::{Plain, Visit};
 pub use crate::visitor::Visitor;

@@ -3,8 +3,8 @@
 ghost use Rattle.amqp_ser.specs.Tree.{Tree};
 ghost use Rattle.amqp_de.specs.Answers.{Answers, Restores};
 
-use crate::deserializer::Deserializer;
 use crate::deserialize_error::DeserializeError;
+use crate::deserializer::Deserializer;
 use std::alloc::Global;
 
 /// A type that can be read from any deserializer.

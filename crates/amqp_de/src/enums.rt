@@ -4,4 +4,4 @@ mod enum_of;
 mod variants;
 
 pub use enum_of::EnumSeed;
-pub use variants::{DataVariant, Never, Either, UnitVariant, Variants};
+pub use variants::{DataVariant, Either, Never, UnitVariant, Variants};

@@ -8,8 +8,8 @@ ghost use Rattle.amqp_de.specs.Present.{EndsEarly, required, optional, those_the
 ghost use Rattle.amqp_de.specs.Reads.{Always, RestorableOption, SameOption};
 
 use crate::deserialize::Deserialize;
-use crate::deserializer::Deserializer;
 use crate::deserialize_error::DeserializeError;
+use crate::deserializer::Deserializer;
 use std::alloc::Global;
 use std::marker::PhantomData;
 

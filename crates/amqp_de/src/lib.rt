@@ -7,6 +7,7 @@ mod composite;
 mod content;
 pub mod de;
 mod deserialize;
+mod deserialize_error;
 mod deserializer;
 mod enums;
 mod fields;
@@ -15,7 +16,6 @@ pub mod laws;
 mod names;
 mod record;
 mod record_map;
-mod deserialize_error;
 mod seed;
 mod shown;
 mod untyped;
@@ -24,11 +24,11 @@ mod visitor;
 
 pub use access::{ContentOf, ElementsOf, EntriesOf, EnumAccessOf};
 pub use composite::read_composite;
-pub use enums::{DataVariant, EnumSeed, Never, Either, UnitVariant, Variants};
+pub use enums::{DataVariant, Either, EnumSeed, Never, UnitVariant, Variants};
 pub use fields::{FieldSeeds, Optional, Required};
 pub use record::{Describes, Record, read, read_described};
 pub use record_map::{read_described_map, read_map};
-pub use seed::{ListSeed, NamedSeed, TypeSeed, DeserializeSeed};
+pub use seed::{DeserializeSeed, ListSeed, NamedSeed, TypeSeed};
 
 /// The fields of a struct, in order: `named! { "name", "other"?, .. }`.
 ///

@@ -8,8 +8,8 @@ ghost use Rattle.amqp_de.specs.Answers.{PartsOf, RestoresValues};
 ghost use Rattle.amqp_de.specs.Fields.{OnDescribed};
 
 use crate::content::Content;
-use crate::deserializer::Deserializer;
 use crate::deserialize_error::DeserializeError;
+use crate::deserializer::Deserializer;
 use crate::seed::DeserializeSeed;
 use amqp_data::{Descriptor, SymbolRef};
 use std::alloc::Global;
@@ -109,12 +109,12 @@ pub fn read<T: Record, D: Deserializer, S: DeserializeSeed<Value = T::Values>>(
 /// For the list of the ubyte 1 described by the code 1, with `&1u64` and `ListSeed(named! { "x" })`,
 /// returns the parts `(1, ())`. With `&2u64`, the value is invalid.
 #[tactic(auto, unfolding(crate::specs::Fields::OnDescribed))]
-pub fn read_described<T: Record, D: Deserializer, K: Describes, S: DeserializeSeed<Value = T::Values>>(
-    alloc: Global,
-    deserializer: D,
-    descriptor: &K,
-    seed: S,
-) -> Result<T::Values, D::Error>
+pub fn read_described<
+    T: Record,
+    D: Deserializer,
+    K: Describes,
+    S: DeserializeSeed<Value = T::Values>,
+>(alloc: Global, deserializer: D, descriptor: &K, seed: S) -> Result<T::Values, D::Error>
     ensures read { PartsOf T.parts D.Error.is_out_of_memory
         (λ x. OnDescribed (K.wanted descriptor.now) (λ t. S.reads seed t x) (D.value deserializer))
         result }

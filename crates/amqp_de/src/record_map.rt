@@ -7,11 +7,11 @@ ghost use Rattle.amqp_de.specs.Fields.{OnDescribed, OnNamed};
 ghost use Rattle.amqp_de.specs.Present.{short_map, distinct_names};
 
 use crate::content::Content;
+use crate::deserialize_error::DeserializeError;
 use crate::deserializer::Deserializer;
 use crate::fields::FieldSeeds;
 use crate::record::{Describes, Record};
-use crate::deserialize_error::DeserializeError;
-use crate::seed::{NamedSeed, DeserializeSeed};
+use crate::seed::{DeserializeSeed, NamedSeed};
 use std::alloc::Global;
 
 /// Reads the parts of a value from a map of its fields, or from a list or an array of them.
@@ -56,12 +56,12 @@ pub fn read_map<T: Record, D: Deserializer, F: FieldSeeds<Values = T::Values>>(
 /// For the map from the string `x` to the ubyte 1, described by the code 1, with `&1u64` and
 /// `named! { "x" }`, returns the parts `(1, ())`. With `&2u64`, the value is invalid.
 #[tactic(auto, unfolding(crate::specs::Fields::OnDescribed))]
-pub fn read_described_map<T: Record, D: Deserializer, K: Describes, F: FieldSeeds<Values = T::Values>>(
-    alloc: Global,
-    deserializer: D,
-    descriptor: &K,
-    fields: F,
-) -> Result<T::Values, D::Error>
+pub fn read_described_map<
+    T: Record,
+    D: Deserializer,
+    K: Describes,
+    F: FieldSeeds<Values = T::Values>,
+>(alloc: Global, deserializer: D, descriptor: &K, fields: F) -> Result<T::Values, D::Error>
     ensures read { PartsOf T.parts D.Error.is_out_of_memory
         (λ x. OnDescribed (K.wanted descriptor.now) (OnNamed (F.reads fields x))
         (D.value deserializer)) result }

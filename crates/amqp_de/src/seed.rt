@@ -8,16 +8,16 @@ ghost use Rattle.amqp_de.specs.Present.{all_images, short_list, short_map, disti
 
 use crate::content::Content;
 use crate::deserialize::Deserialize;
+use crate::deserialize_error::DeserializeError;
 use crate::deserializer::Deserializer;
 use crate::fields::FieldSeeds;
-use crate::deserialize_error::DeserializeError;
 use std::alloc::Global;
 use std::marker::PhantomData;
 
 /// A reader of one value: a type, a list of fields, named fields or a variant.
 ///
 /// # Implementer notes
-/// Required method: `read`. It must return a value that `reads` relates to the tree, and may return
+/// Required method: `deserialize`. It must return a value that `reads` relates to the tree, and may return
 /// an error other than out of memory only if there is no such value. From the trees `image`,
 /// `short` and, if `is_named` holds, `by_name` of a restorable value it must read a value with the
 /// same contents, or run out of memory.
@@ -53,7 +53,11 @@ pub trait DeserializeSeed: Sized + Drop {
     ///
     /// # Example
     /// `TypeSeed(PhantomData::<u32>)` reads the uint 1 as 1. The ulong 1 is invalid.
-    fn deserialize<D: Deserializer>(self, alloc: Global, deserializer: D) -> Result<Self::Value, D::Error>
+    fn deserialize<D: Deserializer>(
+        self,
+        alloc: Global,
+        deserializer: D,
+    ) -> Result<Self::Value, D::Error>
         ensures read { Answers D.Error.is_out_of_memory (λ x. reads self (D.value deserializer) x) result }
         ensures law { Restores image restorable same
             D.Error.is_out_of_memory (D.value deserializer) result }
@@ -111,7 +115,11 @@ impl<F: FieldSeeds> DeserializeSeed for ListSeed<F> {
 
     ghost is_named = { λ _. ⊥ };
 
-    fn deserialize<D: Deserializer>(self, alloc: Global, deserializer: D) -> Result<F::Values, D::Error> {
+    fn deserialize<D: Deserializer>(
+        self,
+        alloc: Global,
+        deserializer: D,
+    ) -> Result<F::Values, D::Error> {
         match deserializer.open() {
             Content::List(mut fields) => {
                 match self.0.read_elements::<D>(alloc, &mut fields) {
@@ -146,7 +154,11 @@ impl<F: FieldSeeds> DeserializeSeed for NamedSeed<F> {
 
     ghost is_named = { λ s. distinct_names (F.names s.0) ≡ true };
 
-    fn deserialize<D: Deserializer>(self, alloc: Global, deserializer: D) -> Result<F::Values, D::Error> {
+    fn deserialize<D: Deserializer>(
+        self,
+        alloc: Global,
+        deserializer: D,
+    ) -> Result<F::Values, D::Error> {
         match deserializer.open() {
             Content::List(mut elements) => {
                 match self.0.read_elements::<D>(alloc, &mut elements) {

@@ -10,8 +10,8 @@ ghost use Rattle.amqp_de.specs.Answers.{Answers};
 ghost use Rattle.amqp_de.specs.Events.{Event, Returns, visit_of, plain_shown, plain_event, none_event, some_event, newtype_event, seq_event, map_event, enum_event, described_event, value_event};
 
 use crate::access::{EnumAccess, MapAccess, SeqAccess};
-use crate::deserializer::Deserializer;
 use crate::deserialize_error::DeserializeError;
+use crate::deserializer::Deserializer;
 use crate::shown::{Plain, Visit, unwritten};
 use amqp_data::{ByteBuf, Descriptor, F32Bits, F64Bits};
 use amqp_value::Value;

@@ -11,8 +11,7 @@ use crate::payload_shape::{PayloadShape, has_no_payload, payload_shape, primitiv
 use crate::scalar::{read_descriptor, read_scalar};
 use crate::stack::take_from;
 use amqp_data::{Array, Described, EncodingCodes, Error};
-use amqp_value::MapBuilder;
-use amqp_value::Value;
+use amqp_value::{MapBuilder, Value};
 use std::alloc::Global;
 
 // Reads the first encoded value of `bytes`, and leaves the bytes after it. An array of more than

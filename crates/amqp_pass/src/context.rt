@@ -7,8 +7,8 @@ ghost use Rattle.amqp_pass.specs.State.{position_at, context_at};
 ghost use Rattle.amqp_pass.specs.Position.{position_of, meant, without_prefix, inner_context_of, resolved_kind_of, the_marker};
 
 use crate::position::Position;
-use crate::scalar_marker::ScalarMarker;
 use crate::resolved_kind::ResolvedKind;
+use crate::scalar_marker::ScalarMarker;
 use amqp_ser::{CompoundKind, Marker};
 
 /// The position of a value, with the pending marker.

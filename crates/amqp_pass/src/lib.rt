@@ -1,7 +1,7 @@
 //! The state that both passes of encoding share: where a value is, and the compounds that are open.
 //!
-//! `amqp_size` and `amqp_wire` depend on it, and re-export what users need: `SizeError` and the
-//! module `width`. No other crate depends on it.
+//! Only `amqp_size`, `amqp_wire` and their tests depend on it. `amqp_size` re-exports what users
+//! need: `SizeError` and the module `width`.
 #![tactic(auto)]
 
 mod context;

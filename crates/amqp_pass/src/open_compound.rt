@@ -3,8 +3,8 @@
 ghost use Rattle.std.specs.Prelude.{◌≡◌, ◌<◌, ◌+◌, ◌≤◌, ℕ, Some, true, false, MatchResult, IfOk, IfErr, if◌then◌else◌};
 ghost use Rattle.amqp_pass.specs.Position.{limit_of};
 
-use crate::limits::{MAX_LEN, MAX_COUNT};
 use crate::context::Context;
+use crate::limits::{MAX_COUNT, MAX_LEN};
 use crate::position::Position;
 use crate::resolved_kind::ResolvedKind;
 use crate::size_error::SizeError;
@@ -240,7 +240,8 @@ impl OpenCompound {
     {
         // After the first element, `after` contains its constructor.
         let opened = match (self.inner_context, after) {
-            (Context::Plain(Position::FirstElement), Context::Plain(Position::OtherElement(_))) => 1,
+            (Context::Plain(Position::FirstElement), Context::Plain(Position::OtherElement(_))) =>
+                1,
             _ => 0,
         };
         let most = MAX_LEN - self.sum;

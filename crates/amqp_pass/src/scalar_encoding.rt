@@ -43,9 +43,17 @@ impl ScalarEncoding {
             Fixed::Bool(true) => ScalarEncoding::new(EncodingCodes::BooleanTrue as u8, 0, 0),
             Fixed::Bool(false) => ScalarEncoding::new(EncodingCodes::BooleanFalse as u8, 0, 0),
             Fixed::Uint(0) => ScalarEncoding::new(EncodingCodes::Uint0 as u8, 0, 0),
-            Fixed::Uint(n) if n < 256 => ScalarEncoding::new(EncodingCodes::SmallUint as u8, 1, n as u64),
+            Fixed::Uint(n) if n < 256 => ScalarEncoding::new(
+                EncodingCodes::SmallUint as u8,
+                1,
+                n as u64,
+            ),
             Fixed::Ulong(0) => ScalarEncoding::new(EncodingCodes::Ulong0 as u8, 0, 0),
-            Fixed::Ulong(n) if n < 256 => ScalarEncoding::new(EncodingCodes::SmallUlong as u8, 1, n),
+            Fixed::Ulong(n) if n < 256 => ScalarEncoding::new(
+                EncodingCodes::SmallUlong as u8,
+                1,
+                n,
+            ),
             Fixed::Int(n) if -128 <= n && n <= 127 => ScalarEncoding::new(
                 EncodingCodes::SmallInt as u8,
                 1,
@@ -69,14 +77,30 @@ impl ScalarEncoding {
     {
         match fixed {
             Fixed::Null => ScalarEncoding::new(EncodingCodes::Null as u8, 0, 0),
-            Fixed::Bool(v) => ScalarEncoding::new(EncodingCodes::Boolean as u8, 1, if v { 1 } else { 0 }),
+            Fixed::Bool(v) => ScalarEncoding::new(
+                EncodingCodes::Boolean as u8,
+                1,
+                if v { 1 } else { 0 },
+            ),
             Fixed::Ubyte(v) => ScalarEncoding::new(EncodingCodes::Ubyte as u8, 1, v as u64),
             Fixed::Ushort(v) => ScalarEncoding::new(EncodingCodes::Ushort as u8, 2, v as u64),
             Fixed::Uint(v) => ScalarEncoding::new(EncodingCodes::Uint as u8, 4, v as u64),
             Fixed::Ulong(v) => ScalarEncoding::new(EncodingCodes::Ulong as u8, 8, v),
-            Fixed::Byte(v) => ScalarEncoding::new(EncodingCodes::Byte as u8, 1, v.cast_unsigned() as u64),
-            Fixed::Short(v) => ScalarEncoding::new(EncodingCodes::Short as u8, 2, v.cast_unsigned() as u64),
-            Fixed::Int(v) => ScalarEncoding::new(EncodingCodes::Int as u8, 4, v.cast_unsigned() as u64),
+            Fixed::Byte(v) => ScalarEncoding::new(
+                EncodingCodes::Byte as u8,
+                1,
+                v.cast_unsigned() as u64,
+            ),
+            Fixed::Short(v) => ScalarEncoding::new(
+                EncodingCodes::Short as u8,
+                2,
+                v.cast_unsigned() as u64,
+            ),
+            Fixed::Int(v) => ScalarEncoding::new(
+                EncodingCodes::Int as u8,
+                4,
+                v.cast_unsigned() as u64,
+            ),
             Fixed::Long(v) => ScalarEncoding::new(EncodingCodes::Long as u8, 8, v.cast_unsigned()),
             Fixed::Float(v) => ScalarEncoding::new(EncodingCodes::Float as u8, 4, v as u64),
             Fixed::Double(v) => ScalarEncoding::new(EncodingCodes::Double as u8, 8, v),

@@ -8,7 +8,7 @@ ghost use Rattle.amqp_ser.specs.Limits.{fits, is_count};
 ghost use Rattle.amqp_pass.specs.Width.{uint_width, text_width, map_width, list_width, array_width, text_at, list_at, map_at, array_at};
 
 use crate::limits::within_limit;
-pub use crate::limits::{MAX_LEN, MAX_COUNT};
+pub use crate::limits::{MAX_COUNT, MAX_LEN};
 use amqp_data::Error;
 
 /// Returns the length of a uint outside an array.

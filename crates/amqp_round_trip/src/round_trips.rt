@@ -14,8 +14,8 @@ use std::alloc::Global;
 /// A type that can be read from the untyped value that it is converted to.
 ///
 /// # Implementer notes
-/// `returns` is required and does nothing. Its contract is the law: it relates what the type reads
-/// to what it writes. The body calls `returns` of the type of each field or element, and the
+/// `law` is required and does nothing. Its contract is the law: it relates what the type reads
+/// to what it writes. The body calls `law` of the type of each field or element, and the
 /// functions of `laws` for lists and described values.
 pub trait RoundTrip: Serialize + Deserialize {
     /// States that a restorable value has a tree, which contains nothing lazy, and that the tree's

@@ -18,7 +18,7 @@ EndsPart {S} {H} {O} {E} permits has awaits reached compound part result after c
     MatchResult result
     (λ _. has start kind after compound_after (ps ++ (p ∷ [])))
     (λ e. has start kind after compound_after ps
-        × ((rest : List (Option Tree)) → permits start (tree_of_parts kind (ps ++ (p ∷ rest))) (Err e) after))
+    × ((rest : List (Option Tree)) → permits start (tree_of_parts kind (ps ++ (p ∷ rest))) (Err e) after))
 
 -- On success the compound awaits the described value. On an error it is unchanged, and the error is
 -- permitted for every value with this descriptor.
@@ -29,6 +29,6 @@ EndsDescriptor {S} {H} {O} {E} permits has awaits_descriptor reached compound pa
     (start before : S) (d : Option Tree) → awaits_descriptor start before compound → permits before d part reached →
     MatchResult result
     (λ _. (mid : S) × (has mid kinds.Single after compound_after []
-        × ((t : Option Tree) (r : Result O E) (end : S) → permits mid t r end → permits start (as_described (descriptor_of d) t) r end)))
+    × ((t : Option Tree) (r : Result O E) (end : S) → permits mid t r end → permits start (as_described (descriptor_of d) t) r end)))
     (λ e. has start kinds.Single after compound_after []
-        × ((t : Option Tree) → permits start (as_described (descriptor_of d) t) (Err e) after))
+    × ((t : Option Tree) → permits start (as_described (descriptor_of d) t) (Err e) after))

@@ -53,7 +53,11 @@ pub trait Fields {
     /// # Example
     /// The fields `x`, the ubyte 1, and `y`, absent, are one element, `5001`. If `y` comes first,
     /// they are `40` and `5001`.
-    fn feed<S: Serializer>(&self, serializer: &mut S, compound: &mut S::Open) -> Result<(), S::Error>
+    fn feed<S: Serializer>(
+        &self,
+        serializer: &mut S,
+        compound: &mut S::Open,
+    ) -> Result<(), S::Error>
         ensures { FeedsAll S.permits S.has (up_to_last (values_of (named self.now))) serializer.old
             compound.old result serializer.new compound.new };
 
@@ -160,7 +164,11 @@ impl<V: Serialize, R: Fields> Fields for Field<'_, V, R> {
     }
 
     #[inline(always)]
-    fn feed<S: Serializer>(&self, serializer: &mut S, compound: &mut S::Open) -> Result<(), S::Error> {
+    fn feed<S: Serializer>(
+        &self,
+        serializer: &mut S,
+        compound: &mut S::Open,
+    ) -> Result<(), S::Error> {
         feed_part(&mut *serializer, &mut *compound, &self.value)?;
         self.rest.feed(serializer, compound)
     }

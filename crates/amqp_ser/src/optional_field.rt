@@ -34,7 +34,11 @@ impl<V: Serialize, R: Fields> Fields for OptionalField<'_, V, R> {
     }
 
     #[inline(always)]
-    fn feed<S: Serializer>(&self, serializer: &mut S, compound: &mut S::Open) -> Result<(), S::Error> {
+    fn feed<S: Serializer>(
+        &self,
+        serializer: &mut S,
+        compound: &mut S::Open,
+    ) -> Result<(), S::Error> {
         if !self.any_there() {
             return Ok(());
         }

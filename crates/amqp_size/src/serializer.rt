@@ -8,11 +8,13 @@ ghost use Rattle.amqp_ser.specs.SizeAndBytes.{IsSizeOf};
 ghost use Rattle.amqp_pass.specs.WholeContext.{Plain};
 ghost use Rattle.amqp_pass.specs.WholePosition as whole_position;
 
-use amqp_pass::{Context, OpenCompound, Position, ResolvedKind, ScalarEncoding, ScalarMarker, SizeError};
-use amqp_pass::width::{array_width, list_width, map_width};
 use amqp_data::{EncodingCodes, Error};
 use amqp_frame::is_frame;
-use amqp_ser::{Fixed, CompoundKind, Marker, Serialize, Serializer};
+use amqp_pass::width::{array_width, list_width, map_width};
+use amqp_pass::{
+    Context, OpenCompound, Position, ResolvedKind, ScalarEncoding, ScalarMarker, SizeError,
+};
+use amqp_ser::{CompoundKind, Fixed, Marker, Serialize, Serializer};
 use std::marker::Model;
 
 /// A serializer that counts the bytes of encodings. It can be used again after each call, also
@@ -366,7 +368,12 @@ impl Serializer for SizeSerializer {
                 map_width(sum),
                 sum + 8,
             ),
-            ResolvedKind::Variant(index) => self.variant(position, prefix_len, index, list_width(sum)),
+            ResolvedKind::Variant(index) => self.variant(
+                position,
+                prefix_len,
+                index,
+                list_width(sum),
+            ),
             ResolvedKind::NewtypeVariant(index) => self.variant(position, prefix_len, index, sum),
             ResolvedKind::Array => self.size_at(
                 position,

@@ -8,11 +8,10 @@ ghost use Rattle.amqp_ser.specs.Writable.{uniform_arrays, uniform_arrays_each, w
 ghost use Rattle.amqp_pass.specs.Width.{uint_width, text_width, map_width};
 ghost use Rattle.amqp_pass.specs.Position.{position_of, without_prefix};
 
-use amqp_pass::{Context, Position, SizeError, described_len, descriptor_len};
-use amqp_pass::width::MAX_LEN;
 use crate::serializer::SizeSerializer;
-use amqp_pass::width::{map_width, text_width, uint_width};
 use amqp_data::EncodingCodes;
+use amqp_pass::width::{MAX_LEN, map_width, text_width, uint_width};
+use amqp_pass::{Context, Position, SizeError, described_len, descriptor_len};
 
 impl SizeSerializer {
     ghost use Rattle.amqp_pass.specs.WholeContext.{Plain};

@@ -7,8 +7,7 @@ ghost use Rattle.amqp_value.specs.TreeOf.{tree_of};
 ghost use Rattle.amqp_to_value.specs.HeldImages.{held_pairs, feed, fed_onto, IsOpenedImage};
 
 use amqp_data::Error;
-use amqp_value::MapBuilder;
-use amqp_value::Value;
+use amqp_value::{MapBuilder, Value};
 use std::alloc::{AllocError, Global};
 
 /// The entries of a map, in order, and the key whose value is pending.

@@ -44,20 +44,21 @@ impl CollectedParts {
         ensures empty { HoldsImages result no_trees }
     {
         match (pending, kind) {
-            (PendingMarker::Marker(Marker::Other), CompoundKind::List) => CollectedParts::List(Vec::new(alloc)),
-            (PendingMarker::Marker(Marker::Other), CompoundKind::Map) => CollectedParts::Map(OpenMap::new(alloc)),
-            (PendingMarker::Marker(Marker::Other), CompoundKind::Variant(index)) => CollectedParts::Variant(
-                index,
+            (PendingMarker::Marker(Marker::Other), CompoundKind::List) => CollectedParts::List(
                 Vec::new(alloc),
             ),
-            (PendingMarker::Marker(Marker::Other), CompoundKind::NewtypeVariant(index)) => CollectedParts::NewtypeVariant(
-                index,
+            (PendingMarker::Marker(Marker::Other), CompoundKind::Map) => CollectedParts::Map(
+                OpenMap::new(alloc),
+            ),
+            (PendingMarker::Marker(Marker::Other), CompoundKind::Variant(index)) =>
+                CollectedParts::Variant(index, Vec::new(alloc)),
+            (PendingMarker::Marker(Marker::Other), CompoundKind::NewtypeVariant(index)) =>
+                CollectedParts::NewtypeVariant(index, Vec::new(alloc)),
+            (PendingMarker::Marker(Marker::Array), CompoundKind::List) => CollectedParts::Array(
                 Vec::new(alloc),
             ),
-            (PendingMarker::Marker(Marker::Array), CompoundKind::List) => CollectedParts::Array(Vec::new(alloc)),
-            (PendingMarker::Marker(Marker::Transparent), CompoundKind::List) => CollectedParts::Transparent(Vec::new(
-                alloc,
-            )),
+            (PendingMarker::Marker(Marker::Transparent), CompoundKind::List) =>
+                CollectedParts::Transparent(Vec::new(alloc)),
             _ => CollectedParts::Refused,
         }
     }

@@ -59,9 +59,9 @@ pub fn marked_fixed(pending: PendingMarker, fixed: Fixed) -> Result<Value, Error
 {
     match (pending, fixed) {
         (PendingMarker::Marker(Marker::Other), fixed) => Ok(fixed_value(fixed)),
-        (PendingMarker::Marker(Marker::Timestamp), Fixed::Long(v)) => Ok(Value::Timestamp(Timestamp::from(
-            v,
-        ))),
+        (PendingMarker::Marker(Marker::Timestamp), Fixed::Long(v)) => Ok(Value::Timestamp(
+            Timestamp::from(v),
+        )),
         (PendingMarker::Descriptor, Fixed::Ulong(v)) => Ok(Value::Ulong(v)),
         _ => Err(Error::InvalidValue),
     }
@@ -81,7 +81,9 @@ pub fn marked_text(alloc: Global, pending: PendingMarker, text: &str) -> Result<
 {
     match pending {
         PendingMarker::Marker(Marker::Other) => Ok(Value::String(String::from_str(alloc, text)?)),
-        PendingMarker::Marker(Marker::Symbol) => Ok(Value::Symbol(Symbol::try_from_str(alloc, text)?)),
+        PendingMarker::Marker(Marker::Symbol) => Ok(Value::Symbol(Symbol::try_from_str(
+            alloc, text,
+        )?)),
         _ => Err(Error::InvalidValue),
     }
 }
@@ -102,10 +104,14 @@ pub fn marked_bytes(alloc: Global, pending: PendingMarker, bytes: &[u8]) -> Resu
         IsOpenedImage (meant pending (Some (scalar (binary bytes.now)))) result }
 {
     match pending {
-        PendingMarker::Marker(Marker::Other) => Ok(Value::Binary(ByteBuf::from(bytes.to_vec(alloc)?))),
+        PendingMarker::Marker(Marker::Other) => Ok(Value::Binary(ByteBuf::from(bytes.to_vec(
+            alloc,
+        )?))),
         PendingMarker::Marker(Marker::Decimal32) => Ok(Value::Decimal32(Dec32::try_from(bytes)?)),
         PendingMarker::Marker(Marker::Decimal64) => Ok(Value::Decimal64(Dec64::try_from(bytes)?)),
-        PendingMarker::Marker(Marker::Decimal128) => Ok(Value::Decimal128(Dec128::try_from(bytes)?)),
+        PendingMarker::Marker(Marker::Decimal128) => Ok(Value::Decimal128(Dec128::try_from(
+            bytes,
+        )?)),
         PendingMarker::Marker(Marker::Uuid) => Ok(Value::Uuid(Uuid::try_from(bytes)?)),
         PendingMarker::Marker(Marker::Lazy) => lazy_value(alloc, bytes),
         _ => Err(Error::InvalidValue),

@@ -14,8 +14,8 @@ use crate::pending_marker::PendingMarker;
 use crate::scalars::{descriptor_from, marked_bytes, marked_fixed, marked_text};
 use amqp_data::Error;
 use amqp_ser::{
-    Fixed, CompoundKind, Marker, SerializeMap, SerializeSeq, SerializeStruct, SerializeStructVariant,
-    SerializeTuple, SerializeTupleStruct, SerializeTupleVariant,
+    CompoundKind, Fixed, Marker, SerializeMap, SerializeSeq, SerializeStruct,
+    SerializeStructVariant, SerializeTuple, SerializeTupleStruct, SerializeTupleVariant,
 };
 use amqp_value::Value;
 use std::alloc::Global;
@@ -191,7 +191,11 @@ impl amqp_ser::Serializer for Serializer {
     }
 
     #[inline(always)]
-    fn end_part(&mut self, compound: &mut OpenValue, part: Result<Value, Error>) -> Result<(), Error>
+    fn end_part(
+        &mut self,
+        compound: &mut OpenValue,
+        part: Result<Value, Error>,
+    ) -> Result<(), Error>
         ensures step { EndsPart ValuePermits ValueHas ValueAwaits
             self.old compound.old part result self.new compound.new }
         ensures refused { IfErr part (λ _. IsErr result) }

@@ -8,8 +8,8 @@ ghost use Rattle.amqp_value.specs.MapBuilder.{collected_pairs};
 ghost use Rattle.amqp_value.specs.Places.{equal, merged};
 
 use crate::places::{ascends, places_of, rebuild};
-use amqp_data::{Error, OrderedMap};
 use crate::value::Value;
+use amqp_data::{Error, OrderedMap};
 use std::alloc::{AllocError, AllocFailed, Global};
 
 /// The entries of a map, inserted one after another. A repeated key keeps its position and gets the

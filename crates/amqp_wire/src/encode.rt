@@ -7,8 +7,8 @@ ghost use Rattle.amqp_wire.specs.ResultBytes.{result_bytes};
 use crate::measurer::Measurer;
 use crate::writer::Writer;
 use amqp_data::Error;
-use amqp_ser::Serialize;
 use amqp_pass::SizeError;
+use amqp_ser::Serialize;
 use std::alloc::Global;
 
 /// Returns the encoding of `value`. Unless an allocation fails, it succeeds if and only if the tree

@@ -6,20 +6,20 @@
 //! value is writable, and returns the encoding of the tree.
 #![tactic(auto)]
 
-mod position_checks;
+mod encode;
 mod header;
 mod lazy_value;
 mod measurer;
+mod next_context;
 mod opening;
 mod output;
-mod next_context;
+mod position_checks;
 mod scalars;
 mod table;
 #[cfg(test)]
 mod tests;
-mod encode;
 mod writer;
 mod writer_compound;
 
-pub use lazy_value::to_lazy_value;
 pub use encode::to_vec;
+pub use lazy_value::to_lazy_value;

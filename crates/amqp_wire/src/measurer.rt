@@ -5,9 +5,9 @@ ghost use Rattle.amqp_ser.specs.Tree.{Tree};
 
 use crate::header::Header;
 use crate::table::Table;
-use amqp_ser::{Fixed, CompoundKind, Marker, Serializer};
 use amqp_pass::width::MAX_LEN;
 use amqp_pass::{OpenCompound, SizeError};
+use amqp_ser::{CompoundKind, Fixed, Marker, Serializer};
 use amqp_size::SizeSerializer;
 use std::alloc::Global;
 

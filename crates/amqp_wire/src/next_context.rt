@@ -79,10 +79,12 @@ pub fn after_descriptor(context: Context) -> Result<Context, SizeError>
         Context::Plain(position) => match position {
             Position::Root => Ok(Context::Plain(Position::Value(BasePosition::Root))),
             Position::InCompound => Ok(Context::Plain(Position::Value(BasePosition::InCompound))),
-            Position::FirstElement => Ok(Context::Plain(Position::Value(BasePosition::FirstElement))),
-            Position::OtherElement(code) => Ok(Context::Plain(Position::Value(BasePosition::OtherElement(
-                code,
-            )))),
+            Position::FirstElement => Ok(Context::Plain(Position::Value(
+                BasePosition::FirstElement,
+            ))),
+            Position::OtherElement(code) => Ok(Context::Plain(Position::Value(
+                BasePosition::OtherElement(code),
+            ))),
             Position::Value(_) => Ok(context),
             Position::Descriptor => Err(SizeError::InvalidValue),
         },
@@ -96,7 +98,11 @@ pub fn after_descriptor(context: Context) -> Result<Context, SizeError>
 /// An array gets its constructor from its first element. A single compound keeps the position after
 /// its value.
 #[inline(always)]
-pub fn inner_context_after(resolved_kind: ResolvedKind, inner_context: Context, after: Context) -> Context
+pub fn inner_context_after(
+    resolved_kind: ResolvedKind,
+    inner_context: Context,
+    after: Context,
+) -> Context
     ensures { context_at result 0 ≡ inner_context_after resolved_kind (context_at inner_context 0) (context_at after 0) }
 {
     match resolved_kind {

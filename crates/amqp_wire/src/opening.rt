@@ -7,8 +7,8 @@ ghost use Rattle.amqp_ser.specs.Tree.{Trees, uint};
 use crate::header::Header;
 use crate::output::Output;
 use amqp_data::EncodingCodes;
-use amqp_ser::Fixed;
 use amqp_pass::{ResolvedKind, SizeError};
+use amqp_ser::Fixed;
 
 /// The kind of a header, which determines its format codes.
 #[derive(Clone, Copy, Debug)]

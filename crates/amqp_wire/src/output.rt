@@ -5,8 +5,8 @@ ghost use Rattle.std.specs.Vec.{vec_capacity};
 
 use crate::header::Header;
 use amqp_data::EncodingCodes;
-use amqp_ser::Fixed;
 use amqp_pass::{ScalarEncoding, SizeError};
+use amqp_ser::Fixed;
 
 /// A position in an output.
 #[derive(Clone, Copy, Debug)]

@@ -13,12 +13,12 @@ ghost use Rattle.amqp_pass.specs.WholeContext.{Plain};
 ghost use Rattle.amqp_wire.specs.HeaderBytes.{pick, bytes_at};
 ghost use Rattle.amqp_wire.specs.Writer.{Kept, IsAccepted, WritesTree};
 
-use crate::next_context::{is_element, context_after};
+use crate::next_context::{context_after, is_element};
 use crate::writer::Writer;
 use amqp_data::EncodingCodes;
-use amqp_ser::Fixed;
 use amqp_pass::width::MAX_LEN;
 use amqp_pass::{Position, ScalarEncoding, SizeError};
+use amqp_ser::Fixed;
 
 impl Writer {
     /// Writes a value of fixed width.

@@ -9,13 +9,13 @@ ghost use Rattle.std.specs.Prelude.{◌≡◌, ◌++◌, ◌∷◌, [], List, Op
 ghost use Rattle.amqp_ser.specs.Tree.{Tree};
 
 use crate::header::Header;
-use crate::output::{Checkpoint, Output};
 use crate::next_context::{after_descriptor, inner_context_after, is_element};
+use crate::output::{Checkpoint, Output};
 use crate::writer_compound::WriterCompound;
 use amqp_data::EncodingCodes;
 use amqp_frame::is_frame;
-use amqp_ser::{Fixed, CompoundKind, Marker, Serializer};
 use amqp_pass::{Context, Position, ResolvedKind, ScalarMarker, SizeError};
+use amqp_ser::{CompoundKind, Fixed, Marker, Serializer};
 use std::marker::Model;
 
 /// A serializer that writes into a buffer whose capacity is allocated in advance, with the headers
@@ -299,7 +299,11 @@ impl Serializer for Writer {
         self.context = Context::Plain(compound.position.without_prefix());
         match part {
             Ok(()) => {
-                compound.inner_context = inner_context_after(compound.resolved_kind, compound.inner_context, after);
+                compound.inner_context = inner_context_after(
+                    compound.resolved_kind,
+                    compound.inner_context,
+                    after,
+                );
                 compound.before_last = compound.before_current;
                 Ok(())
             }
@@ -362,11 +366,23 @@ impl Serializer for Writer {
     #[inline(always)]
     fn end(&mut self, compound: WriterCompound) -> Result<(), SizeError> {
         match compound.resolved_kind {
-            ResolvedKind::List => self.check_position(compound.position, EncodingCodes::List32 as u8),
+            ResolvedKind::List => self.check_position(
+                compound.position,
+                EncodingCodes::List32 as u8,
+            ),
             ResolvedKind::Map => self.check_position(compound.position, EncodingCodes::Map32 as u8),
-            ResolvedKind::Variant(_) => self.check_position(compound.position, EncodingCodes::Map32 as u8),
-            ResolvedKind::NewtypeVariant(_) => self.check_position(compound.position, EncodingCodes::Map32 as u8),
-            ResolvedKind::Array => self.check_position(compound.position, EncodingCodes::Array32 as u8),
+            ResolvedKind::Variant(_) => self.check_position(
+                compound.position,
+                EncodingCodes::Map32 as u8,
+            ),
+            ResolvedKind::NewtypeVariant(_) => self.check_position(
+                compound.position,
+                EncodingCodes::Map32 as u8,
+            ),
+            ResolvedKind::Array => self.check_position(
+                compound.position,
+                EncodingCodes::Array32 as u8,
+            ),
             ResolvedKind::Transparent => self.check_transparent(compound.position),
             ResolvedKind::Single => {
                 self.context = compound.inner_context;

@@ -7,7 +7,7 @@ ghost use Rattle.std.specs.Prelude.{◌≡◌, ◌++◌, ◌∷◌, [], ℕ, Lis
 ghost use Rattle.amqp_ser.specs.Tree.{Tree};
 
 use amqp_data::Error;
-use amqp_ser::{Fixed, CompoundKind, Marker, Serializer};
+use amqp_ser::{CompoundKind, Fixed, Marker, Serializer};
 
 /// A serializer that returns an error for every value.
 #[derive(Drop)]

@@ -10,7 +10,7 @@ ghost use Rattle.example_callers.specs.Nodes.{CountsNodes, fresh};
 
 use crate::pending_marker::PendingMarker;
 use amqp_data::Error;
-use amqp_ser::{Fixed, CompoundKind, Marker, Serialize, Serializer};
+use amqp_ser::{CompoundKind, Fixed, Marker, Serialize, Serializer};
 use std::mem;
 
 /// A serializer that counts the nodes of a tree.
@@ -195,7 +195,11 @@ impl Serializer for NodeCounter {
         self.pending = PendingMarker::Descriptor;
     }
 
-    fn end_descriptor(&mut self, compound: &mut Counting, part: Result<u64, Error>) -> Result<(), Error>
+    fn end_descriptor(
+        &mut self,
+        compound: &mut Counting,
+        part: Result<u64, Error>,
+    ) -> Result<(), Error>
         ensures step { EndsDescriptor Permits Has AwaitsDescriptor
             self.old compound.old part result self.new compound.new }
         ensures refused { IfErr part (λ _. IsErr result) }

@@ -11,7 +11,7 @@ ghost use Rattle.amqp_ser.specs.Tree.{Descriptor, Tree, scalar, string, binary};
 ghost use Rattle.example_callers.specs.PendingMarker.{fits, meant};
 
 use amqp_frame::is_frame;
-use amqp_ser::{Fixed, CompoundKind, Marker};
+use amqp_ser::{CompoundKind, Fixed, Marker};
 
 /// A requirement on the next tree.
 #[derive(Clone, Copy)]
@@ -94,7 +94,8 @@ impl PendingMarker {
         match (self, kind) {
             (_, CompoundKind::Single)
             | (PendingMarker::Marker(Marker::Other), _)
-            | (PendingMarker::Marker(Marker::Array | Marker::Transparent), CompoundKind::List) => true,
+            | (PendingMarker::Marker(Marker::Array | Marker::Transparent), CompoundKind::List) =>
+                true,
             _ => false,
         }
     }

@@ -10,7 +10,9 @@ ghost use Rattle.amqp_ser.specs.Words.{list_composite, list_of, map_composite, r
 ghost use Rattle.example_composites.specs.Shapes.{of_shape};
 
 use amqp_data::{F64Bits, Symbol, SymbolRef};
-use amqp_ser::{ListOf, MapOf, Serialize, SerializeCompounds, Serializer, SymbolMapOf, VariantOf, fields};
+use amqp_ser::{
+    ListOf, MapOf, Serialize, SerializeCompounds, Serializer, SymbolMapOf, VariantOf, fields,
+};
 
 /// A list described by a symbol.
 #[derive(Drop)]

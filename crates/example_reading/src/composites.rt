@@ -24,10 +24,7 @@ impl Serialize for Span {
         of_u64 s.0 ∷ of_u64 s.1 ∷ []) };
 
     fn serialize<S: Serializer>(&self, serializer: &mut S) -> Result<S::Ok, S::Error> {
-        serializer.serialize_described(
-            &0x16u64,
-            &ListOf(fields! { "0": &self.0, "1": &self.1 }),
-        )
+        serializer.serialize_described(&0x16u64, &ListOf(fields! { "0": &self.0, "1": &self.1 }))
     }
 }
 

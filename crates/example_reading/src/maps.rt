@@ -71,12 +71,7 @@ impl Deserialize for Calibration {
         alloc: Global,
         deserializer: D,
     ) -> Result<Calibration, D::Error> {
-        let values! { offset, divisor, remark } = read_described_map::<
-            Calibration,
-            D,
-            _,
-            _,
-        >(
+        let values! { offset, divisor, remark } = read_described_map::<Calibration, D, _, _>(
             alloc,
             deserializer,
             &0x15u64,
@@ -105,9 +100,7 @@ impl Serialize for Contact {
         ∷ (codes "telephone", optional_value of_string c.telephone) ∷ []) };
 
     fn serialize<S: Serializer>(&self, serializer: &mut S) -> Result<S::Ok, S::Error> {
-        MapOf(
-            fields! { "name": &self.name, "telephone"?: &self.telephone },
-        ).serialize(serializer)
+        MapOf(fields! { "name": &self.name, "telephone"?: &self.telephone }).serialize(serializer)
     }
 }
 

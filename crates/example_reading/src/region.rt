@@ -56,9 +56,7 @@ impl Serialize for Region {
     ghost tree = { λ r. list_of (of_u32 r.number ∷ ⟦<Vec<Value> as Serialize>⟧.tree r.inner ∷ []) };
 
     fn serialize<S: Serializer>(&self, serializer: &mut S) -> Result<S::Ok, S::Error> {
-        ListOf(
-            fields! { "number": &self.number, "inner": &self.inner },
-        ).serialize(serializer)
+        ListOf(fields! { "number": &self.number, "inner": &self.inner }).serialize(serializer)
     }
 }
 

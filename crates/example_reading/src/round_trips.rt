@@ -1,7 +1,7 @@
 //! The round trip of the types of this crate: a restorable value that is turned into an untyped
 //! value is read back as the same value.
 //!
-//! For readers who want this guarantee for their own types. Each `returns` calls the laws of the
+//! For readers who want this guarantee for their own types. Each `law` calls the laws of the
 //! forms that the type consists of. The types that implement `MapKey` can be the keys of maps that
 //! round-trip.
 

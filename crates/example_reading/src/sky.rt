@@ -4,7 +4,10 @@
 //! are defined in `specs/Skies.antt`.
 
 use amqp_de::de::{Deserialize, Deserializer};
-use amqp_de::{DataVariant, DeserializeSeed, Either, EnumSeed, ListSeed, Never, Optional, Record, Required, TypeSeed, UnitVariant, named, read, values, variant, variants};
+use amqp_de::{
+    DataVariant, DeserializeSeed, Either, EnumSeed, ListSeed, Never, Optional, Record, Required,
+    TypeSeed, UnitVariant, named, read, values, variant, variants,
+};
 use amqp_ser::{Serialize, SerializeCompounds, SerializeScalars, Serializer, VariantOf, fields};
 use std::alloc::Global;
 
@@ -26,7 +29,10 @@ pub enum Sky {
 type Variants = UnitVariant<
     DataVariant<
         TypeSeed<u8>,
-        DataVariant<ListSeed<Required<u16, Required<u16, ()>>>, DataVariant<ListSeed<Required<String, Optional<u32, ()>>>, ()>>,
+        DataVariant<
+            ListSeed<Required<u16, Required<u16, ()>>>,
+            DataVariant<ListSeed<Required<String, Optional<u32, ()>>>, ()>,
+        >,
     >,
 >;
 
@@ -41,10 +47,9 @@ impl Serialize for Sky {
             Sky::Cloudy(eighths) => {
                 serializer.serialize_newtype_variant("Sky", 1, "Cloudy", eighths)
             }
-            Sky::Windy(speed, from) => VariantOf(
-                2,
-                fields! { "0": speed, "1": from },
-            ).serialize(serializer),
+            Sky::Windy(speed, from) => VariantOf(2, fields! { "0": speed, "1": from }).serialize(
+                serializer,
+            ),
             Sky::Storm { name, until } => VariantOf(
                 3,
                 fields! { "name": name, "until": until },

@@ -4,11 +4,12 @@
 //! crate cannot re-export the macros of another.
 
 pub use amqp_de::de::{
-    Content, Deserialize, DeserializeCompounds, DeserializeScalars, Deserializer, EnumAccess, MapAccess, Plain, DeserializeError, SeqAccess,
-    VariantAccess, Visit, Visitor,
+    Content, Deserialize, DeserializeCompounds, DeserializeError, DeserializeScalars, Deserializer,
+    EnumAccess, MapAccess, Plain, SeqAccess, VariantAccess, Visit, Visitor,
 };
 pub use amqp_de::{
-    ContentOf, DataVariant, Describes, ElementsOf, EntriesOf, EnumAccessOf, EnumSeed, FieldSeeds, ListSeed, Optional,
-    Required, NamedSeed, Never, TypeSeed, Either, Record, DeserializeSeed, UnitVariant, Variants, laws, read, read_composite,
-    read_described, read_described_map, read_map,
+    ContentOf, DataVariant, Describes, DeserializeSeed, Either, ElementsOf, EntriesOf,
+    EnumAccessOf, EnumSeed, FieldSeeds, ListSeed, NamedSeed, Never, Optional, Record, Required,
+    TypeSeed, UnitVariant, Variants, laws, read, read_composite, read_described,
+    read_described_map, read_map,
 };

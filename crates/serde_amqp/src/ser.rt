@@ -5,8 +5,9 @@
 
 pub use amqp_data::markers;
 pub use amqp_ser::{
-    Field, Fields, Fixed, Keys, CompoundKind, ListOf, MapOf, Marker, OptionalField, Serialize, SerializeCompounds, SerializeMap, SerializeScalars,
-    SerializeSeq, SerializeStruct, SerializeStructVariant, SerializeTuple, SerializeTupleStruct,
-    SerializeTupleVariant, Serializer, SymbolMapOf, VariantOf, marker_named,
+    CompoundKind, Field, Fields, Fixed, Keys, ListOf, MapOf, Marker, OptionalField, Serialize,
+    SerializeCompounds, SerializeMap, SerializeScalars, SerializeSeq, SerializeStruct,
+    SerializeStructVariant, SerializeTuple, SerializeTupleStruct, SerializeTupleVariant,
+    Serializer, SymbolMapOf, VariantOf, marker_named,
 };
 pub use amqp_wire::{to_lazy_value, to_vec};

@@ -2,6 +2,7 @@
 //! the lengths of headers.
 
 pub use amqp_size::{
-    MapSerializer, SeqSerializer, SizeSerializer, StructSerializer, StructVariantSerializer,
-    TupleSerializer, TupleStructSerializer, VariantSerializer, SizeError, serialized_size, width,
+    MapSerializer, SeqSerializer, SizeError, SizeSerializer, StructSerializer,
+    StructVariantSerializer, TupleSerializer, TupleStructSerializer, VariantSerializer,
+    serialized_size, width,
 };

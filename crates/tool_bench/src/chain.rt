@@ -1,6 +1,5 @@
 //! Nested lists.
 
-
 use amqp_data::Error;
 use amqp_ser::{Serialize, SerializeCompounds, Serializer};
 use std::alloc::Global;

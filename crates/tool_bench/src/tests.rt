@@ -3,7 +3,7 @@
 
 mod prefixes;
 
-use crate::exports::{tool_bench, amqp_shape};
+use crate::exports::{amqp_shape, tool_bench};
 use crate::hash::hash_of;
 
 /// Returns whether `got` equals `wanted`. Prints the actual number if it does not.

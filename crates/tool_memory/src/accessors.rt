@@ -4,11 +4,10 @@ ghost use Rattle.std.specs.Prelude.{◌≡◌};
 ghost use Rattle.amqp_de.specs.Events.{visit_of};
 ghost use Rattle.amqp_de.specs.declared.shown.Visit.TheVariants as kind;
 
-use amqp_de::de::DeserializeCompounds;
 use amqp_data::{ByteBuf, Error, OrderedMap, markers};
 use amqp_de::de::{
-    Deserialize, Deserializer as Reads, EnumAccess as Enum, MapAccess as Entries, Plain, DeserializeError,
-    SeqAccess as Elements, VariantAccess as _, Visit, Visitor,
+    Deserialize, DeserializeCompounds, DeserializeError, Deserializer as Reads, EnumAccess as Enum,
+    MapAccess as Entries, Plain, SeqAccess as Elements, VariantAccess as _, Visit, Visitor,
 };
 use amqp_de::{EnumAccessOf, TypeSeed};
 use amqp_from_value::{Deserializer, MapAccess, SeqAccess};

@@ -48,7 +48,10 @@ fn in_a_map(alloc: Global) -> Result<bool, Error> {
 // Two lazy arrays in an array.
 fn in_an_array(alloc: Global) -> Result<bool, Error> {
     let bytes = b"\xe0\x07\x01\xb1\0\0\0\x01a";
-    let compound = Array::from(vec![in alloc; lazy(alloc, bytes)?, lazy(alloc, b"\xe0\x02\0\x40")?]?);
+    let compound = Array::from(vec![in alloc;
+        lazy(alloc, bytes)?,
+        lazy(alloc, b"\xe0\x02\0\x40")?,
+    ]?);
     let image = to_value(alloc, &compound)?;
     let parts: Array<LazyValue> = from_value(alloc, image)?;
     let items = parts.as_inner();

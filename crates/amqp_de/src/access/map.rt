@@ -7,9 +7,9 @@ ghost use Rattle.amqp_de.specs.Answers.{TakesPair};
 ghost use Rattle.amqp_de.specs.Enums.{value_of};
 
 use crate::deserialize::Deserialize;
-use crate::deserializer::Deserializer;
 use crate::deserialize_error::DeserializeError;
-use crate::seed::{TypeSeed, DeserializeSeed};
+use crate::deserializer::Deserializer;
+use crate::seed::{DeserializeSeed, TypeSeed};
 use std::alloc::Global;
 use std::marker::PhantomData;
 
@@ -217,7 +217,11 @@ pub trait MapAccess: Sized + Drop {
         ensures law { RestoresEntry K.image K.restorable K.same V.image V.restorable V.same
             Self.Error.is_out_of_memory (pending_value self.old) (left self.old) result }
     {
-        self.next_entry_seed(alloc, TypeSeed(PhantomData::<K>), TypeSeed(PhantomData::<V>))
+        self.next_entry_seed(
+            alloc,
+            TypeSeed(PhantomData::<K>),
+            TypeSeed(PhantomData::<V>),
+        )
     }
 }
 

@@ -6,9 +6,9 @@ ghost use Rattle.amqp_de.specs.Access.{ReadsNext, RestoresNext};
 ghost use Rattle.amqp_de.specs.Answers.{TakesNext};
 
 use crate::deserialize::Deserialize;
-use crate::deserializer::Deserializer;
 use crate::deserialize_error::DeserializeError;
-use crate::seed::{TypeSeed, DeserializeSeed};
+use crate::deserializer::Deserializer;
+use crate::seed::{DeserializeSeed, TypeSeed};
 use std::alloc::Global;
 use std::marker::PhantomData;
 

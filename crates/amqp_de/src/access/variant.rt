@@ -10,9 +10,9 @@ ghost use Rattle.amqp_de.specs.Fields.{There};
 
 use crate::calls::compounds::DeserializeCompounds;
 use crate::deserialize::Deserialize;
-use crate::deserializer::Deserializer;
 use crate::deserialize_error::DeserializeError;
-use crate::seed::{TypeSeed, DeserializeSeed};
+use crate::deserializer::Deserializer;
+use crate::seed::{DeserializeSeed, TypeSeed};
 use crate::visitor::Visitor;
 use std::alloc::Global;
 use std::marker::PhantomData;

@@ -7,9 +7,11 @@ ghost use Rattle.amqp_de.specs.Answers.{Answers};
 ghost use Rattle.amqp_de.specs.Events.{plain_event, any_event, is_array_name, is_described_name, Returns, ByList, ByMap, ByIdentifier, ByDescribed, ByStruct, ByDescriptor, ByFormat, ByVariant, ByEnum, ByArray, ByWritten, ByMarker};
 
 use crate::access::{ElementsOf, EntriesOf, EnumAccessOf};
+use crate::calls::scalars::DeserializeScalars;
 use crate::content::Content;
-use crate::names::{is_array_name, is_described_name, is_descriptor_name, is_value_name};
 use crate::deserialize_error::DeserializeError;
+use crate::deserializer::Deserializer;
+use crate::names::{is_array_name, is_described_name, is_descriptor_name, is_value_name};
 use crate::untyped;
 use crate::unwritable::unwritable;
 use crate::visitor::Visitor;
@@ -17,8 +19,6 @@ use amqp_data::ByteBuf;
 use amqp_ser::{Marker, marker_named};
 use amqp_value::Value;
 use amqp_wire::to_vec;
-use crate::calls::scalars::DeserializeScalars;
-use crate::deserializer::Deserializer;
 
 /// Deserializes values that contain others: sequences, tuples, maps, structs, enums, described
 /// values and newtypes; and values of any kind.

@@ -7,10 +7,10 @@ ghost use Rattle.amqp_de.specs.Events.{Returns, ByPlain, ByOption, ByUnit};
 
 use crate::content::Content;
 use crate::deserialize_error::DeserializeError;
+use crate::deserializer::Deserializer;
 use crate::visitor::Visitor;
 use amqp_data::ByteBuf;
 use amqp_value::Value;
-use crate::deserializer::Deserializer;
 
 /// Deserializes scalars, one method for each of Rust's types.
 ///

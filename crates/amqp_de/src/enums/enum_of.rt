@@ -7,8 +7,8 @@ ghost use Rattle.amqp_de.specs.Enums.{OnEnum, OnListed, OnKeyed, enum_image, val
 
 use super::variants::Variants;
 use crate::content::Content;
-use crate::deserializer::Deserializer;
 use crate::deserialize_error::DeserializeError;
+use crate::deserializer::Deserializer;
 use crate::seed::DeserializeSeed;
 use std::alloc::Global;
 
@@ -102,7 +102,11 @@ impl<V: Variants> DeserializeSeed for EnumSeed<V> {
 
     ghost is_named = { λ _. ⊥ };
 
-    fn deserialize<D: Deserializer>(self, alloc: Global, deserializer: D) -> Result<V::Value, D::Error> {
+    fn deserialize<D: Deserializer>(
+        self,
+        alloc: Global,
+        deserializer: D,
+    ) -> Result<V::Value, D::Error> {
         match deserializer.open() {
             Content::Uint(index) => match self.0.deserialize(alloc, index, None::<D>) {
                 Ok(value) => Ok(value),

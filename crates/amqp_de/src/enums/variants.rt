@@ -6,8 +6,8 @@ ghost use Rattle.amqp_de.specs.Answers.{Answers};
 ghost use Rattle.amqp_de.specs.Enums.{IsUnitVariant, IsDataVariant, IsNoVariant, value_of};
 ghost use Rattle.amqp_de.specs.Reads.{Always};
 
-use crate::deserializer::Deserializer;
 use crate::deserialize_error::DeserializeError;
+use crate::deserializer::Deserializer;
 use crate::seed::DeserializeSeed;
 use std::alloc::Global;
 
@@ -27,7 +27,7 @@ pub enum Never {}
 /// The variants to read, in order. Written with the macro [`variants!`].
 ///
 /// # Implementer notes
-/// Required method: `read`. It must return a variant that `reads` relates to the index and the
+/// Required method: `deserialize`. It must return a variant that `reads` relates to the index and the
 /// value, and may return an error other than out of memory only if there is none. From the
 /// `position` and the `content` of a restorable variant it must read a variant with the same
 /// contents, or run out of memory.

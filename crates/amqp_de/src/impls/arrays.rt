@@ -8,8 +8,8 @@ ghost use Rattle.amqp_de.specs.Reads.{OnList, ReadsFirst};
 
 use crate::content::Content;
 use crate::deserialize::Deserialize;
-use crate::deserializer::Deserializer;
 use crate::deserialize_error::DeserializeError;
+use crate::deserializer::Deserializer;
 use std::alloc::Global;
 
 /// Reads `count` elements, in order. Further elements are ignored.

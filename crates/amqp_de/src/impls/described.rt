@@ -8,8 +8,8 @@ ghost use Rattle.amqp_de.specs.Reads.{Always, descriptor_tree};
 
 use crate::content::Content;
 use crate::deserialize::Deserialize;
-use crate::deserializer::Deserializer;
 use crate::deserialize_error::DeserializeError;
+use crate::deserializer::Deserializer;
 use amqp_data::{Described, Descriptor};
 use std::alloc::Global;
 

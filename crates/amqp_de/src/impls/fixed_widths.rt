@@ -7,8 +7,8 @@ ghost use Rattle.amqp_de.specs.Reads.{Always};
 
 use crate::content::Content;
 use crate::deserialize::Deserialize;
-use crate::deserializer::Deserializer;
 use crate::deserialize_error::DeserializeError;
+use crate::deserializer::Deserializer;
 use amqp_data::{Dec32, Dec64, Dec128, F32Bits, F64Bits, Timestamp, Uuid};
 use std::alloc::Global;
 

@@ -6,8 +6,8 @@ ghost use Rattle.amqp_value.specs.TreeOf.{tree_of};
 ghost use Rattle.amqp_de.specs.Reads.{ReadsOption, image_option, RestorableOption, SameOption};
 
 use crate::deserialize::Deserialize;
-use crate::deserializer::Deserializer;
 use crate::deserialize_error::DeserializeError;
+use crate::deserializer::Deserializer;
 use amqp_value::Value;
 use std::alloc::Global;
 

@@ -9,8 +9,8 @@ ghost use Rattle.amqp_de.specs.Reads.{OnList, OnArray};
 
 use crate::content::Content;
 use crate::deserialize::Deserialize;
-use crate::deserializer::Deserializer;
 use crate::deserialize_error::DeserializeError;
+use crate::deserializer::Deserializer;
 use amqp_data::{Array, TransparentVec};
 use std::alloc::Global;
 

@@ -13,8 +13,8 @@ ghost use Rattle.amqp_de.specs.Maps.{HoldsInOrder, HoldsSorted, HoldsHashed, Sam
 
 use crate::content::Content;
 use crate::deserialize::Deserialize;
-use crate::deserializer::Deserializer;
 use crate::deserialize_error::DeserializeError;
+use crate::deserializer::Deserializer;
 use amqp_data::OrderedMap;
 use std::alloc::Global;
 use std::collections::{BTreeMap, HashMap};

@@ -6,8 +6,8 @@ ghost use Rattle.amqp_de.specs.Reads.{Always};
 
 use crate::content::Content;
 use crate::deserialize::Deserialize;
-use crate::deserializer::Deserializer;
 use crate::deserialize_error::DeserializeError;
+use crate::deserializer::Deserializer;
 use std::alloc::Global;
 
 impl Deserialize for () {

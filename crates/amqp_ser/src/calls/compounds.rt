@@ -9,13 +9,16 @@ ghost use Rattle.amqp_ser.specs.Structs.{struct_encoding, is_basic_name, is_tagg
 
 use crate::compound::described::serialize_described;
 use crate::compound::feed::feed_part;
-use crate::compound::{SerializeMap, SerializeSeq, SerializeStruct, SerializeStructVariant, SerializeTuple, SerializeTupleStruct, SerializeTupleVariant};
+use crate::compound::{
+    SerializeMap, SerializeSeq, SerializeStruct, SerializeStructVariant, SerializeTuple,
+    SerializeTupleStruct, SerializeTupleVariant,
+};
 use crate::kind::CompoundKind;
 use crate::marker::marker_named;
 use crate::names::{is_basic_name, is_descriptor_name, is_tagged, is_value_name};
 use crate::serialize::Serialize;
-use crate::struct_encoding::struct_encoding;
 use crate::serializer::Serializer;
+use crate::struct_encoding::struct_encoding;
 
 /// Serializes values that contain others: sequences, tuples, structs, maps, variants, newtypes and
 /// described values.

@@ -5,8 +5,8 @@ ghost use Rattle.amqp_ser.specs.Tree.{scalar, null, bool, ubyte, ushort, uint, u
 ghost use Rattle.amqp_data.specs.Fixed.{f32_bits, f64_bits};
 
 use crate::fixed::Fixed;
-use amqp_data::{F32Bits, F64Bits};
 use crate::serializer::Serializer;
+use amqp_data::{F32Bits, F64Bits};
 
 /// Serializes scalars, one method for each of Rust's types.
 ///

@@ -17,7 +17,11 @@ use crate::struct_encoding::StructEncoding;
 fn fields_kind(named: bool) -> CompoundKind
     ensures { result ≡ fields_kind named }
 {
-    if named { CompoundKind::Map } else { CompoundKind::List }
+    if named {
+        CompoundKind::Map
+    } else {
+        CompoundKind::List
+    }
 }
 
 /// Serializes the first field of an open list or map. On an error the compound is unchanged.

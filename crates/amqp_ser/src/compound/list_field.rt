@@ -15,7 +15,11 @@ use std::mem;
 /// Opens a list in place of a single compound and returns the single compound, or returns `None` if
 /// a list is open already.
 #[inline(always)]
-fn open_list<S: Serializer>(serializer: &mut S, compound: &mut S::Open, opened: bool) -> Option<S::Open>
+fn open_list<S: Serializer>(
+    serializer: &mut S,
+    compound: &mut S::Open,
+    opened: bool,
+) -> Option<S::Open>
     ensures next { opened ≡ true →
         (result ≡ None) × ((serializer.new ≡ serializer.old) × (compound.new ≡ compound.old)) }
     ensures first { opened ≡ false → (start : S) →

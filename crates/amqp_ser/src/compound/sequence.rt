@@ -45,7 +45,10 @@ impl<'a, S: Serializer> SerializeSeq<'a, S> {
         ensures now { result.serializer.now ≡ serializer.old }
         ensures compound { result.compound ≡ compound }
     {
-        SerializeSeq { serializer, compound }
+        SerializeSeq {
+            serializer,
+            compound,
+        }
     }
 
     /// Returns the serializer of the list. The list continues with the state that the caller leaves
@@ -93,7 +96,10 @@ impl<'a, S: Serializer> SerializeSeq<'a, S> {
             ListHas S.has start self.entry ps →
             S.permits start (tree_of_parts CompoundKind.List ps) result self.exit.0.now }
     {
-        let SerializeSeq { serializer, compound } = self;
+        let SerializeSeq {
+            serializer,
+            compound,
+        } = self;
         serializer.end(compound)
     }
 }

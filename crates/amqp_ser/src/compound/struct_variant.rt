@@ -46,7 +46,10 @@ impl<'a, S: Serializer> SerializeStructVariant<'a, S> {
         ensures now { result.serializer.now ≡ serializer.old }
         ensures compound { result.compound ≡ compound }
     {
-        SerializeStructVariant { serializer, compound }
+        SerializeStructVariant {
+            serializer,
+            compound,
+        }
     }
 
     /// Returns the serializer of the variant. The variant continues with the state that the caller
@@ -98,7 +101,10 @@ impl<'a, S: Serializer> SerializeStructVariant<'a, S> {
             StructVariantHas S.has start i self.entry ps →
             S.permits start (tree_of_parts (CompoundKind.Variant i) ps) result self.exit.0.now }
     {
-        let SerializeStructVariant { serializer, compound } = self;
+        let SerializeStructVariant {
+            serializer,
+            compound,
+        } = self;
         serializer.end(compound)
     }
 }

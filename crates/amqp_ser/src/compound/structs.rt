@@ -177,7 +177,12 @@ impl<'a, S: Serializer> SerializeStruct<'a, S> {
                 Err(e) => Err(e),
             };
         }
-        match feed_list_field(&mut *self.serializer, &mut self.compound, self.opened, value) {
+        match feed_list_field(
+            &mut *self.serializer,
+            &mut self.compound,
+            self.opened,
+            value,
+        ) {
             Ok(()) => {
                 self.opened = true;
                 Ok(())

@@ -46,7 +46,10 @@ impl<'a, S: Serializer> SerializeTupleVariant<'a, S> {
         ensures now { result.serializer.now ≡ serializer.old }
         ensures compound { result.compound ≡ compound }
     {
-        SerializeTupleVariant { serializer, compound }
+        SerializeTupleVariant {
+            serializer,
+            compound,
+        }
     }
 
     /// Returns the serializer of the variant. The variant continues with the state that the caller
@@ -93,7 +96,10 @@ impl<'a, S: Serializer> SerializeTupleVariant<'a, S> {
             VariantHas S.has start i self.entry ps →
             S.permits start (tree_of_parts (CompoundKind.Variant i) ps) result self.exit.0.now }
     {
-        let SerializeTupleVariant { serializer, compound } = self;
+        let SerializeTupleVariant {
+            serializer,
+            compound,
+        } = self;
         serializer.end(compound)
     }
 }

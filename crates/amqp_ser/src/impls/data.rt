@@ -9,8 +9,8 @@ ghost use Rattle.amqp_data.specs.Fixed.{dec32_bytes, dec64_bytes, dec128_bytes, 
 ghost use Rattle.amqp_data.specs.Items.{array_items, byte_buf_bytes, transparent_items};
 ghost use Rattle.amqp_data.specs.Text.{symbol_ref_text, symbol_text};
 
-use crate::calls::scalars::SerializeScalars;
 use super::holders::serialize_items;
+use crate::calls::scalars::SerializeScalars;
 use crate::compound::described::serialize_described;
 use crate::marker::Marker;
 use crate::serialize::Serialize;

@@ -5,8 +5,8 @@ ghost use Rattle.amqp_ser.specs.Carried.{optional};
 ghost use Rattle.amqp_ser.specs.Compounds.{tree_of_parts};
 ghost use Rattle.amqp_ser.specs.declared.kind.CompoundKind.TheVariants.{List};
 
-use crate::calls::scalars::SerializeScalars;
 use crate::calls::compounds::SerializeCompounds;
+use crate::calls::scalars::SerializeScalars;
 use crate::serialize::Serialize;
 use crate::serializer::Serializer;
 

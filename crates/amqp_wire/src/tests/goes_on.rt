@@ -4,8 +4,8 @@
 use crate::measurer::Measurer;
 use crate::writer::Writer;
 use amqp_data::Error;
-use amqp_ser::{CompoundKind, Fixed, Marker, SerializeScalars, Serializer};
 use amqp_pass::SizeError;
+use amqp_ser::{CompoundKind, Fixed, Marker, SerializeScalars, Serializer};
 use amqp_size::SizeSerializer;
 use std::alloc::Global;
 
@@ -215,7 +215,10 @@ fn alone<S: Serializer>(
         } else {
             serializer.serialize_u64(pick(next, 5, 300))
         };
-        if serializer.end_descriptor(&mut compound, descriptor).is_err() {
+        if serializer
+            .end_descriptor(&mut compound, descriptor)
+            .is_err()
+        {
             refused.add(next);
         }
     }

@@ -1,11 +1,11 @@
 //! Tests of the filter with example properties.
 //!
-//! Shows readers of `example_filter` which properties are kept and which values are not properties.
+//! Shows readers of `filter` which properties are kept and which values are not properties.
 
 use super::{wrong, wrong_value};
+use crate::filter::{has_at_least, properties_of};
 use amqp_data::{OrderedMap, Symbol};
 use amqp_value::{ConvertFault, Value};
-use crate::filter::{has_at_least, properties_of};
 use std::alloc::Global;
 
 #[test]

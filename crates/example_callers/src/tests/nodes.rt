@@ -1,6 +1,6 @@
 //! Tests of the node counter with values whose nodes have been counted by hand.
 //!
-//! Shows readers of `example_nodes` which trees have how many nodes, and which values have no tree.
+//! Shows readers of `counter` which trees have how many nodes, and which values have no tree.
 
 ghost use Rattle.std.specs.Prelude.{Some};
 ghost use Rattle.amqp_ser.specs.Composites.{as_described, descriptor_of};
@@ -8,10 +8,10 @@ ghost use Rattle.amqp_ser.specs.Marked.{with_marker, marker_of};
 ghost use Rattle.amqp_ser.specs.Tree.{scalar, ubyte};
 
 use super::{wrong, wrong_error, wrong_number};
-use amqp_data::{Described, Descriptor, Error, markers};
-use amqp_ser::{Serialize, SerializeCompounds, Serializer};
 use crate::counter::count_nodes;
 use crate::reading::Reading;
+use amqp_data::{Described, Descriptor, Error, markers};
+use amqp_ser::{Serialize, SerializeCompounds, Serializer};
 use std::alloc::Global;
 
 /// A newtype with any name, such as that of a marker.

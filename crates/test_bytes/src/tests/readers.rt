@@ -33,7 +33,8 @@ fn whole(rt: &HostRuntime, bytes: &[u8]) -> bool {
 fn part(rt: &HostRuntime, bytes: &[u8]) -> bool {
     match Bytes::copy_from_slice(rt.alloc(), bytes) {
         Ok(shared) => match LazyValue::try_from(shared) {
-            Ok(value) => slice_is(rt, "no whole value", value.as_slice(), b""),
+            Ok(value) => is(rt, "a value of other bytes", value.as_slice(), b"none")
+                || for_bytes(rt, bytes),
             Err(error) => {
                 is(rt, "is_frame of other bytes", is_frame(bytes), false)
                     && is(rt, "the error of other bytes", error, Error::InvalidValue)
@@ -325,12 +326,7 @@ fn deep_values(rt: &HostRuntime) -> bool {
             deep_bytes(a, 0, b"\x10"),
             &Err(Error::InvalidFormatCode),
         )
-        && deep(
-            rt,
-            "100,000 descriptors",
-            deep_bytes(a, 100_000, b""),
-            &eof,
-        )
+        && deep(rt, "100,000 descriptors", deep_bytes(a, 100_000, b""), &eof)
         && deep(
             rt,
             "100,000 descriptors and null",

@@ -7,9 +7,12 @@ use super::calls::samples::NoName;
 use super::compare::is;
 use super::made::{array as array_of, nested_texts, transparent, vector};
 use amqp_data::{Error, TransparentVec};
-use amqp_ser::{CompoundKind, Marker, Serialize, SerializeCompounds, SerializeMap, SerializeScalars, SerializeSeq, Serializer};
-use amqp_size::width::{array_len, list_len, map_len, text_len};
 use amqp_pass::SizeError;
+use amqp_ser::{
+    CompoundKind, Marker, Serialize, SerializeCompounds, SerializeMap, SerializeScalars,
+    SerializeSeq, Serializer,
+};
+use amqp_size::width::{array_len, list_len, map_len, text_len};
 use amqp_size::{SizeSerializer, serialized_size};
 
 fn text(rt: &HostRuntime, len: usize, in_array: bool, length: usize) -> bool {

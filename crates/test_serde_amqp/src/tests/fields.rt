@@ -2,12 +2,11 @@
 //! names.
 
 use super::rows::{row, shows};
-use serde_amqp::ser::SerializeCompounds;
 use serde_amqp::ser::{
-    Field, Fields, Fixed, Keys, CompoundKind, ListOf, MapOf, OptionalField, SerializeTuple, Serializer,
-    SymbolMapOf, VariantOf,
+    CompoundKind, Field, Fields, Fixed, Keys, ListOf, MapOf, OptionalField, SerializeCompounds,
+    SerializeTuple, Serializer, SymbolMapOf, VariantOf,
 };
-use serde_amqp::size_ser::{SizeSerializer, SizeError};
+use serde_amqp::size_ser::{SizeError, SizeSerializer};
 
 /// Fields that forward each call.
 #[derive(Drop)]
@@ -20,7 +19,11 @@ impl<F: Fields> Fields for Same<F> {
         self.0.any_there()
     }
 
-    fn feed<S: Serializer>(&self, serializer: &mut S, compound: &mut S::Open) -> Result<(), S::Error> {
+    fn feed<S: Serializer>(
+        &self,
+        serializer: &mut S,
+        compound: &mut S::Open,
+    ) -> Result<(), S::Error> {
         self.0.feed(serializer, compound)
     }
 

@@ -24,7 +24,13 @@ pub fn lazy(alloc: Global, hexadecimal: &str) -> Option<LazyValue> {
 const HELLO: &str = "a10d48656c6c6f2c20576f726c6421";
 
 // Returns whether the lazy value of the value has these bytes and their length, and this image.
-fn compound<T: Serialize>(rt: &HostRuntime, name: &str, value: &T, bytes: &str, image: &str) -> bool {
+fn compound<T: Serialize>(
+    rt: &HostRuntime,
+    name: &str,
+    value: &T,
+    bytes: &str,
+    image: &str,
+) -> bool {
     match to_lazy_value(rt.alloc(), value) {
         Ok(lazy) => {
             is_text(rt, name, hexadecimal(rt.alloc(), lazy.as_slice()), bytes)

@@ -8,12 +8,11 @@ ghost use Rattle.amqp_ser.specs.Tree.{scalar, ubyte};
 
 use super::made::list;
 use super::rows::{decoded, has_no_tree, has_some_image, written, wrong};
-use serde_amqp::ser::SerializeCompounds;
 use serde_amqp::Value;
 use serde_amqp::decode::decode_value;
 use serde_amqp::extensions::TransparentVec;
 use serde_amqp::primitives::ByteBuf;
-use serde_amqp::ser::{Serialize, Serializer, markers};
+use serde_amqp::ser::{Serialize, SerializeCompounds, Serializer, markers};
 use std::alloc::Global;
 
 /// A newtype with this name.

@@ -11,12 +11,11 @@ ghost use Rattle.serde_amqp.specs.Lines.{AreLines, lines_of};
 
 use super::made::{array, list, pairs, symbol};
 use super::rows::{holds, is_bytes, is_length, is_value, shows, wrong};
-use serde_amqp::ser::{SerializeScalars, SerializeCompounds};
 use serde_amqp::ser::{
-    Serialize, SerializeMap, SerializeSeq, SerializeStruct, SerializeStructVariant,
-    SerializeTupleStruct, SerializeTupleVariant, Serializer as _,
+    Serialize, SerializeCompounds, SerializeMap, SerializeScalars, SerializeSeq, SerializeStruct,
+    SerializeStructVariant, SerializeTupleStruct, SerializeTupleVariant, Serializer as _,
 };
-use serde_amqp::size_ser::{SizeSerializer, SizeError, width};
+use serde_amqp::size_ser::{SizeError, SizeSerializer, width};
 use serde_amqp::{
     Error, Value, decode, described, descriptor, extensions, format_code, laws, lazy, primitives,
     read, ser, size_ser, to_value, value,
@@ -114,6 +113,11 @@ fn readers_and_codes(rt: &HostRuntime) -> bool {
         && shows(rt, "a code", &code, "Ok(Null)")
 }
 
+// Returns the fault of converting null to a number.
+fn fault_of_null() -> Option<value::ConvertFault> {
+    u32::try_from(Value::Null).err()
+}
+
 fn values(rt: &HostRuntime) -> bool {
     let a = rt.alloc();
     let called = <Value as value::TryFromSerializable>::try_from_serializable(a, &1u8);
@@ -122,6 +126,14 @@ fn values(rt: &HostRuntime) -> bool {
     is_value(rt, "to_value", of_module, "Ubyte(1)")
         && is_value(rt, "try_from_serializable", called, "Ubyte(1)")
         && is_value(rt, "a value's serializer", image, "Ubyte(1)")
+        && holds(
+            rt,
+            "a fault",
+            matches!(
+                fault_of_null(),
+                Some(value::ConvertFault::Unfit(Value::Null))
+            ),
+        )
         && shows(
             rt,
             "a size's serializer",

@@ -3,10 +3,9 @@
 use super::made::{self, described, pairs};
 use super::rows::holds;
 use super::support::is;
-use serde_amqp::de::DeserializeCompounds;
 use serde_amqp::de::{
-    Deserialize as _, Deserializer as _, EnumAccess as _, MapAccess as _, DeserializeSeed as _,
-    SeqAccess as _, VariantAccess as _,
+    Deserialize as _, DeserializeCompounds, DeserializeSeed as _, Deserializer as _,
+    EnumAccess as _, MapAccess as _, SeqAccess as _, VariantAccess as _,
 };
 use serde_amqp::primitives::OrderedMap;
 use serde_amqp::{Error, Value, de, descriptor, from_value, value};
@@ -117,7 +116,7 @@ fn second_variant(alloc: Global) -> bool {
         rest: de::UnitVariant { rest: () },
     };
     matches!(
-        de::EnumSeed(variants).read(alloc, uint(alloc)),
+        de::EnumSeed(variants).deserialize(alloc, uint(alloc)),
         Ok(de::Either::Other(de::Either::This(())))
     )
 }
@@ -259,8 +258,15 @@ fn count_of_a_composite(alloc: Global) -> Result<u32, Error> {
     de::read_composite::<Whole, _, _>(alloc, value, 1, of)
 }
 
+fn fields_of_a_map<F: de::FieldSeeds<Values = (u32, ())>>(
+    alloc: Global,
+    fields: F,
+) -> Result<(u32, ()), Error> {
+    de::read_map::<Count, _, F>(alloc, source(alloc, map(alloc)), fields)
+}
+
 fn count_of_a_map(alloc: Global) -> Result<(u32, ()), Error> {
-    de::read_map::<Count, _, _>(alloc, source(alloc, map(alloc)), required())
+    fields_of_a_map(alloc, required())
 }
 
 fn count_of_a_described_map(alloc: Global) -> Result<(u32, ()), Error> {
@@ -288,7 +294,7 @@ fn any_value(alloc: Global) -> bool {
 
 // Reads a variant.
 fn variant<V: de::Variants>(alloc: Global, variants: V) -> Result<V::Value, Error> {
-    de::EnumSeed(variants).read(alloc, uint(alloc))
+    de::EnumSeed(variants).deserialize(alloc, uint(alloc))
 }
 
 fn variant_without_its_value(alloc: Global) -> bool {
@@ -299,7 +305,9 @@ fn variant_without_its_value(alloc: Global) -> bool {
             rest: (),
         },
     };
-    let answer: Result<de::Either<(), de::Either<u32, de::Never>>, Error> = variant(alloc, variants);
+    let answer: Result<de::Either<(), de::Either<u32, de::Never>>, Error> = variant(
+        alloc, variants,
+    );
     matches!(answer, Err(Error::Message("Expecting a value")))
 }
 

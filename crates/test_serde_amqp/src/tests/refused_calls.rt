@@ -7,10 +7,9 @@ ghost use Rattle.amqp_ser.specs.Feeding.{Feeds};
 ghost use Rattle.amqp_ser.specs.Compounds.{tree_of_parts};
 ghost use Rattle.amqp_ser.specs.declared.kind.CompoundKind.TheVariants as kind;
 
-use super::with_marker::Newtype;
 use super::rows::{has_no_tree, row};
-use serde_amqp::ser::SerializeCompounds;
-use serde_amqp::ser::{CompoundKind, Serialize, Serializer, markers};
+use super::with_marker::Newtype;
+use serde_amqp::ser::{CompoundKind, Serialize, SerializeCompounds, Serializer, markers};
 
 /// Serializes an element; fails if the element has no tree.
 fn element<S: Serializer, T: Serialize>(

@@ -51,7 +51,7 @@ fn prints<R: Read>(
 ) -> bool {
     let mut writer = VecWriter::new(rt.alloc());
     let got = run_over(rt.alloc(), run, reader, &mut writer);
-    is(rt, name, got, wanted) && is_printed(rt, name, writer.as_slice(), text)
+    is(rt, name, got, wanted) && is_printed(rt, name, &writer.into_inner(), text)
 }
 
 /// How an input is read.

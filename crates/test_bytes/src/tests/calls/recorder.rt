@@ -3,8 +3,8 @@
 ghost use Rattle.std.specs.Prelude.{◌≡◌, ◌++◌, ◌∷◌, [], ℕ, Err, IfErr, IsErr, List, MatchResult, None, Option, Result};
 ghost use Rattle.amqp_ser.specs.Tree.{Tree};
 
-use amqp_ser::{Fixed, CompoundKind, Marker, Serialize, Serializer};
 use amqp_pass::{OpenCompound, ResolvedKind, SizeError};
+use amqp_ser::{CompoundKind, Fixed, Marker, Serialize, Serializer};
 use amqp_size::SizeSerializer;
 use std::alloc::Global;
 

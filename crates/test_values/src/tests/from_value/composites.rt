@@ -9,7 +9,7 @@ use super::super::values::{described, list, map, string};
 use super::{reads, refuses};
 use amqp_data::Descriptor;
 use amqp_de::de::{Deserialize, Deserializer};
-use amqp_de::{ListSeed, NamedSeed, Record, values, named, read_described};
+use amqp_de::{ListSeed, NamedSeed, Record, named, read_described, values};
 use amqp_value::Value;
 use std::alloc::Global;
 

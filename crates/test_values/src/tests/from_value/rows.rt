@@ -4,7 +4,7 @@ use super::super::rows::{gives, invalid, wrong};
 use super::super::values::{array, described, list, map, name, string, symbol};
 use super::{reads, refuses};
 use amqp_data::{Described, Descriptor, Error};
-use amqp_de::{NamedSeed, DeserializeSeed, values, named};
+use amqp_de::{DeserializeSeed, NamedSeed, named, values};
 use amqp_from_value::Deserializer;
 use amqp_to_value::to_value;
 use amqp_value::Value;
@@ -65,7 +65,7 @@ fn described_values_keep_their_descriptor(rt: &HostRuntime) -> bool {
 
 // Reads the named fields `a` and `b`; `b` may be absent.
 fn read_named(rt: &HostRuntime, value: Value) -> Result<(i32, Option<i32>), Error> {
-    let values! { a, b } = NamedSeed(named! { "a", "b"? }).read(
+    let values! { a, b } = NamedSeed(named! { "a", "b"? }).deserialize(
         rt.alloc(),
         Deserializer::new(rt.alloc(), value),
     )?;

@@ -3,7 +3,7 @@
 use super::super::rows::{fails, gives, invalid};
 use super::super::values::{list, map, string, text};
 use amqp_data::Error;
-use amqp_de::{EnumSeed, DeserializeSeed, named, variant, variants};
+use amqp_de::{DeserializeSeed, EnumSeed, named, variant, variants};
 use amqp_from_value::Deserializer;
 use amqp_value::Value;
 

@@ -7,17 +7,16 @@ ghost use Rattle.amqp_de.specs.Events.{seq_event, enum_event, visit_of, ByList};
 ghost use Rattle.amqp_de.specs.Fields.{There};
 ghost use Rattle.amqp_de.specs.Reads.{Always};
 
-use amqp_de::de::{DeserializeScalars, DeserializeCompounds};
-use amqp_ser::SerializeScalars;
 use super::super::rows::{fails, gives, invalid, is};
 use super::super::values::{array, described, list, map, name, string, symbol};
 use super::{reads, refuses, variant_1};
 use amqp_data::{Descriptor, Error, Symbol};
 use amqp_de::de::{
-    self, Deserialize, Deserializer as _, EnumAccess, MapAccess, Plain, DeserializeError, SeqAccess,
-    VariantAccess, Visit, Visitor,
+    self, Deserialize, DeserializeCompounds, DeserializeError, DeserializeScalars,
+    Deserializer as _, EnumAccess, MapAccess, Plain, SeqAccess, VariantAccess, Visit, Visitor,
 };
 use amqp_from_value::Deserializer;
+use amqp_ser::SerializeScalars;
 use amqp_value::Value;
 use std::alloc::Global;
 

@@ -1,9 +1,9 @@
 //! Rows that hold whichever allocation fails. Run them with `rt try --test --fail-alloc N`.
 
-use amqp_ser::SerializeCompounds;
 use super::super::rows::{gives, is, wrong};
 use super::{newtype_variant, unit};
 use amqp_data::{Array, ByteBuf, Described, Descriptor, Error, OrderedMap, Symbol, markers};
+use amqp_ser::SerializeCompounds;
 use amqp_to_value::{Serializer, to_value};
 use amqp_value::Value;
 use std::alloc::Global;
