@@ -237,7 +237,7 @@ impl Serializer for Writer {
 
     #[inline(always)]
     fn set_marker(&mut self, marker: Marker) {
-        self.context = self.context.marked(marker);
+        self.context = self.context.with_marker(marker);
     }
 
     #[inline(always)]
