@@ -113,9 +113,9 @@ fn readers_and_codes(rt: &HostRuntime) -> bool {
         && shows(rt, "a code", &code, "Ok(Null)")
 }
 
-// Returns the fault of converting null to a number.
+// Returns the fault of converting null to a vector.
 fn fault_of_null() -> Option<value::ConvertFault> {
-    u32::try_from(Value::Null).err()
+    Vec::<u8>::try_from(Value::Null).err()
 }
 
 fn values(rt: &HostRuntime) -> bool {

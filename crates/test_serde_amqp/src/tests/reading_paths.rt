@@ -151,7 +151,7 @@ fn first_element<D: de::Deserializer>(
             let mut elements = de::ElementsOf::<D>::new(elements);
             elements.next_element(alloc)
         }
-        _ => Err(<D::Error as de::DeserializeError>::invalid()),
+        _ => Err(<D::Error as de::DeserializeError>::invalid_value()),
     }
 }
 
@@ -165,7 +165,7 @@ fn first_entry<D: de::Deserializer>(
             let mut entries = de::EntriesOf::<D>::new(entries);
             entries.next_entry(alloc)
         }
-        _ => Err(<D::Error as de::DeserializeError>::invalid()),
+        _ => Err(<D::Error as de::DeserializeError>::invalid_value()),
     }
 }
 

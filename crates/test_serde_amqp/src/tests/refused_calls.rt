@@ -8,7 +8,7 @@ ghost use Rattle.amqp_ser.specs.Compounds.{tree_of_parts};
 ghost use Rattle.amqp_ser.specs.declared.kind.CompoundKind.TheVariants as kind;
 
 use super::rows::{has_no_tree, row};
-use super::with_marker::Newtype;
+use super::marked::Newtype;
 use serde_amqp::ser::{CompoundKind, Serialize, SerializeCompounds, Serializer, markers};
 
 /// Serializes an element; fails if the element has no tree.

@@ -37,7 +37,7 @@ impl io::Read for ByteReader<'_> {
             return Err(io::Error::from(self.kind));
         }
         let len = buf.len().min(1);
-        self.rest.deserialize(&mut buf[..len])
+        self.rest.read(&mut buf[..len])
     }
 }
 

@@ -56,8 +56,8 @@ fn what_cannot_be_written_is_no_lazy_value(rt: &HostRuntime) -> bool {
 
 // The contracts state which error is out of memory; these rows state the error of each other cause.
 fn each_cause_has_its_error(rt: &HostRuntime) -> bool {
-    let memory: Error = DeserializeError::memory();
-    let invalid: Error = DeserializeError::invalid();
+    let memory: Error = DeserializeError::out_of_memory();
+    let invalid: Error = DeserializeError::invalid_value();
     let too_long: Error = DeserializeError::too_long();
     let message: Error = DeserializeError::custom("not a direction");
     is(rt, "memory", &memory, &Error::OutOfMemory)
