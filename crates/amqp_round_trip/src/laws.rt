@@ -68,7 +68,7 @@ pub fn variants_return()
 /// # Memory
 /// None.
 pub fn short_lists_return()
-    ensures tree_of_parts { (ps : List (Option Tree)) (fs : List (Bool × Tree)) →
+    ensures complete { (ps : List (Option Tree)) (fs : List (Bool × Tree)) →
         StandAs ps (trees_of (up_to_last fs)) → StandsAs (tree_of_parts kind.List ps) (short_list fs) }
     ensures field { (b : Bool) (p : Option Tree) (ps : List (Option Tree)) (t : Tree)
         (ts : List Tree) → StandsAs p t → StandAs ps (trees_of ts) →
@@ -81,7 +81,7 @@ pub fn short_lists_return()
 /// # Memory
 /// None.
 pub fn named_maps_return()
-    ensures tree_of_parts { (ps : List (Option Tree)) (ns : List (List ℕ)) (fs : List (Bool × Tree)) →
+    ensures complete { (ps : List (Option Tree)) (ns : List (List ℕ)) (fs : List (Bool × Tree)) →
         distinct_names ns ≡ true → FieldsStandAs ps ns fs →
         StandsAs (tree_of_parts kind.Map ps) (short_map ns fs) }
     ensures none { FieldsStandAs [] [] [] }

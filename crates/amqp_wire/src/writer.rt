@@ -87,7 +87,7 @@ impl Writer {
     pub(crate) fn spoil_unless_put(&mut self, put: Result<(), SizeError>)
         ensures kept { Kept self.old.output self.new.output }
         ensures context { self.new.context ≡ self.old.context }
-        ensures tree_of_parts { is_err put ≡ false → self.new.output ≡ self.old.output }
+        ensures complete { is_err put ≡ false → self.new.output ≡ self.old.output }
     {
         if put.is_err() {
             self.output.spoil();

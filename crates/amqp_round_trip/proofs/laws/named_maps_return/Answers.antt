@@ -2,4 +2,4 @@ use Rattle.amqp_round_trip.proofs.FieldLemmas.{short_map_stands, none_stands, mu
 use Rattle.amqp_round_trip.proofs.laws.named_maps_return.Goals as goal
 
 pub returns : goal.returns
-returns c = record { whole = short_map_stands; none = none_stands; must = must_stands; may = may_stands }
+returns c = record { complete = short_map_stands; none = none_stands; must = must_stands; may = may_stands }

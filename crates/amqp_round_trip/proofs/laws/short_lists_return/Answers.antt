@@ -2,4 +2,4 @@ use Rattle.amqp_round_trip.proofs.FieldLemmas.{short_list_stands, kept_stands}
 use Rattle.amqp_round_trip.proofs.laws.short_lists_return.Goals as goal
 
 pub returns : goal.returns
-returns c = record { whole = short_list_stands; field = kept_stands }
+returns c = record { complete = short_list_stands; field = kept_stands }
