@@ -1,4 +1,4 @@
-//! The functions exported to C.
+//! Runs one operation on a shape, or on a value made from bytes.
 
 ghost use Rattle.std.specs.Prelude.{◌≡◌, ◌≤◌};
 
@@ -58,11 +58,14 @@ fn attached(alloc: Global, form: u32, op: u32, times: u64) -> u64
 /// The value of work 0 is the list of the lines of the text, and of work 1 the array of the numbers
 /// of four bytes each. The value of works 2 to 4 is the untyped value encoded in the data.
 ///
-/// The operations are those of `repeat_typed`: 0 computes sizes, 1 writes bytes, 2 hashes the
-/// bytes, 3 builds untyped values, 4 writes texts, 5 decodes untyped values from the bytes, 6
-/// deserializes values from untyped values. For any other work or operation, the result is 0.
-#[unsafe(no_mangle)]
-pub extern "C" fn tool_bench(alloc: Global, work: u32, op: u32, data: &[u8], times: u64) -> u64
+/// Operation 0 computes sizes, 1 writes bytes, 2 hashes the bytes, 3 builds untyped values, 4 writes
+/// texts, 5 decodes untyped values from the bytes, and 6 deserializes values from untyped values.
+/// The result is the sum of `times` sizes or lengths, the hash, or the number of values. For any
+/// other work or operation, and if a call fails, it is 0.
+///
+/// # Memory
+/// Allocates from `alloc`, and frees all of it before it returns.
+pub fn run_work(alloc: Global, work: u32, op: u32, data: &[u8], times: u64) -> u64
     ensures works { 5 ≤ work → result ≡ 0 }
     ensures operations { 7 ≤ op → result ≡ 0 }
 {
@@ -80,9 +83,12 @@ pub extern "C" fn tool_bench(alloc: Global, work: u32, op: u32, data: &[u8], tim
 /// ints, 3 a chain of 256 lists, 4 a binary of 65,536 bytes, and 5 and 6 are maps of 1,000 and
 /// 10,000 keys. Shape 7 is the list of fields with a descriptor. Shape 8 is the list of the first
 /// seven fields, serialized one at a time, and shape 9 is that list with a descriptor. The
-/// operations are those of `tool_bench`. For any other shape or operation, the result is 0.
-#[unsafe(no_mangle)]
-pub extern "C" fn amqp_shape(alloc: Global, shape: u32, op: u32, times: u64) -> u64
+/// operations are those of `run_work`. For any other shape or operation, and if a call fails, the
+/// result is 0.
+///
+/// # Memory
+/// Allocates from `alloc`, and frees all of it before it returns.
+pub fn run_shape(alloc: Global, shape: u32, op: u32, times: u64) -> u64
     ensures shapes { 10 ≤ shape → result ≡ 0 }
     ensures operations { 7 ≤ op → result ≡ 0 }
 {

@@ -8,20 +8,20 @@ use std::alloc::Global;
 /// absent.
 #[derive(Drop)]
 pub struct Attach {
-    pub(crate) name: String,
-    pub(crate) handle: u32,
-    pub(crate) role: bool,
-    pub(crate) sender_settles: Option<u8>,
-    pub(crate) receiver_settles: Option<u8>,
-    pub(crate) source: Option<String>,
-    pub(crate) target: Option<String>,
-    pub(crate) unsettled: Option<u32>,
-    pub(crate) incomplete: bool,
-    pub(crate) delivery_count: u32,
-    pub(crate) longest_message: u64,
-    pub(crate) offered: Option<String>,
-    pub(crate) desired: Option<String>,
-    pub(crate) properties: Option<u32>,
+    pub name: String,
+    pub handle: u32,
+    pub role: bool,
+    pub sender_settles: Option<u8>,
+    pub receiver_settles: Option<u8>,
+    pub source: Option<String>,
+    pub target: Option<String>,
+    pub unsettled: Option<u32>,
+    pub incomplete: bool,
+    pub delivery_count: u32,
+    pub longest_message: u64,
+    pub offered: Option<String>,
+    pub desired: Option<String>,
+    pub properties: Option<u32>,
 }
 
 impl Attach {
@@ -53,7 +53,7 @@ impl Attach {
 }
 
 impl Serialize for Attach {
-    ghost use Rattle.tool_bench.specs.Attached.{attach_tree};
+    ghost use Rattle.tool_shapes.specs.Attached.{attach_tree};
 
     ghost tree = { attach_tree };
 
@@ -88,7 +88,7 @@ impl Serialize for DescribedAttach {
     ghost use Rattle.std.specs.Prelude.{Some};
     ghost use Rattle.amqp_ser.specs.Composites.{as_described};
     ghost use Rattle.amqp_ser.specs.Tree.{code};
-    ghost use Rattle.tool_bench.specs.Attached.{attach_tree};
+    ghost use Rattle.tool_shapes.specs.Attached.{attach_tree};
 
     ghost tree = { λ d. as_described (Some (code 0x12)) (attach_tree d.0) };
 

@@ -1,7 +1,7 @@
 //! A hash of bytes, used to compare the output of two encoders.
 
 ghost use Rattle.std.specs.Prelude.{◌≡◌};
-ghost use Rattle.tool_bench.specs.Hash.{hash_from};
+ghost use Rattle.tool_shapes.specs.Hash.{hash_from};
 
 /// Returns the 64-bit FNV-1a hash of the bytes.
 ///

@@ -9,7 +9,7 @@ use amqp_ser::{Serialize, SerializeCompounds, Serializer};
 pub struct FedFields(pub Attach);
 
 impl Serialize for FedFields {
-    ghost use Rattle.tool_bench.specs.Attached.{prefix_tree};
+    ghost use Rattle.tool_shapes.specs.Attached.{prefix_tree};
 
     ghost tree = { λ f. prefix_tree f.0 };
 
@@ -34,7 +34,7 @@ impl Serialize for FedDescribedFields {
     ghost use Rattle.std.specs.Prelude.{Some};
     ghost use Rattle.amqp_ser.specs.Composites.{as_described};
     ghost use Rattle.amqp_ser.specs.Tree.{code};
-    ghost use Rattle.tool_bench.specs.Attached.{prefix_tree};
+    ghost use Rattle.tool_shapes.specs.Attached.{prefix_tree};
 
     ghost tree = { λ f. as_described (Some (code 0x12)) (prefix_tree f.0) };
 

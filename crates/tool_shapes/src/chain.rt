@@ -31,7 +31,7 @@ impl Chain {
 }
 
 impl Serialize for Chain {
-    ghost use Rattle.tool_bench.specs.Nested.{nested};
+    ghost use Rattle.tool_shapes.specs.Nested.{nested};
 
     ghost tree = { nested };
 

@@ -6,7 +6,7 @@ use Rattle.amqp_ser.specs.Carried.{optional}
 use Rattle.amqp_ser.specs.Compounds.{tree_of_parts}
 use Rattle.amqp_ser.specs.Tree.{Tree, scalar, bool, ubyte, uint, ulong, string}
 use Rattle.amqp_ser.specs.declared.kind.CompoundKind.TheVariants as kind
-use Rattle.tool_bench.specs.declared.attach.Attach.{Attach}
+use Rattle.tool_shapes.specs.declared.attach.Attach.{Attach}
 
 abbrev pub text : String Global → Option Tree
 text s = Some (scalar (string (string_bytes s)))

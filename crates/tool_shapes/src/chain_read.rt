@@ -16,7 +16,10 @@ use std::alloc::Global;
 /// # Errors
 /// Returns `Error::OutOfMemory` if an allocation fails. Returns `Error::InvalidValue` if a level is
 /// not a list or has more than one element.
-fn read_chain(alloc: Global, untyped: Value) -> Result<Chain, Error> {
+///
+/// # Memory
+/// Allocates the levels and the links from `alloc`.
+pub fn read_chain(alloc: Global, untyped: Value) -> Result<Chain, Error> {
     let mut level: Vec<Value> = from_value(alloc, untyped)?;
     for links in 0..u32::MAX {
         match level.pop() {
@@ -66,42 +69,4 @@ pub fn repeat_chain(alloc: Global, chain: &Chain, op: u32, times: u64) -> u64
         }
     }
     sum
-}
-
-#[cfg(test)]
-mod tests {
-    use super::read_chain;
-    use crate::chain::Chain;
-    use crate::tests::{is, wrong};
-    use amqp_data::Error;
-    use amqp_size::serialized_size;
-    use amqp_to_value::to_value;
-    use amqp_value::Value;
-    use std::alloc::Global;
-
-    #[test]
-    fn chains_come_back(rt: HostRuntime) {
-        for links in [0, 1, 2, 255] {
-            assert!(rt; comes_back(&rt, links), "{links} links");
-        }
-        assert!(rt; null_is_no_chain(&rt), "null");
-    }
-
-    /// Returns the sizes of a chain and of the chain read from its untyped value.
-    fn sizes(alloc: Global, links: u32) -> Result<(usize, usize), Error> {
-        let chain = Chain::of_links(alloc, links)?;
-        let read = read_chain(alloc, to_value(alloc, &chain)?)?;
-        Ok((serialized_size(&chain)?, serialized_size(&read)?))
-    }
-
-    fn comes_back(rt: &HostRuntime, links: u32) -> bool {
-        match sizes(rt.alloc(), links) {
-            Ok((chain, read)) => is(rt, "size at links", links, read as u64, chain as u64),
-            Err(_) => wrong(rt, "chain of links", links),
-        }
-    }
-
-    fn null_is_no_chain(rt: &HostRuntime) -> bool {
-        read_chain(rt.alloc(), Value::Null).is_err()
-    }
 }

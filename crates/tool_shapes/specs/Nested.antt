@@ -3,8 +3,8 @@ use Rattle.std.specs.Prelude.{[], ◌∷◌, Option}
 use Rattle.amqp_ser.specs.Compounds.{tree_of_parts}
 use Rattle.amqp_ser.specs.Tree.{Tree}
 use Rattle.amqp_ser.specs.declared.kind.CompoundKind.TheVariants as kind
-use Rattle.tool_bench.specs.declared.chain.Chain.{Chain, fold-Chain}
-use Rattle.tool_bench.specs.declared.chain.Chain.TheOpen.{Chain-F}
+use Rattle.tool_shapes.specs.declared.chain.Chain.{Chain, fold-Chain}
+use Rattle.tool_shapes.specs.declared.chain.Chain.TheOpen.{Chain-F}
 
 -- one level, given the tree of the chain inside
 abbrev pub nested_step : Chain-F (Option Tree) → Option Tree
