@@ -121,6 +121,6 @@ fn frames(alloc: Global) -> Result<bool, Error> {
 }
 
 fn is_written(alloc: Global, frame: &LazyValue) -> Result<bool, Error> {
-    let compound = to_lazy_value(alloc, &(1u8, frame))?;
-    Ok(compound.as_slice() == b"\xc0\x08\x02\x50\x01\x00\xa1\x01a\x45".as_slice())
+    let held = to_lazy_value(alloc, &(1u8, frame))?;
+    Ok(held.as_slice() == b"\xc0\x08\x02\x50\x01\x00\xa1\x01a\x45".as_slice())
 }

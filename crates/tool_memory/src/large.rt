@@ -156,15 +156,15 @@ fn read(alloc: Global) -> Result<bool, Error> {
 
 fn lazy(alloc: Global) -> Result<bool, Error> {
     let bytes = long_frame(alloc)?;
-    let compound = LazyValue::from_reader(alloc, &mut SliceReader::new(&bytes))?;
-    let read: LazyValue = from_value(alloc, to_value(alloc, &compound)?)?;
-    Ok(read == compound)
+    let held = LazyValue::from_reader(alloc, &mut SliceReader::new(&bytes))?;
+    let read: LazyValue = from_value(alloc, to_value(alloc, &held)?)?;
+    Ok(read == held)
 }
 
 fn held(alloc: Global) -> Result<bool, Error> {
     let binary = ByteBuf::from(Vec::from_elem(alloc, 1u8, MEBIBYTE)?);
-    let compound = to_lazy_value(alloc, &binary)?;
-    Ok(compound.as_slice() == long_frame(alloc)?.as_slice())
+    let held = to_lazy_value(alloc, &binary)?;
+    Ok(held.as_slice() == long_frame(alloc)?.as_slice())
 }
 
 fn line(alloc: Global) -> Result<bool, Error> {

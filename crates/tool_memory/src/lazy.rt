@@ -24,8 +24,8 @@ fn lazy(alloc: Global, bytes: &[u8]) -> Result<LazyValue, Error> {
 // A list that contains an array and a map, encoded as `to_vec` does, and a number with a longer
 // encoding than that of `to_vec`.
 fn in_a_list(alloc: Global) -> Result<bool, Error> {
-    let compound = vec![in alloc; lazy(alloc, LIST)?, lazy(alloc, b"\x70\0\0\0\0")?]?;
-    let image = to_value(alloc, &compound)?;
+    let held = vec![in alloc; lazy(alloc, LIST)?, lazy(alloc, b"\x70\0\0\0\0")?]?;
+    let image = to_value(alloc, &held)?;
     let bytes = to_vec(alloc, &image)?;
     let whole = bytes.starts_with(b"\xc0\x2f\x02") && bytes[3..].starts_with(LIST);
     let parts: Vec<LazyValue> = from_value(alloc, image)?;
@@ -35,10 +35,10 @@ fn in_a_list(alloc: Global) -> Result<bool, Error> {
 
 // A lazy map, as the value of a lazy key.
 fn in_a_map(alloc: Global) -> Result<bool, Error> {
-    let mut compound = OrderedMap::new(alloc);
+    let mut held = OrderedMap::new(alloc);
     let value = lazy(alloc, b"\xc1\x07\x02\xa3\x01k\xa1\x01a")?;
-    drop(compound.insert(lazy(alloc, b"\xa1\x01b")?, value)?);
-    let image = to_value(alloc, &compound)?;
+    drop(held.insert(lazy(alloc, b"\xa1\x01b")?, value)?);
+    let image = to_value(alloc, &held)?;
     let bytes = to_vec(alloc, &image)?;
     let parts: OrderedMap<LazyValue, LazyValue> = from_value(alloc, image)?;
     let expected: &[u8] = b"\xc1\x0d\x02\xa1\x01b\xc1\x07\x02\xa3\x01k\xa1\x01a";
@@ -48,11 +48,11 @@ fn in_a_map(alloc: Global) -> Result<bool, Error> {
 // Two lazy arrays in an array.
 fn in_an_array(alloc: Global) -> Result<bool, Error> {
     let bytes = b"\xe0\x07\x01\xb1\0\0\0\x01a";
-    let compound = Array::from(vec![in alloc;
+    let held = Array::from(vec![in alloc;
         lazy(alloc, bytes)?,
         lazy(alloc, b"\xe0\x02\0\x40")?,
     ]?);
-    let image = to_value(alloc, &compound)?;
+    let image = to_value(alloc, &held)?;
     let parts: Array<LazyValue> = from_value(alloc, image)?;
     let items = parts.as_inner();
     Ok(items.len() == 2 && items[0].as_slice() == bytes.as_slice())

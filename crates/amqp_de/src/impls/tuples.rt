@@ -8,7 +8,7 @@ use crate::deserialize::Deserialize;
 use crate::deserializer::Deserializer;
 use crate::record::{Record, read};
 use crate::seed::ListSeed;
-use crate::{fields, named};
+use crate::{named, values};
 use std::alloc::Global;
 
 impl<A: Deserialize> Record for (A,) {

@@ -65,20 +65,20 @@ read_list-returns-in_err-item-clause-err t c =
     λ h. list-none (parse c.args.depth) c.args.count c.loop.counter c.loop.rest.now c.args.body.now (map tree_of c.loop.invariant.0) c.loop-test.true c.loop.invariant.2 h in
     search (rules, none)
 
-pub read_map-loop-preserved : goal.read_map-loop-preserved
-read_map-loop-preserved t c =
+pub read_entries-loop-preserved : goal.read_entries-loop-preserved
+read_entries-loop-preserved t c =
     let step = insert-and_then (parse c.args.depth) (c.args.count / 2) c.loop.counter c.loop.rest.now c.read_encoded_value.new.bytes.now c.read_encoded_value-in-loop.new.bytes.now (tree_of c.in_ok-key.key) (tree_of c.in_ok-value.value) (collected_pairs c.loop.pairs) c.loop-test.true c.in_ok-key.ensures.ok c.in_ok-value.ensures.ok in
     ap (insert (parse c.args.depth) (c.args.count / 2 - (c.loop.counter + 1)) c.read_encoded_value-in-loop.new.bytes.now) c.in_ok-insert.ensures.ok ∙ (step ∙ c.loop.invariant)
 
-pub read_map-returns-in_err-key-clause-err : goal.read_map-returns-in_err-key-clause-err
-read_map-returns-in_err-key-clause-err t c =
+pub read_entries-returns-in_err-key-clause-err : goal.read_entries-returns-in_err-key-clause-err
+read_entries-returns-in_err-key-clause-err t c =
     let none : parse c.args.depth c.loop.rest.now ≡ None → parse_map (parse c.args.depth) (c.args.count, c.args.body.now) ≡ None =
     λ h. map-none (parse c.args.depth) c.args.count c.args.body.now
     (sym c.loop.invariant ∙ insert-no_key (parse c.args.depth) (c.args.count / 2) c.loop.counter c.loop.rest.now (collected_pairs c.loop.pairs) c.loop-test.true h) in
     search (rules, none)
 
-pub read_map-returns-in_err-value-clause-err : goal.read_map-returns-in_err-value-clause-err
-read_map-returns-in_err-value-clause-err t c =
+pub read_entries-returns-in_err-value-clause-err : goal.read_entries-returns-in_err-value-clause-err
+read_entries-returns-in_err-value-clause-err t c =
     let none : parse c.args.depth c.read_encoded_value.new.bytes.now ≡ None → parse_map (parse c.args.depth) (c.args.count, c.args.body.now) ≡ None =
     λ h. map-none (parse c.args.depth) c.args.count c.args.body.now
     (sym c.loop.invariant ∙ insert-no_value (parse c.args.depth) (c.args.count / 2) c.loop.counter c.loop.rest.now c.read_encoded_value.new.bytes.now (tree_of c.in_ok-key.key) (collected_pairs c.loop.pairs) c.loop-test.true c.in_ok-key.ensures.ok h) in

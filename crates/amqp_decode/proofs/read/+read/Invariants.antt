@@ -20,8 +20,8 @@ decreases-read_encoded_value l = 9 * l.depth + 1
 abbrev pub decreases-read_list : goal.decreases-read_list
 decreases-read_list l = 9 * l.depth + 2
 
-abbrev pub decreases-read_map : goal.decreases-read_map
-decreases-read_map l = 9 * l.depth + 2
+abbrev pub decreases-read_entries : goal.decreases-read_entries
+decreases-read_entries l = 9 * l.depth + 2
 
 abbrev pub decreases-read_array : goal.decreases-read_array
 decreases-read_array l = 9 * l.depth + 2
@@ -38,8 +38,8 @@ invariant-read_list-loop l =
     (done : List Value) × (l.stack.items ≡ l.initial.stack.items ++ done)
     × (gather (parse l.depth) (l.count - l.counter) l.rest (map tree_of done) ≡ gather (parse l.depth) l.count l.body [])
 
-abbrev pub invariant-read_map-loop : goal.invariant-read_map-loop
-invariant-read_map-loop l =
+abbrev pub invariant-read_entries-loop : goal.invariant-read_entries-loop
+invariant-read_entries-loop l =
     insert (parse l.depth) (l.end - l.counter) l.rest (collected_pairs l.pairs) ≡ insert (parse l.depth) (l.count / 2) l.body no_pairs
 
 abbrev pub invariant-read_array-loop : goal.invariant-read_array-loop
