@@ -60,7 +60,7 @@ const WHO: [(&str, Who); 4] =
 
 unsafe extern "C" {
     fn amqp_shape(shape: u32, op: u32, times: u64) -> u64;
-    fn tool_bench(work: u32, op: u32, data: *const u8, len: usize, times: u64) -> u64;
+    fn amqp_bench(work: u32, op: u32, data: *const u8, len: usize, times: u64) -> u64;
 }
 
 struct Attach {
@@ -233,7 +233,7 @@ fn answer(who: Who, shape: usize, op: u32, times: u64) -> u64 {
             Rule(rule) => unsafe { amqp_shape(rule, op, times) },
             Data(work) => {
                 let data = data(work);
-                unsafe { tool_bench(work, op, data.as_ptr(), data.len(), times) }
+                unsafe { amqp_bench(work, op, data.as_ptr(), data.len(), times) }
             }
         };
     }

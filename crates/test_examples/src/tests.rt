@@ -3,6 +3,7 @@
 //! Each test consists of rows: expressions that are `true` if the result is the expected one. A row
 //! that fails prints its name and the result.
 
+mod bench;
 mod composites;
 mod reading;
 

@@ -14,16 +14,34 @@
 //! | `frame BYTES` | `frame_len` and `is_frame` |
 //! | `cut BYTES` | the result of each call of `LazyValue::from_reader` until no byte is left |
 //! | `prefixes BYTES` | the number of proper prefixes, and of incomplete ones |
-//! | `read TYPE BYTES` | the value as this type: its size, its bytes, and its image like `decode` |
+//! | `read TYPE BYTES` | the value as this type: its results |
 //! | `readers BYTES` | the scalar types that read the value |
+//! | `parts READER BYTES` | the value as this enum or these fields (`parts`): their `Debug` text |
+//! | `write FAMILY NAME` | the sample with this name (`samples`): its results |
+//! | `lazy BYTES` | the lazy value at the start of the bytes: its results |
+//! | `hold BYTES` | the lazy value of the value: its results |
+//! | `array_of BYTES` | the array of the elements of the list: its results |
+//! | `marked MARKER BYTES` | the newtype with this marker around the value: its results, and those of a list |
+//! | `marked_transparent MARKER BYTES` | the same around the transparent vector of the ubytes of the list |
+//! | `after BYTES` | the ubyte 1 described by the value: its results, and those of a list |
+//!
+//! The results of a value are its size, its bytes, and its image like `decode` (`results`). Those of
+//! a list are of the ubyte 1 and the value.
 //!
 //! An error is printed in angle brackets. The bytes of a value show its kind, which its text does
 //! not.
 #![tactic(auto)]
 
+mod composites;
+mod compounds;
 mod cuts;
+mod lazy;
+mod marked;
 mod notation;
+mod parts;
+mod results;
 mod row;
+mod samples;
 mod types;
 mod values;
 

@@ -1,6 +1,6 @@
 //! The call of a row.
 
-use crate::{cuts, notation, types, values};
+use crate::{cuts, lazy, marked, notation, parts, samples, types, values};
 use amqp_data::Error;
 use std::alloc::Global;
 
@@ -13,6 +13,10 @@ pub fn answer(alloc: Global, line: &str) -> Result<String, Error> {
         "decode_within" => values::decode_within(alloc, arguments),
         "compare" => values::compare(alloc, arguments),
         "read" => types::read(alloc, arguments),
+        "parts" => parts::parts(alloc, arguments),
+        "write" => samples::write(alloc, arguments),
+        "marked" => marked::marked(alloc, arguments),
+        "marked_transparent" => marked::marked_transparent(alloc, arguments),
         _ => of_bytes(alloc, call, &notation::bytes_of(alloc, arguments)?),
     }
 }
@@ -28,6 +32,10 @@ fn of_bytes(alloc: Global, call: &str, bytes: &[u8]) -> Result<String, Error> {
         "cut" => cuts::cut(alloc, bytes),
         "prefixes" => cuts::prefixes(alloc, bytes),
         "readers" => types::readers(alloc, bytes),
+        "lazy" => lazy::lazy(alloc, bytes),
+        "hold" => lazy::hold(alloc, bytes),
+        "array_of" => marked::array_of(alloc, bytes),
+        "after" => marked::after(alloc, bytes),
         _ => Err(Error::Message("no such call")),
     }
 }

@@ -1,21 +1,15 @@
 //! Values read as a type, which is given by name.
 
-use crate::notation::{bytes_of, word_of};
-use crate::values::shown;
-use amqp_data::{
-    Array, ByteBuf, Dec32, Dec64, Dec128, Described, Error, F32Bits, F64Bits, OrderedMap, Symbol,
-    Timestamp, TransparentVec, Uuid,
-};
+use crate::compounds;
+use crate::notation::bytes_of;
+use crate::results::results;
+use amqp_data::{ByteBuf, Dec32, Dec64, Dec128, Error, F32Bits, F64Bits, Symbol, Timestamp, Uuid};
 use amqp_de::de::Deserialize;
 use amqp_decode::decode_value;
 use amqp_from_value::from_value;
 use amqp_ser::Serialize;
-use amqp_size::serialized_size;
-use amqp_to_value::to_value;
 use amqp_value::Value;
-use amqp_wire::to_vec;
 use std::alloc::Global;
-use std::collections::BTreeMap;
 
 // The types whose values are scalars.
 const SCALARS: [&str; 21] = [
@@ -70,26 +64,14 @@ fn by_name(alloc: Global, name: &str, bytes: &[u8]) -> Result<String, Error> {
     if SCALARS.contains(&name) {
         scalar(alloc, name, value)
     } else {
-        compound(alloc, name, value)
+        compounds::read(alloc, name, value)
     }
 }
 
-// Reads the value as this type, and returns its size, its bytes and its image.
-fn read_as<T: Serialize + Deserialize>(alloc: Global, value: Value) -> Result<String, Error> {
+/// Reads the value as this type, and returns the results of what was read.
+pub fn read_as<T: Serialize + Deserialize>(alloc: Global, value: Value) -> Result<String, Error> {
     let read: T = from_value(alloc, value)?;
-    let size = serialized_size(&read)?;
-    let bytes = to_vec(alloc, &read)?;
-    let image = to_value(alloc, &read)?;
-    written(alloc, size, &bytes, &image)
-}
-
-// Formats the size, the bytes, and the bytes and the text of the image.
-fn written(alloc: Global, size: usize, bytes: &[u8], image: &Value) -> Result<String, Error> {
-    let mut text = format!(in alloc; "{size} ")?;
-    text.push_str(&word_of(alloc, bytes)?)?;
-    text.push_str(" ")?;
-    text.push_str(&shown(alloc, image)?)?;
-    Ok(text)
+    results(alloc, &read)
 }
 
 fn scalar(alloc: Global, name: &str, value: Value) -> Result<String, Error> {
@@ -121,22 +103,6 @@ fn data(alloc: Global, name: &str, value: Value) -> Result<String, Error> {
         "Uuid" => read_as::<Uuid>(alloc, value),
         "ByteBuf" => read_as::<ByteBuf>(alloc, value),
         "Symbol" => read_as::<Symbol>(alloc, value),
-        _ => Err(Error::Message("no such type")),
-    }
-}
-
-fn compound(alloc: Global, name: &str, value: Value) -> Result<String, Error> {
-    match name {
-        "Option<i32>" => read_as::<Option<i32>>(alloc, value),
-        "Option<Option<u32>>" => read_as::<Option<Option<u32>>>(alloc, value),
-        "(i32,bool)" => read_as::<(i32, bool)>(alloc, value),
-        "Vec<u8>" => read_as::<Vec<u8>>(alloc, value),
-        "Array<u32>" => read_as::<Array<u32>>(alloc, value),
-        "Array<Array<u8>>" => read_as::<Array<Array<u8>>>(alloc, value),
-        "TransparentVec<u8>" => read_as::<TransparentVec<u8>>(alloc, value),
-        "OrderedMap<Symbol,i64>" => read_as::<OrderedMap<Symbol, i64>>(alloc, value),
-        "BTreeMap<u8,bool>" => read_as::<BTreeMap<u8, bool>>(alloc, value),
-        "Described<i32>" => read_as::<Described<i32>>(alloc, value),
         _ => Err(Error::Message("no such type")),
     }
 }

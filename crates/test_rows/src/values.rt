@@ -1,6 +1,7 @@
 //! Calls on decoded values.
 
 use crate::notation::{bytes_of, number_of, word_of};
+use crate::row::refusal;
 use amqp_data::Error;
 use amqp_decode::{decode_value, decode_value_limited};
 use amqp_value::Value;
@@ -73,14 +74,17 @@ fn order_of(first: &Value, second: &Value) -> &'static str {
     }
 }
 
-/// Returns the encoding of the value and its text, which is the same from `format!` and
-/// `to_string`.
+/// Returns the encoding of the value, or the error, and its text, which is the same from `format!`
+/// and `to_string`.
 pub fn shown(alloc: Global, value: &Value) -> Result<String, Error> {
     let text = value.to_string(alloc)?;
     if format!(in alloc; "{value}")?.as_str() != text.as_str() {
         return Err(Error::Message("another text"));
     }
-    let mut shown = word_of(alloc, &to_vec(alloc, value)?)?;
+    let mut shown = match to_vec(alloc, value) {
+        Ok(bytes) => word_of(alloc, &bytes)?,
+        Err(error) => refusal(alloc, &error)?,
+    };
     shown.push_str(" ")?;
     shown.push_str(&text)?;
     Ok(shown)

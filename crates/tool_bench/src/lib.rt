@@ -1,18 +1,25 @@
-//! The benchmarked operations, as a static library with two functions for C.
-//!
-//! Each function builds a value, runs one operation on it many times and returns a sum, so that the
-//! measured work is in one call.
+//! The operations of `tool_shapes`, as a static library with two functions for C.
 #![tactic(auto)]
 
-mod attach;
-mod attach_read;
-mod chain;
-mod chain_read;
-mod described_read;
-mod exports;
-mod fed;
-mod hash;
-mod inputs;
-mod repeat;
-#[cfg(test)]
-mod tests;
+ghost use Rattle.std.specs.Prelude.{◌≡◌, ◌≤◌};
+
+use std::alloc::Global;
+use tool_shapes::{run_shape, run_work};
+
+/// Returns the result of `run_work`.
+#[unsafe(no_mangle)]
+pub extern "C" fn amqp_bench(alloc: Global, work: u32, op: u32, data: &[u8], times: u64) -> u64
+    ensures works { 5 ≤ work → result ≡ 0 }
+    ensures operations { 7 ≤ op → result ≡ 0 }
+{
+    run_work(alloc, work, op, data, times)
+}
+
+/// Returns the result of `run_shape`.
+#[unsafe(no_mangle)]
+pub extern "C" fn amqp_shape(alloc: Global, shape: u32, op: u32, times: u64) -> u64
+    ensures shapes { 10 ≤ shape → result ≡ 0 }
+    ensures operations { 7 ≤ op → result ≡ 0 }
+{
+    run_shape(alloc, shape, op, times)
+}

@@ -1,0 +1,24 @@
+//! The benchmarked values and operations.
+//!
+//! Each operation builds a value, makes one call on it many times and returns a sum, so that the
+//! measured work is in one call. The static library `tool_bench` exports them to C.
+#![tactic(auto)]
+
+mod attach;
+mod attach_read;
+mod chain;
+mod chain_read;
+mod described_read;
+mod fed;
+mod hash;
+mod inputs;
+mod repeat;
+mod run;
+
+pub use attach::{Attach, DescribedAttach};
+pub use chain::Chain;
+pub use chain_read::read_chain;
+pub use fed::{FedDescribedFields, FedFields};
+pub use hash::hash_of;
+pub use inputs::{blob, ints, numbered, rows};
+pub use run::{run_shape, run_work};
