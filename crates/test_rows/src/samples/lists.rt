@@ -21,6 +21,7 @@ pub fn write_array(alloc: Global, name: &str) -> Result<String, Error> {
     match name {
         "of_an_empty_str" => results(alloc, &Array::from(vec![in alloc; ""]?)),
         "of_lists" => results(alloc, &of_lists(alloc)?),
+        "of_two_nulls" => results(alloc, &Array::from(vec![in alloc; (); 2]?)),
         "of_255_nulls" => results(alloc, &Array::from(vec![in alloc; (); 255]?)),
         "of_256_nulls" => results(alloc, &Array::from(vec![in alloc; (); 256]?)),
         _ => no_sample(),

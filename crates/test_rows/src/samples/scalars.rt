@@ -25,6 +25,7 @@ fn tuple(alloc: Global, name: &str) -> Result<String, Error> {
     match name {
         "one_int" => results(alloc, &(1i32,)),
         "one_str" => results(alloc, &("a",)),
+        "str_and_uint" => results(alloc, &("a", 1u32)),
         "uints" => results(alloc, &(0u32, 255u32, 256u32)),
         "ulongs" => results(alloc, &(0u64, 255u64, 256u64)),
         "ints" => results(alloc, &(-128i32, 127i32, 128i32)),

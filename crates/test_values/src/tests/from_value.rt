@@ -1,12 +1,7 @@
 //! Examples of `from_value` and its deserializer.
 
 mod access;
-mod composites;
 mod lazy;
-mod lists;
-mod maps;
-mod rows;
-mod variants;
 mod visitors;
 
 use super::rows::{gives, invalid};
