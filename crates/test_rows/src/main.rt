@@ -16,7 +16,8 @@
 //! | `prefixes BYTES` | the number of proper prefixes, and of incomplete ones |
 //! | `read TYPE BYTES` | the value as this type: its results |
 //! | `readers BYTES` | the scalar types that read the value |
-//! | `parts READER BYTES` | the value as an enum or as fields (`parts`): the `Debug` text |
+//! | `parts READER BYTES` | the value by this reader (`parts`, `visitors`): its `Debug` text |
+//! | `visit CALL BYTES` | the visit that this call of a deserializer makes (`visits`) |
 //! | `write FAMILY NAME` | the sample with this name (`samples`): its results |
 //! | `lazy BYTES` | the lazy value at the start of the bytes: its results |
 //! | `hold BYTES` | the lazy value of the value: its results |
@@ -35,7 +36,6 @@
 mod composites;
 mod compounds;
 mod cuts;
-mod lazy;
 mod marked;
 mod notation;
 mod parts;
@@ -44,6 +44,8 @@ mod row;
 mod samples;
 mod types;
 mod values;
+mod visitors;
+mod visits;
 
 use std::alloc::Global;
 use std::io;

@@ -56,11 +56,6 @@ pub fn name(rt: &HostRuntime, content: &str) -> Symbol {
     Symbol::from(text(rt, content))
 }
 
-/// Returns a symbol value.
-pub fn symbol(rt: &HostRuntime, content: &str) -> Value {
-    Value::Symbol(name(rt, content))
-}
-
 /// Returns a described value.
 pub fn described(rt: &HostRuntime, descriptor: Descriptor, value: Value) -> Value {
     match Box::new(rt.alloc(), Described { descriptor, value }) {
