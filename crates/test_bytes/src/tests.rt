@@ -8,7 +8,6 @@ mod compare;
 mod containers;
 mod made;
 mod readers;
-mod resolved_kinds;
 mod scalars;
 mod shown;
 mod sizes;

@@ -39,7 +39,8 @@ impl Record for Flow {
 impl Deserialize for Flow {
     ghost use Rattle.std.specs.Prelude.{◌≡◌, codes, [], ◌∷◌};
     ghost use Rattle.amqp_ser.specs.Tree.{code, described, list, trees_of};
-    ghost use Rattle.amqp_de.specs.Fields.{OnDescribed, OnFields, ReadsRequired, ReadsOptional, NoMoreFields};
+    ghost use Rattle.amqp_de.specs.Fields.{OnDescribed, OnFields};
+    ghost use Rattle.amqp_de.specs.Fields.{ReadsRequired, ReadsOptional, NoMoreFields};
     ghost use Rattle.amqp_de.specs.Reads.{image_option, RestorableOption, SameOption};
 
     ghost reads = { λ t x. OnDescribed (code 0x13) (OnFields (
@@ -100,7 +101,8 @@ impl Record for Limits {
 impl Deserialize for Limits {
     ghost use Rattle.std.specs.Prelude.{◌≡◌, codes, [], ◌∷◌};
     ghost use Rattle.amqp_ser.specs.Tree.{code, described, list, trees_of};
-    ghost use Rattle.amqp_de.specs.Fields.{OnDescribed, OnNamed, ReadsRequired, ReadsOptional, NoMoreFields};
+    ghost use Rattle.amqp_de.specs.Fields.{OnDescribed, OnNamed};
+    ghost use Rattle.amqp_de.specs.Fields.{ReadsRequired, ReadsOptional, NoMoreFields};
     ghost use Rattle.amqp_de.specs.Reads.{image_option, RestorableOption, SameOption};
 
     ghost reads = { λ t x. OnDescribed (code 0x15) (OnNamed (

@@ -3,19 +3,23 @@
 use crate::composites::{Flow, Limits};
 use crate::results::results;
 use crate::types::read_as;
+use crate::values::shown;
 use amqp_data::{Array, Described, Error, OrderedMap, Symbol, TransparentVec};
 use amqp_de::de::Deserialize;
 use amqp_frame::LazyValue;
 use amqp_from_value::from_value;
 use amqp_ser::Serialize;
+use amqp_to_value::TryFromSerializable;
 use amqp_value::Value;
 use std::alloc::Global;
 use std::collections::{BTreeMap, HashMap};
 use std::hash::Hash;
 
-/// Reads the value as the type of this name.
+/// Reads the value as the type of this name. `image` is no type: the result is the image of the
+/// value itself.
 pub fn read(alloc: Global, name: &str, value: Value) -> Result<String, Error> {
     match name {
+        "image" => shown(alloc, &Value::try_from_serializable(alloc, &value)?),
         "Value" => read_as::<Value>(alloc, value),
         "LazyValue" => read_as::<LazyValue>(alloc, value),
         "Box<u32>" => read_as::<Box<u32>>(alloc, value),

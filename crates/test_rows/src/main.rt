@@ -16,17 +16,18 @@
 //! | `prefixes BYTES` | the number of proper prefixes, and of incomplete ones |
 //! | `read TYPE BYTES` | the value as this type: its results |
 //! | `readers BYTES` | the scalar types that read the value |
-//! | `parts READER BYTES` | the value as this enum or these fields (`parts`): their `Debug` text |
+//! | `parts READER BYTES` | the value by this reader (`parts`, `visitors`): its `Debug` text |
+//! | `visit CALL BYTES` | the visit that this call of a deserializer makes (`visits`) |
 //! | `write FAMILY NAME` | the sample with this name (`samples`): its results |
 //! | `lazy BYTES` | the lazy value at the start of the bytes: its results |
 //! | `hold BYTES` | the lazy value of the value: its results |
 //! | `array_of BYTES` | the array of the elements of the list: its results |
-//! | `marked MARKER BYTES` | the newtype with this marker around the value: its results, and those of a list |
-//! | `marked_transparent MARKER BYTES` | the same around the transparent vector of the ubytes of the list |
-//! | `after BYTES` | the ubyte 1 described by the value: its results, and those of a list |
+//! | `marked MARKER BYTES` | the newtype with this marker around the value: both results |
+//! | `marked_transparent MARKER BYTES` | the same around the transparent vector of the ubytes |
+//! | `after BYTES` | the ubyte 1 described by the value: both results |
 //!
-//! The results of a value are its size, its bytes, and its image like `decode` (`results`). Those of
-//! a list are of the ubyte 1 and the value.
+//! The results of a value are its size, its bytes, and its image like `decode` (`results`). Both
+//! results are those of the value, and of the list of the ubyte 1 and the value.
 //!
 //! An error is printed in angle brackets. The bytes of a value show its kind, which its text does
 //! not.
@@ -35,7 +36,6 @@
 mod composites;
 mod compounds;
 mod cuts;
-mod lazy;
 mod marked;
 mod notation;
 mod parts;
@@ -44,6 +44,8 @@ mod row;
 mod samples;
 mod types;
 mod values;
+mod visitors;
+mod visits;
 
 use std::alloc::Global;
 use std::io;

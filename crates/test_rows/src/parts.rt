@@ -2,6 +2,7 @@
 //! the `Debug` text of what was read.
 
 use crate::notation::bytes_of;
+use crate::visitors;
 use amqp_data::{Descriptor, Error};
 use amqp_de::{DeserializeSeed, EnumSeed, NamedSeed, named, values, variant, variants};
 use amqp_decode::decode_value;
@@ -30,7 +31,7 @@ pub fn parts(alloc: Global, arguments: &str) -> Result<String, Error> {
         "two" => Ok(format!(in alloc; "{:?}", two(alloc, value)?)?),
         "descriptor" => { Ok(format!(in alloc; "{:?}", from_value::<Descriptor>(alloc, value)?)?) }
         "fields" => Ok(format!(in alloc; "{:?}", named_fields(alloc, value)?)?),
-        _ => Err(Error::Message("no such reader")),
+        _ => visitors::read(alloc, name, value),
     }
 }
 

@@ -1,6 +1,6 @@
 //! The call of a row.
 
-use crate::{cuts, lazy, marked, notation, parts, samples, types, values};
+use crate::{cuts, marked, notation, parts, results, samples, types, values, visits};
 use amqp_data::Error;
 use std::alloc::Global;
 
@@ -14,6 +14,7 @@ pub fn answer(alloc: Global, line: &str) -> Result<String, Error> {
         "compare" => values::compare(alloc, arguments),
         "read" => types::read(alloc, arguments),
         "parts" => parts::parts(alloc, arguments),
+        "visit" => visits::visit(alloc, arguments),
         "write" => samples::write(alloc, arguments),
         "marked" => marked::marked(alloc, arguments),
         "marked_transparent" => marked::marked_transparent(alloc, arguments),
@@ -32,8 +33,8 @@ fn of_bytes(alloc: Global, call: &str, bytes: &[u8]) -> Result<String, Error> {
         "cut" => cuts::cut(alloc, bytes),
         "prefixes" => cuts::prefixes(alloc, bytes),
         "readers" => types::readers(alloc, bytes),
-        "lazy" => lazy::lazy(alloc, bytes),
-        "hold" => lazy::hold(alloc, bytes),
+        "lazy" => results::lazy(alloc, bytes),
+        "hold" => results::hold(alloc, bytes),
         "array_of" => marked::array_of(alloc, bytes),
         "after" => marked::after(alloc, bytes),
         _ => Err(Error::Message("no such call")),

@@ -4,11 +4,8 @@
 mod composites;
 mod described;
 mod lazy;
-mod lists;
-mod maps;
+mod plain;
 mod refused;
-mod scalars;
-mod transparent;
 mod variants;
 
 use amqp_data::Error;
@@ -20,12 +17,12 @@ pub fn write(alloc: Global, arguments: &str) -> Result<String, Error> {
         return Err(Error::Message("one argument"));
     };
     match family {
-        "scalar" => scalars::write(alloc, name),
-        "list" => lists::write(alloc, name),
-        "array" => lists::write_array(alloc, name),
-        "map" => maps::write(alloc, name),
-        "described" => described::write(alloc, name),
-        "transparent" => transparent::write(alloc, name),
+        "scalar" => plain::scalar(alloc, name),
+        "list" => plain::list(alloc, name),
+        "array" => plain::array(alloc, name),
+        "map" => plain::map(alloc, name),
+        "described" => described::described(alloc, name),
+        "transparent" => described::transparent(alloc, name),
         "composite" => composites::write(alloc, name),
         "variant" => variants::write(alloc, name),
         "lazy" => lazy::write(alloc, name),

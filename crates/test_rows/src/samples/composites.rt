@@ -7,8 +7,8 @@ ghost use Rattle.amqp_ser.specs.Tree.{code, scalar, ubyte, int};
 ghost use Rattle.amqp_ser.specs.declared.kind.CompoundKind.TheVariants.{List};
 
 use super::described::letters;
-use super::maps::pairs;
 use super::no_sample;
+use super::plain::pairs;
 use crate::results::results;
 use amqp_data::{Array, Error, SymbolRef, markers};
 use amqp_ser::{Serialize, SerializeCompounds, Serializer};

@@ -1,13 +1,16 @@
-//! Described values.
+//! Described values, and transparent vectors, which are writable only at the root or directly inside
+//! one there.
 
-use super::maps::pairs;
 use super::no_sample;
+use super::plain::pairs;
 use crate::results::results;
-use amqp_data::{Array, Described, Descriptor, Error, Symbol, SymbolRef, Timestamp};
+use amqp_data::{
+    Array, Described, Descriptor, Error, Symbol, SymbolRef, Timestamp, TransparentVec,
+};
 use std::alloc::Global;
 
 /// Returns the results of the described value with this name.
-pub fn write(alloc: Global, name: &str) -> Result<String, Error> {
+pub fn described(alloc: Global, name: &str) -> Result<String, Error> {
     let a = SymbolRef::from("a");
     let b = SymbolRef::from("b");
     match name {
@@ -50,4 +53,31 @@ pub fn letters(alloc: Global, letter: u8, count: usize) -> Result<String, Error>
         Ok(text) => Ok(text),
         Err(_) => Err(Error::InvalidValue),
     }
+}
+
+/// Returns the results of the transparent vector with this name, or of what holds it.
+pub fn transparent(alloc: Global, name: &str) -> Result<String, Error> {
+    let none = TransparentVec::from(Vec::<u8>::new(alloc));
+    match name {
+        "strs" => results(alloc, &of(alloc, ["a", "bc"])?),
+        "of_tuples" => results(alloc, &of(alloc, [("a", 1u8), ("b", 2u8)])?),
+        "one_in_another" => {
+            let empty = TransparentVec::from(Vec::new(alloc));
+            results(alloc, &of(alloc, [of(alloc, [true])?, empty])?)
+        }
+        "in_a_list" => results(alloc, &vec![in alloc; of(alloc, [true])?]?),
+        "of_three_in_a_list" => results(alloc, &vec![in alloc; of(alloc, [true, false, true])?]?),
+        "strs_in_a_list" => results(alloc, &vec![in alloc; of(alloc, ["a", "bc"])?]?),
+        "in_a_map" => results(alloc, &pairs(alloc, [("a", of(alloc, [true])?)])?),
+        "empty_in_a_map" => results(alloc, &pairs(alloc, [("a", none)])?),
+        _ => no_sample(),
+    }
+}
+
+/// Returns the transparent vector of these elements.
+pub fn of<T: Drop, const N: usize>(
+    alloc: Global,
+    items: [T; N],
+) -> Result<TransparentVec<T>, Error> {
+    Ok(TransparentVec::from(Vec::from_array(alloc, items)?))
 }

@@ -1,12 +1,10 @@
 //! Lazy values in each place, and the lazy values of typed values.
 
-use super::described::coded;
-use super::maps::pairs;
+use super::described::{coded, of};
 use super::no_sample;
-use super::transparent::of;
-use crate::lazy::lazy_of;
+use super::plain::pairs;
 use crate::marked::{DescribedBy, Newtype};
-use crate::results::results;
+use crate::results::{lazy_of, results};
 use amqp_data::{Array, Error, Timestamp, TransparentVec, markers};
 use amqp_frame::LazyValue;
 use amqp_ser::{VariantOf, fields};

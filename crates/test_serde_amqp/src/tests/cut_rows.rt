@@ -1,6 +1,6 @@
 //! Examples of `run_cut`.
 
-use super::runs::{Reading, Run, each_write_fails, read_fails, row, writes};
+use super::runs::{Reading, Run, each_read_fails, each_write_fails, row, writes};
 use super::streams::Fault;
 use std::io::ErrorKind;
 
@@ -8,112 +8,84 @@ fn cut(rt: &HostRuntime, by: Reading, name: &str, input: &[u8], text: &[u8], wan
     row(rt, by, name, Run::Cut, input, text, wanted)
 }
 
+const OK: &str = "Ok(())";
+
 const EOF: &str = "Err(UnexpectedEof)";
 
 const CODE: &str = "Err(InvalidFormatCode)";
 
-fn encoded_values_are_cut(rt: &HostRuntime, by: Reading) -> bool {
-    cut(
-        rt,
-        by,
-        "two values",
-        b"\x50\x01\x40",
-        b"2 5001\n1 40\n",
-        "Ok(())",
-    ) && cut(
-        rt,
-        by,
-        "a composite",
-        b"\x00\xa1\x01\x61\x45",
-        b"5 00a1016145\n",
-        "Ok(())",
-    ) && cut(rt, by, "no value", b"", b"", "Ok(())")
+// The bytes of three values, which rows of `test_rows` state: a string, a tuple and an array.
+const VALUES: &[u8] = b"\xa1\x0dHello, World!\xc0\x06\x02\xa1\x01a\x52\x01\xe0\x02\x02\x40";
+
+const LINES: &[u8] = b"15 a10d48656c6c6f2c20576f726c6421\n8 c00602a101615201\n4 e0020240\n";
+
+fn values_are_cut(rt: &HostRuntime, by: Reading) -> bool {
+    cut(rt, by, "two values", INPUT, TEXT, OK)
+        && cut(
+            rt,
+            by,
+            "a composite",
+            b"\x00\xa1\x01\x61\x45",
+            b"5 00a1016145\n",
+            OK,
+        )
+        && cut(rt, by, "no value", b"", b"", OK)
+        && cut(rt, by, "three values", VALUES, LINES, OK)
 }
 
-fn inputs_that_end_early_are_refused(rt: &HostRuntime, by: Reading) -> bool {
+const LONG_BINARY: &[u8] = b"\xb0\xff\xff\xff\xff\x61\x62\x63";
+
+const LONG_LIST: &[u8] = b"\xd0\xff\xff\xff\xff\x00";
+
+const THIRD: &[u8] = b"\x40\x41\xa1\x05\x61";
+
+fn others_are_refused(rt: &HostRuntime, by: Reading) -> bool {
     cut(rt, by, "in a string", b"\xa1\x05\x61", b"", EOF)
         && cut(rt, by, "after a descriptor", b"\x00\x53\x01", b"", EOF)
-        && cut(
-            rt,
-            by,
-            "in a long binary",
-            b"\xb0\xff\xff\xff\xff\x61\x62\x63",
-            b"",
-            EOF,
-        )
-        && cut(
-            rt,
-            by,
-            "in a long list",
-            b"\xd0\xff\xff\xff\xff\x00",
-            b"",
-            EOF,
-        )
-        && cut(
-            rt,
-            by,
-            "in a third value",
-            b"\x40\x41\xa1\x05\x61",
-            b"1 40\n1 41\n",
-            EOF,
-        )
-}
-
-fn other_codes_are_refused(rt: &HostRuntime, by: Reading) -> bool {
-    cut(rt, by, "code 10", b"\x10", b"", CODE)
+        && cut(rt, by, "in a long binary", LONG_BINARY, b"", EOF)
+        && cut(rt, by, "in a long list", LONG_LIST, b"", EOF)
+        && cut(rt, by, "in a third value", THIRD, b"1 40\n1 41\n", EOF)
+        && cut(rt, by, "code 10", b"\x10", b"", CODE)
         && cut(rt, by, "code 4f", b"\x4f", b"", CODE)
-        && cut(
-            rt,
-            by,
-            "code 10 after a value",
-            b"\x40\x10",
-            b"1 40\n",
-            CODE,
-        )
-}
-
-fn rows(rt: &HostRuntime, by: Reading) -> bool {
-    encoded_values_are_cut(rt, by)
-        && inputs_that_end_early_are_refused(rt, by)
-        && other_codes_are_refused(rt, by)
-}
-
-fn each_read_fails(rt: &HostRuntime, kind: ErrorKind) -> bool {
-    let input: &[u8] = b"\x50\x01\x00\xa1\x01\x61\x45";
-    for failing in 1..=7u64 {
-        let text: &[u8] = if failing > 2 { b"2 5001\n" } else { b"" };
-        if !read_fails(rt, Run::Cut, input, failing, kind, text) {
-            return false;
-        }
-    }
-    true
+        && cut(rt, by, "after a value", b"\x40\x10", b"1 40\n", CODE)
 }
 
 const INPUT: &[u8] = b"\x50\x01\x40";
 
 const TEXT: &[u8] = b"2 5001\n1 40\n";
 
-fn one_write_fails(rt: &HostRuntime, fault: Fault) -> bool {
-    each_write_fails(rt, Run::Cut, INPUT, fault, TEXT)
-}
-
-fn single_bytes_are_written(rt: &HostRuntime) -> bool {
-    writes(rt, Run::Cut, INPUT, 0, Fault::Fails, TEXT, "Ok(())")
+fn reads_fail(rt: &HostRuntime, kind: ErrorKind) -> bool {
+    let input = b"\x50\x01\x00\xa1\x01\x61\x45";
+    each_read_fails(rt, Run::Cut, input, kind, 7, 2, b"2 5001\n")
 }
 
 #[test]
 fn cut_rows(rt: HostRuntime) {
-    assert!(rt; rows(&rt, Reading::Slice), "of a slice");
-    assert!(rt; rows(&rt, Reading::SingleBytes), "by single bytes");
+    assert!(rt; values_are_cut(&rt, Reading::Slice), "values");
     assert!(rt;
-        each_read_fails(&rt, ErrorKind::Interrupted),
-        "a read is interrupted"
+        values_are_cut(&rt, Reading::SingleBytes),
+        "by single bytes"
     );
-    assert!(rt; each_read_fails(&rt, ErrorKind::Other), "a read fails");
-    assert!(rt; one_write_fails(&rt, Fault::Fails), "a write fails");
+    assert!(rt; others_are_refused(&rt, Reading::Slice), "others");
     assert!(rt;
-        one_write_fails(&rt, Fault::WritesNone),
-        "a write of no byte"
+        others_are_refused(&rt, Reading::SingleBytes),
+        "others by single bytes"
     );
-    assert!(rt; single_bytes_are_written(&rt), "single bytes are written");
+    assert!(rt;
+        reads_fail(&rt, ErrorKind::Interrupted),
+        "interrupted reads"
+    );
+    assert!(rt; reads_fail(&rt, ErrorKind::Other), "reads that fail");
+    assert!(rt;
+        each_write_fails(&rt, Run::Cut, INPUT, Fault::Fails, TEXT),
+        "writes that fail"
+    );
+    assert!(rt;
+        each_write_fails(&rt, Run::Cut, INPUT, Fault::WritesNone, TEXT),
+        "writes of no byte"
+    );
+    assert!(rt;
+        writes(&rt, Run::Cut, INPUT, 0, Fault::Fails, TEXT, OK),
+        "writes of single bytes"
+    );
 }

@@ -1,12 +1,13 @@
 //! Fields of a struct, and the items for implementing a serializer or a type, by their public
 //! names.
 
-use super::rows::{row, shows};
+use super::rows::{is, is_encoded};
 use serde_amqp::ser::{
-    CompoundKind, Field, Fields, Fixed, Keys, ListOf, MapOf, OptionalField, SerializeCompounds,
-    SerializeTuple, Serializer, SymbolMapOf, VariantOf,
+    CompoundKind, Field, Fields, Fixed, Keys, ListOf, MapOf, OptionalField, Serialize,
+    SerializeCompounds, SerializeTuple, Serializer, SymbolMapOf, VariantOf,
 };
 use serde_amqp::size_ser::{SizeError, SizeSerializer};
+use serde_amqp::{serialized_size, to_value, to_vec};
 
 /// Fields that forward each call.
 #[derive(Drop)]
@@ -50,31 +51,38 @@ fn point(y: &Option<u8>) -> Same<Field<'static, u8, OptionalField<'_, u8, ()>>> 
     })
 }
 
+// Returns whether the value has these bytes, their number as its size, and this image.
+fn row<T: Serialize>(rt: &HostRuntime, name: &str, value: &T, bytes: &[u8], image: &str) -> bool {
+    let size = serialized_size(value);
+    is_encoded(rt, name, size, to_vec(rt.alloc(), value), bytes)
+        && is(rt, name, to_value(rt.alloc(), value), image)
+}
+
 fn fields_are_lists_maps_and_variants(rt: &HostRuntime) -> bool {
     row(
         rt,
         "a list",
         &ListOf(point(&None)),
-        "c003015001",
-        "List([Ubyte(1)])",
+        b"\xc0\x03\x01\x50\x01",
+        "Ok(List([Ubyte(1)]))",
     ) && row(
         rt,
         "a map",
         &MapOf(point(&Some(2))),
-        "c10b04a101785001a101795002",
-        "Map(OrderedMap { entries: [(String(\"x\"), Ubyte(1)), (String(\"y\"), Ubyte(2))] })",
+        b"\xc1\x0b\x04\xa1\x01x\x50\x01\xa1\x01y\x50\x02",
+        "Ok(Map(OrderedMap { entries: [(String(\"x\"), Ubyte(1)), (String(\"y\"), Ubyte(2))] }))",
     ) && row(
         rt,
         "a map of symbols",
         &SymbolMapOf(point(&None)),
-        "c10602a301785001",
-        "Map(OrderedMap { entries: [(Symbol(Symbol(\"x\")), Ubyte(1))] })",
+        b"\xc1\x06\x02\xa3\x01x\x50\x01",
+        "Ok(Map(OrderedMap { entries: [(Symbol(Symbol(\"x\")), Ubyte(1))] }))",
     ) && row(
         rt,
         "a variant",
         &VariantOf(1, point(&Some(2))),
-        "c10a025201c0050250015002",
-        "Map(OrderedMap { entries: [(Uint(1), List([Ubyte(1), Ubyte(2)]))] })",
+        b"\xc1\x0a\x02\x52\x01\xc0\x05\x02\x50\x01\x50\x02",
+        "Ok(Map(OrderedMap { entries: [(Uint(1), List([Ubyte(1), Ubyte(2)]))] }))",
     )
 }
 
@@ -83,27 +91,23 @@ fn empty_map<S: Serializer>(serializer: &mut S) -> Result<S::Ok, S::Error> {
     serializer.end(map)
 }
 
-fn length_of_tuple(parts: SerializeTuple<'_, SizeSerializer>) -> Result<usize, SizeError> {
-    parts.end()
-}
-
-fn empty_tuple(lengths: &mut SizeSerializer) -> Result<usize, SizeError> {
-    length_of_tuple(lengths.serialize_tuple(0)?)
-}
-
-fn kinds_and_fixed_widths(rt: &HostRuntime) -> bool {
-    let mut lengths = SizeSerializer::new();
-    shows(
-        rt,
-        "a ubyte",
-        &lengths.serialize_fixed(Fixed::Ubyte(1)),
-        "Ok(2)",
-    ) && shows(rt, "an empty map", &empty_map(&mut lengths), "Ok(3)")
-        && shows(rt, "an empty tuple", &empty_tuple(&mut lengths), "Ok(1)")
+fn empty_tuple(sizes: &mut SizeSerializer) -> Result<usize, SizeError> {
+    let tuple: SerializeTuple<'_, SizeSerializer> = sizes.serialize_tuple(0)?;
+    tuple.end()
 }
 
 #[test]
 fn fields_have_these_bytes_and_images(rt: HostRuntime) {
+    let mut sizes = SizeSerializer::new();
     assert!(rt; fields_are_lists_maps_and_variants(&rt), "fields");
-    assert!(rt; kinds_and_fixed_widths(&rt), "kinds and fixed widths");
+    let ubyte = sizes.serialize_fixed(Fixed::Ubyte(1));
+    assert!(rt; is(&rt, "a ubyte", ubyte, "Ok(2)"), "a ubyte");
+    assert!(rt;
+        is(&rt, "an empty map", empty_map(&mut sizes), "Ok(3)"),
+        "an empty map"
+    );
+    assert!(rt;
+        is(&rt, "an empty tuple", empty_tuple(&mut sizes), "Ok(1)"),
+        "an empty tuple"
+    );
 }

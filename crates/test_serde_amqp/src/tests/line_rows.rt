@@ -1,8 +1,8 @@
 //! Examples of `run_lines`.
 
-use super::runs::{Reading, Run, each_write_fails, is_printed, read_fails, row, run_over};
+use super::rows::is;
+use super::runs::{Reading, Run, each_read_fails, each_write_fails, is_printed, row, run_over};
 use super::streams::Fault;
-use super::support::is;
 use serde_amqp::VecWriter;
 use serde_amqp::read::SliceReader;
 use std::io::ErrorKind;
@@ -15,10 +15,12 @@ const TWO: &[u8] = b"size 10\nbytes c00802a10161a1026263\ntext [\"a\", \"bc\"]\n
 
 const THREE: &[u8] = b"size 10\nbytes c00803a100a100a10178\ntext [\"\", \"\", \"x\"]\n";
 
+const NO_LINE: &[u8] = b"size 1\nbytes 45\ntext []\n";
+
 fn lines_are_listed(rt: &HostRuntime, by: Reading) -> bool {
     lines(rt, by, "two lines", b"a\nbc\n", TWO)
         && lines(rt, by, "a last line without 0a", b"a\nbc", TWO)
-        && lines(rt, by, "no line", b"", b"size 1\nbytes 45\ntext []\n")
+        && lines(rt, by, "no line", b"", NO_LINE)
         && lines(
             rt,
             by,
@@ -47,27 +49,9 @@ fn texts_have_escapes(rt: &HostRuntime, by: Reading) -> bool {
         && lines(rt, by, "an accent", b"\xc3\xa9\n", accent)
 }
 
-fn rows(rt: &HostRuntime, by: Reading) -> bool {
-    lines_are_listed(rt, by) && texts_have_escapes(rt, by)
-}
-
-fn is_not_utf8(rt: &HostRuntime, name: &str, input: &[u8]) -> bool {
-    row(
-        rt,
-        Reading::Slice,
-        name,
-        Run::Lines,
-        input,
-        b"",
-        "Err(InvalidValue)",
-    )
-}
-
-fn what_is_not_utf8_is_refused(rt: &HostRuntime) -> bool {
-    is_not_utf8(rt, "ff", b"\xff")
-        && is_not_utf8(rt, "ff in a second line", b"a\n\xff")
-        && is_not_utf8(rt, "c3 before 0a", b"a\xc3\n")
-        && is_not_utf8(rt, "a surrogate", b"\xed\xa0\x80")
+fn is_not_utf8(rt: &HostRuntime, input: &[u8]) -> bool {
+    let error = "Err(InvalidValue)";
+    row(rt, Reading::Slice, "no text", Run::Lines, input, b"", error)
 }
 
 // Returns whether the output for `count` times this byte begins with this text.
@@ -112,33 +96,39 @@ fn widths_are_the_shortest(rt: &HostRuntime) -> bool {
         && begins(rt, "128 empty lines", b'\n', 128, MANY)
 }
 
-fn each_read_fails(rt: &HostRuntime, kind: ErrorKind) -> bool {
-    for failing in 1..=6u64 {
-        if !read_fails(rt, Run::Lines, b"a\nbc\n", failing, kind, b"") {
-            return false;
-        }
-    }
-    true
+fn reads_fail(rt: &HostRuntime, kind: ErrorKind) -> bool {
+    each_read_fails(rt, Run::Lines, b"a\nbc\n", kind, 6, 6, b"")
 }
 
-fn one_write_fails(rt: &HostRuntime, fault: Fault) -> bool {
-    each_write_fails(rt, Run::Lines, b"", fault, b"size 1\nbytes 45\ntext []\n")
+fn writes_fail(rt: &HostRuntime, fault: Fault) -> bool {
+    each_write_fails(rt, Run::Lines, b"", fault, NO_LINE)
 }
 
 #[test]
 fn line_rows(rt: HostRuntime) {
-    assert!(rt; rows(&rt, Reading::Slice), "of a slice");
-    assert!(rt; rows(&rt, Reading::SingleBytes), "by single bytes");
-    assert!(rt; what_is_not_utf8_is_refused(&rt), "what is not UTF-8");
+    assert!(rt; lines_are_listed(&rt, Reading::Slice), "lines");
+    assert!(rt;
+        lines_are_listed(&rt, Reading::SingleBytes),
+        "by single bytes"
+    );
+    assert!(rt; texts_have_escapes(&rt, Reading::Slice), "escapes");
+    assert!(rt;
+        texts_have_escapes(&rt, Reading::SingleBytes),
+        "escapes by single bytes"
+    );
+    assert!(rt;
+        is_not_utf8(&rt, b"\xff")
+            && is_not_utf8(&rt, b"a\n\xff")
+            && is_not_utf8(&rt, b"a\xc3\n")
+            && is_not_utf8(&rt, b"\xed\xa0\x80"),
+        "what is not UTF-8"
+    );
     assert!(rt; widths_are_the_shortest(&rt), "widths");
     assert!(rt;
-        each_read_fails(&rt, ErrorKind::Interrupted),
-        "a read is interrupted"
+        reads_fail(&rt, ErrorKind::Interrupted),
+        "interrupted reads"
     );
-    assert!(rt; each_read_fails(&rt, ErrorKind::Other), "a read fails");
-    assert!(rt; one_write_fails(&rt, Fault::Fails), "a write fails");
-    assert!(rt;
-        one_write_fails(&rt, Fault::WritesNone),
-        "a write of no byte"
-    );
+    assert!(rt; reads_fail(&rt, ErrorKind::Other), "reads that fail");
+    assert!(rt; writes_fail(&rt, Fault::Fails), "writes that fail");
+    assert!(rt; writes_fail(&rt, Fault::WritesNone), "writes of no byte");
 }

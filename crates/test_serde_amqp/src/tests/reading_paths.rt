@@ -1,74 +1,67 @@
 //! Each public item for deserialization, by its path.
 
-use super::made::{self, described, pairs};
-use super::rows::holds;
-use super::support::is;
+use super::rows::{hold, holds, is};
 use serde_amqp::de::{
     Deserialize as _, DeserializeCompounds, DeserializeSeed as _, Deserializer as _,
     EnumAccess as _, MapAccess as _, SeqAccess as _, VariantAccess as _,
 };
+use serde_amqp::described::Described;
+use serde_amqp::descriptor::Descriptor;
 use serde_amqp::primitives::OrderedMap;
-use serde_amqp::{Error, Value, de, descriptor, from_value, value};
+use serde_amqp::{Error, Value, de, from_value, value};
 use std::alloc::Global;
 use std::marker::PhantomData;
 
+fn source(alloc: Global, value: Value) -> value::de::Deserializer {
+    value::de::Deserializer::new(alloc, value)
+}
+
 fn uint(alloc: Global) -> value::de::Deserializer {
-    value::de::Deserializer::new(alloc, Value::Uint(1))
+    source(alloc, Value::Uint(1))
 }
 
-// Returns a deserializer of this value, or of null if an allocation failed.
-fn source(alloc: Global, value: Option<Value>) -> value::de::Deserializer {
-    match value {
-        Some(value) => value::de::Deserializer::new(alloc, value),
-        None => value::de::Deserializer::new(alloc, Value::Null),
-    }
+fn list(alloc: Global) -> Result<value::de::Deserializer, Error> {
+    Ok(source(alloc, Value::List(vec![in alloc; Value::Uint(1)]?)))
 }
 
-fn list(alloc: Global) -> Option<Value> {
-    Some(Value::List(made::list(alloc, [Value::Uint(1)])?))
+// Returns the value with the descriptor 1.
+fn described(alloc: Global, value: Value) -> Result<value::de::Deserializer, Error> {
+    let described = Described {
+        descriptor: Descriptor::Code(1),
+        value,
+    };
+    Ok(source(alloc, Value::Described(Box::new(alloc, described)?)))
 }
 
 fn values_are_read(rt: &HostRuntime) -> bool {
     let a = rt.alloc();
+    let of_module = value::de::from_value::<u32>(a, Value::Uint(1));
     is(
         rt,
         "from_value",
         from_value::<u32>(a, Value::Uint(1)),
         "Ok(1)",
-    ) && is(
-        rt,
-        "value::de::from_value",
-        value::de::from_value::<u32>(a, Value::Uint(1)),
-        "Ok(1)",
-    ) && is(rt, "deserialize", u32::deserialize(a, uint(a)), "Ok(1)")
+    ) && is(rt, "value::de::from_value", of_module, "Ok(1)")
+        && is(rt, "deserialize", u32::deserialize(a, uint(a)), "Ok(1)")
         && is(rt, "restored", value::round_trip(a, &7u64), "Ok(7)")
 }
 
-fn first_of_elements(alloc: Global) -> Option<u32> {
-    let elements = made::list(alloc, [Value::Uint(1)])?;
-    value::de::SeqAccess::new(alloc, elements)
-        .next_element(alloc)
-        .ok()?
-}
-
-fn first_of_entries(alloc: Global) -> Result<Option<(u32, u32)>, Error> {
-    let mut entries = value::de::MapAccess::new(alloc, OrderedMap::new(alloc));
-    entries.next_entry(alloc)
-}
-
-fn index_and_content(alloc: Global) -> Result<(u32, u32), Error> {
-    let access = de::EnumAccessOf::<value::de::Deserializer>::new(uint(alloc), Some(uint(alloc)));
-    let (index, content) = access.variant::<u32>(alloc)?;
+fn parts_are_read_by_accessors(rt: &HostRuntime) -> Result<bool, Error> {
+    let a = rt.alloc();
+    let mut elements = value::de::SeqAccess::new(a, vec![in a; Value::Uint(1)]?);
+    let element: Option<u32> = elements.next_element(a)?;
+    let mut entries = value::de::MapAccess::new(a, OrderedMap::new(a));
+    let entry: Option<(u32, u32)> = entries.next_entry(a)?;
+    let access = de::EnumAccessOf::<value::de::Deserializer>::new(uint(a), Some(uint(a)));
+    let (index, content) = access.variant::<u32>(a)?;
     let content: value::de::VariantAccess = content;
     let content: de::ContentOf<value::de::Deserializer> = content;
-    Ok((index, content.newtype_variant::<u32>(alloc)?))
-}
-
-fn parts_are_read_by_accessors(rt: &HostRuntime) -> bool {
-    let a = rt.alloc();
-    is(rt, "an element", first_of_elements(a), "Some(1)")
-        && is(rt, "no entry", first_of_entries(a), "Ok(None)")
-        && is(rt, "a variant", index_and_content(a), "Ok((1, 1))")
+    let content = content.newtype_variant::<u32>(a)?;
+    Ok(
+        is(rt, "an element", element, "Some(1)")
+            && is(rt, "no entry", entry, "None")
+            && is(rt, "a variant", (index, content), "(1, 1)"),
+    )
 }
 
 // Calls the law that the values of a type round-trip.
@@ -81,13 +74,6 @@ fn keys_are_distinct<K: value::MapKey>() {
     K::image_is_injective();
 }
 
-fn laws_are_called() -> bool {
-    comes_back::<Option<u32>>();
-    keys_are_distinct::<u32>();
-    de::laws::keys_of_the_same_contents_are_equal();
-    true
-}
-
 // Returns the required field `x`.
 fn required() -> de::Required<u32, ()> {
     de::Required {
@@ -97,48 +83,35 @@ fn required() -> de::Required<u32, ()> {
     }
 }
 
-// Returns the optional field `x`.
-fn optional() -> de::Optional<u32, ()> {
-    de::Optional {
-        name: "x",
-        of: PhantomData,
-        rest: (),
-    }
-}
-
 fn seeded<S: de::DeserializeSeed>(alloc: Global, seed: S) -> Result<S::Value, Error> {
-    seed.deserialize(alloc, source(alloc, list(alloc)))
-}
-
-// Returns whether the second of two unit variants is read.
-fn second_variant(alloc: Global) -> bool {
-    let variants = de::UnitVariant {
-        rest: de::UnitVariant { rest: () },
-    };
-    matches!(
-        de::EnumSeed(variants).deserialize(alloc, uint(alloc)),
-        Ok(de::Either::Other(de::Either::This(())))
-    )
+    seed.deserialize(alloc, list(alloc)?)
 }
 
 fn seeds_read_parts_of_types(rt: &HostRuntime) -> bool {
     let a = rt.alloc();
-    is(
-        rt,
-        "a type",
-        de::TypeSeed(PhantomData::<u32>).deserialize(a, uint(a)),
-        "Ok(1)",
-    ) && is(
-        rt,
-        "a required field",
-        seeded(a, de::ListSeed(required())),
-        "Ok((1, ()))",
-    ) && is(
-        rt,
-        "an optional field",
-        seeded(a, de::NamedSeed(optional())),
-        "Ok((Some(1), ()))",
-    ) && holds(rt, "the second variant", second_variant(a))
+    let of_a_type = de::TypeSeed(PhantomData::<u32>).deserialize(a, uint(a));
+    let optional = de::Optional::<u32, ()> {
+        name: "x",
+        of: PhantomData,
+        rest: (),
+    };
+    let by_name = seeded(a, de::NamedSeed(optional));
+    let variants = de::UnitVariant {
+        rest: de::UnitVariant { rest: () },
+    };
+    let second = matches!(
+        de::EnumSeed(variants).deserialize(a, uint(a)),
+        Ok(de::Either::Other(de::Either::This(())))
+    );
+    is(rt, "a type", of_a_type, "Ok(1)")
+        && is(
+            rt,
+            "a required field",
+            seeded(a, de::ListSeed(required())),
+            "Ok((1, ()))",
+        )
+        && is(rt, "an optional field", by_name, "Ok((Some(1), ()))")
+        && holds(rt, "the second variant", second)
 }
 
 // Returns the first element of a list.
@@ -169,26 +142,19 @@ fn first_entry<D: de::Deserializer>(
     }
 }
 
-fn first_of_map(alloc: Global) -> Result<Option<(u32, u32)>, Error> {
-    first_entry(
-        alloc,
-        source(alloc, Some(Value::Map(OrderedMap::new(alloc)))),
-    )
-}
-
-fn one_level_is_opened(rt: &HostRuntime) -> bool {
+fn one_level_is_opened(rt: &HostRuntime) -> Result<bool, Error> {
     let a = rt.alloc();
-    is(
-        rt,
-        "a list",
-        first_element(a, source(a, list(a))),
-        "Ok(Some(1))",
-    ) && is(
-        rt,
-        "no list",
-        first_element(a, uint(a)),
-        "Err(InvalidValue)",
-    ) && is(rt, "an empty map", first_of_map(a), "Ok(None)")
+    let empty = source(a, Value::Map(OrderedMap::new(a)));
+    Ok(
+        is(rt, "a list", first_element(a, list(a)?), "Ok(Some(1))")
+            && is(
+                rt,
+                "no list",
+                first_element(a, uint(a)),
+                "Err(InvalidValue)",
+            )
+            && is(rt, "an empty map", first_entry(a, empty), "Ok(None)"),
+    )
 }
 
 /// Visitor that returns the plain value.
@@ -232,64 +198,38 @@ impl de::Record for Whole {
 }
 
 // Returns the map from the string `x` to the uint 1.
-fn map(alloc: Global) -> Option<Value> {
-    let key = Value::try_from_str(alloc, "x").ok()?;
-    Some(Value::Map(pairs(alloc, [(key, Value::Uint(1))])?))
-}
-
-// Returns the map with the descriptor 1.
-fn described_map(alloc: Global) -> Option<Value> {
-    described(alloc, 1, map(alloc)?)
-}
-
-fn count_of_a_list(alloc: Global) -> Result<(u32, ()), Error> {
-    de::read::<Count, _, _>(alloc, source(alloc, list(alloc)), de::ListSeed(required()))
-}
-
-fn count_after_a_descriptor(alloc: Global) -> Result<u32, Error> {
-    let of = de::TypeSeed(PhantomData::<u32>);
-    let value = source(alloc, described(alloc, 1, Value::Uint(1)));
-    de::read_described::<Whole, _, _, _>(alloc, value, &1u64, of)
-}
-
-fn count_of_a_composite(alloc: Global) -> Result<u32, Error> {
-    let of = de::TypeSeed(PhantomData::<u32>);
-    let value = source(alloc, described(alloc, 1, Value::Uint(1)));
-    de::read_composite::<Whole, _, _>(alloc, value, 1, of)
+fn map(alloc: Global) -> Result<Value, Error> {
+    let mut map = OrderedMap::new(alloc);
+    drop(map.insert(Value::try_from_str(alloc, "x")?, Value::Uint(1))?);
+    Ok(Value::Map(map))
 }
 
 fn fields_of_a_map<F: de::FieldSeeds<Values = (u32, ())>>(
     alloc: Global,
     fields: F,
 ) -> Result<(u32, ()), Error> {
-    de::read_map::<Count, _, F>(alloc, source(alloc, map(alloc)), fields)
+    de::read_map::<Count, _, F>(alloc, source(alloc, map(alloc)?), fields)
 }
 
-fn count_of_a_map(alloc: Global) -> Result<(u32, ()), Error> {
-    fields_of_a_map(alloc, required())
-}
-
-fn count_of_a_described_map(alloc: Global) -> Result<(u32, ()), Error> {
-    let value = source(alloc, described_map(alloc));
-    de::read_described_map::<Count, _, _, _>(alloc, value, &1u64, required())
-}
-
-fn records_are_read(rt: &HostRuntime) -> bool {
+fn records_are_read(rt: &HostRuntime) -> Result<bool, Error> {
     let a = rt.alloc();
-    is(rt, "read", count_of_a_list(a), "Ok((1, ()))")
-        && is(rt, "read_described", count_after_a_descriptor(a), "Ok(1)")
-        && is(rt, "read_composite", count_of_a_composite(a), "Ok(1)")
-        && is(rt, "read_map", count_of_a_map(a), "Ok((1, ()))")
-        && is(
-            rt,
-            "read_described_map",
-            count_of_a_described_map(a),
-            "Ok((1, ()))",
-        )
-}
-
-fn any_value(alloc: Global) -> bool {
-    matches!(uint(alloc).deserialize_any(Shown), Ok(de::Plain::U32(1)))
+    let of = de::TypeSeed(PhantomData::<u32>);
+    let listed = de::read::<Count, _, _>(a, list(a)?, de::ListSeed(required()))?;
+    let value = described(a, Value::Uint(1))?;
+    let after = de::read_described::<Whole, _, _, _>(a, value, &1u64, of)?;
+    let of = de::TypeSeed(PhantomData::<u32>);
+    let value = described(a, Value::Uint(1))?;
+    let composite = de::read_composite::<Whole, _, _>(a, value, 1, of)?;
+    let mapped = fields_of_a_map(a, required())?;
+    let value = described(a, map(a)?)?;
+    let both = de::read_described_map::<Count, _, _, _>(a, value, &1u64, required())?;
+    Ok(
+        is(rt, "read", listed, "(1, ())")
+            && is(rt, "read_described", after, "1")
+            && is(rt, "read_composite", composite, "1")
+            && is(rt, "read_map", mapped, "(1, ())")
+            && is(rt, "read_described_map", both, "(1, ())"),
+    )
 }
 
 // Reads a variant.
@@ -297,7 +237,8 @@ fn variant<V: de::Variants>(alloc: Global, variants: V) -> Result<V::Value, Erro
     de::EnumSeed(variants).deserialize(alloc, uint(alloc))
 }
 
-fn variant_without_its_value(alloc: Global) -> bool {
+fn types_of_a_program_are_read(rt: &HostRuntime) -> bool {
+    let any = uint(rt.alloc()).deserialize_any(Shown);
     let variants = de::UnitVariant {
         rest: de::DataVariant {
             seed: de::TypeSeed(PhantomData::<u32>),
@@ -305,26 +246,31 @@ fn variant_without_its_value(alloc: Global) -> bool {
             rest: (),
         },
     };
-    let answer: Result<de::Either<(), de::Either<u32, de::Never>>, Error> = variant(
-        alloc, variants,
+    let missing: Result<de::Either<(), de::Either<u32, de::Never>>, Error> = variant(
+        rt.alloc(),
+        variants,
     );
-    matches!(answer, Err(Error::Message("Expecting a value")))
-}
-
-fn types_of_a_program_are_read(rt: &HostRuntime) -> bool {
-    let code = descriptor::Descriptor::Code(1);
-    holds(rt, "deserialize_any", any_value(rt.alloc()))
-        && holds(rt, "is", de::Describes::is(&1u64, &code))
-        && holds(rt, "a missing value", variant_without_its_value(rt.alloc()))
+    let missing = matches!(missing, Err(Error::Message("Expecting a value")));
+    holds(rt, "deserialize_any", matches!(any, Ok(de::Plain::U32(1))))
+        && holds(rt, "is", de::Describes::is(&1u64, &Descriptor::Code(1)))
+        && holds(rt, "a missing value", missing)
 }
 
 #[test]
 fn reading_paths(rt: HostRuntime) {
+    comes_back::<Option<u32>>();
+    keys_are_distinct::<u32>();
+    de::laws::keys_of_the_same_contents_are_equal();
     assert!(rt; values_are_read(&rt), "values");
-    assert!(rt; parts_are_read_by_accessors(&rt), "accessors");
+    assert!(rt;
+        hold(&rt, "accessors", parts_are_read_by_accessors(&rt)),
+        "accessors"
+    );
     assert!(rt; seeds_read_parts_of_types(&rt), "seeds");
-    assert!(rt; one_level_is_opened(&rt), "one level");
-    assert!(rt; records_are_read(&rt), "records");
+    assert!(rt;
+        hold(&rt, "one level", one_level_is_opened(&rt)),
+        "one level"
+    );
+    assert!(rt; hold(&rt, "records", records_are_read(&rt)), "records");
     assert!(rt; types_of_a_program_are_read(&rt), "types of a program");
-    assert!(rt; laws_are_called(), "laws");
 }

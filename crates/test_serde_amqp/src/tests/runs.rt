@@ -1,8 +1,7 @@
 //! The two runs of the program over one input, and over readers and writers that fail.
 
-use super::rows::wrong;
+use super::rows::{is, wrong};
 use super::streams::{ByteReader, ByteWriter, Fault};
-use super::support::is;
 use serde_amqp::read::{IoReader, Read, SliceReader};
 use serde_amqp::{Error, IoWriter, VecWriter, Write, run_cut, run_lines};
 use std::alloc::Global;
@@ -74,7 +73,7 @@ pub fn row(
     match reading {
         Reading::Slice => prints(rt, name, run, &mut SliceReader::new(input), text, wanted),
         Reading::SingleBytes => {
-            let mut reader = IoReader::new(ByteReader::new(input));
+            let mut reader = IoReader::new(ByteReader::failing(input, 0, ErrorKind::Other));
             prints(rt, name, run, &mut reader, text, wanted)
         }
     }
@@ -85,17 +84,25 @@ fn wrong_at(rt: &HostRuntime, call: &str, number: u64) -> bool {
     println!(rt; "where {call} {number} fails").is_err() && false
 }
 
-/// Returns whether the run prints this text and returns `Io` if this read fails.
-pub fn read_fails(
+/// Returns whether the run, if any one of this many reads fails, returns `Io` and prints nothing
+/// in the first of them, as many as `silent`, and this text in the others.
+pub fn each_read_fails(
     rt: &HostRuntime,
     run: Run,
     input: &[u8],
-    failing: u64,
     kind: ErrorKind,
+    reads: u64,
+    silent: u64,
     text: &[u8],
 ) -> bool {
-    let mut reader = IoReader::new(ByteReader::failing(input, failing, kind));
-    prints(rt, "a run", run, &mut reader, text, "Err(Io)") || wrong_at(rt, "read", failing)
+    for failing in 1..=reads {
+        let printed: &[u8] = if failing > silent { text } else { b"" };
+        let mut reader = IoReader::new(ByteReader::failing(input, failing, kind));
+        if !prints(rt, "a run", run, &mut reader, printed, "Err(Io)") {
+            return wrong_at(rt, "read", failing);
+        }
+    }
+    true
 }
 
 /// Returns whether the run over this input prints this text to a writer, one write of which may

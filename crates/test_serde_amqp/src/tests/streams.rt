@@ -14,10 +14,6 @@ pub struct ByteReader<'a> {
 }
 
 impl<'a> ByteReader<'a> {
-    pub fn new(rest: &'a [u8]) -> ByteReader<'a> {
-        ByteReader::failing(rest, 0, ErrorKind::Other)
-    }
-
     pub fn failing(rest: &'a [u8], failing: u64, kind: ErrorKind) -> ByteReader<'a> {
         ByteReader {
             rest,
@@ -93,26 +89,10 @@ impl io::Write for ByteWriter<'_> {
 /// if `fails` is set.
 #[derive(Drop)]
 pub struct FlushedWriter<'a> {
-    buffer: Vec<u8>,
-    written: &'a mut Vec<u8>,
-    flushes: &'a mut u64,
-    fails: bool,
-}
-
-impl<'a> FlushedWriter<'a> {
-    pub fn new(
-        buffer: Vec<u8>,
-        written: &'a mut Vec<u8>,
-        flushes: &'a mut u64,
-        fails: bool,
-    ) -> FlushedWriter<'a> {
-        FlushedWriter {
-            buffer,
-            written,
-            flushes,
-            fails,
-        }
-    }
+    pub buffer: Vec<u8>,
+    pub written: &'a mut Vec<u8>,
+    pub flushes: &'a mut u64,
+    pub fails: bool,
 }
 
 impl io::Write for FlushedWriter<'_> {

@@ -3,7 +3,6 @@
 mod again;
 mod compounds;
 mod memory;
-mod rows;
 
 use amqp_ser::{Serialize, SerializeCompounds, SerializeScalars, Serializer};
 

@@ -1,44 +1,11 @@
-//! Examples of untyped values: equality, order, conversions, and each law once. The examples of
-//! texts and of format codes are data of the program `test_rows`.
+//! Untyped values: conversions, equality, and each law once. Rows of texts, of format codes and of
+//! order are data of the program `test_rows`.
 
 mod conversions;
 mod maps;
 mod order;
 
-use super::values::{array, bytes, described, list, map, string, symbol};
-use amqp_data::{Dec32, Dec64, Dec128, Descriptor, F32Bits, F64Bits, Timestamp, Uuid};
-use amqp_value::{Value, laws};
-
-// Returns one value of each variant, in the order of the standard.
-fn one_of_each(rt: &HostRuntime) -> [Value; 25] {
-    [
-        described(rt, Descriptor::Code(1), Value::Null),
-        Value::Null,
-        Value::Bool(true),
-        Value::Ubyte(9),
-        Value::Ushort(8),
-        Value::Uint(7),
-        Value::Ulong(6),
-        Value::Byte(5),
-        Value::Short(4),
-        Value::Int(3),
-        Value::Long(2),
-        Value::Float(F32Bits::from(1)),
-        Value::Double(F64Bits::from(0)),
-        Value::Decimal32(Dec32::from([9; 4])),
-        Value::Decimal64(Dec64::from([8; 8])),
-        Value::Decimal128(Dec128::from([7; 16])),
-        Value::Char('a'),
-        Value::Timestamp(Timestamp::from_milliseconds(-1)),
-        Value::Uuid(Uuid::from([6; 16])),
-        Value::Binary(bytes(rt, [5])),
-        string(rt, "b"),
-        symbol(rt, "a"),
-        list(rt, [string(rt, "z")]),
-        map(rt, []),
-        array(rt, []),
-    ]
-}
+use amqp_value::laws;
 
 #[test]
 fn laws_can_be_called(_rt: HostRuntime) {

@@ -1,6 +1,6 @@
 //! Constructors of values for rows. If an allocation fails, the value is empty or null.
 
-use amqp_data::{Array, ByteBuf, Described, Descriptor, OrderedMap, Symbol};
+use amqp_data::{Array, Described, Descriptor, OrderedMap, Symbol};
 use amqp_value::Value;
 
 /// Returns a vector of these items.
@@ -54,16 +54,6 @@ pub fn string(rt: &HostRuntime, content: &str) -> Value {
 /// Returns a symbol.
 pub fn name(rt: &HostRuntime, content: &str) -> Symbol {
     Symbol::from(text(rt, content))
-}
-
-/// Returns a symbol value.
-pub fn symbol(rt: &HostRuntime, content: &str) -> Value {
-    Value::Symbol(name(rt, content))
-}
-
-/// Returns these bytes.
-pub fn bytes<const N: usize>(rt: &HostRuntime, content: [u8; N]) -> ByteBuf {
-    ByteBuf::from(vec_of(rt, content))
 }
 
 /// Returns a described value.

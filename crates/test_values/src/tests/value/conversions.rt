@@ -1,9 +1,10 @@
 //! Conversions of scalars, lists and arrays in both directions, and of values of another kind.
 
 use super::super::rows::{gives, is};
-use super::super::values::{array, bytes, described, list, name, string, text, vec_of};
+use super::super::values::{array, described, list, name, string, text, vec_of};
 use amqp_data::{
-    Array, Dec32, Dec64, Dec128, Described, Descriptor, F32Bits, F64Bits, Symbol, Timestamp, Uuid,
+    Array, ByteBuf, Dec32, Dec64, Dec128, Described, Descriptor, F32Bits, F64Bits, Symbol,
+    Timestamp, Uuid,
 };
 use amqp_value::{ConvertFault, Value};
 use std::fmt::Debug;
@@ -72,8 +73,12 @@ fn types_of_fixed_width_go_both_ways(rt: &HostRuntime) -> bool {
 }
 
 fn types_of_variable_width_go_both_ways(rt: &HostRuntime) -> bool {
-    returns(rt, "ByteBuf", bytes(rt, [5]), bytes(rt, [5]))
-        && returns(rt, "String", text(rt, "b"), text(rt, "b"))
+    returns(
+        rt,
+        "ByteBuf",
+        ByteBuf::from(vec_of(rt, [5])),
+        ByteBuf::from(vec_of(rt, [5])),
+    ) && returns(rt, "String", text(rt, "b"), text(rt, "b"))
         && returns(rt, "Symbol", name(rt, "a"), name(rt, "a"))
 }
 
