@@ -48,10 +48,7 @@ fn in_a_map(alloc: Global) -> Result<bool, Error> {
 // Two lazy arrays in an array.
 fn in_an_array(alloc: Global) -> Result<bool, Error> {
     let bytes = b"\xe0\x07\x01\xb1\0\0\0\x01a";
-    let held = Array::from(vec![in alloc;
-        lazy(alloc, bytes)?,
-        lazy(alloc, b"\xe0\x02\0\x40")?,
-    ]?);
+    let held = Array::from(vec![in alloc; lazy(alloc, bytes)?, lazy(alloc, b"\xe0\x02\0\x40")?]?);
     let image = to_value(alloc, &held)?;
     let parts: Array<LazyValue> = from_value(alloc, image)?;
     let items = parts.as_inner();

@@ -35,8 +35,8 @@ pub trait DeserializeCompounds: Deserializer {
     /// them is invalid.
     #[tactic(auto, using(crate::proofs::Lists::list_of_trees))]
     final fn deserialize_seq<V: Visitor>(self, visitor: V) -> Result<V::Value, Self::Error>
-        ensures read { Answers Self.Error.is_out_of_memory (ByList (V.gives visitor) (value self)) result }
-        ensures law { Returns (ByList (V.represents visitor) (value self))
+        ensures read { Answers Self.Error.is_out_of_memory (ByList (V.gives visitor) (Self.value self)) result }
+        ensures law { Returns (ByList (V.represents visitor) (Self.value self))
             V.same Self.Error.is_out_of_memory result }
     {
         match self.open() {
@@ -53,8 +53,8 @@ pub trait DeserializeCompounds: Deserializer {
     /// # Example
     /// For the list of the ubyte 1 and `true`, calls `visit_seq` with these two elements.
     final fn deserialize_tuple<V: Visitor>(self, visitor: V) -> Result<V::Value, Self::Error>
-        ensures read { Answers Self.Error.is_out_of_memory (ByList (V.gives visitor) (value self)) result }
-        ensures law { Returns (ByList (V.represents visitor) (value self))
+        ensures read { Answers Self.Error.is_out_of_memory (ByList (V.gives visitor) (Self.value self)) result }
+        ensures law { Returns (ByList (V.represents visitor) (Self.value self))
             V.same Self.Error.is_out_of_memory result }
     {
         self.deserialize_seq(visitor)
@@ -69,8 +69,8 @@ pub trait DeserializeCompounds: Deserializer {
     /// For the map from the ubyte 1 to `true`, calls `visit_map` with this pair.
     #[tactic(auto, using(crate::proofs::Lists::entries_in_pairs))]
     final fn deserialize_map<V: Visitor>(self, visitor: V) -> Result<V::Value, Self::Error>
-        ensures read { Answers Self.Error.is_out_of_memory (ByMap (V.gives visitor) (value self)) result }
-        ensures law { Returns (ByMap (V.represents visitor) (value self))
+        ensures read { Answers Self.Error.is_out_of_memory (ByMap (V.gives visitor) (Self.value self)) result }
+        ensures law { Returns (ByMap (V.represents visitor) (Self.value self))
             V.same Self.Error.is_out_of_memory result }
     {
         match self.open() {
@@ -90,8 +90,8 @@ pub trait DeserializeCompounds: Deserializer {
     /// string `a` is invalid.
     final fn deserialize_identifier<V: Visitor>(self, visitor: V) -> Result<V::Value, Self::Error>
         ensures read { Answers Self.Error.is_out_of_memory
-            (ByIdentifier (V.gives visitor) (value self)) result }
-        ensures law { Returns (ByIdentifier (V.represents visitor) (value self))
+            (ByIdentifier (V.gives visitor) (Self.value self)) result }
+        ensures law { Returns (ByIdentifier (V.represents visitor) (Self.value self))
             V.same Self.Error.is_out_of_memory result }
     {
         match self.open() {
@@ -126,8 +126,8 @@ pub trait DeserializeCompounds: Deserializer {
     /// deserializer of `true`. The value `true` without a descriptor is invalid.
     final fn deserialize_described<V: Visitor>(self, visitor: V) -> Result<V::Value, Self::Error>
         ensures read { Answers Self.Error.is_out_of_memory
-            (ByDescribed (V.gives visitor) (value self)) result }
-        ensures law { Returns (ByDescribed (V.represents visitor) (value self))
+            (ByDescribed (V.gives visitor) (Self.value self)) result }
+        ensures law { Returns (ByDescribed (V.represents visitor) (Self.value self))
             V.same Self.Error.is_out_of_memory result }
     {
         match self.open() {
@@ -152,9 +152,9 @@ pub trait DeserializeCompounds: Deserializer {
         visitor: V,
     ) -> Result<V::Value, Self::Error>
         ensures read { Answers Self.Error.is_out_of_memory
-            (ByStruct (V.gives visitor) (is_described_name name.now) (value self)) result }
+            (ByStruct (V.gives visitor) (is_described_name name.now) (Self.value self)) result }
         ensures law { Returns
-            (ByStruct (V.represents visitor) (is_described_name name.now) (value self))
+            (ByStruct (V.represents visitor) (is_described_name name.now) (Self.value self))
             V.same Self.Error.is_out_of_memory result }
     {
         if is_described_name(name) {
@@ -177,9 +177,9 @@ pub trait DeserializeCompounds: Deserializer {
         visitor: V,
     ) -> Result<V::Value, Self::Error>
         ensures read { Answers Self.Error.is_out_of_memory
-            (ByStruct (V.gives visitor) (is_described_name name.now) (value self)) result }
+            (ByStruct (V.gives visitor) (is_described_name name.now) (Self.value self)) result }
         ensures law { Returns
-            (ByStruct (V.represents visitor) (is_described_name name.now) (value self))
+            (ByStruct (V.represents visitor) (is_described_name name.now) (Self.value self))
             V.same Self.Error.is_out_of_memory result }
     {
         self.deserialize_struct(name, visitor)
@@ -196,8 +196,8 @@ pub trait DeserializeCompounds: Deserializer {
     /// `a:b`.
     final fn deserialize_descriptor<V: Visitor>(self, visitor: V) -> Result<V::Value, Self::Error>
         ensures read { Answers Self.Error.is_out_of_memory
-            (ByDescriptor (V.gives visitor) (value self)) result }
-        ensures law { Returns (ByDescriptor (V.represents visitor) (value self))
+            (ByDescriptor (V.gives visitor) (Self.value self)) result }
+        ensures law { Returns (ByDescriptor (V.represents visitor) (Self.value self))
             V.same Self.Error.is_out_of_memory result }
     {
         match self.open() {
@@ -224,8 +224,8 @@ pub trait DeserializeCompounds: Deserializer {
     #[tactic(auto, using(crate::proofs::Lists::list_of_trees, crate::proofs::Lists::entries_in_pairs))]
     final fn deserialize_variant<V: Visitor>(self, visitor: V) -> Result<V::Value, Self::Error>
         ensures read { Answers Self.Error.is_out_of_memory
-            (ByVariant (V.gives visitor) (value self)) result }
-        ensures law { Returns (ByVariant (V.represents visitor) (value self))
+            (ByVariant (V.gives visitor) (Self.value self)) result }
+        ensures law { Returns (ByVariant (V.represents visitor) (Self.value self))
             V.same Self.Error.is_out_of_memory result }
     {
         if self.is_index() {
@@ -260,8 +260,8 @@ pub trait DeserializeCompounds: Deserializer {
     #[tactic(auto, using(crate::proofs::Lists::list_of_trees))]
     final fn deserialize_format<V: Visitor>(self, visitor: V) -> Result<V::Value, Self::Error>
         ensures read { Answers Self.Error.is_out_of_memory
-            (ByFormat (V.gives visitor) (value self)) result }
-        ensures law { Returns (ByFormat (V.represents visitor) (value self))
+            (ByFormat (V.gives visitor) (Self.value self)) result }
+        ensures law { Returns (ByFormat (V.represents visitor) (Self.value self))
             V.same Self.Error.is_out_of_memory result }
     {
         match self.open() {
@@ -289,11 +289,11 @@ pub trait DeserializeCompounds: Deserializer {
     ) -> Result<V::Value, Self::Error>
         ensures read { Answers Self.Error.is_out_of_memory
             (ByEnum (V.gives visitor) (is_value_name name.now)
-            (is_descriptor_name name.now) (is_array_name name.now) (value self))
+            (is_descriptor_name name.now) (is_array_name name.now) (Self.value self))
             result }
         ensures law { Returns
             (ByEnum (V.represents visitor) (is_value_name name.now)
-            (is_descriptor_name name.now) (is_array_name name.now) (value self))
+            (is_descriptor_name name.now) (is_array_name name.now) (Self.value self))
             V.same Self.Error.is_out_of_memory result }
     {
         if is_value_name(name) {
@@ -318,8 +318,8 @@ pub trait DeserializeCompounds: Deserializer {
     #[tactic(auto, using(crate::proofs::Lists::list_of_trees))]
     final fn deserialize_array<V: Visitor>(self, visitor: V) -> Result<V::Value, Self::Error>
         ensures read { Answers Self.Error.is_out_of_memory
-            (ByArray (V.gives visitor) (value self)) result }
-        ensures law { Returns (ByArray (V.represents visitor) (value self))
+            (ByArray (V.gives visitor) (Self.value self)) result }
+        ensures law { Returns (ByArray (V.represents visitor) (Self.value self))
             V.same Self.Error.is_out_of_memory result }
     {
         match self.open() {
@@ -341,8 +341,8 @@ pub trait DeserializeCompounds: Deserializer {
     /// For the string `a`, calls `visit_byte_buf` with `a10161`.
     final fn deserialize_written<V: Visitor>(self, visitor: V) -> Result<V::Value, Self::Error>
         ensures read { Answers Self.Error.is_out_of_memory
-            (ByWritten (V.gives visitor) (value self)) result }
-        ensures law { Returns (ByWritten (V.represents visitor) (value self))
+            (ByWritten (V.gives visitor) (Self.value self)) result }
+        ensures law { Returns (ByWritten (V.represents visitor) (Self.value self))
             V.same Self.Error.is_out_of_memory result }
     {
         let alloc = self.alloc();
@@ -370,8 +370,8 @@ pub trait DeserializeCompounds: Deserializer {
         visitor: V,
     ) -> Result<V::Value, Self::Error>
         ensures read { Answers Self.Error.is_out_of_memory
-            (ByMarker (V.gives visitor) marker (value self)) result }
-        ensures law { Returns (ByMarker (V.represents visitor) marker (value self))
+            (ByMarker (V.gives visitor) marker (Self.value self)) result }
+        ensures law { Returns (ByMarker (V.represents visitor) marker (Self.value self))
             V.same Self.Error.is_out_of_memory result }
     {
         match marker {
@@ -423,8 +423,8 @@ pub trait DeserializeCompounds: Deserializer {
         visitor: V,
     ) -> Result<V::Value, Self::Error>
         ensures read { Answers Self.Error.is_out_of_memory
-            (ByMarker (V.gives visitor) (marker_of name.now) (value self)) result }
-        ensures law { Returns (ByMarker (V.represents visitor) (marker_of name.now) (value self))
+            (ByMarker (V.gives visitor) (marker_of name.now) (Self.value self)) result }
+        ensures law { Returns (ByMarker (V.represents visitor) (marker_of name.now) (Self.value self))
             V.same Self.Error.is_out_of_memory result }
     {
         self.deserialize_marked(marker_named(name), visitor)
@@ -442,8 +442,8 @@ pub trait DeserializeCompounds: Deserializer {
     #[tactic(auto, using(crate::proofs::Lists::list_of_trees, crate::proofs::Lists::entries_in_pairs))]
     final fn deserialize_any<V: Visitor>(self, visitor: V) -> Result<V::Value, Self::Error>
         ensures read { Answers Self.Error.is_out_of_memory
-            (V.gives visitor (any_event (value self))) result }
-        ensures law { Returns (V.represents visitor (any_event (value self)))
+            (V.gives visitor (any_event (Self.value self))) result }
+        ensures law { Returns (V.represents visitor (any_event (Self.value self)))
             V.same Self.Error.is_out_of_memory result }
     {
         match self.open() {

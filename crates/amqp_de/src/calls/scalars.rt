@@ -32,8 +32,8 @@ pub trait DeserializeScalars: Deserializer {
     /// For `true`, calls `visit_bool(true)`. The ubyte 1 is invalid.
     final fn deserialize_bool<V: Visitor>(self, visitor: V) -> Result<V::Value, Self::Error>
         ensures read { Answers Self.Error.is_out_of_memory
-            (ByPlain (V.gives visitor) bool (value self)) result }
-        ensures law { Returns (ByPlain (V.represents visitor) bool (value self))
+            (ByPlain (V.gives visitor) bool (Self.value self)) result }
+        ensures law { Returns (ByPlain (V.represents visitor) bool (Self.value self))
             V.same Self.Error.is_out_of_memory result }
     {
         match self.open() {
@@ -51,8 +51,8 @@ pub trait DeserializeScalars: Deserializer {
     /// For the ubyte 5, calls `visit_u8(5)`. The uint 5 is invalid.
     final fn deserialize_u8<V: Visitor>(self, visitor: V) -> Result<V::Value, Self::Error>
         ensures read { Answers Self.Error.is_out_of_memory
-            (ByPlain (V.gives visitor) ubyte (value self)) result }
-        ensures law { Returns (ByPlain (V.represents visitor) ubyte (value self))
+            (ByPlain (V.gives visitor) ubyte (Self.value self)) result }
+        ensures law { Returns (ByPlain (V.represents visitor) ubyte (Self.value self))
             V.same Self.Error.is_out_of_memory result }
     {
         match self.open() {
@@ -70,8 +70,8 @@ pub trait DeserializeScalars: Deserializer {
     /// For the ushort 256, calls `visit_u16(256)`.
     final fn deserialize_u16<V: Visitor>(self, visitor: V) -> Result<V::Value, Self::Error>
         ensures read { Answers Self.Error.is_out_of_memory
-            (ByPlain (V.gives visitor) ushort (value self)) result }
-        ensures law { Returns (ByPlain (V.represents visitor) ushort (value self))
+            (ByPlain (V.gives visitor) ushort (Self.value self)) result }
+        ensures law { Returns (ByPlain (V.represents visitor) ushort (Self.value self))
             V.same Self.Error.is_out_of_memory result }
     {
         match self.open() {
@@ -89,8 +89,8 @@ pub trait DeserializeScalars: Deserializer {
     /// For the uint 1, calls `visit_u32(1)`. The ulong 1 is invalid.
     final fn deserialize_u32<V: Visitor>(self, visitor: V) -> Result<V::Value, Self::Error>
         ensures read { Answers Self.Error.is_out_of_memory
-            (ByPlain (V.gives visitor) uint (value self)) result }
-        ensures law { Returns (ByPlain (V.represents visitor) uint (value self))
+            (ByPlain (V.gives visitor) uint (Self.value self)) result }
+        ensures law { Returns (ByPlain (V.represents visitor) uint (Self.value self))
             V.same Self.Error.is_out_of_memory result }
     {
         match self.open() {
@@ -108,8 +108,8 @@ pub trait DeserializeScalars: Deserializer {
     /// For the ulong 13, calls `visit_u64(13)`.
     final fn deserialize_u64<V: Visitor>(self, visitor: V) -> Result<V::Value, Self::Error>
         ensures read { Answers Self.Error.is_out_of_memory
-            (ByPlain (V.gives visitor) ulong (value self)) result }
-        ensures law { Returns (ByPlain (V.represents visitor) ulong (value self))
+            (ByPlain (V.gives visitor) ulong (Self.value self)) result }
+        ensures law { Returns (ByPlain (V.represents visitor) ulong (Self.value self))
             V.same Self.Error.is_out_of_memory result }
     {
         match self.open() {
@@ -127,8 +127,8 @@ pub trait DeserializeScalars: Deserializer {
     /// For the byte -1, calls `visit_i8(-1)`.
     final fn deserialize_i8<V: Visitor>(self, visitor: V) -> Result<V::Value, Self::Error>
         ensures read { Answers Self.Error.is_out_of_memory
-            (ByPlain (V.gives visitor) byte (value self)) result }
-        ensures law { Returns (ByPlain (V.represents visitor) byte (value self))
+            (ByPlain (V.gives visitor) byte (Self.value self)) result }
+        ensures law { Returns (ByPlain (V.represents visitor) byte (Self.value self))
             V.same Self.Error.is_out_of_memory result }
     {
         match self.open() {
@@ -146,8 +146,8 @@ pub trait DeserializeScalars: Deserializer {
     /// For the short -2, calls `visit_i16(-2)`.
     final fn deserialize_i16<V: Visitor>(self, visitor: V) -> Result<V::Value, Self::Error>
         ensures read { Answers Self.Error.is_out_of_memory
-            (ByPlain (V.gives visitor) short (value self)) result }
-        ensures law { Returns (ByPlain (V.represents visitor) short (value self))
+            (ByPlain (V.gives visitor) short (Self.value self)) result }
+        ensures law { Returns (ByPlain (V.represents visitor) short (Self.value self))
             V.same Self.Error.is_out_of_memory result }
     {
         match self.open() {
@@ -165,8 +165,8 @@ pub trait DeserializeScalars: Deserializer {
     /// For the int 128, calls `visit_i32(128)`.
     final fn deserialize_i32<V: Visitor>(self, visitor: V) -> Result<V::Value, Self::Error>
         ensures read { Answers Self.Error.is_out_of_memory
-            (ByPlain (V.gives visitor) int (value self)) result }
-        ensures law { Returns (ByPlain (V.represents visitor) int (value self))
+            (ByPlain (V.gives visitor) int (Self.value self)) result }
+        ensures law { Returns (ByPlain (V.represents visitor) int (Self.value self))
             V.same Self.Error.is_out_of_memory result }
     {
         match self.open() {
@@ -184,8 +184,8 @@ pub trait DeserializeScalars: Deserializer {
     /// For the long -1, calls `visit_i64(-1)`. A timestamp is invalid.
     final fn deserialize_i64<V: Visitor>(self, visitor: V) -> Result<V::Value, Self::Error>
         ensures read { Answers Self.Error.is_out_of_memory
-            (ByPlain (V.gives visitor) long (value self)) result }
-        ensures law { Returns (ByPlain (V.represents visitor) long (value self))
+            (ByPlain (V.gives visitor) long (Self.value self)) result }
+        ensures law { Returns (ByPlain (V.represents visitor) long (Self.value self))
             V.same Self.Error.is_out_of_memory result }
     {
         match self.open() {
@@ -203,8 +203,8 @@ pub trait DeserializeScalars: Deserializer {
     /// For the float 1.5, calls `visit_f32` with the bits 3FC00000.
     final fn deserialize_f32<V: Visitor>(self, visitor: V) -> Result<V::Value, Self::Error>
         ensures read { Answers Self.Error.is_out_of_memory
-            (ByPlain (V.gives visitor) float (value self)) result }
-        ensures law { Returns (ByPlain (V.represents visitor) float (value self))
+            (ByPlain (V.gives visitor) float (Self.value self)) result }
+        ensures law { Returns (ByPlain (V.represents visitor) float (Self.value self))
             V.same Self.Error.is_out_of_memory result }
     {
         match self.open() {
@@ -222,8 +222,8 @@ pub trait DeserializeScalars: Deserializer {
     /// For the double 1.5, calls `visit_f64` with the bits 3FF8000000000000.
     final fn deserialize_f64<V: Visitor>(self, visitor: V) -> Result<V::Value, Self::Error>
         ensures read { Answers Self.Error.is_out_of_memory
-            (ByPlain (V.gives visitor) double (value self)) result }
-        ensures law { Returns (ByPlain (V.represents visitor) double (value self))
+            (ByPlain (V.gives visitor) double (Self.value self)) result }
+        ensures law { Returns (ByPlain (V.represents visitor) double (Self.value self))
             V.same Self.Error.is_out_of_memory result }
     {
         match self.open() {
@@ -241,8 +241,8 @@ pub trait DeserializeScalars: Deserializer {
     /// For the char `a`, calls `visit_char('a')`.
     final fn deserialize_char<V: Visitor>(self, visitor: V) -> Result<V::Value, Self::Error>
         ensures read { Answers Self.Error.is_out_of_memory
-            (ByPlain (V.gives visitor) char (value self)) result }
-        ensures law { Returns (ByPlain (V.represents visitor) char (value self))
+            (ByPlain (V.gives visitor) char (Self.value self)) result }
+        ensures law { Returns (ByPlain (V.represents visitor) char (Self.value self))
             V.same Self.Error.is_out_of_memory result }
     {
         match self.open() {
@@ -260,8 +260,8 @@ pub trait DeserializeScalars: Deserializer {
     /// For the string `a`, calls `visit_string` with it. The symbol `a` is invalid.
     final fn deserialize_string<V: Visitor>(self, visitor: V) -> Result<V::Value, Self::Error>
         ensures read { Answers Self.Error.is_out_of_memory
-            (ByPlain (V.gives visitor) string (value self)) result }
-        ensures law { Returns (ByPlain (V.represents visitor) string (value self))
+            (ByPlain (V.gives visitor) string (Self.value self)) result }
+        ensures law { Returns (ByPlain (V.represents visitor) string (Self.value self))
             V.same Self.Error.is_out_of_memory result }
     {
         match self.open() {
@@ -279,8 +279,8 @@ pub trait DeserializeScalars: Deserializer {
     /// For the string `a`, calls `visit_string` with it.
     final fn deserialize_str<V: Visitor>(self, visitor: V) -> Result<V::Value, Self::Error>
         ensures read { Answers Self.Error.is_out_of_memory
-            (ByPlain (V.gives visitor) string (value self)) result }
-        ensures law { Returns (ByPlain (V.represents visitor) string (value self))
+            (ByPlain (V.gives visitor) string (Self.value self)) result }
+        ensures law { Returns (ByPlain (V.represents visitor) string (Self.value self))
             V.same Self.Error.is_out_of_memory result }
     {
         self.deserialize_string(visitor)
@@ -295,8 +295,8 @@ pub trait DeserializeScalars: Deserializer {
     /// For the binary 01, 02, calls `visit_byte_buf` with it. A list of ubytes is invalid.
     final fn deserialize_byte_buf<V: Visitor>(self, visitor: V) -> Result<V::Value, Self::Error>
         ensures read { Answers Self.Error.is_out_of_memory
-            (ByPlain (V.gives visitor) binary (value self)) result }
-        ensures law { Returns (ByPlain (V.represents visitor) binary (value self))
+            (ByPlain (V.gives visitor) binary (Self.value self)) result }
+        ensures law { Returns (ByPlain (V.represents visitor) binary (Self.value self))
             V.same Self.Error.is_out_of_memory result }
     {
         match self.open() {
@@ -314,8 +314,8 @@ pub trait DeserializeScalars: Deserializer {
     /// For the binary 01, 02, calls `visit_byte_buf` with it.
     final fn deserialize_bytes<V: Visitor>(self, visitor: V) -> Result<V::Value, Self::Error>
         ensures read { Answers Self.Error.is_out_of_memory
-            (ByPlain (V.gives visitor) binary (value self)) result }
-        ensures law { Returns (ByPlain (V.represents visitor) binary (value self))
+            (ByPlain (V.gives visitor) binary (Self.value self)) result }
+        ensures law { Returns (ByPlain (V.represents visitor) binary (Self.value self))
             V.same Self.Error.is_out_of_memory result }
     {
         self.deserialize_byte_buf(visitor)
@@ -331,8 +331,8 @@ pub trait DeserializeScalars: Deserializer {
     /// it.
     final fn deserialize_option<V: Visitor>(self, visitor: V) -> Result<V::Value, Self::Error>
         ensures read { Answers Self.Error.is_out_of_memory
-            (ByOption (V.gives visitor) (value self)) result }
-        ensures law { Returns (ByOption (V.represents visitor) (value self))
+            (ByOption (V.gives visitor) (Self.value self)) result }
+        ensures law { Returns (ByOption (V.represents visitor) (Self.value self))
             V.same Self.Error.is_out_of_memory result }
     {
         if self.is_null() {
@@ -350,8 +350,8 @@ pub trait DeserializeScalars: Deserializer {
     /// # Example
     /// For null, calls `visit_unit()`. The boolean `false` is invalid.
     final fn deserialize_unit<V: Visitor>(self, visitor: V) -> Result<V::Value, Self::Error>
-        ensures read { Answers Self.Error.is_out_of_memory (ByUnit (V.gives visitor) (value self)) result }
-        ensures law { Returns (ByUnit (V.represents visitor) (value self))
+        ensures read { Answers Self.Error.is_out_of_memory (ByUnit (V.gives visitor) (Self.value self)) result }
+        ensures law { Returns (ByUnit (V.represents visitor) (Self.value self))
             V.same Self.Error.is_out_of_memory result }
     {
         if self.is_null() {
@@ -373,8 +373,8 @@ pub trait DeserializeScalars: Deserializer {
         _name: &str,
         visitor: V,
     ) -> Result<V::Value, Self::Error>
-        ensures read { Answers Self.Error.is_out_of_memory (ByUnit (V.gives visitor) (value self)) result }
-        ensures law { Returns (ByUnit (V.represents visitor) (value self))
+        ensures read { Answers Self.Error.is_out_of_memory (ByUnit (V.gives visitor) (Self.value self)) result }
+        ensures law { Returns (ByUnit (V.represents visitor) (Self.value self))
             V.same Self.Error.is_out_of_memory result }
     {
         self.deserialize_unit(visitor)
