@@ -8,5 +8,5 @@ returns g c = λ x r.
     let k = g.K.Deserialize in
     let v = g.V.Deserialize in
     let es = entries_of x in
-    map_stands g.K.Serialize.tree k.image g.V.Serialize.tree v.image k.restorable v.restorable c.returns.ensures c.returns-2.ensures es r.0
+    map_stands g.K.Serialize.tree k.image g.V.Serialize.tree v.image k.restorable v.restorable c.law.ensures c.law-2.ensures es r.0
     (distinct_differ k.image k.restorable k.same v.restorable c.image_is_injective.ensures g.K.PartialEq.eq g.met.K.Eq.laws es r.0 r.1)
