@@ -16,24 +16,35 @@ const HELLO: &[u8] = b"\xa1\x0dHello, World!";
 /// Returns the results of a value with lazy values in it.
 pub fn write(alloc: Global, name: &str) -> Result<String, Error> {
     let null = &lazy_of(alloc, b"\x40")?;
-    let yes = lazy_of(alloc, b"\x41")?;
     match name {
         "described" => results(alloc, &coded(1, null)),
         "described_twice" => results(alloc, &coded(2, coded(1, null))),
         "described_in_a_list" => results(alloc, &vec![in alloc; coded(1, null)]?),
-        "in_a_map" => results(alloc, &pairs(alloc, [(null, &yes)])?),
+        "in_a_map" => in_a_map(alloc),
         "in_a_variant" => results(alloc, &VariantOf(1, fields! { "it": null })),
-        "in_a_transparent_vector" => results(alloc, &of(alloc, [null, &yes])?),
+        "in_a_transparent_vector" => in_a_transparent_vector(alloc),
         "two_in_a_list" => {
             let two = vec![in alloc; lazy_of(alloc, b"\x43")?, lazy_of(alloc, b"\x50\x01")?]?;
             results(alloc, &two)
         }
         "in_a_list" => {
-            let hello = &lazy_of(alloc, HELLO)?;
-            results(alloc, &[hello, hello, hello])
+            let hello = || lazy_of(alloc, HELLO);
+            results(alloc, &vec![in alloc; hello()?, hello()?, hello()?]?)
         }
         _ => refused(alloc, name, null),
     }
+}
+
+fn in_a_map(alloc: Global) -> Result<String, Error> {
+    let null = lazy_of(alloc, b"\x40")?;
+    let yes = lazy_of(alloc, b"\x41")?;
+    results(alloc, &pairs(alloc, [(null, yes)])?)
+}
+
+fn in_a_transparent_vector(alloc: Global) -> Result<String, Error> {
+    let null = lazy_of(alloc, b"\x40")?;
+    let yes = lazy_of(alloc, b"\x41")?;
+    results(alloc, &of(alloc, [null, yes])?)
 }
 
 // Returns the results of a value with a lazy value in a place that refuses it.

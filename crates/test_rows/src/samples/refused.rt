@@ -21,8 +21,11 @@ pub fn write(alloc: Global, name: &str) -> Result<String, Error> {
         "second_key" => results(alloc, &RefusedKey("a", "b", 1)),
         "end_after_a_key" => results(alloc, &KeyAlone("a")),
         "end_without_a_field" => results(alloc, &NoField),
-        "after_a_str" => results(alloc, &("a", NoTree)),
-        "marked_twice" => results(alloc, &symbol_of(symbol_of("a"))),
+        "after_a_str" => results(alloc, &(String::from_str(alloc, "a")?, NoTree)),
+        "marked_twice" => {
+            let text = String::from_str(alloc, "a")?;
+            results(alloc, &symbol_of(symbol_of(text)))
+        }
         _ => no_sample(),
     }
 }
@@ -61,7 +64,11 @@ impl Serialize for RefusedElement {
     fn serialize<S: Serializer>(&self, serializer: &mut S) -> Result<S::Ok, S::Error> {
         let mut list = serializer.begin_compound(CompoundKind::List);
         element(serializer, &mut list, &self.0)?;
-        match element(serializer, &mut list, &symbol_of(self.1)) {
+        let number = Newtype {
+            name: markers::SYMBOL,
+            value: &self.1,
+        };
+        match element(serializer, &mut list, &number) {
             Ok(()) => unreachable!(),
             Err(_) => {}
         }
