@@ -73,6 +73,28 @@ fn map(alloc: Global, name: &str, value: Value) -> Result<String, Error> {
         "BTreeMap<(u32,),bool>" => read_as::<BTreeMap<(u32,), bool>>(alloc, value),
         "HashMap<u32,bool>" => hashed::<u32>(alloc, value),
         "HashMap<(u32,),bool>" => hashed::<(u32,)>(alloc, value),
+        _ => nested(alloc, name, value),
+    }
+}
+
+// Reads the value as a type with texts, lazy values or compounds inside, by the calls that
+// `tools/memory` makes with each allocation failing.
+fn nested(alloc: Global, name: &str, value: Value) -> Result<String, Error> {
+    match name {
+        "[String;2]" => read_as::<[String; 2]>(alloc, value),
+        "Array<String>" => read_as::<Array<String>>(alloc, value),
+        "Array<LazyValue>" => read_as::<Array<LazyValue>>(alloc, value),
+        "Box<Vec<Box<u8>>>" => read_as::<Box<Vec<Box<u8>>>>(alloc, value),
+        "Box<Vec<Option<u8>>>" => read_as::<Box<Vec<Option<u8>>>>(alloc, value),
+        "Described<Array<u8>>" => read_as::<Described<Array<u8>>>(alloc, value),
+        "Described<Described<bool>>" => read_as::<Described<Described<bool>>>(alloc, value),
+        "BTreeMap<u8,String>" => read_as::<BTreeMap<u8, String>>(alloc, value),
+        "OrderedMap<u8,String>" => read_as::<OrderedMap<u8, String>>(alloc, value),
+        "OrderedMap<Symbol,u8>" => read_as::<OrderedMap<Symbol, u8>>(alloc, value),
+        "OrderedMap<Symbol,Value>" => read_as::<OrderedMap<Symbol, Value>>(alloc, value),
+        "OrderedMap<LazyValue,LazyValue>" => {
+            read_as::<OrderedMap<LazyValue, LazyValue>>(alloc, value)
+        }
         _ => Err(Error::Message("no such type")),
     }
 }

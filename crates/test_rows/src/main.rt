@@ -47,33 +47,23 @@ mod values;
 mod visitors;
 mod visits;
 
-use std::alloc::Global;
 use std::io;
-use std::io::{BufRead, BufReader, BufWriter, Write};
+use std::io::{BufWriter, Write};
 
 fn main(rt: HostRuntime) -> io::Result<()> {
     let alloc = rt.alloc();
-    let input = BufReader::new(alloc, rt.reader())?;
+    let input = io::read_to_string(alloc, rt.reader())?;
     let mut output = BufWriter::new(alloc, io::writer(&rt))?;
-    for line in input.lines(alloc) {
-        let line = line?;
+    for line in input.lines() {
         output.write_all(line.as_bytes())?;
-        if let Some(text) = printed(alloc, line.as_str()) {
+        if !line.is_empty() && !line.starts_with('#') {
             output.write_all(b" = ")?;
-            output.write_all(text.as_bytes())?;
+            match row::answer(alloc, line) {
+                Ok(text) => output.write_all(text.as_bytes())?,
+                Err(error) => write!(output, "<{error}>")?,
+            }
         }
         output.write_all(b"\n")?;
     }
     output.flush()
-}
-
-// Returns what is printed after the line, `None` after a comment or an empty line.
-fn printed(alloc: Global, line: &str) -> Option<String> {
-    if line.is_empty() || line.starts_with('#') {
-        return None;
-    }
-    match row::answer(alloc, line) {
-        Ok(text) => Some(text),
-        Err(error) => row::refusal(alloc, &error).ok(),
-    }
 }

@@ -6,6 +6,7 @@
 //! no bytes.
 
 use amqp_data::Error;
+use hex::FromHexError;
 use std::alloc::Global;
 
 /// Returns the bytes that the word denotes.
@@ -14,8 +15,7 @@ pub fn bytes_of(alloc: Global, word: &str) -> Result<Vec<u8>, Error> {
     if word == "-" {
         return Ok(bytes);
     }
-    let parts: Vec<&str> = word.split('+').collect(alloc)?;
-    for part in parts.iter().rev() {
+    for part in word.rsplit('+') {
         bytes = followed(alloc, part, &bytes)?;
     }
     Ok(bytes)
@@ -58,6 +58,7 @@ fn followed(alloc: Global, part: &str, rest: &[u8]) -> Result<Vec<u8>, Error> {
 fn digits_of(alloc: Global, digits: &str) -> Result<Vec<u8>, Error> {
     match hex::decode(alloc, digits.as_bytes()) {
         Ok(bytes) => Ok(bytes),
+        Err(FromHexError::OutOfMemory) => Err(Error::OutOfMemory),
         Err(_) => Err(Error::Message("no hexadecimal")),
     }
 }

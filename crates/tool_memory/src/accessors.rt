@@ -24,22 +24,18 @@ type Boxed = Box<u32>;
 /// # Errors
 /// Returns `OutOfMemory` if an allocation fails; any other error is a wrong result.
 pub fn all(alloc: Global) -> Result<bool, Error> {
-    Ok(elements(alloc)? && keys(alloc)? && entries(alloc)? && variants(alloc)? && written(alloc)?)
-}
-
-fn elements(alloc: Global) -> Result<bool, Error> {
     let values = vec![in alloc; Value::Uint(1), Value::Uint(2)]?;
-    are_one_and_two(alloc, &mut SeqAccess::new(alloc, values))
-}
-
-fn are_one_and_two<A: Elements>(alloc: Global, access: &mut A) -> Result<bool, A::Error> {
-    let first = access.next_element::<Boxed>(alloc)?;
-    let second = access.next_element_seed(alloc, TypeSeed(PhantomData::<Boxed>))?;
-    Ok(is(first, 1) && is(second, 2))
-}
-
-fn is(read: Option<Boxed>, number: u32) -> bool {
-    read.is_some_and(|read| *read == number)
+    let of = |number: u32| Deserializer::new(alloc, Value::Uint(number));
+    let boxed = Boxed::deserialize(alloc, of(1))?;
+    let variant = EnumAccessOf::new(of(1), Some(of(13)));
+    let other = EnumAccessOf::new(of(1), Some(of(13)));
+    Ok(
+        *boxed == 1
+            && are_one_and_two(alloc, &mut SeqAccess::new(alloc, values))?
+            && are_pairs(alloc, &mut pairs(alloc)?, &mut pairs(alloc)?)?
+            && are_variants(alloc, variant, other)?
+            && are_bytes(of(1), of(2), of(3))?,
+    )
 }
 
 fn pairs(alloc: Global) -> Result<MapAccess, Error> {
@@ -49,55 +45,36 @@ fn pairs(alloc: Global) -> Result<MapAccess, Error> {
     Ok(MapAccess::new(alloc, pairs))
 }
 
-fn keys(alloc: Global) -> Result<bool, Error> {
-    let mut access = pairs(alloc)?;
-    Ok(has_first(alloc, &mut access)? && has_second(alloc, &mut access)?)
+fn are_one_and_two<A: Elements>(alloc: Global, access: &mut A) -> Result<bool, A::Error> {
+    let first = access.next_element::<Boxed>(alloc)?;
+    let second = access.next_element_seed(alloc, TypeSeed(PhantomData::<Boxed>))?;
+    Ok(is(first, 1) && is(second, 2))
 }
 
-fn has_first<A: Entries>(alloc: Global, access: &mut A) -> Result<bool, A::Error> {
-    let key = access.next_key::<Boxed>(alloc)?;
-    Ok(is(key, 1) && *access.next_value::<Boxed>(alloc)? == 2)
+fn is(read: Option<Boxed>, number: u32) -> bool {
+    matches!(&read, Some(read) if **read == number)
 }
 
-fn has_second<A: Entries>(alloc: Global, access: &mut A) -> Result<bool, A::Error> {
-    let key = access.next_key_seed(alloc, TypeSeed(PhantomData::<Boxed>))?;
-    Ok(is(key, 3) && *access.next_value_seed(alloc, TypeSeed(PhantomData::<Boxed>))? == 4)
-}
-
-fn entries(alloc: Global) -> Result<bool, Error> {
-    are_two_pairs(alloc, &mut pairs(alloc)?)
-}
-
-fn are_two_pairs<A: Entries>(alloc: Global, access: &mut A) -> Result<bool, A::Error> {
-    let first = access.next_entry::<Boxed, Boxed>(alloc)?;
+// Reads the pairs of a map, and those of a map whose pairs are entries.
+fn are_pairs<A: Entries>(alloc: Global, keys: &mut A, entries: &mut A) -> Result<bool, A::Error> {
     let seed = || TypeSeed(PhantomData::<Boxed>);
-    let second = access.next_entry_seed(alloc, seed(), seed())?;
-    Ok(is_pair(first, 1, 2) && is_pair(second, 3, 4))
+    let first = is(keys.next_key::<Boxed>(alloc)?, 1) && *keys.next_value::<Boxed>(alloc)? == 2;
+    let second = is(keys.next_key_seed(alloc, seed())?, 3)
+        && *keys.next_value_seed(alloc, seed())? == 4;
+    let entry = entries.next_entry::<Boxed, Boxed>(alloc)?;
+    let other = entries.next_entry_seed(alloc, seed(), seed())?;
+    let are_entries = matches!(&entry, Some((key, value)) if **key == 1 && **value == 2)
+        && matches!(&other, Some((key, value)) if **key == 3 && **value == 4);
+    Ok(first && second && are_entries)
 }
 
-fn is_pair(read: Option<(Boxed, Boxed)>, key: u32, value: u32) -> bool {
-    read.is_some_and(|(k, v)| *k == key && *v == value)
-}
-
-// Returns the variant with index 1 and the number 13.
-fn variant(alloc: Global) -> EnumAccessOf<Deserializer> {
-    let index = Deserializer::new(alloc, Value::Uint(1));
-    EnumAccessOf::new(index, Some(Deserializer::new(alloc, Value::Uint(13))))
-}
-
-fn variants(alloc: Global) -> Result<bool, Error> {
-    Ok(is_variant(alloc, variant(alloc))? && is_variant_by_seed(alloc, variant(alloc))?)
-}
-
-fn is_variant<A: Enum>(alloc: Global, access: A) -> Result<bool, A::Error> {
-    let (index, content) = access.variant::<Boxed>(alloc)?;
-    Ok(*index == 1 && *content.newtype_variant::<Boxed>(alloc)? == 13)
-}
-
-fn is_variant_by_seed<A: Enum>(alloc: Global, access: A) -> Result<bool, A::Error> {
-    let (index, content) = access.variant_seed(alloc, TypeSeed(PhantomData::<Boxed>))?;
+// Reads two variants with index 1 and the number 13.
+fn are_variants<A: Enum>(alloc: Global, first: A, second: A) -> Result<bool, A::Error> {
+    let (index, content) = first.variant::<Boxed>(alloc)?;
+    let is_first = *index == 1 && *content.newtype_variant::<Boxed>(alloc)? == 13;
+    let (index, content) = second.variant_seed(alloc, TypeSeed(PhantomData::<Boxed>))?;
     let value = content.newtype_variant_seed(alloc, TypeSeed(PhantomData::<Boxed>))?;
-    Ok(*index == 1 && *value == 13)
+    Ok(is_first && *index == 1 && *value == 13)
 }
 
 /// Visitor that accepts the bytes of a lazy value.
@@ -122,26 +99,14 @@ impl Visitor for Bytes {
     }
 }
 
-fn written(alloc: Global) -> Result<bool, Error> {
-    let of = |number: u32| Deserializer::new(alloc, Value::Uint(number));
-    let boxed = Boxed::deserialize(alloc, of(1))?;
-    Ok(*boxed == 1 && is_written(of(1))? && is_marked(of(2))? && is_newtype(of(3))?)
-}
-
-fn is_written<D: Reads>(deserializer: D) -> Result<bool, D::Error> {
-    Ok(matches!(deserializer.deserialize_written(Bytes)?, Visit::Plain))
-}
-
-fn is_marked<D: Reads>(deserializer: D) -> Result<bool, D::Error> {
+fn are_bytes<D: Reads>(first: D, second: D, third: D) -> Result<bool, D::Error> {
+    let written = first.deserialize_written(Bytes)?;
+    let marked = second.deserialize_marked(Marker::Lazy, Bytes)?;
+    let newtype = third.deserialize_newtype_struct(markers::LAZY_VALUE, Bytes)?;
     Ok(matches!(
-        deserializer.deserialize_marked(Marker::Lazy, Bytes)?,
-        Visit::Plain
+        (written, marked, newtype),
+        (Visit::Plain, Visit::Plain, Visit::Plain)
     ))
-}
-
-fn is_newtype<D: Reads>(deserializer: D) -> Result<bool, D::Error> {
-    let read = deserializer.deserialize_newtype_struct(markers::LAZY_VALUE, Bytes)?;
-    Ok(matches!(read, Visit::Plain))
 }
 
 /// Reads 262,144 elements one at a time, and 1,024 pairs of a kibibyte each.
@@ -149,15 +114,19 @@ fn is_newtype<D: Reads>(deserializer: D) -> Result<bool, D::Error> {
 /// # Errors
 /// Returns `OutOfMemory` if an allocation fails; any other error is a wrong result.
 pub fn large(alloc: Global) -> Result<bool, Error> {
-    Ok(many_elements(alloc)? && many_entries(alloc)?)
-}
-
-fn many_elements(alloc: Global) -> Result<bool, Error> {
     let mut values = Vec::new(alloc);
     for number in 0..262_144u32 {
         values.push(Value::Uint(number))?;
     }
-    are_in_turn(alloc, &mut SeqAccess::new(alloc, values))
+    let mut pairs = OrderedMap::new(alloc);
+    for key in 0..1024u16 {
+        let bytes = ByteBuf::from(Vec::from_elem(alloc, 1u8, 1024)?);
+        drop(pairs.insert(Value::Ushort(key), Value::Binary(bytes))?);
+    }
+    Ok(
+        are_in_turn(alloc, &mut SeqAccess::new(alloc, values))?
+            && are_kibibytes(alloc, &mut MapAccess::new(alloc, pairs))?,
+    )
 }
 
 fn are_in_turn<A: Elements>(alloc: Global, access: &mut A) -> Result<bool, A::Error> {
@@ -167,15 +136,6 @@ fn are_in_turn<A: Elements>(alloc: Global, access: &mut A) -> Result<bool, A::Er
         }
     }
     Ok(access.next_element::<u32>(alloc)?.is_none())
-}
-
-fn many_entries(alloc: Global) -> Result<bool, Error> {
-    let mut pairs = OrderedMap::new(alloc);
-    for key in 0..1024u16 {
-        let bytes = ByteBuf::from(Vec::from_elem(alloc, 1u8, 1024)?);
-        drop(pairs.insert(Value::Ushort(key), Value::Binary(bytes))?);
-    }
-    are_kibibytes(alloc, &mut MapAccess::new(alloc, pairs))
 }
 
 fn are_kibibytes<A: Entries>(alloc: Global, access: &mut A) -> Result<bool, A::Error> {

@@ -1,7 +1,8 @@
 //! The calls that allocate, each with about a mebibyte of data.
 
+use crate::conversions::pairs;
 use crate::report::report;
-use crate::{accessors, conversions, own_types, reading, serializer, written};
+use crate::{accessors, conversions, own_types, serializer, written};
 use amqp_data::{Array, ByteBuf, Error, OrderedMap, Symbol, TransparentVec};
 use amqp_decode::{decode_value, decode_value_limited};
 use amqp_frame::{LazyValue, SliceReader};
@@ -11,7 +12,7 @@ use amqp_value::Value;
 use amqp_wire::{to_lazy_value, to_vec};
 use serde_amqp::{VecWriter, run_cut, run_lines};
 use std::alloc::Global;
-use std::collections::BTreeMap;
+use std::collections::{BTreeMap, HashMap};
 use std::str;
 
 /// Approximate size of the data of each call, in bytes.
@@ -23,92 +24,68 @@ pub const MEBIBYTE: usize = 1 << 20;
 /// Returns `OutOfMemory` if an allocation fails; any other error is a wrong result.
 pub fn all(rt: &(impl Print + AllocGlobal)) -> Result<(), Error> {
     let alloc = rt.alloc();
-    report(rt, "a long name", name(alloc)?);
-    report(rt, "a large map", map(alloc)?);
-    report(rt, "many elements", collected(alloc)?);
+    report(
+        rt,
+        "a long name, a large map and many elements",
+        data(alloc)?,
+    );
     report(rt, "long bytes", bytes(alloc)?);
-    report(rt, "many compounds", compounds(alloc)?);
-    report(rt, "many keys", keys(alloc)?);
+    report(rt, "many compounds and many keys", compounds(alloc)?);
     report(rt, "large conversions", conversions::large(alloc)?);
     report(rt, "a long frame", frame(alloc)?);
     report(rt, "a long frame decoded", decoded(alloc)?);
-    report(rt, "a long frame decoded within a bound", within(alloc)?);
-    report(rt, "many values read", read(alloc)?);
+    report(rt, "large lists read", lists(alloc)?);
+    report(rt, "large maps read", maps(alloc)?);
+    report(rt, "large types of one's own", own_types::large(alloc)?);
     report(
         rt,
-        "large types out of values",
-        reading::large_types(alloc)?,
+        "many parts serialized one by one",
+        serializer::large(alloc)?,
     );
-    report(rt, "a long lazy value", lazy(alloc)?);
-    report(rt, "a long value held as a lazy value", held(alloc)?);
-    report(rt, "large values that come back", own_types::large(alloc)?);
-    report(
-        rt,
-        "large types of one's own",
-        own_types::large_composites(alloc)?,
-    );
-    report(rt, "many parts fed by hand", serializer::large(alloc)?);
     report(rt, "many elements and entries", accessors::large(alloc)?);
-    report(rt, "a long line", line(alloc)?);
-    report(rt, "a run over a long frame", run_of_frame(alloc)?);
+    report(rt, "a run over a long line", run_over_line(alloc)?);
+    report(rt, "a run over a long frame", run_over_frame(alloc)?);
     Ok(())
 }
 
-fn name(alloc: Global) -> Result<bool, Error> {
+fn data(alloc: Global) -> Result<bool, Error> {
     let bytes = Vec::from_elem(alloc, b'a', MEBIBYTE)?;
     let Ok(text) = str::from_utf8(&bytes) else {
         return Ok(false);
     };
     let symbol = Symbol::try_from_str(alloc, text)?;
-    Ok(symbol.as_inner().as_str() == text)
-}
-
-fn map(alloc: Global) -> Result<bool, Error> {
     let mut map = OrderedMap::new(alloc);
     for key in 0..1024u16 {
         drop(map.insert(key, [1u8; 1024])?);
     }
-    Ok(map.len() == 1024)
-}
-
-fn collected(alloc: Global) -> Result<bool, Error> {
     let vector = TransparentVec::try_collect(alloc, 0..262_144u32)?;
-    Ok(vector.as_slice().len() == 262_144)
+    let is_name = symbol.as_inner().as_str() == text;
+    Ok(is_name && map.len() == 1024 && vector.as_slice().len() == 262_144)
 }
 
 fn bytes(alloc: Global) -> Result<bool, Error> {
     let binary = ByteBuf::from(Vec::from_elem(alloc, 1u8, MEBIBYTE)?);
     let is_long = written::begins(alloc, &binary, &[0xb0, 0, 0x10, 0, 0, 1], MEBIBYTE + 5)?;
-    Ok(is_long && is_made_again(alloc, binary)?)
-}
-
-fn is_made_again(alloc: Global, binary: ByteBuf) -> Result<bool, Error> {
     let image = to_value(alloc, &binary)?;
-    Ok(Value::try_from_serializable(alloc, &image)? == Value::Binary(binary))
+    Ok(is_long && Value::try_from_serializable(alloc, &image)? == Value::Binary(binary))
 }
 
-// More than a mebibyte of headers and of values.
+// More than a mebibyte of headers and of values; keys in ascending order; and keys in descending
+// order, for which the table of positions is allocated too.
 fn compounds(alloc: Global) -> Result<bool, Error> {
     let lists = Array::from(Vec::from_elem(alloc, (1u8,), 100_000)?);
     let header: &[u8] = &[0xf0, 0, 0x0f, 0x42, 0x45, 0, 1, 0x86, 0xa0, 0xd0];
-    Ok(written::begins(alloc, &lists, header, 1_000_010)? && written::are_equal(alloc, &lists)?)
-}
-
-fn keys(alloc: Global) -> Result<bool, Error> {
-    let mut map = BTreeMap::new(alloc);
+    let mut ascending = BTreeMap::new(alloc);
     for key in 0..20_000u32 {
-        drop(map.insert(key, ())?);
+        drop(ascending.insert(key, ())?);
     }
-    Ok(written::are_equal(alloc, &map)? && descending_keys(alloc)?)
-}
-
-// Keys in descending order, for which the table of positions is allocated too.
-fn descending_keys(alloc: Global) -> Result<bool, Error> {
-    let mut map = OrderedMap::new(alloc);
+    let mut descending = OrderedMap::new(alloc);
     for key in 0..4_000u16 {
-        drop(map.insert(u16::MAX - key, ())?);
+        drop(descending.insert(u16::MAX - key, ())?);
     }
-    written::are_equal(alloc, &map)
+    let keys = written::are_equal(alloc, &ascending)? && written::are_equal(alloc, &descending)?;
+    let is_headed = written::begins(alloc, &lists, header, 1_000_010)?;
+    Ok(keys && is_headed && written::are_equal(alloc, &lists)?)
 }
 
 // Returns an encoded binary of a mebibyte.
@@ -120,54 +97,52 @@ fn long_frame(alloc: Global) -> Result<Vec<u8>, Error> {
     Ok(frame)
 }
 
+// Reads a lazy value, and makes it of a binary and of an untyped value.
 fn frame(alloc: Global) -> Result<bool, Error> {
     let bytes = long_frame(alloc)?;
-    let value = LazyValue::from_reader(alloc, &mut SliceReader::new(&bytes))?;
-    Ok(value.try_into_vec(alloc)? == bytes)
+    let lazy = LazyValue::from_reader(alloc, &mut SliceReader::new(&bytes))?;
+    let binary = ByteBuf::from(Vec::from_elem(alloc, 1u8, MEBIBYTE)?);
+    let of_binary = to_lazy_value(alloc, &binary)?;
+    let of_value: LazyValue = from_value(alloc, to_value(alloc, &lazy)?)?;
+    Ok(of_binary == lazy && of_value == lazy && lazy.try_into_vec(alloc)? == bytes)
 }
 
+// Decodes a binary of a mebibyte, also with a limit of 0 elements without bytes, and nulls whose
+// values occupy a mebibyte with a limit of their number and of one less.
 fn decoded(alloc: Global) -> Result<bool, Error> {
     let bytes = long_frame(alloc)?;
-    written::is(alloc, &decode_value(alloc, &bytes)?, &bytes)
-}
-
-// Decodes a binary of a mebibyte with a limit of 0 elements without bytes, and nulls whose values
-// occupy a mebibyte with a limit of their number and of one less.
-fn within(alloc: Global) -> Result<bool, Error> {
-    let bytes = long_frame(alloc)?;
-    let value = decode_value_limited(alloc, &bytes, 0)?;
-    Ok(nulls(alloc)? && written::is(alloc, &value, &bytes)?)
-}
-
-fn nulls(alloc: Global) -> Result<bool, Error> {
+    let value = decode_value(alloc, &bytes)?;
+    let limited = decode_value_limited(alloc, &bytes, 0)?;
     let nulls = b"\xf0\0\0\0\x05\0\0\x80\0\x40";
     let granted = decode_value_limited(alloc, nulls, 32_768)?;
     let all = matches!(&granted, Value::Array(items) if items.as_inner().len() == 32_768);
-    Ok(all && own_types::is_out_of_memory(alloc, nulls, 32_767))
+    let refused = decode_value_limited(alloc, nulls, 32_767);
+    let is_refused = matches!(&refused, Err(Error::OutOfMemory));
+    Ok(all && is_refused && value == limited && written::is(alloc, &value, &bytes)?)
 }
 
-// Decodes an array of numbers of a mebibyte, and reads it as numbers.
-fn read(alloc: Global) -> Result<bool, Error> {
+// Decodes an array of numbers of a mebibyte, and reads numbers as each type of list.
+fn lists(alloc: Global) -> Result<bool, Error> {
     let numbers = Array::from(Vec::from_elem(alloc, 7u32, 262_144)?);
     let bytes = to_vec(alloc, &numbers)?;
-    let read: Array<u32> = from_value(alloc, decode_value(alloc, &bytes)?)?;
-    Ok(read == numbers)
+    let array: Array<u32> = from_value(alloc, decode_value(alloc, &bytes)?)?;
+    let value = Value::try_from_vec(alloc, numbers.into_inner())?;
+    let list: Vec<u32> = from_value(alloc, value)?;
+    let vector: TransparentVec<u32> = from_value(alloc, to_value(alloc, &list)?)?;
+    let are_lists = list.len() == 262_144 && vector.as_slice() == list.as_slice();
+    Ok(are_lists && array.as_inner().as_slice() == list.as_slice())
 }
 
-fn lazy(alloc: Global) -> Result<bool, Error> {
-    let bytes = long_frame(alloc)?;
-    let held = LazyValue::from_reader(alloc, &mut SliceReader::new(&bytes))?;
-    let read: LazyValue = from_value(alloc, to_value(alloc, &held)?)?;
-    Ok(read == held)
+// Reads pairs of a mebibyte as each type of map.
+fn maps(alloc: Global) -> Result<bool, Error> {
+    let value = Value::try_from_btree_map(alloc, pairs(alloc)?)?;
+    let sorted: BTreeMap<u16, ByteBuf> = from_value(alloc, value)?;
+    let ordered: OrderedMap<u16, ByteBuf> = from_value(alloc, to_value(alloc, &sorted)?)?;
+    let hashed: HashMap<u16, ByteBuf> = from_value(alloc, to_value(alloc, &sorted)?)?;
+    Ok(sorted == pairs(alloc)? && ordered.len() == 1024 && hashed.len() == 1024)
 }
 
-fn held(alloc: Global) -> Result<bool, Error> {
-    let binary = ByteBuf::from(Vec::from_elem(alloc, 1u8, MEBIBYTE)?);
-    let held = to_lazy_value(alloc, &binary)?;
-    Ok(held.as_slice() == long_frame(alloc)?.as_slice())
-}
-
-fn line(alloc: Global) -> Result<bool, Error> {
+fn run_over_line(alloc: Global) -> Result<bool, Error> {
     let mut writer = VecWriter::new(alloc);
     let input = Vec::from_elem(alloc, b'a', MEBIBYTE)?;
     run_lines(alloc, &mut SliceReader::new(&input), &mut writer)?;
@@ -176,7 +151,7 @@ fn line(alloc: Global) -> Result<bool, Error> {
     Ok(starts && printed.ends_with(b"aa\"]\n") && printed.len() == 3_145_786)
 }
 
-fn run_of_frame(alloc: Global) -> Result<bool, Error> {
+fn run_over_frame(alloc: Global) -> Result<bool, Error> {
     let mut writer = VecWriter::new(alloc);
     let bytes = long_frame(alloc)?;
     run_cut(alloc, &mut SliceReader::new(&bytes), &mut writer)?;

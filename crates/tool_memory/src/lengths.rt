@@ -36,38 +36,22 @@ const COUNTS: [&[u8]; 3] = [
 /// # Errors
 /// Returns `OutOfMemory` if an allocation fails; any other error is a wrong result.
 pub fn all(rt: &(impl Print + AllocGlobal)) -> Result<(), Error> {
+    let alloc = rt.alloc();
     for frame in FRAMES {
-        report(rt, "a false length", is_end(taken(rt, frame))?);
-        report(rt, "a false length in a run", is_end(run(rt, frame))?);
+        let taken = LazyValue::from_reader(alloc, &mut SliceReader::new(frame));
+        report(rt, "a false length", is_end(taken)?);
+        let mut reader = SliceReader::new(frame);
+        let answer = run_cut(alloc, &mut reader, &mut VecWriter::new(alloc));
+        report(rt, "a false length in a run", is_end(answer)?);
     }
     for value in COUNTS {
-        report(rt, "a false count", is_end(decoded(rt, value))?);
+        report(rt, "a false count", is_end(decode_value(alloc, value))?);
     }
-    Ok(())
-}
-
-fn taken(rt: &impl AllocGlobal, frame: &[u8]) -> Result<(), Error> {
-    let mut reader = SliceReader::new(frame);
-    LazyValue::from_reader(rt.alloc(), &mut reader)?;
-    Ok(())
-}
-
-fn run(rt: &impl AllocGlobal, frame: &[u8]) -> Result<(), Error> {
-    let alloc = rt.alloc();
-    run_cut(
-        alloc,
-        &mut SliceReader::new(frame),
-        &mut VecWriter::new(alloc),
-    )
-}
-
-fn decoded(rt: &impl AllocGlobal, bytes: &[u8]) -> Result<(), Error> {
-    decode_value(rt.alloc(), bytes)?;
     Ok(())
 }
 
 // Returns whether the result is `UnexpectedEof`; `OutOfMemory` is returned as an error.
-fn is_end(answer: Result<(), Error>) -> Result<bool, Error> {
+fn is_end<T: Drop>(answer: Result<T, Error>) -> Result<bool, Error> {
     match answer {
         Err(Error::UnexpectedEof) => Ok(true),
         Err(Error::OutOfMemory) => Err(Error::OutOfMemory),

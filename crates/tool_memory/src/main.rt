@@ -1,28 +1,33 @@
-//! Makes the calls that allocate, and prints a line after each.
+//! Makes calls that allocate, and prints a line after each.
 //!
 //! `tools/memory` runs the part `calls` once for each of its allocations, with that allocation
 //! failing. The call that allocates must return `OutOfMemory`, and the program must end with status
 //! 1, unless the failed call is repeated. Any other result is visible as different output. The
-//! first argument selects one part: `calls`, `lengths`, `deep`, `large`, or `none`, whose calls do
-//! not allocate.
+//! first argument selects one part: `calls`, `lengths`, `large`, or `none`, whose calls do not
+//! allocate.
 //!
-//! Each public call that allocates is in this table, next to the line that is printed after it;
-//! `tools/memory` checks that none is missing.
+//! The file `rows` has more calls that allocate: rows of the program `test_rows`, which
+//! `tools/memory` runs once for each of their allocations too. Those of `deep_rows` read deep and
+//! wide values.
 //!
-//! | Line | Calls |
+//! Each public call that allocates is in this table, next to the line that is printed after it, or
+//! to the rows that make it; `tools/memory` checks that none is missing.
+//!
+//! | Line, or rows | Calls |
 //! |---|---|
-//! | names | `Symbol::try_from_str` |
-//! | maps | `OrderedMap::new`, `OrderedMap::insert` |
-//! | what an iterator gives | `TransparentVec::try_collect` |
-//! | bytes, refused values fed again | `to_vec`, `Serialize::serialize`, `Value::serialize` |
-//! | images | `to_value`, `TryFromSerializable::try_from_serializable`, `Serializer::new` |
-//! | frames | `LazyValue::from_reader`, `LazyValue::try_into_vec`, `to_lazy_value` |
+//! | names, maps and vectors | `Symbol::try_from_str`, `TransparentVec::try_collect` |
+//! | the same | `OrderedMap::new`, `OrderedMap::insert` |
+//! | rows of read, refused elements | `to_vec`, `Serialize::serialize`, `Value::serialize` |
+//! | rows of read and write | `to_value`, `Serializer::new` |
+//! | frames, rows of lazy and hold | `LazyValue::from_reader`, `to_lazy_value` |
+//! | frames | `LazyValue::try_into_vec` |
 //! | conversions | `Value::try_from_str`, `Value::try_from_described`, `Value::try_from_array`, `Value::try_from_vec` |
 //! | the same | `Value::try_from_btree_map`, `Value::try_from_ordered_map`, `Vec::try_from`, `Array::try_from` |
 //! | the same | `OrderedMap::try_from`, `BTreeMap::try_from`, `HashMap::try_from`, `IndexMap::try_from` |
-//! | decoded values, types of one's own | `decode_value`, `decode_value_limited` |
-//! | images, decoded values | `MapBuilder::new`, `MapBuilder::into_value` |
-//! | types out of values, lazy values | `from_value`, `Deserializer::new` |
+//! | the same | `TryFromSerializable::try_from_serializable` |
+//! | rows of decode and decode_within | `decode_value`, `decode_value_limited` |
+//! | rows of decode and read | `MapBuilder::new`, `MapBuilder::into_value` |
+//! | rows of read | `from_value`, `Deserializer::new` |
 //! | types of one's own | `round_trip`, `read`, `read_composite`, `read_described`, `TypeSeed::deserialize`, `ListSeed::deserialize`, `NamedSeed::deserialize` |
 //! | the same | `read_map`, `read_described_map` |
 //! | the same | `FieldSeeds::read_elements`, `Required::read_elements`, `Optional::read_elements`, `Elements::new` |
@@ -52,14 +57,10 @@
 mod accessors;
 mod again;
 mod calls;
-mod composites;
 mod conversions;
-mod deep;
 mod large;
-mod lazy;
 mod lengths;
 mod own_types;
-mod reading;
 mod refused;
 mod report;
 mod runs;
@@ -91,8 +92,6 @@ fn main(rt: HostRuntime) -> ExitCode {
 fn make(rt: &(impl Print + AllocGlobal), part: &[u8]) -> Result<(), Error> {
     if part.is_empty() || part == b"calls".as_slice() {
         calls::all(rt)?;
-        composites::all(rt)?;
-        runs::all(rt)?;
     }
     if part.is_empty() || part == b"none".as_slice() {
         without::all(rt);
@@ -100,9 +99,6 @@ fn make(rt: &(impl Print + AllocGlobal), part: &[u8]) -> Result<(), Error> {
     if part.is_empty() || part == b"lengths".as_slice() {
         lengths::all(rt)?;
         refused::all(rt)?;
-    }
-    if part.is_empty() || part == b"deep".as_slice() {
-        deep::all(rt)?;
     }
     if part.is_empty() || part == b"large".as_slice() {
         large::all(rt)?;

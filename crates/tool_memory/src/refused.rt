@@ -46,7 +46,7 @@ pub fn all(rt: &(impl Print + AllocGlobal)) -> Result<(), Error> {
 fn after_refusals<T: Serialize>(alloc: Global, value: &T) -> Result<bool, Error> {
     let mut serializer = Serializer::new(alloc);
     for _ in 0..100_000u32 {
-        match after_one(&mut serializer, value) {
+        match serializer.serialize_described(&1u64, value) {
             Err(Error::InvalidValue) => {}
             Err(error) => return Err(error),
             Ok(_) => return Ok(false),
@@ -57,10 +57,5 @@ fn after_refusals<T: Serialize>(alloc: Global, value: &T) -> Result<bool, Error>
         value: Value::Bool(true),
     };
     let expected = Value::Described(Box::new(alloc, described)?);
-    Ok(after_one(&mut serializer, &true)? == expected)
-}
-
-// Serializes the value after the descriptor 1.
-fn after_one<S: Calls, T: Serialize>(serializer: &mut S, value: &T) -> Result<S::Ok, S::Error> {
-    serializer.serialize_described(&1u64, value)
+    Ok(serializer.serialize_described(&1u64, &true)? == expected)
 }

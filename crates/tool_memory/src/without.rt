@@ -9,34 +9,22 @@ use amqp_value::Value;
 
 /// Makes each call once.
 pub fn all(rt: &impl Print) {
-    report(rt, "sizes", sizes());
-    report(rt, "widths", widths());
-    report(rt, "lengths of frames", frames());
-    report(rt, "format codes", codes());
-    report(rt, "dates", civil_from_days(0) == (1970, 1, 1));
-}
-
-fn sizes() -> bool {
-    serialized_size(&("a", -1i64)) == Ok(8)
+    let sizes = serialized_size(&("a", -1i64)) == Ok(8)
         && serialized_size(&([0u32, 256], Some(true))) == Ok(13)
         && serialized_size(&SymbolRef::from("k")) == Ok(3)
-        && serialized_size(&(Timestamp::from_milliseconds(1), ())) == Ok(13)
-}
-
-fn widths() -> bool {
-    width::text_len(255, false) == Ok(260)
+        && serialized_size(&(Timestamp::from_milliseconds(1), ())) == Ok(13);
+    report(rt, "sizes", sizes);
+    let widths = width::text_len(255, false) == Ok(260)
         && width::list_len(254, false) == Ok(257)
         && width::map_len(0, true) == Ok(8)
-        && width::array_len(1, 256, false) == Ok(10)
-}
-
-fn frames() -> bool {
-    frame_len(b"\x50\x01\x40") == Some(2)
+        && width::array_len(1, 256, false) == Ok(10);
+    report(rt, "widths", widths);
+    let frames = frame_len(b"\x50\x01\x40") == Some(2)
         && frame_len(b"\x00\xb0\xff\xff\xff\xff").is_none()
         && is_frame(b"\x00\xa1\x01a\x45")
-        && !is_frame(b"\x40\x40")
-}
-
-fn codes() -> bool {
-    Value::Bool(true).format_code() == 0x56 && Value::Null.format_code() == 0x40
+        && !is_frame(b"\x40\x40");
+    report(rt, "lengths of frames", frames);
+    let codes = Value::Bool(true).format_code() == 0x56 && Value::Null.format_code() == 0x40;
+    report(rt, "format codes", codes);
+    report(rt, "dates", civil_from_days(0) == (1970, 1, 1));
 }

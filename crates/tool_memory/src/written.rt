@@ -29,14 +29,6 @@ pub fn begins<T: Serialize>(
     Ok(written.starts_with(bytes) && written.len() == len)
 }
 
-/// Returns whether these bytes are the encoding of the value and of its image.
-///
-/// # Errors
-/// Returns `OutOfMemory` if an allocation fails; any other error is a wrong result.
-pub fn are<T: Serialize>(alloc: Global, value: &T, bytes: &[u8]) -> Result<bool, Error> {
-    Ok(is(alloc, value, bytes)? && is(alloc, &to_value(alloc, value)?, bytes)?)
-}
-
 /// Returns whether the image of the value has the same encoding as the value.
 ///
 /// # Errors

@@ -1,0 +1,73 @@
+"""Runs the program test_rows once for each of its allocations, with that one failing.
+
+    python3 tools/memory_rows.py SHIM    SHIM is tools/refuse_alloc.c, compiled
+
+The input is crates/tool_memory/rows. Each of its lines is a row of crates/test_rows/stdin too, and must have the result of
+crates/test_rows/stdout while no allocation fails. The first allocations hold the input and the output as a whole: while one of them
+fails, the program must print nothing and end with status 1. While any other one fails, it must end with status 0, and one line must
+differ: it must have `<out of memory>` in place of its result or of a part of it.
+
+The rows of crates/tool_memory/deep_rows read deep and wide values of about a mebibyte. They must have their results while each
+allocation of more than 16 MiB fails.
+"""
+
+import os
+import subprocess
+import sys
+from pathlib import Path
+
+ROOT = Path(__file__).resolve().parent.parent / "crates"
+REFUSED = "<out of memory>"
+
+
+def run(rows, **refused):
+    """The status, the standard output and the standard error of the program."""
+    shim = os.environ | {"LD_PRELOAD": sys.argv[1]} | refused
+    done = subprocess.run([ROOT / "test_rows/out/test_rows"], input=rows, capture_output=True, text=True, env=shim)
+    return done.returncode, done.stdout, done.stderr
+
+
+def wrong(words):
+    sys.exit(f"test_rows: {words}")
+
+
+def rows_of(name):
+    """The rows of a file of tool_memory, and the lines that they must print."""
+    source, results = ((ROOT / "test_rows" / part).read_text().splitlines() for part in ("stdin", "stdout"))
+    result = dict(zip(source, results))
+    rows = (ROOT / "tool_memory" / name).read_text().splitlines()
+    for row in rows:
+        if row not in result:
+            wrong(f"{row} stands in tool_memory/{name}, and not in test_rows/stdin")
+    return "".join(f"{row}\n" for row in rows), "".join(f"{result[row]}\n" for row in rows)
+
+
+def is_refused(line, full):
+    """Whether the line is the full one with out of memory in place of its result or of a part of it."""
+    before, found, after = line.partition(REFUSED)
+    is_whole = full.startswith(before) and full.endswith(after) and len(before) + len(after) <= len(full)
+    return bool(found) and is_whole and before.startswith(full.partition(" = ")[0] + " = ")
+
+
+def main():
+    rows, expected = rows_of("deep_rows")
+    if run(rows, REFUSE_PAST="16777216")[:2] != (0, expected):
+        wrong("deep or wide values of a mebibyte take more than 16 MiB at once, or have other results")
+    rows, expected = rows_of("rows")
+    status, printed, requests = run(rows, REFUSE="0")
+    first, lines = 0, expected.splitlines()
+    if (status, printed) != (0, expected):
+        wrong(f"with no allocation failing the results are wrong (status {status}): {set(printed.splitlines()) - set(lines)}")
+    for number in range(1, int(requests) + 1):
+        status, printed, _ = run(rows, REFUSE=str(number))
+        if (status, printed, first) == (1, "", number - 1):
+            first = number
+            continue
+        changed = [(line, full) for line, full in zip(printed.splitlines(), lines) if line != full]
+        is_right = status == 0 and printed.count("\n") == len(lines) and len(changed) == 1
+        if not is_right or not is_refused(*changed[0]):
+            wrong(f"allocation {number} failed, and the lines that changed are wrong (status {status}): {changed or printed}")
+    print(f"of {requests.strip()} allocations of test_rows, each failing in turn, {first} ended the program and all others one call")
+
+
+main()
