@@ -22,16 +22,20 @@ pub fn write(alloc: Global, name: &str) -> Result<String, Error> {
         "end_after_a_key" => results(alloc, &KeyAlone("a")),
         "end_without_a_field" => results(alloc, &NoField),
         "after_a_str" => results(alloc, &("a", NoTree)),
-        "marked_twice" => results(alloc, &symbol_of(symbol_of("a"))),
+        "marked_twice" => results(alloc, &marked_twice(alloc)?),
         _ => no_sample(),
     }
 }
 
-fn symbol_of<T>(value: T) -> Newtype<T> {
-    Newtype {
+// Returns a text with the symbol marker, which has the symbol marker again and has no tree.
+fn marked_twice(alloc: Global) -> Result<Newtype<Newtype<String>>, Error> {
+    Ok(Newtype {
         name: markers::SYMBOL,
-        value,
-    }
+        value: Newtype {
+            name: markers::SYMBOL,
+            value: String::from_str(alloc, "a")?,
+        },
+    })
 }
 
 /// Serializes an element; fails if the element has no tree.
@@ -61,7 +65,11 @@ impl Serialize for RefusedElement {
     fn serialize<S: Serializer>(&self, serializer: &mut S) -> Result<S::Ok, S::Error> {
         let mut list = serializer.begin_compound(CompoundKind::List);
         element(serializer, &mut list, &self.0)?;
-        match element(serializer, &mut list, &symbol_of(self.1)) {
+        let number = Newtype {
+            name: markers::SYMBOL,
+            value: self.1,
+        };
+        match element(serializer, &mut list, &number) {
             Ok(()) => unreachable!(),
             Err(_) => {}
         }
