@@ -15,14 +15,15 @@ const HELLO: &[u8] = b"\xa1\x0dHello, World!";
 
 /// Returns the results of a value with lazy values in it.
 pub fn write(alloc: Global, name: &str) -> Result<String, Error> {
-    let null = &lazy_of(alloc, b"\x40")?;
+    let null = lazy_of(alloc, b"\x40")?;
+    let yes = lazy_of(alloc, b"\x41")?;
     match name {
         "described" => results(alloc, &coded(1, null)),
         "described_twice" => results(alloc, &coded(2, coded(1, null))),
         "described_in_a_list" => results(alloc, &vec![in alloc; coded(1, null)]?),
-        "in_a_map" => in_a_map(alloc),
+        "in_a_map" => results(alloc, &pairs(alloc, [(null, yes)])?),
         "in_a_variant" => results(alloc, &VariantOf(1, fields! { "it": null })),
-        "in_a_transparent_vector" => in_a_transparent_vector(alloc),
+        "in_a_transparent_vector" => results(alloc, &of(alloc, [null, yes])?),
         "two_in_a_list" => {
             let two = vec![in alloc; lazy_of(alloc, b"\x43")?, lazy_of(alloc, b"\x50\x01")?]?;
             results(alloc, &two)
@@ -48,7 +49,7 @@ fn in_a_transparent_vector(alloc: Global) -> Result<String, Error> {
 }
 
 // Returns the results of a value with a lazy value in a place that refuses it.
-fn refused(alloc: Global, name: &str, null: &LazyValue) -> Result<String, Error> {
+fn refused(alloc: Global, name: &str, null: LazyValue) -> Result<String, Error> {
     match name {
         "unknown_code_in_a_list" => {
             let two = vec![in alloc; lazy_of(alloc, b"\x43")?, lazy_of(alloc, b"\x46")?]?;
@@ -56,7 +57,7 @@ fn refused(alloc: Global, name: &str, null: &LazyValue) -> Result<String, Error>
         }
         "in_an_array" => results(alloc, &Array::from(vec![in alloc; null]?)),
         "in_an_array_in_a_list" => {
-            let array = Array::from(vec![in alloc; null, null]?);
+            let array = Array::from(vec![in alloc; null, lazy_of(alloc, b"\x40")?]?);
             results(alloc, &vec![in alloc; array]?)
         }
         "described_in_an_array" => results(alloc, &Array::from(vec![in alloc; coded(1, null)]?)),

@@ -21,20 +21,21 @@ pub fn write(alloc: Global, name: &str) -> Result<String, Error> {
         "second_key" => results(alloc, &RefusedKey("a", "b", 1)),
         "end_after_a_key" => results(alloc, &KeyAlone("a")),
         "end_without_a_field" => results(alloc, &NoField),
-        "after_a_str" => results(alloc, &(String::from_str(alloc, "a")?, NoTree)),
-        "marked_twice" => {
-            let text = String::from_str(alloc, "a")?;
-            results(alloc, &symbol_of(symbol_of(text)))
-        }
+        "after_a_str" => results(alloc, &("a", NoTree)),
+        "marked_twice" => results(alloc, &marked_twice(alloc)?),
         _ => no_sample(),
     }
 }
 
-fn symbol_of<T>(value: T) -> Newtype<T> {
-    Newtype {
+// Returns a text with the symbol marker, which has the symbol marker again and has no tree.
+fn marked_twice(alloc: Global) -> Result<Newtype<Newtype<String>>, Error> {
+    Ok(Newtype {
         name: markers::SYMBOL,
-        value,
-    }
+        value: Newtype {
+            name: markers::SYMBOL,
+            value: String::from_str(alloc, "a")?,
+        },
+    })
 }
 
 /// Serializes an element; fails if the element has no tree.
@@ -66,7 +67,7 @@ impl Serialize for RefusedElement {
         element(serializer, &mut list, &self.0)?;
         let number = Newtype {
             name: markers::SYMBOL,
-            value: &self.1,
+            value: self.1,
         };
         match element(serializer, &mut list, &number) {
             Ok(()) => unreachable!(),
