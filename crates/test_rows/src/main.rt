@@ -15,7 +15,7 @@
 //! | `cut BYTES` | the result of each call of `LazyValue::from_reader` until no byte is left |
 //! | `prefixes BYTES` | the number of proper prefixes, and of incomplete ones |
 //! | `read TYPE BYTES` | the value as this type: its results |
-//! | `readers BYTES` | the scalar types that read the value |
+//! | `readers BYTES` | the scalar types that read the value; for all others it is invalid |
 //! | `parts READER BYTES` | the value by this reader (`parts`, `visitors`): its `Debug` text |
 //! | `visit CALL BYTES` | the visit that this call of a deserializer makes (`visits`) |
 //! | `write FAMILY NAME` | the sample with this name (`samples`): its results |

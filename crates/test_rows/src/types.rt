@@ -44,13 +44,18 @@ pub fn read(alloc: Global, arguments: &str) -> Result<String, Error> {
     by_name(alloc, name, &bytes_of(alloc, bytes)?)
 }
 
-/// Returns the names of the scalar types that read the value, or `none`.
+/// Returns the names of the scalar types that read the value, or `none`. Any error other than
+/// `InvalidValue` is returned.
 pub fn readers(alloc: Global, bytes: &[u8]) -> Result<String, Error> {
     let mut names = String::new(alloc);
     for name in &SCALARS {
-        if by_name(alloc, *name, bytes).is_ok() {
-            names.push_str(if names.is_empty() { "" } else { " " })?;
-            names.push_str(*name)?;
+        match by_name(alloc, *name, bytes) {
+            Ok(_) => {
+                names.push_str(if names.is_empty() { "" } else { " " })?;
+                names.push_str(*name)?;
+            }
+            Err(Error::InvalidValue) => {}
+            Err(error) => return Err(error),
         }
     }
     if names.is_empty() {
