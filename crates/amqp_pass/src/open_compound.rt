@@ -4,7 +4,7 @@ ghost use Rattle.std.specs.Prelude.{◌≡◌, ◌<◌, ◌+◌, ◌≤◌, ℕ,
 ghost use Rattle.amqp_pass.specs.Position.{limit_of};
 
 use crate::context::Context;
-use crate::limits::{MAX_COUNT, MAX_LEN};
+use crate::limits::{MAX_COUNT, MAX_LEN, add_within};
 use crate::position::Position;
 use crate::resolved_kind::ResolvedKind;
 use crate::size_error::SizeError;
@@ -205,11 +205,9 @@ impl OpenCompound {
         ensures inner_context { self.new.inner_context ≡ self.old.inner_context }
         ensures count { self.new.count ≡ self.old.count }
     {
-        if size > limit - self.sum {
-            return Err(SizeError::TooLong);
-        }
+        let sum = add_within(self.sum, size, limit)?;
         self.before_last = self.sum;
-        self.sum += size;
+        self.sum = sum;
         Ok(())
     }
 
@@ -244,16 +242,13 @@ impl OpenCompound {
                 1,
             _ => 0,
         };
-        let most = MAX_LEN - self.sum;
-        if size > most || opened > most - size {
-            return Err(SizeError::TooLong);
-        }
+        let sum = add_within(add_within(self.sum, size, MAX_LEN)?, opened, MAX_LEN)?;
         if self.count >= MAX_COUNT {
             return Err(SizeError::TooLong);
         }
         self.count += 1;
         self.before_last = self.sum;
-        self.sum = self.sum + size + opened;
+        self.sum = sum;
         self.inner_context = after;
         Ok(())
     }
