@@ -17,7 +17,7 @@ pub struct OpenCompound {
     position: Position,
     resolved_kind: ResolvedKind,
     inner_context: Context,
-    /// Length of the descriptors before the value, if `position` or `inner_context` is after a descriptor.
+    /// Length of the descriptors before the value, if `position` or `inner_context` is after one.
     prefix_len: usize,
     sum: usize,
     before_last: usize,
@@ -50,7 +50,7 @@ impl OpenCompound {
     ghost use Rattle.amqp_pass.specs.AddPart.{constructor_len_in, PassesLimit, Undescribed};
     ghost use Rattle.amqp_pass.specs.Position.{position_of, without_prefix, element_constructor, is_array, is_gathered, inner_context_of, described_context};
 
-    /// Returns an empty compound of this shape at this position.
+    /// Returns an empty compound of this kind at this position.
     #[inline(always)]
     pub fn new(context: Context, prefix_len: usize, resolved_kind: ResolvedKind) -> OpenCompound
         ensures position { result.position ≡ position_of (context_at context prefix_len) }
@@ -113,8 +113,8 @@ impl OpenCompound {
         self.inner_context
     }
 
-    /// Returns the length of the descriptors before the value, if `position` or `inner_context` is after a
-    /// descriptor.
+    /// Returns the length of the descriptors before the value, if `position` or `inner_context` is
+    /// after one.
     #[inline(always)]
     pub fn prefix_len(&self) -> usize
         ensures { result ≡ self.now.prefix_len }

@@ -118,8 +118,7 @@ impl Writer {
             (marked_bytes marker bytes.now) result self.new.output }
     {
         match marker {
-            // The same test as in the first pass: `IsAccepted` is required of each call in this pass
-            // too.
+            // The same test as in the first pass, because this pass must accept the same calls.
             ScalarMarker::Lazy => {
                 if is_frame(bytes) {
                     self.lazy(position, bytes)
