@@ -7,3 +7,4 @@ pub mod ScalarEncoding
 pub mod Width
 pub mod Position
 pub mod AddPart
+pub mod MarkedBytes

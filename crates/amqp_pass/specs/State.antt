@@ -28,7 +28,7 @@ context_at (kept_context.Nothing p) h = Nothing (position_at p h)
 pub record SizeState : Type 0 where
   pub context : Context
 
--- An open compound: its position, its shape, the position of the next part, the length of the
+-- An open compound: its position, its kind, the position of the next part, the length of the
 -- descriptors before the value (if one of the two positions is after descriptors), and the sizes
 -- and the count of its parts.
 pub record OpenState : Type 0 where

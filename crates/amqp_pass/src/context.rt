@@ -71,7 +71,7 @@ impl Context {
         }
     }
 
-    /// Returns the position of the first part of a compound of this shape, with the pending marker.
+    /// Returns the position of the first part of a compound of this kind, with the pending marker.
     #[inline(always)]
     pub fn inner_context(self, resolved_kind: ResolvedKind) -> Context
         ensures { (h : ℕ) → context_at result h ≡ inner_context_of resolved_kind (context_at self h) }

@@ -7,6 +7,7 @@ ghost use Rattle.amqp_ser.specs.Composites.{descriptor_of};
 ghost use Rattle.amqp_ser.specs.Encoding.{constructor};
 ghost use Rattle.amqp_pass.specs.Position.{takes_described};
 
+use crate::limits::add_within;
 use crate::position::BasePosition;
 use crate::size_error::SizeError;
 use amqp_data::EncodingCodes;
@@ -46,8 +47,5 @@ pub fn described_len(
     if !base.takes_described() {
         return Err(SizeError::InvalidValue);
     }
-    match prefix_len.checked_add(ordinary) {
-        Some(whole) => Ok(whole),
-        None => Err(SizeError::TooLong),
-    }
+    add_within(prefix_len, ordinary, usize::MAX)
 }

@@ -17,6 +17,7 @@ pub mod width;
 
 pub use context::Context;
 pub use descriptor::{described_len, descriptor_len};
+pub use limits::add_within;
 pub use open_compound::OpenCompound;
 pub use position::{BasePosition, Position};
 pub use resolved_kind::ResolvedKind;

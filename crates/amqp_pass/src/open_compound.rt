@@ -4,7 +4,7 @@ ghost use Rattle.std.specs.Prelude.{◌≡◌, ◌<◌, ◌+◌, ◌≤◌, ℕ,
 ghost use Rattle.amqp_pass.specs.Position.{limit_of};
 
 use crate::context::Context;
-use crate::limits::{MAX_COUNT, MAX_LEN};
+use crate::limits::{MAX_COUNT, MAX_LEN, add_within};
 use crate::position::Position;
 use crate::resolved_kind::ResolvedKind;
 use crate::size_error::SizeError;
@@ -17,7 +17,7 @@ pub struct OpenCompound {
     position: Position,
     resolved_kind: ResolvedKind,
     inner_context: Context,
-    /// Length of the descriptors before the value, if `position` or `inner_context` is after a descriptor.
+    /// Length of the descriptors before the value, if `position` or `inner_context` is after one.
     prefix_len: usize,
     sum: usize,
     before_last: usize,
@@ -50,7 +50,7 @@ impl OpenCompound {
     ghost use Rattle.amqp_pass.specs.AddPart.{constructor_len_in, PassesLimit, Undescribed};
     ghost use Rattle.amqp_pass.specs.Position.{position_of, without_prefix, element_constructor, is_array, is_gathered, inner_context_of, described_context};
 
-    /// Returns an empty compound of this shape at this position.
+    /// Returns an empty compound of this kind at this position.
     #[inline(always)]
     pub fn new(context: Context, prefix_len: usize, resolved_kind: ResolvedKind) -> OpenCompound
         ensures position { result.position ≡ position_of (context_at context prefix_len) }
@@ -113,8 +113,8 @@ impl OpenCompound {
         self.inner_context
     }
 
-    /// Returns the length of the descriptors before the value, if `position` or `inner_context` is after a
-    /// descriptor.
+    /// Returns the length of the descriptors before the value, if `position` or `inner_context` is
+    /// after one.
     #[inline(always)]
     pub fn prefix_len(&self) -> usize
         ensures { result ≡ self.now.prefix_len }
@@ -205,11 +205,9 @@ impl OpenCompound {
         ensures inner_context { self.new.inner_context ≡ self.old.inner_context }
         ensures count { self.new.count ≡ self.old.count }
     {
-        if size > limit - self.sum {
-            return Err(SizeError::TooLong);
-        }
+        let sum = add_within(self.sum, size, limit)?;
         self.before_last = self.sum;
-        self.sum += size;
+        self.sum = sum;
         Ok(())
     }
 
@@ -244,16 +242,13 @@ impl OpenCompound {
                 1,
             _ => 0,
         };
-        let most = MAX_LEN - self.sum;
-        if size > most || opened > most - size {
-            return Err(SizeError::TooLong);
-        }
+        let sum = add_within(add_within(self.sum, size, MAX_LEN)?, opened, MAX_LEN)?;
         if self.count >= MAX_COUNT {
             return Err(SizeError::TooLong);
         }
         self.count += 1;
         self.before_last = self.sum;
-        self.sum = self.sum + size + opened;
+        self.sum = sum;
         self.inner_context = after;
         Ok(())
     }

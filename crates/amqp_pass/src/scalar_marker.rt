@@ -1,5 +1,10 @@
 //! The markers of scalars.
 
+ghost use Rattle.std.specs.Prelude.{◌≡◌, None, MatchOption};
+ghost use Rattle.amqp_pass.specs.MarkedBytes.{IsExact, marked_bytes};
+
+use amqp_data::EncodingCodes;
+
 /// The marker of a scalar.
 #[derive(Clone, Copy, Debug)]
 pub enum ScalarMarker {
@@ -17,4 +22,22 @@ pub enum ScalarMarker {
     Uuid,
     /// A lazy value, serialized as a binary that contains one encoded value.
     Lazy,
+}
+
+impl ScalarMarker {
+    /// Returns the format code of a decimal or uuid with these bytes, or `None` if the marker is
+    /// another one or the number of bytes is not that of the type.
+    pub fn exact_code(self, bytes: &[u8]) -> Option<u8>
+        ensures { MatchOption result
+            ((self ≡ ScalarMarker.Lazy → ⊥) → marked_bytes self bytes.now ≡ None)
+            (λ code. IsExact self bytes.now code) }
+    {
+        match self {
+            ScalarMarker::Decimal32 if bytes.len() == 4 => Some(EncodingCodes::Decimal32 as u8),
+            ScalarMarker::Decimal64 if bytes.len() == 8 => Some(EncodingCodes::Decimal64 as u8),
+            ScalarMarker::Decimal128 if bytes.len() == 16 => Some(EncodingCodes::Decimal128 as u8),
+            ScalarMarker::Uuid if bytes.len() == 16 => Some(EncodingCodes::Uuid as u8),
+            _ => None,
+        }
+    }
 }

@@ -5,8 +5,8 @@ ghost use Rattle.amqp_pass.specs.Refused.{error_of};
 
 use amqp_data::Error;
 
-/// Why a pass over a value fails. It has one byte, so that a result is smaller than an error with a
-/// text.
+/// Why a pass over a value fails. It is one byte long, so that a `Result` with it is smaller than
+/// one with `Error`, which can contain a text.
 #[derive(Clone, Copy, Debug, PartialEq, Eq)]
 pub enum SizeError {
     /// An allocation failed.

@@ -70,8 +70,7 @@ pub fn array_width(n: usize, count: usize) -> usize
 /// None.
 ///
 /// # Example
-/// 254 bytes have the length 256, and 255 bytes the length 260. No bytes in an array have the
-/// length 4.
+/// The length is 256 for 254 bytes, and 260 for 255 bytes. In an array, it is 4 for 0 bytes.
 pub fn text_len(text: usize, in_array: bool) -> Result<usize, Error>
     ensures limit { MatchResult result (λ _. fits text ≡ true)
         (λ e. (fits text ≡ false) × (e ≡ Error.TooLong)) }
@@ -92,8 +91,8 @@ pub fn text_len(text: usize, in_array: bool) -> Result<usize, Error>
 /// None.
 ///
 /// # Example
-/// No bytes have the length 1, 254 bytes the length 257, and 255 bytes the length 264. No bytes in
-/// an array have the length 8.
+/// The length is 1 for 0 bytes, 257 for 254 bytes, and 264 for 255 bytes. In an array, it is 8 for
+/// 0 bytes.
 pub fn list_len(elements: usize, in_array: bool) -> Result<usize, Error>
     ensures limit { MatchResult result (λ _. fits elements ≡ true)
         (λ e. (fits elements ≡ false) × (e ≡ Error.TooLong)) }
@@ -114,8 +113,8 @@ pub fn list_len(elements: usize, in_array: bool) -> Result<usize, Error>
 /// None.
 ///
 /// # Example
-/// No bytes have the length 3, 254 bytes the length 257, and 255 bytes the length 264. No bytes in
-/// an array have the length 8.
+/// The length is 3 for 0 bytes, 257 for 254 bytes, and 264 for 255 bytes. In an array, it is 8 for
+/// 0 bytes.
 pub fn map_len(entries: usize, in_array: bool) -> Result<usize, Error>
     ensures limit { MatchResult result (λ _. fits entries ≡ true)
         (λ e. (fits entries ≡ false) × (e ≡ Error.TooLong)) }
@@ -137,8 +136,8 @@ pub fn map_len(entries: usize, in_array: bool) -> Result<usize, Error>
 /// None.
 ///
 /// # Example
-/// One byte and 255 elements have the length 4, one byte and 256 elements the length 10. No content
-/// and no elements in an array have the length 8.
+/// The length is 4 for 1 byte and 255 elements, and 10 for 1 byte and 256 elements. In an array, it
+/// is 8 for 0 bytes and 0 elements.
 pub fn array_len(content: usize, count: usize, in_array: bool) -> Result<usize, Error>
     ensures limit { MatchResult result (λ _. (fits content && is_count count) ≡ true)
         (λ e. ((fits content && is_count count) ≡ false) × (e ≡ Error.TooLong)) }

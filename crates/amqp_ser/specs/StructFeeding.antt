@@ -1,10 +1,13 @@
 -- The effect of serializing a field, or the descriptor, of a struct. If it fails, the struct is
 -- unchanged and the error is permitted for the complete struct, whatever further parts follow.
-use Rattle.std.specs.Prelude.{◌≡◌, List, [], ◌∷◌, ◌++◌, Option, Some, None, true, Result, Err, MatchResult, IfErr}
-use Rattle.amqp_ser.specs.Tree.{Tree}
+use Rattle.std.specs.Prelude.{◌≡◌, ℕ, List, [], ◌∷◌, ◌++◌, Option, Some, None, Bool, true, false, Result, Err, MatchResult, IfErr, IsErr}
+use Rattle.amqp_ser.specs.Tree.{Tree, scalar, string}
 use Rattle.amqp_ser.specs.Compounds.{tree_of_parts, paired}
 use Rattle.amqp_ser.specs.Composites.{as_described, descriptor_of}
-use Rattle.amqp_ser.specs.Structs.{Stands, optionally_described}
+use Rattle.amqp_ser.specs.Marked.{is_descriptor_name}
+use Rattle.amqp_ser.specs.Structs.{Stands, is_misplaced, open_kind, optionally_described}
+use Rattle.amqp_ser.specs.declared.struct_encoding.StructEncoding.{StructEncoding}
+use Rattle.amqp_ser.specs.declared.struct_encoding.StructEncoding.TheVariants as form
 use Rattle.amqp_ser.specs.declared.kind.CompoundKind.{CompoundKind}
 use Rattle.amqp_ser.specs.declared.kind.CompoundKind.TheVariants as kind
 
@@ -64,3 +67,45 @@ abbrev pub RefusesField : {S H O E : Type 0} → (S → Option Tree → Result O
 RefusesField {S} {H} {O} {E} permits has body before compound result after held_after =
     (start : S) (prefix : Option (Option Tree)) (ps : List (Option Tree)) → Stands permits has start prefix body before compound ps →
     IfErr result (λ e. Stands permits has start prefix body after held_after ps × permits start None (Err e) after)
+
+-- The effect of serializing a field with this key, by cases: whether the key is that of the
+-- descriptor, the form of the struct, and whether the struct has its descriptor (`described`) and a
+-- field (`opened`).
+pub record FieldStep {S H O E : Type 0} (permits : S → Option Tree → Result O E → S → Type 0) (has : S → CompoundKind → S → H → List (Option Tree) → Type 0)
+    (is_misuse_error : E → Type 0) (encoding : StructEncoding) (described opened : Bool) (key : List ℕ) (value : Option Tree)
+    (before : S) (compound : H) (result : Result (Unit {0}) E) (after : S) (held_after : H) : Type 0 where
+  pub descriptor : is_descriptor_name key ≡ true → described ≡ false → opened ≡ false →
+      FeedsDescriptor permits has value before compound result after held_after
+  pub first_of_list : is_descriptor_name key ≡ false → opened ≡ false → encoding ≡ form.List →
+      FeedsFirst permits has kind.List (value ∷ []) before compound result after held_after
+  pub next_of_list : is_descriptor_name key ≡ false → opened ≡ true → encoding ≡ form.List →
+      FeedsElement permits has value before compound result after held_after
+  pub first_of_map : is_descriptor_name key ≡ false → opened ≡ false → encoding ≡ form.Map →
+      FeedsFirst permits has kind.Map (Some (scalar (string key)) ∷ (value ∷ [])) before compound result after held_after
+  pub next_of_map : is_descriptor_name key ≡ false → opened ≡ true → encoding ≡ form.Map →
+      FeedsEntry permits has (Some (scalar (string key))) value before compound result after held_after
+  pub alone : is_descriptor_name key ≡ false → opened ≡ false → encoding ≡ form.Single →
+      FeedsSingle permits has value before compound result after held_after
+  -- A descriptor is a ulong or a symbol.
+  pub other_kinds : is_descriptor_name key ≡ true → described ≡ false → opened ≡ false →
+      (start : S) → Stands permits has start None kind.Single before compound [] → descriptor_of value ≡ None → IsErr result
+  pub misuse_error : is_misplaced encoding described opened (is_descriptor_name key) ≡ true →
+      IsErr result × (IfErr result is_misuse_error × RefusesField permits has (open_kind opened encoding) before compound result after held_after)
+
+-- Like `FieldStep`, for a tuple struct: by whether its body is a single field, whether it lacks its
+-- descriptor, and whether it has a field or is a list that has been open from the start.
+pub record TupleFieldStep {S H O E : Type 0} (permits : S → Option Tree → Result O E → S → Type 0) (has : S → CompoundKind → S → H → List (Option Tree) → Type 0)
+    (is_misuse_error : E → Type 0) (single lacks_descriptor opened : Bool) (value : Option Tree)
+    (before : S) (compound : H) (result : Result (Unit {0}) E) (after : S) (held_after : H) : Type 0 where
+  pub descriptor : lacks_descriptor ≡ true → FeedsDescriptor permits has value before compound result after held_after
+  pub first : lacks_descriptor ≡ false → opened ≡ false → single ≡ false →
+      FeedsFirst permits has kind.List (value ∷ []) before compound result after held_after
+  pub next : lacks_descriptor ≡ false → opened ≡ true → single ≡ false →
+      FeedsElement permits has value before compound result after held_after
+  pub alone : lacks_descriptor ≡ false → opened ≡ false → single ≡ true →
+      FeedsSingle permits has value before compound result after held_after
+  -- A descriptor is a ulong or a symbol.
+  pub other_kinds : lacks_descriptor ≡ true →
+      (start : S) → Stands permits has start None kind.Single before compound [] → descriptor_of value ≡ None → IsErr result
+  pub misuse_error : lacks_descriptor ≡ false → opened ≡ true → single ≡ true →
+      IsErr result × (IfErr result is_misuse_error × RefusesField permits has kind.Single before compound result after held_after)

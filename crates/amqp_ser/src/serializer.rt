@@ -18,6 +18,44 @@ use crate::marker::Marker;
 /// An implementation defines the fourteen required methods. The methods that values call have the
 /// names of serde, are built on the required methods, and are the same for every serializer.
 ///
+/// # Data model
+/// The kinds of trees, the methods that serialize them, and their format codes (AMQP 1.0 part 1).
+/// "As `NAME`": inside `serialize_newtype_struct` with that name. `serialize_some` serializes the
+/// value itself.
+///
+/// | Kind | Methods | Codes | Section |
+/// |---|---|---|---|
+/// | null | `serialize_none`, `serialize_unit`, `serialize_unit_struct` | `40` | 1.6.1 |
+/// | boolean | `serialize_bool` | `41`, `42`, `56` | 1.6.2 |
+/// | ubyte | `serialize_u8` | `50` | 1.6.3 |
+/// | ushort | `serialize_u16` | `60` | 1.6.4 |
+/// | uint | `serialize_u32`, `serialize_unit_variant` | `43`, `52`, `70` | 1.6.5 |
+/// | ulong | `serialize_u64` | `44`, `53`, `80` | 1.6.6 |
+/// | byte | `serialize_i8` | `51` | 1.6.7 |
+/// | short | `serialize_i16` | `61` | 1.6.8 |
+/// | int | `serialize_i32` | `54`, `71` | 1.6.9 |
+/// | long | `serialize_i64` | `55`, `81` | 1.6.10 |
+/// | float | `serialize_f32` | `72` | 1.6.11 |
+/// | double | `serialize_f64` | `82` | 1.6.12 |
+/// | decimal32 | `serialize_bytes` as `DECIMAL32` | `74` | 1.6.13 |
+/// | decimal64 | `serialize_bytes` as `DECIMAL64` | `84` | 1.6.14 |
+/// | decimal128 | `serialize_bytes` as `DECIMAL128` | `94` | 1.6.15 |
+/// | char | `serialize_char` | `73` | 1.6.16 |
+/// | timestamp | `serialize_i64` as `TIMESTAMP` | `83` | 1.6.17 |
+/// | uuid | `serialize_bytes` as `UUID` | `98` | 1.6.18 |
+/// | binary | `serialize_bytes` | `a0`, `b0` | 1.6.19 |
+/// | string | `serialize_str` | `a1`, `b1` | 1.6.20 |
+/// | symbol | `serialize_str` as `SYMBOL` | `a3`, `b3` | 1.6.21 |
+/// | list | `serialize_seq`, `serialize_tuple` | `45`, `c0`, `d0` | 1.6.22 |
+/// | | `serialize_tuple_struct`, `serialize_struct` | | |
+/// | map | `serialize_map`, `serialize_struct` named `DESCRIBED_MAP` | `c1`, `d1` | 1.6.23 |
+/// | array | `serialize_seq` as `ARRAY` | `e0`, `f0` | 1.6.24 |
+/// | described value | `serialize_described`, a struct with a descriptor | `00` | 1.2 |
+/// | variant (a map of one pair) | `serialize_newtype_variant` | `c1`, `d1` | 1.6.23 |
+/// | | `serialize_tuple_variant`, `serialize_struct_variant` | | |
+/// | lazy value (one encoded value) | `serialize_bytes` as `LAZY_VALUE` | its own | 1.2 |
+/// | transparent vector (no header) | `serialize_seq` as `TRANSPARENT_VEC` | none | |
+///
 /// # Errors
 /// `permits` determines the errors of a serializer. If there is no tree, the result is always an
 /// error. The serializers of this repository return `InvalidValue` if there is no tree and no other

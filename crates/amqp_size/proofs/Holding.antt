@@ -1,4 +1,4 @@
--- Open compounds of every shape.
+-- Open compounds of every kind.
 use Rattle.std.proofs.Common.{◌≡◌, ℕ, ◌+◌, ◌<◌, ◌≤◌, List, [], ◌∷◌, ◌++◌, Option, Some, None, true, false, Result, Ok, Err, MatchResult, IfOk, IfErr, refl, ap, sym, ◌∙◌, subst, if◌then◌else◌, inl, inr}
 use Rattle.amqp_pass.specs.declared.size_error.SizeError.{SizeError}
 use Rattle.amqp_pass.specs.declared.size_error.SizeError.TheVariants as error
@@ -36,7 +36,7 @@ not_single q = cc
 no_list : kinds.Single ≡ kinds.List → ⊥
 no_list q = cc
 
--- The relation of each shape.
+-- The relation of each kind.
 pub gathered_of : (start : SizeSerializer) (kind : CompoundKind) (compound : OpenCompound) (ps : List (Option Tree)) → Holding start kind compound ps → is_gathered compound.resolved_kind ≡ true → HoldsGathered start kind compound ps
 gathered_of start kind compound ps (inl h) g = h
 gathered_of start kind compound ps (inr (inl h)) g = absurd (not_gathered compound.resolved_kind resolved_kinds.Transparent h.resolved_kind refl g)

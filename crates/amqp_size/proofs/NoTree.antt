@@ -1,4 +1,4 @@
--- A compound whose parts have trees has a tree, unless its shape is `Refused`.
+-- A compound whose parts have trees has a tree, unless its kind is `Refused`.
 use Rattle.std.proofs.Common.{◌≡◌, ℕ, List, [], ◌∷◌, Option, Some, None, true, false, Ok, refl, ap, sym, ◌∙◌, subst, inl, inr}
 use Rattle.amqp_ser.specs.Tree.{Tree, Trees, list, array, map, variant, transparent}
 use Rattle.amqp_ser.specs.Compounds.{as_kind, as_map, all_trees, complete, tree_of_parts}
@@ -55,7 +55,7 @@ not_single start kind compound ps h k =
     let q : compound.resolved_kind ≡ resolved_kinds.Single = h.resolved_kind ∙ ap (resolved_kind_of start.context) k in
     let e : false ≡ true = sym (ap is_gathered q) ∙ h.gathered in cc
 
--- For each shape.
+-- For each kind.
 gathered_none : (start : SizeSerializer) (kind : CompoundKind) (compound : OpenCompound) (ps : List (Option Tree)) → HoldsGathered start kind compound ps → complete kind ps ≡ true → meant start.context (tree_of_parts kind ps) ≡ None → compound.resolved_kind ≡ resolved_kinds.Refused
 gathered_none start kind compound ps h done n = h.resolved_kind ∙ refused_when_opened start.context kind ps h.ts h.trees done (not_single start kind compound ps h) n
 
@@ -74,7 +74,7 @@ single_none : (start : SizeSerializer) (kind : CompoundKind) (compound : OpenCom
 single_none start kind compound ps h done n =
     one_part start compound ps h.parts (subst (λ k. complete k ps ≡ true) h.kind_is done) (ap (λ k. meant start.context (tree_of_parts k ps)) (sym h.kind_is) ∙ n)
 
--- For every shape.
+-- For every kind.
 pub open_none : (start : SizeSerializer) (kind : CompoundKind) (compound : OpenCompound) (ps : List (Option Tree)) → Holding start kind compound ps → complete kind ps ≡ true → meant start.context (tree_of_parts kind ps) ≡ None → compound.resolved_kind ≡ resolved_kinds.Refused
 open_none start kind compound ps (inl h) done n = gathered_none start kind compound ps h done n
 open_none start kind compound ps (inr (inl h)) done n = absurd (transparent_none start kind compound ps h n)

@@ -92,7 +92,7 @@ bad_only p i no_trees h = (tt, refl)
 bad_only p i (more t no_trees) h = (bad_one p i t h, refl)
 bad_only p i (more t (more v ts)) h = (tt, refl)
 
--- The same if the pending marker does not accept the shape: there is no tree.
+-- The same if the pending marker does not accept the kind: there is no tree.
 none_bad : (u : Context) (o : Option Tree) (e : SizeError) → refuses_none e → meant u o ≡ None → AtPosition (position_of u) (meant u o) (Err e) (context.Plain (without_prefix (position_of u)))
 none_bad u o e r h = stands_none u (position_of u) o (Err e) (context.Plain (without_prefix (position_of u))) refl h (r, refl)
 

@@ -9,7 +9,6 @@ ghost use Rattle.amqp_pass.specs.WholeContext.{Plain};
 ghost use Rattle.amqp_pass.specs.WholePosition as whole_position;
 
 use amqp_data::{EncodingCodes, Error};
-use amqp_frame::is_frame;
 use amqp_pass::width::{array_width, list_width, map_width};
 use amqp_pass::{
     Context, OpenCompound, Position, ResolvedKind, ScalarEncoding, ScalarMarker, SizeError,
@@ -197,39 +196,7 @@ impl Serializer for SizeSerializer {
                 EncodingCodes::Vbin32 as u8,
                 v.len(),
             ),
-            Context::Scalar(position, ScalarMarker::Decimal32) if v.len() == 4 => self.size_at(
-                position,
-                prefix_len,
-                EncodingCodes::Decimal32 as u8,
-                5,
-                4,
-            ),
-            Context::Scalar(position, ScalarMarker::Decimal64) if v.len() == 8 => self.size_at(
-                position,
-                prefix_len,
-                EncodingCodes::Decimal64 as u8,
-                9,
-                8,
-            ),
-            Context::Scalar(position, ScalarMarker::Decimal128) if v.len() == 16 => self.size_at(
-                position,
-                prefix_len,
-                EncodingCodes::Decimal128 as u8,
-                17,
-                16,
-            ),
-            Context::Scalar(position, ScalarMarker::Uuid) if v.len() == 16 => self.size_at(
-                position,
-                prefix_len,
-                EncodingCodes::Uuid as u8,
-                17,
-                16,
-            ),
-            Context::Scalar(position, ScalarMarker::Lazy) if is_frame(v) => self.lazy(
-                position,
-                prefix_len,
-                v.len(),
-            ),
+            Context::Scalar(position, marker) => self.marked_bytes(position, prefix_len, marker, v),
             _ => Err(SizeError::InvalidValue),
         }
     }

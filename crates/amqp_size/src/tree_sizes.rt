@@ -1,17 +1,21 @@
 //! The sizes of trees at each position, and the trees that a position rejects.
 
-ghost use Rattle.std.specs.Prelude.{◌≡◌, ◌+◌, ◌&&◌, ℕ, List, Some, Err, true, length};
+ghost use Rattle.std.specs.Prelude.{◌≡◌, ◌+◌, ◌&&◌, ℕ, List, Some, None, Err, true, length};
 ghost use Rattle.amqp_ser.specs.Tree.{Tree, Trees, lazy, transparent};
 ghost use Rattle.amqp_ser.specs.Limits.{fits};
 ghost use Rattle.amqp_ser.specs.Encoding.{encoding, encoding_each, payload, constructor};
 ghost use Rattle.amqp_ser.specs.Writable.{uniform_arrays, uniform_arrays_each, within_limits, within_limits_each, inside, placed, placed_each};
 ghost use Rattle.amqp_pass.specs.Width.{uint_width, text_width, map_width};
+ghost use Rattle.amqp_pass.specs.MarkedBytes.{marked_bytes};
 ghost use Rattle.amqp_pass.specs.Position.{position_of, without_prefix};
 
 use crate::serializer::SizeSerializer;
 use amqp_data::EncodingCodes;
+use amqp_frame::is_frame;
 use amqp_pass::width::{MAX_LEN, map_width, text_width, uint_width};
-use amqp_pass::{Context, Position, SizeError, described_len, descriptor_len};
+use amqp_pass::{
+    Context, Position, ScalarMarker, SizeError, add_within, described_len, descriptor_len,
+};
 
 impl SizeSerializer {
     ghost use Rattle.amqp_pass.specs.WholeContext.{Plain};
@@ -107,11 +111,49 @@ impl SizeSerializer {
         self.size_at(position, prefix_len, code, text_width(n), n + 4)
     }
 
+    /// Like `size_at`, for a binary under a scalar marker: a decimal, a uuid or a lazy value.
+    ///
+    /// # Errors
+    /// Also returns `InvalidValue` if the marker does not accept these bytes.
+    #[inline(never)]
+    pub(crate) fn marked_bytes(
+        &mut self,
+        position: Position,
+        prefix_len: usize,
+        marker: ScalarMarker,
+        bytes: &[u8],
+    ) -> Result<usize, SizeError>
+        ensures answered { self.old.context ≡ Plain (without_prefix (position_at position prefix_len)) →
+            AtPosition (position_at position prefix_len) (marked_bytes marker bytes.now) result
+            self.new.context }
+        ensures no_tree { marked_bytes marker bytes.now ≡ None → result ≡ Err SizeError.InvalidValue }
+    {
+        match marker {
+            ScalarMarker::Lazy => {
+                if is_frame(bytes) {
+                    self.lazy(position, prefix_len, bytes.len())
+                } else {
+                    Err(SizeError::InvalidValue)
+                }
+            }
+            marker => match marker.exact_code(bytes) {
+                Some(code) => self.size_at(
+                    position,
+                    prefix_len,
+                    code,
+                    bytes.len() + 1,
+                    bytes.len(),
+                ),
+                None => Err(SizeError::InvalidValue),
+            },
+        }
+    }
+
     /// Like `size_at`, for a lazy tree of `len` bytes.
     ///
     /// A lazy tree has no constructor, so it is neither an array element nor a descriptor.
-    #[inline(never)]
-    pub(crate) fn lazy(
+    #[inline(always)]
+    fn lazy(
         &mut self,
         position: Position,
         prefix_len: usize,
@@ -151,11 +193,7 @@ impl SizeSerializer {
             length (payload t) ≡ uint_width index + size + 8 →
             AtPosition (position_at position prefix_len) (Some t) result self.new.context }
     {
-        let first = uint_width(index);
-        if size > MAX_LEN - first {
-            return Err(SizeError::TooLong);
-        }
-        let body = first + size;
+        let body = add_within(uint_width(index), size, MAX_LEN)?;
         self.size_at(
             position,
             prefix_len,

@@ -29,7 +29,7 @@ use Rattle.amqp_wire.specs.Dense.{fit}
 use Rattle.amqp_wire.specs.Positions.{part_position, part_at, suited_parts, is_single, inner_context_after}
 use Rattle.amqp_wire.proofs.HeldKinds.{never_single}
 
--- Only the kind `Single` has the shape `Single`.
+-- Only the kind `Single` is resolved to `Single`.
 pub not_single : (u : Context) (k : CompoundKind) → is_single k ≡ false → resolved_kind_of u k ≡ resolved_kind.Single → ⊥
 not_single u k c e = never_single k (single_kind u k e) c
 

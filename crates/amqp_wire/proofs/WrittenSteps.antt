@@ -66,7 +66,7 @@ opens_alone start kind compound k position inner_context is =
 pub opens_other : (start : Writer) (kind : CompoundKind) (s : Output) (compound : WriterCompound) → is_single kind ≡ false → WrittenParts start kind s compound [] → WrittenAs (is_single kind) start kind s compound []
 opens_other start kind s compound n h = subst (λ b. WrittenAs b start kind s compound []) (sym n) h
 
--- The open compound, by its shape.
+-- The open compound, by its kind.
 pub gathered_one : (b : Bool) (start : Writer) (kind : CompoundKind) (s : Output) (compound : WriterCompound) (ps : List (Option Tree)) → is_single kind ≡ b → WrittenAs b start kind s compound ps → (compound.resolved_kind ≡ resolved_kind.Single → ⊥) → (is_single kind ≡ false) × WrittenParts start kind s compound ps
 gathered_one true start kind s compound ps k h n = absurd (n h.resolved_kind)
 gathered_one false start kind s compound ps k h n = (k, h)

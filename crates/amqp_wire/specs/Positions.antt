@@ -33,7 +33,7 @@ after_descriptor (context.Transparent p) = Some (context.Nothing p)
 after_descriptor (context.Scalar m p) = Some (context.Nothing p)
 after_descriptor (context.Nothing p) = Some (context.Nothing p)
 
--- The position of the first part of a compound of this shape.
+-- The position of the first part of a compound of this kind.
 abbrev pub part_position : ResolvedKind → Position
 part_position resolved_kind.Array = positions.FirstElement
 part_position resolved_kind.Transparent = positions.Root

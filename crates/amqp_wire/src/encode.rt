@@ -15,8 +15,8 @@ use std::alloc::Global;
 /// of the value is writable.
 ///
 /// # Encoding
-/// The shortest form of each value that this profile writes. In an array, the form of the array's
-/// constructor (AMQP 1.0 part 1, sections 1.2 to 1.6).
+/// Each value has the shortest form that this profile writes; an element of an array has the form
+/// of the array's constructor (AMQP 1.0 part 1, sections 1.2 to 1.6).
 ///
 /// # Errors
 /// Returns `OutOfMemory` if an allocation fails. Returns `TooLong` only if a limit is exceeded, and

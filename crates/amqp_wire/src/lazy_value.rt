@@ -27,7 +27,7 @@ use std::alloc::Global;
 /// Allocates from `alloc` as `to_vec` does, and once more so that the buffer can be shared.
 ///
 /// # Example
-/// The string `Hello, World!` gives `a10d48656c6c6f2c20576f726c6421`.
+/// The string `Hello, World!` is `a10d48656c6c6f2c20576f726c6421`.
 pub fn to_lazy_value<T: Serialize>(alloc: Global, value: &T) -> Result<LazyValue, Error>
     ensures { IsLazyOf (T.tree value.now) result }
 {

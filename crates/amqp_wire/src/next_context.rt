@@ -92,8 +92,8 @@ pub fn after_descriptor(context: Context) -> Result<Context, SizeError>
     }
 }
 
-/// Returns the position of the next part. `inner_context` is the position of the last part, and `after` is
-/// the position after it.
+/// Returns the position of the next part. `inner_context` is the position of the last part, and
+/// `after` is the position after it.
 ///
 /// An array gets its constructor from its first element. A single compound keeps the position after
 /// its value.

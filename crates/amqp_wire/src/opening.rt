@@ -202,8 +202,8 @@ impl Output {
     /// Opens a compound: appends the bytes before its parts.
     ///
     /// # Errors
-    /// Returns `InvalidValue` for `ResolvedKind::Single` and `ResolvedKind::Refused`, and if the table has no
-    /// header left. Returns `TooLong` if the remaining capacity is too small.
+    /// Returns `InvalidValue` for `ResolvedKind::Single` and `ResolvedKind::Refused`, and if the
+    /// table has no header left. Returns `TooLong` if the remaining capacity is too small.
     #[inline(never)]
     pub fn open(&mut self, in_array: bool, resolved_kind: ResolvedKind) -> Result<(), SizeError>
         ensures kept { Kept self.old self.new }

@@ -6,6 +6,7 @@ ghost use Rattle.amqp_ser.specs.Limits.{fits};
 ghost use Rattle.amqp_ser.specs.Scalars.{scalar_code};
 ghost use Rattle.amqp_ser.specs.Tree.{Scalar, scalar, null, lazy};
 ghost use Rattle.amqp_ser.specs.Writable.{within_limits};
+ghost use Rattle.amqp_pass.specs.MarkedBytes.{marked_bytes};
 ghost use Rattle.amqp_pass.specs.Position.{without_prefix};
 ghost use Rattle.amqp_pass.specs.State.{position_at};
 ghost use Rattle.amqp_pass.specs.Width.{text_at};
@@ -16,8 +17,9 @@ ghost use Rattle.amqp_wire.specs.Writer.{Kept, IsAccepted, WritesTree};
 use crate::next_context::{context_after, is_element};
 use crate::writer::Writer;
 use amqp_data::EncodingCodes;
+use amqp_frame::is_frame;
 use amqp_pass::width::MAX_LEN;
-use amqp_pass::{Position, ScalarEncoding, SizeError};
+use amqp_pass::{Position, ScalarEncoding, ScalarMarker, SizeError};
 use amqp_ser::Fixed;
 
 impl Writer {
@@ -97,6 +99,40 @@ impl Writer {
         }
     }
 
+    /// Writes a binary under a scalar marker: a decimal, a uuid or a lazy value.
+    ///
+    /// # Errors
+    /// Returns `InvalidValue` if the marker does not accept these bytes.
+    #[inline(never)]
+    pub(crate) fn marked_bytes(
+        &mut self,
+        position: Position,
+        marker: ScalarMarker,
+        bytes: &[u8],
+    ) -> Result<(), SizeError>
+        ensures kept { Kept self.old.output self.new.output }
+        ensures accepted { self.old.context ≡ Plain (without_prefix (position_at position 0)) →
+            IsAccepted (position_at position 0) (marked_bytes marker bytes.now) result
+            self.new.context }
+        ensures written { WritesTree (position_at position 0) self.old.output
+            (marked_bytes marker bytes.now) result self.new.output }
+    {
+        match marker {
+            // The same test as in the first pass, because this pass must accept the same calls.
+            ScalarMarker::Lazy => {
+                if is_frame(bytes) {
+                    self.lazy(position, bytes)
+                } else {
+                    Err(SizeError::InvalidValue)
+                }
+            }
+            marker => match marker.exact_code(bytes) {
+                Some(code) => self.exact(position, code, bytes),
+                None => Err(SizeError::InvalidValue),
+            },
+        }
+    }
+
     /// Writes a code and the bytes after it. In an array, writes only the bytes.
     #[inline(never)]
     pub(crate) fn exact(
@@ -126,8 +162,8 @@ impl Writer {
     }
 
     /// Writes an encoded value unchanged.
-    #[inline(never)]
-    pub(crate) fn lazy(&mut self, position: Position, bytes: &[u8]) -> Result<(), SizeError>
+    #[inline(always)]
+    fn lazy(&mut self, position: Position, bytes: &[u8]) -> Result<(), SizeError>
         ensures kept { Kept self.old.output self.new.output }
         ensures accepted { self.old.context ≡ Plain (without_prefix (position_at position 0)) →
             IsAccepted (position_at position 0) (Some (lazy bytes.now)) result self.new.context }

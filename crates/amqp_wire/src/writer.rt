@@ -13,7 +13,6 @@ use crate::next_context::{after_descriptor, inner_context_after, is_element};
 use crate::output::{Checkpoint, Output};
 use crate::writer_compound::WriterCompound;
 use amqp_data::EncodingCodes;
-use amqp_frame::is_frame;
 use amqp_pass::{Context, Position, ResolvedKind, ScalarMarker, SizeError};
 use amqp_ser::{CompoundKind, Fixed, Marker, Serializer};
 use std::marker::Model;
@@ -208,29 +207,7 @@ impl Serializer for Writer {
                 EncodingCodes::Vbin32 as u8,
                 v,
             ),
-            Context::Scalar(position, ScalarMarker::Decimal32) if v.len() == 4 => self.exact(
-                position,
-                EncodingCodes::Decimal32 as u8,
-                v,
-            ),
-            Context::Scalar(position, ScalarMarker::Decimal64) if v.len() == 8 => self.exact(
-                position,
-                EncodingCodes::Decimal64 as u8,
-                v,
-            ),
-            Context::Scalar(position, ScalarMarker::Decimal128) if v.len() == 16 => self.exact(
-                position,
-                EncodingCodes::Decimal128 as u8,
-                v,
-            ),
-            Context::Scalar(position, ScalarMarker::Uuid) if v.len() == 16 => self.exact(
-                position,
-                EncodingCodes::Uuid as u8,
-                v,
-            ),
-            // The same test as in the first pass: `IsAccepted` is required of each call in this pass
-            // too.
-            Context::Scalar(position, ScalarMarker::Lazy) if is_frame(v) => self.lazy(position, v),
+            Context::Scalar(position, marker) => self.marked_bytes(position, marker, v),
             _ => Err(SizeError::InvalidValue),
         }
     }

@@ -1,12 +1,8 @@
 //! Serialization of a field, or the descriptor, of a struct of any form.
 
-ghost use Rattle.std.specs.Prelude.{◌≡◌, ◌∷◌, [], Some, None, IfErr, IsErr, true, false};
-ghost use Rattle.amqp_ser.specs.Tree.{scalar, string};
-ghost use Rattle.amqp_ser.specs.Composites.{descriptor_of};
-ghost use Rattle.amqp_ser.specs.Marked.{is_descriptor_name};
-ghost use Rattle.amqp_ser.specs.StructFeeding.{FeedsDescriptor, FeedsFirst, FeedsElement, FeedsEntry, FeedsSingle, RefusesField};
-ghost use Rattle.amqp_ser.specs.Structs.{Stands, open_kind, is_misplaced};
-ghost use Rattle.amqp_ser.specs.declared.kind.CompoundKind.{CompoundKind};
+ghost use Rattle.std.specs.Prelude.{◌≡◌};
+ghost use Rattle.amqp_ser.specs.StructFeeding.{FieldStep};
+ghost use Rattle.amqp_ser.specs.Structs.{is_misplaced};
 
 use super::body::open_body;
 use super::described::{feed_descriptor, feed_single};
@@ -52,38 +48,8 @@ pub fn feed_owned<S: Serializer, T: Serialize>(
     key: &'static str,
     value: &T,
 ) -> (S::Open, Result<(), S::Error>)
-    ensures descriptor { is_descriptor_name key.now ≡ true → described ≡ false → opened ≡ false →
-        FeedsDescriptor S.permits S.has (T.tree value.now) serializer.old compound result.1
-        serializer.new result.0 }
-    ensures first_of_list { is_descriptor_name key.now ≡ false → opened ≡ false →
-        form ≡ StructEncoding.List →
-        FeedsFirst S.permits S.has CompoundKind.List (T.tree value.now ∷ []) serializer.old compound
-        result.1 serializer.new result.0 }
-    ensures next_of_list { is_descriptor_name key.now ≡ false → opened ≡ true →
-        form ≡ StructEncoding.List →
-        FeedsElement S.permits S.has (T.tree value.now) serializer.old compound result.1
-        serializer.new result.0 }
-    ensures first_of_map { is_descriptor_name key.now ≡ false → opened ≡ false →
-        form ≡ StructEncoding.Map →
-        FeedsFirst S.permits S.has CompoundKind.Map
-        (Some (scalar (string key.now)) ∷ (T.tree value.now ∷ [])) serializer.old compound
-        result.1 serializer.new result.0 }
-    ensures next_of_map { is_descriptor_name key.now ≡ false → opened ≡ true →
-        form ≡ StructEncoding.Map →
-        FeedsEntry S.permits S.has (Some (scalar (string key.now))) (T.tree value.now)
-        serializer.old compound result.1 serializer.new result.0 }
-    ensures alone { is_descriptor_name key.now ≡ false → opened ≡ false →
-        form ≡ StructEncoding.Single →
-        FeedsSingle S.permits S.has (T.tree value.now) serializer.old compound result.1
-        serializer.new result.0 }
-    ensures misuse_error { is_misplaced form described opened (is_descriptor_name key.now) ≡ true →
-        IsErr result.1 × RefusesField S.permits S.has (open_kind opened form) serializer.old compound
-        result.1 serializer.new result.0 }
-    ensures invalid { is_misplaced form described opened (is_descriptor_name key.now) ≡ true →
-        IfErr result.1 S.is_misuse_error }
-    ensures other_kinds { is_descriptor_name key.now ≡ true → described ≡ false → opened ≡ false →
-        (start : S) → Stands S.permits S.has start None CompoundKind.Single serializer.old compound [] →
-        descriptor_of (T.tree value.now) ≡ None → IsErr result.1 }
+    ensures { FieldStep S.permits S.has S.is_misuse_error form described opened key.now
+        (T.tree value.now) serializer.old compound result.1 serializer.new result.0 }
 {
     let mut compound = compound;
     let descriptor = is_descriptor_name(key);
@@ -140,38 +106,8 @@ pub fn feed_any<S: Serializer, T: Serialize>(
     key: &'static str,
     value: &T,
 ) -> Result<(), S::Error>
-    ensures descriptor { is_descriptor_name key.now ≡ true → described ≡ false → opened ≡ false →
-        FeedsDescriptor S.permits S.has (T.tree value.now) serializer.old compound.old result
-        serializer.new compound.new }
-    ensures first_of_list { is_descriptor_name key.now ≡ false → opened ≡ false →
-        form ≡ StructEncoding.List →
-        FeedsFirst S.permits S.has CompoundKind.List (T.tree value.now ∷ []) serializer.old compound.old
-        result serializer.new compound.new }
-    ensures next_of_list { is_descriptor_name key.now ≡ false → opened ≡ true →
-        form ≡ StructEncoding.List →
-        FeedsElement S.permits S.has (T.tree value.now) serializer.old compound.old result
-        serializer.new compound.new }
-    ensures first_of_map { is_descriptor_name key.now ≡ false → opened ≡ false →
-        form ≡ StructEncoding.Map →
-        FeedsFirst S.permits S.has CompoundKind.Map
-        (Some (scalar (string key.now)) ∷ (T.tree value.now ∷ [])) serializer.old compound.old
-        result serializer.new compound.new }
-    ensures next_of_map { is_descriptor_name key.now ≡ false → opened ≡ true →
-        form ≡ StructEncoding.Map →
-        FeedsEntry S.permits S.has (Some (scalar (string key.now))) (T.tree value.now)
-        serializer.old compound.old result serializer.new compound.new }
-    ensures alone { is_descriptor_name key.now ≡ false → opened ≡ false →
-        form ≡ StructEncoding.Single →
-        FeedsSingle S.permits S.has (T.tree value.now) serializer.old compound.old result
-        serializer.new compound.new }
-    ensures misuse_error { is_misplaced form described opened (is_descriptor_name key.now) ≡ true →
-        IsErr result × RefusesField S.permits S.has (open_kind opened form) serializer.old compound.old
-        result serializer.new compound.new }
-    ensures invalid { is_misplaced form described opened (is_descriptor_name key.now) ≡ true →
-        IfErr result S.is_misuse_error }
-    ensures other_kinds { is_descriptor_name key.now ≡ true → described ≡ false → opened ≡ false →
-        (start : S) → Stands S.permits S.has start None CompoundKind.Single serializer.old compound.old [] →
-        descriptor_of (T.tree value.now) ≡ None → IsErr result }
+    ensures { FieldStep S.permits S.has S.is_misuse_error form described opened key.now
+        (T.tree value.now) serializer.old compound.old result serializer.new compound.new }
 {
     let placeholder = serializer.placeholder();
     let moved = mem::replace(compound, placeholder);

@@ -1,4 +1,4 @@
-//! The body of a struct, which is opened with the first field in place of a single compound.
+//! The body of a struct: a list or a map, which replaces the single compound at the first field.
 
 ghost use Rattle.std.specs.Prelude.{◌≡◌, ◌++◌, ◌∷◌, [], List, Option, None, Err, MatchResult, IfErr, IsErr, true, false};
 ghost use Rattle.amqp_ser.specs.Tree.{Tree};
@@ -50,7 +50,7 @@ fn feed_field<S: Serializer, T: Serialize>(
     }
 }
 
-/// Opens a map or a list in place of a single compound and serializes its first field. On an error
+/// Replaces a single compound by an open map or list, and serializes its first field. On an error
 /// the single compound is unchanged.
 ///
 /// # Errors
@@ -111,7 +111,7 @@ fn end_empty<S: Serializer>(
     serializer.end(fields)
 }
 
-/// Ends a body, or the single compound in its place if no field was serialized.
+/// Ends a body, or the single compound if no field was serialized and no body is open.
 ///
 /// # Errors
 /// Returns the serializer's error for the tree of the fields. Returns a misuse error if the form is

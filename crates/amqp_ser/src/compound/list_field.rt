@@ -12,8 +12,8 @@ use crate::serialize::Serialize;
 use crate::serializer::Serializer;
 use std::mem;
 
-/// Opens a list in place of a single compound and returns the single compound, or returns `None` if
-/// a list is open already.
+/// Replaces a single compound by an open list and returns the single compound, or returns `None` if
+/// the list is open already.
 #[inline(always)]
 fn open_list<S: Serializer>(
     serializer: &mut S,
@@ -63,8 +63,8 @@ fn close_first<S: Serializer>(
     }
 }
 
-/// Serializes one more field of a list. The first field opens the list in place of a single
-/// compound. On an error the compound that was open is unchanged.
+/// Serializes one more field of a list. At the first field, the list replaces a single compound. On
+/// an error the compound that was open before the call is unchanged.
 ///
 /// # Errors
 /// Returns the serializer's error for the field.

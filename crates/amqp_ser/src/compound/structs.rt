@@ -1,13 +1,12 @@
 //! Structs: an optional descriptor and a body of fields.
 
-ghost use Rattle.std.specs.Prelude.{◌≡◌, ◌∷◌, ◌||◌, [], List, Option, Some, None, IfOk, IfErr, IsErr, not, true, false};
+ghost use Rattle.std.specs.Prelude.{◌≡◌, ◌∷◌, ◌||◌, [], List, Option, IfOk, IfErr, IsErr, not, true, false};
 ghost use mir.Syntax.{named};
 ghost use Rattle.std.specs.Borrow.{Lends, sem};
-ghost use Rattle.amqp_ser.specs.Tree.{Tree, scalar, string};
+ghost use Rattle.amqp_ser.specs.Tree.{Tree};
 ghost use Rattle.amqp_ser.specs.Compounds.{tree_of_parts, paired};
-ghost use Rattle.amqp_ser.specs.Composites.{descriptor_of};
 ghost use Rattle.amqp_ser.specs.Marked.{is_descriptor_name};
-ghost use Rattle.amqp_ser.specs.OpenStructs.{struct_reference, struct_with_serializer, form_of, has_descriptor, has_field, is_field_misplaced, StructHas, FeedsStructDescriptor, FeedsFirstField, FeedsListField, FeedsMapField, FeedsOnlyField, RefusesStructField};
+ghost use Rattle.amqp_ser.specs.OpenStructs.{struct_reference, struct_with_serializer, form_of, has_descriptor, has_field, StructHas, StructFieldStep};
 ghost use Rattle.amqp_ser.specs.Structs.{form_kind, optionally_described};
 
 use super::any_field::feed_any;
@@ -112,45 +111,17 @@ impl<'a, S: Serializer> SerializeStruct<'a, S> {
         key: &'static str,
         value: &T,
     ) -> Result<(), S::Error>
-        ensures same { (struct_reference self.new).ghost_name
-            ≡ (struct_reference self.old).ghost_name }
-        ensures form { form_of self.new ≡ form_of self.old }
-        ensures as_it_was { IfErr result
+        ensures ok { IfOk result
+            (λ _. (has_descriptor self.new ≡ (is_descriptor_name key.now || has_descriptor self.old))
+            × (has_field self.new ≡ (not (is_descriptor_name key.now) || has_field self.old))) }
+        ensures step { StructFieldStep S.permits S.has S.is_misuse_error key.now (T.tree value.now)
+            self.old result self.new }
+        ensures kept { IfErr result
             (λ _. (has_descriptor self.new ≡ has_descriptor self.old)
             × (has_field self.new ≡ has_field self.old)) }
-        ensures described { IfOk result
-            (λ _. has_descriptor self.new
-            ≡ (is_descriptor_name key.now || has_descriptor self.old)) }
-        ensures opened { IfOk result
-            (λ _. has_field self.new ≡ (not (is_descriptor_name key.now) || has_field self.old)) }
-        ensures descriptor { is_descriptor_name key.now ≡ true → has_descriptor self.old ≡ false →
-            has_field self.old ≡ false →
-            FeedsStructDescriptor S.permits S.has (T.tree value.now) self.old result self.new }
-        ensures first_of_list { is_descriptor_name key.now ≡ false → has_field self.old ≡ false →
-            form_of self.old ≡ StructEncoding.List →
-            FeedsFirstField S.permits S.has CompoundKind.List (T.tree value.now ∷ []) self.old result
-            self.new }
-        ensures next_of_list { is_descriptor_name key.now ≡ false → has_field self.old ≡ true →
-            form_of self.old ≡ StructEncoding.List →
-            FeedsListField S.permits S.has (T.tree value.now) self.old result self.new }
-        ensures first_of_map { is_descriptor_name key.now ≡ false → has_field self.old ≡ false →
-            form_of self.old ≡ StructEncoding.Map →
-            FeedsFirstField S.permits S.has CompoundKind.Map
-            (Some (scalar (string key.now)) ∷ (T.tree value.now ∷ [])) self.old result self.new }
-        ensures next_of_map { is_descriptor_name key.now ≡ false → has_field self.old ≡ true →
-            form_of self.old ≡ StructEncoding.Map →
-            FeedsMapField S.permits S.has (Some (scalar (string key.now))) (T.tree value.now)
-            self.old result self.new }
-        ensures alone { is_descriptor_name key.now ≡ false → has_field self.old ≡ false →
-            form_of self.old ≡ StructEncoding.Single →
-            FeedsOnlyField S.permits S.has (T.tree value.now) self.old result self.new }
-        ensures misuse_error { is_field_misplaced key.now self.old ≡ true →
-            IsErr result × RefusesStructField S.permits S.has self.old result self.new }
-        ensures invalid { is_field_misplaced key.now self.old ≡ true → IfErr result S.is_misuse_error }
-        ensures other_kinds { is_descriptor_name key.now ≡ true → has_descriptor self.old ≡ false →
-            has_field self.old ≡ false → (start : S) →
-            StructHas S.permits S.has start None CompoundKind.Single self.old [] →
-            descriptor_of (T.tree value.now) ≡ None → IsErr result }
+        ensures form { form_of self.new ≡ form_of self.old }
+        ensures same { (struct_reference self.new).ghost_name
+            ≡ (struct_reference self.old).ghost_name }
     {
         // Most structs are lists, so the fields of a list have a path of their own, which is
         // inlined into the caller. A descriptor, and the fields of a map or of a single value,

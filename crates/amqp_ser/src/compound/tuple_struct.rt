@@ -1,12 +1,11 @@
 //! Tuple structs: lists of their fields. The first field may be a descriptor.
 
-ghost use Rattle.std.specs.Prelude.{◌≡◌, ◌∷◌, [], List, Option, None, IfOk, IfErr, IsErr, ◌||◌, not, true, false};
+ghost use Rattle.std.specs.Prelude.{◌≡◌, ◌∷◌, [], List, Option, IfOk, IfErr, IsErr, ◌||◌, not, true, false};
 ghost use mir.Syntax.{named};
 ghost use Rattle.std.specs.Borrow.{Lends, sem};
 ghost use Rattle.amqp_ser.specs.Tree.{Tree};
 ghost use Rattle.amqp_ser.specs.Compounds.{tree_of_parts};
-ghost use Rattle.amqp_ser.specs.Composites.{descriptor_of};
-ghost use Rattle.amqp_ser.specs.OpenStructs.{tuple_struct_reference, tuple_struct_with_serializer, is_single, lacks_descriptor, is_open, is_full, TupleStructHas, FeedsTupleStructDescriptor, FeedsFirstTupleStructField, FeedsTupleStructField, FeedsOnlyTupleStructField, RefusesTupleStructField};
+ghost use Rattle.amqp_ser.specs.OpenStructs.{tuple_struct_reference, tuple_struct_with_serializer, is_single, lacks_descriptor, is_open, TupleStructHas, TupleStructFieldStep};
 ghost use Rattle.amqp_ser.specs.Structs.{single_or_list, form_kind, optionally_described};
 
 use super::body::{end_fields, open_body};
@@ -105,33 +104,17 @@ impl<'a, S: Serializer> SerializeTupleStruct<'a, S> {
     #[tactic(auto, unfolding(crate::specs::Structs::Stands))]
     #[inline(always)]
     pub fn serialize_field<T: Serialize>(&mut self, value: &T) -> Result<(), S::Error>
-        ensures same { (tuple_struct_reference self.new).ghost_name
-            ≡ (tuple_struct_reference self.old).ghost_name }
-        ensures single { is_single self.new ≡ is_single self.old }
-        ensures as_it_was { IfErr result
-            (λ _. (lacks_descriptor self.new ≡ lacks_descriptor self.old)
-            × (is_open self.new ≡ is_open self.old)) }
-        ensures flags { IfOk result
+        ensures ok { IfOk result
             (λ _. (lacks_descriptor self.new ≡ false)
             × (is_open self.new ≡ (not (lacks_descriptor self.old) || is_open self.old))) }
-        ensures descriptor { lacks_descriptor self.old ≡ true →
-            FeedsTupleStructDescriptor S.permits S.has (T.tree value.now) self.old result self.new }
-        ensures first { lacks_descriptor self.old ≡ false → is_open self.old ≡ false →
-            is_single self.old ≡ false →
-            FeedsFirstTupleStructField S.permits S.has CompoundKind.List (T.tree value.now ∷ []) self.old
-            result self.new }
-        ensures next { lacks_descriptor self.old ≡ false → is_open self.old ≡ true →
-            is_single self.old ≡ false →
-            FeedsTupleStructField S.permits S.has (T.tree value.now) self.old result self.new }
-        ensures alone { lacks_descriptor self.old ≡ false → is_open self.old ≡ false →
-            is_single self.old ≡ true →
-            FeedsOnlyTupleStructField S.permits S.has (T.tree value.now) self.old result self.new }
-        ensures misuse_error { is_full self.old ≡ true →
-            IsErr result × RefusesTupleStructField S.permits S.has self.old result self.new }
-        ensures invalid { is_full self.old ≡ true → IfErr result S.is_misuse_error }
-        ensures other_kinds { lacks_descriptor self.old ≡ true → (start : S) →
-            TupleStructHas S.permits S.has start None CompoundKind.Single self.old [] →
-            descriptor_of (T.tree value.now) ≡ None → IsErr result }
+        ensures step { TupleStructFieldStep S.permits S.has S.is_misuse_error (T.tree value.now)
+            self.old result self.new }
+        ensures kept { IfErr result
+            (λ _. (lacks_descriptor self.new ≡ lacks_descriptor self.old)
+            × (is_open self.new ≡ is_open self.old)) }
+        ensures single { is_single self.new ≡ is_single self.old }
+        ensures same { (tuple_struct_reference self.new).ghost_name
+            ≡ (tuple_struct_reference self.old).ghost_name }
     {
         if self.wants_descriptor {
             feed_descriptor(&mut *self.serializer, &mut self.compound, value)?;
