@@ -2,8 +2,8 @@
 use Rattle.std.specs.Prelude.{ℕ, List, Bool, Option, Result}
 use Rattle.std.specs.Borrow.{MutBor}
 use Rattle.amqp_ser.specs.Tree.{Tree}
-use Rattle.amqp_ser.specs.Structs.{Stands}
-use Rattle.amqp_ser.specs.StructFeeding.{FieldStep, TupleFieldStep}
+use Rattle.amqp_ser.specs.Structs.{Stands, single_or_list}
+use Rattle.amqp_ser.specs.StructFeeding.{EndStep, FieldStep, TupleFieldStep}
 use Rattle.amqp_ser.specs.declared.kind.CompoundKind.{CompoundKind}
 use Rattle.amqp_ser.specs.declared.struct_encoding.StructEncoding.{StructEncoding}
 use Rattle.amqp_ser.specs.declared.compound.structs.SerializeStruct.{SerializeStruct}
@@ -60,6 +60,11 @@ module _ {S H O E : Type 0} (permits : S → Option Tree → Result O E → S �
       FieldStep permits has is_misuse_error before.form before.described before.opened key value
       before.serializer.now before.compound result after.serializer.now after.compound
 
+  -- The result of ending the struct: `EndStep` has the cases.
+  abbrev pub EndsStruct : (E → Type 0) → SerializeStruct S O E H → Result O E → S → Type 0
+  EndsStruct is_misuse_error fields result after =
+      EndStep permits has is_misuse_error fields.form fields.opened fields.serializer.now fields.compound result after
+
   -- Like the definitions above, for a tuple struct.
   abbrev pub TupleStructHas : S → Option (Option Tree) → CompoundKind → SerializeTupleStruct S O E H → List (Option Tree) → Type 0
   TupleStructHas start prefix kind fields parts = Stands permits has start prefix kind fields.serializer.now fields.compound parts
@@ -68,3 +73,7 @@ module _ {S H O E : Type 0} (permits : S → Option Tree → Result O E → S �
   TupleStructFieldStep is_misuse_error value before result after =
       TupleFieldStep permits has is_misuse_error before.single before.wants_descriptor before.opened value
       before.serializer.now before.compound result after.serializer.now after.compound
+
+  abbrev pub EndsTupleStruct : (E → Type 0) → SerializeTupleStruct S O E H → Result O E → S → Type 0
+  EndsTupleStruct is_misuse_error fields result after =
+      EndStep permits has is_misuse_error (single_or_list fields.single) fields.opened fields.serializer.now fields.compound result after

@@ -1,8 +1,9 @@
 //! The body of a struct: a list or a map, which replaces the single compound at the first field.
 
-ghost use Rattle.std.specs.Prelude.{◌≡◌, ◌++◌, ◌∷◌, [], List, Option, None, Err, MatchResult, IfErr, IsErr, true, false};
+ghost use Rattle.std.specs.Prelude.{◌≡◌, ◌++◌, [], List, Option, None, Err, MatchResult, IfErr, IsErr};
 ghost use Rattle.amqp_ser.specs.Tree.{Tree};
-ghost use Rattle.amqp_ser.specs.Compounds.{tree_of_parts, paired};
+ghost use Rattle.amqp_ser.specs.Compounds.{tree_of_parts};
+ghost use Rattle.amqp_ser.specs.StructFeeding.{EndStep};
 ghost use Rattle.amqp_ser.specs.Structs.{Stands, form_kind, fields_kind, field_parts};
 
 use super::described::end_single;
@@ -119,6 +120,7 @@ fn end_empty<S: Serializer>(
 ///
 /// # Example
 /// Without fields: the list `45`, or the map `c10100`. With the ubyte 1: the list `c003015001`.
+#[tactic(auto, unfolding(crate::specs::Structs::Stands))]
 #[inline(always)]
 pub fn end_fields<S: Serializer>(
     serializer: &mut S,
@@ -126,19 +128,8 @@ pub fn end_fields<S: Serializer>(
     form: StructEncoding,
     opened: bool,
 ) -> Result<S::Ok, S::Error>
-    ensures list { opened ≡ true → form ≡ StructEncoding.List → (start : S) (ps : List (Option Tree)) →
-        S.has start CompoundKind.List serializer.old compound ps →
-        S.permits start (tree_of_parts CompoundKind.List ps) result serializer.new }
-    ensures map { opened ≡ true → form ≡ StructEncoding.Map → (start : S) (ps : List (Option Tree)) →
-        S.has start CompoundKind.Map serializer.old compound ps → paired ps ≡ true →
-        S.permits start (tree_of_parts CompoundKind.Map ps) result serializer.new }
-    ensures alone { opened ≡ true → form ≡ StructEncoding.Single → (start : S) (p : Option Tree) →
-        S.has start CompoundKind.Single serializer.old compound (p ∷ []) →
-        S.permits start p result serializer.new }
-    ensures empty { opened ≡ false → (start : S) → S.has start CompoundKind.Single serializer.old compound [] →
-        S.permits start (tree_of_parts (form_kind form) []) result serializer.new }
-    ensures invalid { opened ≡ false → form ≡ StructEncoding.Single → IsErr result
-        × IfErr result S.is_misuse_error }
+    ensures { EndStep S.permits S.has S.is_misuse_error form opened serializer.old compound result
+        serializer.new }
 {
     if !opened {
         return end_empty(serializer, compound, form);

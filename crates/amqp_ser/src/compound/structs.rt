@@ -1,18 +1,14 @@
 //! Structs: an optional descriptor and a body of fields.
 
-ghost use Rattle.std.specs.Prelude.{◌≡◌, ◌∷◌, ◌||◌, [], List, Option, IfOk, IfErr, IsErr, not, true, false};
+ghost use Rattle.std.specs.Prelude.{◌≡◌, ◌||◌, [], IfOk, IfErr, not, false};
 ghost use mir.Syntax.{named};
 ghost use Rattle.std.specs.Borrow.{Lends, sem};
-ghost use Rattle.amqp_ser.specs.Tree.{Tree};
-ghost use Rattle.amqp_ser.specs.Compounds.{tree_of_parts, paired};
 ghost use Rattle.amqp_ser.specs.Marked.{is_descriptor_name};
-ghost use Rattle.amqp_ser.specs.OpenStructs.{struct_reference, struct_with_serializer, form_of, has_descriptor, has_field, StructHas, StructFieldStep};
-ghost use Rattle.amqp_ser.specs.Structs.{form_kind, optionally_described};
+ghost use Rattle.amqp_ser.specs.OpenStructs.{struct_reference, struct_with_serializer, form_of, has_descriptor, has_field, StructFieldStep, EndsStruct};
 
 use super::any_field::feed_any;
 use super::body::end_fields;
 use super::list_field::feed_list_field;
-use crate::kind::CompoundKind;
 use crate::names::is_descriptor_name;
 use crate::serialize::Serialize;
 use crate::serializer::Serializer;
@@ -171,31 +167,9 @@ impl<'a, S: Serializer> SerializeStruct<'a, S> {
     /// # Example
     /// The descriptor 1 and the field `true`: `005301c0020141`; under the name `DESCRIBED_BASIC`
     /// `00530141`.
-    #[tactic(auto, unfolding(crate::specs::Structs::Stands))]
     #[inline(always)]
     pub fn end(self) -> Result<S::Ok, S::Error>
-        ensures list { has_field self.entry ≡ true → form_of self.entry ≡ StructEncoding.List →
-            (start : S) (prefix : Option (Option Tree)) (ps : List (Option Tree)) →
-            StructHas S.permits S.has start prefix CompoundKind.List self.entry ps →
-            S.permits start (optionally_described prefix (tree_of_parts CompoundKind.List ps)) result
-            self.exit.0.now }
-        ensures map { has_field self.entry ≡ true → form_of self.entry ≡ StructEncoding.Map →
-            (start : S) (prefix : Option (Option Tree)) (ps : List (Option Tree)) →
-            StructHas S.permits S.has start prefix CompoundKind.Map self.entry ps → paired ps ≡ true →
-            S.permits start (optionally_described prefix (tree_of_parts CompoundKind.Map ps)) result
-            self.exit.0.now }
-        ensures alone { has_field self.entry ≡ true → form_of self.entry ≡ StructEncoding.Single →
-            (start : S) (prefix : Option (Option Tree)) (p : Option Tree) →
-            StructHas S.permits S.has start prefix CompoundKind.Single self.entry (p ∷ []) →
-            S.permits start (optionally_described prefix p) result self.exit.0.now }
-        ensures empty { has_field self.entry ≡ false →
-            (start : S) (prefix : Option (Option Tree)) →
-            StructHas S.permits S.has start prefix CompoundKind.Single self.entry [] →
-            S.permits start
-            (optionally_described prefix (tree_of_parts (form_kind (form_of self.entry)) []))
-            result self.exit.0.now }
-        ensures invalid { has_field self.entry ≡ false → form_of self.entry ≡ StructEncoding.Single →
-            IsErr result × IfErr result S.is_misuse_error }
+        ensures { EndsStruct S.permits S.has S.is_misuse_error self.entry result self.exit.0.now }
     {
         let SerializeStruct {
             serializer,

@@ -1,17 +1,13 @@
 //! Tuple structs: lists of their fields. The first field may be a descriptor.
 
-ghost use Rattle.std.specs.Prelude.{◌≡◌, ◌∷◌, [], List, Option, IfOk, IfErr, IsErr, ◌||◌, not, true, false};
+ghost use Rattle.std.specs.Prelude.{◌≡◌, [], IfOk, IfErr, ◌||◌, not, false};
 ghost use mir.Syntax.{named};
 ghost use Rattle.std.specs.Borrow.{Lends, sem};
-ghost use Rattle.amqp_ser.specs.Tree.{Tree};
-ghost use Rattle.amqp_ser.specs.Compounds.{tree_of_parts};
-ghost use Rattle.amqp_ser.specs.OpenStructs.{tuple_struct_reference, tuple_struct_with_serializer, is_single, lacks_descriptor, is_open, TupleStructHas, TupleStructFieldStep};
-ghost use Rattle.amqp_ser.specs.Structs.{single_or_list, form_kind, optionally_described};
+ghost use Rattle.amqp_ser.specs.OpenStructs.{tuple_struct_reference, tuple_struct_with_serializer, is_single, lacks_descriptor, is_open, TupleStructFieldStep, EndsTupleStruct};
 
 use super::body::{end_fields, open_body};
 use super::described::{feed_descriptor, feed_single};
 use super::feed::feed_part;
-use crate::kind::CompoundKind;
 use crate::serialize::Serialize;
 use crate::serializer::Serializer;
 use crate::struct_encoding::StructEncoding;
@@ -145,27 +141,10 @@ impl<'a, S: Serializer> SerializeTupleStruct<'a, S> {
     /// # Example
     /// The ubyte 1 and `true`: `c00402500141`. Under the name `DESCRIBED_LIST`, the ulong 1 and
     /// `true`: `005301c0020141`.
-    #[tactic(auto, unfolding(crate::specs::Structs::Stands))]
     #[inline(always)]
     pub fn end(self) -> Result<S::Ok, S::Error>
-        ensures list { is_open self.entry ≡ true → is_single self.entry ≡ false →
-            (start : S) (prefix : Option (Option Tree)) (ps : List (Option Tree)) →
-            TupleStructHas S.permits S.has start prefix CompoundKind.List self.entry ps →
-            S.permits start (optionally_described prefix (tree_of_parts CompoundKind.List ps)) result
+        ensures { EndsTupleStruct S.permits S.has S.is_misuse_error self.entry result
             self.exit.0.now }
-        ensures alone { is_open self.entry ≡ true → is_single self.entry ≡ true →
-            (start : S) (prefix : Option (Option Tree)) (p : Option Tree) →
-            TupleStructHas S.permits S.has start prefix CompoundKind.Single self.entry (p ∷ []) →
-            S.permits start (optionally_described prefix p) result self.exit.0.now }
-        ensures empty { is_open self.entry ≡ false →
-            (start : S) (prefix : Option (Option Tree)) →
-            TupleStructHas S.permits S.has start prefix CompoundKind.Single self.entry [] →
-            S.permits start
-            (optionally_described prefix
-            (tree_of_parts (form_kind (single_or_list (is_single self.entry))) []))
-            result self.exit.0.now }
-        ensures invalid { is_open self.entry ≡ false → is_single self.entry ≡ true →
-            IsErr result × IfErr result S.is_misuse_error }
     {
         let SerializeTupleStruct {
             serializer,
