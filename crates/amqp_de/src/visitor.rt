@@ -20,14 +20,16 @@ use amqp_value::Value;
 ///
 /// # Errors
 /// A visit returns an error if no value is produced from its event. The default of a visit returns
-/// `DeserializeError::invalid_value` if `refuses` returns `true` for it, and `DeserializeError::out_of_memory` otherwise.
+/// `DeserializeError::invalid_value` if `refuses` returns `true` for it, and
+/// `DeserializeError::out_of_memory` otherwise.
 ///
 /// # Implementer notes
 /// Required method: `refuses`. Implement each visit that can produce a value; the defaults of the
 /// others return an error. `visit_plain` receives null, the absent value and all scalars that have
 /// a variant of [`Plain`]. A visit must return a value that `gives` relates to the event, and may
-/// return an error other than out of memory only if there is no such value. If `represents` relates the
-/// event to `x`, the visit must return a value with the same contents as `x`, or run out of memory.
+/// return an error other than out of memory only if there is no such value. If `represents` relates
+/// the event to `x`, the visit must return a value with the same contents as `x`, or run out of
+/// memory.
 pub trait Visitor: Sized + Drop {
     /// The type of the value that is built.
     type Value: Drop;
@@ -56,7 +58,8 @@ pub trait Visitor: Sized + Drop {
     ///
     /// # Errors
     /// Returns an error other than out of memory only if this event produces no value. The default
-    /// returns `DeserializeError::invalid_value` if `refuses` returns `true`, and `DeserializeError::out_of_memory` otherwise.
+    /// returns `DeserializeError::invalid_value` if `refuses` returns `true`, and
+    /// `DeserializeError::out_of_memory` otherwise.
     ///
     /// # Example
     /// The uint 1 is passed as `Plain::U32(1)`, null as `Plain::Unit`, and an absent value as
@@ -72,7 +75,8 @@ pub trait Visitor: Sized + Drop {
     ///
     /// # Errors
     /// Returns an error other than out of memory only if this event produces no value. The default
-    /// returns `DeserializeError::invalid_value` if `refuses` returns `true`, and `DeserializeError::out_of_memory` otherwise.
+    /// returns `DeserializeError::invalid_value` if `refuses` returns `true`, and
+    /// `DeserializeError::out_of_memory` otherwise.
     ///
     /// # Example
     /// `deserialize_option` passes a deserializer of 5 for the uint 5.
@@ -89,7 +93,8 @@ pub trait Visitor: Sized + Drop {
     ///
     /// # Errors
     /// Returns an error other than out of memory only if this event produces no value. The default
-    /// returns `DeserializeError::invalid_value` if `refuses` returns `true`, and `DeserializeError::out_of_memory` otherwise.
+    /// returns `DeserializeError::invalid_value` if `refuses` returns `true`, and
+    /// `DeserializeError::out_of_memory` otherwise.
     ///
     /// # Example
     /// `deserialize_newtype_struct` under the name `Celsius` passes a deserializer of 1 for the
@@ -107,7 +112,8 @@ pub trait Visitor: Sized + Drop {
     ///
     /// # Errors
     /// Returns an error other than out of memory only if this event produces no value. The default
-    /// returns `DeserializeError::invalid_value` if `refuses` returns `true`, and `DeserializeError::out_of_memory` otherwise.
+    /// returns `DeserializeError::invalid_value` if `refuses` returns `true`, and
+    /// `DeserializeError::out_of_memory` otherwise.
     ///
     /// # Example
     /// `deserialize_seq` passes the elements 1 and 2, in order, for the list of the ubytes 1 and 2.
@@ -123,7 +129,8 @@ pub trait Visitor: Sized + Drop {
     ///
     /// # Errors
     /// Returns an error other than out of memory only if this event produces no value. The default
-    /// returns `DeserializeError::invalid_value` if `refuses` returns `true`, and `DeserializeError::out_of_memory` otherwise.
+    /// returns `DeserializeError::invalid_value` if `refuses` returns `true`, and
+    /// `DeserializeError::out_of_memory` otherwise.
     ///
     /// # Example
     /// `deserialize_map` passes this one pair for the map from the ubyte 1 to `true`.
@@ -140,7 +147,8 @@ pub trait Visitor: Sized + Drop {
     ///
     /// # Errors
     /// Returns an error other than out of memory only if this event produces no value. The default
-    /// returns `DeserializeError::invalid_value` if `refuses` returns `true`, and `DeserializeError::out_of_memory` otherwise.
+    /// returns `DeserializeError::invalid_value` if `refuses` returns `true`, and
+    /// `DeserializeError::out_of_memory` otherwise.
     ///
     /// # Example
     /// `deserialize_enum` passes the index 1 and the value 13 for the map from the uint 1 to the
@@ -158,7 +166,8 @@ pub trait Visitor: Sized + Drop {
     ///
     /// # Errors
     /// Returns an error other than out of memory only if this event produces no value. The default
-    /// returns `DeserializeError::invalid_value` if `refuses` returns `true`, and `DeserializeError::out_of_memory` otherwise.
+    /// returns `DeserializeError::invalid_value` if `refuses` returns `true`, and
+    /// `DeserializeError::out_of_memory` otherwise.
     ///
     /// # Example
     /// `deserialize_described` passes `Descriptor::Code(1)` and a deserializer of `true` for `true`
@@ -182,7 +191,8 @@ pub trait Visitor: Sized + Drop {
     ///
     /// # Errors
     /// Returns an error other than out of memory only if this event produces no value. The default
-    /// returns `DeserializeError::invalid_value` if `refuses` returns `true`, and `DeserializeError::out_of_memory` otherwise.
+    /// returns `DeserializeError::invalid_value` if `refuses` returns `true`, and
+    /// `DeserializeError::out_of_memory` otherwise.
     ///
     /// # Example
     /// `deserialize_any` passes `Value::Symbol` of `a` for the symbol `a`.

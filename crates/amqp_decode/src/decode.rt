@@ -23,14 +23,14 @@ use std::alloc::Global;
 /// its deepest part, and a described value has one more than its value.
 ///
 /// # Errors
-/// Returns `InvalidFormatCode` if a byte in the place of a format code is not one. Returns
+/// Returns `InvalidFormatCode` if a byte is not a format code where one is required. Returns
 /// `UnexpectedEof` if the bytes or a payload end too early. Returns `InvalidValue` if bytes are
 /// left over, and for every other invalid input. Returns `OutOfMemory` if an allocation fails.
 ///
 /// # Memory
-/// Allocates from `alloc`. Buffers grow element by element, and no capacity is reserved for a
-/// count. But an array whose elements have no bytes, such as nulls, grows by its count:
-/// `decode_value_limited` limits it.
+/// Allocates from `alloc`. Buffers grow element by element; a count reserves no capacity. An array
+/// whose elements have no bytes, such as nulls, takes memory for as many elements as its count says.
+/// `decode_value_limited` limits them.
 ///
 /// # Example
 /// `43`, `5200` and `7000000000` are the uint 0.

@@ -1,4 +1,4 @@
-//! Reads the common scalars of no width and of fixed width, with one match on the code.
+//! Reads the common scalars of fixed width. One `match` on the format code selects the type.
 
 ghost use Rattle.std.specs.Prelude.{◌≡◌, ◌∷◌, IfSome, Some};
 ghost use Rattle.amqp_value.specs.TreeOf.{tree_of};

@@ -22,7 +22,7 @@ pub fn spelled_frame()
     ensures { (d : ℕ) (bytes : List ℕ) (t : Tree) → Spells d bytes t → IsFrame bytes }
 {}
 
-/// A tree that bytes encode is its own image: no map in it has a key twice.
+/// A tree that bytes encode is its own image, because no map in it has the same key twice.
 pub fn spelled_trees_are_their_own_images()
     ensures { (d : ℕ) (bytes : List ℕ) (t : Tree) → Spells d bytes t → image t ≡ t }
 {}

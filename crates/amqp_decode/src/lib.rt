@@ -1,7 +1,7 @@
 //! Decodes the bytes of one encoded value into an untyped value.
 //!
-//! Every form of AMQP data is accepted, short or long, also inside arrays, and not only the form
-//! that this library writes. One relation defines which bytes encode which tree. `decode_value`
+//! Every encoding of AMQP data is accepted, not only the one that this library writes: short and
+//! long forms, also as elements of arrays. One relation defines which bytes encode which tree. `decode_value`
 //! returns the value that the bytes encode by this relation, and an error if they encode none or an
 //! allocation fails.
 #![tactic(auto)]

@@ -26,14 +26,14 @@ pub fn read_encoded_value(
     ensures ok { IfOk result (λ v. parse depth bytes.old.now ≡ Some (tree_of v, bytes.new.now)) }
     ensures err { IfErr result (λ e. ¬ (e ≡ OutOfMemory) → parse depth bytes.old.now ≡ None) }
 {
-    read_frame_on(alloc, bytes, depth, elements, &mut Vec::new(alloc))
+    read_on_stack(alloc, bytes, depth, elements, &mut Vec::new(alloc))
 }
 
-// Like `read_encoded_value`. The stack contains the elements read so far of the enclosing lists, and is
-// unchanged if the call succeeds.
+// Like `read_encoded_value`. The stack contains the elements read so far of the enclosing lists,
+// and is unchanged if the call succeeds.
 #[cycle(read)]
 #[inline(always)]
-fn read_frame_on(
+fn read_on_stack(
     alloc: Global,
     bytes: &mut &[u8],
     depth: u16,
@@ -55,15 +55,15 @@ fn read_frame_on(
                 return Ok(value);
             }
             *bytes = rest;
-            read_frame_over(alloc, *code, bytes, depth - 1, elements, stack)
+            read_after_code(alloc, *code, bytes, depth - 1, elements, stack)
         }
     }
 }
 
-// Like `read_frame_on`, after the format code has been read. `depth` limits the values inside.
+// Like `read_on_stack`, after the format code has been read. `depth` limits the values inside.
 #[cycle(read)]
 #[inline(never)]
-fn read_frame_over(
+fn read_after_code(
     alloc: Global,
     code: u8,
     bytes: &mut &[u8],
@@ -81,7 +81,7 @@ fn read_frame_over(
     if code == 0 {
         let (descriptor, rest) = read_descriptor(alloc, bytes)?;
         *bytes = rest;
-        let value = read_frame_on(alloc, bytes, depth, elements, stack)?;
+        let value = read_on_stack(alloc, bytes, depth, elements, stack)?;
         let described = Box::new(alloc, Described { descriptor, value })?;
         return Ok(Value::Described(described));
     }
@@ -173,7 +173,7 @@ fn read_list(
     let start = stack.len();
     let mut rest = body;
     for _ in 0..count {
-        let item = read_frame_on(alloc, &mut rest, depth, elements, stack)?;
+        let item = read_on_stack(alloc, &mut rest, depth, elements, stack)?;
         stack.push(item)?;
     }
     if !rest.is_empty() {

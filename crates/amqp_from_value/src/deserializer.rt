@@ -208,8 +208,8 @@ impl de::Deserializer for Deserializer {
 ///
 /// # Errors
 /// Returns `Error::OutOfMemory` if an allocation fails. Otherwise returns an error if and only if
-/// the value cannot be read as a `T`: `Error::InvalidValue` or `Error::Message`, as `T` chooses.
-/// The value is dropped.
+/// the value cannot be read as a `T`; the implementation of `T` determines which. The value is
+/// dropped.
 pub fn from_value<T: Deserialize>(alloc: Global, value: Value) -> Result<T, Error>
     ensures read { Answers (λ e. e ≡ OutOfMemory) (T.reads (tree_of value)) result }
     ensures law { Restores T.image T.restorable T.same

@@ -1,4 +1,4 @@
-//! The keys of a map that match a field's name: strings with the same characters, never symbols.
+//! Finds the key of a map that is the name of a field: a string, not a symbol.
 
 ghost use Rattle.std.specs.Prelude.{◌≡◌, position};
 ghost use Rattle.amqp_value.specs.TreeOf.{tree_of};

@@ -63,7 +63,7 @@ pub fn variants_return()
 {}
 
 /// The image of a list that is serialized without the absent fields at its end is the list of the
-/// images of the fields before those.
+/// images of the other fields.
 ///
 /// # Memory
 /// None.

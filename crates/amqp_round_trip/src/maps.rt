@@ -1,4 +1,4 @@
-//! Round trips of maps. Keys that remain distinct by their contents have distinct images.
+//! Round trips of maps. By the law of `MapKey`, keys with different contents have different images.
 
 use crate::map_key::MapKey;
 use crate::round_trips::RoundTrip;

@@ -1,4 +1,4 @@
-//! Types whose values round-trip through their untyped values.
+//! Types whose values can be converted to untyped values and read back.
 
 ghost use Rattle.std.specs.Prelude.{◌≡◌, MatchResult};
 ghost use Rattle.amqp_data.specs.declared.error.Error.TheVariants.{OutOfMemory};

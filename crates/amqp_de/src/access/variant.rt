@@ -51,7 +51,8 @@ pub trait EnumAccess: Sized + Drop {
     /// Returns the seed's error, which is out of memory or means that the index cannot be read.
     ///
     /// # Example
-    /// For the index 1, with `TypeSeed(PhantomData::<u32>)`, returns 1 and the accessor of the value.
+    /// For the index 1, with `TypeSeed(PhantomData::<u32>)`, returns 1 and the accessor of the
+    /// value.
     final fn variant_seed<S: DeserializeSeed>(
         self,
         alloc: Global,
@@ -129,8 +130,8 @@ pub trait VariantAccess: Sized + Drop {
     /// error other than out of memory is returned only if no value is read.
     ///
     /// # Example
-    /// For the ulong 13, with `TypeSeed(PhantomData::<u64>)`, returns 13. If there is no value, returns
-    /// the message.
+    /// For the ulong 13, with `TypeSeed(PhantomData::<u64>)`, returns 13. If there is no value,
+    /// returns the message.
     final fn newtype_variant_seed<S: DeserializeSeed>(
         self,
         alloc: Global,
@@ -167,8 +168,8 @@ pub trait VariantAccess: Sized + Drop {
     /// Deserializes a tuple variant: reports the list of its fields to the visitor.
     ///
     /// # Errors
-    /// Returns the message `Expecting Value::List` if there is no value, and `DeserializeError::invalid_value` if
-    /// the value is not a list; otherwise the visitor's error.
+    /// Returns the message `Expecting Value::List` if there is no value, and
+    /// `DeserializeError::invalid_value` if the value is not a list; otherwise the visitor's error.
     ///
     /// # Example
     /// For the list of the ubytes 1 and 2, calls `visit_seq` with these two elements.

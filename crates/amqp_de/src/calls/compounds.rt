@@ -28,7 +28,8 @@ pub trait DeserializeCompounds: Deserializer {
     /// Deserializes the elements of a list.
     ///
     /// # Errors
-    /// Returns `DeserializeError::invalid_value` if the value is not a list; otherwise the visitor's error.
+    /// Returns `DeserializeError::invalid_value` if the value is not a list; otherwise the
+    /// visitor's error.
     ///
     /// # Example
     /// For the list of the ubytes 1 and 2, calls `visit_seq` with these two elements. An array of
@@ -48,7 +49,8 @@ pub trait DeserializeCompounds: Deserializer {
     /// Deserializes a tuple, like `deserialize_seq`.
     ///
     /// # Errors
-    /// Returns `DeserializeError::invalid_value` if the value is not a list; otherwise the visitor's error.
+    /// Returns `DeserializeError::invalid_value` if the value is not a list; otherwise the
+    /// visitor's error.
     ///
     /// # Example
     /// For the list of the ubyte 1 and `true`, calls `visit_seq` with these two elements.
@@ -63,7 +65,8 @@ pub trait DeserializeCompounds: Deserializer {
     /// Deserializes the keys and values of a map.
     ///
     /// # Errors
-    /// Returns `DeserializeError::invalid_value` if the value is not a map; otherwise the visitor's error.
+    /// Returns `DeserializeError::invalid_value` if the value is not a map; otherwise the visitor's
+    /// error.
     ///
     /// # Example
     /// For the map from the ubyte 1 to `true`, calls `visit_map` with this pair.
@@ -82,8 +85,8 @@ pub trait DeserializeCompounds: Deserializer {
     /// Deserializes an identifier: a uint, or the text of a symbol.
     ///
     /// # Errors
-    /// Returns `DeserializeError::invalid_value` if the value is neither a uint nor a symbol; otherwise the
-    /// visitor's error.
+    /// Returns `DeserializeError::invalid_value` if the value is neither a uint nor a symbol;
+    /// otherwise the visitor's error.
     ///
     /// # Example
     /// For the uint 1, calls `visit_u32(1)`. For the symbol `a`, calls `visit_string` with `a`. The
@@ -119,7 +122,8 @@ pub trait DeserializeCompounds: Deserializer {
     /// Deserializes a described value: a descriptor and the value after it.
     ///
     /// # Errors
-    /// Returns `DeserializeError::invalid_value` if the value is not described; otherwise the visitor's error.
+    /// Returns `DeserializeError::invalid_value` if the value is not described; otherwise the
+    /// visitor's error.
     ///
     /// # Example
     /// For `true` described by the code 1, calls `visit_described` with this code and a
@@ -140,8 +144,8 @@ pub trait DeserializeCompounds: Deserializer {
     /// struct, a descriptor and the value after it.
     ///
     /// # Errors
-    /// Returns `DeserializeError::invalid_value` if the value is not a list, or, for the name of a described
-    /// struct, not a described value; otherwise the visitor's error.
+    /// Returns `DeserializeError::invalid_value` if the value is not a list, or, for the name of a
+    /// described struct, not a described value; otherwise the visitor's error.
     ///
     /// # Example
     /// For the list of the ubyte 1, calls `visit_seq` with this element. For that list described by
@@ -188,8 +192,8 @@ pub trait DeserializeCompounds: Deserializer {
     /// Deserializes a descriptor: a ulong, or the text of a symbol.
     ///
     /// # Errors
-    /// Returns `DeserializeError::invalid_value` if the value is neither a ulong nor a symbol; otherwise the
-    /// visitor's error.
+    /// Returns `DeserializeError::invalid_value` if the value is neither a ulong nor a symbol;
+    /// otherwise the visitor's error.
     ///
     /// # Example
     /// For the ulong 1, calls `visit_u64(1)`. For the symbol `a:b`, calls `visit_string` with
@@ -213,9 +217,9 @@ pub trait DeserializeCompounds: Deserializer {
     /// In a list, elements after the second are ignored.
     ///
     /// # Errors
-    /// Returns the message `Expecting a Value` for an empty list or map. Returns `DeserializeError::invalid_value`
-    /// for a map of several pairs, and if the value is not a uint, symbol, list or map. Otherwise
-    /// returns the visitor's error.
+    /// Returns the message `Expecting a Value` for an empty list or map. Returns
+    /// `DeserializeError::invalid_value` for a map of several pairs, and if the value is not a
+    /// uint, symbol, list or map. Otherwise returns the visitor's error.
     ///
     /// # Example
     /// For the uint 3, calls `visit_enum` with this index and no value. For the map from the uint 1
@@ -310,7 +314,8 @@ pub trait DeserializeCompounds: Deserializer {
     /// Deserializes the elements of an array.
     ///
     /// # Errors
-    /// Returns `DeserializeError::invalid_value` if the value is not an array; otherwise the visitor's error.
+    /// Returns `DeserializeError::invalid_value` if the value is not an array; otherwise the
+    /// visitor's error.
     ///
     /// # Example
     /// For the array of the ubytes 1 and 2, calls `visit_seq` with these two elements. A list of
@@ -331,8 +336,9 @@ pub trait DeserializeCompounds: Deserializer {
     /// Deserializes a lazy value: the bytes of the encoded value.
     ///
     /// # Errors
-    /// Returns `DeserializeError::invalid_value` or `DeserializeError::too_long` if `to_vec` cannot encode the value, and is
-    /// out of memory (`DeserializeError::out_of_memory`) if an allocation fails; otherwise the visitor's error.
+    /// Returns `DeserializeError::invalid_value` or `DeserializeError::too_long` if `to_vec` cannot
+    /// encode the value, and is out of memory (`DeserializeError::out_of_memory`) if an allocation
+    /// fails; otherwise the visitor's error.
     ///
     /// # Memory
     /// The bytes are allocated from `alloc`.
@@ -357,13 +363,13 @@ pub trait DeserializeCompounds: Deserializer {
     /// `Marker::Other` and `Marker::Transparent` accept a value of any kind.
     ///
     /// # Errors
-    /// Returns `DeserializeError::invalid_value` if the value is not of the kind that `marker` makes, and the errors
-    /// of `deserialize_written`, out of memory included, for `Marker::Lazy`; otherwise the visitor's
-    /// error.
+    /// Returns `DeserializeError::invalid_value` if the value is not of the kind that `marker`
+    /// makes, and the errors of `deserialize_written`, out of memory included, for `Marker::Lazy`;
+    /// otherwise the visitor's error.
     ///
     /// # Example
-    /// For the symbol `a` and `Marker::Symbol`, calls `visit_string` with `a`. For a timestamp of 13
-    /// milliseconds and `Marker::Timestamp`, calls `visit_i64(13)`.
+    /// For the symbol `a` and `Marker::Symbol`, calls `visit_string` with `a`. For a timestamp of
+    /// 13 milliseconds and `Marker::Timestamp`, calls `visit_i64(13)`.
     final fn deserialize_marked<V: Visitor>(
         self,
         marker: Marker,

@@ -26,7 +26,8 @@ pub trait DeserializeScalars: Deserializer {
     /// Deserializes a `bool` from a boolean.
     ///
     /// # Errors
-    /// Returns `DeserializeError::invalid_value` if the value is not a boolean; otherwise the visitor's error.
+    /// Returns `DeserializeError::invalid_value` if the value is not a boolean; otherwise the
+    /// visitor's error.
     ///
     /// # Example
     /// For `true`, calls `visit_bool(true)`. The ubyte 1 is invalid.
@@ -45,7 +46,8 @@ pub trait DeserializeScalars: Deserializer {
     /// Deserializes a `u8` from a ubyte.
     ///
     /// # Errors
-    /// Returns `DeserializeError::invalid_value` if the value is not a ubyte; otherwise the visitor's error.
+    /// Returns `DeserializeError::invalid_value` if the value is not a ubyte; otherwise the
+    /// visitor's error.
     ///
     /// # Example
     /// For the ubyte 5, calls `visit_u8(5)`. The uint 5 is invalid.
@@ -64,7 +66,8 @@ pub trait DeserializeScalars: Deserializer {
     /// Deserializes a `u16` from a ushort.
     ///
     /// # Errors
-    /// Returns `DeserializeError::invalid_value` if the value is not a ushort; otherwise the visitor's error.
+    /// Returns `DeserializeError::invalid_value` if the value is not a ushort; otherwise the
+    /// visitor's error.
     ///
     /// # Example
     /// For the ushort 256, calls `visit_u16(256)`.
@@ -83,7 +86,8 @@ pub trait DeserializeScalars: Deserializer {
     /// Deserializes a `u32` from a uint.
     ///
     /// # Errors
-    /// Returns `DeserializeError::invalid_value` if the value is not a uint; otherwise the visitor's error.
+    /// Returns `DeserializeError::invalid_value` if the value is not a uint; otherwise the
+    /// visitor's error.
     ///
     /// # Example
     /// For the uint 1, calls `visit_u32(1)`. The ulong 1 is invalid.
@@ -102,7 +106,8 @@ pub trait DeserializeScalars: Deserializer {
     /// Deserializes a `u64` from a ulong.
     ///
     /// # Errors
-    /// Returns `DeserializeError::invalid_value` if the value is not a ulong; otherwise the visitor's error.
+    /// Returns `DeserializeError::invalid_value` if the value is not a ulong; otherwise the
+    /// visitor's error.
     ///
     /// # Example
     /// For the ulong 13, calls `visit_u64(13)`.
@@ -121,7 +126,8 @@ pub trait DeserializeScalars: Deserializer {
     /// Deserializes an `i8` from a byte.
     ///
     /// # Errors
-    /// Returns `DeserializeError::invalid_value` if the value is not a byte; otherwise the visitor's error.
+    /// Returns `DeserializeError::invalid_value` if the value is not a byte; otherwise the
+    /// visitor's error.
     ///
     /// # Example
     /// For the byte -1, calls `visit_i8(-1)`.
@@ -140,7 +146,8 @@ pub trait DeserializeScalars: Deserializer {
     /// Deserializes an `i16` from a short.
     ///
     /// # Errors
-    /// Returns `DeserializeError::invalid_value` if the value is not a short; otherwise the visitor's error.
+    /// Returns `DeserializeError::invalid_value` if the value is not a short; otherwise the
+    /// visitor's error.
     ///
     /// # Example
     /// For the short -2, calls `visit_i16(-2)`.
@@ -159,7 +166,8 @@ pub trait DeserializeScalars: Deserializer {
     /// Deserializes an `i32` from an int.
     ///
     /// # Errors
-    /// Returns `DeserializeError::invalid_value` if the value is not an int; otherwise the visitor's error.
+    /// Returns `DeserializeError::invalid_value` if the value is not an int; otherwise the
+    /// visitor's error.
     ///
     /// # Example
     /// For the int 128, calls `visit_i32(128)`.
@@ -178,7 +186,8 @@ pub trait DeserializeScalars: Deserializer {
     /// Deserializes an `i64` from a long.
     ///
     /// # Errors
-    /// Returns `DeserializeError::invalid_value` if the value is not a long; otherwise the visitor's error.
+    /// Returns `DeserializeError::invalid_value` if the value is not a long; otherwise the
+    /// visitor's error.
     ///
     /// # Example
     /// For the long -1, calls `visit_i64(-1)`. A timestamp is invalid.
@@ -197,7 +206,8 @@ pub trait DeserializeScalars: Deserializer {
     /// Deserializes the bits of an `f32` from a float.
     ///
     /// # Errors
-    /// Returns `DeserializeError::invalid_value` if the value is not a float; otherwise the visitor's error.
+    /// Returns `DeserializeError::invalid_value` if the value is not a float; otherwise the
+    /// visitor's error.
     ///
     /// # Example
     /// For the float 1.5, calls `visit_f32` with the bits 3FC00000.
@@ -216,7 +226,8 @@ pub trait DeserializeScalars: Deserializer {
     /// Deserializes the bits of an `f64` from a double.
     ///
     /// # Errors
-    /// Returns `DeserializeError::invalid_value` if the value is not a double; otherwise the visitor's error.
+    /// Returns `DeserializeError::invalid_value` if the value is not a double; otherwise the
+    /// visitor's error.
     ///
     /// # Example
     /// For the double 1.5, calls `visit_f64` with the bits 3FF8000000000000.
@@ -235,7 +246,8 @@ pub trait DeserializeScalars: Deserializer {
     /// Deserializes a `char` from a char.
     ///
     /// # Errors
-    /// Returns `DeserializeError::invalid_value` if the value is not a char; otherwise the visitor's error.
+    /// Returns `DeserializeError::invalid_value` if the value is not a char; otherwise the
+    /// visitor's error.
     ///
     /// # Example
     /// For the char `a`, calls `visit_char('a')`.
@@ -254,7 +266,8 @@ pub trait DeserializeScalars: Deserializer {
     /// Deserializes a `String` from a string.
     ///
     /// # Errors
-    /// Returns `DeserializeError::invalid_value` if the value is not a string; otherwise the visitor's error.
+    /// Returns `DeserializeError::invalid_value` if the value is not a string; otherwise the
+    /// visitor's error.
     ///
     /// # Example
     /// For the string `a`, calls `visit_string` with it. The symbol `a` is invalid.
@@ -273,7 +286,8 @@ pub trait DeserializeScalars: Deserializer {
     /// Deserializes a string, like `deserialize_string`.
     ///
     /// # Errors
-    /// Returns `DeserializeError::invalid_value` if the value is not a string; otherwise the visitor's error.
+    /// Returns `DeserializeError::invalid_value` if the value is not a string; otherwise the
+    /// visitor's error.
     ///
     /// # Example
     /// For the string `a`, calls `visit_string` with it.
@@ -289,7 +303,8 @@ pub trait DeserializeScalars: Deserializer {
     /// Deserializes a `ByteBuf` from a binary.
     ///
     /// # Errors
-    /// Returns `DeserializeError::invalid_value` if the value is not a binary; otherwise the visitor's error.
+    /// Returns `DeserializeError::invalid_value` if the value is not a binary; otherwise the
+    /// visitor's error.
     ///
     /// # Example
     /// For the binary 01, 02, calls `visit_byte_buf` with it. A list of ubytes is invalid.
@@ -308,7 +323,8 @@ pub trait DeserializeScalars: Deserializer {
     /// Deserializes a binary, like `deserialize_byte_buf`.
     ///
     /// # Errors
-    /// Returns `DeserializeError::invalid_value` if the value is not a binary; otherwise the visitor's error.
+    /// Returns `DeserializeError::invalid_value` if the value is not a binary; otherwise the
+    /// visitor's error.
     ///
     /// # Example
     /// For the binary 01, 02, calls `visit_byte_buf` with it.
@@ -345,7 +361,8 @@ pub trait DeserializeScalars: Deserializer {
     /// Deserializes `()` from null.
     ///
     /// # Errors
-    /// Returns `DeserializeError::invalid_value` if the value is not null; otherwise the visitor's error.
+    /// Returns `DeserializeError::invalid_value` if the value is not null; otherwise the visitor's
+    /// error.
     ///
     /// # Example
     /// For null, calls `visit_unit()`. The boolean `false` is invalid.
@@ -364,7 +381,8 @@ pub trait DeserializeScalars: Deserializer {
     /// Deserializes a unit struct, like `deserialize_unit`. The name is ignored.
     ///
     /// # Errors
-    /// Returns `DeserializeError::invalid_value` if the value is not null; otherwise the visitor's error.
+    /// Returns `DeserializeError::invalid_value` if the value is not null; otherwise the visitor's
+    /// error.
     ///
     /// # Example
     /// For null and any name, calls `visit_unit()`.

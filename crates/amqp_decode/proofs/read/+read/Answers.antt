@@ -27,33 +27,33 @@ read_item-returns-clause-err t c =
     item-err c.args.depth c.args.code c.args.bytes.now.now c.in_ok-content.content.now c.in_ok-content.rest.now c.read_content.result
     (omega (arith, c.if-depth-eq0.false)) c.in_ok-content.ensures.ok c.read_content.ensures.err
 
-pub read_frame_on-returns-then-depth-eq0-clause-err : goal.read_frame_on-returns-then-depth-eq0-clause-err
-read_frame_on-returns-then-depth-eq0-clause-err t c = λ _. parse-zero c.args.depth c.args.bytes.now.now c.if-depth-eq0.true
+pub read_on_stack-returns-then-depth-eq0-clause-err : goal.read_on_stack-returns-then-depth-eq0-clause-err
+read_on_stack-returns-then-depth-eq0-clause-err t c = λ _. parse-zero c.args.depth c.args.bytes.now.now c.if-depth-eq0.true
 
-pub read_frame_on-returns-in-None-clause-err : goal.read_frame_on-returns-in-None-clause-err
-read_frame_on-returns-in-None-clause-err t c = λ _. parse-empty c.args.depth c.args.bytes.now.now (omega (arith, c.if-depth-eq0.false)) (search rules)
+pub read_on_stack-returns-in-None-clause-err : goal.read_on_stack-returns-in-None-clause-err
+read_on_stack-returns-in-None-clause-err t c = λ _. parse-empty c.args.depth c.args.bytes.now.now (omega (arith, c.if-depth-eq0.false)) (search rules)
 
-pub read_frame_on-returns-in-Some-read_fixed-clause-ok : goal.read_frame_on-returns-in-Some-read_fixed-clause-ok
-read_frame_on-returns-in-Some-read_fixed-clause-ok t c =
+pub read_on_stack-returns-in-Some-read_fixed-clause-ok : goal.read_on_stack-returns-in-Some-read_fixed-clause-ok
+read_on_stack-returns-in-Some-read_fixed-clause-ok t c =
     let bytes : c.args.bytes.now.now ≡ c.in-Some.code.now ∷ c.in-Some.rest.now = search rules in
     rw (parse-at c.args.depth c.args.bytes.now.now (omega (arith, c.if-depth-eq0.false)), bytes)
     (c.in-Some-read_fixed.ensures.found (parse (c.args.depth - 1)) (parse_content (c.args.depth - 1)))
 
-pub read_frame_on-returns-in_default-clause-ok : goal.read_frame_on-returns-in_default-clause-ok
-read_frame_on-returns-in_default-clause-ok t c =
+pub read_on_stack-returns-in_default-clause-ok : goal.read_on_stack-returns-in_default-clause-ok
+read_on_stack-returns-in_default-clause-ok t c =
     let bytes : c.args.bytes.now.now ≡ c.in-Some.code.now ∷ c.in-Some.rest.now = search rules in
-    rw (parse-at c.args.depth c.args.bytes.now.now (omega (arith, c.if-depth-eq0.false)), bytes) c.read_frame_over.ensures.ok
+    rw (parse-at c.args.depth c.args.bytes.now.now (omega (arith, c.if-depth-eq0.false)), bytes) c.read_after_code.ensures.ok
 
-pub read_frame_on-returns-in_default-clause-err : goal.read_frame_on-returns-in_default-clause-err
-read_frame_on-returns-in_default-clause-err t c =
+pub read_on_stack-returns-in_default-clause-err : goal.read_on_stack-returns-in_default-clause-err
+read_on_stack-returns-in_default-clause-err t c =
     let bytes : c.args.bytes.now.now ≡ c.in-Some.code.now ∷ c.in-Some.rest.now = search rules in
-    rw (parse-at c.args.depth c.args.bytes.now.now (omega (arith, c.if-depth-eq0.false)), bytes) c.read_frame_over.ensures.err
+    rw (parse-at c.args.depth c.args.bytes.now.now (omega (arith, c.if-depth-eq0.false)), bytes) c.read_after_code.ensures.err
 
 pub read_list-loop-preserved : goal.read_list-loop-preserved
 read_list-loop-preserved t c =
     let done = c.loop.invariant.0 in
-    let step = values-and_then (parse c.args.depth) c.args.count c.loop.counter c.loop.rest.now c.read_frame_on.new.bytes.now c.in_ok-item.item done c.loop-test.true c.in_ok-item.ensures.ok in
-    let pushed : c.push.new.self.items ≡ c.read_frame_on.new.stack.items ++ c.in_ok-item.item ∷ [] = search rules in (
+    let step = values-and_then (parse c.args.depth) c.args.count c.loop.counter c.loop.rest.now c.read_on_stack.new.bytes.now c.in_ok-item.item done c.loop-test.true c.in_ok-item.ensures.ok in
+    let pushed : c.push.new.self.items ≡ c.read_on_stack.new.stack.items ++ c.in_ok-item.item ∷ [] = search rules in (
       done ++ c.in_ok-item.item ∷ [],
       pushed ∙ ap (λ s. s ++ c.in_ok-item.item ∷ []) (c.in_ok-item.ensures.stack ∙ c.loop.invariant.1) ∙ append_assoc c.args.stack.now.items done (c.in_ok-item.item ∷ []),
       step ∙ c.loop.invariant.2,

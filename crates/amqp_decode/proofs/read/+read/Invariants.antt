@@ -11,8 +11,8 @@ use Rattle.amqp_decode.proofs.read.+read.Given as goal
 abbrev pub decreases-read_item : goal.decreases-read_item
 decreases-read_item l = 9 * l.depth
 
-abbrev pub decreases-read_frame_on : goal.decreases-read_frame_on
-decreases-read_frame_on l = 9 * l.depth
+abbrev pub decreases-read_on_stack : goal.decreases-read_on_stack
+decreases-read_on_stack l = 9 * l.depth
 
 abbrev pub decreases-read_encoded_value : goal.decreases-read_encoded_value
 decreases-read_encoded_value l = 9 * l.depth + 1
@@ -29,8 +29,8 @@ decreases-read_array l = 9 * l.depth + 2
 abbrev pub decreases-read_content : goal.decreases-read_content
 decreases-read_content l = 9 * l.depth + 3
 
-abbrev pub decreases-read_frame_over : goal.decreases-read_frame_over
-decreases-read_frame_over l = 9 * l.depth + 4
+abbrev pub decreases-read_after_code : goal.decreases-read_after_code
+decreases-read_after_code l = 9 * l.depth + 4
 
 -- The remaining bytes, after the elements so far, give the complete list.
 abbrev pub invariant-read_list-loop : goal.invariant-read_list-loop
