@@ -3,18 +3,48 @@
 use super::super::rows::{gives, is, wrong};
 use super::{newtype_variant, unit};
 use amqp_data::{Array, ByteBuf, Described, Descriptor, Error, OrderedMap, Symbol, markers};
-use amqp_ser::SerializeCompounds;
+use amqp_ser::{Serialize, SerializeCompounds, SerializeMap, SerializeSeq, SerializeStruct};
 use amqp_to_value::{Serializer, to_value};
 use amqp_value::Value;
 use std::alloc::Global;
+
+// Serializes an element, and again if it fails.
+fn element<S: amqp_ser::Serializer, T: Serialize>(list: &mut SerializeSeq<'_, S>, element: &T) {
+    if list.serialize_element(element).is_err() {
+        drop(list.serialize_element(element));
+    }
+}
+
+// Serializes a key, and again if it fails.
+fn key<S: amqp_ser::Serializer, T: Serialize>(map: &mut SerializeMap<'_, S>, key: &T) {
+    if map.serialize_key(key).is_err() {
+        drop(map.serialize_key(key));
+    }
+}
+
+// Serializes a value, and again if it fails.
+fn value<S: amqp_ser::Serializer, T: Serialize>(map: &mut SerializeMap<'_, S>, value: &T) {
+    if map.serialize_value(value).is_err() {
+        drop(map.serialize_value(value));
+    }
+}
+
+// Serializes a field or a descriptor, and again if it fails.
+fn field<S: amqp_ser::Serializer, T: Serialize>(
+    fields: &mut SerializeStruct<'_, S>,
+    name: &'static str,
+    value: &T,
+) {
+    if fields.serialize_field(name, value).is_err() {
+        drop(fields.serialize_field(name, value));
+    }
+}
 
 // Serializes words, each again if it fails.
 fn list_of<S: amqp_ser::Serializer>(serializer: &mut S, words: &[&str]) -> Result<S::Ok, S::Error> {
     let mut list = serializer.serialize_seq(None)?;
     for word in words {
-        if list.serialize_element(word).is_err() {
-            list.serialize_element(word)?;
-        }
+        element(&mut list, word);
     }
     list.end()
 }
@@ -25,13 +55,9 @@ fn map_of<S: amqp_ser::Serializer>(
     pairs: &[(&str, u8)],
 ) -> Result<S::Ok, S::Error> {
     let mut map = serializer.serialize_map(None)?;
-    for (key, value) in pairs {
-        if map.serialize_key(key).is_err() {
-            map.serialize_key(key)?;
-        }
-        if map.serialize_value(value).is_err() {
-            map.serialize_value(value)?;
-        }
+    for (name, number) in pairs {
+        key(&mut map, name);
+        value(&mut map, number);
     }
     map.end()
 }
@@ -43,12 +69,8 @@ fn described_value<S: amqp_ser::Serializer>(
     value: &Value,
 ) -> Result<S::Ok, S::Error> {
     let mut fields = serializer.serialize_struct(markers::DESCRIBED_BASIC, 1)?;
-    if fields.serialize_field(markers::DESCRIPTOR, name).is_err() {
-        fields.serialize_field(markers::DESCRIPTOR, name)?;
-    }
-    if fields.serialize_field("a", value).is_err() {
-        fields.serialize_field("a", value)?;
-    }
+    field(&mut fields, markers::DESCRIPTOR, name);
+    field(&mut fields, "a", value);
     fields.end()
 }
 
@@ -59,19 +81,36 @@ fn is_text(value: &Value, text: &str) -> bool {
     }
 }
 
-// Returns a value that contains each kind that allocates.
-fn nested(alloc: Global) -> Result<Value, Error> {
+fn text(alloc: Global, text: &str) -> Result<Value, Error> {
+    Ok(Value::String(String::from_str(alloc, text)?))
+}
+
+fn described(alloc: Global) -> Result<Value, Error> {
+    let value = text(alloc, "d")?;
+    let descriptor = Descriptor::Name(Symbol::try_from_str(alloc, "c")?);
+    Ok(Value::Described(Box::new(alloc, Described { descriptor, value })?))
+}
+
+// Returns a list of each kind of value that allocates, except compounds.
+fn kinds(alloc: Global) -> Result<Value, Error> {
     let mut items = Vec::new(alloc);
-    items.push(Value::String(String::from_str(alloc, "a")?))?;
+    items.push(text(alloc, "a")?)?;
     items.push(Value::Symbol(Symbol::try_from_str(alloc, "b")?))?;
     items.push(Value::Binary(ByteBuf::from([1, 2].to_vec(alloc)?)))?;
-    let descriptor = Descriptor::Name(Symbol::try_from_str(alloc, "c")?);
-    let value = Value::String(String::from_str(alloc, "d")?);
-    items.push(Value::Described(Box::new(alloc, Described { descriptor, value })?))?;
+    items.push(described(alloc)?)?;
+    Ok(Value::List(items))
+}
+
+fn array(alloc: Global) -> Result<Value, Error> {
     let mut numbers = Vec::new(alloc);
     numbers.push(Value::Int(1))?;
+    Ok(Value::Array(Array::from(numbers)))
+}
+
+// Returns a value that contains each kind that allocates.
+fn nested(alloc: Global) -> Result<Value, Error> {
     let mut map = OrderedMap::new(alloc);
-    drop(map.insert(Value::List(items), Value::Array(Array::from(numbers)))?);
+    drop(map.insert(kinds(alloc)?, array(alloc)?)?);
     drop(map.insert(Value::Null, Value::List(Vec::new(alloc)))?);
     Ok(Value::Map(map))
 }

@@ -29,28 +29,37 @@ impl From<LowBits> for Value {
     }
 }
 
-fn maps_are_made_of_their_pairs(rt: &HostRuntime) -> Result<bool, Error> {
-    let alloc = rt.alloc();
-    let one = map(rt, [(Value::Ubyte(1), Value::Bool(true))]);
-    let nine = (Value::Ubyte(9), Value::Char('a'));
-    let two = map(rt, [nine, (Value::Ubyte(3), Value::Char('b'))]);
-    let last = map(rt, [(Value::Null, Value::Char('b'))]);
-    let mut sorted = BTreeMap::new(alloc);
+fn a_btree_map(rt: &HostRuntime) -> Result<bool, Error> {
+    let mut sorted = BTreeMap::new(rt.alloc());
     drop(sorted.insert(1u8, true)?);
-    let mut pairs = OrderedMap::new(alloc);
+    let sorted = Value::try_from_btree_map(rt.alloc(), sorted)?;
+    let one = map(rt, [(Value::Ubyte(1), Value::Bool(true))]);
+    Ok(is(rt, "of a BTreeMap", &sorted, &one))
+}
+
+fn an_ordered_map(rt: &HostRuntime) -> Result<bool, Error> {
+    let mut pairs = OrderedMap::new(rt.alloc());
     drop(pairs.insert(9u8, 'a')?);
     drop(pairs.insert(3u8, 'b')?);
-    let mut alike = BTreeMap::new(alloc);
+    let ordered = Value::try_from_ordered_map(rt.alloc(), pairs)?;
+    let nine = (Value::Ubyte(9), Value::Char('a'));
+    let two = map(rt, [nine, (Value::Ubyte(3), Value::Char('b'))]);
+    Ok(is(rt, "of an OrderedMap", &ordered, &two))
+}
+
+fn keys_that_are_one_value(rt: &HostRuntime) -> Result<bool, Error> {
+    let mut alike = BTreeMap::new(rt.alloc());
     drop(alike.insert(LowBits(1), 'a')?);
     drop(alike.insert(LowBits(2), 'b')?);
-    let sorted = Value::try_from_btree_map(alloc, sorted)?;
-    let ordered = Value::try_from_ordered_map(alloc, pairs)?;
-    let alike = Value::try_from_btree_map(alloc, alike)?;
-    Ok(
-        is(rt, "of a BTreeMap", &sorted, &one)
-            && is(rt, "of an OrderedMap", &ordered, &two)
-            && is(rt, "of keys that are one value", &alike, &last),
-    )
+    let alike = Value::try_from_btree_map(rt.alloc(), alike)?;
+    let last = map(rt, [(Value::Null, Value::Char('b'))]);
+    Ok(is(rt, "of keys that are one value", &alike, &last))
+}
+
+fn maps_are_made_of_their_pairs(rt: &HostRuntime) -> bool {
+    matches!(a_btree_map(rt), Ok(true))
+        && matches!(an_ordered_map(rt), Ok(true))
+        && matches!(keys_that_are_one_value(rt), Ok(true))
 }
 
 // Returns whether the value, or a key or value in it, does not fit and is returned as `expected`.
@@ -114,7 +123,7 @@ fn the_last_of_equal_keys_has_its_value_kept(rt: &HostRuntime) -> Result<bool, C
 
 #[test]
 fn maps(rt: HostRuntime) {
-    assert!(rt; matches!(maps_are_made_of_their_pairs(&rt), Ok(true)));
+    assert!(rt; maps_are_made_of_their_pairs(&rt));
     assert!(rt; a_key_is_found_unfit_before_its_value(&rt));
     assert!(rt; matches!(the_last_of_equal_keys_has_its_value_kept(&rt), Ok(true)));
 }
