@@ -9,6 +9,7 @@
 //! - `filter`: a filter by a property. It depends on the public contracts of `amqp_value` alone.
 //! - `counter`, `blank`, `pending_marker`: the serializer, which counts the nodes of a tree.
 //! - `reading`: a type with three fields.
+//! - `rows`: results of the filter and of the serializer, compared with results computed by hand.
 #![tactic(auto)]
 
 mod blank;
@@ -18,8 +19,7 @@ mod message;
 mod pending_marker;
 mod reading;
 mod room;
-#[cfg(test)]
-mod tests;
+mod rows;
 
 use amqp_data::{ByteBuf, Error, OrderedMap, Symbol, TransparentVec};
 use amqp_decode::decode_value;
@@ -36,7 +36,10 @@ use std::process::ExitCode;
 
 fn main(rt: HostRuntime) -> ExitCode {
     match run(&rt) {
-        Ok(()) => ExitCode::SUCCESS,
+        Ok(()) => {
+            let _ = println!(rt; "all rows are right: {}", rows::are_right(&rt));
+            ExitCode::SUCCESS
+        }
         Err(error) => {
             let _ = eprintln!(rt; "example_callers: {error}");
             ExitCode::from(1)

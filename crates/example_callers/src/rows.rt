@@ -6,7 +6,13 @@ mod nodes;
 use amqp_data::Error;
 use amqp_value::Value;
 
-/// Prints the name of the row and the result, and returns `false`.
+/// Returns whether each row has the expected result. Prints the name and the result of one that has
+/// not.
+pub fn are_right(rt: &HostRuntime) -> bool {
+    filter::are_right(rt) && nodes::are_right(rt)
+}
+
+// Prints the name of the row and the result, and returns `false`.
 fn wrong(rt: &HostRuntime, name: &str, got: &str) -> bool {
     println!(rt; "{name}: got {got}").is_err() && false
 }

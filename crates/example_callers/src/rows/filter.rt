@@ -1,4 +1,4 @@
-//! Tests of the filter with example properties.
+//! Rows of the filter, with example properties.
 //!
 //! Shows readers of `filter` which properties are kept and which values are not properties.
 
@@ -8,13 +8,9 @@ use amqp_data::{OrderedMap, Symbol};
 use amqp_value::{ConvertFault, Value};
 use std::alloc::Global;
 
-#[test]
-fn properties_are_filtered(rt: HostRuntime) {
-    assert!(rt;
-        properties_are_compared_by_name(&rt),
-        "properties are compared by name"
-    );
-    assert!(rt; other_values_come_back(&rt), "other values come back");
+/// Returns whether each row has the expected result.
+pub fn are_right(rt: &HostRuntime) -> bool {
+    properties_are_compared_by_name(rt) && other_values_come_back(rt)
 }
 
 fn properties(a: Global) -> Option<OrderedMap<Symbol, i64>> {
