@@ -323,12 +323,7 @@ fn deep_values(rt: &HostRuntime) -> bool {
             deep_bytes(a, 0, b"\x10"),
             &Err(Error::InvalidFormatCode),
         )
-        && deep(
-            rt,
-            "100,000 descriptors",
-            deep_bytes(a, 100_000, b""),
-            &eof,
-        )
+        && deep(rt, "100,000 descriptors", deep_bytes(a, 100_000, b""), &eof)
         && deep(
             rt,
             "100,000 descriptors and null",
