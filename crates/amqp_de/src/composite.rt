@@ -19,8 +19,9 @@ use std::alloc::Global;
 /// user-defined type with a numeric descriptor.
 ///
 /// # Errors
-/// Returns `DeserializeError::invalid_value` if the value has another descriptor, or none; otherwise the seed's
-/// error. An error other than out of memory is returned only if no value of type `T` is read.
+/// Returns `DeserializeError::invalid_value` if the value has another descriptor, or none;
+/// otherwise the seed's error. An error other than out of memory is returned only if no value of
+/// type `T` is read.
 ///
 /// # Example
 /// For the list of the ubyte 1 described by the code 1, with `1` and `ListSeed(named! { "x" })`,

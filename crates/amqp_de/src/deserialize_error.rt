@@ -8,8 +8,8 @@ use amqp_data::Error;
 /// An error that a deserializer returns.
 ///
 /// # Implementer notes
-/// Required functions: `out_of_memory`, `invalid_value`, `too_long` and `custom`. `is_out_of_memory` must hold for the
-/// result of `out_of_memory` and for none of the others.
+/// Required functions: `out_of_memory`, `invalid_value`, `too_long` and `custom`.
+/// `is_out_of_memory` must hold for the result of `out_of_memory` and for none of the others.
 pub trait DeserializeError: Sized + Drop {
     /// Whether the error is out of memory.
     ghost is_out_of_memory: { Self → Type 0 };

@@ -15,12 +15,47 @@ use std::alloc::Global;
 
 /// A source of one value, opened one level at a time.
 ///
-/// Each `deserialize_..` method opens the value and reports it to a visitor.
+/// # Data model
+/// A value is of one of the kinds below (AMQP 1.0 part 1, section 1.6). Each `deserialize_..`
+/// method accepts the kinds of its row and calls the visit of that row on a [`Visitor`]. The first
+/// table has the methods of `DeserializeScalars`, and the second those of `DeserializeCompounds`.
+/// Both are implemented for every deserializer.
+///
+/// | Kind | Method | Visit |
+/// |---|---|---|
+/// | null | `deserialize_unit`, `_unit_struct` | `visit_unit` |
+/// | boolean | `deserialize_bool` | `visit_bool` |
+/// | ubyte, ushort, uint, ulong | `deserialize_u8`, `_u16`, `_u32`, `_u64` | `visit_u8` to `visit_u64` |
+/// | byte, short, int, long | `deserialize_i8`, `_i16`, `_i32`, `_i64` | `visit_i8` to `visit_i64` |
+/// | float, double | `deserialize_f32`, `_f64` | `visit_f32`, `visit_f64` |
+/// | char | `deserialize_char` | `visit_char` |
+/// | string | `deserialize_str`, `_string` | `visit_string` |
+/// | binary | `deserialize_bytes`, `_byte_buf` | `visit_byte_buf` |
+/// | null; any other | `deserialize_option` | `visit_none`; `visit_some` |
+///
+/// | Kind | Method | Visit |
+/// |---|---|---|
+/// | list | `deserialize_seq`, `_tuple`, `_struct`, `_tuple_struct` | `visit_seq` |
+/// | array | `deserialize_array` | `visit_seq` |
+/// | map | `deserialize_map` | `visit_map` |
+/// | described value | `deserialize_described` | `visit_described` |
+/// | uint, symbol, list, map | `deserialize_enum` | `visit_enum` |
+/// | uint; symbol | `deserialize_identifier` | `visit_u32`; `visit_string` |
+/// | any | `deserialize_newtype_struct` | `visit_newtype_struct` |
+/// | any | `deserialize_any` | the visit of its kind |
+/// | any, ignored | `deserialize_ignored_any` | `visit_unit` |
+///
+/// A name of [`amqp_data::markers`] selects another row. A newtype of such a name accepts a symbol
+/// (`visit_string`), a timestamp (`visit_i64`), a uuid or a decimal (`visit_value`), an array
+/// (`visit_seq`), or any value as its encoding (`visit_byte_buf`). A struct accepts a described
+/// value. An enum accepts any value (`visit_value`), a descriptor (`visit_u64`, `visit_string`), or
+/// an array or a format code (`visit_seq`, `visit_u8`).
 ///
 /// # Errors
-/// A `deserialize_..` method returns `DeserializeError::invalid_value` if it does not accept values of this kind,
-/// and the message `Expecting a Value` if a variant is read from an empty list or map.
-/// `deserialize_written` also returns the errors of encoding. All other errors are the visitor's.
+/// A `deserialize_..` method returns `DeserializeError::invalid_value` if it does not accept the
+/// kind of the value, and the message `Expecting a Value` if a variant is read from an empty list
+/// or map. `deserialize_written` also returns the errors of encoding. All other errors are the
+/// visitor's.
 ///
 /// # Implementer notes
 /// Required methods: `alloc`, `is_null`, `is_index`, `open`, `into_value`, `next_element`,

@@ -43,8 +43,8 @@ pub trait FieldSeeds: Sized + Drop {
     /// Reads the fields from elements, by position. Further elements are ignored.
     ///
     /// # Errors
-    /// Returns `DeserializeError::invalid_value` if the element of a required field is missing, and the error of
-    /// the field's type if an element cannot be read.
+    /// Returns `DeserializeError::invalid_value` if the element of a required field is missing, and
+    /// the error of the field's type if an element cannot be read.
     ///
     /// # Example
     /// For the ubytes 1, 2 and 3, the fields `x` and `y` are 1 and 2.
@@ -61,8 +61,8 @@ pub trait FieldSeeds: Sized + Drop {
     /// Reads the fields from the entries of a map, by name. Other entries are ignored.
     ///
     /// # Errors
-    /// Returns `DeserializeError::invalid_value` if the entry of a required field is missing, and the error of the
-    /// field's type if a value cannot be read.
+    /// Returns `DeserializeError::invalid_value` if the entry of a required field is missing, and
+    /// the error of the field's type if a value cannot be read.
     ///
     /// # Example
     /// For the entries from the string `y` to 2 and from `x` to 1, the fields `x` and `y` are 1 and

@@ -32,8 +32,8 @@ pub use seed::{DeserializeSeed, ListSeed, NamedSeed, TypeSeed};
 
 /// The fields of a struct, in order: `named! { "name", "other"?, .. }`.
 ///
-/// A `?` marks an optional field, which may be absent or null. Inside [`ListSeed`] or [`NamedSeed`] it
-/// reads the values of the fields, which the pattern [`values!`] destructures.
+/// A `?` marks an optional field, which may be absent or null. Inside [`ListSeed`] or [`NamedSeed`]
+/// it reads the values of the fields, which the pattern [`values!`] destructures.
 #[macro_export]
 macro_rules! named {
     () => { () };
@@ -92,8 +92,8 @@ macro_rules! variants {
 
 /// The pattern of the variant at a position: `variant!(1, value)`.
 ///
-/// `variant!(none 4, never)` is the pattern after the last of four variants. There, `never` has the
-/// empty type [`Never`].
+/// `variant!(none 4, never)` completes a `match` over four variants. It binds `never` to a value of
+/// the empty type [`Never`].
 #[macro_export]
 macro_rules! variant {
     (0, $value:pat) => { $crate::Either::This($value) };

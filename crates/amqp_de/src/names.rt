@@ -1,4 +1,4 @@
-//! Names of structs and enums that select a special form.
+//! The names of structs and enums that select what they are read from.
 
 ghost use Rattle.std.specs.Prelude.{◌≡◌};
 ghost use Rattle.amqp_ser.specs.Marked.{is_descriptor_name, is_value_name};
@@ -6,7 +6,7 @@ ghost use Rattle.amqp_de.specs.Events.{is_array_name, is_described_name};
 
 use amqp_data::markers;
 
-/// Returns `true` if and only if a struct of this name is read after a descriptor.
+/// Returns `true` if and only if a struct of this name is read from a described value.
 ///
 /// # Example
 /// `true` only for `DESCRIBED_BASIC`, `DESCRIBED_LIST` and `DESCRIBED_MAP`.
@@ -30,6 +30,9 @@ pub fn is_value_name(name: &str) -> bool
 
 /// Returns `true` if and only if an enum of this name is read as the elements of an array, or as
 /// the format code of another value.
+///
+/// # Example
+/// `true` only for `ARRAY`.
 pub fn is_array_name(name: &str) -> bool
     ensures { result ≡ is_array_name name.now }
 {

@@ -102,12 +102,13 @@ pub fn read<T: Record, D: Deserializer, S: DeserializeSeed<Value = T::Values>>(
 /// Reads the parts of a value with the given descriptor.
 ///
 /// # Errors
-/// Returns `DeserializeError::invalid_value` if the value has another descriptor, or none; otherwise the seed's
-/// error. An error other than out of memory is returned only if no value of type `T` is read.
+/// Returns `DeserializeError::invalid_value` if the value has another descriptor, or none;
+/// otherwise the seed's error. An error other than out of memory is returned only if no value of
+/// type `T` is read.
 ///
 /// # Example
-/// For the list of the ubyte 1 described by the code 1, with `&1u64` and `ListSeed(named! { "x" })`,
-/// returns the parts `(1, ())`. With `&2u64`, the value is invalid.
+/// For the list of the ubyte 1 described by the code 1, with `&1u64` and `ListSeed(named! { "x"
+/// })`, returns the parts `(1, ())`. With `&2u64`, the value is invalid.
 #[tactic(auto, unfolding(crate::specs::Fields::OnDescribed))]
 pub fn read_described<
     T: Record,

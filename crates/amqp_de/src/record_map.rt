@@ -19,9 +19,9 @@ use std::alloc::Global;
 /// The map of the fields that are present round-trips if no two fields have the same name.
 ///
 /// # Errors
-/// Returns `DeserializeError::invalid_value` if the value is not a map, list or array, or if a required field is
-/// missing, and the error of the field's type if a field cannot be read. An error other than out of
-/// memory is returned only if no value of type `T` is read.
+/// Returns `DeserializeError::invalid_value` if the value is not a map, list or array, or if a
+/// required field is missing, and the error of the field's type if a field cannot be read. An error
+/// other than out of memory is returned only if no value of type `T` is read.
 ///
 /// # Example
 /// For the map from the string `x` to the ubyte 1 and `named! { "x" }`, returns the parts
@@ -48,9 +48,9 @@ pub fn read_map<T: Record, D: Deserializer, F: FieldSeeds<Values = T::Values>>(
 /// an array of them.
 ///
 /// # Errors
-/// Returns `DeserializeError::invalid_value` if the value has another descriptor, or none; otherwise the errors of
-/// [`read_map`]. An error other than out of memory is returned only if no value of type `T` is
-/// read.
+/// Returns `DeserializeError::invalid_value` if the value has another descriptor, or none;
+/// otherwise the errors of [`read_map`]. An error other than out of memory is returned only if no
+/// value of type `T` is read.
 ///
 /// # Example
 /// For the map from the string `x` to the ubyte 1, described by the code 1, with `&1u64` and

@@ -14,13 +14,14 @@ use crate::fields::FieldSeeds;
 use std::alloc::Global;
 use std::marker::PhantomData;
 
-/// A reader of one value: a type, a list of fields, named fields or a variant.
+/// The stateful form of [`Deserialize`]: reads one value as a type, a list of fields, named fields
+/// or a variant.
 ///
 /// # Implementer notes
-/// Required method: `deserialize`. It must return a value that `reads` relates to the tree, and may return
-/// an error other than out of memory only if there is no such value. From the trees `image`,
-/// `short` and, if `is_named` holds, `by_name` of a restorable value it must read a value with the
-/// same contents, or run out of memory.
+/// Required method: `deserialize`. It must return a value that `reads` relates to the tree, and may
+/// return an error other than out of memory only if there is no such value. For a restorable value,
+/// it must read a value with the same contents from each of the trees `image`, `short` and, if
+/// `is_named` holds, `by_name`, or run out of memory.
 pub trait DeserializeSeed: Sized + Drop {
     /// The type of the value that is read.
     type Value: Drop;

@@ -5,28 +5,28 @@ ghost use Rattle.std.specs.Prelude.{◌⊎◌, IsTrue};
 use crate::deserialize_error::DeserializeError;
 use amqp_data::{ByteBuf, F32Bits, F64Bits};
 
-/// The visits of a visitor, by the kind of event.
+/// The methods of a visitor that an event can be passed to.
 #[derive(Clone, Copy, Drop)]
 pub enum Visit {
-    /// Null, an absent value or a scalar.
+    /// `visit_plain`: null, an absent value or a scalar.
     Plain,
-    /// The value of an `Option` that is present.
+    /// `visit_some`: the value of an `Option` that is present.
     Some,
-    /// The value of a newtype.
+    /// `visit_newtype_struct`: the value of a newtype.
     Newtype,
-    /// Elements.
+    /// `visit_seq`: the elements of a list or an array.
     Seq,
-    /// Keys and values.
+    /// `visit_map`: the keys and values of a map.
     Map,
-    /// A variant of an enum.
+    /// `visit_enum`: a variant of an enum.
     Enum,
-    /// A descriptor and the value after it.
+    /// `visit_described`: a descriptor and the value after it.
     Described,
-    /// An untyped value.
+    /// `visit_value`: an untyped value.
     Value,
 }
 
-/// Null, an absent value or a scalar.
+/// The argument of `visit_plain`: null, an absent value or a scalar.
 #[derive(Drop)]
 pub enum Plain {
     /// An absent value.
@@ -63,8 +63,8 @@ pub enum Plain {
     ByteBuf(ByteBuf),
 }
 
-/// Returns the error of a visit that is not implemented: `DeserializeError::invalid_value` if `is_refused` is
-/// `true`, and `DeserializeError::out_of_memory` otherwise.
+/// Returns the error of a visit that is not implemented: `DeserializeError::invalid_value` if
+/// `is_refused` is `true`, and `DeserializeError::out_of_memory` otherwise.
 pub fn unwritten<E: DeserializeError>(is_refused: bool) -> E
     ensures { IsTrue is_refused ⊎ E.is_out_of_memory result }
 {

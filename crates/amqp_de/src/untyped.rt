@@ -1,4 +1,4 @@
-//! Untyped values of the kinds for which a visitor has no visit.
+//! Conversions to `Value` from the kinds that have no visit method of their own.
 
 ghost use Rattle.std.specs.Prelude.{◌≡◌};
 ghost use Rattle.amqp_data.specs.Fixed.{dec32_bytes, dec64_bytes, dec128_bytes, milliseconds_of, uuid_bytes};

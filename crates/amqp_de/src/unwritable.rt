@@ -1,4 +1,4 @@
-//! The errors of a value that cannot be encoded.
+//! Conversion of the errors of encoding.
 
 ghost use Rattle.std.specs.Prelude.{◌≡◌, ◌↔◌};
 ghost use Rattle.amqp_data.specs.declared.error.Error.TheVariants.{OutOfMemory};
@@ -6,8 +6,8 @@ ghost use Rattle.amqp_data.specs.declared.error.Error.TheVariants.{OutOfMemory};
 use crate::deserialize_error::DeserializeError;
 use amqp_data::Error;
 
-/// Converts an error of encoding. The result is out of memory if and only if `error` is
-/// `OutOfMemory`.
+/// Converts an error of encoding to the error type of a deserializer. The result is out of memory
+/// if and only if `error` is `OutOfMemory`.
 pub fn unwritable<E: DeserializeError>(error: Error) -> E
     ensures { E.is_out_of_memory result ↔ error ≡ OutOfMemory }
 {

@@ -18,9 +18,9 @@ use std::marker::PhantomData;
 /// The value must be read before the next key.
 ///
 /// # Implementer notes
-/// Required methods: `has_pending_value`, `next_pair`, `set_pending_value` and `take_pending_value`. `left` lists the pairs that
-/// `next_pair` has not taken. `pending_value` is the pending value, which `set_pending_value` sets and `take_pending_value`
-/// removes.
+/// Required methods: `has_pending_value`, `next_pair`, `set_pending_value` and
+/// `take_pending_value`. `left` lists the pairs that `next_pair` has not taken. `pending_value` is
+/// the pending value, which `set_pending_value` sets and `take_pending_value` removes.
 pub trait MapAccess: Sized + Drop {
     /// The error type.
     type Error: DeserializeError;
@@ -58,7 +58,8 @@ pub trait MapAccess: Sized + Drop {
     /// Takes the pending value; returns `None` if there is none. The remaining pairs are unchanged.
     ///
     /// # Example
-    /// After `set_pending_value` with a deserializer of the ubyte 2, returns `Some` of it, then `None`.
+    /// After `set_pending_value` with a deserializer of the ubyte 2, returns `Some` of it, then
+    /// `None`.
     fn take_pending_value(&mut self) -> Option<Self::Item>
         ensures taken { value_of Self.Item.value result ≡ pending_value self.old }
         ensures pending_value { pending_value self.new ≡ None }
@@ -70,8 +71,9 @@ pub trait MapAccess: Sized + Drop {
     /// value is pending.
     ///
     /// # Errors
-    /// Returns `DeserializeError::invalid_value`, and changes nothing, if a value is pending. Otherwise returns
-    /// the seed's error, which is out of memory or means that the key cannot be read.
+    /// Returns `DeserializeError::invalid_value`, and changes nothing, if a value is pending.
+    /// Otherwise returns the seed's error, which is out of memory or means that the key cannot be
+    /// read.
     ///
     /// # Example
     /// For the pair of the uint 1 and the ubyte 2, with `TypeSeed(PhantomData::<u32>)`, returns
@@ -105,11 +107,12 @@ pub trait MapAccess: Sized + Drop {
     /// read.
     ///
     /// # Errors
-    /// Returns `DeserializeError::invalid_value` if no value is pending. Otherwise returns the seed's error, which
-    /// is out of memory or means that the value cannot be read.
+    /// Returns `DeserializeError::invalid_value` if no value is pending. Otherwise returns the
+    /// seed's error, which is out of memory or means that the value cannot be read.
     ///
     /// # Example
-    /// After that key, with `TypeSeed(PhantomData::<u8>)`, returns 2. Before it, the call is invalid.
+    /// After that key, with `TypeSeed(PhantomData::<u8>)`, returns 2. Before it, the call is
+    /// invalid.
     final fn next_value_seed<V: DeserializeSeed>(
         &mut self,
         alloc: Global,
@@ -134,8 +137,9 @@ pub trait MapAccess: Sized + Drop {
     /// If the key or the value cannot be read, the pair is consumed.
     ///
     /// # Errors
-    /// Returns `DeserializeError::invalid_value`, and changes nothing, if a value is pending. Otherwise returns
-    /// the error of a seed, which is out of memory or means that the pair cannot be read.
+    /// Returns `DeserializeError::invalid_value`, and changes nothing, if a value is pending.
+    /// Otherwise returns the error of a seed, which is out of memory or means that the pair cannot
+    /// be read.
     ///
     /// # Example
     /// For the pair of the uint 3 and the ubyte 4, with the seeds of `u32` and `u8`, returns
@@ -169,7 +173,8 @@ pub trait MapAccess: Sized + Drop {
     /// Reads the next key; returns `None` after the last. Like [`MapAccess::next_key_seed`].
     ///
     /// # Errors
-    /// Returns `DeserializeError::invalid_value` if a value is pending; otherwise the error of the type.
+    /// Returns `DeserializeError::invalid_value` if a value is pending; otherwise the error of the
+    /// type.
     ///
     /// # Example
     /// For the pair of the uint 1 and the ubyte 2, as a `u32`, returns `Some(1)`. A second call,
@@ -186,7 +191,8 @@ pub trait MapAccess: Sized + Drop {
     /// Reads the pending value. Like [`MapAccess::next_value_seed`].
     ///
     /// # Errors
-    /// Returns `DeserializeError::invalid_value` if no value is pending; otherwise the error of the type.
+    /// Returns `DeserializeError::invalid_value` if no value is pending; otherwise the error of the
+    /// type.
     ///
     /// # Example
     /// After that key, as a `u8`, returns 2. Before it, the call is invalid.
@@ -203,7 +209,8 @@ pub trait MapAccess: Sized + Drop {
     /// [`MapAccess::next_entry_seed`].
     ///
     /// # Errors
-    /// Returns `DeserializeError::invalid_value` if a value is pending; otherwise the error of one of the types.
+    /// Returns `DeserializeError::invalid_value` if a value is pending; otherwise the error of one
+    /// of the types.
     ///
     /// # Example
     /// For the pair of the uint 3 and the ubyte 4, as `u32` and `u8`, returns `Some((3, 4))`, then

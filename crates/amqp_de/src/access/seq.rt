@@ -41,8 +41,8 @@ pub trait SeqAccess: Sized + Drop {
     /// Returns the seed's error, which is out of memory or means that the element cannot be read.
     ///
     /// # Example
-    /// For the string `a` and the ubyte 2, with `TypeSeed(PhantomData::<u8>)`, returns an error for the
-    /// invalid value, then `Some(2)`, then `None`.
+    /// For the string `a` and the ubyte 2, with `TypeSeed(PhantomData::<u8>)`, returns an error for
+    /// the invalid value, then `Some(2)`, then `None`.
     final fn next_element_seed<S: DeserializeSeed>(
         &mut self,
         alloc: Global,

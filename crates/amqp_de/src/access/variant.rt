@@ -5,7 +5,7 @@ ghost use Rattle.amqp_ser.specs.Tree.{Tree};
 ghost use Rattle.amqp_de.specs.Access.{Picks, RestoresPicked, RestoresPendingValue};
 ghost use Rattle.amqp_de.specs.Answers.{Answers};
 ghost use Rattle.amqp_de.specs.Enums.{value_of};
-ghost use Rattle.amqp_de.specs.Events.{ByList, Returns};
+ghost use Rattle.amqp_de.specs.Events.{ByList, Visits};
 ghost use Rattle.amqp_de.specs.Fields.{There};
 
 use crate::calls::compounds::DeserializeCompounds;
@@ -51,7 +51,8 @@ pub trait EnumAccess: Sized + Drop {
     /// Returns the seed's error, which is out of memory or means that the index cannot be read.
     ///
     /// # Example
-    /// For the index 1, with `TypeSeed(PhantomData::<u32>)`, returns 1 and the accessor of the value.
+    /// For the index 1, with `TypeSeed(PhantomData::<u32>)`, returns 1 and the accessor of the
+    /// value.
     final fn variant_seed<S: DeserializeSeed>(
         self,
         alloc: Global,
@@ -129,8 +130,8 @@ pub trait VariantAccess: Sized + Drop {
     /// error other than out of memory is returned only if no value is read.
     ///
     /// # Example
-    /// For the ulong 13, with `TypeSeed(PhantomData::<u64>)`, returns 13. If there is no value, returns
-    /// the message.
+    /// For the ulong 13, with `TypeSeed(PhantomData::<u64>)`, returns 13. If there is no value,
+    /// returns the message.
     final fn newtype_variant_seed<S: DeserializeSeed>(
         self,
         alloc: Global,
@@ -167,16 +168,14 @@ pub trait VariantAccess: Sized + Drop {
     /// Deserializes a tuple variant: reports the list of its fields to the visitor.
     ///
     /// # Errors
-    /// Returns the message `Expecting Value::List` if there is no value, and `DeserializeError::invalid_value` if
-    /// the value is not a list; otherwise the visitor's error.
+    /// Returns the message `Expecting Value::List` if there is no value, and
+    /// `DeserializeError::invalid_value` if the value is not a list; otherwise the visitor's error.
     ///
     /// # Example
     /// For the list of the ubytes 1 and 2, calls `visit_seq` with these two elements.
     final fn tuple_variant<V: Visitor>(self, visitor: V) -> Result<V::Value, Self::Error>
-        ensures read { Answers Self.Error.is_out_of_memory
-            (There (ByList (V.gives visitor)) (content self)) result }
-        ensures law { Returns (There (ByList (V.represents visitor)) (content self))
-            V.same Self.Error.is_out_of_memory result }
+        ensures { Visits (There (ByList (V.gives visitor))) (There (ByList (V.represents visitor)))
+            V.same Self.Error.is_out_of_memory (content self) result }
     {
         match self.into_item() {
             Some(item) => item.deserialize_seq(visitor),
@@ -192,10 +191,8 @@ pub trait VariantAccess: Sized + Drop {
     /// # Example
     /// For the list of the ubytes 1 and 2, calls `visit_seq` with these two elements.
     final fn struct_variant<V: Visitor>(self, visitor: V) -> Result<V::Value, Self::Error>
-        ensures read { Answers Self.Error.is_out_of_memory
-            (There (ByList (V.gives visitor)) (content self)) result }
-        ensures law { Returns (There (ByList (V.represents visitor)) (content self))
-            V.same Self.Error.is_out_of_memory result }
+        ensures { Visits (There (ByList (V.gives visitor))) (There (ByList (V.represents visitor)))
+            V.same Self.Error.is_out_of_memory (content self) result }
     {
         self.tuple_variant(visitor)
     }

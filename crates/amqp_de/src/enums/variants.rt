@@ -20,15 +20,15 @@ pub enum Either<A, R> {
     Other(R),
 }
 
-/// No variant. This type has no values.
+/// The empty type: there is no variant after the last.
 #[derive(Drop)]
 pub enum Never {}
 
 /// The variants to read, in order. Written with the macro [`variants!`].
 ///
 /// # Implementer notes
-/// Required method: `deserialize`. It must return a variant that `reads` relates to the index and the
-/// value, and may return an error other than out of memory only if there is none. From the
+/// Required method: `deserialize`. It must return a variant that `reads` relates to the index and
+/// the value, and may return an error other than out of memory only if there is none. From the
 /// `position` and the `content` of a restorable variant it must read a variant with the same
 /// contents, or run out of memory.
 pub trait Variants: Sized + Drop {
@@ -53,8 +53,8 @@ pub trait Variants: Sized + Drop {
     /// Reads the variant with this index.
     ///
     /// # Errors
-    /// Returns `DeserializeError::invalid_value` if no variant has this index, a message if the variant's value is
-    /// missing, and the seed's error if the value cannot be read.
+    /// Returns `DeserializeError::invalid_value` if no variant has this index, a message if the
+    /// variant's value is missing, and the seed's error if the value cannot be read.
     ///
     /// # Example
     /// For three variants, the index 3 is invalid.

@@ -15,8 +15,8 @@ use std::alloc::Global;
 /// Reads `count` elements, in order. Further elements are ignored.
 ///
 /// # Errors
-/// Returns `DeserializeError::invalid_value` if there are fewer elements, the error of the first element that
-/// cannot be read, and `DeserializeError::out_of_memory` if an allocation fails.
+/// Returns `DeserializeError::invalid_value` if there are fewer elements, the error of the first
+/// element that cannot be read, and `DeserializeError::out_of_memory` if an allocation fails.
 fn read_first<T: Deserialize, D: Deserializer>(
     alloc: Global,
     elements: &mut D::Elements,

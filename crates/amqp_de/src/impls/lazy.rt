@@ -17,8 +17,8 @@ use std::alloc::Global;
 /// The image is a placeholder.
 ///
 /// # Errors
-/// Returns `DeserializeError::invalid_value` or `DeserializeError::too_long` if the value cannot be encoded, and
-/// `DeserializeError::out_of_memory` if an allocation fails.
+/// Returns `DeserializeError::invalid_value` or `DeserializeError::too_long` if the value cannot be
+/// encoded, and `DeserializeError::out_of_memory` if an allocation fails.
 impl Deserialize for LazyValue {
     ghost reads = { ReadsLazy };
 

@@ -17,8 +17,8 @@ use std::alloc::Global;
 /// Reads all remaining elements, in order.
 ///
 /// # Errors
-/// Returns the error of the first element that cannot be read, and `DeserializeError::out_of_memory` if an
-/// allocation fails.
+/// Returns the error of the first element that cannot be read, and
+/// `DeserializeError::out_of_memory` if an allocation fails.
 fn read_all<T: Deserialize, D: Deserializer>(
     alloc: Global,
     elements: &mut D::Elements,

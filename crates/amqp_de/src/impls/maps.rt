@@ -55,8 +55,8 @@ fn read_pair<K: Deserialize, V: Deserialize, D: Deserializer>(
 /// Reads all remaining pairs and inserts them in order.
 ///
 /// # Errors
-/// Returns the error of the first key or value that cannot be read, and `DeserializeError::out_of_memory` if an
-/// allocation fails.
+/// Returns the error of the first key or value that cannot be read, and
+/// `DeserializeError::out_of_memory` if an allocation fails.
 fn read_pairs<K: Deserialize, V: Deserialize, M: Inserts<K, V>, D: Deserializer>(
     alloc: Global,
     entries: &mut D::Entries,
