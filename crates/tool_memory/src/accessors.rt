@@ -24,18 +24,42 @@ type Boxed = Box<u32>;
 /// # Errors
 /// Returns `OutOfMemory` if an allocation fails; any other error is a wrong result.
 pub fn all(alloc: Global) -> Result<bool, Error> {
-    let values = vec![in alloc; Value::Uint(1), Value::Uint(2)]?;
-    let of = |number: u32| Deserializer::new(alloc, Value::Uint(number));
-    let boxed = Boxed::deserialize(alloc, of(1))?;
-    let variant = EnumAccessOf::new(of(1), Some(of(13)));
-    let other = EnumAccessOf::new(of(1), Some(of(13)));
     Ok(
-        *boxed == 1
-            && are_one_and_two(alloc, &mut SeqAccess::new(alloc, values))?
-            && are_pairs(alloc, &mut pairs(alloc)?, &mut pairs(alloc)?)?
-            && are_variants(alloc, variant, other)?
-            && are_bytes(of(1), of(2), of(3))?,
+        is_boxed(alloc)?
+            && are_elements(alloc)?
+            && are_pairs(alloc)?
+            && are_variants(alloc)?
+            && are_bytes(of(alloc, 1), of(alloc, 2), of(alloc, 3))?,
     )
+}
+
+fn of(alloc: Global, number: u32) -> Deserializer {
+    Deserializer::new(alloc, Value::Uint(number))
+}
+
+fn seed() -> TypeSeed<Boxed> {
+    TypeSeed(PhantomData)
+}
+
+fn is_boxed(alloc: Global) -> Result<bool, Error> {
+    let boxed = Boxed::deserialize(alloc, of(alloc, 1))?;
+    Ok(*boxed == 1)
+}
+
+fn are_elements(alloc: Global) -> Result<bool, Error> {
+    let values = vec![in alloc; Value::Uint(1), Value::Uint(2)]?;
+    are_one_and_two(alloc, &mut SeqAccess::new(alloc, values))
+}
+
+fn are_pairs(alloc: Global) -> Result<bool, Error> {
+    Ok(are_keys_and_values(alloc, &mut pairs(alloc)?)? && are_entries(alloc, &mut pairs(alloc)?)?)
+}
+
+fn are_variants(alloc: Global) -> Result<bool, Error> {
+    let variant = EnumAccessOf::new(of(alloc, 1), Some(of(alloc, 13)));
+    let is_read = is_variant(alloc, variant)?;
+    let variant = EnumAccessOf::new(of(alloc, 1), Some(of(alloc, 13)));
+    Ok(is_read && is_variant_by_seed(alloc, variant)?)
 }
 
 fn pairs(alloc: Global) -> Result<MapAccess, Error> {
@@ -47,7 +71,7 @@ fn pairs(alloc: Global) -> Result<MapAccess, Error> {
 
 fn are_one_and_two<A: Elements>(alloc: Global, access: &mut A) -> Result<bool, A::Error> {
     let first = access.next_element::<Boxed>(alloc)?;
-    let second = access.next_element_seed(alloc, TypeSeed(PhantomData::<Boxed>))?;
+    let second = access.next_element_seed(alloc, seed())?;
     Ok(is(first, 1) && is(second, 2))
 }
 
@@ -55,26 +79,33 @@ fn is(read: Option<Boxed>, number: u32) -> bool {
     matches!(&read, Some(read) if **read == number)
 }
 
-// Reads the pairs of a map, and those of a map whose pairs are entries.
-fn are_pairs<A: Entries>(alloc: Global, keys: &mut A, entries: &mut A) -> Result<bool, A::Error> {
-    let seed = || TypeSeed(PhantomData::<Boxed>);
-    let first = is(keys.next_key::<Boxed>(alloc)?, 1) && *keys.next_value::<Boxed>(alloc)? == 2;
-    let second = is(keys.next_key_seed(alloc, seed())?, 3)
-        && *keys.next_value_seed(alloc, seed())? == 4;
-    let entry = entries.next_entry::<Boxed, Boxed>(alloc)?;
-    let other = entries.next_entry_seed(alloc, seed(), seed())?;
-    let are_entries = matches!(&entry, Some((key, value)) if **key == 1 && **value == 2)
-        && matches!(&other, Some((key, value)) if **key == 3 && **value == 4);
-    Ok(first && second && are_entries)
+// Reads the pairs of a map by key and value.
+fn are_keys_and_values<A: Entries>(alloc: Global, map: &mut A) -> Result<bool, A::Error> {
+    let first = is(map.next_key::<Boxed>(alloc)?, 1) && *map.next_value::<Boxed>(alloc)? == 2;
+    let is_second = is(map.next_key_seed(alloc, seed())?, 3);
+    Ok(first && is_second && *map.next_value_seed(alloc, seed())? == 4)
 }
 
-// Reads two variants with index 1 and the number 13.
-fn are_variants<A: Enum>(alloc: Global, first: A, second: A) -> Result<bool, A::Error> {
-    let (index, content) = first.variant::<Boxed>(alloc)?;
-    let is_first = *index == 1 && *content.newtype_variant::<Boxed>(alloc)? == 13;
-    let (index, content) = second.variant_seed(alloc, TypeSeed(PhantomData::<Boxed>))?;
-    let value = content.newtype_variant_seed(alloc, TypeSeed(PhantomData::<Boxed>))?;
-    Ok(is_first && *index == 1 && *value == 13)
+// Reads the pairs of a map as entries.
+fn are_entries<A: Entries>(alloc: Global, map: &mut A) -> Result<bool, A::Error> {
+    let is_first = is_entry(map.next_entry::<Boxed, Boxed>(alloc)?, 1, 2);
+    Ok(is_first && is_entry(map.next_entry_seed(alloc, seed(), seed())?, 3, 4))
+}
+
+fn is_entry(read: Option<(Boxed, Boxed)>, key: u32, value: u32) -> bool {
+    matches!(&read, Some((k, v)) if **k == key && **v == value)
+}
+
+// Reads a variant with index 1 and the number 13.
+fn is_variant<A: Enum>(alloc: Global, access: A) -> Result<bool, A::Error> {
+    let (index, content) = access.variant::<Boxed>(alloc)?;
+    Ok(*index == 1 && *content.newtype_variant::<Boxed>(alloc)? == 13)
+}
+
+// Reads the same variant with seeds.
+fn is_variant_by_seed<A: Enum>(alloc: Global, access: A) -> Result<bool, A::Error> {
+    let (index, content) = access.variant_seed(alloc, seed())?;
+    Ok(*index == 1 && *content.newtype_variant_seed(alloc, seed())? == 13)
 }
 
 /// Visitor that accepts the bytes of a lazy value.
@@ -114,19 +145,27 @@ fn are_bytes<D: Reads>(first: D, second: D, third: D) -> Result<bool, D::Error> 
 /// # Errors
 /// Returns `OutOfMemory` if an allocation fails; any other error is a wrong result.
 pub fn large(alloc: Global) -> Result<bool, Error> {
+    Ok(
+        are_in_turn(alloc, &mut SeqAccess::new(alloc, numbers(alloc)?))?
+            && are_kibibytes(alloc, &mut MapAccess::new(alloc, kibibytes(alloc)?))?,
+    )
+}
+
+fn numbers(alloc: Global) -> Result<Vec<Value>, Error> {
     let mut values = Vec::new(alloc);
     for number in 0..262_144u32 {
         values.push(Value::Uint(number))?;
     }
+    Ok(values)
+}
+
+fn kibibytes(alloc: Global) -> Result<OrderedMap<Value, Value>, Error> {
     let mut pairs = OrderedMap::new(alloc);
     for key in 0..1024u16 {
         let bytes = ByteBuf::from(Vec::from_elem(alloc, 1u8, 1024)?);
         drop(pairs.insert(Value::Ushort(key), Value::Binary(bytes))?);
     }
-    Ok(
-        are_in_turn(alloc, &mut SeqAccess::new(alloc, values))?
-            && are_kibibytes(alloc, &mut MapAccess::new(alloc, pairs))?,
-    )
+    Ok(pairs)
 }
 
 fn are_in_turn<A: Elements>(alloc: Global, access: &mut A) -> Result<bool, A::Error> {

@@ -37,14 +37,18 @@ pub fn all(rt: &(impl Print + AllocGlobal)) -> Result<(), Error> {
 
 fn data(alloc: Global) -> Result<bool, Error> {
     let symbol = Symbol::try_from_str(alloc, "amqp")?;
+    Ok(symbol.as_inner().as_str() == "amqp" && are_inserted(alloc)? && are_collected(alloc)?)
+}
+
+fn are_inserted(alloc: Global) -> Result<bool, Error> {
     let mut map = OrderedMap::new(alloc);
-    let first = map.insert(1u8, true)?;
-    let second = map.insert(2u8, false)?;
-    let third = map.insert(1u8, false)?;
-    let inserted = first.is_none() && second.is_none() && third == Some(true) && map.len() == 2;
+    let are_new = map.insert(1u8, true)?.is_none() && map.insert(2u8, false)?.is_none();
+    Ok(are_new && map.insert(1u8, false)? == Some(true) && map.len() == 2)
+}
+
+fn are_collected(alloc: Global) -> Result<bool, Error> {
     let vector = TransparentVec::try_collect(alloc, [1u8, 2, 3].into_iter())?;
-    let collected = vector.as_slice() == [1, 2, 3].as_slice();
-    Ok(symbol.as_inner().as_str() == "amqp" && inserted && collected)
+    Ok(vector.as_slice() == [1, 2, 3].as_slice())
 }
 
 // Serializes a list with a list in it, and five nested lists: growing the table fails inside the
@@ -62,8 +66,12 @@ fn elements_again(alloc: Global) -> Result<bool, Error> {
 fn frames(alloc: Global) -> Result<bool, Error> {
     let mut reader = SliceReader::new(&[0, 0xa1, 1, b'a', 0x45, 0x40]);
     let frame = LazyValue::from_reader(alloc, &mut reader)?;
-    let list = to_lazy_value(alloc, &(1u8, &frame))?;
-    let is_listed = list.as_slice() == b"\xc0\x08\x02\x50\x01\x00\xa1\x01a\x45".as_slice();
+    let is_listed = is_listed(alloc, &frame)?;
     let bytes = frame.try_into_vec(alloc)?;
     Ok(is_listed && bytes.as_slice() == [0, 0xa1, 1, b'a', 0x45].as_slice())
+}
+
+fn is_listed(alloc: Global, frame: &LazyValue) -> Result<bool, Error> {
+    let list = to_lazy_value(alloc, &(1u8, frame))?;
+    Ok(list.as_slice() == b"\xc0\x08\x02\x50\x01\x00\xa1\x01a\x45".as_slice())
 }

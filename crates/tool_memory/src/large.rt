@@ -54,13 +54,20 @@ fn data(alloc: Global) -> Result<bool, Error> {
         return Ok(false);
     };
     let symbol = Symbol::try_from_str(alloc, text)?;
+    Ok(symbol.as_inner().as_str() == text && are_inserted(alloc)? && are_collected(alloc)?)
+}
+
+fn are_inserted(alloc: Global) -> Result<bool, Error> {
     let mut map = OrderedMap::new(alloc);
     for key in 0..1024u16 {
         drop(map.insert(key, [1u8; 1024])?);
     }
+    Ok(map.len() == 1024)
+}
+
+fn are_collected(alloc: Global) -> Result<bool, Error> {
     let vector = TransparentVec::try_collect(alloc, 0..262_144u32)?;
-    let is_name = symbol.as_inner().as_str() == text;
-    Ok(is_name && map.len() == 1024 && vector.as_slice().len() == 262_144)
+    Ok(vector.as_slice().len() == 262_144)
 }
 
 fn bytes(alloc: Global) -> Result<bool, Error> {
@@ -70,22 +77,33 @@ fn bytes(alloc: Global) -> Result<bool, Error> {
     Ok(is_long && Value::try_from_serializable(alloc, &image)? == Value::Binary(binary))
 }
 
-// More than a mebibyte of headers and of values; keys in ascending order; and keys in descending
-// order, for which the table of positions is allocated too.
 fn compounds(alloc: Global) -> Result<bool, Error> {
+    Ok(ascending_keys(alloc)? && descending_keys(alloc)? && many_lists(alloc)?)
+}
+
+// More than a mebibyte of headers and of values.
+fn many_lists(alloc: Global) -> Result<bool, Error> {
     let lists = Array::from(Vec::from_elem(alloc, (1u8,), 100_000)?);
     let header: &[u8] = &[0xf0, 0, 0x0f, 0x42, 0x45, 0, 1, 0x86, 0xa0, 0xd0];
+    let is_headed = written::begins(alloc, &lists, header, 1_000_010)?;
+    Ok(is_headed && written::are_equal(alloc, &lists)?)
+}
+
+fn ascending_keys(alloc: Global) -> Result<bool, Error> {
     let mut ascending = BTreeMap::new(alloc);
     for key in 0..20_000u32 {
         drop(ascending.insert(key, ())?);
     }
+    written::are_equal(alloc, &ascending)
+}
+
+// Keys in descending order, for which the table of positions is allocated too.
+fn descending_keys(alloc: Global) -> Result<bool, Error> {
     let mut descending = OrderedMap::new(alloc);
     for key in 0..4_000u16 {
         drop(descending.insert(u16::MAX - key, ())?);
     }
-    let keys = written::are_equal(alloc, &ascending)? && written::are_equal(alloc, &descending)?;
-    let is_headed = written::begins(alloc, &lists, header, 1_000_010)?;
-    Ok(keys && is_headed && written::are_equal(alloc, &lists)?)
+    written::are_equal(alloc, &descending)
 }
 
 // Returns an encoded binary of a mebibyte.
@@ -113,12 +131,15 @@ fn decoded(alloc: Global) -> Result<bool, Error> {
     let bytes = long_frame(alloc)?;
     let value = decode_value(alloc, &bytes)?;
     let limited = decode_value_limited(alloc, &bytes, 0)?;
+    Ok(value == limited && written::is(alloc, &value, &bytes)? && are_limited(alloc)?)
+}
+
+fn are_limited(alloc: Global) -> Result<bool, Error> {
     let nulls = b"\xf0\0\0\0\x05\0\0\x80\0\x40";
     let granted = decode_value_limited(alloc, nulls, 32_768)?;
     let all = matches!(&granted, Value::Array(items) if items.as_inner().len() == 32_768);
     let refused = decode_value_limited(alloc, nulls, 32_767);
-    let is_refused = matches!(&refused, Err(Error::OutOfMemory));
-    Ok(all && is_refused && value == limited && written::is(alloc, &value, &bytes)?)
+    Ok(all && matches!(&refused, Err(Error::OutOfMemory)))
 }
 
 // Decodes an array of numbers of a mebibyte, and reads numbers as each type of list.
@@ -126,20 +147,27 @@ fn lists(alloc: Global) -> Result<bool, Error> {
     let numbers = Array::from(Vec::from_elem(alloc, 7u32, 262_144)?);
     let bytes = to_vec(alloc, &numbers)?;
     let array: Array<u32> = from_value(alloc, decode_value(alloc, &bytes)?)?;
-    let value = Value::try_from_vec(alloc, numbers.into_inner())?;
+    Ok(array == numbers && are_lists(alloc)?)
+}
+
+fn are_lists(alloc: Global) -> Result<bool, Error> {
+    let value = Value::try_from_vec(alloc, Vec::from_elem(alloc, 7u32, 262_144)?)?;
     let list: Vec<u32> = from_value(alloc, value)?;
     let vector: TransparentVec<u32> = from_value(alloc, to_value(alloc, &list)?)?;
-    let are_lists = list.len() == 262_144 && vector.as_slice() == list.as_slice();
-    Ok(are_lists && array.as_inner().as_slice() == list.as_slice())
+    Ok(list.len() == 262_144 && vector.as_slice() == list.as_slice())
 }
 
 // Reads pairs of a mebibyte as each type of map.
 fn maps(alloc: Global) -> Result<bool, Error> {
     let value = Value::try_from_btree_map(alloc, pairs(alloc)?)?;
     let sorted: BTreeMap<u16, ByteBuf> = from_value(alloc, value)?;
-    let ordered: OrderedMap<u16, ByteBuf> = from_value(alloc, to_value(alloc, &sorted)?)?;
-    let hashed: HashMap<u16, ByteBuf> = from_value(alloc, to_value(alloc, &sorted)?)?;
-    Ok(sorted == pairs(alloc)? && ordered.len() == 1024 && hashed.len() == 1024)
+    Ok(sorted == pairs(alloc)? && are_tables(alloc, &sorted)?)
+}
+
+fn are_tables(alloc: Global, sorted: &BTreeMap<u16, ByteBuf>) -> Result<bool, Error> {
+    let ordered: OrderedMap<u16, ByteBuf> = from_value(alloc, to_value(alloc, sorted)?)?;
+    let hashed: HashMap<u16, ByteBuf> = from_value(alloc, to_value(alloc, sorted)?)?;
+    Ok(ordered.len() == 1024 && hashed.len() == 1024)
 }
 
 fn run_over_line(alloc: Global) -> Result<bool, Error> {
