@@ -1,5 +1,4 @@
--- Fields of which absent ones are left out: whether each is present, and its image
--- (AMQP 1.0 part 1, section 1.4).
+-- Fields that may be absent: whether each is present, and its image (AMQP 1.0 part 1, section 1.4).
 use Rattle.std.specs.Prelude.{◌≡◌, ℕ, List, [], ◌∷◌, Option, Bool, true, false, not, ◌||◌, ◌&&◌, if◌then◌else◌, is_some, bytes_eq}
 use Rattle.amqp_ser.specs.Tree.{Tree, scalar, string, list, map, trees_of}
 use Rattle.amqp_value.specs.TreeOf.{pairs_of}
@@ -34,16 +33,16 @@ EndsEarly [] (t ∷ ts) = ⊥
 EndsEarly (f ∷ fs) (t ∷ ts) = (t ≡ f.1) × EndsEarly fs ts
 
 -- The entries of a map: the name and the image of each field that is present.
-abbrev pub those_there : List (List ℕ) → List (Bool × Tree) → List (Tree × Tree)
-those_there (n ∷ ns) (f ∷ fs) = if f.0 then (scalar (string n), f.1) ∷ those_there ns fs else those_there ns fs
-those_there _ _ = []
+abbrev pub present_fields : List (List ℕ) → List (Bool × Tree) → List (Tree × Tree)
+present_fields (n ∷ ns) (f ∷ fs) = if f.0 then (scalar (string n), f.1) ∷ present_fields ns fs else present_fields ns fs
+present_fields _ _ = []
 
 -- The list without the absent fields at its end, and the map without the absent fields.
 unfoldable pub short_list : List (Bool × Tree) → Tree
 short_list fs = list (trees_of (up_to_last fs))
 
 unfoldable pub short_map : List (List ℕ) → List (Bool × Tree) → Tree
-short_map ns fs = map (pairs_of (those_there ns fs))
+short_map ns fs = map (pairs_of (present_fields ns fs))
 
 -- Whether `n` is one of the names.
 abbrev pub has_name : List ℕ → List (List ℕ) → Bool

@@ -8,7 +8,7 @@ use Rattle.std.specs.declared.cmp.Ordering.{Ordering}
 use Rattle.std.specs.declared.cmp.Ordering.TheVariants.{Equal, Greater}
 use Rattle.amqp_ser.specs.Tree.{Tree, trees_of}
 use Rattle.amqp_value.specs.TreeOf.{pairs_of}
-use Rattle.amqp_de.specs.Maps.{pair_image, IsPair, SamePair, EachBefore, IsSoToAll, AreDistinct, Ascend}
+use Rattle.amqp_de.specs.Maps.{pair_image, IsPair, SamePair, EachBefore, ForAllSame, AreDistinct, Ascend}
 use Rattle.amqp_de.specs.Reads.{image_option, RestorableOption, SameOption}
 
 -- No two keys have the same image.
@@ -30,16 +30,16 @@ module _ {T : Type 0} (g : T → Tree) (P : T → Type 0) (S : T → T → Type 
 
   -- Keys are distinct by a relation that no key has to itself.
   module _ (R : T → T → Type 0) (never : (x : T) → ¬ (R x x)) where
-    far : (k l : T) → P k → P l → IsSoToAll S R k l → ¬ (g k ≡ g l)
+    far : (k l : T) → P k → P l → ForAllSame S R k l → ¬ (g k ≡ g l)
     far k l a b apart e = never k (apart k k (told k k a a refl) (told k l a b e))
 
     module _ {V : Type 0} (Q : V → Type 0) where
-      all_far : (k : T) (es : List (T × V)) → P k → AllByRecursion (IsPair P Q) es → AllByRecursion (IsSoToAll S R k) (keys_of es) →
+      all_far : (k : T) (es : List (T × V)) → P k → AllByRecursion (IsPair P Q) es → AllByRecursion (ForAllSame S R k) (keys_of es) →
           AllByRecursion (λ l. ¬ (g k ≡ g l)) (keys_of es)
       all_far k [] a all apart = tt
       all_far k (e ∷ es) a all apart = (far k e.0 a all.0.0 apart.0, all_far k es a all.1 apart.1)
 
-      pub images_differ : (es : List (T × V)) → AllByRecursion (IsPair P Q) es → EachBefore (IsSoToAll S R) (keys_of es) → HaveDistinctImages g (keys_of es)
+      pub images_differ : (es : List (T × V)) → AllByRecursion (IsPair P Q) es → EachBefore (ForAllSame S R) (keys_of es) → HaveDistinctImages g (keys_of es)
       images_differ [] all apart = tt
       images_differ (e ∷ es) all apart = (all_far e.0 es all.0.0 all.1 apart.0, images_differ es all.1 apart.1)
 
