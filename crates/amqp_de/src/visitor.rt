@@ -6,8 +6,7 @@ ghost use Rattle.amqp_data.specs.Items.{byte_buf_bytes};
 ghost use Rattle.amqp_ser.specs.Carried.{descriptor_content};
 ghost use Rattle.amqp_ser.specs.Tree.{null, bool, ubyte, ushort, uint, ulong, byte, short, int, long, float, double, char, binary, string};
 ghost use Rattle.amqp_value.specs.TreeOf.{tree_of};
-ghost use Rattle.amqp_de.specs.Answers.{Answers};
-ghost use Rattle.amqp_de.specs.Events.{Event, Returns, visit_of, plain_shown, plain_event, none_event, some_event, newtype_event, seq_event, map_event, enum_event, described_event, value_event};
+ghost use Rattle.amqp_de.specs.Events.{Event, Visits, visit_of, plain_shown, plain_event, none_event, some_event, newtype_event, seq_event, map_event, enum_event, described_event, value_event};
 
 use crate::access::{EnumAccess, MapAccess, SeqAccess};
 use crate::deserialize_error::DeserializeError;
@@ -65,8 +64,8 @@ pub trait Visitor: Sized + Drop {
     /// The uint 1 is passed as `Plain::U32(1)`, null as `Plain::Unit`, and an absent value as
     /// `Plain::None`.
     fn visit_plain<E: DeserializeError>(self, plain: Plain) -> Result<Self::Value, E>
-        ensures read { Answers E.is_out_of_memory (gives self (plain_shown plain)) result }
-        ensures law { Returns (represents self (plain_shown plain)) same E.is_out_of_memory result }
+        ensures { Visits (gives self) (represents self)
+            same E.is_out_of_memory (plain_shown plain) result }
     {
         Err(unwritten(self.refuses(Visit::Plain)))
     }
@@ -81,10 +80,8 @@ pub trait Visitor: Sized + Drop {
     /// # Example
     /// `deserialize_option` passes a deserializer of 5 for the uint 5.
     fn visit_some<D: Deserializer>(self, deserializer: D) -> Result<Self::Value, D::Error>
-        ensures read { Answers D.Error.is_out_of_memory
-            (gives self (some_event (D.value deserializer))) result }
-        ensures law { Returns (represents self (some_event (D.value deserializer)))
-            same D.Error.is_out_of_memory result }
+        ensures { Visits (gives self) (represents self)
+            same D.Error.is_out_of_memory (some_event (D.value deserializer)) result }
     {
         Err(unwritten(self.refuses(Visit::Some)))
     }
@@ -100,10 +97,8 @@ pub trait Visitor: Sized + Drop {
     /// `deserialize_newtype_struct` under the name `Celsius` passes a deserializer of 1 for the
     /// uint 1.
     fn visit_newtype_struct<D: Deserializer>(self, deserializer: D) -> Result<Self::Value, D::Error>
-        ensures read { Answers D.Error.is_out_of_memory
-            (gives self (newtype_event (D.value deserializer))) result }
-        ensures law { Returns (represents self (newtype_event (D.value deserializer)))
-            same D.Error.is_out_of_memory result }
+        ensures { Visits (gives self) (represents self)
+            same D.Error.is_out_of_memory (newtype_event (D.value deserializer)) result }
     {
         Err(unwritten(self.refuses(Visit::Newtype)))
     }
@@ -118,9 +113,8 @@ pub trait Visitor: Sized + Drop {
     /// # Example
     /// `deserialize_seq` passes the elements 1 and 2, in order, for the list of the ubytes 1 and 2.
     fn visit_seq<A: SeqAccess>(self, elements: A) -> Result<Self::Value, A::Error>
-        ensures read { Answers A.Error.is_out_of_memory (gives self (seq_event (A.left elements))) result }
-        ensures law { Returns (represents self (seq_event (A.left elements)))
-            same A.Error.is_out_of_memory result }
+        ensures { Visits (gives self) (represents self)
+            same A.Error.is_out_of_memory (seq_event (A.left elements)) result }
     {
         Err(unwritten(self.refuses(Visit::Seq)))
     }
@@ -136,9 +130,8 @@ pub trait Visitor: Sized + Drop {
     /// `deserialize_map` passes this one pair for the map from the ubyte 1 to `true`.
     fn visit_map<A: MapAccess>(self, entries: A) -> Result<Self::Value, A::Error>
         requires { A.pending_value entries ≡ None }
-        ensures read { Answers A.Error.is_out_of_memory (gives self (map_event (A.left entries))) result }
-        ensures law { Returns (represents self (map_event (A.left entries)))
-            same A.Error.is_out_of_memory result }
+        ensures { Visits (gives self) (represents self)
+            same A.Error.is_out_of_memory (map_event (A.left entries)) result }
     {
         Err(unwritten(self.refuses(Visit::Map)))
     }
@@ -154,10 +147,9 @@ pub trait Visitor: Sized + Drop {
     /// `deserialize_enum` passes the index 1 and the value 13 for the map from the uint 1 to the
     /// ulong 13.
     fn visit_enum<A: EnumAccess>(self, variant: A) -> Result<Self::Value, A::Error>
-        ensures read { Answers A.Error.is_out_of_memory
-            (gives self (enum_event (A.index variant) (A.content variant))) result }
-        ensures law { Returns (represents self (enum_event (A.index variant) (A.content variant)))
-            same A.Error.is_out_of_memory result }
+        ensures { Visits (gives self) (represents self)
+            same A.Error.is_out_of_memory
+            (enum_event (A.index variant) (A.content variant)) result }
     {
         Err(unwritten(self.refuses(Visit::Enum)))
     }
@@ -177,12 +169,9 @@ pub trait Visitor: Sized + Drop {
         descriptor: Descriptor,
         deserializer: D,
     ) -> Result<Self::Value, D::Error>
-        ensures read { Answers D.Error.is_out_of_memory
-            (gives self (described_event (descriptor_content descriptor) (D.value deserializer)))
-            result }
-        ensures law { Returns
-            (represents self (described_event (descriptor_content descriptor) (D.value deserializer)))
-            same D.Error.is_out_of_memory result }
+        ensures { Visits (gives self) (represents self)
+            same D.Error.is_out_of_memory
+            (described_event (descriptor_content descriptor) (D.value deserializer)) result }
     {
         Err(unwritten(self.refuses(Visit::Described)))
     }
@@ -197,8 +186,8 @@ pub trait Visitor: Sized + Drop {
     /// # Example
     /// `deserialize_any` passes `Value::Symbol` of `a` for the symbol `a`.
     fn visit_value<E: DeserializeError>(self, value: Value) -> Result<Self::Value, E>
-        ensures read { Answers E.is_out_of_memory (gives self (value_event (tree_of value))) result }
-        ensures law { Returns (represents self (value_event (tree_of value))) same E.is_out_of_memory result }
+        ensures { Visits (gives self) (represents self)
+            same E.is_out_of_memory (value_event (tree_of value)) result }
     {
         Err(unwritten(self.refuses(Visit::Value)))
     }
@@ -211,8 +200,8 @@ pub trait Visitor: Sized + Drop {
     /// # Example
     /// Calls `visit_plain(Plain::Unit)`.
     final fn visit_unit<E: DeserializeError>(self) -> Result<Self::Value, E>
-        ensures read { Answers E.is_out_of_memory (gives self (plain_event null)) result }
-        ensures law { Returns (represents self (plain_event null)) same E.is_out_of_memory result }
+        ensures { Visits (gives self) (represents self)
+            same E.is_out_of_memory (plain_event null) result }
     {
         self.visit_plain(Plain::Unit)
     }
@@ -225,8 +214,7 @@ pub trait Visitor: Sized + Drop {
     /// # Example
     /// Calls `visit_plain(Plain::None)`.
     final fn visit_none<E: DeserializeError>(self) -> Result<Self::Value, E>
-        ensures read { Answers E.is_out_of_memory (gives self none_event) result }
-        ensures law { Returns (represents self none_event) same E.is_out_of_memory result }
+        ensures { Visits (gives self) (represents self) same E.is_out_of_memory none_event result }
     {
         self.visit_plain(Plain::None)
     }
@@ -239,8 +227,8 @@ pub trait Visitor: Sized + Drop {
     /// # Example
     /// For `true`, calls `visit_plain(Plain::Bool(true))`.
     final fn visit_bool<E: DeserializeError>(self, value: bool) -> Result<Self::Value, E>
-        ensures read { Answers E.is_out_of_memory (gives self (plain_event (bool value))) result }
-        ensures law { Returns (represents self (plain_event (bool value))) same E.is_out_of_memory result }
+        ensures { Visits (gives self) (represents self)
+            same E.is_out_of_memory (plain_event (bool value)) result }
     {
         self.visit_plain(Plain::Bool(value))
     }
@@ -253,8 +241,8 @@ pub trait Visitor: Sized + Drop {
     /// # Example
     /// For 5, calls `visit_plain(Plain::U8(5))`.
     final fn visit_u8<E: DeserializeError>(self, value: u8) -> Result<Self::Value, E>
-        ensures read { Answers E.is_out_of_memory (gives self (plain_event (ubyte value))) result }
-        ensures law { Returns (represents self (plain_event (ubyte value))) same E.is_out_of_memory result }
+        ensures { Visits (gives self) (represents self)
+            same E.is_out_of_memory (plain_event (ubyte value)) result }
     {
         self.visit_plain(Plain::U8(value))
     }
@@ -267,8 +255,8 @@ pub trait Visitor: Sized + Drop {
     /// # Example
     /// For 256, calls `visit_plain(Plain::U16(256))`.
     final fn visit_u16<E: DeserializeError>(self, value: u16) -> Result<Self::Value, E>
-        ensures read { Answers E.is_out_of_memory (gives self (plain_event (ushort value))) result }
-        ensures law { Returns (represents self (plain_event (ushort value))) same E.is_out_of_memory result }
+        ensures { Visits (gives self) (represents self)
+            same E.is_out_of_memory (plain_event (ushort value)) result }
     {
         self.visit_plain(Plain::U16(value))
     }
@@ -281,8 +269,8 @@ pub trait Visitor: Sized + Drop {
     /// # Example
     /// For 1, calls `visit_plain(Plain::U32(1))`.
     final fn visit_u32<E: DeserializeError>(self, value: u32) -> Result<Self::Value, E>
-        ensures read { Answers E.is_out_of_memory (gives self (plain_event (uint value))) result }
-        ensures law { Returns (represents self (plain_event (uint value))) same E.is_out_of_memory result }
+        ensures { Visits (gives self) (represents self)
+            same E.is_out_of_memory (plain_event (uint value)) result }
     {
         self.visit_plain(Plain::U32(value))
     }
@@ -295,8 +283,8 @@ pub trait Visitor: Sized + Drop {
     /// # Example
     /// For 13, calls `visit_plain(Plain::U64(13))`.
     final fn visit_u64<E: DeserializeError>(self, value: u64) -> Result<Self::Value, E>
-        ensures read { Answers E.is_out_of_memory (gives self (plain_event (ulong value))) result }
-        ensures law { Returns (represents self (plain_event (ulong value))) same E.is_out_of_memory result }
+        ensures { Visits (gives self) (represents self)
+            same E.is_out_of_memory (plain_event (ulong value)) result }
     {
         self.visit_plain(Plain::U64(value))
     }
@@ -309,8 +297,8 @@ pub trait Visitor: Sized + Drop {
     /// # Example
     /// For -1, calls `visit_plain(Plain::I8(-1))`.
     final fn visit_i8<E: DeserializeError>(self, value: i8) -> Result<Self::Value, E>
-        ensures read { Answers E.is_out_of_memory (gives self (plain_event (byte value))) result }
-        ensures law { Returns (represents self (plain_event (byte value))) same E.is_out_of_memory result }
+        ensures { Visits (gives self) (represents self)
+            same E.is_out_of_memory (plain_event (byte value)) result }
     {
         self.visit_plain(Plain::I8(value))
     }
@@ -323,8 +311,8 @@ pub trait Visitor: Sized + Drop {
     /// # Example
     /// For -2, calls `visit_plain(Plain::I16(-2))`.
     final fn visit_i16<E: DeserializeError>(self, value: i16) -> Result<Self::Value, E>
-        ensures read { Answers E.is_out_of_memory (gives self (plain_event (short value))) result }
-        ensures law { Returns (represents self (plain_event (short value))) same E.is_out_of_memory result }
+        ensures { Visits (gives self) (represents self)
+            same E.is_out_of_memory (plain_event (short value)) result }
     {
         self.visit_plain(Plain::I16(value))
     }
@@ -337,8 +325,8 @@ pub trait Visitor: Sized + Drop {
     /// # Example
     /// For 128, calls `visit_plain(Plain::I32(128))`.
     final fn visit_i32<E: DeserializeError>(self, value: i32) -> Result<Self::Value, E>
-        ensures read { Answers E.is_out_of_memory (gives self (plain_event (int value))) result }
-        ensures law { Returns (represents self (plain_event (int value))) same E.is_out_of_memory result }
+        ensures { Visits (gives self) (represents self)
+            same E.is_out_of_memory (plain_event (int value)) result }
     {
         self.visit_plain(Plain::I32(value))
     }
@@ -351,8 +339,8 @@ pub trait Visitor: Sized + Drop {
     /// # Example
     /// For -1, calls `visit_plain(Plain::I64(-1))`.
     final fn visit_i64<E: DeserializeError>(self, value: i64) -> Result<Self::Value, E>
-        ensures read { Answers E.is_out_of_memory (gives self (plain_event (long value))) result }
-        ensures law { Returns (represents self (plain_event (long value))) same E.is_out_of_memory result }
+        ensures { Visits (gives self) (represents self)
+            same E.is_out_of_memory (plain_event (long value)) result }
     {
         self.visit_plain(Plain::I64(value))
     }
@@ -365,10 +353,8 @@ pub trait Visitor: Sized + Drop {
     /// # Example
     /// For the bits 3FC00000, which are 1.5, calls `visit_plain` with `Plain::F32` of them.
     final fn visit_f32<E: DeserializeError>(self, value: F32Bits) -> Result<Self::Value, E>
-        ensures read { Answers E.is_out_of_memory
-            (gives self (plain_event (float (f32_bits value)))) result }
-        ensures law { Returns (represents self (plain_event (float (f32_bits value))))
-            same E.is_out_of_memory result }
+        ensures { Visits (gives self) (represents self)
+            same E.is_out_of_memory (plain_event (float (f32_bits value))) result }
     {
         self.visit_plain(Plain::F32(value))
     }
@@ -381,10 +367,8 @@ pub trait Visitor: Sized + Drop {
     /// # Example
     /// For the bits 3FF8000000000000, which are 1.5, calls `visit_plain` with `Plain::F64` of them.
     final fn visit_f64<E: DeserializeError>(self, value: F64Bits) -> Result<Self::Value, E>
-        ensures read { Answers E.is_out_of_memory
-            (gives self (plain_event (double (f64_bits value)))) result }
-        ensures law { Returns (represents self (plain_event (double (f64_bits value))))
-            same E.is_out_of_memory result }
+        ensures { Visits (gives self) (represents self)
+            same E.is_out_of_memory (plain_event (double (f64_bits value))) result }
     {
         self.visit_plain(Plain::F64(value))
     }
@@ -397,8 +381,8 @@ pub trait Visitor: Sized + Drop {
     /// # Example
     /// For `a`, calls `visit_plain(Plain::Char('a'))`.
     final fn visit_char<E: DeserializeError>(self, value: char) -> Result<Self::Value, E>
-        ensures read { Answers E.is_out_of_memory (gives self (plain_event (char value))) result }
-        ensures law { Returns (represents self (plain_event (char value))) same E.is_out_of_memory result }
+        ensures { Visits (gives self) (represents self)
+            same E.is_out_of_memory (plain_event (char value)) result }
     {
         self.visit_plain(Plain::Char(value))
     }
@@ -411,10 +395,8 @@ pub trait Visitor: Sized + Drop {
     /// # Example
     /// For `a`, calls `visit_plain` with `Plain::String` of it.
     final fn visit_string<E: DeserializeError>(self, value: String) -> Result<Self::Value, E>
-        ensures read { Answers E.is_out_of_memory
-            (gives self (plain_event (string (string_bytes value)))) result }
-        ensures law { Returns (represents self (plain_event (string (string_bytes value))))
-            same E.is_out_of_memory result }
+        ensures { Visits (gives self) (represents self)
+            same E.is_out_of_memory (plain_event (string (string_bytes value))) result }
     {
         self.visit_plain(Plain::String(value))
     }
@@ -427,10 +409,8 @@ pub trait Visitor: Sized + Drop {
     /// # Example
     /// For the bytes 01, 02, calls `visit_plain` with `Plain::ByteBuf` of them.
     final fn visit_byte_buf<E: DeserializeError>(self, value: ByteBuf) -> Result<Self::Value, E>
-        ensures read { Answers E.is_out_of_memory
-            (gives self (plain_event (binary (byte_buf_bytes value)))) result }
-        ensures law { Returns (represents self (plain_event (binary (byte_buf_bytes value))))
-            same E.is_out_of_memory result }
+        ensures { Visits (gives self) (represents self)
+            same E.is_out_of_memory (plain_event (binary (byte_buf_bytes value))) result }
     {
         self.visit_plain(Plain::ByteBuf(value))
     }

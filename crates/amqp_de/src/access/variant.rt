@@ -5,7 +5,7 @@ ghost use Rattle.amqp_ser.specs.Tree.{Tree};
 ghost use Rattle.amqp_de.specs.Access.{Picks, RestoresPicked, RestoresPendingValue};
 ghost use Rattle.amqp_de.specs.Answers.{Answers};
 ghost use Rattle.amqp_de.specs.Enums.{value_of};
-ghost use Rattle.amqp_de.specs.Events.{ByList, Returns};
+ghost use Rattle.amqp_de.specs.Events.{ByList, Visits};
 ghost use Rattle.amqp_de.specs.Fields.{There};
 
 use crate::calls::compounds::DeserializeCompounds;
@@ -174,10 +174,8 @@ pub trait VariantAccess: Sized + Drop {
     /// # Example
     /// For the list of the ubytes 1 and 2, calls `visit_seq` with these two elements.
     final fn tuple_variant<V: Visitor>(self, visitor: V) -> Result<V::Value, Self::Error>
-        ensures read { Answers Self.Error.is_out_of_memory
-            (There (ByList (V.gives visitor)) (content self)) result }
-        ensures law { Returns (There (ByList (V.represents visitor)) (content self))
-            V.same Self.Error.is_out_of_memory result }
+        ensures { Visits (There (ByList (V.gives visitor))) (There (ByList (V.represents visitor)))
+            V.same Self.Error.is_out_of_memory (content self) result }
     {
         match self.into_item() {
             Some(item) => item.deserialize_seq(visitor),
@@ -193,10 +191,8 @@ pub trait VariantAccess: Sized + Drop {
     /// # Example
     /// For the list of the ubytes 1 and 2, calls `visit_seq` with these two elements.
     final fn struct_variant<V: Visitor>(self, visitor: V) -> Result<V::Value, Self::Error>
-        ensures read { Answers Self.Error.is_out_of_memory
-            (There (ByList (V.gives visitor)) (content self)) result }
-        ensures law { Returns (There (ByList (V.represents visitor)) (content self))
-            V.same Self.Error.is_out_of_memory result }
+        ensures { Visits (There (ByList (V.gives visitor))) (There (ByList (V.represents visitor)))
+            V.same Self.Error.is_out_of_memory (content self) result }
     {
         self.tuple_variant(visitor)
     }

@@ -3,8 +3,7 @@
 ghost use Rattle.std.specs.Prelude.{List};
 ghost use Rattle.amqp_ser.specs.Marked.{is_descriptor_name, is_value_name, marker_of};
 ghost use Rattle.amqp_ser.specs.Tree.{null};
-ghost use Rattle.amqp_de.specs.Answers.{Answers};
-ghost use Rattle.amqp_de.specs.Events.{plain_event, any_event, is_array_name, is_described_name, Returns, ByList, ByMap, ByIdentifier, ByDescribed, ByStruct, ByDescriptor, ByFormat, ByVariant, ByEnum, ByArray, ByWritten, ByMarker};
+ghost use Rattle.amqp_de.specs.Events.{plain_event, any_event, is_array_name, is_described_name, Visits, ByList, ByMap, ByIdentifier, ByDescribed, ByStruct, ByDescriptor, ByFormat, ByVariant, ByEnum, ByArray, ByWritten, ByMarker};
 
 use crate::access::{ElementsOf, EntriesOf, EnumAccessOf};
 use crate::calls::scalars::DeserializeScalars;
@@ -36,9 +35,8 @@ pub trait DeserializeCompounds: Deserializer {
     /// them is invalid.
     #[tactic(auto, using(crate::proofs::Lists::list_of_trees))]
     final fn deserialize_seq<V: Visitor>(self, visitor: V) -> Result<V::Value, Self::Error>
-        ensures read { Answers Self.Error.is_out_of_memory (ByList (V.gives visitor) (Self.value self)) result }
-        ensures law { Returns (ByList (V.represents visitor) (Self.value self))
-            V.same Self.Error.is_out_of_memory result }
+        ensures { Visits (ByList (V.gives visitor)) (ByList (V.represents visitor))
+            V.same Self.Error.is_out_of_memory (Self.value self) result }
     {
         match self.open() {
             Content::List(elements) => visitor.visit_seq(ElementsOf::<Self>::new(elements)),
@@ -55,9 +53,8 @@ pub trait DeserializeCompounds: Deserializer {
     /// # Example
     /// For the list of the ubyte 1 and `true`, calls `visit_seq` with these two elements.
     final fn deserialize_tuple<V: Visitor>(self, visitor: V) -> Result<V::Value, Self::Error>
-        ensures read { Answers Self.Error.is_out_of_memory (ByList (V.gives visitor) (Self.value self)) result }
-        ensures law { Returns (ByList (V.represents visitor) (Self.value self))
-            V.same Self.Error.is_out_of_memory result }
+        ensures { Visits (ByList (V.gives visitor)) (ByList (V.represents visitor))
+            V.same Self.Error.is_out_of_memory (Self.value self) result }
     {
         self.deserialize_seq(visitor)
     }
@@ -72,9 +69,8 @@ pub trait DeserializeCompounds: Deserializer {
     /// For the map from the ubyte 1 to `true`, calls `visit_map` with this pair.
     #[tactic(auto, using(crate::proofs::Lists::entries_in_pairs))]
     final fn deserialize_map<V: Visitor>(self, visitor: V) -> Result<V::Value, Self::Error>
-        ensures read { Answers Self.Error.is_out_of_memory (ByMap (V.gives visitor) (Self.value self)) result }
-        ensures law { Returns (ByMap (V.represents visitor) (Self.value self))
-            V.same Self.Error.is_out_of_memory result }
+        ensures { Visits (ByMap (V.gives visitor)) (ByMap (V.represents visitor))
+            V.same Self.Error.is_out_of_memory (Self.value self) result }
     {
         match self.open() {
             Content::Map(entries) => visitor.visit_map(EntriesOf::<Self>::new(entries)),
@@ -92,10 +88,8 @@ pub trait DeserializeCompounds: Deserializer {
     /// For the uint 1, calls `visit_u32(1)`. For the symbol `a`, calls `visit_string` with `a`. The
     /// string `a` is invalid.
     final fn deserialize_identifier<V: Visitor>(self, visitor: V) -> Result<V::Value, Self::Error>
-        ensures read { Answers Self.Error.is_out_of_memory
-            (ByIdentifier (V.gives visitor) (Self.value self)) result }
-        ensures law { Returns (ByIdentifier (V.represents visitor) (Self.value self))
-            V.same Self.Error.is_out_of_memory result }
+        ensures { Visits (ByIdentifier (V.gives visitor)) (ByIdentifier (V.represents visitor))
+            V.same Self.Error.is_out_of_memory (Self.value self) result }
     {
         match self.open() {
             Content::Uint(value) => visitor.visit_u32(value),
@@ -112,9 +106,8 @@ pub trait DeserializeCompounds: Deserializer {
     /// # Example
     /// For the empty list, calls `visit_unit()`.
     final fn deserialize_ignored_any<V: Visitor>(self, visitor: V) -> Result<V::Value, Self::Error>
-        ensures read { Answers Self.Error.is_out_of_memory (V.gives visitor (plain_event null)) result }
-        ensures law { Returns (V.represents visitor (plain_event null))
-            V.same Self.Error.is_out_of_memory result }
+        ensures { Visits (V.gives visitor) (V.represents visitor)
+            V.same Self.Error.is_out_of_memory (plain_event null) result }
     {
         visitor.visit_unit()
     }
@@ -129,10 +122,8 @@ pub trait DeserializeCompounds: Deserializer {
     /// For `true` described by the code 1, calls `visit_described` with this code and a
     /// deserializer of `true`. The value `true` without a descriptor is invalid.
     final fn deserialize_described<V: Visitor>(self, visitor: V) -> Result<V::Value, Self::Error>
-        ensures read { Answers Self.Error.is_out_of_memory
-            (ByDescribed (V.gives visitor) (Self.value self)) result }
-        ensures law { Returns (ByDescribed (V.represents visitor) (Self.value self))
-            V.same Self.Error.is_out_of_memory result }
+        ensures { Visits (ByDescribed (V.gives visitor)) (ByDescribed (V.represents visitor))
+            V.same Self.Error.is_out_of_memory (Self.value self) result }
     {
         match self.open() {
             Content::Described(descriptor, value) => visitor.visit_described(descriptor, value),
@@ -155,11 +146,9 @@ pub trait DeserializeCompounds: Deserializer {
         name: &str,
         visitor: V,
     ) -> Result<V::Value, Self::Error>
-        ensures read { Answers Self.Error.is_out_of_memory
-            (ByStruct (V.gives visitor) (is_described_name name.now) (Self.value self)) result }
-        ensures law { Returns
-            (ByStruct (V.represents visitor) (is_described_name name.now) (Self.value self))
-            V.same Self.Error.is_out_of_memory result }
+        ensures { Visits (ByStruct (V.gives visitor) (is_described_name name.now))
+            (ByStruct (V.represents visitor) (is_described_name name.now))
+            V.same Self.Error.is_out_of_memory (Self.value self) result }
     {
         if is_described_name(name) {
             self.deserialize_described(visitor)
@@ -180,11 +169,9 @@ pub trait DeserializeCompounds: Deserializer {
         name: &str,
         visitor: V,
     ) -> Result<V::Value, Self::Error>
-        ensures read { Answers Self.Error.is_out_of_memory
-            (ByStruct (V.gives visitor) (is_described_name name.now) (Self.value self)) result }
-        ensures law { Returns
-            (ByStruct (V.represents visitor) (is_described_name name.now) (Self.value self))
-            V.same Self.Error.is_out_of_memory result }
+        ensures { Visits (ByStruct (V.gives visitor) (is_described_name name.now))
+            (ByStruct (V.represents visitor) (is_described_name name.now))
+            V.same Self.Error.is_out_of_memory (Self.value self) result }
     {
         self.deserialize_struct(name, visitor)
     }
@@ -199,10 +186,8 @@ pub trait DeserializeCompounds: Deserializer {
     /// For the ulong 1, calls `visit_u64(1)`. For the symbol `a:b`, calls `visit_string` with
     /// `a:b`.
     final fn deserialize_descriptor<V: Visitor>(self, visitor: V) -> Result<V::Value, Self::Error>
-        ensures read { Answers Self.Error.is_out_of_memory
-            (ByDescriptor (V.gives visitor) (Self.value self)) result }
-        ensures law { Returns (ByDescriptor (V.represents visitor) (Self.value self))
-            V.same Self.Error.is_out_of_memory result }
+        ensures { Visits (ByDescriptor (V.gives visitor)) (ByDescriptor (V.represents visitor))
+            V.same Self.Error.is_out_of_memory (Self.value self) result }
     {
         match self.open() {
             Content::Ulong(value) => visitor.visit_u64(value),
@@ -227,10 +212,8 @@ pub trait DeserializeCompounds: Deserializer {
     /// 13.
     #[tactic(auto, using(crate::proofs::Lists::list_of_trees, crate::proofs::Lists::entries_in_pairs))]
     final fn deserialize_variant<V: Visitor>(self, visitor: V) -> Result<V::Value, Self::Error>
-        ensures read { Answers Self.Error.is_out_of_memory
-            (ByVariant (V.gives visitor) (Self.value self)) result }
-        ensures law { Returns (ByVariant (V.represents visitor) (Self.value self))
-            V.same Self.Error.is_out_of_memory result }
+        ensures { Visits (ByVariant (V.gives visitor)) (ByVariant (V.represents visitor))
+            V.same Self.Error.is_out_of_memory (Self.value self) result }
     {
         if self.is_index() {
             return visitor.visit_enum(EnumAccessOf::<Self>::new(self, None));
@@ -263,10 +246,8 @@ pub trait DeserializeCompounds: Deserializer {
     /// For the uint 3, calls `visit_u8(0x70)`. For an array, calls `visit_seq` with its elements.
     #[tactic(auto, using(crate::proofs::Lists::list_of_trees))]
     final fn deserialize_format<V: Visitor>(self, visitor: V) -> Result<V::Value, Self::Error>
-        ensures read { Answers Self.Error.is_out_of_memory
-            (ByFormat (V.gives visitor) (Self.value self)) result }
-        ensures law { Returns (ByFormat (V.represents visitor) (Self.value self))
-            V.same Self.Error.is_out_of_memory result }
+        ensures { Visits (ByFormat (V.gives visitor)) (ByFormat (V.represents visitor))
+            V.same Self.Error.is_out_of_memory (Self.value self) result }
     {
         match self.open() {
             Content::Array(elements) => visitor.visit_seq(ElementsOf::<Self>::new(elements)),
@@ -291,14 +272,12 @@ pub trait DeserializeCompounds: Deserializer {
         name: &str,
         visitor: V,
     ) -> Result<V::Value, Self::Error>
-        ensures read { Answers Self.Error.is_out_of_memory
+        ensures { Visits
             (ByEnum (V.gives visitor) (is_value_name name.now)
-            (is_descriptor_name name.now) (is_array_name name.now) (Self.value self))
-            result }
-        ensures law { Returns
+                (is_descriptor_name name.now) (is_array_name name.now))
             (ByEnum (V.represents visitor) (is_value_name name.now)
-            (is_descriptor_name name.now) (is_array_name name.now) (Self.value self))
-            V.same Self.Error.is_out_of_memory result }
+                (is_descriptor_name name.now) (is_array_name name.now))
+            V.same Self.Error.is_out_of_memory (Self.value self) result }
     {
         if is_value_name(name) {
             visitor.visit_value(self.into_value())
@@ -322,10 +301,8 @@ pub trait DeserializeCompounds: Deserializer {
     /// them is invalid.
     #[tactic(auto, using(crate::proofs::Lists::list_of_trees))]
     final fn deserialize_array<V: Visitor>(self, visitor: V) -> Result<V::Value, Self::Error>
-        ensures read { Answers Self.Error.is_out_of_memory
-            (ByArray (V.gives visitor) (Self.value self)) result }
-        ensures law { Returns (ByArray (V.represents visitor) (Self.value self))
-            V.same Self.Error.is_out_of_memory result }
+        ensures { Visits (ByArray (V.gives visitor)) (ByArray (V.represents visitor))
+            V.same Self.Error.is_out_of_memory (Self.value self) result }
     {
         match self.open() {
             Content::Array(elements) => visitor.visit_seq(ElementsOf::<Self>::new(elements)),
@@ -346,10 +323,8 @@ pub trait DeserializeCompounds: Deserializer {
     /// # Example
     /// For the string `a`, calls `visit_byte_buf` with `a10161`.
     final fn deserialize_written<V: Visitor>(self, visitor: V) -> Result<V::Value, Self::Error>
-        ensures read { Answers Self.Error.is_out_of_memory
-            (ByWritten (V.gives visitor) (Self.value self)) result }
-        ensures law { Returns (ByWritten (V.represents visitor) (Self.value self))
-            V.same Self.Error.is_out_of_memory result }
+        ensures { Visits (ByWritten (V.gives visitor)) (ByWritten (V.represents visitor))
+            V.same Self.Error.is_out_of_memory (Self.value self) result }
     {
         let alloc = self.alloc();
         match to_vec(alloc, &self.into_value()) {
@@ -375,10 +350,9 @@ pub trait DeserializeCompounds: Deserializer {
         marker: Marker,
         visitor: V,
     ) -> Result<V::Value, Self::Error>
-        ensures read { Answers Self.Error.is_out_of_memory
-            (ByMarker (V.gives visitor) marker (Self.value self)) result }
-        ensures law { Returns (ByMarker (V.represents visitor) marker (Self.value self))
-            V.same Self.Error.is_out_of_memory result }
+        ensures { Visits (ByMarker (V.gives visitor) marker)
+            (ByMarker (V.represents visitor) marker)
+            V.same Self.Error.is_out_of_memory (Self.value self) result }
     {
         match marker {
             Marker::Transparent | Marker::Other => visitor.visit_newtype_struct(self),
@@ -428,10 +402,9 @@ pub trait DeserializeCompounds: Deserializer {
         name: &str,
         visitor: V,
     ) -> Result<V::Value, Self::Error>
-        ensures read { Answers Self.Error.is_out_of_memory
-            (ByMarker (V.gives visitor) (marker_of name.now) (Self.value self)) result }
-        ensures law { Returns (ByMarker (V.represents visitor) (marker_of name.now) (Self.value self))
-            V.same Self.Error.is_out_of_memory result }
+        ensures { Visits (ByMarker (V.gives visitor) (marker_of name.now))
+            (ByMarker (V.represents visitor) (marker_of name.now))
+            V.same Self.Error.is_out_of_memory (Self.value self) result }
     {
         self.deserialize_marked(marker_named(name), visitor)
     }
@@ -447,10 +420,8 @@ pub trait DeserializeCompounds: Deserializer {
     /// this element. For the symbol `a`, calls `visit_value` with it.
     #[tactic(auto, using(crate::proofs::Lists::list_of_trees, crate::proofs::Lists::entries_in_pairs))]
     final fn deserialize_any<V: Visitor>(self, visitor: V) -> Result<V::Value, Self::Error>
-        ensures read { Answers Self.Error.is_out_of_memory
-            (V.gives visitor (any_event (Self.value self))) result }
-        ensures law { Returns (V.represents visitor (any_event (Self.value self)))
-            V.same Self.Error.is_out_of_memory result }
+        ensures { Visits (V.gives visitor) (V.represents visitor)
+            V.same Self.Error.is_out_of_memory (any_event (Self.value self)) result }
     {
         match self.open() {
             Content::Null => visitor.visit_unit(),

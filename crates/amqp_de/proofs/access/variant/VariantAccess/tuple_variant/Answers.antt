@@ -1,4 +1,4 @@
 use Rattle.amqp_de.proofs.access.variant.VariantAccess.tuple_variant.Goals as goal
 
-pub returns-in-Some-clause-read : goal.returns-in-Some-clause-read
-returns-in-Some-clause-read g c = rw (← c.into_item.ensures, c.in-Some.is) c.deserialize_seq.ensures.read
+pub returns-in-Some : goal.returns-in-Some
+returns-in-Some g c = rw (← c.into_item.ensures, c.in-Some.is) c.deserialize_seq.ensures
