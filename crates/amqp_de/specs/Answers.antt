@@ -22,14 +22,10 @@ abbrev pub TakesPair : {D : Type 0} → (D → Tree) → List (Tree × Tree) →
 TakesPair value old new None = (old ≡ []) × (new ≡ [])
 TakesPair value old new (Some e) = old ≡ (value e.0, value e.1) ∷ new
 
--- The result is a value with the same contents as `x`, unless out of memory.
-abbrev pub IsSameUnless : {T E : Type 0} → (T → T → Type 0) → (E → Type 0) → T → Result T E → Type 0
-IsSameUnless S Memory x r = MatchResult r (λ y. S y x) Memory
-
 -- If the tree is the image of a restorable `x`, it is read as a value with the same contents,
 -- unless out of memory.
 abbrev pub Restores : {T E : Type 0} → (T → Tree) → (T → Type 0) → (T → T → Type 0) → (E → Type 0) → Tree → Result T E → Type 0
-Restores {T} image P S Memory t r = (x : T) → P x → t ≡ image x → IsSameUnless S Memory x r
+Restores {T} image P S Memory t r = (x : T) → P x → t ≡ image x → MatchResult r (λ y. S y x) Memory
 
 -- The result is parts that satisfy `P`. It is an error only if no value has such parts, or out of
 -- memory.

@@ -1,6 +1,6 @@
 -- The events that are reported to a visitor, and the trees that each event reports
 -- (AMQP 1.0 part 1, section 1.6).
-use Rattle.std.specs.Prelude.{◌≡◌, ◌≢◌, ◌⊎◌, ◌||◌, ℕ, ℤ, Bool, true, false, List, [], ◌∷◌, Option, Some, None, Result, bytes_eq, codes, string_bytes}
+use Rattle.std.specs.Prelude.{◌≡◌, ◌≢◌, ◌⊎◌, ◌||◌, ℕ, ℤ, Bool, true, false, List, [], ◌∷◌, Option, Some, None, Result, MatchResult, bytes_eq, codes, string_bytes}
 use Rattle.amqp_data.specs.Fixed.{f32_bits, f64_bits}
 use Rattle.amqp_data.specs.Items.{byte_buf_bytes}
 use Rattle.amqp_ser.specs.Tree as tree
@@ -11,7 +11,7 @@ use Rattle.amqp_ser.specs.Encoding.{encoding}
 use Rattle.amqp_ser.specs.Structs.{is_basic_name, is_list_name, is_map_name}
 use Rattle.amqp_ser.specs.Writable.{writable}
 use Rattle.amqp_value.specs.FormatCode.{code_of_kind}
-use Rattle.amqp_de.specs.Answers.{Answers, IsSameUnless}
+use Rattle.amqp_de.specs.Answers.{Answers}
 use Rattle.amqp_de.specs.Enums.{first}
 use Rattle.amqp_de.specs.Values.{elements_in, entries_in}
 use Rattle.amqp_de.specs.declared.shown.Visit.{Visit}
@@ -66,7 +66,7 @@ plain_shown (plain.ByteBuf b) = plain_event (tree.binary (byte_buf_bytes b))
 -- only if there is none, or out of memory. If `Q` relates `a` to `x`, the result has the same
 -- contents as `x`, unless out of memory.
 abbrev pub Visits : {T A E : Type 0} → (A → T → Type 0) → (A → T → Type 0) → (T → T → Type 0) → (E → Type 0) → A → Result T E → Type 0
-Visits {T} P Q same Memory a r = Answers Memory (P a) r × ((x : T) → Q a x → IsSameUnless same Memory x r)
+Visits {T} P Q same Memory a r = Answers Memory (P a) r × ((x : T) → Q a x → MatchResult r (λ y. same y x) Memory)
 
 module _ {T : Type 0} (G : Event → T → Type 0) where
   -- A scalar of this kind is reported unchanged.
