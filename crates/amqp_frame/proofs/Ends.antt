@@ -50,32 +50,32 @@ grown taken after more bytes e = omega
     (arith, ap length e, length-append (taken ++ more) bytes, length-append taken more)
 
 -- each result excludes the cases of the other results
-pub decided : {T : Type 0} (r : Result T Error) (P : T → List ℕ) (old new : Option (List ℕ)) (f g : ℕ)
+pub decided : {T : Type 0} (r : Result T Error) (P : T → List ℕ) (old new : Option (List ℕ))
     → IfOk r (λ v. IsFrame (P v) × Consumes old new (P v))
-    → IfErr r (FrameRefuses old new f g (TakesIncomplete old new) (TakesMalformed old new)) → IfSome old (λ s. DecidedBy s r)
-decided r P None new f g ok err = tt
-decided (Ok v) P (Some s) None f g ok err = absurd ok.1
-decided (Ok v) P (Some s) (Some x) f g ok err =
+    → IfErr r (FrameRefuses old new) → IfSome old (λ s. DecidedBy s r)
+decided r P None new ok err = tt
+decided (Ok v) P (Some s) None ok err = absurd ok.1
+decided (Ok v) P (Some s) (Some x) ok err =
     let has : HasFrame s = (P v, x, ok.0, ok.1) in
     inr (inr (
       (λ _. has, λ _. refl),
       (λ e. cc, λ b. absurd (frame-malformed s has b)),
       (λ e. cc, λ b. absurd (frame-incomplete s has b)),
     ))
-decided (Err OutOfMemory) P (Some s) new f g ok err = inl refl
-decided (Err Io) P (Some s) new f g ok err = inr (inl refl)
-decided (Err TooLong) P (Some s) new f g ok err = absurd err
-decided (Err InvalidValue) P (Some s) new f g ok err = absurd err
-decided (Err (Message words)) P (Some s) new f g ok err = absurd err
-decided (Err InvalidFormatCode) P (Some s) None f g ok err = absurd err.2
-decided (Err InvalidFormatCode) P (Some s) (Some x) f g ok err =
+decided (Err OutOfMemory) P (Some s) new ok err = inl refl
+decided (Err Io) P (Some s) new ok err = inr (inl refl)
+decided (Err TooLong) P (Some s) new ok err = absurd err
+decided (Err InvalidValue) P (Some s) new ok err = absurd err
+decided (Err (Message words)) P (Some s) new ok err = absurd err
+decided (Err InvalidFormatCode) P (Some s) None ok err = absurd err.2
+decided (Err InvalidFormatCode) P (Some s) (Some x) ok err =
     let has : HasMalformed s = (err.0, x, err.1, err.2) in
     inr (inr (
       (λ e. cc, λ h. absurd (frame-malformed s h has)),
       (λ _. has, λ _. refl),
       (λ e. cc, λ b. absurd (malformed-incomplete s has b)),
     ))
-decided (Err UnexpectedEof) P (Some s) new f g ok err =
+decided (Err UnexpectedEof) P (Some s) new ok err =
     inr (inr (
       (λ e. cc, λ h. absurd (frame-incomplete s h err.0)),
       (λ e. cc, λ b. absurd (malformed-incomplete s b err.0)),
@@ -83,14 +83,14 @@ decided (Err UnexpectedEof) P (Some s) new f g ok err =
     ))
 
 -- no error loses a byte
-pub kept : {T : Type 0} (r : Result T Error) (old new : Option (List ℕ)) (f g : ℕ)
-    → IfErr r (FrameRefuses old new f g (TakesIncomplete old new) (TakesMalformed old new)) → OnErr r (Takes old new)
-kept (Ok v) old new f g err = tt
-kept (Err OutOfMemory) old new f g err = err
-kept (Err Io) old new f g err = err.0
-kept (Err InvalidFormatCode) old new f g err = (err.0, err.2)
-kept (Err UnexpectedEof) None new f g err = ([], tt)
-kept (Err UnexpectedEof) (Some s) new f g err = rw err.1 (s, sym (append-nil s))
-kept (Err TooLong) old new f g err = absurd err
-kept (Err InvalidValue) old new f g err = absurd err
-kept (Err (Message words)) old new f g err = absurd err
+pub kept : {T : Type 0} (r : Result T Error) (old new : Option (List ℕ))
+    → IfErr r (FrameRefuses old new) → OnErr r (Takes old new)
+kept (Ok v) old new err = tt
+kept (Err OutOfMemory) old new err = err
+kept (Err Io) old new err = err
+kept (Err InvalidFormatCode) old new err = (err.0, err.2)
+kept (Err UnexpectedEof) None new err = ([], tt)
+kept (Err UnexpectedEof) (Some s) new err = rw err.1 (s, sym (append-nil s))
+kept (Err TooLong) old new err = absurd err
+kept (Err InvalidValue) old new err = absurd err
+kept (Err (Message words)) old new err = absurd err

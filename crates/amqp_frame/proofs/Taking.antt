@@ -10,7 +10,7 @@ use Rattle.amqp_data.specs.declared.error.Error.TheVariants.{OutOfMemory, TooLon
 use Rattle.amqp_frame.specs.declared.code.Category.{Category}
 use Rattle.amqp_frame.specs.Code.{size_width, body_len, payload_len}
 use Rattle.amqp_frame.specs.Reader.{Failed, RunsOut}
-use Rattle.amqp_frame.specs.Taking.{FrameRefuses, Moves}
+use Rattle.amqp_frame.specs.Taking.{FrameRefuses, PartRefuses, TakesIncomplete, Moves}
 use Rattle.amqp_frame.proofs.FirstFrame.{body_len-prefix}
 
 -- a failure in a later call is a failure of the sequence
@@ -20,24 +20,31 @@ failed-later f g h fg gh (inr last) =
     elim (cases_lt f g) [ inl below ↦ inl (omega arith) | inr over ↦ inr (omega arith) ]
 
 -- an error of a later call is an error of the sequence, whose earlier calls consumed bytes
-pub refuses-later : (a b c : Option (List ℕ)) (f g h : ℕ) (taken : List ℕ) {E E' C C' : Type 0} → Consumes a b taken
-    → f ≤ g → g ≤ h → (E → E') → (C → C') → (e : Error) → FrameRefuses b c g h E C e → FrameRefuses a c f h E' C' e
-refuses-later a b c f g h taken t fg gh at_end at_code OutOfMemory (more, r) =
-    (taken ++ more, Consumes-trans a b c taken more t r)
-refuses-later a b c f g h taken t fg gh at_end at_code TooLong r = r
-refuses-later a b c f g h taken t fg gh at_end at_code InvalidValue r = r
-refuses-later a b c f g h taken t fg gh at_end at_code InvalidFormatCode r = at_code r
-refuses-later a b c f g h taken t fg gh at_end at_code UnexpectedEof r = at_end r
-refuses-later a b c f g h taken t fg gh at_end at_code Io ((more, r), fails) =
-    ((taken ++ more, Consumes-trans a b c taken more t r), failed-later f g h fg gh fails)
-refuses-later a b c f g h taken t fg gh at_end at_code (Message words) r = r
+pub refuses-later : (a b c : Option (List ℕ)) (taken : List ℕ) {E E' : Type 0} → Consumes a b taken → (E → E')
+    → (e : Error) → PartRefuses b c E e → PartRefuses a c E' e
+refuses-later a b c taken t at_end OutOfMemory (more, r) = (taken ++ more, Consumes-trans a b c taken more t r)
+refuses-later a b c taken t at_end TooLong r = r
+refuses-later a b c taken t at_end InvalidValue r = r
+refuses-later a b c taken t at_end InvalidFormatCode r = r
+refuses-later a b c taken t at_end UnexpectedEof r = at_end r
+refuses-later a b c taken t at_end Io (more, r) = (taken ++ more, Consumes-trans a b c taken more t r)
+refuses-later a b c taken t at_end (Message words) r = r
 
-pub refuses-last : {T : Type 0} (r : Result T Error) (a b c : Option (List ℕ)) (f g h : ℕ)
-    (taken : List ℕ) {E E' C C' : Type 0} → Consumes a b taken → f ≤ g → g ≤ h → (E → E') → (C → C')
-    → IfErr r (FrameRefuses b c g h E C) → IfErr r (FrameRefuses a c f h E' C')
-refuses-last (Ok x) a b c f g h taken t fg gh at_end at_code r = tt
-refuses-last (Err e) a b c f g h taken t fg gh at_end at_code r = refuses-later a b c f g h taken t fg gh at_end at_code
-    e r
+pub refuses-last : {T : Type 0} (r : Result T Error) (a b c : Option (List ℕ)) (taken : List ℕ) {E E' : Type 0}
+    → Consumes a b taken → (E → E') → IfErr r (PartRefuses b c E) → IfErr r (PartRefuses a c E')
+refuses-last (Ok x) a b c taken t at_end r = tt
+refuses-last (Err e) a b c taken t at_end r = refuses-later a b c taken t at_end e r
+
+-- an error of reading part of an encoded value is an error of reading the value
+pub refuses-whole : (a b c : Option (List ℕ)) (taken : List ℕ) {E : Type 0} → Consumes a b taken
+    → (E → TakesIncomplete a c) → (e : Error) → PartRefuses b c E e → FrameRefuses a c e
+refuses-whole a b c taken t at_end OutOfMemory (more, r) = (taken ++ more, Consumes-trans a b c taken more t r)
+refuses-whole a b c taken t at_end TooLong r = r
+refuses-whole a b c taken t at_end InvalidValue r = r
+refuses-whole a b c taken t at_end InvalidFormatCode r = absurd r
+refuses-whole a b c taken t at_end UnexpectedEof r = at_end r
+refuses-whole a b c taken t at_end Io (more, r) = (taken ++ more, Consumes-trans a b c taken more t r)
+refuses-whole a b c taken t at_end (Message words) r = r
 
 pub runs-out-later : (a b c : Option (List ℕ)) (bytes : List ℕ) (n m : ℕ) → Consumes a b bytes → length bytes + n ≤ m
     → RunsOut b c n → RunsOut a c m

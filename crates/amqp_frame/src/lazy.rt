@@ -1,10 +1,10 @@
 //! The bytes of one encoded value.
 
-ghost use Rattle.std.specs.Prelude.{◌≡◌, ◌≤◌, IfOk, IfErr, OnErr, IfSome, IsOkUnless, MatchResult};
+ghost use Rattle.std.specs.Prelude.{◌≡◌, ◌≤◌, IfOk, IfErr, OnErr, IfSome, IsErrOf, IsOkUnless, MatchResult};
 ghost use Rattle.std.specs.Io.KnownBytes.{Consumes};
 ghost use Rattle.amqp_frame.specs.Frame.{IsFrame};
-ghost use Rattle.amqp_frame.specs.Reader.{Takes};
-ghost use Rattle.amqp_frame.specs.Taking.{TakesIncomplete, TakesMalformed, FrameRefuses, DecidedBy};
+ghost use Rattle.amqp_frame.specs.Reader.{Failed, Takes};
+ghost use Rattle.amqp_frame.specs.Taking.{FrameRefuses, DecidedBy};
 
 use crate::frame::is_frame;
 use crate::read::Read;
@@ -64,16 +64,16 @@ impl LazyValue {
     ///
     /// From `500140`, reads `5001`, and `40` remains. From `00a1016145`, reads all five bytes.
     pub fn from_reader<R: Read>(alloc: Global, reader: &mut R) -> Result<LazyValue, Error>
-        // What `Ok` contains, and the bytes that remain after success.
+        // The bytes of `Ok`, which were consumed.
         ensures frame { IfOk result (λ value.
             IsFrame value × Consumes (R.left reader.old) (R.left reader.new) value) }
         // When each result is returned.
         ensures exact { IfSome (R.left reader.old) (λ s. DecidedBy s result) }
-        ensures refused { IfErr result (FrameRefuses (R.left reader.old) (R.left reader.new)
-            (R.failures reader.old) (R.failures reader.new)
-            (TakesIncomplete (R.left reader.old) (R.left reader.new))
-            (TakesMalformed (R.left reader.old) (R.left reader.new))) }
-        // The bytes that remain after an error, and the count of failures.
+        // What was consumed before each error, and when reads fail.
+        ensures refused { IfErr result (FrameRefuses (R.left reader.old) (R.left reader.new)) }
+        ensures io { IsErrOf result Error.Io →
+            Failed (R.failures reader.old) (R.failures reader.new) }
+        // No byte is lost, and the count of failures does not decrease.
         ensures kept { OnErr result (Takes (R.left reader.old) (R.left reader.new)) }
         ensures count { R.failures reader.old ≤ R.failures reader.new }
     {

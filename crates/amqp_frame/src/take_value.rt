@@ -1,11 +1,11 @@
 //! Reads the bytes of the next encoded value into a buffer.
 
-ghost use Rattle.std.specs.Prelude.{◌≡◌, ◌≤◌, ◌<◌, [], ◌∷◌, ◌++◌, IfOk, OnOk, IfErr, IfSome, Some, length};
+ghost use Rattle.std.specs.Prelude.{◌≡◌, ◌≤◌, ◌<◌, [], ◌∷◌, ◌++◌, IfOk, OnOk, IfErr, IfSome, IsErrOf, Some, length};
 ghost use Rattle.std.specs.Io.KnownBytes.{Consumes};
 ghost use Rattle.amqp_frame.specs.Code.{payload_len};
 ghost use Rattle.amqp_frame.specs.Frame.{IsFrame};
-ghost use Rattle.amqp_frame.specs.Reader.{RunsOut};
-ghost use Rattle.amqp_frame.specs.Taking.{FrameRefuses, Moves, TakesIncomplete, TakesMalformed};
+ghost use Rattle.amqp_frame.specs.Reader.{Failed, RunsOut};
+ghost use Rattle.amqp_frame.specs.Taking.{FrameRefuses, Moves, PartRefuses};
 
 use crate::code::{Category, body_len_of, category_of, is_primitive, size_width_of};
 use crate::read::Read;
@@ -35,10 +35,9 @@ const PIECE: usize = 4096;
 pub fn take_value<R: Read>(alloc: Global, reader: &mut R) -> Result<Bytes, Error>
     ensures frame { IfOk result (λ bytes.
         IsFrame bytes × Consumes (R.left reader.old) (R.left reader.new) bytes) }
-    ensures refused { IfErr result (FrameRefuses (R.left reader.old) (R.left reader.new)
-        (R.failures reader.old) (R.failures reader.new)
-        (TakesIncomplete (R.left reader.old) (R.left reader.new))
-        (TakesMalformed (R.left reader.old) (R.left reader.new))) }
+    ensures refused { IfErr result (FrameRefuses (R.left reader.old) (R.left reader.new)) }
+    ensures io { IsErrOf result Error.Io →
+        Failed (R.failures reader.old) (R.failures reader.new) }
     ensures count { R.failures reader.old ≤ R.failures reader.new }
 {
     let mut taken = Vec::new(alloc);
@@ -64,9 +63,10 @@ fn take_byte<R: Read>(reader: &mut R, taken: &mut Vec<u8>) -> Result<u8, Error>
     ensures bytes { IfOk result (λ byte. taken.new.items ≡ taken.old.items ++ byte ∷ []) }
     ensures ok { IfOk result (λ byte.
         Consumes (R.left reader.old) (R.left reader.new) (byte ∷ [])) }
-    ensures refused { IfErr result (FrameRefuses (R.left reader.old) (R.left reader.new)
-        (R.failures reader.old) (R.failures reader.new)
-        (RunsOut (R.left reader.old) (R.left reader.new) 1) ⊥) }
+    ensures refused { IfErr result (PartRefuses (R.left reader.old) (R.left reader.new)
+        (RunsOut (R.left reader.old) (R.left reader.new) 1)) }
+    ensures io { IsErrOf result Error.Io →
+        Failed (R.failures reader.old) (R.failures reader.new) }
     ensures count { R.failures reader.old ≤ R.failures reader.new }
 {
     let Some(byte) = reader.next()? else {
@@ -85,10 +85,11 @@ fn take_payload<R: Read>(
     ensures ok { OnOk result (Moves (R.left reader.old) (R.left reader.new)
         taken.old.items taken.new.items
         (λ bytes. length bytes ≡ payload_len category bytes)) }
-    ensures refused { IfErr result (FrameRefuses (R.left reader.old) (R.left reader.new)
-        (R.failures reader.old) (R.failures reader.new)
+    ensures refused { IfErr result (PartRefuses (R.left reader.old) (R.left reader.new)
         (IfSome (R.left reader.old) (λ s.
-        (length s < payload_len category s) × (R.left reader.new ≡ Some []))) ⊥) }
+        (length s < payload_len category s) × (R.left reader.new ≡ Some [])))) }
+    ensures io { IsErrOf result Error.Io →
+        Failed (R.failures reader.old) (R.failures reader.new) }
     ensures count { R.failures reader.old ≤ R.failures reader.new }
 {
     let at = taken.len();
@@ -103,9 +104,10 @@ fn take_bytes<R: Read>(reader: &mut R, taken: &mut Vec<u8>, count: u32) -> Resul
     ensures ok { OnOk result (Moves (R.left reader.old) (R.left reader.new)
         taken.old.items taken.new.items
         (λ bytes. length bytes ≡ count)) }
-    ensures refused { IfErr result (FrameRefuses (R.left reader.old) (R.left reader.new)
-        (R.failures reader.old) (R.failures reader.new)
-        (RunsOut (R.left reader.old) (R.left reader.new) count) ⊥) }
+    ensures refused { IfErr result (PartRefuses (R.left reader.old) (R.left reader.new)
+        (RunsOut (R.left reader.old) (R.left reader.new) count)) }
+    ensures io { IsErrOf result Error.Io →
+        Failed (R.failures reader.old) (R.failures reader.new) }
     ensures count { R.failures reader.old ≤ R.failures reader.new }
 {
     let mut left = count as usize;
@@ -123,9 +125,10 @@ fn take_piece<R: Read>(reader: &mut R, taken: &mut Vec<u8>, len: usize) -> Resul
     ensures ok { OnOk result (Moves (R.left reader.old) (R.left reader.new)
         taken.old.items taken.new.items
         (λ bytes. length bytes ≡ len)) }
-    ensures refused { IfErr result (FrameRefuses (R.left reader.old) (R.left reader.new)
-        (R.failures reader.old) (R.failures reader.new)
-        (RunsOut (R.left reader.old) (R.left reader.new) len) ⊥) }
+    ensures refused { IfErr result (PartRefuses (R.left reader.old) (R.left reader.new)
+        (RunsOut (R.left reader.old) (R.left reader.new) len)) }
+    ensures io { IsErrOf result Error.Io →
+        Failed (R.failures reader.old) (R.failures reader.new) }
     ensures count { R.failures reader.old ≤ R.failures reader.new }
 {
     let at = taken.len();

@@ -1,12 +1,12 @@
 -- The rest of the cut decides the result of a run.
-use Rattle.std.proofs.Common.{◌≡◌, ◌≢◌, ℕ, ◌^◌, ◌≤◌, ◌<◌, inl, inr, ◌↔◌, List, [], ◌∷◌, Option, None, Some, Result, Ok, Err, IsOk, IsErrOf, IfSome, IfErr, OnOk, length, length-append, refl, ap, subst, arith}
+use Rattle.std.proofs.Common.{◌≡◌, ◌≢◌, ℕ, ◌^◌, ◌≤◌, ◌<◌, inl, inr, ◌↔◌, List, [], ◌∷◌, Option, None, Some, Result, Ok, Err, IsOk, IsErrOf, IfSome, length, length-append, refl, ap, subst, arith}
 use Rattle.std.proofs.lemmas.Bool.{false≢true}
 use Rattle.std.specs.List.{AllByRecursion, concat}
 use Rattle.amqp_data.specs.declared.error.Error.{Error}
 use Rattle.amqp_data.specs.declared.error.Error.TheVariants.{OutOfMemory, TooLong, InvalidValue, InvalidFormatCode, UnexpectedEof, Io, Message}
 use Rattle.amqp_frame.specs.Cut.{IsCut}
 use Rattle.amqp_frame.specs.Frame.{IsFrame, IsIncomplete, HasFrame, HasMalformed, ExactlyOne}
-use Rattle.serde_amqp.specs.CutRun.{Prints, PrintsMost, IsCutShort, CutRefuses, CutDecidedBy}
+use Rattle.serde_amqp.specs.CutRun.{Prints, PrintsMost, IsCutShort, CutWrites, CutDecidedBy}
 
 module _ (one_case : (s : List ℕ) → ExactlyOne (HasFrame s) (HasMalformed s) (IsIncomplete s)) where
   whole-incomplete : (s : List ℕ) → HasMalformed s → ¬ IsIncomplete s
@@ -64,13 +64,13 @@ module _ (one_case : (s : List ℕ) → ExactlyOne (HasFrame s) (HasMalformed s)
   same-rest : (s : List ℕ) (w u : Option (List ℕ)) (P : List ℕ → Type 0) (frames : List (List ℕ)) (rest : List ℕ) → IsCut s frames rest → Prints s w u P → P rest
   same-rest s w u P frames rest c (others, last, d, put, here) = subst P (one_cut s last rest others frames d c).1 here
 
-  pub run-decided : {T : Type 0} (r : Result T Error) (a w u : Option (List ℕ)) → OnOk r (IfSome a (λ s. Prints s w u (λ rest. rest ≡ []))) → IfErr r (λ e. IfSome a (λ s. CutRefuses s w u e)) → IfSome a (λ s. CutDecidedBy s r)
-  run-decided r None w u ok err = tt
-  run-decided (Ok x) (Some s) w u ok err = λ frames rest c. inr (inr (inr (asks-ok one_case x rest (same-rest s w u (λ l. l ≡ []) frames rest c ok))))
-  run-decided {T} (Err InvalidFormatCode) (Some s) w u ok err = λ frames rest c. inr (inr (inr (asks-malformed one_case T rest (same-rest s w u HasMalformed frames rest c err))))
-  run-decided {T} (Err UnexpectedEof) (Some s) w u ok err = λ frames rest c. inr (inr (inr (asks-short one_case T rest (same-rest s w u IsCutShort frames rest c err))))
-  run-decided (Err OutOfMemory) (Some s) w u ok err = λ frames rest c. inl refl
-  run-decided (Err Io) (Some s) w u ok err = λ frames rest c. inr (inl refl)
-  run-decided (Err TooLong) (Some s) w u ok err = λ frames rest c. inr (inr (inl (refl, most-long some_byte s w u err)))
-  run-decided (Err InvalidValue) (Some s) w u ok err = absurd err
-  run-decided (Err (Message words)) (Some s) w u ok err = absurd err
+  pub run-decided : {T : Type 0} (r : Result T Error) (a w u : Option (List ℕ)) → IfSome a (λ s. CutWrites s w u r) → IfSome a (λ s. CutDecidedBy s r)
+  run-decided r None w u h = tt
+  run-decided (Ok x) (Some s) w u h = λ frames rest c. inr (inr (inr (asks-ok one_case x rest (same-rest s w u (λ l. l ≡ []) frames rest c h))))
+  run-decided {T} (Err InvalidFormatCode) (Some s) w u h = λ frames rest c. inr (inr (inr (asks-malformed one_case T rest (same-rest s w u HasMalformed frames rest c h))))
+  run-decided {T} (Err UnexpectedEof) (Some s) w u h = λ frames rest c. inr (inr (inr (asks-short one_case T rest (same-rest s w u IsCutShort frames rest c h))))
+  run-decided (Err OutOfMemory) (Some s) w u h = λ frames rest c. inl refl
+  run-decided (Err Io) (Some s) w u h = λ frames rest c. inr (inl refl)
+  run-decided (Err TooLong) (Some s) w u h = λ frames rest c. inr (inr (inl (refl, most-long some_byte s w u h)))
+  run-decided (Err InvalidValue) (Some s) w u h = absurd h
+  run-decided (Err (Message words)) (Some s) w u h = absurd h

@@ -1,5 +1,5 @@
 -- A run over the encoded values of a byte string, by induction on its steps.
-use Rattle.std.proofs.Common.{◌≡◌, ◌≢◌, ℕ, ◌+◌, ◌-◌, ◌^◌, ◌≤◌, ◌<◌, ◌⊎◌, inl, inr, min, List, [], ◌∷◌, ◌++◌, Option, None, Some, Result, Ok, Err, IfSome, IfErr, IsErrOf, length, take, refl, sym, ap, ◌∙◌, subst, append_assoc, length-append, arith}
+use Rattle.std.proofs.Common.{◌≡◌, ◌≢◌, ℕ, ◌+◌, ◌-◌, ◌^◌, ◌≤◌, ◌<◌, ◌⊎◌, inl, inr, min, List, [], ◌∷◌, ◌++◌, Option, None, Some, Result, Ok, Err, IfSome, IfErr, OnOk, IsErrOf, length, take, refl, sym, ap, ◌∙◌, subst, append_assoc, length-append, arith}
 use Rattle.std.specs.List.{AllByRecursion, concat}
 use Rattle.std.proofs.lemmas.List.{append-nil, take-append-le, take_min}
 use Rattle.std.proofs.lemmas.List.Concat.{flat_map-append}
@@ -16,7 +16,7 @@ use Rattle.amqp_frame.specs.Reader.{Failed}
 use Rattle.amqp_frame.proofs.Taking.{failed-later}
 use Rattle.serde_amqp.specs.Writer.{TakesPrefix}
 use Rattle.serde_amqp.specs.CutLines.{cut_line, cut_lines}
-use Rattle.serde_amqp.specs.CutRun.{Prints, PrintsPrefix, IsCutShort, CutRefuses}
+use Rattle.serde_amqp.specs.CutRun.{Prints, PrintsPrefix, IsCutShort, CutRefuses, CutWrites}
 use Rattle.serde_amqp.specs.CutSteps.{PrintsNext, StopsInLine, StepRefuses}
 
 -- Exactly n encoded values were read, and their lines were written.
@@ -109,11 +109,15 @@ module _ (some_cut : (s : List ℕ) → (frames : List (List ℕ)) × (rest : Li
       rw m (frames, t, size, each, read, more m, Appends-kept w v u _ put kept)
   at-most s t w v u e p kept more (inr m) = rw m (stops-between s t w v u (2 ^ 64 - 1) p kept)
 
-  pub run-finish-refused : {T : Type 0} (r : Result T Error) (a b w v u : Option (List ℕ)) → Progress a b w v (2 ^ 64 - 1) → Keeps v u → (IsErrOf r TooLong → IfSome b (λ t. t ≢ [])) → IfErr r (λ e. (e ≡ TooLong) ⊎ (e ≡ Io)) → IfErr r (λ e. IfSome a (λ s. CutRefuses s w u e))
+  run-finish-refused : {T : Type 0} (r : Result T Error) (a b w v u : Option (List ℕ)) → Progress a b w v (2 ^ 64 - 1) → Keeps v u → (IsErrOf r TooLong → IfSome b (λ t. t ≢ [])) → IfErr r (λ e. (e ≡ TooLong) ⊎ (e ≡ Io)) → IfErr r (λ e. IfSome a (λ s. CutRefuses s w u e))
   run-finish-refused (Ok x) a b w v u p kept more h = tt
   run-finish-refused (Err e) None b w v u p kept more h = tt
   run-finish-refused (Err e) (Some s) None w v u p kept more h = absurd p.3
   run-finish-refused (Err e) (Some s) (Some t) w v u p kept more h = at-most s t w v u e p kept (λ m. more (ap Err m)) h
+
+  pub run-finishes : {T : Type 0} → ((f : List ℕ) → IsFrame f → 0 < length f) → (r : Result T Error) (a b w v u : Option (List ℕ)) → Progress a b w v (2 ^ 64 - 1) → Keeps v u → OnOk r (IsAtEnd b) → (IsErrOf r TooLong → IfSome b (λ t. t ≢ [])) → IfErr r (λ e. (e ≡ TooLong) ⊎ (e ≡ Io)) → IfSome a (λ s. CutWrites s w u r)
+  run-finishes some_byte (Ok x) a b w v u p kept over more h = run-ends some_byte a b w v u (2 ^ 64 - 1) p over kept
+  run-finishes some_byte (Err e) a b w v u p kept over more h = run-finish-refused (Err e) a b w v u p kept more h
 
 -- A failure in a later call is a failure of the complete run.
 pub either-failed : (f g h k l m : ℕ) → f ≤ g → g ≤ h → k ≤ l → l ≤ m → Failed g h ⊎ Failed l m → Failed f h ⊎ Failed k m

@@ -6,7 +6,7 @@ use Rattle.std.proofs.KnownBytes.{Keeps-refl}
 use Rattle.amqp_data.specs.declared.error.Error.{Error}
 use Rattle.amqp_data.specs.declared.error.Error.TheVariants.{OutOfMemory, TooLong, InvalidValue, InvalidFormatCode, UnexpectedEof, Io, Message}
 use Rattle.amqp_frame.specs.Frame.{IsFrame, HasFrame}
-use Rattle.amqp_frame.specs.Taking.{TakesIncomplete, TakesMalformed, FrameRefuses, DecidedBy}
+use Rattle.amqp_frame.specs.Taking.{FrameRefuses, DecidedBy}
 use Rattle.serde_amqp.specs.Writer.{TakesPrefix}
 use Rattle.serde_amqp.specs.CutLines.{cut_line}
 use Rattle.serde_amqp.specs.CutSteps.{StopsInLine, StepRefuses}
@@ -22,25 +22,25 @@ some-byte s o some first none =
     let no : false ≡ true = sym (ap is_some gone) ∙ some in
     false≢true no
 
-frame-refused-at : (T : Type 0) (s : List ℕ) (c : Option (List ℕ)) (f g : ℕ) (w : Option (List ℕ)) (e : Error) → s ≢ [] → DecidedBy {T = T} s (Err e) → FrameRefuses (Some s) c f g (TakesIncomplete (Some s) c) (TakesMalformed (Some s) c) e → StepRefuses s w w e
-frame-refused-at T s c f g w OutOfMemory some d h = inl (Keeps-refl w)
-frame-refused-at T s None f g w InvalidFormatCode some d h = absurd h.2
-frame-refused-at T s (Some x) f g w InvalidFormatCode some d h =
+frame-refused-at : (T : Type 0) (s : List ℕ) (c w : Option (List ℕ)) (e : Error) → s ≢ [] → DecidedBy {T = T} s (Err e) → FrameRefuses (Some s) c e → StepRefuses s w w e
+frame-refused-at T s c w OutOfMemory some d h = inl (Keeps-refl w)
+frame-refused-at T s None w InvalidFormatCode some d h = absurd h.2
+frame-refused-at T s (Some x) w InvalidFormatCode some d h =
     ((h.0, x, h.1, h.2), no-frame T s InvalidFormatCode (λ k. cc) (λ k. cc) d, Keeps-refl w)
-frame-refused-at T s c f g w UnexpectedEof some d h =
+frame-refused-at T s c w UnexpectedEof some d h =
     ((some, h.0), no-frame T s UnexpectedEof (λ k. cc) (λ k. cc) d, Keeps-refl w)
-frame-refused-at T s c f g w Io some d h = inl (Keeps-refl w)
-frame-refused-at T s c f g w TooLong some d h = h
-frame-refused-at T s c f g w InvalidValue some d h = h
-frame-refused-at T s c f g w (Message words) some d h = h
+frame-refused-at T s c w Io some d h = inl (Keeps-refl w)
+frame-refused-at T s c w TooLong some d h = h
+frame-refused-at T s c w InvalidValue some d h = h
+frame-refused-at T s c w (Message words) some d h = h
 
 -- An error of reading an encoded value, after a first byte was seen, is an error of the step.
-pub frame-refused : (T : Type 0) (a b c : Option (List ℕ)) (f g : ℕ) (w : Option (List ℕ)) (o : Option ℕ) (e : Error) → is_some o ≡ true → IfSome a (λ s. o ≡ slice_get s 0) → Keeps a b → IfSome b (λ s. DecidedBy {T = T} s (Err e)) → FrameRefuses b c f g (TakesIncomplete b c) (TakesMalformed b c) e → IfSome a (λ s. StepRefuses s w w e)
-frame-refused T None b c f g w o e some first kept d h = tt
-frame-refused T (Some s) None c f g w o e some first kept d h = absurd kept
-frame-refused T (Some s) (Some t) c f g w o e some first kept d h =
+pub frame-refused : (T : Type 0) (a b c w : Option (List ℕ)) (o : Option ℕ) (e : Error) → is_some o ≡ true → IfSome a (λ s. o ≡ slice_get s 0) → Keeps a b → IfSome b (λ s. DecidedBy {T = T} s (Err e)) → FrameRefuses b c e → IfSome a (λ s. StepRefuses s w w e)
+frame-refused T None b c w o e some first kept d h = tt
+frame-refused T (Some s) None c w o e some first kept d h = absurd kept
+frame-refused T (Some s) (Some t) c w o e some first kept d h =
     let P : List ℕ → Type 0 = λ l. StepRefuses l w w e in
-    subst P kept (frame-refused-at T t c f g w e (λ none. some-byte s o some first (sym kept ∙ none)) d h)
+    subst P kept (frame-refused-at T t c w e (λ none. some-byte s o some first (sym kept ∙ none)) d h)
 
 -- An error of writing the line of an encoded value is an error of the step.
 pub put-refused : (a b c w v : Option (List ℕ)) (frame line : List ℕ) (e : Error) → Keeps a b → IsFrame frame → Consumes b c frame → line ≡ cut_line frame → TakesPrefix w v line → (e ≡ OutOfMemory) ⊎ (e ≡ Io) → IfSome a (λ s. StepRefuses s w v e)

@@ -1,6 +1,6 @@
 -- The output of a run over the encoded values of a byte string, and its errors (AMQP 1.0 part 1,
 -- section 1.2).
-use Rattle.std.specs.Prelude.{◌≡◌, ◌≢◌, ℕ, ◌-◌, ◌^◌, ◌≤◌, ◌⊎◌, ◌↔◌, List, [], ◌++◌, length, Option, Result, IsOk, IsErrOf}
+use Rattle.std.specs.Prelude.{◌≡◌, ◌≢◌, ℕ, ◌-◌, ◌^◌, ◌≤◌, ◌⊎◌, ◌↔◌, List, [], ◌++◌, length, Option, Result, Ok, Err, IsOk, IsErrOf}
 use Rattle.std.specs.List.{AllByRecursion, concat}
 use Rattle.std.specs.Io.KnownBytes.{Appends}
 use Rattle.amqp_data.specs.declared.error.Error.{Error}
@@ -37,6 +37,11 @@ CutRefuses s old new UnexpectedEof = Prints s old new IsCutShort
 CutRefuses s old new Io = PrintsPrefix s old new
 CutRefuses s old new InvalidValue = ⊥
 CutRefuses s old new (Message words) = ⊥
+
+-- What was written before each result: on success, the lines of values that are the whole input.
+abbrev pub CutWrites : {T : Type 0} → List ℕ → Option (List ℕ) → Option (List ℕ) → Result T Error → Type 0
+CutWrites s old new (Ok x) = Prints s old new (λ rest. rest ≡ [])
+CutWrites s old new (Err e) = CutRefuses s old new e
 
 -- On fewer than 2 ^ 64 bytes, the rest of the cut decides the result, except for out of memory and
 -- I/O errors.

@@ -4,7 +4,7 @@ ghost use Rattle.std.specs.Prelude.{◌≡◌, ◌≢◌, ◌≤◌, ◌⊎◌, 
 ghost use Rattle.std.specs.Io.KnownBytes.{Keeps, IsAtEnd};
 ghost use Rattle.amqp_frame.specs.Reader.{Failed};
 ghost use Rattle.serde_amqp.specs.CutLines.{cut_line};
-ghost use Rattle.serde_amqp.specs.CutRun.{Prints, CutRefuses, CutDecidedBy};
+ghost use Rattle.serde_amqp.specs.CutRun.{CutWrites, CutDecidedBy};
 ghost use Rattle.serde_amqp.specs.CutSteps.{PrintsNext, StepRefuses};
 
 use crate::hexadecimal::push_hexadecimal;
@@ -47,11 +47,9 @@ pub fn run_cut<R: Read, W: Write>(
 ) -> Result<(), Error>
     // What was read and written.
     ensures read { OnOk result (IfSome (R.left reader.old) (λ _. IsAtEnd (R.left reader.new))) }
-    ensures ok { OnOk result (IfSome (R.left reader.old) (λ s.
-        Prints s (W.written writer.old) (W.written writer.new) (λ rest. rest ≡ []))) }
-    ensures refused { IfErr result (λ e. IfSome (R.left reader.old) (λ s.
-        CutRefuses s (W.written writer.old) (W.written writer.new) e)) }
     ensures flushed { OnOk result (W.flushed writer.new) }
+    ensures lines { IfSome (R.left reader.old) (λ s.
+        CutWrites s (W.written writer.old) (W.written writer.new) result) }
     // When each result is returned.
     ensures exact { IfSome (R.left reader.old) (λ s. CutDecidedBy s result) }
     ensures io { IsErrOf result Error.Io → Failed (R.failures reader.old) (R.failures reader.new)
@@ -72,11 +70,9 @@ fn print_encoded_values<R: Read, W: Write>(
     writer: &mut W,
 ) -> Result<(), Error>
     ensures read { OnOk result (IfSome (R.left reader.old) (λ _. IsAtEnd (R.left reader.new))) }
-    ensures ok { OnOk result (IfSome (R.left reader.old) (λ s.
-        Prints s (W.written writer.old) (W.written writer.new) (λ rest. rest ≡ []))) }
-    ensures refused { IfErr result (λ e. IfSome (R.left reader.old) (λ s.
-        CutRefuses s (W.written writer.old) (W.written writer.new) e)) }
     ensures flushed { OnOk result (W.flushed writer.new) }
+    ensures lines { IfSome (R.left reader.old) (λ s.
+        CutWrites s (W.written writer.old) (W.written writer.new) result) }
     ensures io { IsErrOf result Error.Io → Failed (R.failures reader.old) (R.failures reader.new)
         ⊎ Failed (W.failures writer.old) (W.failures writer.new) }
     ensures reads { R.failures reader.old ≤ R.failures reader.new }

@@ -10,5 +10,4 @@ returns-in_err-take_piece-clause-refused g c =
     let refused = c.in_err-take_piece.ensures.refused in
     let fits : length was.0 + c.min-len.result ≤ c.args.count = omega arith in
     let at_end = runs-out-later _ _ _ was.0 _ _ was.1 fits in
-    rw (p.1, p.2) (refuses-later _ _ _ _ _ _ was.0 was.1 c.loop-left.invariant.count c.take_piece.ensures.count at_end
-    (λ h. h) c.in_err-take_piece.field-0.0 refused)
+    rw (p.1, p.2) (refuses-later _ _ _ was.0 was.1 at_end c.in_err-take_piece.field-0.0 refused)

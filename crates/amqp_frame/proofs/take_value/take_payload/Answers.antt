@@ -1,6 +1,6 @@
 use Rattle.std.proofs.Common.{◌≡◌, length, ap, ◌∙◌, arith}
 use Rattle.amqp_frame.specs.Code.{body_len}
-use Rattle.amqp_frame.proofs.Taking.{refuses-last, falls-short-body, moves-payload, behind}
+use Rattle.amqp_frame.proofs.Taking.{failed-later, refuses-last, falls-short-body, moves-payload, behind}
 use Rattle.amqp_frame.proofs.take_value.take_payload.Goals as goal
 
 pub returns : goal.returns
@@ -12,7 +12,8 @@ returns g c =
     ∙ ap (body_len c.args.category) rest in
     let width = head.3 ∙ c.size_width_of-width.ensures.width in record {
       ok = moves-payload c.take_bytes-2.result c.args.category _ _ _ _ _ _ head.0 _ head.1 head.2 width told c.take_bytes-2.ensures.ok;
-      refused = refuses-last c.take_bytes-2.result _ _ _ _ _ _ head.0 head.1 c.take_bytes.ensures.count c.take_bytes-2.ensures.count
-          (falls-short-body c.args.category _ _ _ head.0 _ head.1 width told) (λ h. h) c.take_bytes-2.ensures.refused;
+      refused = refuses-last c.take_bytes-2.result _ _ _ head.0 head.1
+          (falls-short-body c.args.category _ _ _ head.0 _ head.1 width told) c.take_bytes-2.ensures.refused;
+      io = λ e. failed-later _ _ _ c.take_bytes.ensures.count c.take_bytes-2.ensures.count (c.take_bytes-2.ensures.io e);
       count = omega (arith, c.take_bytes.ensures.count, c.take_bytes-2.ensures.count);
     }

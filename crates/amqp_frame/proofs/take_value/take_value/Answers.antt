@@ -2,7 +2,7 @@ use Rattle.std.proofs.Common.{◌≡◌, ◌≤◌, ◌∷◌, [], ◌++◌, len
 use Rattle.std.proofs.lemmas.Result.{err_from_is_err_and}
 use Rattle.std.proofs.KnownBytes.{Consumes-trans}
 use Rattle.amqp_frame.proofs.Open.{open-more, open-frame}
-use Rattle.amqp_frame.proofs.Taking.{refuses-later}
+use Rattle.amqp_frame.proofs.Taking.{refuses-whole}
 use Rattle.amqp_frame.proofs.Ends.{ends-at-code, ends-in-payload, loses-code, keeps-primitive, grown}
 use Rattle.amqp_frame.proofs.take_value.take_value.Goals as goal
 
@@ -12,7 +12,7 @@ returns-in_err-code-clause-refused g c =
     let p = err_from_is_err_and c.from_residual.result c.from_residual.ensures.1 in
     let taken = c.loop-open.taken.items in
     let at_end = ends-at-code _ _ _ taken _ o.completes (omega arith) o.moved in
-    rw (p.1, p.2) (refuses-later _ _ _ _ _ _ taken o.moved o.count c.take_byte.ensures.count at_end (λ h. absurd h)
+    rw (p.1, p.2) (refuses-whole _ _ _ taken o.moved at_end
     c.in_err-code.field-0.0 c.in_err-code.ensures.refused)
 
 pub loop-open-preserved-then-code-eq0 : goal.loop-open-preserved-then-code-eq0
@@ -53,8 +53,7 @@ returns-in_err-take_payload-clause-refused g c =
     let taken = c.loop-open.taken.items ++ c.in_ok-code.code ∷ [] in
     let at_end = ends-in-payload _ _ _ c.loop-open.taken.items c.in_ok-code.code _ o.completes (omega arith)
     (sym c.if-not-is_primitive.ensures) moved in
-    rw (p.1, p.2) (refuses-later _ _ _ _ _ _ taken moved (omega (arith, o.count, was.count))
-    c.take_payload.ensures.count at_end (λ h. absurd h) c.in_err-take_payload.field-0.0 refused)
+    rw (p.1, p.2) (refuses-whole _ _ _ taken moved at_end c.in_err-take_payload.field-0.0 refused)
 
 pub loop-open-preserved : goal.loop-open-preserved
 loop-open-preserved g c =

@@ -1,15 +1,15 @@
 use Rattle.std.proofs.Common.{◌≡◌, ◌-◌, ◌^◌, ap, Ok, arith}
 use Rattle.std.proofs.lemmas.Result.{err_from_is_err_and}
-use Rattle.serde_amqp.proofs.Runs.{progress-step, run-ends, run-reads, run-refused, run-finish-refused, either-failed}
+use Rattle.serde_amqp.proofs.Runs.{progress-step, run-ends, run-reads, run-refused, run-finishes, either-failed}
 use Rattle.serde_amqp.proofs.cut.print_encoded_values.Goals as goal
 
-pub returns-in_err-print_next-clause-refused : goal.returns-in_err-print_next-clause-refused
-returns-in_err-print_next-clause-refused g c =
+pub returns-in_err-print_next-clause-lines : goal.returns-in_err-print_next-clause-lines
+returns-in_err-print_next-clause-lines g c =
     let p = err_from_is_err_and c.from_residual.result c.from_residual.ensures.1 in
     rw (p.1, p.2) (run-refused c.some_cut.ensures _ _ _ _ _ _ c.in_err-print_next.field-0.0 c.loop-frame.invariant.done c.in_err-print_next.ensures.refused)
 
-pub returns-then-not-branch-clause-ok : goal.returns-then-not-branch-clause-ok
-returns-then-not-branch-clause-ok g c =
+pub returns-then-not-branch-clause-lines : goal.returns-then-not-branch-clause-lines
+returns-then-not-branch-clause-lines g c =
     let ended = c.in_ok-print_next.ensures.done (ap Ok c.if-not-branch.true) in
     run-ends c.some_byte.ensures _ _ _ _ _ _ c.loop-frame.invariant.done ended.0 ended.2
 
@@ -27,11 +27,11 @@ loop-frame-preserved g c =
       writes = omega (arith, c.loop-frame.invariant.writes, c.print_next.ensures.writes);
     }
 
-pub returns-clause-refused : goal.returns-clause-refused
-returns-clause-refused g c =
+pub returns-clause-lines : goal.returns-clause-lines
+returns-clause-lines g c =
     let n : c.loop-frame._frame ≡ 2 ^ 64 - 1 = omega arith in
     let done = rw n at c.loop-frame.invariant.done in
-    run-finish-refused c.some_cut.ensures c.finish.result _ _ _ _ _ done c.finish.ensures.written c.finish.ensures.more c.finish.ensures.others
+    run-finishes c.some_cut.ensures c.some_byte.ensures c.finish.result _ _ _ _ _ done c.finish.ensures.written c.finish.ensures.done c.finish.ensures.more c.finish.ensures.others
 
 pub returns-clause-io : goal.returns-clause-io
 returns-clause-io g c = λ e. either-failed _ _ _ _ _ _ c.loop-frame.invariant.reads c.finish.ensures.reads c.loop-frame.invariant.writes c.finish.ensures.writes (c.finish.ensures.io e)

@@ -7,7 +7,7 @@ use Rattle.serde_amqp.proofs.cut.print_next.Goals as goal
 pub returns-in_err-frame-clause-refused : goal.returns-in_err-frame-clause-refused
 returns-in_err-frame-clause-refused g c =
     let p = err_from_is_err_and c.from_residual-in_err-frame.result c.from_residual-in_err-frame.ensures.1 in
-    rw (p.1, p.2) (frame-refused _ _ _ _ _ _ _ _ c.in_err-frame.field-0.0 c.if-is_none.ensures c.in_ok-peek.ensures.ok c.in_ok-peek.ensures.kept c.in_err-frame.ensures.exact c.in_err-frame.ensures.refused)
+    rw (p.1, p.2) (frame-refused _ _ _ _ _ _ c.in_err-frame.field-0.0 c.if-is_none.ensures c.in_ok-peek.ensures.ok c.in_ok-peek.ensures.kept c.in_err-frame.ensures.exact c.in_err-frame.ensures.refused)
 
 pub returns-in_err-put-clause-refused : goal.returns-in_err-put-clause-refused
 returns-in_err-put-clause-refused g c =
