@@ -13,3 +13,4 @@ pub mod ComesBack
 pub mod Sound
 pub mod MapBuilder
 pub mod Places
+pub mod FaultError

@@ -1,7 +1,4 @@
 //! Deserialization: the traits, the sources to read from, and helpers for user-defined types.
-//!
-//! The macros `named!`, `fields!`, `variants!` and `variant!` are exported by `amqp_de` only: a
-//! crate cannot re-export the macros of another.
 
 pub use amqp_de::de::{
     Content, Deserialize, DeserializeCompounds, DeserializeError, DeserializeScalars, Deserializer,
@@ -10,6 +7,6 @@ pub use amqp_de::de::{
 pub use amqp_de::{
     ContentOf, DataVariant, Describes, DeserializeSeed, Either, ElementsOf, EntriesOf,
     EnumAccessOf, EnumSeed, FieldSeeds, ListSeed, NamedSeed, Never, Optional, Record, Required,
-    TypeSeed, UnitVariant, Variants, laws, read, read_composite, read_described,
-    read_described_map, read_map,
+    TypeSeed, UnitVariant, Variants, laws, named, read, read_composite, read_described,
+    read_described_map, read_map, values, variant, variants,
 };
