@@ -7,7 +7,6 @@
 
 mod composites;
 mod day;
-mod gust;
 mod maps;
 mod position;
 mod region;
@@ -16,7 +15,6 @@ mod sky;
 
 pub use composites::{Limits, Span, Title};
 pub use day::{Day, Rain};
-pub use gust::Gust;
 pub use maps::{Calibration, Contact};
 pub use position::Position;
 pub use region::Region;

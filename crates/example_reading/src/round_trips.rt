@@ -7,7 +7,6 @@
 
 use crate::composites::{Limits, Span, Title};
 use crate::day::{Day, Rain};
-use crate::gust::Gust;
 use crate::maps::{Calibration, Contact};
 use crate::position::Position;
 use crate::region::Region;
@@ -58,14 +57,6 @@ impl RoundTrip for Contact {
     fn law() {
         laws::named_maps_return();
         <Option<String> as RoundTrip>::law();
-    }
-}
-
-impl RoundTrip for Gust {
-    fn law() {
-        laws::short_lists_return();
-        laws::described_return();
-        <Option<u16> as RoundTrip>::law();
     }
 }
 

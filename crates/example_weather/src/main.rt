@@ -3,12 +3,12 @@
 
 mod gust;
 
-use amqp_data::Error;
-use amqp_decode::decode_value_limited;
-use amqp_frame::{IoReader, LazyValue, Read};
-use amqp_from_value::from_value;
-use amqp_wire::to_vec;
 use gust::Gust;
+use serde_amqp::decode::decode_value_limited;
+use serde_amqp::lazy::LazyValue;
+use serde_amqp::read::{IoReader, Read};
+use serde_amqp::value::round_trip;
+use serde_amqp::{Error, from_value, to_vec};
 use std::alloc::Global;
 use std::io::{BufReader, Read as _};
 
@@ -19,12 +19,18 @@ fn main(rt: HostRuntime) -> Result<(), Error> {
         from: None,
         at: Some(725),
     };
-    for byte in to_vec(alloc, &gust)?.iter() {
-        let _ = print!(rt; "{byte:02x}");
-    }
-    let _ = println!(rt; "");
+    print_gust(&rt, alloc, &round_trip(alloc, &gust)?)?;
     let input = BufReader::new(alloc, rt.reader()).map_err(|_| Error::OutOfMemory)?;
     receive(&rt, alloc, &mut IoReader::new(input.take(65_536)))
+}
+
+// Prints the encoding of the gust, and the gust.
+fn print_gust(rt: &impl Print, alloc: Global, gust: &Gust) -> Result<(), Error> {
+    for byte in to_vec(alloc, gust)?.iter() {
+        let _ = print!(rt; "{byte:02x}");
+    }
+    let _ = println!(rt; " {gust:?}");
+    Ok(())
 }
 
 // Prints the gusts until the input ends or the first error.
@@ -35,8 +41,7 @@ fn receive<R: Read>(rt: &impl Print, alloc: Global, reader: &mut R) -> Result<()
         }
         let encoded = LazyValue::from_reader(alloc, reader)?;
         let value = decode_value_limited(alloc, encoded.as_slice(), 100)?;
-        let gust = from_value::<Gust>(alloc, value)?;
-        let _ = println!(rt; "{} metres per hour", gust.speed);
+        print_gust(rt, alloc, &from_value::<Gust>(alloc, value)?)?;
     }
     Err(Error::TooLong)
 }

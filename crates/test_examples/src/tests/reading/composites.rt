@@ -4,7 +4,7 @@
 
 use super::{comes_back, is_invalid, is_restored, reads, symbol, text};
 use amqp_data::Symbol;
-use example_reading::{Calibration, Contact, Gust, Limits, Span, Title};
+use example_reading::{Calibration, Contact, Limits, Span, Title};
 use std::alloc::Global;
 
 #[test]
@@ -26,10 +26,6 @@ fn composites_are_read_from_lists_and_maps(rt: HostRuntime) {
     assert!(rt;
         contacts_come_back_as_maps(&rt),
         "contacts come back as maps"
-    );
-    assert!(rt;
-        gusts_come_back(&rt),
-        "gusts come back without absent fields at the end"
     );
 }
 
@@ -131,25 +127,4 @@ fn contacts_come_back_as_maps(rt: &HostRuntime) -> bool {
     ) && is_restored(rt, "a name and a number", contact(a, text(a, "3912")))
         && reads(rt, "a number and a name", both, contact(a, text(a, "3912")))
         && is_invalid::<Contact>(rt, "an empty map", b"\xc1\x01\x00")
-}
-
-fn gust(from: Option<u16>, at: Option<u16>) -> Option<Gust> {
-    Some(Gust {
-        speed: 90000,
-        from,
-        at,
-    })
-}
-
-fn gusts_come_back(rt: &HostRuntime) -> bool {
-    let one = b"\x00\x53\x17\xc0\x06\x01\x70\x00\x01\x5f\x90";
-    let two = b"\x00\x53\x17\xc0\x09\x02\x70\x00\x01\x5f\x90\x60\x01\x0e";
-    let last = b"\x00\x53\x17\xc0\x0a\x03\x70\x00\x01\x5f\x90\x40\x60\x02\x58";
-    let nulls = b"\x00\x53\x17\xc0\x08\x03\x70\x00\x01\x5f\x90\x40\x40";
-    comes_back(rt, "one field", one, gust(None, None))
-        && comes_back(rt, "two fields", two, gust(Some(270), None))
-        && comes_back(rt, "the last field", last, gust(None, Some(600)))
-        && reads(rt, "nulls", nulls, gust(None, None))
-        && is_restored(rt, "all fields", gust(Some(270), Some(600)))
-        && is_invalid::<Gust>(rt, "no field", b"\x00\x53\x17\x45")
 }
