@@ -1,6 +1,6 @@
 //! Deserialization: the traits, the sources to read from, and helpers for user-defined types.
 //!
-//! The macros `named!`, `fields!`, `variants!` and `variant!` are exported by `amqp_de` only: a
+//! The macros `named!`, `values!`, `variants!` and `variant!` are exported by `amqp_de` only: a
 //! crate cannot re-export the macros of another.
 
 pub use amqp_de::de::{
