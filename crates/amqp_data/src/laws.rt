@@ -1,4 +1,4 @@
-//! Laws of equality, order and hash: they depend on the content of each type only.
+//! Laws of equality, order and hash, which depend on the content only.
 //!
 //! Each law is a function with an empty body whose clauses state the law. A caller's proof uses a
 //! law by calling its function.
@@ -143,7 +143,7 @@ pub fn transparent_vecs_go_by_elements<T: Ord + Hash>(a: &TransparentVec<T>, b: 
     ensures hash { HashesBy transparent_items ⟦<TransparentVec<T> as Hash>⟧.hash_input a.now b.now }
 {}
 
-/// Maps compare and hash by the list of their entries: maps with the same entries in different
+/// Maps compare and hash by the list of their entries: maps with the same entries in a different
 /// order differ.
 pub fn maps_go_by_pairs<K: Ord + Hash, V: Ord + Hash>(a: &OrderedMap<K, V>, b: &OrderedMap<K, V>)
     ensures equality { ComparesBy entries_of (pointwise (λ p q. K.eq p.0 q.0 && V.eq p.1 q.1))

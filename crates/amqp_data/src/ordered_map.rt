@@ -14,7 +14,8 @@ use std::alloc::Global;
 use std::hash::Hash;
 use std::{mem, vec};
 
-/// A map that preserves order, as a list of entries. Equality, order and hash depend on that list.
+/// A map that keeps its entries in insertion order, as a list. Equality, order and hash depend on
+/// that list.
 ///
 /// No two keys are equal: each call that adds a key preserves this.
 ///
@@ -70,7 +71,7 @@ impl<K, V> OrderedMap<K, V> {
     /// Returns an iterator over references to the entries, in order.
     ///
     /// # Example
-    /// For the map from 1 to `true`, encoded as `c10402500141`: `(&1, &true)`, then `None`.
+    /// For the map from 1 to `true`, encoded as `c10402500141`, yields `(&1, &true)`, then `None`.
     pub fn iter(&self) -> Iter<'_, K, V>
         ensures rest { entries_left result ≡ entries_of self.now }
         ensures fits { length (entries_left result) < 2 ^ 64 }
@@ -159,7 +160,7 @@ impl<K: Hash + Eq, V> OrderedMap<K, V> {
         ensures memory { IfErr result (λ e. e ≡ Error.OutOfMemory) }
         ensures unchanged { OnErr result (entries_of self.new ≡ entries_of self.old) }
 
-        // What holds in both cases.
+        // After success and after an error.
         ensures distinct { AreDistinct K.eq (keys_of (entries_of self.old)) →
             AreDistinct K.eq (keys_of (entries_of self.new)) }
     {
@@ -183,7 +184,8 @@ impl<K: Hash + Eq, V> OrderedMap<K, V> {
 /// An iterator over references to the remaining entries of a map, in order.
 ///
 /// # Example
-/// For the map encoded as `c10704500241500142`: `(&2, &true)`, then `(&1, &false)`, then `None`.
+/// For the map encoded as `c10704500241500142`, yields `(&2, &true)`, then `(&1, &false)`, then
+/// `None`.
 #[derive(Drop)]
 pub struct Iter<'a, K, V> {
     rest: &'a [(K, V)],

@@ -12,7 +12,7 @@ use crate::Error;
 use std::alloc::Global;
 use std::{slice, vec};
 
-/// Elements that are written one after another, with no header of their own.
+/// A vector that is encoded as its elements, one after another, without a header.
 ///
 /// For example, a message of several sections is a transparent vector. It is written only at the
 /// root, or directly inside another transparent vector at the root.
@@ -74,7 +74,7 @@ impl<T> TransparentVec<T> {
     /// Returns an iterator over references to the elements, in order.
     ///
     /// # Example
-    /// For the transparent vector encoded as `4142`: `&true`, then `&false`, then `None`.
+    /// For the transparent vector encoded as `4142`, yields `&true`, then `&false`, then `None`.
     pub fn iter(&self) -> slice::Iter<'_, T>
         ensures { GivesRefs (transparent_items self.now) result }
     {

@@ -12,7 +12,7 @@ ReadsNext Memory R old new (Ok (Some x)) = (t : Tree) × (old ≡ t ∷ new) × 
 ReadsNext Memory R old new (Err e) = (t : Tree) × (old ≡ t ∷ new) × Refuses Memory (R t) e
 
 -- If the next element is the image of a restorable `x`, it is read as a value with the same
--- contents, unless out of memory.
+-- contents, unless the error is out of memory.
 abbrev pub RestoresNext : {T E : Type 0} → (T → Tree) → (T → Type 0) → (T → T → Type 0) → (E → Type 0) → List Tree → Result (Option T) E → Type 0
 RestoresNext {T} image P S Memory old r = (x : T) (ts : List Tree) → P x → old ≡ image x ∷ ts → MatchResult r (λ o. IsSomeAnd o (λ y. S y x)) Memory
 
@@ -49,8 +49,8 @@ ReadsEntry {K} {V} Memory R S pending_value left pending_value' left' (Err r) =
     (IsSome pending_value × ¬ Memory r × Stays pending_value left pending_value' left')
     ⊎ ((pending_value ≡ None) × (pending_value' ≡ None) × ((e : Tree × Tree) × (left ≡ e ∷ left') × Refuses Memory (λ (x : K × V). R e.0 x.0 × S e.1 x.1) r))
 
--- Images of restorable keys, pairs and values are read as values with the same contents, unless out
--- of memory.
+-- Images of restorable keys, pairs and values are read as values with the same contents, unless the
+-- error is out of memory.
 abbrev pub RestoresKey : {T E : Type 0} → (T → Tree) → (T → Type 0) → (T → T → Type 0) → (E → Type 0) → Option Tree → List (Tree × Tree)
     → Result (Option T) E → Type 0
 RestoresKey {T} image P S Memory pending_value left r =
@@ -71,6 +71,6 @@ Picks Memory R content index held (Ok x) = R index x.0 × (content x.1 ≡ held)
 Picks Memory R content index held (Err r) = Refuses Memory (R index) r
 
 -- If the index is the image of a restorable `x`, it is read as a value with the same contents,
--- unless out of memory.
+-- unless the error is out of memory.
 abbrev pub RestoresPicked : {T V E : Type 0} → (T → Tree) → (T → Type 0) → (T → T → Type 0) → (E → Type 0) → Tree → Result (T × V) E → Type 0
 RestoresPicked {T} image P S Memory index r = (x : T) → P x → index ≡ image x → MatchResult r (λ y. S y.0 x) Memory

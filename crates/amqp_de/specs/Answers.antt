@@ -7,7 +7,8 @@ use Rattle.amqp_de.specs.Fields.{value_at, without}
 abbrev pub Refuses : {T E : Type 0} → (E → Type 0) → (T → Type 0) → E → Type 0
 Refuses {T} Memory P e = Memory e ⊎ ((x : T) → ¬ P x)
 
--- The result is a value that satisfies `P`. It is an error only if no value does, or out of memory.
+-- The result is a value that satisfies `P`, or an error, which is out of memory unless no value
+-- satisfies `P`.
 abbrev pub Answers : {T E : Type 0} → (E → Type 0) → (T → Type 0) → Result T E → Type 0
 Answers Memory P (Ok x) = P x
 Answers Memory P (Err e) = Refuses Memory P e
@@ -23,18 +24,18 @@ TakesPair value old new None = (old ≡ []) × (new ≡ [])
 TakesPair value old new (Some e) = old ≡ (value e.0, value e.1) ∷ new
 
 -- If the tree is the image of a restorable `x`, it is read as a value with the same contents,
--- unless out of memory.
+-- unless the error is out of memory.
 abbrev pub Restores : {T E : Type 0} → (T → Tree) → (T → Type 0) → (T → T → Type 0) → (E → Type 0) → Tree → Result T E → Type 0
 Restores {T} image P S Memory t r = (x : T) → P x → t ≡ image x → MatchResult r (λ y. S y x) Memory
 
--- The result is parts that satisfy `P`. It is an error only if no value has such parts, or out of
--- memory.
+-- The result is parts that satisfy `P`, or an error, which is out of memory unless no value has
+-- such parts.
 abbrev pub PartsOf : {V T E : Type 0} → (V → T) → (E → Type 0) → (T → Type 0) → Result T E → Type 0
 PartsOf parts Memory P (Ok x) = P x
 PartsOf parts Memory P (Err e) = Refuses Memory (λ v. P (parts v)) e
 
 -- If the tree is the image of `v`, and the parts of `v` are restorable, it is read as parts with
--- the same contents, unless out of memory.
+-- the same contents, unless the error is out of memory.
 abbrev pub RestoresValues : {V T E : Type 0} → (V → T) → (V → Tree) → (T → Type 0) → (T → T → Type 0) → (E → Type 0) → Tree → Result T E → Type 0
 RestoresValues {V} parts image P S Memory t r = (v : V) → P (parts v) → t ≡ image v → MatchResult r (λ y. S y (parts v)) Memory
 

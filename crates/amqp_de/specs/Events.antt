@@ -62,9 +62,9 @@ plain_shown (plain.Char c) = plain_event (tree.char c)
 plain_shown (plain.String s) = plain_event (tree.string (string_bytes s))
 plain_shown (plain.ByteBuf b) = plain_event (tree.binary (byte_buf_bytes b))
 
--- The result of a visit by which `a` is reported is a value that `P` relates to `a`. It is an error
--- only if there is none, or out of memory. If `Q` relates `a` to `x`, the result has the same
--- contents as `x`, unless out of memory.
+-- The result of a visit that reports `a` is a value that `P` relates to `a`, or an error, which is
+-- out of memory unless there is no such value. If `Q` relates `a` to `x`, the result has the same
+-- contents as `x`, unless the error is out of memory.
 abbrev pub Visits : {T A E : Type 0} → (A → T → Type 0) → (A → T → Type 0) → (T → T → Type 0) → (E → Type 0) → A → Result T E → Type 0
 Visits {T} P Q same Memory a r = Answers Memory (P a) r × ((x : T) → Q a x → MatchResult r (λ y. same y x) Memory)
 
@@ -198,7 +198,7 @@ is_index t = false
 abbrev pub is_array_name : List ℕ → Bool
 is_array_name n = bytes_eq n (codes "__ARRAY")
 
--- The names of structs that are read after a descriptor.
+-- The names of described structs.
 abbrev pub is_described_name : List ℕ → Bool
 is_described_name n = is_basic_name n || is_list_name n || is_map_name n
 

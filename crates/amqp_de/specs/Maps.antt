@@ -33,7 +33,7 @@ module _ {K V : Type 0} where
   abbrev pub SamePair : (K → K → Type 0) → (V → V → Type 0) → K × V → K × V → Type 0
   SamePair S U p q = S p.0 q.0 × U p.1 q.1
 
-  -- Pairs are read from these trees, and a map holds them.
+  -- Pairs are read from these trees, and `Holds` relates them to the map.
   abbrev pub ReadsPairs : {M : Type 0} → (Tree → K → Type 0) → (Tree → V → Type 0) → (List (K × V) → M → Type 0) → List (Tree × Tree) → M → Type 0
   ReadsPairs R Q Holds ts m = (ps : List (K × V)) × AllZip (ReadsPair R Q) ts ps × Holds ps m
 

@@ -1,5 +1,4 @@
--- Fields of which absent ones are left out: whether each is present, and its image
--- (AMQP 1.0 part 1, section 1.4).
+-- Fields that may be absent: whether each is present, and its image (AMQP 1.0 part 1, section 1.4).
 use Rattle.std.specs.Prelude.{◌≡◌, ℕ, List, [], ◌∷◌, Option, Bool, true, false, not, ◌||◌, ◌&&◌, if◌then◌else◌, is_some, bytes_eq}
 use Rattle.amqp_ser.specs.Tree.{Tree, scalar, string, list, map, trees_of}
 use Rattle.amqp_value.specs.TreeOf.{pairs_of}

@@ -15,8 +15,8 @@ use std::alloc::Global;
 /// Reads the parts of a value with the given numeric descriptor.
 ///
 /// Like `read_described` with a number, but without its law for maps of fields. The laws state the
-/// descriptor directly, so the check applies them without help to any number of fields, and to a
-/// user-defined type with a numeric descriptor.
+/// descriptor directly, so the prover applies them without further proof to any number of fields,
+/// and to a user-defined type with a numeric descriptor.
 ///
 /// # Errors
 /// Returns `DeserializeError::invalid_value` if the value has another descriptor, or none;

@@ -13,8 +13,8 @@ use amqp_data::{
 /// One level of a value: null, a scalar, or a compound whose elements have not been read
 /// (AMQP 1.0 part 1, section 1.6).
 ///
-/// `D` is the deserializer of a value, `P` holds the elements of a list or an array, and `E` the
-/// pairs of a map.
+/// `D` is the deserializer of a value, `P` the elements of a list or an array, and `E` the pairs of
+/// a map.
 #[derive(Drop)]
 pub enum Content<D, P, E> {
     /// Null.

@@ -13,7 +13,7 @@ use crate::deserializer::Deserializer;
 use std::alloc::Global;
 use std::marker::PhantomData;
 
-/// The fields to read, in order, with their names. Written with the macro [`named!`].
+/// The fields to read, in order, with their names. The macro [`named!`] builds them.
 ///
 /// # Implementer notes
 /// Required methods: `read_elements` and `read_entries`. They must return values that `reads`

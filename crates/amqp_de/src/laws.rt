@@ -1,5 +1,5 @@
-//! Laws about the keys of maps that round-trip. Each function does nothing: its contract is the
-//! law.
+//! Laws about the keys of maps that round-trip. The body of each function is empty; its contract is
+//! the law.
 
 ghost use Rattle.std.specs.Prelude.{◌≡◌, ℕ, ℤ, List, String, true};
 ghost use Rattle.std.specs.Global.{Global};
@@ -14,9 +14,6 @@ use amqp_data::{ByteBuf, Symbol, Uuid};
 
 /// Distinct keys of an ordered map or a hash map remain distinct if they are replaced by keys with
 /// the same contents, provided that keys with the same contents are equal.
-///
-/// # Memory
-/// None.
 pub fn distinct_keys_stay_apart<K: Deserialize + Eq>()
     ensures ordered { ((x y : K) → K.same x y → K.eq x y ≡ true) →
         (ks : List K) → pairs.AreDistinct K.eq ks → AreDistinct K.same K.eq ks }
@@ -26,9 +23,6 @@ pub fn distinct_keys_stay_apart<K: Deserialize + Eq>()
 
 /// Ascending keys remain ascending if they are replaced by keys with the same contents, provided
 /// that keys with the same contents are equal.
-///
-/// # Memory
-/// None.
 pub fn ascending_keys_stay_apart<K: Deserialize + Ord>()
     ensures { ((x y : K) → K.same x y → K.cmp x y ≡ Equal) → (ks : List K) →
         IsStrictlySortedBy K.cmp ks → Ascend K.same K.cmp ks }
@@ -36,9 +30,6 @@ pub fn ascending_keys_stay_apart<K: Deserialize + Ord>()
 
 /// Keys with the same contents are equal: integers of 32 and 64 bits, strings, symbols, binaries
 /// and uuids.
-///
-/// # Memory
-/// None.
 pub fn keys_of_the_same_contents_are_equal()
     ensures uint { (x y : ℕ) → ⟦<u32 as Deserialize>⟧.same x y →
         (⟦<u32 as PartialEq>⟧.eq x y ≡ true) × (⟦<u32 as Ord>⟧.cmp x y ≡ Equal) }

@@ -44,7 +44,7 @@ pub trait DeserializeSeed: Sized + Drop {
     /// For a seed that reads maps of fields, the map from the names to the fields that are present.
     ghost by_name: { Self → Self.Value → Tree };
 
-    /// Whether `by_name` can be read: no two fields have the same name.
+    /// Whether `by_name` can be read, which requires that no two fields have the same name.
     ghost is_named: { Self → Type 0 };
 
     /// Reads a value.

@@ -10,7 +10,7 @@ use amqp_data::{ByteBuf, F32Bits, F64Bits};
 pub enum Visit {
     /// `visit_plain`: null, an absent value or a scalar.
     Plain,
-    /// `visit_some`: the value of an `Option` that is present.
+    /// `visit_some`: the value of an `Option` that is `Some`.
     Some,
     /// `visit_newtype_struct`: the value of a newtype.
     Newtype,

@@ -70,7 +70,7 @@ pub trait Visitor: Sized + Drop {
         Err(unwritten(self.refuses(Visit::Plain)))
     }
 
-    /// Visits the value of an `Option` that is present.
+    /// Visits the value of an `Option` that is `Some`.
     ///
     /// # Errors
     /// Returns an error other than out of memory only if this event produces no value. The default

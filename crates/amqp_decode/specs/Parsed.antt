@@ -31,7 +31,7 @@ abbrev pub number_at : Bool → List ℕ → Option (ℕ × List ℕ)
 number_at false s = head s
 number_at true s = and_then (cut 4 s) (λ p. Some (from_be_bytes w32 p.0, p.1))
 
--- As many bytes as the number before them says, and the rest.
+-- The bytes after a size, as many as the size, and the rest.
 unfoldable pub sized_at : Bool → List ℕ → Option (List ℕ × List ℕ)
 sized_at wide s = and_then (number_at wide s) (λ n. cut n.0 n.1)
 

@@ -28,9 +28,9 @@ use std::alloc::Global;
 /// left over, and for every other invalid input. Returns `OutOfMemory` if an allocation fails.
 ///
 /// # Memory
-/// Allocates from `alloc`. Buffers grow element by element; a count reserves no capacity. An array
-/// whose elements have no bytes, such as nulls, takes memory for as many elements as its count says.
-/// `decode_value_limited` limits them.
+/// Allocates from `alloc`. Buffers grow element by element; a count reserves no capacity. For an
+/// array whose elements have no bytes, such as nulls, the memory grows with the count and not with
+/// the bytes; `decode_value_limited` limits it.
 ///
 /// # Example
 /// `43`, `5200` and `7000000000` are the uint 0.

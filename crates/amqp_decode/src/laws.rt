@@ -1,4 +1,4 @@
-//! Laws of the definitions. A caller obtains a law by calling its function.
+//! Laws of the definitions. A caller's proof uses a law by calling its function.
 
 ghost use Rattle.std.specs.Prelude.{◌≡◌, ◌≤◌, ℕ, List, true};
 ghost use Rattle.amqp_frame.specs.Frame.{IsFrame};

@@ -5,7 +5,7 @@ use Rattle.std.specs.Int.{from_be_bytes, w32}
 use Rattle.amqp_frame.specs.declared.code.Category.{Category}
 use Rattle.amqp_frame.specs.declared.code.Category.TheVariants.{Fixed, OneByteSize, FourByteSize}
 
--- an accepted format code of a primitive type: every accepted code except 00 (section 1.2)
+-- a format code of a primitive type: 40 to FE, with a low nibble of 0 to E (section 1.2)
 unfoldable pub is_primitive_code : ℕ → Bool
 is_primitive_code code = nat_le 0x40 code && nat_lt code 0xFF && nat_lt (code % 16) 15
 

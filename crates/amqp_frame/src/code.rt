@@ -16,7 +16,8 @@ pub enum Category {
     FourByteSize,
 }
 
-/// Returns whether `code` is an accepted format code of a primitive type.
+/// Returns whether `code` is a format code of a primitive type: 40 to FE, with a low nibble of 0 to
+/// E.
 ///
 /// # Example
 ///
@@ -28,7 +29,7 @@ pub fn is_primitive(code: u8) -> bool
     0x40 <= code && code < 0xFF && code % 16 < 15
 }
 
-/// Returns the category of a format code, from its high four bits.
+/// Returns the category of a primitive format code, from its high four bits.
 ///
 /// # Example
 ///
@@ -67,7 +68,7 @@ pub fn size_width_of(category: Category) -> usize
     }
 }
 
-/// Returns the number of bytes that follow the size.
+/// Returns the number of bytes that follow `size`, the first bytes of a payload.
 ///
 /// # Example
 ///

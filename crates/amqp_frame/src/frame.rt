@@ -19,7 +19,7 @@ use crate::code::{body_len_of, category_of, is_primitive, size_width_of};
 ///
 /// # Memory
 ///
-/// Allocates nothing. Nested encoded values are counted, without recursion.
+/// Allocates nothing, and does not recurse.
 ///
 /// # Example
 ///

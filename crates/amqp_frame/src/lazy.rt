@@ -68,8 +68,8 @@ impl LazyValue {
     /// # Memory
     ///
     /// Allocates a buffer from `alloc`. Its length grows with the bytes received, by at most 4,096
-    /// bytes at a time, and not with the sizes declared in the input. Nested encoded values are
-    /// counted, without recursion.
+    /// bytes at a time, and not with the sizes declared in the input. The function does not
+    /// recurse.
     ///
     /// # Example
     ///

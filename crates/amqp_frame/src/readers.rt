@@ -67,7 +67,7 @@ impl Read for SliceReader<'_> {
 #[derive(Drop)]
 pub struct IoReader<R> {
     inner: R,
-    // The byte that was peeked and not consumed.
+    // The byte that was peeked and is not consumed yet.
     seen: Option<u8>,
     failures: u64,
 }
@@ -134,7 +134,7 @@ impl<R: io::Read> Read for IoReader<R> {
     }
 }
 
-// Reads once, and counts a failure.
+// Reads once. A failed read adds one to `failures`.
 fn read_some<R: io::Read>(inner: &mut R, buf: &mut [u8], failures: &mut u64) -> Result<usize, Error>
     requires { failures.old < last_count }
     ensures ok { IfOk result (λ n.

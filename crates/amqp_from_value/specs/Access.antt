@@ -1,4 +1,4 @@
--- The trees of the contents of the accessors of a `Value`.
+-- The trees of an accessor's remaining elements or entries, and of its pending value.
 use Rattle.std.specs.Prelude.{List, Option}
 use Rattle.amqp_ser.specs.Tree.{Tree}
 use Rattle.amqp_de.specs.Enums.{value_of}

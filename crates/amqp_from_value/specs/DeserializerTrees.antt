@@ -1,4 +1,4 @@
--- The trees of the contents of a deserializer of a `Value`.
+-- The tree of a deserializer's value, and the trees of the remaining elements and entries.
 use Rattle.std.specs.Prelude.{List, map}
 use Rattle.std.specs.Vec.Iter.{into_iter_items}
 use Rattle.amqp_ser.specs.Tree.{Tree}

@@ -210,6 +210,12 @@ impl de::Deserializer for Deserializer {
 /// Returns `Error::OutOfMemory` if an allocation fails. Otherwise returns an error if and only if
 /// the value cannot be read as a `T`; the implementation of `T` determines which. The value is
 /// dropped.
+///
+/// # Memory
+/// Allocates from `alloc` what the implementation of `T` allocates.
+///
+/// # Example
+/// `Value::Uint(1)` is read as the `u32` 1, and gives `InvalidValue` as a `u64`.
 pub fn from_value<T: Deserialize>(alloc: Global, value: Value) -> Result<T, Error>
     ensures read { Answers (λ e. e ≡ OutOfMemory) (T.reads (tree_of value)) result }
     ensures law { Restores T.image T.restorable T.same

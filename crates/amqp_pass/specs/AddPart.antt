@@ -8,12 +8,12 @@ use Rattle.amqp_pass.specs.WholePosition.{FirstElement, OtherElement, Descriptor
 use Rattle.amqp_pass.specs.WholeContext.{Context}
 use Rattle.amqp_pass.specs.WholeContext as context
 
--- The length of the constructor, which is counted at the first element.
+-- The length of the constructor, which is added with the first element.
 abbrev pub constructor_len : Position → Position → ℕ
 constructor_len FirstElement (OtherElement c) = 1
 constructor_len p q = 0
 
--- The same in an array. Other compounds have no constructor.
+-- Like `constructor_len` in an array, and 0 in any other compound.
 abbrev pub constructor_len_in : Bool → Context → Context → ℕ
 constructor_len_in true (context.Plain p) (context.Plain q) = constructor_len p q
 constructor_len_in arr u v = 0
@@ -22,7 +22,7 @@ constructor_len_in arr u v = 0
 abbrev pub PassesLimit : Bool → ℕ → ℕ → Type 0
 PassesLimit array count sum = (4294967291 < sum) ⊎ ((array ≡ true) × (4294967295 ≤ count))
 
--- Why no value is accepted after a descriptor of this length.
+-- The error for a descriptor of this length in this context.
 abbrev pub Undescribed : Context → ℕ → SizeError → Type 0
 Undescribed (context.Plain Descriptor) n e = e ≡ error.InvalidValue
 Undescribed (context.Plain p) n e = (e ≡ error.TooLong) × (18446744073709551615 < prefix_len_of p + (n + 1))

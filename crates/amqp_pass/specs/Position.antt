@@ -45,14 +45,14 @@ meant (context.Transparent p) t = with_marker marker.Transparent t
 meant (context.Scalar m p) t = with_marker (the_marker m) t
 meant (context.Nothing p) t = None
 
--- The position of a described value, without the descriptors.
+-- The position of a described value, without the length of its descriptors.
 abbrev pub base_position : BasePosition → Position
 base_position base.Root = Root
 base_position base.InCompound = InCompound
 base_position base.FirstElement = FirstElement
 base_position (base.OtherElement c) = OtherElement c
 
--- The position of the serializer between steps and after an error.
+-- The position without descriptors, which a serializer has between parts and after an error.
 abbrev pub without_prefix : Position → Position
 without_prefix Root = Root
 without_prefix InCompound = InCompound
@@ -61,7 +61,7 @@ without_prefix (OtherElement c) = OtherElement c
 without_prefix Descriptor = Descriptor
 without_prefix (Value h b) = base_position b
 
--- A described value is accepted: not as an array element.
+-- A described value is accepted: anywhere but as an array element.
 abbrev pub takes_described : BasePosition → Bool
 takes_described base.Root = true
 takes_described base.InCompound = true
@@ -126,8 +126,8 @@ element_constructor (OtherElement c) = Some c
 element_constructor Descriptor = None
 element_constructor (Value h b) = None
 
--- The position of the value after a descriptor of this length. A described value is not a
--- descriptor.
+-- The position of the value after a descriptor of this length. A descriptor cannot itself be
+-- described.
 abbrev pub described_position : Position → ℕ → Option Position
 described_position Root n = Some (Value (n + 1) base.Root)
 described_position InCompound n = Some (Value (n + 1) base.InCompound)
@@ -185,7 +185,7 @@ inner_context_of resolved_kind.Transparent u = context.Plain Root
 inner_context_of resolved_kind.Single u = u
 inner_context_of s u = context.Plain InCompound
 
--- The greatest total size of the parts.
+-- The maximum total size of the parts.
 abbrev pub limit_of : ResolvedKind → ℕ
 limit_of resolved_kind.Transparent = 18446744073709551615
 limit_of resolved_kind.Single = 18446744073709551615

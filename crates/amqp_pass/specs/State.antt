@@ -1,4 +1,5 @@
--- Positions as they are stored, in single bytes, with the length of descriptors next to them.
+-- Positions as they are stored: without the length of the descriptors, which is stored next to
+-- them.
 use Rattle.std.specs.Prelude.{ℕ}
 use Rattle.amqp_pass.specs.declared.position.Position.{Position as KeptPosition}
 use Rattle.amqp_pass.specs.declared.position.Position.TheVariants as kept

@@ -51,7 +51,7 @@ impl BasePosition {
         }
     }
 
-    /// Returns whether a described value is accepted: not as an array element.
+    /// Returns whether a described value is accepted: anywhere but as an array element.
     #[inline(always)]
     pub fn takes_described(self) -> bool
         ensures { result ≡ takes_described self }
@@ -61,7 +61,8 @@ impl BasePosition {
 }
 
 impl Position {
-    /// Returns the position without descriptors: the position between steps and after an error.
+    /// Returns the position without descriptors, which a serializer has between parts and after an
+    /// error.
     #[inline(always)]
     pub fn without_prefix(self) -> Position
         ensures { (h k : ℕ) → position_at result k ≡ without_prefix (position_at self h) }

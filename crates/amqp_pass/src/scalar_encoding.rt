@@ -1,4 +1,4 @@
-//! Format codes and widths of the values of fixed width. This is the only table of them.
+//! The format codes and widths of the values of `Fixed`, in one table.
 
 ghost use Rattle.std.specs.Prelude.{◌≡◌, ◌≤◌, length};
 ghost use Rattle.amqp_ser.specs.Fixed.{fixed_scalar};

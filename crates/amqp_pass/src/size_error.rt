@@ -13,8 +13,8 @@ pub enum SizeError {
     OutOfMemory,
     /// A length or a count exceeds its limit.
     TooLong,
-    /// A value of the wrong kind, a tree that is not writable for another reason than a limit, or
-    /// misuse of a compound.
+    /// A value has the wrong kind, a tree is not writable for a reason other than a limit, or a
+    /// compound was misused.
     InvalidValue,
 }
 

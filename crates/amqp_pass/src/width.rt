@@ -1,4 +1,4 @@
-//! The lengths of texts, lists, maps and arrays: the arithmetic of all headers.
+//! The lengths of texts, lists, maps and arrays, including their headers.
 //!
 //! `text_len`, `list_len`, `map_len` and `array_len` accept lengths and counts of any size, and
 //! return an error above the limits.

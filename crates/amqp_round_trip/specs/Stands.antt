@@ -10,15 +10,15 @@ abbrev pub StandsAs : Option Tree → Tree → Type 0
 StandsAs None u = ⊥
 StandsAs (Some t) u = (u ≡ image t) × (has_lazy t ≡ false)
 
--- Each has such a tree, and these are the images.
+-- Each part has such a tree, and these are the images.
 abbrev pub StandAs : List (Option Tree) → Trees → Type 0
 StandAs [] no_trees = Unit {0}
 StandAs (p ∷ ps) (more u us) = StandsAs p u × StandAs ps us
 StandAs [] (more u us) = ⊥
 StandAs (p ∷ ps) no_trees = ⊥
 
--- Keys and values in turn: each key is that of the entry, and each value has such a tree with the
--- entry's image.
+-- Alternating keys and values: each key has the tree of the entry's key, and each value has a tree
+-- without lazy trees whose image is the entry's value.
 abbrev pub EntriesStandAs : List (Option Tree) → List (Tree × Tree) → Type 0
 EntriesStandAs [] [] = Unit {0}
 EntriesStandAs (k ∷ v ∷ ps) (e ∷ es) = (k ≡ Some e.0) × StandsAs v e.1 × EntriesStandAs ps es

@@ -15,36 +15,24 @@ ghost use Rattle.amqp_de.specs.Present.{distinct_names, short_list, short_map, u
 ghost use Rattle.amqp_round_trip.specs.Stands.{StandsAs, StandAs, FieldsStandAs};
 
 /// The image of a list is the list of its elements' images.
-///
-/// # Memory
-/// None.
 pub fn lists_return()
     ensures { (ps : List (Option Tree)) (us : Trees) → StandAs ps us →
         StandsAs (tree_of_parts kind.List ps) (list us) }
 {}
 
 /// The image of an array is the array of its elements' images.
-///
-/// # Memory
-/// None.
 pub fn arrays_return()
     ensures { (ps : List (Option Tree)) (us : Trees) → StandAs ps us →
         StandsAs (with_marker marker.Array (tree_of_parts kind.List ps)) (array us) }
 {}
 
 /// The image of a transparent vector is the list of its elements' images.
-///
-/// # Memory
-/// None.
 pub fn transparent_vectors_return()
     ensures { (ps : List (Option Tree)) (us : Trees) → StandAs ps us →
         StandsAs (with_marker marker.Transparent (tree_of_parts kind.List ps)) (list us) }
 {}
 
 /// The image of a described value is the image of the value, after the same descriptor.
-///
-/// # Memory
-/// None.
 pub fn described_return()
     ensures { (d : Descriptor) (p : Option Tree) (u : Tree) → StandsAs p u →
         StandsAs (as_described (Some d) p) (described d u) }
@@ -52,9 +40,6 @@ pub fn described_return()
 
 /// The image of a variant is the map from its index to the image of its content, which is one value
 /// or a list of fields.
-///
-/// # Memory
-/// None.
 pub fn variants_return()
     ensures value { (index : ℕ) (p : Option Tree) (u : Tree) → StandsAs p u →
         StandsAs (tree_of_parts (kind.NewtypeVariant index) (p ∷ [])) (variant_map index u) }
@@ -64,9 +49,6 @@ pub fn variants_return()
 
 /// The image of a list that is serialized without the absent fields at its end is the list of the
 /// images of the other fields.
-///
-/// # Memory
-/// None.
 pub fn short_lists_return()
     ensures complete { (ps : List (Option Tree)) (fs : List (Bool × Tree)) →
         StandAs ps (trees_of (up_to_last fs)) → StandsAs (tree_of_parts kind.List ps) (short_list fs) }
@@ -77,9 +59,6 @@ pub fn short_lists_return()
 
 /// The image of a map from distinct names to fields is the map from the names to the images of the
 /// present fields.
-///
-/// # Memory
-/// None.
 pub fn named_maps_return()
     ensures complete { (ps : List (Option Tree)) (ns : List (List ℕ)) (fs : List (Bool × Tree)) →
         distinct_names ns ≡ true → FieldsStandAs ps ns fs →

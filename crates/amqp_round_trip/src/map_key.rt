@@ -18,9 +18,6 @@ use std::hash::Hash;
 /// `image_is_injective` of the type of each field or element.
 pub trait MapKey: Deserialize {
     /// States that restorable values with the same image have the same contents.
-    ///
-    /// # Memory
-    /// None.
     fn image_is_injective()
         ensures { (x y : Self) → Self.restorable x → Self.restorable y →
             Self.image x ≡ Self.image y → Self.same x y };

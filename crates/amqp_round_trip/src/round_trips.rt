@@ -20,16 +20,13 @@ use std::alloc::Global;
 pub trait RoundTrip: Serialize + Deserialize {
     /// States that a restorable value has a tree, which contains nothing lazy, and that the tree's
     /// image is the image declared for the value.
-    ///
-    /// # Memory
-    /// None.
     fn law()
         ensures { (x : Self) → Self.restorable x → StandsAs (Self.tree x) (Self.image x) };
 }
 
-/// Converts a value to its untyped value and reads it from that.
+/// Converts a value to its untyped value and reads it back.
 ///
-/// A restorable value round-trips: `T::same` is true of the result and the value.
+/// A restorable value round-trips: `T::same` holds for the result and the value.
 ///
 /// # Errors
 /// For a restorable value, returns only `Error::OutOfMemory`, if an allocation fails.

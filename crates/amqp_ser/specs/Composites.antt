@@ -7,7 +7,7 @@ scalar_descriptor (ulong n) = Some (code n)
 scalar_descriptor (symbol bs) = Some (name bs)
 scalar_descriptor s = None
 
--- The descriptor that a tree is: a ulong or a symbol. Any other tree is none.
+-- A ulong or a symbol as a descriptor. No other tree is one.
 abbrev pub descriptor_of : Option Tree → Option Descriptor
 descriptor_of (Some (scalar s)) = scalar_descriptor s
 descriptor_of t = None

@@ -54,7 +54,7 @@ descriptor_form (name bs) = scalar_form (symbol bs)
 descriptor_form (code n) = scalar_form (ulong n)
 
 -- The encoding of a tree outside an array, and its payload as an element of an array, after the
--- constructor. A variant is the map of one pair, from its index to its payload.
+-- constructor. A variant is the map of one pair, from its index to its value.
 abbrev mutual
   pub encoding : Tree → List ℕ
   encoding (scalar s) = scalar_form s

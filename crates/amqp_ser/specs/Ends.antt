@@ -1,4 +1,4 @@
--- What a serializer does with the result of a part of a compound, and with that of a descriptor.
+-- The effect of ending a part of an open compound, and of ending a descriptor.
 use Rattle.std.specs.Prelude.{List, [], ◌∷◌, ◌++◌, Option, Result, Err, MatchResult}
 use Rattle.amqp_ser.specs.Tree.{Tree}
 use Rattle.amqp_ser.specs.Composites.{as_described, descriptor_of}
@@ -6,8 +6,8 @@ use Rattle.amqp_ser.specs.Compounds.{tree_of_parts}
 use Rattle.amqp_ser.specs.declared.kind.CompoundKind.{CompoundKind}
 use Rattle.amqp_ser.specs.declared.kind.CompoundKind.TheVariants as kinds
 
--- On success the compound has one part more. On an error it has the parts that it had, and the
--- error is permitted for every tree that has the part next.
+-- On success the compound has one more part. On an error it is unchanged, and the error is
+-- permitted for the complete compound, whatever further parts follow.
 abbrev pub EndsPart : {S H O E : Type 0} → (S → Option Tree → Result O E → S → Type 0)
     → (S → CompoundKind → S → H → List (Option Tree) → Type 0)
     → (S → CompoundKind → S → H → List (Option Tree) → Type 0)

@@ -1,12 +1,12 @@
 -- The limits of lengths and counts (AMQP 1.0 part 1, section 1.2: widths of one and of four bytes).
 use Rattle.std.specs.Prelude.{ℕ, Bool, nat_le}
 
--- A text or a body of this length has a size of one byte.
+-- A text, a binary or a body of this length has a size of one byte.
 abbrev pub is_short : ℕ → Bool
 is_short n = nat_le n 254
 
--- A text, a body or the content of an array of this length can be written: with the count, its size
--- fits in four bytes.
+-- A text, a binary, a body or the content of an array of this length can be written: its size,
+-- including the count if there is one, fits in four bytes.
 abbrev pub fits : ℕ → Bool
 fits n = nat_le n 4294967291
 

@@ -11,14 +11,14 @@ use Rattle.amqp_ser.specs.declared.compound.sequence.SerializeSeq.{SerializeSeq}
 use Rattle.amqp_ser.specs.declared.compound.struct_variant.SerializeStructVariant.{SerializeStructVariant}
 use Rattle.amqp_ser.specs.declared.compound.variant.SerializeTupleVariant.{SerializeTupleVariant}
 
--- The reference in the list, and the list with another serializer behind that reference.
+-- The list's reference to its serializer, and the list with another serializer behind it.
 abbrev pub list_reference : {S H O E : Type 0} → SerializeSeq S O E H → MutBor S
 list_reference list = list.serializer
 
 abbrev pub list_with_serializer : {S H O E : Type 0} → SerializeSeq S O E H → S → SerializeSeq S O E H
 list_with_serializer list s = record list { serializer = record list.serializer { now = s } }
 
--- The list, which this serializer opened, has accepted these elements.
+-- The list, which was opened in the state `start`, has accepted these elements.
 abbrev pub ListHas : {S H O E : Type 0} → (S → CompoundKind → S → H → List (Option Tree) → Type 0) → S → SerializeSeq S O E H → List (Option Tree) → Type 0
 ListHas has start list elements = has start kind.List list.serializer.now list.compound elements
 
@@ -28,14 +28,15 @@ abbrev pub FeedsList : {S H O E : Type 0} → (S → Option Tree → Result O E 
 FeedsList permits has element before result after =
     Feeds permits has kind.List element before.serializer.now before.compound result after.serializer.now after.compound
 
--- The reference in the map, and the map with another serializer behind that reference.
+-- The map's reference to its serializer, and the map with another serializer behind it.
 abbrev pub map_reference : {S H O E : Type 0} → SerializeMap S O E H → MutBor S
 map_reference map = map.serializer
 
 abbrev pub map_with_serializer : {S H O E : Type 0} → SerializeMap S O E H → S → SerializeMap S O E H
 map_with_serializer map s = record map { serializer = record map.serializer { now = s } }
 
--- The map, which this serializer opened, has accepted these keys and values, in alternation.
+-- The map, which was opened in the state `start`, has accepted these keys and values, in
+-- alternation.
 abbrev pub MapHas : {S H O E : Type 0} → (S → CompoundKind → S → H → List (Option Tree) → Type 0) → S → SerializeMap S O E H → List (Option Tree) → Type 0
 MapHas has start map parts = has start kind.Map map.serializer.now map.compound parts
 
@@ -59,21 +60,22 @@ FeedsPair {S} permits has key value before result after =
     (λ e. MapHas has start after ps × ((rest : List (Option Tree)) →
     permits start (tree_of_parts kind.Map (ps ++ (key ∷ (value ∷ rest)))) (Err e) after.serializer.now))
 
--- The error of a key or a value in the wrong order: the map is unchanged, and there is no tree.
+-- A key or a value in the wrong order: the map is unchanged, and the error is permitted for a value
+-- without a tree.
 abbrev pub RefusesInTurn : {S H O E : Type 0} → (S → Option Tree → Result O E → S → Type 0) → (S → CompoundKind → S → H → List (Option Tree) → Type 0) →
     SerializeMap S O E H → Result (Unit {0}) E → SerializeMap S O E H → Type 0
 RefusesInTurn {S} permits has before result after =
     (start : S) (ps : List (Option Tree)) → MapHas has start before ps →
     IfErr result (λ e. MapHas has start after ps × permits start None (Err e) after.serializer.now)
 
--- The reference in the variant, and the variant with another serializer behind that reference.
+-- The variant's reference to its serializer, and the variant with another serializer behind it.
 abbrev pub variant_reference : {S H O E : Type 0} → SerializeTupleVariant S O E H → MutBor S
 variant_reference variant = variant.serializer
 
 abbrev pub variant_with_serializer : {S H O E : Type 0} → SerializeTupleVariant S O E H → S → SerializeTupleVariant S O E H
 variant_with_serializer variant s = record variant { serializer = record variant.serializer { now = s } }
 
--- The variant of this index, which this serializer opened, has accepted these fields.
+-- The variant of this index, which was opened in the state `start`, has accepted these fields.
 abbrev pub VariantHas : {S H O E : Type 0} → (S → CompoundKind → S → H → List (Option Tree) → Type 0) → S → ℕ → SerializeTupleVariant S O E H → List (Option Tree) → Type 0
 VariantHas has start index variant fields = has start (kind.Variant index) variant.serializer.now variant.compound fields
 

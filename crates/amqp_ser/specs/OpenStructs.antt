@@ -10,7 +10,7 @@ use Rattle.amqp_ser.specs.declared.compound.structs.SerializeStruct.{SerializeSt
 use Rattle.amqp_ser.specs.declared.compound.tuple_struct.SerializeTupleStruct.{SerializeTupleStruct}
 
 module _ {S H O E : Type 0} where
-  -- The reference in the struct, and the struct with another serializer behind that reference.
+  -- The struct's reference to its serializer, and the struct with another serializer behind it.
   abbrev pub struct_reference : SerializeStruct S O E H → MutBor S
   struct_reference fields = fields.serializer
 
@@ -50,7 +50,8 @@ module _ {S H O E : Type 0} where
 
 module _ {S H O E : Type 0} (permits : S → Option Tree → Result O E → S → Type 0)
     (has : S → CompoundKind → S → H → List (Option Tree) → Type 0) where
-  -- The struct, which this serializer opened, has this descriptor, if any, and these parts.
+  -- The struct, which was opened in the state `start`, has this descriptor, if any, and these
+  -- parts.
   abbrev pub StructHas : S → Option (Option Tree) → CompoundKind → SerializeStruct S O E H → List (Option Tree) → Type 0
   StructHas start prefix kind fields parts = Stands permits has start prefix kind fields.serializer.now fields.compound parts
 

@@ -1,4 +1,4 @@
--- Equality of trees, as a test that computes.
+-- Equality of trees, as a Boolean function.
 use Rattle.std.specs.Prelude.{ℕ, Bool, true, false, ◌&&◌, ◌==◌, List}
 use Rattle.std.specs.Ordering.{int_eq}
 use Rattle.std.specs.Cmp.Lexicographic.{pointwise}

@@ -66,7 +66,7 @@ scalar_payload (symbol bs) = to_be_bytes w32 (length bs) ++ bs
 abbrev pub sized : ℕ → ℕ → List ℕ → List ℕ
 sized c8 c32 bs = if is_short (length bs) then c8 ∷ length bs ∷ bs else c32 ∷ (to_be_bytes w32 (length bs) ++ bs)
 
--- A scalar outside an array, in the shortest form that this profile writes.
+-- A scalar outside an array, in the shortest form that this library writes.
 abbrev pub scalar_form : Scalar → List ℕ
 scalar_form null = 0x40 ∷ []
 scalar_form (bool true) = 0x41 ∷ []

@@ -21,7 +21,7 @@ FeedsDescriptor {S} {H} {O} {E} permits has descriptor before compound result af
     (λ e. Stands permits has start None kind.Single after compound_after [] × ((t : Option Tree) →
     permits start (as_described (descriptor_of descriptor) t) (Err e) after))
 
--- The first field, as these parts of a body of this kind.
+-- The first field, which opens a body of this kind with these parts.
 abbrev pub FeedsFirst : {S H O E : Type 0} → (S → Option Tree → Result O E → S → Type 0) → (S → CompoundKind → S → H → List (Option Tree) → Type 0) →
     CompoundKind → List (Option Tree) → S → H → Result (Unit {0}) E → S → H → Type 0
 FeedsFirst {S} {H} {O} {E} permits has body parts before compound result after compound_after =
@@ -51,7 +51,7 @@ FeedsEntry {S} {H} {O} {E} permits has key value before compound result after co
     (λ e. Stands permits has start prefix kind.Map after compound_after ps × ((rest : List (Option Tree)) →
     permits start (optionally_described prefix (tree_of_parts kind.Map (ps ++ (key ∷ (value ∷ rest))))) (Err e) after))
 
--- The only field of a single value.
+-- The only field of a struct that is a single value.
 abbrev pub FeedsSingle : {S H O E : Type 0} → (S → Option Tree → Result O E → S → Type 0) → (S → CompoundKind → S → H → List (Option Tree) → Type 0) →
     Option Tree → S → H → Result (Unit {0}) E → S → H → Type 0
 FeedsSingle {S} {H} {O} {E} permits has value before compound result after compound_after =
@@ -61,7 +61,8 @@ FeedsSingle {S} {H} {O} {E} permits has value before compound result after compo
     (λ e. Stands permits has start prefix kind.Single after compound_after []
     × permits start (optionally_described prefix value) (Err e) after)
 
--- A misplaced field or descriptor: the struct with these parts is unchanged, and there is no tree.
+-- A misplaced field or descriptor: the struct is unchanged, and the error is permitted for a value
+-- without a tree.
 abbrev pub RefusesField : {S H O E : Type 0} → (S → Option Tree → Result O E → S → Type 0) → (S → CompoundKind → S → H → List (Option Tree) → Type 0) →
     CompoundKind → S → H → Result (Unit {0}) E → S → H → Type 0
 RefusesField {S} {H} {O} {E} permits has body before compound result after compound_after =
@@ -110,8 +111,8 @@ pub record TupleFieldStep {S H O E : Type 0} (permits : S → Option Tree → Re
   pub misuse_error : lacks_descriptor ≡ false → opened ≡ true → single ≡ true →
       IsErr result × (IfErr result is_misuse_error × RefusesField permits has kind.Single before compound result after compound_after)
 
--- The result of ending a struct of this form, by cases: whether it has a field. The body is a list,
--- a map or the one field; without a field it is empty, or a misuse.
+-- The result of ending a struct of this form, by whether it has a field. The body is a list, a map
+-- or the one field. Without a field, a list or a map is empty, and a single value is a misuse.
 pub record EndStep {S H O E : Type 0} (permits : S → Option Tree → Result O E → S → Type 0) (has : S → CompoundKind → S → H → List (Option Tree) → Type 0)
     (is_misuse_error : E → Type 0) (encoding : StructEncoding) (opened : Bool) (before : S) (compound : H) (result : Result O E) (after : S) : Type 0 where
   pub list : opened ≡ true → encoding ≡ form.List → (start : S) (prefix : Option (Option Tree)) (ps : List (Option Tree)) →

@@ -37,7 +37,7 @@ form_kind form.List = kind.List
 form_kind form.Map = kind.Map
 form_kind form.Single = kind.Single
 
--- The kind that is open: a single compound until the first field is accepted, then the body.
+-- The kind of the open compound: single until the first field is accepted, then that of the body.
 abbrev pub open_kind : Bool → StructEncoding → CompoundKind
 open_kind false b = kind.Single
 open_kind true b = form_kind b
@@ -52,7 +52,7 @@ abbrev pub field_parts : Bool → List ℕ → Option Tree → List (Option Tree
 field_parts false key t = t ∷ []
 field_parts true key t = Some (scalar (string key)) ∷ (t ∷ [])
 
--- A second or late descriptor, or a second field of a single value.
+-- A descriptor that is repeated or follows a field, or a second field of a single value.
 abbrev pub is_misplaced : StructEncoding → Bool → Bool → Bool → Bool
 is_misplaced b described opened true = described || opened
 is_misplaced form.Single described opened false = opened

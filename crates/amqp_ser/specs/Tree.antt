@@ -32,7 +32,7 @@ pub data Descriptor : Type 0 where
   name : List ℕ → Descriptor
   code : ℕ → Descriptor
 
--- A variant has the index and the payload of a variant of an enum. A lazy tree has the bytes of one
+-- A variant has the index and the value of a variant of an enum. A lazy tree has the bytes of one
 -- encoded value. The elements of a transparent tree are encoded one after another without a header.
 mutual
   pub data Tree : Type 0 where

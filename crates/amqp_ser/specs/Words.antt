@@ -40,7 +40,7 @@ map_of fields = tree_of_parts kind.Map (in_turn string_key fields)
 abbrev pub symbol_map_of : List (List ℕ × Option Tree) → Option Tree
 symbol_map_of fields = tree_of_parts kind.Map (in_turn symbol_key fields)
 
--- The variant with this index whose payload is the list of these parts.
+-- The variant with this index whose value is the list of these parts.
 abbrev pub variant_of : ℕ → List (Option Tree) → Option Tree
 variant_of index parts = tree_of_parts (kind.Variant index) parts
 
@@ -68,7 +68,7 @@ short_map_of fields = tree_of_parts kind.Map (named_parts string_key fields)
 abbrev pub short_symbol_map_of : List (List ℕ × (Bool × Option Tree)) → Option Tree
 short_symbol_map_of fields = tree_of_parts kind.Map (named_parts symbol_key fields)
 
--- The short list after a descriptor, the form of the composites of the standard.
+-- The short list after a descriptor, as the standard encodes composites.
 abbrev pub short_composite : Descriptor → List (Bool × Option Tree) → Option Tree
 short_composite d parts = as_described (Some d) (short_list_of parts)
 

@@ -1,4 +1,4 @@
-//! The methods that values call on a serializer, by subject.
+//! The methods that `Serialize` implementations call on a serializer, by subject.
 
 pub mod compounds;
 pub mod scalars;

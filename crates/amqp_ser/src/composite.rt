@@ -62,7 +62,7 @@ impl<F: Fields> Serialize for ListOf<F> {
     }
 }
 
-/// The variant with this index whose payload is the list of the fields up to the last present one.
+/// The variant with this index whose value is the list of the fields up to the last present one.
 ///
 /// # Encoding
 /// The map of one pair, from the index as a uint to the list (AMQP 1.0 part 1, section 1.6.23).

@@ -27,8 +27,8 @@ pub enum Keys {
 ///
 /// # Implementer notes
 /// `named` lists the fields: name, presence and tree. `feed` and `feed_named` append the parts that
-/// `named` determines to those that the compound already has. An error must be permitted for every
-/// continuation of the compound.
+/// `named` determines to those that the compound already has. An error must be permitted for the
+/// complete compound, whatever further parts follow.
 ///
 /// # Example
 /// `fields! { "x": 1u8, "y": true }` is `c00402500141` as a list, and `c10a04a101785001a1017941` as

@@ -12,9 +12,9 @@ pub enum CompoundKind {
     List,
     /// A map of its keys and values, in alternation.
     Map,
-    /// The variant with this index whose payload is the list of its fields.
+    /// The variant with this index whose value is the list of its fields.
     Variant(u32),
-    /// The variant with this index whose payload is its one value.
+    /// The variant with this index and this one value.
     NewtypeVariant(u32),
     /// The one value itself.
     Single,

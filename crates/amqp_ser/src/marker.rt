@@ -5,7 +5,7 @@ ghost use Rattle.amqp_ser.specs.Marked.{marker_of};
 
 use amqp_data::markers;
 
-/// A marker: determines the tree of a newtype from the tree of its inner value.
+/// Determines the tree of a newtype from the tree of its inner value.
 ///
 /// # Example
 /// The string `amqp` is `a304616d7170` under `Marker::Symbol`. The list of `true` and `false` is

@@ -1,4 +1,4 @@
-//! The serializer trait: its laws, its required methods, and the methods that values call.
+//! The serializer trait: its laws and its required methods.
 
 ghost use Rattle.std.specs.Prelude.{◌≡◌, ◌++◌, ◌∷◌, [], List, Option, Some, None, Result, Ok, Err, MatchResult, IfErr, IsErr, true};
 ghost use Rattle.amqp_ser.specs.Tree.{Tree, scalar, null, string, binary};
@@ -15,8 +15,8 @@ use crate::marker::Marker;
 /// A serializer: turns a data tree into a result, such as its length, its bytes or an untyped
 /// value.
 ///
-/// An implementation defines the fourteen required methods. The methods that values call have the
-/// names of serde, are built on the required methods, and are the same for every serializer.
+/// An implementation defines the fourteen required methods. `SerializeScalars` and
+/// `SerializeCompounds` build the other methods of serde on them, the same for every serializer.
 ///
 /// # Data model
 /// The kinds of trees, the methods that serialize them, and their format codes (AMQP 1.0 part 1).
@@ -70,8 +70,9 @@ use crate::marker::Marker;
 /// `open`, which was opened in the state `start`, may have accepted these parts. `awaits` states
 /// the same of a serializer that is ready for the next part. Three laws relate `has` and `awaits`
 /// to the parts. A compound is opened without parts, and each accepted part is appended. If a part
-/// fails, the compound is unchanged and the error is permitted for every continuation. When the
-/// compound ends, the result is permitted for the tree that the kind makes of the parts.
+/// fails, the compound is unchanged and the error is permitted for the complete compound, whatever
+/// further parts follow. When the compound ends, the result is permitted for the tree that the kind
+/// makes of the parts.
 ///
 /// # Example
 /// For the list of the strings `a` and `bc` the result is the length 10, the bytes
@@ -182,8 +183,9 @@ pub trait Serializer {
     /// Returns a placeholder for a compound that has been moved out. It was never opened.
     fn placeholder(&self) -> Self::Open;
 
-    /// Prepares the serializer for the next part of a compound. The first part of a single compound
-    /// has the position of the compound itself, so that any method may follow.
+    /// Prepares the serializer for the next part of a compound. The one part of a single compound
+    /// takes the place of the compound: a result that is permitted for the part is permitted for
+    /// the compound.
     ///
     /// # Example
     /// Before the next element of a list, the string `a`: `end_part` then appends `a10161`.

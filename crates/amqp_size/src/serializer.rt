@@ -31,7 +31,7 @@ use std::marker::Model;
 #[derive(Debug, Drop)]
 pub struct SizeSerializer {
     /// Position of the next value. `size_at` stores the constructor of an array's first element
-    /// here, and `end_part` reads it; the returned size does not contain it.
+    /// here, and `end_part` reads it; the returned size does not include it.
     pub(crate) context: Context,
     /// Length of the descriptors before the value, if it is after a descriptor.
     pub(crate) prefix_len: usize,

@@ -37,13 +37,12 @@ impl SizeSerializer {
     /// Returns the size, at this position, of a writable tree with this constructor.
     ///
     /// `ordinary` is the length outside an array, and `wide` is the length of the payload in an
-    /// array. The serializer must have been reset.
+    /// array. `clear_prefix` must have been called.
     ///
     /// # Errors
-    /// Returns `InvalidValue` if the position does not accept the tree: as an array element with
-    /// another constructor, as a descriptor that is neither a ulong nor a symbol, or as an array
-    /// element after a descriptor. Returns `TooLong` if the length with the descriptors exceeds
-    /// `usize::MAX`.
+    /// Returns `InvalidValue` for an array element with another constructor, a descriptor that is
+    /// neither a ulong nor a symbol, and a described array element. Returns `TooLong` if the length
+    /// with the descriptors exceeds `usize::MAX`.
     #[inline(always)]
     pub(crate) fn size_at(
         &mut self,

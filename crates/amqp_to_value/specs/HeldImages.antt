@@ -1,5 +1,5 @@
 -- What an open compound contains, in terms of the trees that were serialized into it, after their
--- lazy trees are read.
+-- lazy trees are decoded.
 use Rattle.std.specs.Prelude.{◌≡◌, Bool, true, false, Option, Some, None, Result, Ok, Err, option_map}
 use Rattle.amqp_data.specs.declared.error.Error.{Error}
 use Rattle.amqp_data.specs.declared.error.Error.TheVariants as error
@@ -34,7 +34,7 @@ feed compound t = by compound.1
     by None = (compound.0, Some t)
     by (Some k) = (insert_tree compound.0 k t, None)
 
--- The entries and the pending key after keys and values in turn.
+-- The entries and the pending key after these keys and values, in alternation.
 abbrev pub fed_onto : Trees → Pairs → Pairs × Option Tree
 fed_onto no_trees done = (done, None)
 fed_onto (more k no_trees) done = (done, Some (image k))
@@ -65,8 +65,8 @@ compound_tree (compound.Variant i v) ts = as_kind (kind.Variant i) ts
 compound_tree (compound.NewtypeVariant i v) ts = as_kind (kind.NewtypeVariant i) ts
 compound_tree compound.Refused ts = None
 
--- The errors that are permitted for a tree without lazy trees, or for none: out of memory for any,
--- and invalid for none.
+-- The errors that are permitted for a tree without lazy trees, or for none: `OutOfMemory` for any
+-- tree, and `InvalidValue` if there is no tree.
 abbrev pub RefusesOpened : Error → Option Tree → Type 0
 RefusesOpened error.OutOfMemory t = Unit {0}
 RefusesOpened error.InvalidValue None = Unit {0}
@@ -77,7 +77,7 @@ IsOpenedImage None (Ok v) = ⊥
 IsOpenedImage (Some t) (Ok v) = tree_of v ≡ image t
 IsOpenedImage t (Err e) = RefusesOpened e t
 
--- The compound takes keys and values in turn.
+-- The compound accepts keys and values, in alternation.
 abbrev pub TakesPairs : CollectedParts → Type 0
 TakesPairs (compound.Map g) = Unit {0}
 TakesPairs compound.Refused = Unit {0}

@@ -9,7 +9,7 @@ use Rattle.amqp_value.specs.TreeOf.{tree_of}
 use Rattle.amqp_value.specs.declared.value.Value.{Value}
 use Rattle.amqp_to_value.specs.Opened.{Opened, IsUnreadable}
 
--- The value represents the tree: its tree is the image, after the lazy trees are read.
+-- The value represents the tree: its tree is the image, after the lazy trees are decoded.
 abbrev pub StandsFor : Value → Option Tree → Type 0
 StandsFor v None = ⊥
 StandsFor v (Some t) = (u : Tree) × Opened t u × (tree_of v ≡ image u)
@@ -22,8 +22,8 @@ IsFault error.InvalidFormatCode = Unit {0}
 IsFault error.UnexpectedEof = Unit {0}
 IsFault e = ⊥
 
--- Out of memory is permitted for any tree. A fault is permitted if there is no tree, or if a lazy
--- tree spells no value. No other error is permitted.
+-- Out of memory is permitted for any tree. A fault is permitted if there is no tree, or if the
+-- bytes of a lazy tree spell no value. No other error is permitted.
 abbrev pub refuses : Error → Option Tree → Type 0
 refuses error.OutOfMemory t = Unit {0}
 refuses e None = IsFault e

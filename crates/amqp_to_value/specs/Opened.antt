@@ -1,5 +1,5 @@
--- A tree whose lazy trees are read: each becomes the value that its bytes spell (AMQP 1.0 part 1,
--- sections 1.2 and 1.6).
+-- A tree whose lazy trees are decoded: each is replaced by the tree that its bytes spell (AMQP 1.0
+-- part 1, sections 1.2 and 1.6).
 use Rattle.std.specs.Prelude.{◌≡◌}
 use Rattle.amqp_decode.specs.Spells.{Spells}
 use Rattle.amqp_ser.specs.Tree.{Tree, Trees, Pairs, scalar, list, array, map, described, variant, lazy, transparent, no_trees, more, no_pairs, pair}
@@ -27,6 +27,6 @@ abbrev mutual
   HasOpenedPairs no_pairs qs = qs ≡ no_pairs
   HasOpenedPairs (pair k v ps) qs = (l : Tree) × (w : Tree) × (rs : Pairs) × (qs ≡ pair l w rs) × Opened k l × Opened v w × HasOpenedPairs ps rs
 
--- Some lazy tree in the tree spells no value.
+-- The bytes of some lazy tree in the tree spell no tree.
 abbrev pub IsUnreadable : Tree → Type 0
 IsUnreadable t = (u : Tree) → ¬ Opened t u

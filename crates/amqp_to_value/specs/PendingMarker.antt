@@ -1,4 +1,4 @@
--- The intended tree of a tree that is serialized under markers or as a descriptor.
+-- The tree of the value, if this tree is serialized under the pending marker or as a descriptor.
 use Rattle.std.specs.Prelude.{Option, Some, None}
 use Rattle.amqp_ser.specs.Tree.{Tree, scalar, symbol, ulong}
 use Rattle.amqp_ser.specs.Marked.{with_marker}

@@ -26,7 +26,7 @@ use Rattle.amqp_to_value.specs.declared.serializer.Serializer.{Serializer}
 abbrev pub IsFresh : Serializer → Type 0
 IsFresh s = (s.pending ≡ pending.Marker marker.Other) × (s.descriptors.next ≡ false)
 
--- The intended tree: under the pending marker, inside the pending descriptors.
+-- The tree of the value, if this tree is serialized under the pending marker and descriptors.
 abbrev pub meant_by : Serializer → Option Tree → Option Tree
 meant_by s t = described_by (standing s.descriptors) (meant s.pending t)
 
@@ -42,8 +42,8 @@ IsKept ds s = IsFresh s × (s.descriptors.kept ≡ ds)
 abbrev pub IsLeft : List Descriptor → Serializer → Type 0
 IsLeft ds s = (more : List Descriptor) × (s.descriptors.later ≡ ds ++ more)
 
--- The kept descriptors are unchanged. A value uses its own descriptors and leaves their capacity,
--- and an error leaves the descriptors.
+-- The kept descriptors are unchanged. On success, the value's own descriptors are removed, and the
+-- stack keeps capacity for them. On an error, they stay on the stack.
 abbrev pub Leaves : List Descriptor → List Descriptor → Result Value Error → Serializer → Type 0
 Leaves others own (Ok v) s = IsKept others s × (length (others ++ own) ≤ s.descriptors.room)
 Leaves others own (Err e) s = IsKept others s × IsLeft own s
@@ -55,7 +55,7 @@ ValuePermits s t r after = IsImageOf (meant_by s t) r × Leaves s.descriptors.ke
 pub record HoldsParts (pending : PendingMarker) (kind : CompoundKind) (compound : CollectedParts) (ps : List (Option Tree)) : Type 0 where
   pub ts : Trees
   pub trees : all_trees ps ≡ Some ts
-  -- The same trees, after their lazy trees are read.
+  -- The same trees, after their lazy trees are decoded.
   pub us : Trees
   pub opened : AreOpened ts us
   pub fed : HoldsImages compound us
@@ -86,8 +86,8 @@ IsKeeping start s = IsKept (start.descriptors.kept ++ standing start.descriptors
 abbrev pub IsKeepingDescriptor : Serializer → Serializer → Type 0
 IsKeepingDescriptor start s = (s.pending ≡ pending.Descriptor) × (s.descriptors.next ≡ false) × (s.descriptors.kept ≡ start.descriptors.kept ++ standing start.descriptors)
 
--- Before its value, a single compound has the serializer in the state in which the compound was
--- opened.
+-- Until a single compound has its value, the serializer has the pending marker and descriptors with
+-- which the compound was opened.
 abbrev pub IsReady : Serializer → Serializer → OpenBody → Type 0
 IsReady start s (body.Single u None) = (s.pending ≡ start.pending) × (s.descriptors.kept ≡ start.descriptors.kept) × (standing s.descriptors ≡ standing start.descriptors)
 IsReady start s (body.Single u (Some v)) = IsKeeping start s
@@ -99,7 +99,7 @@ ValueHas start k s compound ps = (compound.saved ≡ saved_of start.descriptors.
 abbrev pub ValueAwaits : Serializer → CompoundKind → Serializer → OpenValue → List (Option Tree) → Type 0
 ValueAwaits start k s compound ps = (compound.saved ≡ saved_of start.descriptors.kept (standing start.descriptors)) × HasParts start.pending k compound.body ps × IsReady start s compound.body
 
--- A single compound can take a descriptor.
+-- A single compound is ready for a descriptor.
 abbrev pub ValueAwaitsDescriptor : Serializer → Serializer → OpenValue → Type 0
 ValueAwaitsDescriptor start s compound = (compound.saved ≡ saved_of start.descriptors.kept (standing start.descriptors)) × HasParts start.pending kind.Single compound.body [] × IsKeepingDescriptor start s
 

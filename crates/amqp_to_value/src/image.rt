@@ -15,7 +15,7 @@ use std::alloc::Global;
 /// tree.
 ///
 /// Each kind of tree becomes the `Value` variant of that kind. An enum variant becomes the map of
-/// one entry, from its index as a uint to its payload. A transparent vector becomes the list of its
+/// one entry, from its index as a uint to its value. A transparent vector becomes the list of its
 /// elements. The entries of a map are inserted in order: a repeated key keeps its position and gets
 /// the new value. So no map in the result has a key twice, and the result is sound. A lazy value,
 /// at any depth, becomes the value that its bytes spell, which is at most 256 deep.

@@ -19,10 +19,7 @@ ghost use Rattle.amqp_to_value.specs.Opened.{Opened};
 
 use amqp_value::Value;
 
-/// A tree that contains nothing lazy is read as itself, and as no other tree.
-///
-/// # Memory
-/// None.
+/// A tree that contains nothing lazy is decoded to itself, and to no other tree.
 pub fn trees_without_lazy_parts_are_read_as_themselves()
     ensures itself { (t : Tree) → has_lazy t ≡ false → Opened t t }
     ensures alone { (t u : Tree) → has_lazy t ≡ false → Opened t u → u ≡ t }
@@ -30,9 +27,6 @@ pub fn trees_without_lazy_parts_are_read_as_themselves()
 
 /// A value represents a tree that contains nothing lazy if and only if the value's tree is the
 /// image of that tree.
-///
-/// # Memory
-/// None.
 pub fn trees_without_lazy_parts_stand_as_their_images()
     ensures image { (t : Tree) (v : Value) → has_lazy t ≡ false → StandsFor v (Some t) →
         tree_of v ≡ image t }
@@ -41,18 +35,12 @@ pub fn trees_without_lazy_parts_stand_as_their_images()
 {}
 
 /// All values that represent a tree have the same tree.
-///
-/// # Memory
-/// None.
 pub fn one_value_stands_for_a_tree()
     ensures { (t : Tree) (v w : Value) → StandsFor v (Some t) → StandsFor w (Some t) →
         tree_of v ≡ tree_of w }
 {}
 
 /// A value represents a lazy value if and only if the bytes spell it, at most 256 deep.
-///
-/// # Memory
-/// None.
 pub fn lazy_values_stand_as_what_they_spell()
     ensures spelled { (bytes : List ℕ) (v : Value) → StandsFor v (Some (lazy bytes)) →
         Spells 256 bytes (tree_of v) }
@@ -62,9 +50,6 @@ pub fn lazy_values_stand_as_what_they_spell()
 
 /// The tree of a value that represents a plain tree is that tree with each variant replaced by its
 /// map.
-///
-/// # Memory
-/// None.
 pub fn plain_trees_come_back()
     ensures { (t : Tree) (v : Value) → IsPlain t → StandsFor v (Some t) →
         tree_of v ≡ read_as_map t }
@@ -72,9 +57,6 @@ pub fn plain_trees_come_back()
 
 /// A value that represents a plain tree has the same encoding as the tree, and is writable if and
 /// only if the tree is.
-///
-/// # Memory
-/// None.
 pub fn plain_trees_keep_their_bytes()
     ensures writable { (t : Tree) (v : Value) → IsPlain t → StandsFor v (Some t) →
         writable (tree_of v) ≡ writable t }
@@ -83,9 +65,6 @@ pub fn plain_trees_keep_their_bytes()
 {}
 
 /// A value that represents the tree of a sound value has that tree and is equal to the sound value.
-///
-/// # Memory
-/// None.
 pub fn sound_values_come_back_equal()
     ensures tree { (a b : Value) → IsSound a → StandsFor b (Some (tree_of a)) →
         tree_of b ≡ tree_of a }
@@ -95,9 +74,6 @@ pub fn sound_values_come_back_equal()
 
 /// A value that represents a scalar is equal to every value with the tree of that scalar, such as
 /// the one that `From` returns.
-///
-/// # Memory
-/// None.
 pub fn scalars_keep_their_content()
     ensures { (s : Scalar) (a b : Value) → tree_of a ≡ scalar s → StandsFor b (Some (scalar s))
         → ⟦<Value as PartialEq>⟧.eq b a ≡ true }

@@ -12,7 +12,7 @@ use amqp_frame::is_frame;
 use amqp_value::Value;
 use std::alloc::Global;
 
-/// Returns the value that the bytes spell, which must be one encoded value.
+/// Returns the value that the bytes spell. They must be one encoded value.
 ///
 /// # Errors
 /// Returns `Error::OutOfMemory` if an allocation fails. Otherwise returns `Error::InvalidValue` if
@@ -28,7 +28,7 @@ pub fn lazy_value(alloc: Global, bytes: &[u8]) -> Result<Value, Error>
     }
 }
 
-// Returns the error for bytes that were not decoded. `OutOfMemory` is unchanged. If the bytes are
+// Returns the error for bytes that cannot be decoded. `OutOfMemory` is unchanged. If the bytes are
 // one encoded value, `InvalidFormatCode` and `UnexpectedEof` are unchanged. Any other error becomes
 // `InvalidValue`.
 fn refusal(e: Error, bytes: &[u8]) -> Error

@@ -1,10 +1,10 @@
 //! Conversion of any serializable value to an untyped value.
 //!
 //! `to_value` returns the value whose tree is the image of the tree of its argument. It uses
-//! `Serializer`, which can also be used on its own, element by element. `amqp_decode` decodes the
+//! `Serializer`, which can also be used directly, element by element. `amqp_decode` decodes the
 //! bytes of a lazy value.
 //!
-//! A plain value and its image have the same encoding. Of other values the encodings can differ:
+//! A plain value and its image have the same encoding. The encodings of other values can differ:
 //! the image of a transparent vector is a list, a map keeps one of two keys with the same image,
 //! and the bytes of a lazy value can be longer than the encoding of the value that they spell.
 #![tactic(auto)]

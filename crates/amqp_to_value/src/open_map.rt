@@ -18,7 +18,7 @@ pub struct OpenMap {
 }
 
 impl OpenMap {
-    /// Returns a builder without entries.
+    /// Creates an open map without entries.
     pub fn new(alloc: Global) -> OpenMap
         ensures { held_pairs result ≡ (no_pairs, None) }
     {

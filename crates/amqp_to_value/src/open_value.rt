@@ -19,7 +19,7 @@ use amqp_ser::CompoundKind;
 use amqp_value::Value;
 use std::alloc::Global;
 
-/// An open compound and the position of its pending descriptors.
+/// An open compound and the range of its pending descriptors.
 #[derive(Drop)]
 pub struct OpenValue {
     pub saved: Saved,
@@ -48,7 +48,7 @@ impl OpenBody {
         }
     }
 
-    /// Marks the value of a single compound as described.
+    /// Records that the value of a single compound is described.
     #[inline(always)]
     pub fn describe(&mut self)
         ensures { (pending : PendingMarker) → HasParts pending kind.Single self.old [] →

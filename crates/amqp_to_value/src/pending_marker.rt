@@ -34,7 +34,7 @@ impl PendingMarker {
     }
 
     /// Returns this pending marker with a descriptor inside. No marker permits a described value,
-    /// and a described value is not a descriptor.
+    /// and a descriptor cannot itself be described.
     #[inline(always)]
     pub fn with_descriptor(self) -> PendingMarker
         ensures { (d : Descriptor) (t : Option Tree) →

@@ -1,5 +1,5 @@
--- A tree with each variant replaced by the map of one entry as which it is encoded (AMQP 1.0 part
--- 1, section 1.6.23).
+-- A tree with each variant replaced by the map of one entry that has the same encoding (AMQP 1.0
+-- part 1, section 1.6.23).
 use Rattle.amqp_ser.specs.Tree.{Tree, Trees, Pairs, scalar, list, array, map, described, variant, lazy, transparent, no_trees, more, no_pairs, pair}
 use Rattle.amqp_value.specs.Image.{variant_map}
 

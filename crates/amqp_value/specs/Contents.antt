@@ -102,7 +102,7 @@ abbrev pub symbol_in : Value → Option Symbol
 symbol_in (kind.Symbol x) = Some x
 symbol_in _ = None
 
--- For types that contain values, the content is taken from one level of the value.
+-- For types that contain values, only the outermost level of the value is examined.
 abbrev open_described : Value-F Value → Option (Described Value)
 open_described (Value-F.Described d) = Some d.value
 open_described _ = None

@@ -13,8 +13,8 @@ use Rattle.amqp_value.specs.declared.value.Value.{Value}
 use Rattle.amqp_value.specs.declared.try_from.ConvertFault.{ConvertFault}
 use Rattle.amqp_value.specs.declared.try_from.ConvertFault.TheVariants.{Unfit, Memory}
 
--- The parts before one part fit, and that part does not; `unfit` is the value that its conversion
--- returns.
+-- The parts before one part can be converted, and that part cannot; `unfit` is the value that its
+-- conversion returns.
 pub record StopsAt {A B : Type 0} (Fits : A → B → Type 0) (Fails : A → Value → Type 0) (parts : List A) (unfit : Value) : Type 0 where
   pub before : List A
   pub done : List B
@@ -24,13 +24,13 @@ pub record StopsAt {A B : Type 0} (Fits : A → B → Type 0) (Fails : A → Val
   pub fit : AllZip Fits before done
   pub fails : Fails at unfit
 
--- There is a first part, and it fits.
+-- There is a first part, and it can be converted.
 abbrev pub FirstFits : {A B : Type 0} → (A → B → Type 0) → List A → Type 0
 FirstFits Fits [] = ⊥
 FirstFits {A} {B} Fits (part ∷ parts) = (made : B) × Fits part made
 
--- The results that are permitted: a collection made from all the parts; the first part that does
--- not fit; or out of memory, if the first part fits.
+-- The results that are permitted: a collection made from all the parts; the first part that cannot
+-- be converted; or out of memory, if the first part can be converted.
 module _ {A B R : Type 0} (Fits : A → B → Type 0) (Fails : A → Value → Type 0) (Made : List B → R → Type 0) where
   abbrev pub ConvertsAll : List A → Result R ConvertFault → Type 0
   ConvertsAll parts (Ok made) = (done : List B) × AllZip Fits parts done × Made done made

@@ -4,7 +4,7 @@ use Rattle.std.specs.Prelude.{ℕ, if◌then◌else◌}
 use Rattle.amqp_ser.specs.Tree.{uint, Tree, Trees, Pairs, scalar, list, array, map, described, variant, lazy, transparent, no_trees, more, no_pairs, pair}
 use Rattle.amqp_ser.specs.Same.{same_tree}
 
--- The map of one entry that represents a variant, from its index to its payload.
+-- The map of one entry that represents a variant, from its index to its value.
 abbrev pub variant_map : ℕ → Tree → Tree
 variant_map i t = map (pair (scalar (uint i)) t no_pairs)
 
@@ -14,8 +14,8 @@ insert_tree no_pairs k v = pair k v no_pairs
 insert_tree (pair l w ps) k v = if same_tree k l then pair l v ps else pair l w (insert_tree ps k v)
 
 -- Each kind is unchanged, except that a variant becomes its map, transparent trees become a list,
--- and the entries of a map are inserted in order. A lazy tree is unchanged; what it is read as is
--- defined where bytes are decoded.
+-- and the entries of a map are inserted in order. A lazy tree is unchanged; `Opened` in
+-- `amqp_to_value` defines the tree to which it is decoded.
 abbrev mutual
   pub image : Tree → Tree
   image (scalar s) = scalar s

@@ -41,7 +41,7 @@ rank (variant i t) = 25
 rank (lazy bs) = 26
 rank (transparent ts) = 27
 
--- Bytes are compared from the first on, as unsigned numbers; a prefix is less than what it begins.
+-- Bytes are compared in lexicographic order, as unsigned numbers.
 abbrev pub cmp_bytes : List ℕ → List ℕ → Ordering
 cmp_bytes = slice_cmp nat_cmp
 
@@ -77,9 +77,8 @@ cmp_descriptor (name a) (code n) = Less
 cmp_descriptor (code m) (name b) = Greater
 cmp_descriptor (code m) (code n) = nat_cmp m n
 
--- Trees of one kind are compared by their contents: elements and entries from the first on, a
--- described tree by its descriptor first, an entry by its key first; a prefix is less than what it
--- begins.
+-- Trees of one kind are compared by their contents: elements and entries in lexicographic order, a
+-- described tree by its descriptor first, and an entry by its key first.
 abbrev mutual
   pub cmp_tree : Tree → Tree → Ordering
   cmp_tree (scalar a) (scalar b) = cmp_scalar a b

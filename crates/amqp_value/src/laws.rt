@@ -32,9 +32,6 @@ pub use order::{
 };
 
 /// The tree of a scalar value is the tree of its content.
-///
-/// # Memory
-/// None.
 pub fn trees_of_scalar_values()
     ensures null { ⟦<Value as Serialize>⟧.tree Value.Null ≡ ⟦<() as Serialize>⟧.tree tt }
     ensures bool { (b : Bool) →
@@ -80,9 +77,6 @@ pub fn trees_of_scalar_values()
 {}
 
 /// The tree of a described value, list, map or array is the tree of its content.
-///
-/// # Memory
-/// None.
 pub fn trees_of_compound_values()
     ensures described { (b : Box (Described Value) Global) →
         ⟦<Value as Serialize>⟧.tree (Value.Described b) ≡ ⟦<Described<Value> as Serialize>⟧.tree
@@ -96,36 +90,24 @@ pub fn trees_of_compound_values()
         ⟦<Value as Serialize>⟧.tree (Value.Array a) ≡ ⟦<Array<Value> as Serialize>⟧.tree a }
 {}
 
-/// Two values are equal if and only if their trees are the same, wherever they are allocated.
-///
-/// # Memory
-/// None.
+/// Two values are equal if and only if their trees are the same.
 pub fn equality_is_of_contents()
     ensures { (a b : Value) → ⟦<Value as PartialEq>⟧.eq a b ≡ same_tree (tree_of a) (tree_of b) }
 {}
 
 /// Two trees are the same, as `same_tree` computes it, if and only if they are equal.
-///
-/// # Memory
-/// None.
 pub fn sameness_is_equality()
     ensures equal { (t u : Tree) → same_tree t u ≡ true → t ≡ u }
     ensures same { (t : Tree) → same_tree t t ≡ true }
 {}
 
 /// The image of a plain tree is the tree itself with each variant replaced by its map.
-///
-/// # Memory
-/// None.
 pub fn image_of_a_plain_tree()
     ensures { (t : Tree) → IsPlain t → image t ≡ read_as_map t }
 {}
 
 /// A variant is encoded as its map. Replacing each variant in a tree by its map changes neither the
 /// encoding nor the constructor nor any of the conditions on writable trees.
-///
-/// # Memory
-/// None.
 pub fn variants_are_written_as_maps()
     ensures bytes { (t : Tree) → encoding (read_as_map t) ≡ encoding t }
     ensures constructor { (t : Tree) → constructor (read_as_map t) ≡ constructor t }
@@ -136,9 +118,6 @@ pub fn variants_are_written_as_maps()
 
 /// The image of a plain tree has the same encoding and constructor as the tree, and meets the same
 /// conditions on writable trees.
-///
-/// # Memory
-/// None.
 pub fn image_is_written_as_the_same_bytes()
     ensures writable { (t : Tree) → IsPlain t → writable (image t) ≡ writable t }
     ensures bytes { (t : Tree) → IsPlain t → encoding (image t) ≡ encoding t }
@@ -150,9 +129,6 @@ pub fn image_is_written_as_the_same_bytes()
 
 /// The tree of a sound value, which has distinct keys in each map at every depth, is its own image.
 /// A value is sound if and only if its tree is plain.
-///
-/// # Memory
-/// None.
 pub fn sound_values_are_their_own_images()
     ensures image { (v : Value) → IsSound v → image (tree_of v) ≡ tree_of v }
     ensures plain { (v : Value) → IsSound v → IsPlain (tree_of v) }
@@ -160,18 +136,12 @@ pub fn sound_values_are_their_own_images()
 {}
 
 /// A value whose tree is the image of a tree is sound.
-///
-/// # Memory
-/// None.
 pub fn images_are_sound()
     ensures { (t : Tree) (v : Value) → tree_of v ≡ image t → IsSound v }
 {}
 
 /// A scalar is sound. A described value, a list or an array is sound if the values in it are sound.
 /// A map is sound if its entries are.
-///
-/// # Memory
-/// None.
 pub fn sound_parts_make_a_sound_value()
     ensures scalar { (v : Value) (s : Scalar) → tree_of v ≡ scalar s → IsSound v }
     ensures described { (b : Box (Described Value) Global) → IsSound b.value.value →
@@ -184,9 +154,6 @@ pub fn sound_parts_make_a_sound_value()
 
 /// The empty list of entries is sound. Sound entries stay sound if an entry with a sound key and
 /// value is inserted. Entries with sound keys and values are sound if the keys are distinct.
-///
-/// # Memory
-/// None.
 pub fn sound_entries_stay_sound()
     ensures none { AreSoundEntries [] }
     ensures insert { (es : List (Value × Value)) (k v : Value) → AreSoundEntries es → IsSound k →

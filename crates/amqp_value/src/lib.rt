@@ -1,8 +1,8 @@
 //! The untyped value of AMQP 1.0 data.
 //!
-//! A `Value` holds data of any AMQP type. Its equality, order and hash depend on its contents only,
-//! and `Display` writes its text for logs and diagnostics. `laws` states how the image of a tree,
-//! which a value serializer returns, is encoded.
+//! A `Value` contains data of any AMQP type. Its equality, order and hash depend on its contents
+//! only, and `Display` writes its text for logs and diagnostics. `laws` states how the image of a
+//! tree, which a value serializer returns, is encoded.
 #![tactic(auto)]
 
 mod escape;

@@ -1,4 +1,4 @@
-//! Entries in the order in which they were inserted.
+//! The entries of a map that is being built.
 
 ghost use Rattle.std.specs.Prelude.{◌≡◌, [], OnOk, IfErr, OnErr, IfOk, MatchResult};
 ghost use Rattle.amqp_ser.specs.Tree.{map, no_pairs};
@@ -20,7 +20,7 @@ pub struct MapBuilder {
 }
 
 impl MapBuilder {
-    /// Returns a collection without entries.
+    /// Creates a builder without entries.
     ///
     /// # Memory
     /// None before the first insertion.
@@ -39,7 +39,7 @@ impl MapBuilder {
     /// unchanged.
     ///
     /// # Memory
-    /// That of a growing vector. A repeated key needs as much as a new one.
+    /// Allocates as a growing vector does, for a repeated key as for a new one.
     pub fn insert(&mut self, key: Value, value: Value) -> Result<(), AllocFailed<(Value, Value)>>
         ensures ok { OnOk result (collected_pairs self.new
             ≡ insert_tree (collected_pairs self.old) (tree_of key) (tree_of value)) }

@@ -40,7 +40,7 @@ impl Serialize for Value {
     }
 }
 
-/// Serializes a compound. The stack space of its result is cleared only if there is a compound.
+/// Calls `serialize_compound`, so that stack space for its result is cleared only for compounds.
 #[inline(always)]
 fn apart<T: Serialize, S: Serializer>(compound: &T, serializer: &mut S) -> Result<S::Ok, S::Error>
     ensures { S.permits serializer.old (T.tree compound.now) result serializer.new }

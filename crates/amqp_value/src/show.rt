@@ -12,7 +12,7 @@ use amqp_data::{Descriptor, write_hexadecimal};
 use std::fmt;
 use std::fmt::{Display, Formatter, Write};
 
-/// Writes numbers in decimal, and binaries, decimals and the bits of floats as `0x[..]` with two
+/// Writes integers in decimal, and binaries, decimals and the bits of floats as `0x[..]` with two
 /// digits per byte. Symbols follow a colon. Strings are in `"` and characters in `'`, with escapes.
 /// Lists and arrays are in brackets and maps in braces. A described value follows its descriptor,
 /// which is a name or a code.

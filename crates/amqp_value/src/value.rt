@@ -10,8 +10,8 @@ use amqp_data::{
 
 /// A value of any AMQP type.
 ///
-/// Equality, order and hash compare the variant first, in the order of declaration, and then the
-/// content.
+/// Equality and order compare the variant first, in the order of declaration, and then the content.
+/// Equal values have the same hash.
 ///
 /// # Encoding
 /// See each variant. The last of its format codes is the one that it has in an array. A described

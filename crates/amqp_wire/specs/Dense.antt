@@ -1,4 +1,4 @@
--- Trees in which no list or map has more parts than bytes, and every part is accepted at its
+-- Trees in which no list or map has more parts than its body has bytes, and every part fits its
 -- position.
 use Rattle.std.specs.Prelude.{ℕ, ◌*◌, List, Bool, true, false, ◌&&◌, length, nat_le, is_some}
 use Rattle.amqp_ser.specs.Tree.{Tree, Trees, Pairs, scalar, list, array, map, described, variant, lazy, transparent, no_trees, more, no_pairs, pair, count, pair_count}
@@ -14,7 +14,8 @@ abbrev pub is_opaque : Tree → Bool
 is_opaque (transparent ts) = false
 is_opaque t = true
 
--- A transparent tree is only at the root, and an array element has a constructor.
+-- The tree fits the position: a transparent tree fits only the root, and an array element has a
+-- constructor.
 abbrev pub fit : Position → Tree → Bool
 fit position.Root t = true
 fit position.InCompound t = is_opaque t
@@ -23,7 +24,8 @@ fit (position.OtherElement c) t = is_some (constructor t)
 fit position.Descriptor t = is_opaque t
 fit (position.Value n b) t = is_opaque t
 
--- No list or map in the tree has more parts than bytes, and a lazy value has at least one byte.
+-- No list or map in the tree has more parts than its body has bytes, every part fits its position,
+-- and a lazy value has at least one byte.
 abbrev mutual
   pub dense : Tree → Bool
   dense (scalar s) = true

@@ -14,8 +14,8 @@ abbrev pub RefusesLazy : Tree → Error → Type 0
 RefusesLazy t error.InvalidValue = RefusesTree t error.InvalidValue ⊎ ¬ IsFrame (encoding t)
 RefusesLazy t e = RefusesTree t e
 
--- The bytes, if and only if the tree is writable and they are one encoded value, unless memory runs
--- out.
+-- The bytes, if and only if the tree is writable and they are one encoded value, unless an
+-- allocation fails.
 abbrev pub IsLazyOf : Option Tree → Result (List ℕ) Error → Type 0
 IsLazyOf None (Ok bs) = ⊥
 IsLazyOf (Some t) (Ok bs) = (writable t ≡ true) × (bs ≡ encoding t) × IsFrame (encoding t)

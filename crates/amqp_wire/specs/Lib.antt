@@ -2,7 +2,7 @@
 -- those of `amqp_ser`.
 pub mod ResultBytes
 pub mod LazyOf
--- Definitions that only private clauses use: the law of the two passes.
+-- Definitions of the two passes, which only the contracts of private items use.
 pub mod TreeHeaders
 pub mod Dense
 pub mod HeaderBytes

@@ -18,7 +18,8 @@ use Rattle.amqp_wire.specs.declared.header.Header.{Header}
 use Rattle.amqp_wire.specs.declared.measurer.Measurer.{Measurer}
 use Rattle.amqp_wire.specs.declared.measurer.MeasurerCompound.{MeasurerCompound}
 
--- `n` slots are appended, or the flag says that an allocation failed.
+-- `n` slots are appended. If the flag is true, an allocation failed, and any number may be
+-- appended.
 abbrev pub appended : ℕ → List Header → Bool → List Header → Type 0
 appended n b true a = Extends b a
 appended n b false a = (hs : List Header) × ((length hs ≡ n) × (a ≡ b ++ hs))
@@ -33,7 +34,7 @@ abbrev pub listed : Option Tree → List Header → List Header → Type 0
 listed None b a = ⊥
 listed (Some t) b a = (a ≡ b ++ headers_of t) × (dense t ≡ true)
 
--- `OutOfMemory` says nothing about the tree.
+-- `OutOfMemory` is permitted for any tree.
 abbrev pub CountsTree : Measurer → Option Tree → Result ℕ SizeError → Measurer → Type 0
 CountsTree s o (Ok n) after = SizePermits s.size o (Ok n) after.size × listed (meant s.size.context o) s.table.headers.items after.table.headers.items
 CountsTree s o (Err e) after = ((e ≡ OutOfMemory) × (after.size.context ≡ Plain (without_prefix (position_of s.size.context)))) ⊎ SizePermits s.size o (Err e) after.size
@@ -78,7 +79,7 @@ MeasurerHas start kind s compound ps = SizeHas start.size kind s.size compound.s
 abbrev pub MeasurerAwaits : Measurer → CompoundKind → Measurer → MeasurerCompound → List (Option Tree) → Type 0
 MeasurerAwaits start kind s compound ps = (SizeAwaits start.size kind s.size compound.size ps × TabledAs (is_single kind) start kind s.table.headers.items compound ps) × (compound.before_current ≡ length s.table.headers.items)
 
--- A descriptor has no slot.
+-- A descriptor has no header, so the table is unchanged.
 abbrev pub MeasurerAwaitsDescriptor : Measurer → Measurer → MeasurerCompound → Type 0
 MeasurerAwaitsDescriptor start s compound = (SizeAwaitsDescriptor start.size s.size compound.size × (s.table.headers.items ≡ start.table.headers.items)) × (compound.before_current ≡ length s.table.headers.items)
 

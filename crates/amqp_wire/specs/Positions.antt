@@ -15,8 +15,8 @@ use Rattle.amqp_pass.specs.declared.position.BasePosition.TheVariants as base
 use Rattle.amqp_pass.specs.declared.resolved_kind.ResolvedKind.{ResolvedKind}
 use Rattle.amqp_pass.specs.declared.resolved_kind.ResolvedKind.TheVariants as resolved_kind
 
--- The position after a descriptor, whose length is not stored. A described value is not a
--- descriptor.
+-- The position after a descriptor, whose length is not stored. A descriptor cannot itself be
+-- described.
 abbrev pub after_descriptor_at : Position → Option Position
 after_descriptor_at positions.Root = Some (positions.Value 0 base.Root)
 after_descriptor_at positions.InCompound = Some (positions.Value 0 base.InCompound)
@@ -58,7 +58,7 @@ suited_parts resolved_kind.Array ts = one_constructor ts && (uniform_arrays_each
 suited_parts resolved_kind.Transparent ts = uniform_arrays_each ts && placed_each ts
 suited_parts s ts = uniform_arrays_each ts && inside_each ts
 
--- The bytes of a single compound are those of its part.
+-- The compound is a single one, whose bytes are those of its part.
 abbrev pub is_single : CompoundKind → Bool
 is_single kinds.Single = true
 is_single k = false

@@ -1,5 +1,4 @@
--- The state of the second pass. No length of descriptors is stored next to a position, and none is
--- needed.
+-- The state of the second pass, which does not need the lengths of descriptors.
 use Rattle.amqp_pass.specs.WholePosition.{Position}
 use Rattle.amqp_pass.specs.WholeContext.{Context}
 use Rattle.amqp_pass.specs.declared.resolved_kind.ResolvedKind.{ResolvedKind}

@@ -63,7 +63,7 @@ headers_from resolved_kind.Single h = []
 headers_from resolved_kind.Refused h = []
 headers_from s h = h ∷ []
 
--- The lengths of the headers fit in four bytes.
+-- The lengths in the headers fit in four bytes.
 abbrev pub HeadersFit : ResolvedKind → ℕ → Type 0
 HeadersFit (resolved_kind.Variant i) n = uint_width i + list_width n ≤ 4294967295
 HeadersFit (resolved_kind.NewtypeVariant i) n = uint_width i + n ≤ 4294967295

@@ -29,7 +29,7 @@ use Rattle.amqp_wire.specs.declared.writer_compound.WriterCompound.{WriterCompou
 abbrev pub Extends : {X : Type 0} → List X → List X → Type 0
 Extends {X} a b = (rest : List X) × (b ≡ a ++ rest)
 
--- What no call changes.
+-- After a call, the table is unchanged, the capacity is not smaller, and bytes are only appended.
 pub record Kept (s after : Output) : Type 0 where
   pub table : after.table ≡ s.table
   pub capacity : vec_capacity s.out ≤ vec_capacity after.out
@@ -75,8 +75,8 @@ abbrev pub takes : Position → Option Tree → Context → Type 0
 takes p None after = ⊥
 takes p (Some t) after = Taken p t after
 
--- The result of the first pass, whatever the table and the capacity are, except for limits that the
--- lengths exceed.
+-- The result of the first pass, except that the limits of compounds are not checked. It does not
+-- depend on the table and the capacity.
 abbrev pub IsAccepted : Position → Option Tree → Result (Unit {0}) SizeError → Context → Type 0
 IsAccepted p o (Ok u) after = takes p o after
 IsAccepted p o (Err e) after = AtPosition p o (Err e) after
@@ -102,7 +102,7 @@ pub record PartsFitOutput (a : Bool) (resolved_kind : ResolvedKind) (s : Output)
   pub listed : drop s.taken s.table.items ≡ compound_headers resolved_kind ts ++ (headers_of_each ts ++ rest)
   pub room : length s.out.items + (length (opening a resolved_kind (compound_headers resolved_kind ts)) + length (after_opening resolved_kind ts)) ≤ vec_capacity s.out
 
--- The parts so far, `ts`, of all the parts are written.
+-- Of the parts `ts` and `us` of a compound, the parts `ts` are written.
 pub record WrittenSoFar (a : Bool) (resolved_kind : ResolvedKind) (start s : Output) (ts us : Trees) : Type 0 where
   pub out : s.out.items ≡ start.out.items ++ (opening a resolved_kind (compound_headers resolved_kind (join ts us)) ++ after_opening resolved_kind ts)
   pub taken : s.taken ≡ start.taken + length (compound_headers resolved_kind (join ts us)) + length (headers_of_each ts)
@@ -133,7 +133,7 @@ pub record WrittenParts (start : Writer) (kind : CompoundKind) (s : Output) (com
   pub met : MeetsParts start kind s ts
   pub back : paired ps ≡ false → (qs : List (Option Tree)) (q : Option Tree) → ps ≡ qs ++ (q ∷ []) → OutputBeforeLast start kind s compound qs
 
--- Nothing is written in between.
+-- No bytes are written and no headers are consumed.
 abbrev pub SameOutput : Output → Output → Type 0
 SameOutput s after = (after.out.items ≡ s.out.items) × (after.taken ≡ s.taken)
 
@@ -152,7 +152,7 @@ WrittenAs false start kind s compound ps = WrittenParts start kind s compound ps
 abbrev pub WriterHas : Writer → CompoundKind → Writer → WriterCompound → List (Option Tree) → Type 0
 WriterHas start kind s compound ps = WrittenAs (is_single kind) start kind s.output compound ps × (s.context ≡ Plain (without_prefix compound.position))
 
--- The position of the output, which is restored if the part fails.
+-- The compound's checkpoint is the position of the output. It is restored if the part fails.
 abbrev pub StandsAt : WriterCompound → Output → Type 0
 StandsAt compound s = (compound.before_current.taken ≡ s.taken) × (compound.before_current.len ≡ length s.out.items)
 

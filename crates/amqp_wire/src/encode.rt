@@ -15,7 +15,7 @@ use std::alloc::Global;
 /// of the value is writable.
 ///
 /// # Encoding
-/// Each value has the shortest form that this profile writes; an element of an array has the form
+/// Each value has the shortest form that this library writes; an element of an array has the form
 /// of the array's constructor (AMQP 1.0 part 1, sections 1.2 to 1.6).
 ///
 /// # Errors
@@ -24,8 +24,8 @@ use std::alloc::Global;
 /// value has no tree.
 ///
 /// # Memory
-/// Allocates from `alloc` once for the bytes, and for a table of 12 bytes for each compound. A
-/// scalar needs no table.
+/// Allocates from `alloc` once for the bytes, and for a table of 12 bytes for each compound, or 24
+/// for a variant with fields. A scalar needs no table.
 ///
 /// # Example
 /// The list of the strings `a` and `bc` is `c00802a10161a1026263`.

@@ -37,7 +37,7 @@ pub struct MeasurerCompound {
     parts: u32,
 }
 
-/// Returns `sum` if it is within `MAX_LEN`. The result never exceeds `MAX_LEN`.
+/// Returns `sum`, or `MAX_LEN` if `sum` exceeds it.
 #[inline(always)]
 fn limited(sum: usize) -> u32
     ensures same { sum ≤ 4294967291 → result ≡ sum }

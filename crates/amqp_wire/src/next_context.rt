@@ -65,7 +65,7 @@ pub fn context_after(position: Position, code: u8) -> Result<Context, SizeError>
 
 /// Returns the position of the value after a descriptor.
 ///
-/// No marker accepts a described value, and a described value is not a descriptor.
+/// No marker accepts a described value, and a descriptor cannot itself be described.
 ///
 /// # Errors
 /// Returns `InvalidValue` at the position of a descriptor.

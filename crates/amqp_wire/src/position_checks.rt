@@ -36,8 +36,8 @@ impl Writer {
         self.context = Context::Plain(self.context.without_prefix());
     }
 
-    /// Checks that this position accepts a tree with this constructor. The writer must have been
-    /// reset.
+    /// Checks that this position accepts a tree with this constructor. `clear_prefix` must have
+    /// been called.
     ///
     /// # Errors
     /// Returns `InvalidValue` if the position rejects the tree.

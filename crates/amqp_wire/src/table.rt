@@ -7,7 +7,7 @@ use amqp_pass::ResolvedKind;
 use amqp_pass::width::{list_width, uint_width};
 use std::alloc::Global;
 
-/// A table of headers.
+/// A table of headers. A slot is an entry whose header is stored when its compound ends.
 ///
 /// # Memory
 /// None before the first header.
@@ -18,7 +18,7 @@ pub struct Table {
     refused: bool,
 }
 
-/// Returns `n` as a `u32` if it fits.
+/// Returns `n`, or `u32::MAX` if `n` exceeds it.
 #[inline(always)]
 fn narrow(n: usize) -> u32
     ensures { n ≤ 4294967295 → result ≡ n }

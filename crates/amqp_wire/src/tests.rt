@@ -1,5 +1,5 @@
-//! Tests of the serializers of this crate: what an ignored error leaves behind, in both passes.
-//! `test_bytes` tests the bytes of values.
+//! Tests that an ignored error leaves no header and no byte, in both passes. `test_bytes` tests the
+//! bytes of values.
 
 mod feeding;
 mod goes_on;

@@ -1,9 +1,9 @@
 //! The second pass: writes the bytes into a buffer whose capacity is allocated in advance.
 //!
 //! Each call accepts and rejects the same values as in the first pass, whatever the table and the
-//! capacity are, but does not check the limits of compounds. The table and the capacity are those
-//! of a tree only if no call returns an error. If they do not suffice, what is written is
-//! discarded.
+//! capacity are, but does not check the limits of compounds. If no call returns an error, and the
+//! table and the capacity are those of the tree, the bytes of the tree are written. If the table or
+//! the capacity does not suffice, the output is discarded.
 
 ghost use Rattle.std.specs.Prelude.{◌≡◌, ◌++◌, ◌∷◌, [], List, Option, None, Result, Ok, Err, IfErr, IsErr, nat_le, length};
 ghost use Rattle.amqp_ser.specs.Tree.{Tree};
@@ -24,8 +24,8 @@ use std::marker::Model;
 /// None.
 #[derive(Drop)]
 pub struct Writer {
-    /// Position of the next value. The constructor of an array's first element is stored here
-    /// (`context_after`), and `end_part` reads it; no result contains it.
+    /// Position of the next value. `context_after` returns the constructor of an array's first
+    /// element for this field, and `end_part` reads it.
     pub(crate) context: Context,
     pub(crate) output: Output,
 }
@@ -81,7 +81,7 @@ impl Writer {
         self.output.is_whole()
     }
 
-    /// Invalidates the output if `put` is an error: what is written is then discarded.
+    /// Invalidates the output if `put` is an error. It is then discarded.
     #[inline(always)]
     pub(crate) fn spoil_unless_put(&mut self, put: Result<(), SizeError>)
         ensures kept { Kept self.old.output self.new.output }

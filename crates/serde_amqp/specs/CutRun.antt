@@ -10,7 +10,7 @@ use Rattle.amqp_frame.specs.Frame.{IsFrame, IsIncomplete, HasMalformed}
 use Rattle.serde_amqp.specs.Writer.{TakesPrefix}
 use Rattle.serde_amqp.specs.CutLines.{cut_lines}
 
--- The lines of all values of the cut were written, and P holds of its rest.
+-- The lines of all values of the cut were written, and P holds for its rest.
 abbrev pub Prints : List ℕ → Option (List ℕ) → Option (List ℕ) → (List ℕ → Type 0) → Type 0
 Prints s old new P = (frames : List (List ℕ)) × (rest : List ℕ) × IsCut s frames rest × Appends old new (cut_lines frames) × P rest
 

@@ -1,4 +1,4 @@
-//! Laws about the definitions. Calling a function makes its law available to the caller.
+//! Laws of the definitions. A caller's proof uses a law by calling its function.
 
 ghost use Rattle.std.specs.Prelude.{◌≡◌, ◌≤◌, ℕ, List, Some, true};
 ghost use Rattle.amqp_data.specs.declared.error.Error.{Error};
@@ -17,22 +17,16 @@ ghost use Rattle.serde_amqp.specs.Lines.{lines_of, AreLines};
 use amqp_value::Value;
 
 /// Every text is its lines, each followed by 0A; the last 0A may be absent.
-///
-/// # Memory
-///
-/// Allocates nothing.
 pub fn text_is_its_lines()
     ensures { (s : List ℕ) → AreLines s (lines_of s) }
 {}
 
-/// A lazy value that holds the encoding of a tree has the image of that tree.
+/// A value that represents a lazy value, whose bytes are the encoding of a tree, has the image of
+/// that tree as its tree.
 ///
-/// The tree must be ranged, writable, at most 256 levels deep, and without lazy and transparent
-/// trees inside. The only error for such a lazy value is `OutOfMemory`.
-///
-/// # Memory
-///
-/// Allocates nothing.
+/// The tree must be writable, at most 256 levels deep, and without lazy and transparent parts, and
+/// its contents must be in the ranges of their types. The only error for such a lazy value is
+/// `OutOfMemory`.
 pub fn lazy_values_have_the_image_of_what_they_hold()
     ensures image { (t : Tree) (v : Value) → IsRanged t → writable t ≡ true → IsOrdinary t →
         depth_of t ≤ 256 → StandsFor v (Some (lazy (encoding t))) → tree_of v ≡ image t }
@@ -40,11 +34,8 @@ pub fn lazy_values_have_the_image_of_what_they_hold()
         depth_of t ≤ 256 → refuses e (Some (lazy (encoding t))) → e ≡ OutOfMemory }
 {}
 
-/// Plain, ranged and writable trees have the same encoding if and only if they have the same image.
-///
-/// # Memory
-///
-/// Allocates nothing.
+/// Plain and writable trees, whose contents are in the ranges of their types, have the same
+/// encoding if and only if they have the same image.
 pub fn same_bytes_exactly_where_one_image()
     ensures bytes { (t u : Tree) → IsPlain t → IsPlain u → image t ≡ image u →
         encoding t ≡ encoding u }

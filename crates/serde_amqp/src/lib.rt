@@ -8,8 +8,8 @@
 //!
 //! This crate is the top of the workspace. Its modules re-export items of the crates below under
 //! the names of the Rust crate `serde_amqp`. It adds [`Write`], the counterpart of [`read::Read`],
-//! and [`run_cut`] and [`run_lines`], the two runs of the program over any reader and writer. The
-//! output of a run is a function of the bytes read.
+//! and [`run_cut`] and [`run_lines`], the two functions that the program `amqpv` runs, for any
+//! reader and writer. Their output is a function of the bytes read.
 #![tactic(auto)]
 
 mod cut;

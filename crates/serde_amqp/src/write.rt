@@ -11,22 +11,23 @@ use amqp_data::Error;
 ///
 /// # Implementer notes
 ///
-/// `put` and `flush` are required. `written` is the bytes taken so far, if the writer knows them;
-/// `failures` is a `u64` that no call decreases. A call returns [`Error::Io`] only if it increased
-/// that count or if the count was already `u64::MAX`, and always in the latter case. So a writer
-/// whose count never rises and is below `u64::MAX` never returns [`Error::Io`].
+/// `put` and `flush` are required. `written` is the bytes written so far, if the writer knows them;
+/// `failures` is a `u64` that no call decreases. A call returns [`Error::Io`] only if it increases
+/// `failures` or `failures` is at its maximum. At the maximum, every call returns [`Error::Io`]. A
+/// writer whose `failures` is always 0 therefore never returns [`Error::Io`].
 pub trait Write {
-    /// The bytes taken so far, if the writer knows them.
+    /// The bytes written so far, if the writer knows them.
     ghost written: { Self → Option (List ℕ) };
 
     /// Number of failures so far.
     ghost failures: { Self → ℕ };
 
-    /// Further law on the failure count, if the clauses do not say all of it: relates whether the
-    /// call returned [`Error::Io`], the count before it and the count after it.
+    /// The effect of a call on `failures`, if the implementation states more than the clauses of
+    /// the trait: a relation between whether the call returns [`Error::Io`], the count before and
+    /// the count after.
     ghost counts: { Bool → ℕ → ℕ → Type 0 } = { λ _ _ _. Unit {0} };
 
-    /// No byte taken is still buffered, if the writer knows.
+    /// That no written byte is still buffered. The default states nothing.
     ghost flushed: { Self → Type 0 } = { λ _. Unit {0} };
 
     /// Writes all of `bytes`.
@@ -34,7 +35,7 @@ pub trait Write {
     /// # Errors
     ///
     /// Returns [`Error::OutOfMemory`] if the writer stores the bytes and an allocation fails, and
-    /// [`Error::Io`] if a write fails; a prefix of the bytes was taken.
+    /// [`Error::Io`] if a write fails; a prefix of the bytes was written.
     ///
     /// # Memory
     ///
@@ -49,11 +50,11 @@ pub trait Write {
         ensures counts { counts (answers_io result) (failures self.old) (failures self.new) }
         ensures count { failures self.old ≤ failures self.new };
 
-    /// Flushes the bytes taken so far.
+    /// Flushes the bytes written so far.
     ///
     /// # Errors
     ///
-    /// Returns [`Error::Io`] if that fails.
+    /// Returns [`Error::Io`] if the flush fails.
     ///
     /// # Memory
     ///

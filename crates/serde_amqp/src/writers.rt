@@ -17,7 +17,7 @@ pub struct VecWriter {
 }
 
 impl VecWriter {
-    /// Creates a writer that has taken no bytes.
+    /// Creates a writer to which no bytes have been written.
     ///
     /// # Memory
     ///
@@ -31,7 +31,7 @@ impl VecWriter {
         }
     }
 
-    /// Returns the bytes taken so far.
+    /// Returns the bytes written so far.
     ///
     /// # Memory
     ///
@@ -42,7 +42,7 @@ impl VecWriter {
         self.bytes.as_slice()
     }
 
-    /// Consumes the writer and returns the bytes taken.
+    /// Consumes the writer and returns the bytes written.
     ///
     /// # Memory
     ///
@@ -73,7 +73,7 @@ impl Write for VecWriter {
 /// Writer that passes the bytes to a `std::io::Write`.
 ///
 /// A call that fails adds one to the failure count, up to `u64::MAX`; a call that succeeds leaves
-/// it unchanged. A write that takes no bytes is a failure. No failed write is retried.
+/// it unchanged. A write that accepts no bytes counts as a failure. No failed write is retried.
 #[derive(Drop)]
 pub struct IoWriter<W> {
     inner: W,
@@ -122,7 +122,7 @@ impl<W: io::Write> Write for IoWriter<W> {
     }
 }
 
-// Writes until `inner` has taken all bytes.
+// Writes until `inner` has accepted all bytes.
 fn put_all<W: io::Write>(inner: &mut W, bytes: &[u8], failures: &mut u64) -> Result<(), Error>
     requires { failures.old < last_count }
     ensures ok { OnOk result (Appends (W.contents inner.old) (W.contents inner.new) bytes.now) }

@@ -111,8 +111,8 @@ pub trait MapAccess: Sized + Drop {
     /// seed's error, which is out of memory or means that the value cannot be read.
     ///
     /// # Example
-    /// After that key, with `TypeSeed(PhantomData::<u8>)`, returns 2. Before it, the call is
-    /// invalid.
+    /// For the pair of the uint 1 and the ubyte 2, after the key 1 has been read, returns 2 with
+    /// `TypeSeed(PhantomData::<u8>)`. Before that, the call is invalid.
     final fn next_value_seed<V: DeserializeSeed>(
         &mut self,
         alloc: Global,
@@ -195,7 +195,8 @@ pub trait MapAccess: Sized + Drop {
     /// type.
     ///
     /// # Example
-    /// After that key, as a `u8`, returns 2. Before it, the call is invalid.
+    /// For the pair of the uint 1 and the ubyte 2, after the key 1 has been read, returns 2 as a
+    /// `u8`. Before that, the call is invalid.
     final fn next_value<V: Deserialize>(&mut self, alloc: Global) -> Result<V, Self::Error>
         ensures read { ReadsValue Self.Error.is_out_of_memory V.reads
             (pending_value self.old) (left self.old) (pending_value self.new) (left self.new) result }

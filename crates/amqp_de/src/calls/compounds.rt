@@ -1,4 +1,4 @@
-//! The calls that deserialize sequences, maps, structs, enums, described values and newtypes.
+//! The methods that deserialize sequences, maps, structs, enums, described values and newtypes.
 
 ghost use Rattle.std.specs.Prelude.{List};
 ghost use Rattle.amqp_ser.specs.Marked.{is_descriptor_name, is_value_name, marker_of};
@@ -314,8 +314,8 @@ pub trait DeserializeCompounds: Deserializer {
     ///
     /// # Errors
     /// Returns `DeserializeError::invalid_value` or `DeserializeError::too_long` if `to_vec` cannot
-    /// encode the value, and is out of memory (`DeserializeError::out_of_memory`) if an allocation
-    /// fails; otherwise the visitor's error.
+    /// encode the value, and `DeserializeError::out_of_memory` if it runs out of memory; otherwise
+    /// the visitor's error.
     ///
     /// # Memory
     /// The bytes are allocated from `alloc`.
@@ -339,8 +339,8 @@ pub trait DeserializeCompounds: Deserializer {
     ///
     /// # Errors
     /// Returns `DeserializeError::invalid_value` if the value is not of the kind that `marker`
-    /// makes, and the errors of `deserialize_written`, out of memory included, for `Marker::Lazy`;
-    /// otherwise the visitor's error.
+    /// makes, and, for `Marker::Lazy`, the errors of `deserialize_written`, including out of
+    /// memory; otherwise the visitor's error.
     ///
     /// # Example
     /// For the symbol `a` and `Marker::Symbol`, calls `visit_string` with `a`. For a timestamp of

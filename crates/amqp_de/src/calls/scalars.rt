@@ -1,4 +1,4 @@
-//! The calls that deserialize scalars of Rust's types.
+//! The methods that deserialize scalars of Rust's types.
 
 ghost use Rattle.std.specs.Prelude.{◌≡◌, false};
 ghost use Rattle.amqp_ser.specs.Tree.{bool, ubyte, ushort, uint, ulong, byte, short, int, long, float, double, char, string, binary};

@@ -24,7 +24,7 @@ pub enum Either<A, R> {
 #[derive(Drop)]
 pub enum Never {}
 
-/// The variants to read, in order. Written with the macro [`variants!`].
+/// The variants to read, in order. The macro [`variants!`] builds them.
 ///
 /// # Implementer notes
 /// Required method: `deserialize`. It must return a variant that `reads` relates to the index and

@@ -1,4 +1,4 @@
-//! The calls that serialize sequences, tuples, structs, maps, variants and described values.
+//! The methods that serialize sequences, tuples, structs, maps, variants and described values.
 
 ghost use Rattle.std.specs.Prelude.{◌≡◌, [], List, Option, None, Result, Ok, Err, IfOk, IfErr, IsOk, IsErr, not, true, false};
 ghost use Rattle.amqp_ser.specs.Composites.{as_described, descriptor_of};
@@ -67,8 +67,7 @@ pub trait SerializeCompounds: Serializer {
         v.serialize(self)
     }
 
-    /// Begins to serialize a sequence as a list. The length is a hint: it is not checked, and no
-    /// memory is reserved for it.
+    /// Begins to serialize a sequence as a list. The length is ignored.
     ///
     /// # Encoding
     /// A list (AMQP 1.0 part 1, section 1.6.22).
@@ -256,8 +255,7 @@ pub trait SerializeCompounds: Serializer {
     }
 
     /// Serializes a newtype variant. In an enum named `VALUE` it is the value itself, and in an
-    /// enum named `DESCRIPTOR` it is a misuse. Other names of enums and the names of variants are
-    /// not written.
+    /// enum named `DESCRIPTOR` it is a misuse. The names of enums and variants are not written.
     ///
     /// # Encoding
     /// The map of one pair, from the index as a uint to the value (AMQP 1.0 part 1, section

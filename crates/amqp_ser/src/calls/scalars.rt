@@ -1,4 +1,4 @@
-//! The calls that serialize scalars of Rust's types.
+//! The methods that serialize scalars of Rust's types.
 
 ghost use Rattle.std.specs.Prelude.{◌≡◌, Some, Result, Ok, false};
 ghost use Rattle.amqp_ser.specs.Tree.{scalar, null, bool, ubyte, ushort, uint, ulong, byte, short, int, long, float, double, char};

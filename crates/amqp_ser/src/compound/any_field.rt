@@ -13,8 +13,8 @@ use crate::serializer::Serializer;
 use crate::struct_encoding::StructEncoding;
 use std::mem;
 
-/// Returns whether a descriptor is repeated or late, or a field is the second one of a single
-/// value.
+/// Returns whether a descriptor is repeated or follows a field, or a field is the second one of a
+/// single value.
 #[inline(always)]
 fn is_misplaced(form: StructEncoding, described: bool, opened: bool, descriptor: bool) -> bool
     ensures { result ≡ is_misplaced form described opened descriptor }
@@ -27,12 +27,13 @@ fn is_misplaced(form: StructEncoding, described: bool, opened: bool, descriptor:
 }
 
 /// Serializes a field or the descriptor. The open compound is passed and returned by value, so that
-/// the caller does not keep it in memory.
+/// the caller can keep it in registers.
 ///
 /// # Errors
 /// Returns the serializer's error for the field or the descriptor. Always returns an error if the
-/// descriptor is neither a ulong nor a symbol. Returns a misuse error for a second or late
-/// descriptor, or for a second field of a single value. The compound is then unchanged.
+/// descriptor is neither a ulong nor a symbol. Returns a misuse error for a descriptor that is
+/// repeated or follows a field, and for a second value of a struct named `DESCRIBED_BASIC`. The
+/// compound is then unchanged.
 ///
 /// # Example
 /// `true` with the key `x` appends `41` to a list and `a1017841` to a map. As the first field, the

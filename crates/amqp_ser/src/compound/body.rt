@@ -115,8 +115,8 @@ fn end_empty<S: Serializer>(
 /// Ends a body, or the single compound if no field was serialized and no body is open.
 ///
 /// # Errors
-/// Returns the serializer's error for the tree of the fields. Returns a misuse error if the form is
-/// a single value and no field was serialized.
+/// Returns the serializer's error for the tree of the fields. Returns a misuse error for a single
+/// value without a field.
 ///
 /// # Example
 /// Without fields: the list `45`, or the map `c10100`. With the ubyte 1: the list `c003015001`.

@@ -92,9 +92,9 @@ impl<'a, S: Serializer> SerializeStruct<'a, S> {
     ///
     /// # Errors
     /// Returns the serializer's error for the field or the descriptor. Always returns an error if
-    /// the descriptor is neither a ulong nor a symbol. Returns a misuse error for a second or late
-    /// descriptor, or for a second field of a single value. The struct is then unchanged and keeps
-    /// accepting fields.
+    /// the descriptor is neither a ulong nor a symbol. Returns a misuse error for a descriptor that
+    /// is repeated or follows a field, and for a second value of a struct named `DESCRIBED_BASIC`.
+    /// The struct is then unchanged and keeps accepting fields.
     ///
     /// # Example
     /// The ubyte 1 with the key `x` appends `5001`, and under the name `DESCRIBED_MAP`
@@ -161,8 +161,8 @@ impl<'a, S: Serializer> SerializeStruct<'a, S> {
     /// Ends the struct and returns the serializer's result for the tree of its fields.
     ///
     /// # Errors
-    /// Returns the serializer's error for that tree, or a misuse error if the form is a single
-    /// value and no field was serialized.
+    /// Returns the serializer's error for that tree, or a misuse error if a struct named
+    /// `DESCRIBED_BASIC` has no value.
     ///
     /// # Example
     /// The descriptor 1 and the field `true`: `005301c0020141`; under the name `DESCRIBED_BASIC`

@@ -91,8 +91,8 @@ impl<'a, S: Serializer> SerializeTupleStruct<'a, S> {
     ///
     /// # Errors
     /// Returns the serializer's error for the field or the descriptor. Always returns an error if
-    /// the descriptor is neither a ulong nor a symbol. Returns a misuse error for a second field of
-    /// a single value. The struct is then unchanged and keeps accepting fields.
+    /// the descriptor is neither a ulong nor a symbol. Returns a misuse error for a second value of
+    /// a struct named `DESCRIBED_BASIC`. The struct is then unchanged and keeps accepting fields.
     ///
     /// # Example
     /// The ubyte 1 appends `5001`. Under the name `DESCRIBED_LIST` a first ulong 1 puts `005301`
@@ -135,8 +135,8 @@ impl<'a, S: Serializer> SerializeTupleStruct<'a, S> {
     /// Ends the struct and returns the serializer's result for the tree of its fields.
     ///
     /// # Errors
-    /// Returns the serializer's error for that tree, or a misuse error if the form is a single
-    /// value and no field was serialized.
+    /// Returns the serializer's error for that tree, or a misuse error if a struct named
+    /// `DESCRIBED_BASIC` has no value.
     ///
     /// # Example
     /// The ubyte 1 and `true`: `c00402500141`. Under the name `DESCRIBED_LIST`, the ulong 1 and

@@ -114,7 +114,7 @@ impl Value {
     /// Allocates from `alloc` as the map grows.
     ///
     /// # Example
-    /// `1u8` to `true` gives a `Map` that is encoded as `c10402500141`.
+    /// The map from `1u8` to `true` gives a `Map` that is encoded as `c10402500141`.
     pub fn try_from_btree_map<K: Into<Value> + Ord + Drop, V: Into<Value> + Drop>(
         alloc: Global,
         map: BTreeMap<K, V>,
@@ -143,7 +143,7 @@ impl Value {
     /// Allocates from `alloc` as the map grows.
     ///
     /// # Example
-    /// The ubyte keys 2 to `true` and 1 to `false` give a `Map` that is encoded as
+    /// The map from `2u8` to `true` and from `1u8` to `false` gives a `Map` that is encoded as
     /// `c10704500241500142`.
     pub fn try_from_ordered_map<K: Into<Value> + Drop, V: Into<Value> + Drop>(
         alloc: Global,

@@ -11,9 +11,6 @@ use amqp_data::{ByteBuf, Dec32, Dec64, Dec128, F32Bits, F64Bits, Symbol, Timesta
 use amqp_ser::Serialize;
 
 /// A scalar round-trips through `From` and `TryFrom`, and the `Value` has the scalar's tree.
-///
-/// # Memory
-/// None.
 pub fn scalars_come_back()
     ensures bools { ComesBack ⟦<bool as Serialize>⟧.tree ⟦<Value as From<bool>>⟧.from_gives
         ⟦<bool as TryFrom<Value>>⟧.try_from_gives }
@@ -59,9 +56,6 @@ pub fn scalars_come_back()
 
 /// The elements of a non-empty writable array, and their images, all have one format code, which is
 /// the constructor in the array.
-///
-/// # Memory
-/// None.
 pub fn elements_have_one_format_code()
     ensures { (first : Tree) (rest : Trees) → writable (array (more first rest)) ≡ true →
         HasOneCode (more first rest) }

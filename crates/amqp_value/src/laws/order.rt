@@ -16,9 +16,6 @@ use amqp_data::{Described, F32Bits, F64Bits, OrderedMap};
 use std::hash::Hash;
 
 /// Two values compare as their trees do: by kind first, and then by content.
-///
-/// # Memory
-/// None.
 pub fn order_is_of_contents()
     ensures contents { (a b : Value) → ⟦<Value as Ord>⟧.cmp a b ≡ cmp_tree (tree_of a) (tree_of b) }
     ensures kinds { (a b : Value) → rank (tree_of a) < rank (tree_of b) →
@@ -26,17 +23,11 @@ pub fn order_is_of_contents()
 {}
 
 /// Two values are equal if and only if `cmp` returns `Equal`.
-///
-/// # Memory
-/// None.
 pub fn order_agrees_with_equality()
     ensures { (a b : Value) → ⟦<Value as PartialEq>⟧.eq a b ≡ is_eq (⟦<Value as Ord>⟧.cmp a b) }
 {}
 
 /// Equal values have the same hash input.
-///
-/// # Memory
-/// None.
 pub fn equal_values_hash_alike()
     ensures { (a b : Value) → ⟦<Value as PartialEq>⟧.eq a b ≡ true
         → ⟦<Value as Hash>⟧.hash_input a ≡ ⟦<Value as Hash>⟧.hash_input b }
@@ -44,9 +35,6 @@ pub fn equal_values_hash_alike()
 
 /// Maps are compared entry by entry, in order. If two maps have the same two entries in opposite
 /// orders, and the keys differ, the maps are not equal.
-///
-/// # Memory
-/// None.
 pub fn maps_go_by_pairs_in_order()
     ensures pairs { (m n : OrderedMap Value Value)
         → ⟦<Value as PartialEq>⟧.eq (kind.Map m) (kind.Map n)
@@ -59,9 +47,6 @@ pub fn maps_go_by_pairs_in_order()
 {}
 
 /// Floating-point numbers compare as the unsigned integers of their bits.
-///
-/// # Memory
-/// None.
 pub fn bits_compare_as_unsigned_numbers()
     ensures floats { (a b : F32Bits) →
         ⟦<Value as Ord>⟧.cmp (kind.Float a) (kind.Float b) ≡ nat_cmp (f32_bits a) (f32_bits b) }
@@ -70,9 +55,6 @@ pub fn bits_compare_as_unsigned_numbers()
 {}
 
 /// Any described value is less than null.
-///
-/// # Memory
-/// None.
 pub fn described_values_come_before_null()
     ensures { (d : Box (Described Value) Global) →
         ⟦<Value as Ord>⟧.cmp (kind.Described d) kind.Null ≡ Less }

@@ -1,5 +1,5 @@
-//! Conversions of a `Map` to four types of maps. Entries are inserted in order, so that of several
-//! keys that are converted to equal keys the last value remains.
+//! Conversions of a `Map` to four types of maps. Entries are inserted in order. If several keys are
+//! converted to equal keys, the last value remains.
 
 ghost use Rattle.std.specs.Prelude.{◌≡◌, []};
 ghost use Rattle.std.specs.HashMap.{IsFromIterResult};
@@ -57,8 +57,8 @@ where
 /// Allocates from the map's own allocator as the new map grows.
 ///
 /// # Example
-/// The map of the ubytes 2 to `true` and 1 to `false` gives 1 to `false` and then 2 to `true`, as a
-/// `BTreeMap<u8, bool>`.
+/// The map from the ubytes 2 to `true` and 1 to `false` gives 1 to `false` and then 2 to `true`, as
+/// a `BTreeMap<u8, bool>`.
 impl<K, V> TryFrom<Value> for BTreeMap<K, V>
 where
     K: TryFrom<Value, Error = Value> + Ord + Drop,
@@ -88,7 +88,7 @@ where
 /// Allocates from the map's own allocator as the new map grows. The hash has a fixed seed.
 ///
 /// # Example
-/// The map of the ubytes 2 to `true` and 1 to `false` gives 2 to `true` and then 1 to `false`, as
+/// The map from the ubytes 2 to `true` and 1 to `false` gives 2 to `true` and then 1 to `false`, as
 /// an `IndexMap<u8, bool>`.
 impl<K, V> TryFrom<Value> for IndexMap<K, V>
 where

@@ -13,12 +13,13 @@ use amqp_ser::{Marker, Serialize, SerializeCompounds, Serializer};
 use amqp_size::SizeSerializer;
 use std::alloc::Global;
 
-/// Calls that are made on each serializer in turn.
+/// Calls that are made on each of the three serializers.
 pub(super) trait Feed {
     fn feed<S: Serializer>(&self, serializer: &mut S) -> Result<S::Ok, S::Error>;
 }
 
-/// Returns the number of headers, and the bytes, if all three passes have the same length.
+/// Returns the number of headers, and the bytes, if the size serializer and both passes agree on
+/// the length.
 fn fed<F: Feed>(alloc: Global, calls: &F) -> Result<(usize, Vec<u8>), Error> {
     let size = calls.feed(&mut SizeSerializer::new());
     let mut measurer = Measurer::new(alloc);

@@ -1,5 +1,5 @@
-//! Errors that are ignored, in calls written by hand: parts that only the second pass would accept,
-//! or would reject at another call.
+//! Calls written by hand that ignore errors, for parts that the second pass could accept by
+//! mistake, or reject at another call.
 
 use super::feeding::{Feed, built, is};
 use amqp_data::{Array, TransparentVec, markers};
