@@ -14,7 +14,7 @@ use Rattle.amqp_ser.specs.Tree as tree
 use Rattle.amqp_ser.specs.Tree.{Tree}
 use Rattle.amqp_value.specs.TreeOf.{pairs_of}
 use Rattle.amqp_de.specs.Answers.{Refuses}
-use Rattle.amqp_de.specs.Maps.{OnMap, ReadsPair, ReadsPairs, SamePair, EachBefore, IsSoToAll, AreDistinct, Ascend}
+use Rattle.amqp_de.specs.Maps.{OnMap, ReadsPair, ReadsPairs, SamePair, EachBefore, ForAllSame, AreDistinct, Ascend}
 use Rattle.amqp_de.proofs.Lists.{entries_in_pairs}
 
 all_more : {X : Type 0} (P : X → Type 0) (xs : List X) (x : X) → AllByRecursion P xs → P x → AllByRecursion P (xs ++ x ∷ [])
@@ -61,14 +61,14 @@ module _ {K V : Type 0} where
   -- one, it relates each key of `ys` to every later one, where the pairs of `ys` and `xs` have the
   -- same contents.
   module _ (S : K → K → Type 0) (U : V → V → Type 0) (R : K → K → Type 0) where
-    so_to_all : (k l : K) (v w : V) (ys xs : List (K × V)) → S k l → AllZip (SamePair S U) ys xs → AllByRecursion (IsSoToAll S R l) (keys_of xs)
+    so_to_all : (k l : K) (v w : V) (ys xs : List (K × V)) → S k l → AllZip (SamePair S U) ys xs → AllByRecursion (ForAllSame S R l) (keys_of xs)
         → AllByRecursion (λ (e : K × V). R k e.0) ys
     so_to_all k l v w [] [] s z all = tt
     so_to_all k l v w [] (x ∷ xs) s z all = absurd z
     so_to_all k l v w (y ∷ ys) [] s z all = absurd z
     so_to_all k l v w (y ∷ ys) (x ∷ xs) s z all = (all.0 k y.0 s z.0.0, so_to_all k l v w ys xs s z.1 all.1)
 
-    pub each_before : (ys xs : List (K × V)) → AllZip (SamePair S U) ys xs → EachBefore (IsSoToAll S R) (keys_of xs) → EachBefore (λ (p q : K × V). R p.0 q.0) ys
+    pub each_before : (ys xs : List (K × V)) → AllZip (SamePair S U) ys xs → EachBefore (ForAllSame S R) (keys_of xs) → EachBefore (λ (p q : K × V). R p.0 q.0) ys
     each_before [] [] z each = tt
     each_before [] (x ∷ xs) z each = absurd z
     each_before (y ∷ ys) [] z each = absurd z

@@ -6,7 +6,7 @@ use Rattle.amqp_ser.specs.Tree.{Tree, scalar, string, list, map, trees_of}
 use Rattle.amqp_value.specs.TreeOf.{pairs_of}
 use Rattle.amqp_de.proofs.Lists.{same_trees, same_pairs}
 use Rattle.amqp_de.specs.Fields.{value_at, without}
-use Rattle.amqp_de.specs.Present.{optional, any_there, all_images, up_to_last, those_there, has_name, distinct_names, EndsEarly}
+use Rattle.amqp_de.specs.Present.{optional, any_present, all_images, up_to_last_present, present_fields, has_name, distinct_names, EndsEarly}
 use Rattle.amqp_de.specs.Reads.{image_option, SameOption}
 
 -- The images of all fields are a list that `EndsEarly` permits.
@@ -14,14 +14,14 @@ all_there : (fs : List (Bool × Tree)) → EndsEarly fs (all_images fs)
 all_there [] = refl
 all_there (f ∷ fs) = (refl, all_there fs)
 
-cut_by : (b : Bool) (f : Bool × Tree) (fs : List (Bool × Tree)) → (f.0 || any_there fs) ≡ b → EndsEarly fs (up_to_last fs) →
-    EndsEarly (f ∷ fs) (if b then f.1 ∷ up_to_last fs else [])
+cut_by : (b : Bool) (f : Bool × Tree) (fs : List (Bool × Tree)) → (f.0 || any_present fs) ≡ b → EndsEarly fs (up_to_last_present fs) →
+    EndsEarly (f ∷ fs) (if b then f.1 ∷ up_to_last_present fs else [])
 cut_by true f fs e k = (refl, k)
 cut_by false f fs e k = e
 
-some_there : (fs : List (Bool × Tree)) → EndsEarly fs (up_to_last fs)
+some_there : (fs : List (Bool × Tree)) → EndsEarly fs (up_to_last_present fs)
 some_there [] = refl
-some_there (f ∷ fs) = cut_by (f.0 || any_there fs) f fs refl (some_there fs)
+some_there (f ∷ fs) = cut_by (f.0 || any_present fs) f fs refl (some_there fs)
 
 -- `EndsEarly` permits the elements of the list of all fields, and those of the list without the
 -- absent fields at its end.
@@ -29,14 +29,14 @@ pub full : (fs : List (Bool × Tree)) (ts : List Tree) (t : Tree) → list (tree
 full fs ts t e f = let same : trees_of ts ≡ trees_of (all_images fs) = cc in
     subst (λ (us : List Tree). EndsEarly fs us) (sym (same_trees ts (all_images fs) same)) (all_there fs)
 
-pub cut : (fs : List (Bool × Tree)) (ts : List Tree) (t : Tree) → list (trees_of ts) ≡ t → t ≡ list (trees_of (up_to_last fs)) → EndsEarly fs ts
-cut fs ts t e f = let same : trees_of ts ≡ trees_of (up_to_last fs) = cc in
-    subst (λ (us : List Tree). EndsEarly fs us) (sym (same_trees ts (up_to_last fs) same)) (some_there fs)
+pub cut : (fs : List (Bool × Tree)) (ts : List Tree) (t : Tree) → list (trees_of ts) ≡ t → t ≡ list (trees_of (up_to_last_present fs)) → EndsEarly fs ts
+cut fs ts t e f = let same : trees_of ts ≡ trees_of (up_to_last_present fs) = cc in
+    subst (λ (us : List Tree). EndsEarly fs us) (sym (same_trees ts (up_to_last_present fs) same)) (some_there fs)
 
--- The entries of the map of the present fields are those of `those_there`.
+-- The entries of the map of the present fields are those of `present_fields`.
 pub entries : (ns : List (List ℕ)) (fs : List (Bool × Tree)) (es : List (Tree × Tree)) (t : Tree) → map (pairs_of es) ≡ t →
-    t ≡ map (pairs_of (those_there ns fs)) → es ≡ those_there ns fs
-entries ns fs es t e f = let same : pairs_of es ≡ pairs_of (those_there ns fs) = cc in same_pairs es (those_there ns fs) same
+    t ≡ map (pairs_of (present_fields ns fs)) → es ≡ present_fields ns fs
+entries ns fs es t e f = let same : pairs_of es ≡ pairs_of (present_fields ns fs) = cc in same_pairs es (present_fields ns fs) same
 
 -- A name equals itself. The value at the name of the first entry is that of the entry, and the
 -- entries without this name are the rest.
@@ -67,11 +67,11 @@ module _ (n : List ℕ) where
   no_value_by m true t es d e = ap (λ (b : Bool). if b then Some t else value_at n es) d ∙ e
   no_value_by m false t es d e = e
 
-  no_value : (ns : List (List ℕ)) (fs : List (Bool × Tree)) → has_name n ns ≡ false → value_at n (those_there ns fs) ≡ None
+  no_value : (ns : List (List ℕ)) (fs : List (Bool × Tree)) → has_name n ns ≡ false → value_at n (present_fields ns fs) ≡ None
   no_value [] fs e = refl
   no_value (m ∷ ns) [] e = refl
   no_value (m ∷ ns) (f ∷ fs) e = let both = or_false (bytes_eq m n) (has_name n ns) e in
-      no_value_by m f.0 f.1 (those_there ns fs) both.0 (no_value ns fs both.1)
+      no_value_by m f.0 f.1 (present_fields ns fs) both.0 (no_value ns fs both.1)
 
   all_left_by : (m : List ℕ) (b : Bool) (t : Tree) (es : List (Tree × Tree)) → bytes_eq m n ≡ false → without n es ≡ es →
       without n (if b then (scalar (string m), t) ∷ es else es) ≡ (if b then (scalar (string m), t) ∷ es else es)
@@ -79,23 +79,23 @@ module _ (n : List ℕ) where
       ap (λ (b : Bool). if b then es else (scalar (string m), t) ∷ without n es) d ∙ ap (λ (r : List (Tree × Tree)). (scalar (string m), t) ∷ r) e
   all_left_by m false t es d e = e
 
-  all_left : (ns : List (List ℕ)) (fs : List (Bool × Tree)) → has_name n ns ≡ false → without n (those_there ns fs) ≡ those_there ns fs
+  all_left : (ns : List (List ℕ)) (fs : List (Bool × Tree)) → has_name n ns ≡ false → without n (present_fields ns fs) ≡ present_fields ns fs
   all_left [] fs e = refl
   all_left (m ∷ ns) [] e = refl
   all_left (m ∷ ns) (f ∷ fs) e = let both = or_false (bytes_eq m n) (has_name n ns) e in
-      all_left_by m f.0 f.1 (those_there ns fs) both.0 (all_left ns fs both.1)
+      all_left_by m f.0 f.1 (present_fields ns fs) both.0 (all_left ns fs both.1)
 
   module _ {T : Type 0} (image : T → Tree) where
     value_by : (o : Option T) (ns : List (List ℕ)) (fs : List (Bool × Tree)) (es : List (Tree × Tree)) (t : Tree) → has_name n ns ≡ false →
-        es ≡ those_there (n ∷ ns) (optional image o ∷ fs) → value_at n es ≡ Some t → t ≡ image_option image o
+        es ≡ present_fields (n ∷ ns) (optional image o ∷ fs) → value_at n es ≡ Some t → t ≡ image_option image o
     value_by None ns fs es t d e v =
         let same : None ≡ Some t = sym (no_value ns fs d) ∙ ap (value_at n) (sym e) ∙ v in absurd cc
     value_by (Some x) ns fs es t d e v =
-        let same : Some t ≡ Some (image x) = sym v ∙ ap (value_at n) e ∙ first_value n (image x) (those_there ns fs) in cc
+        let same : Some t ≡ Some (image x) = sym v ∙ ap (value_at n) e ∙ first_value n (image x) (present_fields ns fs) in cc
 
   rest_by : (b : Bool) (t : Tree) (ns : List (List ℕ)) (fs : List (Bool × Tree)) → has_name n ns ≡ false →
-      without n (if b then (scalar (string n), t) ∷ those_there ns fs else those_there ns fs) ≡ those_there ns fs
-  rest_by true t ns fs d = first_without n t (those_there ns fs)
+      without n (if b then (scalar (string n), t) ∷ present_fields ns fs else present_fields ns fs) ≡ present_fields ns fs
+  rest_by true t ns fs d = first_without n t (present_fields ns fs)
   rest_by false t ns fs d = all_left ns fs d
 
 none_by : {T : Type 0} (S : T → T → Type 0) (o : Option T) (n : List ℕ) (t : Tree) (rs es : List (Tree × Tree)) →
@@ -105,7 +105,7 @@ none_by S (Some x) n t rs es e v = let same : Some t ≡ None = sym (first_value
 
 -- If the name of an optional field is present, its value is the image of the field.
 pub present_value : {T : Type 0} (n : List ℕ) (image : T → Tree) (o : Option T) (ns : List (List ℕ)) (fs : List (Bool × Tree))
-    (es : List (Tree × Tree)) (t : Tree) → distinct_names (n ∷ ns) ≡ true → es ≡ those_there (n ∷ ns) (optional image o ∷ fs) →
+    (es : List (Tree × Tree)) (t : Tree) → distinct_names (n ∷ ns) ≡ true → es ≡ present_fields (n ∷ ns) (optional image o ∷ fs) →
     value_at n es ≡ Some t → t ≡ image_option image o
 present_value n image o ns fs es t d e v = value_by n image o ns fs es t (not_and (has_name n ns) (distinct_names ns) d).0 e v
 
@@ -116,6 +116,6 @@ absent_same S o n t rs es e v = none_by S o n t rs es e v
 
 -- The entries without the first field are the entries of the fields after it.
 pub rest_there : (n : List ℕ) (b : Bool) (t : Tree) (ns : List (List ℕ)) (fs : List (Bool × Tree)) (es rest : List (Tree × Tree)) →
-    distinct_names (n ∷ ns) ≡ true → es ≡ (if b then (scalar (string n), t) ∷ those_there ns fs else those_there ns fs) →
-    rest ≡ without n es → rest ≡ those_there ns fs
+    distinct_names (n ∷ ns) ≡ true → es ≡ (if b then (scalar (string n), t) ∷ present_fields ns fs else present_fields ns fs) →
+    rest ≡ without n es → rest ≡ present_fields ns fs
 rest_there n b t ns fs es rest d e r = r ∙ ap (without n) e ∙ rest_by n b t ns fs (not_and (has_name n ns) (distinct_names ns) d).0

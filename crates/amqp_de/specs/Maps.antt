@@ -52,16 +52,16 @@ EachBefore R [] = Unit {0}
 EachBefore R (x ∷ xs) = AllByRecursion (R x) xs × EachBefore R xs
 
 -- `R` relates all keys with the contents of `k` to all keys with the contents of `l`.
-abbrev pub IsSoToAll : {K : Type 0} → (K → K → Type 0) → (K → K → Type 0) → K → K → Type 0
-IsSoToAll {K} S R k l = (x y : K) → S x k → S y l → R x y
+abbrev pub ForAllSame : {K : Type 0} → (K → K → Type 0) → (K → K → Type 0) → K → K → Type 0
+ForAllSame {K} S R k l = (x y : K) → S x k → S y l → R x y
 
 -- The keys are distinct, even if they are replaced by keys with the same contents.
 abbrev pub AreDistinct : {K : Type 0} → (K → K → Type 0) → (K → K → Bool) → List K → Type 0
-AreDistinct S eq = EachBefore (IsSoToAll S (λ x y. eq y x ≡ false))
+AreDistinct S eq = EachBefore (ForAllSame S (λ x y. eq y x ≡ false))
 
 -- The keys strictly ascend, even if they are replaced by keys with the same contents.
 abbrev pub Ascend : {K : Type 0} → (K → K → Type 0) → (K → K → Ordering) → List K → Type 0
-Ascend S cmp = EachBefore (IsSoToAll S (λ x y. cmp y x ≡ Greater))
+Ascend S cmp = EachBefore (ForAllSame S (λ x y. cmp y x ≡ Greater))
 
 module _ {K V H : Type 0} where
   -- The map results from inserting the pairs in order, and holds them in an unspecified order. If

@@ -17,32 +17,32 @@ all_images [] = []
 all_images (f ∷ fs) = f.1 ∷ all_images fs
 
 -- Whether at least one field is present.
-abbrev pub any_there : List (Bool × Tree) → Bool
-any_there [] = false
-any_there (f ∷ fs) = f.0 || any_there fs
+abbrev pub any_present : List (Bool × Tree) → Bool
+any_present [] = false
+any_present (f ∷ fs) = f.0 || any_present fs
 
 -- The images of the fields up to the last that is present.
-abbrev pub up_to_last : List (Bool × Tree) → List Tree
-up_to_last [] = []
-up_to_last (f ∷ fs) = if f.0 || any_there fs then f.1 ∷ up_to_last fs else []
+abbrev pub up_to_last_present : List (Bool × Tree) → List Tree
+up_to_last_present [] = []
+up_to_last_present (f ∷ fs) = if f.0 || any_present fs then f.1 ∷ up_to_last_present fs else []
 
 -- The trees are the images of the fields, without some or none of the absent fields at the end.
 abbrev pub EndsEarly : List (Bool × Tree) → List Tree → Type 0
-EndsEarly fs [] = any_there fs ≡ false
+EndsEarly fs [] = any_present fs ≡ false
 EndsEarly [] (t ∷ ts) = ⊥
 EndsEarly (f ∷ fs) (t ∷ ts) = (t ≡ f.1) × EndsEarly fs ts
 
 -- The entries of a map: the name and the image of each field that is present.
-abbrev pub those_there : List (List ℕ) → List (Bool × Tree) → List (Tree × Tree)
-those_there (n ∷ ns) (f ∷ fs) = if f.0 then (scalar (string n), f.1) ∷ those_there ns fs else those_there ns fs
-those_there _ _ = []
+abbrev pub present_fields : List (List ℕ) → List (Bool × Tree) → List (Tree × Tree)
+present_fields (n ∷ ns) (f ∷ fs) = if f.0 then (scalar (string n), f.1) ∷ present_fields ns fs else present_fields ns fs
+present_fields _ _ = []
 
 -- The list without the absent fields at its end, and the map without the absent fields.
 unfoldable pub short_list : List (Bool × Tree) → Tree
-short_list fs = list (trees_of (up_to_last fs))
+short_list fs = list (trees_of (up_to_last_present fs))
 
 unfoldable pub short_map : List (List ℕ) → List (Bool × Tree) → Tree
-short_map ns fs = map (pairs_of (those_there ns fs))
+short_map ns fs = map (pairs_of (present_fields ns fs))
 
 -- Whether `n` is one of the names.
 abbrev pub has_name : List ℕ → List (List ℕ) → Bool

@@ -4,7 +4,7 @@ ghost use Rattle.std.specs.Prelude.{◌≡◌, ℕ, List, [], ◌∷◌, Bool, t
 ghost use Rattle.amqp_ser.specs.Tree.{Tree};
 ghost use Rattle.amqp_de.specs.Answers.{Answers};
 ghost use Rattle.amqp_de.specs.Fields.{FieldSource, by_position, by_name, ReadsRequired, ReadsOptional, NoMoreFields};
-ghost use Rattle.amqp_de.specs.Present.{EndsEarly, required, optional, those_there, distinct_names};
+ghost use Rattle.amqp_de.specs.Present.{EndsEarly, required, optional, present_fields, distinct_names};
 ghost use Rattle.amqp_de.specs.Reads.{Always, RestorableOption, SameOption};
 
 use crate::deserialize::Deserialize;
@@ -76,7 +76,7 @@ pub trait FieldSeeds: Sized + Drop {
             (λ x. reads self.now x (by_name (D.pairs entries.old))) result }
         ensures law { (x : Self.Values) → restorable x →
             distinct_names (names self.now) ≡ true →
-            D.pairs entries.old ≡ those_there (names self.now) (images x) →
+            D.pairs entries.old ≡ present_fields (names self.now) (images x) →
             MatchResult result (λ y. same y x) D.Error.is_out_of_memory };
 }
 

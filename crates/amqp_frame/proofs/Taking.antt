@@ -67,7 +67,7 @@ falls-short-body k None b c head n t len e r = tt
 falls-short-body k (Some s) None c head n t len e r = absurd t
 falls-short-body k (Some s) (Some x) c head n t len e r =
     let size : length s ≡ length head + length x = ap length t ∙ length-append head x in
-    let told : body_len k s ≡ body_len k head = ap (body_len k) t ∙ body_len-prefix k head x (omega arith) in
+    let error_result : body_len k s ≡ body_len k head = ap (body_len k) t ∙ body_len-prefix k head x (omega arith) in
     (omega (arith, r.0), r.1)
 
 pub moves-payload : {T : Type 0} (r : Result T Error) (k : Category) (a b c : Option (List ℕ))
@@ -75,7 +75,7 @@ pub moves-payload : {T : Type 0} (r : Result T Error) (k : Category) (a b c : Op
     → n ≡ body_len k head → OnOk r (Moves b c mid after (λ bytes. length bytes ≡ n))
     → OnOk r (Moves a c before after (λ bytes. length bytes ≡ payload_len k bytes))
 moves-payload (Ok x) k a b c before mid after head n t m len e (body, u, v, size) =
-    let told : body_len k (head ++ body) ≡ body_len k head = body_len-prefix k head body (omega arith) in
+    let error_result : body_len k (head ++ body) ≡ body_len k head = body_len-prefix k head body (omega arith) in
     let whole : after ≡ before ++ (head ++ body) = v ∙ ap (λ l. l ++ body) m ∙ append_assoc before head body in
     (head ++ body, Consumes-trans a b c head body t u, whole, omega (arith, length-append head body))
 moves-payload (Err d) k a b c before mid after head n t m len e h = tt

@@ -1,4 +1,4 @@
--- Definitions that contracts of public items use. Only contracts of tests use `told` in Refused.
+-- Definitions that contracts of public items use. Only contracts of tests use `error_result` in Refused.
 pub mod Refused
 pub mod WholePosition
 pub mod WholeContext

@@ -11,9 +11,9 @@ error_of size_error.TooLong = error.TooLong
 error_of size_error.InvalidValue = error.InvalidValue
 
 -- A result as public functions return it.
-abbrev pub told : Result ℕ SizeError → Result ℕ Error
-told (Ok n) = Ok n
-told (Err e) = Err (error_of e)
+abbrev pub error_result : Result ℕ SizeError → Result ℕ Error
+error_result (Ok n) = Ok n
+error_result (Err e) = Err (error_of e)
 
 -- If there is no tree, the error is `TooLong` or `InvalidValue`.
 abbrev pub refuses_none : SizeError → Type 0

@@ -1,4 +1,4 @@
-pub mod StandLemmas
+pub mod HasImageLemmas
 pub mod ImageLemmas
 pub mod KeyLemmas
 pub mod MapLemmas

@@ -15,7 +15,7 @@ use Rattle.amqp_value.proofs.ImageLemmas.{joined, joined_assoc, joined_none, Lac
 use Rattle.amqp_value.proofs.SameLemmas.{same-equal}
 use Rattle.amqp_de.specs.Maps.{pair_image, IsPair}
 use Rattle.amqp_round_trip.proofs.KeyLemmas.{HaveDistinctImages}
-use Rattle.amqp_round_trip.specs.Stands.{StandsAs}
+use Rattle.amqp_round_trip.specs.HasImage.{HasImage}
 
 -- Trees that differ are not the same.
 unlike : (t u : Tree) (b : Bool) → same_tree t u ≡ b → ¬ (t ≡ u) → same_tree t u ≡ false
@@ -30,7 +30,7 @@ module _ {K V : Type 0} (f : K → Option Tree) (g : K → Tree) (h : V → Opti
   -- Each key and each value has the image of that of the entry.
   abbrev Match : Pairs → List (K × V) → Type 0
   Match no_pairs [] = Unit {0}
-  Match (pair k v ps) (e ∷ es) = StandsAs (Some k) (g e.0) × StandsAs (Some v) (i e.1) × Match ps es
+  Match (pair k v ps) (e ∷ es) = HasImage (Some k) (g e.0) × HasImage (Some v) (i e.1) × Match ps es
   Match no_pairs (e ∷ es) = ⊥
   Match (pair k v ps) [] = ⊥
 
@@ -42,12 +42,12 @@ module _ {K V : Type 0} (f : K → Option Tree) (g : K → Tree) (h : V → Opti
   MatchTrees None es = ⊥
   MatchTrees (Some ts) es = MatchPairs (in_pairs ts) es
 
-  pair_matches : (k v : Tree) (o : Option Pairs) (e : K × V) (es : List (K × V)) → StandsAs (Some k) (g e.0) → StandsAs (Some v) (i e.1) →
+  pair_matches : (k v : Tree) (o : Option Pairs) (e : K × V) (es : List (K × V)) → HasImage (Some k) (g e.0) → HasImage (Some v) (i e.1) →
       MatchPairs o es → MatchPairs (prepend_pair k v o) (e ∷ es)
   pair_matches k v None e es a b m = absurd m
   pair_matches k v (Some ps) e es a b m = (a, b, m)
 
-  parts_match : (p q : Option Tree) (o : Option Trees) (e : K × V) (es : List (K × V)) → StandsAs p (g e.0) → StandsAs q (i e.1) →
+  parts_match : (p q : Option Tree) (o : Option Trees) (e : K × V) (es : List (K × V)) → HasImage p (g e.0) → HasImage q (i e.1) →
       MatchTrees o es → MatchTrees (prepend p (prepend q o)) (e ∷ es)
   parts_match None q o e es a b m = absurd a
   parts_match (Some k) None o e es a b m = absurd b
@@ -87,21 +87,21 @@ module _ {K V : Type 0} (f : K → Option Tree) (g : K → Tree) (h : V → Opti
   none_lazy (pair k v ps) [] m = absurd m
 
   as_map_stands : (o : Option Pairs) (es : List (K × V)) → MatchPairs o es → HaveDistinctImages g (keys_of es) →
-      StandsAs (as_map o) (tree.map (pairs_of (map (pair_image g i) es)))
+      HasImage (as_map o) (tree.map (pairs_of (map (pair_image g i) es)))
   as_map_stands None es m d = absurd m
   as_map_stands (Some ps) es m d = (ap tree.map (inserted ps es no_pairs m (free_at_first es) d), none_lazy ps es m)
 
   as_kind_stands : (o : Option Trees) (es : List (K × V)) → MatchTrees o es → HaveDistinctImages g (keys_of es) →
-      StandsAs (as_kind kind.Map o) (tree.map (pairs_of (map (pair_image g i) es)))
+      HasImage (as_kind kind.Map o) (tree.map (pairs_of (map (pair_image g i) es)))
   as_kind_stands None es m d = absurd m
   as_kind_stands (Some ts) es m d = as_map_stands (in_pairs ts) es m d
 
-  module _ (P : K → Type 0) (Q : V → Type 0) (key : (x : K) → P x → StandsAs (f x) (g x)) (value : (y : V) → Q y → StandsAs (h y) (i y)) where
+  module _ (P : K → Type 0) (Q : V → Type 0) (key : (x : K) → P x → HasImage (f x) (g x)) (value : (y : V) → Q y → HasImage (h y) (i y)) where
     all_match : (es : List (K × V)) → AllByRecursion (IsPair P Q) es → MatchTrees (all_trees (parts_of f h es)) es
     all_match [] r = tt
     all_match (e ∷ es) r = parts_match (f e.0) (h e.1) (all_trees (parts_of f h es)) e es (key e.0 r.0.0) (value e.1 r.0.1) (all_match es r.1)
 
     pub map_stands : (es : List (K × V)) → AllByRecursion (IsPair P Q) es → HaveDistinctImages g (keys_of es) →
-        StandsAs (tree_of_parts kind.Map (parts_of f h es)) (tree.map (pairs_of (map (pair_image g i) es)))
+        HasImage (tree_of_parts kind.Map (parts_of f h es)) (tree.map (pairs_of (map (pair_image g i) es)))
     unfolding tree_of_parts
     map_stands es r d = as_kind_stands (all_trees (parts_of f h es)) es (all_match es r) d

@@ -1,2 +1,2 @@
 -- Contracts of public items depend on these.
-pub mod Stands
+pub mod HasImage

@@ -2,7 +2,7 @@
 
 ghost use Rattle.std.specs.Prelude.{◌≡◌, MatchResult};
 ghost use Rattle.amqp_data.specs.declared.error.Error.TheVariants.{OutOfMemory};
-ghost use Rattle.amqp_round_trip.specs.Stands.{StandsAs};
+ghost use Rattle.amqp_round_trip.specs.HasImage.{HasImage};
 
 use amqp_data::Error;
 use amqp_de::de::Deserialize;
@@ -21,7 +21,7 @@ pub trait RoundTrip: Serialize + Deserialize {
     /// States that a restorable value has a tree, which contains nothing lazy, and that the tree's
     /// image is the image declared for the value.
     fn law()
-        ensures { (x : Self) → Self.restorable x → StandsAs (Self.tree x) (Self.image x) };
+        ensures { (x : Self) → Self.restorable x → HasImage (Self.tree x) (Self.image x) };
 }
 
 /// Converts a value to its untyped value and reads it back.

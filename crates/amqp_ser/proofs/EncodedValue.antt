@@ -33,9 +33,9 @@ of_four_bytes : (c size : ℕ) (body : List ℕ) → IsTrue (is_primitive_code c
 unfolding size_width body_len
 of_four_bytes c size body ok is len lt =
     let p : List ℕ = to_be_bytes w32 size ++ body in
-    let told = four_bytes size body lt in
+    let error_result = four_bytes size body lt in
     let whole : length p ≡ 4 + length body = omega (arith, length-append (to_be_bytes w32 size) body) in
-    IsFrame.primitive c p ok (subst (λ k. length p ≡ payload_len k p) (sym is) (omega (arith, len, told, whole)))
+    IsFrame.primitive c p ok (subst (λ k. length p ≡ payload_len k p) (sym is) (omega (arith, len, error_result, whole)))
 
 either : (b : Bool) {xs ys : List ℕ} → IsFrame xs → IsFrame ys → IsFrame (if b then xs else ys)
 either true f g = f

@@ -11,14 +11,14 @@ values_of [] = []
 values_of (f ∷ fs) = f.1 ∷ values_of fs
 
 -- At least one field is present.
-abbrev pub any_there : List (Bool × Option Tree) → Bool
-any_there [] = false
-any_there (f ∷ fs) = f.0 || any_there fs
+abbrev pub any_present : List (Bool × Option Tree) → Bool
+any_present [] = false
+any_present (f ∷ fs) = f.0 || any_present fs
 
 -- The elements of a list: the fields up to the last present one.
-abbrev pub up_to_last : List (Bool × Option Tree) → List (Option Tree)
-up_to_last [] = []
-up_to_last (f ∷ fs) = if f.0 || any_there fs then f.1 ∷ up_to_last fs else []
+abbrev pub up_to_last_present : List (Bool × Option Tree) → List (Option Tree)
+up_to_last_present [] = []
+up_to_last_present (f ∷ fs) = if f.0 || any_present fs then f.1 ∷ up_to_last_present fs else []
 
 -- A name as a key of a map: a string or a symbol.
 abbrev pub string_key : List ℕ → Option Tree

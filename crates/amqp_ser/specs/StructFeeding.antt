@@ -5,7 +5,7 @@ use Rattle.amqp_ser.specs.Tree.{Tree, scalar, string}
 use Rattle.amqp_ser.specs.Compounds.{tree_of_parts, paired}
 use Rattle.amqp_ser.specs.Composites.{as_described, descriptor_of}
 use Rattle.amqp_ser.specs.Marked.{is_descriptor_name}
-use Rattle.amqp_ser.specs.Structs.{Stands, form_kind, is_misplaced, open_kind, optionally_described}
+use Rattle.amqp_ser.specs.Structs.{HasAfterDescriptor, form_kind, is_misplaced, open_kind, optionally_described}
 use Rattle.amqp_ser.specs.declared.struct_encoding.StructEncoding.{StructEncoding}
 use Rattle.amqp_ser.specs.declared.struct_encoding.StructEncoding.TheVariants as form
 use Rattle.amqp_ser.specs.declared.kind.CompoundKind.{CompoundKind}
@@ -15,50 +15,50 @@ use Rattle.amqp_ser.specs.declared.kind.CompoundKind.TheVariants as kind
 abbrev pub FeedsDescriptor : {S H O E : Type 0} → (S → Option Tree → Result O E → S → Type 0) → (S → CompoundKind → S → H → List (Option Tree) → Type 0) →
     Option Tree → S → H → Result (Unit {0}) E → S → H → Type 0
 FeedsDescriptor {S} {H} {O} {E} permits has descriptor before compound result after compound_after =
-    (start : S) → Stands permits has start None kind.Single before compound [] →
+    (start : S) → HasAfterDescriptor permits has start None kind.Single before compound [] →
     MatchResult result
-    (λ _. Stands permits has start (Some descriptor) kind.Single after compound_after [])
-    (λ e. Stands permits has start None kind.Single after compound_after [] × ((t : Option Tree) →
+    (λ _. HasAfterDescriptor permits has start (Some descriptor) kind.Single after compound_after [])
+    (λ e. HasAfterDescriptor permits has start None kind.Single after compound_after [] × ((t : Option Tree) →
     permits start (as_described (descriptor_of descriptor) t) (Err e) after))
 
 -- The first field, which opens a body of this kind with these parts.
 abbrev pub FeedsFirst : {S H O E : Type 0} → (S → Option Tree → Result O E → S → Type 0) → (S → CompoundKind → S → H → List (Option Tree) → Type 0) →
     CompoundKind → List (Option Tree) → S → H → Result (Unit {0}) E → S → H → Type 0
 FeedsFirst {S} {H} {O} {E} permits has body parts before compound result after compound_after =
-    (start : S) (prefix : Option (Option Tree)) → Stands permits has start prefix kind.Single before compound [] →
+    (start : S) (prefix : Option (Option Tree)) → HasAfterDescriptor permits has start prefix kind.Single before compound [] →
     MatchResult result
-    (λ _. Stands permits has start prefix body after compound_after parts)
-    (λ e. Stands permits has start prefix kind.Single after compound_after [] × ((rest : List (Option Tree)) →
+    (λ _. HasAfterDescriptor permits has start prefix body after compound_after parts)
+    (λ e. HasAfterDescriptor permits has start prefix kind.Single after compound_after [] × ((rest : List (Option Tree)) →
     permits start (optionally_described prefix (tree_of_parts body (parts ++ rest))) (Err e) after))
 
 -- A further element of a list.
 abbrev pub FeedsElement : {S H O E : Type 0} → (S → Option Tree → Result O E → S → Type 0) → (S → CompoundKind → S → H → List (Option Tree) → Type 0) →
     Option Tree → S → H → Result (Unit {0}) E → S → H → Type 0
 FeedsElement {S} {H} {O} {E} permits has element before compound result after compound_after =
-    (start : S) (prefix : Option (Option Tree)) (ps : List (Option Tree)) → Stands permits has start prefix kind.List before compound ps →
+    (start : S) (prefix : Option (Option Tree)) (ps : List (Option Tree)) → HasAfterDescriptor permits has start prefix kind.List before compound ps →
     MatchResult result
-    (λ _. Stands permits has start prefix kind.List after compound_after (ps ++ (element ∷ [])))
-    (λ e. Stands permits has start prefix kind.List after compound_after ps × ((rest : List (Option Tree)) →
+    (λ _. HasAfterDescriptor permits has start prefix kind.List after compound_after (ps ++ (element ∷ [])))
+    (λ e. HasAfterDescriptor permits has start prefix kind.List after compound_after ps × ((rest : List (Option Tree)) →
     permits start (optionally_described prefix (tree_of_parts kind.List (ps ++ (element ∷ rest)))) (Err e) after))
 
 -- A further entry of a map.
 abbrev pub FeedsEntry : {S H O E : Type 0} → (S → Option Tree → Result O E → S → Type 0) → (S → CompoundKind → S → H → List (Option Tree) → Type 0) →
     Option Tree → Option Tree → S → H → Result (Unit {0}) E → S → H → Type 0
 FeedsEntry {S} {H} {O} {E} permits has key value before compound result after compound_after =
-    (start : S) (prefix : Option (Option Tree)) (ps : List (Option Tree)) → Stands permits has start prefix kind.Map before compound ps → paired ps ≡ true →
+    (start : S) (prefix : Option (Option Tree)) (ps : List (Option Tree)) → HasAfterDescriptor permits has start prefix kind.Map before compound ps → paired ps ≡ true →
     MatchResult result
-    (λ _. Stands permits has start prefix kind.Map after compound_after (ps ++ (key ∷ (value ∷ []))))
-    (λ e. Stands permits has start prefix kind.Map after compound_after ps × ((rest : List (Option Tree)) →
+    (λ _. HasAfterDescriptor permits has start prefix kind.Map after compound_after (ps ++ (key ∷ (value ∷ []))))
+    (λ e. HasAfterDescriptor permits has start prefix kind.Map after compound_after ps × ((rest : List (Option Tree)) →
     permits start (optionally_described prefix (tree_of_parts kind.Map (ps ++ (key ∷ (value ∷ rest))))) (Err e) after))
 
 -- The only field of a struct that is a single value.
 abbrev pub FeedsSingle : {S H O E : Type 0} → (S → Option Tree → Result O E → S → Type 0) → (S → CompoundKind → S → H → List (Option Tree) → Type 0) →
     Option Tree → S → H → Result (Unit {0}) E → S → H → Type 0
 FeedsSingle {S} {H} {O} {E} permits has value before compound result after compound_after =
-    (start : S) (prefix : Option (Option Tree)) → Stands permits has start prefix kind.Single before compound [] →
+    (start : S) (prefix : Option (Option Tree)) → HasAfterDescriptor permits has start prefix kind.Single before compound [] →
     MatchResult result
-    (λ _. Stands permits has start prefix kind.Single after compound_after (value ∷ []))
-    (λ e. Stands permits has start prefix kind.Single after compound_after []
+    (λ _. HasAfterDescriptor permits has start prefix kind.Single after compound_after (value ∷ []))
+    (λ e. HasAfterDescriptor permits has start prefix kind.Single after compound_after []
     × permits start (optionally_described prefix value) (Err e) after)
 
 -- A misplaced field or descriptor: the struct is unchanged, and the error is permitted for a value
@@ -66,8 +66,8 @@ FeedsSingle {S} {H} {O} {E} permits has value before compound result after compo
 abbrev pub RefusesField : {S H O E : Type 0} → (S → Option Tree → Result O E → S → Type 0) → (S → CompoundKind → S → H → List (Option Tree) → Type 0) →
     CompoundKind → S → H → Result (Unit {0}) E → S → H → Type 0
 RefusesField {S} {H} {O} {E} permits has body before compound result after compound_after =
-    (start : S) (prefix : Option (Option Tree)) (ps : List (Option Tree)) → Stands permits has start prefix body before compound ps →
-    IfErr result (λ e. Stands permits has start prefix body after compound_after ps × permits start None (Err e) after)
+    (start : S) (prefix : Option (Option Tree)) (ps : List (Option Tree)) → HasAfterDescriptor permits has start prefix body before compound ps →
+    IfErr result (λ e. HasAfterDescriptor permits has start prefix body after compound_after ps × permits start None (Err e) after)
 
 -- The effect of serializing a field with this key, by cases: whether the key is that of the
 -- descriptor, the form of the struct, and whether the struct has its descriptor (`described`) and a
@@ -89,7 +89,7 @@ pub record FieldStep {S H O E : Type 0} (permits : S → Option Tree → Result 
       FeedsSingle permits has value before compound result after compound_after
   -- A descriptor is a ulong or a symbol.
   pub other_kinds : is_descriptor_name key ≡ true → described ≡ false → opened ≡ false →
-      (start : S) → Stands permits has start None kind.Single before compound [] → descriptor_of value ≡ None → IsErr result
+      (start : S) → HasAfterDescriptor permits has start None kind.Single before compound [] → descriptor_of value ≡ None → IsErr result
   pub misuse_error : is_misplaced encoding described opened (is_descriptor_name key) ≡ true →
       IsErr result × (IfErr result is_misuse_error × RefusesField permits has (open_kind opened encoding) before compound result after compound_after)
 
@@ -107,7 +107,7 @@ pub record TupleFieldStep {S H O E : Type 0} (permits : S → Option Tree → Re
       FeedsSingle permits has value before compound result after compound_after
   -- A descriptor is a ulong or a symbol.
   pub other_kinds : lacks_descriptor ≡ true →
-      (start : S) → Stands permits has start None kind.Single before compound [] → descriptor_of value ≡ None → IsErr result
+      (start : S) → HasAfterDescriptor permits has start None kind.Single before compound [] → descriptor_of value ≡ None → IsErr result
   pub misuse_error : lacks_descriptor ≡ false → opened ≡ true → single ≡ true →
       IsErr result × (IfErr result is_misuse_error × RefusesField permits has kind.Single before compound result after compound_after)
 
@@ -116,15 +116,15 @@ pub record TupleFieldStep {S H O E : Type 0} (permits : S → Option Tree → Re
 pub record EndStep {S H O E : Type 0} (permits : S → Option Tree → Result O E → S → Type 0) (has : S → CompoundKind → S → H → List (Option Tree) → Type 0)
     (is_misuse_error : E → Type 0) (encoding : StructEncoding) (opened : Bool) (before : S) (compound : H) (result : Result O E) (after : S) : Type 0 where
   pub list : opened ≡ true → encoding ≡ form.List → (start : S) (prefix : Option (Option Tree)) (ps : List (Option Tree)) →
-      Stands permits has start prefix kind.List before compound ps →
+      HasAfterDescriptor permits has start prefix kind.List before compound ps →
       permits start (optionally_described prefix (tree_of_parts kind.List ps)) result after
   pub map : opened ≡ true → encoding ≡ form.Map → (start : S) (prefix : Option (Option Tree)) (ps : List (Option Tree)) →
-      Stands permits has start prefix kind.Map before compound ps → paired ps ≡ true →
+      HasAfterDescriptor permits has start prefix kind.Map before compound ps → paired ps ≡ true →
       permits start (optionally_described prefix (tree_of_parts kind.Map ps)) result after
   pub alone : opened ≡ true → encoding ≡ form.Single → (start : S) (prefix : Option (Option Tree)) (p : Option Tree) →
-      Stands permits has start prefix kind.Single before compound (p ∷ []) →
+      HasAfterDescriptor permits has start prefix kind.Single before compound (p ∷ []) →
       permits start (optionally_described prefix p) result after
   pub empty : opened ≡ false → (start : S) (prefix : Option (Option Tree)) →
-      Stands permits has start prefix kind.Single before compound [] →
+      HasAfterDescriptor permits has start prefix kind.Single before compound [] →
       permits start (optionally_described prefix (tree_of_parts (form_kind encoding) [])) result after
   pub misuse_error : opened ≡ false → encoding ≡ form.Single → IsErr result × IfErr result is_misuse_error

@@ -22,7 +22,7 @@ use Rattle.amqp_ser.specs.Tree.{Tree, scalar, null, bool, ubyte, ushort, uint, u
 use Rattle.amqp_ser.specs.Composites.{as_described}
 use Rattle.amqp_ser.specs.Compounds.{parts_of, tree_of_parts}
 use Rattle.amqp_ser.specs.Carried.{array_of, optional}
-use Rattle.amqp_ser.specs.Named.{named_parts, string_key, symbol_key, up_to_last}
+use Rattle.amqp_ser.specs.Named.{named_parts, string_key, symbol_key, up_to_last_present}
 use Rattle.amqp_ser.specs.declared.kind.CompoundKind.TheVariants as kind
 
 -- The list of these parts, and the map of these named parts.
@@ -60,7 +60,7 @@ optional_value f o = (is_some o, optional f o)
 
 -- The list without the absent fields at its end, and the map without the absent fields.
 abbrev pub short_list_of : List (Bool × Option Tree) → Option Tree
-short_list_of parts = tree_of_parts kind.List (up_to_last parts)
+short_list_of parts = tree_of_parts kind.List (up_to_last_present parts)
 
 abbrev pub short_map_of : List (List ℕ × (Bool × Option Tree)) → Option Tree
 short_map_of fields = tree_of_parts kind.Map (named_parts string_key fields)

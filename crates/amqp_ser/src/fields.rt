@@ -3,7 +3,7 @@
 ghost use Rattle.std.specs.Prelude.{◌≡◌, ◌∷◌, [], ℕ, List, Option, Bool, true};
 ghost use Rattle.amqp_ser.specs.Tree.{Tree};
 ghost use Rattle.amqp_ser.specs.Feeding.{Feeds, FeedsAll};
-ghost use Rattle.amqp_ser.specs.Named.{any_there, named_parts, key_of, up_to_last, values_of};
+ghost use Rattle.amqp_ser.specs.Named.{any_present, named_parts, key_of, up_to_last_present, values_of};
 ghost use Rattle.amqp_ser.specs.declared.kind.CompoundKind.{CompoundKind};
 
 use crate::compound::feed::feed_part;
@@ -42,8 +42,8 @@ pub trait Fields {
     /// # Example
     /// Only an absent `y`: `false`, and the list is `45`. With `x`, the ubyte 1, after it: `true`,
     /// and the list is `c00402405001`.
-    fn any_there(&self) -> bool
-        ensures { result ≡ any_there (values_of (named self.now)) };
+    fn any_present(&self) -> bool
+        ensures { result ≡ any_present (values_of (named self.now)) };
 
     /// Serializes the fields up to the last present one into an open compound.
     ///
@@ -58,7 +58,7 @@ pub trait Fields {
         serializer: &mut S,
         compound: &mut S::Open,
     ) -> Result<(), S::Error>
-        ensures { FeedsAll S.permits S.has (up_to_last (values_of (named self.now))) serializer.old
+        ensures { FeedsAll S.permits S.has (up_to_last_present (values_of (named self.now))) serializer.old
             compound.old result serializer.new compound.new };
 
     /// Serializes the name, as a key, and the value of each present field into an open compound.
@@ -117,7 +117,7 @@ impl Fields for () {
     ghost named = { λ _. [] };
 
     #[inline(always)]
-    fn any_there(&self) -> bool {
+    fn any_present(&self) -> bool {
         false
     }
 
@@ -159,7 +159,7 @@ impl<V: Serialize, R: Fields> Fields for Field<'_, V, R> {
     ghost named = { λ f. (f.name.now, (true, V.tree f.value)) ∷ R.named f.rest };
 
     #[inline(always)]
-    fn any_there(&self) -> bool {
+    fn any_present(&self) -> bool {
         true
     }
 

@@ -29,8 +29,8 @@ impl<V: Serialize, R: Fields> Fields for OptionalField<'_, V, R> {
         ∷ R.named f.rest };
 
     #[inline(always)]
-    fn any_there(&self) -> bool {
-        self.value.is_some() || self.rest.any_there()
+    fn any_present(&self) -> bool {
+        self.value.is_some() || self.rest.any_present()
     }
 
     #[inline(always)]
@@ -39,7 +39,7 @@ impl<V: Serialize, R: Fields> Fields for OptionalField<'_, V, R> {
         serializer: &mut S,
         compound: &mut S::Open,
     ) -> Result<(), S::Error> {
-        if !self.any_there() {
+        if !self.any_present() {
             return Ok(());
         }
         feed_part(&mut *serializer, &mut *compound, self.value)?;

@@ -7,14 +7,14 @@ use Rattle.amqp_ser.specs.Writable.{uniform_arrays, within_limits, placed}
 use Rattle.amqp_ser.specs.SizeAndBytes.{IsSizeOf}
 use Rattle.amqp_ser.proofs.Bools.{both}
 use Rattle.amqp_pass.specs.Position.{position_of, meant}
-use Rattle.amqp_pass.specs.Refused.{told}
+use Rattle.amqp_pass.specs.Refused.{error_result}
 use Rattle.amqp_size.specs.SizeSerializer.{AtPosition, SizePermits}
 use Rattle.amqp_pass.specs.WholePosition.{Root}
 use Rattle.amqp_pass.specs.WholeContext.{Context}
 use Rattle.amqp_pass.specs.WholeContext.{Plain}
 use Rattle.amqp_size.specs.declared.serializer.SizeSerializer.{SizeSerializer}
 
-root_size : (o : Option Tree) (r : Result ℕ SizeError) (after : Context) → AtPosition Root o r after → IsSizeOf o (told r) × (after ≡ Plain Root)
+root_size : (o : Option Tree) (r : Result ℕ SizeError) (after : Context) → AtPosition Root o r after → IsSizeOf o (error_result r) × (after ≡ Plain Root)
 root_size None (Ok n) after h = absurd h
 root_size None (Err size_error.TooLong) after h = h
 root_size None (Err size_error.InvalidValue) after h = h
@@ -28,7 +28,7 @@ pub at_root : (s : SizeSerializer) (o : Option Tree) (r : Result ℕ SizeError) 
 at_root s o r after q h = subst (λ u. AtPosition (position_of u) (meant u o) r after.context) q h
 
 -- The result is the length of the bytes.
-pub is_size : (s : SizeSerializer) (o : Option Tree) (r : Result ℕ SizeError) (after : SizeSerializer) → s.context ≡ Plain Root → SizePermits s o r after → IsSizeOf o (told r)
+pub is_size : (s : SizeSerializer) (o : Option Tree) (r : Result ℕ SizeError) (after : SizeSerializer) → s.context ≡ Plain Root → SizePermits s o r after → IsSizeOf o (error_result r)
 is_size s o r after q h = (root_size o r after.context (at_root s o r after q h)).0
 
 -- Afterwards the serializer is at the root again.

@@ -10,7 +10,7 @@ use Rattle.amqp_value.specs.TreeOf.{tree_of}
 use Rattle.amqp_value.specs.declared.value.Value.{Value}
 use Rattle.amqp_to_value.specs.PendingDescriptors.{DescriptorsState, under_descriptors, described_by, standing}
 use Rattle.amqp_to_value.specs.ValueSerializer.{IsSaved, IsFresh, IsKept, Leaves, described_none, meant_by, meant_none, ValuePermits}
-use Rattle.amqp_to_value.specs.ImageOf.{refuses, StandsFor}
+use Rattle.amqp_to_value.specs.ImageOf.{refuses, Represents}
 use Rattle.amqp_to_value.specs.PendingMarker.{meant}
 use Rattle.amqp_to_value.specs.declared.pending_marker.PendingMarker.TheVariants as pending
 use Rattle.amqp_to_value.specs.declared.serializer.Serializer.{Serializer}
@@ -20,7 +20,7 @@ use Rattle.amqp_to_value.proofs.LazyLemmas.{spoils}
 -- A value inside its pending descriptors is a permitted result.
 pub finished : (start after : Serializer) (t : Option Tree) (v w : Value) (others ds : List Descriptor) → others ≡ start.descriptors.kept → ds ≡ standing start.descriptors
     → after.pending ≡ pending.Marker marker.Other → after.descriptors.kept ≡ others → after.descriptors.next ≡ false → length (others ++ ds) ≤ after.descriptors.room
-    → tree_of w ≡ under_descriptors ds (tree_of v) → StandsFor v (meant start.pending t) → ValuePermits start t (Ok w) after
+    → tree_of w ≡ under_descriptors ds (tree_of v) → Represents v (meant start.pending t) → ValuePermits start t (Ok w) after
 finished start after t v w others ds e f fresh is none room d s = (
   stands_in (standing start.descriptors) (meant start.pending t) v w (d ∙ ap (λ x. under_descriptors x (tree_of v)) f) s,
   (((fresh, none), is ∙ e), subst (λ n. n ≤ after.descriptors.room) (λ i. length (e i ++ f i)) room),

@@ -11,7 +11,7 @@ use Rattle.amqp_value.specs.TreeOf.{tree_of}
 use Rattle.amqp_value.specs.declared.value.Value.{Value}
 use Rattle.amqp_to_value.specs.PendingDescriptors.{under_descriptors, described_by, standing}
 use Rattle.amqp_to_value.specs.ValueSerializer.{HasParts, IsSaved, IsFresh, IsReady, Leaves, meant_by, ValuePermits}
-use Rattle.amqp_to_value.specs.ImageOf.{refuses, StandsFor}
+use Rattle.amqp_to_value.specs.ImageOf.{refuses, Represents}
 use Rattle.amqp_to_value.specs.Opened.{Opened}
 use Rattle.amqp_to_value.specs.PendingMarker.{meant}
 use Rattle.amqp_to_value.specs.declared.pending_marker.PendingMarker.{PendingMarker}
@@ -74,7 +74,7 @@ pub record Stood (start after : Serializer) (p : Option Tree) (v : Value) : Type
 
 pub stands : (start before after : Serializer) (u : PendingMarker) (p : Option Tree) (v : Value) → IsReady start before (body.Single u None) → ValuePermits before p (Ok v) after → Stood start after p v
 stands start before after u p v ready r =
-    let s = stood (standing start.descriptors) (meant start.pending p) v (subst (StandsFor v) (same_meant start before u p ready) r.0) in
+    let s = stood (standing start.descriptors) (meant start.pending p) v (subst (Represents v) (same_meant start before u p ready) r.0) in
     record {
       tree = s.0;
       read = s.1;
@@ -89,5 +89,5 @@ stands start before after u p v ready r =
 pub single_taken : (start after : Serializer) (k : CompoundKind) (u : PendingMarker) (v : Value) (ps : List (Option Tree)) (p : Option Tree) (t w : Tree) → HasParts start.pending k (body.Single u None) ps
     → meant start.pending p ≡ Some t → Opened t w → after.pending ≡ pending.Marker marker.Other → (tree_of v ≡ image w) × (after.descriptors.kept ≡ start.descriptors.kept) × (after.descriptors.later ≡ standing start.descriptors) × (after.descriptors.next ≡ false)
     → HasParts start.pending k (body.Single u (Some v)) (ps ++ (p ∷ [])) × IsSaved start after
-single_taken start after k u v [] p t w h m o fresh is = ((h.0, h.1, subst (StandsFor v) (sym m) (w, o, is.0)), (((fresh, is.3), is.1), ([], is.2 ∙ sym (append-nil _))))
+single_taken start after k u v [] p t w h m o fresh is = ((h.0, h.1, subst (Represents v) (sym m) (w, o, is.0)), (((fresh, is.3), is.1), ([], is.2 ∙ sym (append-nil _))))
 single_taken start after k u v (q ∷ ps) p t w h m o fresh is = absurd h.2

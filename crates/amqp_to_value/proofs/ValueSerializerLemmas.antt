@@ -12,7 +12,7 @@ use Rattle.amqp_ser.proofs.Unmarked.{unmarked}
 use Rattle.amqp_value.specs.Image.{image}
 use Rattle.amqp_value.specs.TreeOf.{tree_of}
 use Rattle.amqp_value.specs.declared.value.Value.{Value}
-use Rattle.amqp_to_value.specs.ImageOf.{refuses, StandsFor, IsImageOf}
+use Rattle.amqp_to_value.specs.ImageOf.{refuses, Represents, IsImageOf}
 use Rattle.amqp_to_value.specs.PendingMarker.{meant}
 use Rattle.amqp_to_value.specs.HeldImages.{is_single, then, HoldsImages, IsOpenedImage, compound_tree, TakesPairs}
 use Rattle.amqp_to_value.specs.Opened.{AreOpened}
@@ -74,7 +74,7 @@ module _ (u : PendingMarker) (kind : CompoundKind) (old new : CollectedParts) (p
   kept fed = record { ts = h.ts; trees = h.trees; us = h.us; opened = h.opened; fed = fed; makes = λ o. h.makes o ∙ sym (makes o) }
 
   -- One part is added.
-  pub part_taken : (p : Option Tree) (v : Value) → StandsFor v p → ((ts : Trees) (t : Tree) → HoldsImages old ts → tree_of v ≡ image t → HoldsImages new (then ts t)) → HoldsParts u kind new (ps ++ (p ∷ []))
+  pub part_taken : (p : Option Tree) (v : Value) → Represents v p → ((ts : Trees) (t : Tree) → HoldsImages old ts → tree_of v ≡ image t → HoldsImages new (then ts t)) → HoldsParts u kind new (ps ++ (p ∷ []))
   part_taken None v s step = absurd s
   part_taken (Some t) v s step = record {
     ts = then h.ts t;
@@ -86,7 +86,7 @@ module _ (u : PendingMarker) (kind : CompoundKind) (old new : CollectedParts) (p
   }
 
   -- No part is added.
-  pub part_left : (p : Option Tree) (v : Value) → StandsFor v p → ((ts : Trees) (t : Tree) → HoldsImages old ts → tree_of v ≡ image t → HoldsImages new ts) → HoldsParts u kind new ps
+  pub part_left : (p : Option Tree) (v : Value) → Represents v p → ((ts : Trees) (t : Tree) → HoldsImages old ts → tree_of v ≡ image t → HoldsImages new ts) → HoldsParts u kind new ps
   part_left None v s step = absurd s
   part_left (Some t) v s step = kept (step h.us s.0 h.fed s.2)
 
@@ -133,7 +133,7 @@ unfolding tree_of_parts
 single_answer u None r [] h c e = absurd (true≢false (sym c))
 single_answer u None r (p ∷ ps) h c e = absurd h
 single_answer u (Some v) r [] h c e = absurd h
-single_answer u (Some v) r (None ∷ []) h c e = absurd (subst (StandsFor v) (meant_none u) h)
+single_answer u (Some v) r (None ∷ []) h c e = absurd (subst (Represents v) (meant_none u) h)
 single_answer u (Some v) r (Some t ∷ []) h c e = subst (IsImageOf (meant u (Some t))) (sym e) h
 single_answer u (Some v) r (p ∷ (q ∷ ps)) h c e = absurd h
 

@@ -10,9 +10,9 @@ use Rattle.amqp_value.specs.declared.value.Value.{Value}
 use Rattle.amqp_to_value.specs.Opened.{Opened, IsUnreadable}
 
 -- The value represents the tree: its tree is the image, after the lazy trees are decoded.
-abbrev pub StandsFor : Value → Option Tree → Type 0
-StandsFor v None = ⊥
-StandsFor v (Some t) = (u : Tree) × Opened t u × (tree_of v ≡ image u)
+abbrev pub Represents : Value → Option Tree → Type 0
+Represents v None = ⊥
+Represents v (Some t) = (u : Tree) × Opened t u × (tree_of v ≡ image u)
 
 -- The errors of a value or of the bytes of a lazy tree: an invalid value, an invalid format code,
 -- or an unexpected end of the bytes.
@@ -31,5 +31,5 @@ refuses e (Some t) = IsFault e × IsUnreadable t
 
 -- The result is a value that represents the tree, or a permitted error.
 abbrev pub IsImageOf : Option Tree → Result Value Error → Type 0
-IsImageOf t (Ok v) = StandsFor v t
+IsImageOf t (Ok v) = Represents v t
 IsImageOf t (Err e) = refuses e t

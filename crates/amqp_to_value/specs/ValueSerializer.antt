@@ -10,7 +10,7 @@ use Rattle.amqp_ser.specs.declared.kind.CompoundKind.TheVariants as kind
 use Rattle.amqp_ser.specs.declared.marker.Marker.TheVariants as marker
 use Rattle.amqp_value.specs.declared.value.Value.{Value}
 use Rattle.amqp_to_value.specs.PendingDescriptors.{saved_of, described_by, standing}
-use Rattle.amqp_to_value.specs.ImageOf.{IsImageOf, StandsFor}
+use Rattle.amqp_to_value.specs.ImageOf.{IsImageOf, Represents}
 use Rattle.amqp_to_value.specs.Opened.{AreOpened}
 use Rattle.amqp_to_value.specs.PendingMarker.{meant}
 use Rattle.amqp_to_value.specs.HeldImages.{HoldsImages, is_single, compound_tree}
@@ -66,7 +66,7 @@ abbrev pub HasValue : PendingMarker → Option Value → List (Option Tree) → 
 HasValue u None [] = Unit {0}
 HasValue u None (p ∷ ps) = ⊥
 HasValue u (Some v) [] = ⊥
-HasValue u (Some v) (p ∷ []) = StandsFor v (meant u p)
+HasValue u (Some v) (p ∷ []) = Represents v (meant u p)
 HasValue u (Some v) (p ∷ (q ∷ ps)) = ⊥
 
 -- The compound, opened under this pending marker, can contain these parts.
@@ -115,4 +115,4 @@ meant_none pending.Nothing = refl
 -- If there is no tree, there is no value.
 pub no_value_of_none : (s : Serializer) (v : Value) (after : Serializer) → ValuePermits s None (Ok v) after → ⊥
 no_value_of_none s v after h =
-    let none : meant_by s None ≡ None = ap (described_by (standing s.descriptors)) (meant_none s.pending) ∙ described_none (standing s.descriptors) in subst (StandsFor v) none h.0
+    let none : meant_by s None ≡ None = ap (described_by (standing s.descriptors)) (meant_none s.pending) ∙ described_none (standing s.descriptors) in subst (Represents v) none h.0

@@ -14,7 +14,7 @@ ghost use Rattle.amqp_value.specs.Sound.{IsSound};
 ghost use Rattle.amqp_value.specs.TreeOf.{tree_of};
 ghost use Rattle.amqp_value.specs.Image.{image};
 ghost use Rattle.amqp_to_value.specs.HasLazy.{has_lazy};
-ghost use Rattle.amqp_to_value.specs.ImageOf.{StandsFor};
+ghost use Rattle.amqp_to_value.specs.ImageOf.{Represents};
 ghost use Rattle.amqp_to_value.specs.Opened.{Opened};
 
 use amqp_value::Value;
@@ -28,53 +28,53 @@ pub fn trees_without_lazy_parts_are_read_as_themselves()
 /// A value represents a tree that contains nothing lazy if and only if the value's tree is the
 /// image of that tree.
 pub fn trees_without_lazy_parts_stand_as_their_images()
-    ensures image { (t : Tree) (v : Value) → has_lazy t ≡ false → StandsFor v (Some t) →
+    ensures image { (t : Tree) (v : Value) → has_lazy t ≡ false → Represents v (Some t) →
         tree_of v ≡ image t }
     ensures stands { (t : Tree) (v : Value) → has_lazy t ≡ false → tree_of v ≡ image t →
-        StandsFor v (Some t) }
+        Represents v (Some t) }
 {}
 
 /// All values that represent a tree have the same tree.
 pub fn one_value_stands_for_a_tree()
-    ensures { (t : Tree) (v w : Value) → StandsFor v (Some t) → StandsFor w (Some t) →
+    ensures { (t : Tree) (v w : Value) → Represents v (Some t) → Represents w (Some t) →
         tree_of v ≡ tree_of w }
 {}
 
 /// A value represents a lazy value if and only if the bytes spell it, at most 256 deep.
 pub fn lazy_values_stand_as_what_they_spell()
-    ensures spelled { (bytes : List ℕ) (v : Value) → StandsFor v (Some (lazy bytes)) →
+    ensures spelled { (bytes : List ℕ) (v : Value) → Represents v (Some (lazy bytes)) →
         Spells 256 bytes (tree_of v) }
     ensures stands { (bytes : List ℕ) (v : Value) → Spells 256 bytes (tree_of v) →
-        StandsFor v (Some (lazy bytes)) }
+        Represents v (Some (lazy bytes)) }
 {}
 
 /// The tree of a value that represents a plain tree is that tree with each variant replaced by its
 /// map.
 pub fn plain_trees_come_back()
-    ensures { (t : Tree) (v : Value) → IsPlain t → StandsFor v (Some t) →
+    ensures { (t : Tree) (v : Value) → IsPlain t → Represents v (Some t) →
         tree_of v ≡ read_as_map t }
 {}
 
 /// A value that represents a plain tree has the same encoding as the tree, and is writable if and
 /// only if the tree is.
 pub fn plain_trees_keep_their_bytes()
-    ensures writable { (t : Tree) (v : Value) → IsPlain t → StandsFor v (Some t) →
+    ensures writable { (t : Tree) (v : Value) → IsPlain t → Represents v (Some t) →
         writable (tree_of v) ≡ writable t }
-    ensures bytes { (t : Tree) (v : Value) → IsPlain t → StandsFor v (Some t) →
+    ensures bytes { (t : Tree) (v : Value) → IsPlain t → Represents v (Some t) →
         encoding (tree_of v) ≡ encoding t }
 {}
 
 /// A value that represents the tree of a sound value has that tree and is equal to the sound value.
 pub fn sound_values_come_back_equal()
-    ensures tree { (a b : Value) → IsSound a → StandsFor b (Some (tree_of a)) →
+    ensures tree { (a b : Value) → IsSound a → Represents b (Some (tree_of a)) →
         tree_of b ≡ tree_of a }
-    ensures equal { (a b : Value) → IsSound a → StandsFor b (Some (tree_of a)) →
+    ensures equal { (a b : Value) → IsSound a → Represents b (Some (tree_of a)) →
         ⟦<Value as PartialEq>⟧.eq b a ≡ true }
 {}
 
 /// A value that represents a scalar is equal to every value with the tree of that scalar, such as
 /// the one that `From` returns.
 pub fn scalars_keep_their_content()
-    ensures { (s : Scalar) (a b : Value) → tree_of a ≡ scalar s → StandsFor b (Some (scalar s))
+    ensures { (s : Scalar) (a b : Value) → tree_of a ≡ scalar s → Represents b (Some (scalar s))
         → ⟦<Value as PartialEq>⟧.eq b a ≡ true }
 {}

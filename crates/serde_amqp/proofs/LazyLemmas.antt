@@ -16,7 +16,7 @@ use Rattle.amqp_decode.specs.Spells.{Spells}
 use Rattle.amqp_decode.proofs.Encodes.{encoding-spells}
 use Rattle.amqp_decode.proofs.OwnImage.{spelled-own_image}
 use Rattle.amqp_decode.proofs.Whole.{one-tree}
-use Rattle.amqp_to_value.specs.ImageOf.{StandsFor, refuses}
+use Rattle.amqp_to_value.specs.ImageOf.{Represents, refuses}
 use Rattle.amqp_to_value.proofs.LazyLemmas.{read_refused}
 
 -- The encoding of a tree spells its image.
@@ -26,7 +26,7 @@ own-bytes t r w o d le =
     let alike_and = and_parts (uniform_arrays t) (placed t) within_and.1 in
     encoding-spells t (r, within_and.0, alike_and.0, o) d le
 
-pub held-image : (t : Tree) (v : Value) → Spells 256 (encoding t) (image t) → StandsFor v (Some (lazy (encoding t))) → tree_of v ≡ image t
+pub held-image : (t : Tree) (v : Value) → Spells 256 (encoding t) (image t) → Represents v (Some (lazy (encoding t))) → tree_of v ≡ image t
 held-image t v h s = s.2 ∙ spelled-own_image s.1 ∙ one-tree 256 256 (encoding t) s.0 (image t) s.1 h
 
 pub held-refused : (t : Tree) (e : Error) → Spells 256 (encoding t) (image t) → refuses e (Some (lazy (encoding t))) → e ≡ OutOfMemory

@@ -8,7 +8,7 @@ ghost use Rattle.amqp_ser.specs.Encoding.{encoding};
 ghost use Rattle.amqp_ser.specs.Ranged.{IsRanged};
 ghost use Rattle.amqp_ser.specs.Tree.{Tree, lazy};
 ghost use Rattle.amqp_ser.specs.Writable.{writable};
-ghost use Rattle.amqp_to_value.specs.ImageOf.{StandsFor, refuses};
+ghost use Rattle.amqp_to_value.specs.ImageOf.{Represents, refuses};
 ghost use Rattle.amqp_value.specs.Image.{image};
 ghost use Rattle.amqp_value.specs.Plain.{IsPlain};
 ghost use Rattle.amqp_value.specs.TreeOf.{tree_of};
@@ -29,7 +29,7 @@ pub fn text_is_its_lines()
 /// `OutOfMemory`.
 pub fn lazy_values_have_the_image_of_what_they_hold()
     ensures image { (t : Tree) (v : Value) → IsRanged t → writable t ≡ true → IsOrdinary t →
-        depth_of t ≤ 256 → StandsFor v (Some (lazy (encoding t))) → tree_of v ≡ image t }
+        depth_of t ≤ 256 → Represents v (Some (lazy (encoding t))) → tree_of v ≡ image t }
     ensures read { (t : Tree) (e : Error) → IsRanged t → writable t ≡ true → IsOrdinary t →
         depth_of t ≤ 256 → refuses e (Some (lazy (encoding t))) → e ≡ OutOfMemory }
 {}

@@ -132,7 +132,7 @@ pub trait SerializeCompounds: Serializer {
     /// # Example
     /// The ubyte 1 and `true` are `c00402500141`. Under the name `DESCRIBED_LIST` the ulong 1 and
     /// `true` are `005301c0020141`.
-    #[tactic(auto, unfolding(crate::specs::Structs::Stands))]
+    #[tactic(auto, unfolding(crate::specs::Structs::HasAfterDescriptor))]
     #[inline(always)]
     final fn serialize_tuple_struct(
         &mut self,
@@ -177,7 +177,7 @@ pub trait SerializeCompounds: Serializer {
     /// # Example
     /// The fields `x`, the ubyte 1, and `y`, `true`, are `c00402500141`. Under the name
     /// `DESCRIBED_MAP` the one field `x` is `c10602a101785001`.
-    #[tactic(auto, unfolding(crate::specs::Structs::Stands))]
+    #[tactic(auto, unfolding(crate::specs::Structs::HasAfterDescriptor))]
     #[inline(always)]
     final fn serialize_struct(
         &mut self,

@@ -38,7 +38,7 @@ fn is_misplaced(form: StructEncoding, described: bool, opened: bool, descriptor:
 /// # Example
 /// `true` with the key `x` appends `41` to a list and `a1017841` to a map. As the first field, the
 /// ulong 1 with the key `DESCRIPTOR` puts `005301` before the fields.
-#[tactic(auto, unfolding(crate::specs::Structs::Stands))]
+#[tactic(auto, unfolding(crate::specs::Structs::HasAfterDescriptor))]
 #[inline(never)]
 pub fn feed_owned<S: Serializer, T: Serialize>(
     serializer: &mut S,

@@ -4,7 +4,7 @@ ghost use Rattle.std.specs.Prelude.{◌≡◌, ◌++◌, [], List, Option, None,
 ghost use Rattle.amqp_ser.specs.Tree.{Tree};
 ghost use Rattle.amqp_ser.specs.Compounds.{tree_of_parts};
 ghost use Rattle.amqp_ser.specs.StructFeeding.{EndStep};
-ghost use Rattle.amqp_ser.specs.Structs.{Stands, form_kind, fields_kind, field_parts};
+ghost use Rattle.amqp_ser.specs.Structs.{HasAfterDescriptor, form_kind, fields_kind, field_parts};
 
 use super::described::end_single;
 use super::feed::{feed_entry, feed_part};
@@ -59,7 +59,7 @@ fn feed_field<S: Serializer, T: Serialize>(
 ///
 /// # Example
 /// The ubyte 1 with the key `x` opens the list `c003015001`, or the map `c10602a101785001`.
-#[tactic(auto, unfolding(crate::specs::Structs::Stands))]
+#[tactic(auto, unfolding(crate::specs::Structs::HasAfterDescriptor))]
 #[inline(always)]
 pub fn open_body<S: Serializer, T: Serialize>(
     serializer: &mut S,
@@ -70,7 +70,7 @@ pub fn open_body<S: Serializer, T: Serialize>(
 ) -> Result<(), S::Error>
     ensures { (start : S) → S.has start CompoundKind.Single serializer.old compound.old [] →
         MatchResult result
-        (λ _. Stands S.permits S.has start None (fields_kind named) serializer.new compound.new
+        (λ _. HasAfterDescriptor S.permits S.has start None (fields_kind named) serializer.new compound.new
         (field_parts named key.now (T.tree value.now)))
         (λ e. S.has start CompoundKind.Single serializer.new compound.new [] × ((rest : List (Option Tree)) →
         S.permits start
@@ -120,7 +120,7 @@ fn end_empty<S: Serializer>(
 ///
 /// # Example
 /// Without fields: the list `45`, or the map `c10100`. With the ubyte 1: the list `c003015001`.
-#[tactic(auto, unfolding(crate::specs::Structs::Stands))]
+#[tactic(auto, unfolding(crate::specs::Structs::HasAfterDescriptor))]
 #[inline(always)]
 pub fn end_fields<S: Serializer>(
     serializer: &mut S,

@@ -3,7 +3,7 @@
 ghost use Rattle.std.specs.Prelude.{◌≡◌, ◌∷◌, [], Option, Some, None, Err, MatchResult, IsErr};
 ghost use Rattle.amqp_ser.specs.Tree.{Tree};
 ghost use Rattle.amqp_ser.specs.Composites.{as_described, descriptor_of};
-ghost use Rattle.amqp_ser.specs.Structs.{Stands};
+ghost use Rattle.amqp_ser.specs.Structs.{HasAfterDescriptor};
 
 use super::feed::feed_part;
 use crate::kind::CompoundKind;
@@ -19,7 +19,7 @@ use crate::serializer::Serializer;
 ///
 /// # Example
 /// The ulong 1 is `005301` before the value, the symbol `a:b` is `00a303613a62`.
-#[tactic(auto, unfolding(crate::specs::Structs::Stands))]
+#[tactic(auto, unfolding(crate::specs::Structs::HasAfterDescriptor))]
 #[inline(always)]
 pub fn feed_descriptor<S: Serializer, T: Serialize>(
     serializer: &mut S,
@@ -28,7 +28,7 @@ pub fn feed_descriptor<S: Serializer, T: Serialize>(
 ) -> Result<(), S::Error>
     ensures fed { (start : S) → S.has start CompoundKind.Single serializer.old compound.old [] →
         MatchResult result
-        (λ _. Stands S.permits S.has start (Some (T.tree value.now)) CompoundKind.Single serializer.new
+        (λ _. HasAfterDescriptor S.permits S.has start (Some (T.tree value.now)) CompoundKind.Single serializer.new
         compound.new [])
         (λ e. S.has start CompoundKind.Single serializer.new compound.new [] × ((t : Option Tree) →
         S.permits start (as_described (descriptor_of (T.tree value.now)) t)
@@ -90,7 +90,7 @@ pub fn end_single<S: Serializer>(serializer: &mut S, compound: S::Open) -> Resul
 ///
 /// # Example
 /// The code 1 and `true` are `00530141`.
-#[tactic(auto, unfolding(crate::specs::Structs::Stands))]
+#[tactic(auto, unfolding(crate::specs::Structs::HasAfterDescriptor))]
 #[inline(always)]
 pub fn serialize_described<S: Serializer, D: Serialize, T: Serialize>(
     serializer: &mut S,

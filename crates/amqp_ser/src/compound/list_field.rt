@@ -4,7 +4,7 @@ ghost use Rattle.std.specs.Prelude.{◌≡◌, ◌∷◌, [], List, Option, Some
 ghost use Rattle.amqp_ser.specs.Tree.{Tree};
 ghost use Rattle.amqp_ser.specs.Compounds.{tree_of_parts};
 ghost use Rattle.amqp_ser.specs.Feeding.{Feeds};
-ghost use Rattle.amqp_ser.specs.Structs.{Stands};
+ghost use Rattle.amqp_ser.specs.Structs.{HasAfterDescriptor};
 
 use super::feed::feed_part;
 use crate::kind::CompoundKind;
@@ -71,7 +71,7 @@ fn close_first<S: Serializer>(
 ///
 /// # Example
 /// A first field `true` opens the list `c0020141`; a second one extends it to `c003024141`.
-#[tactic(auto, unfolding(crate::specs::Structs::Stands))]
+#[tactic(auto, unfolding(crate::specs::Structs::HasAfterDescriptor))]
 #[inline(always)]
 pub fn feed_list_field<S: Serializer, T: Serialize>(
     serializer: &mut S,
@@ -82,7 +82,7 @@ pub fn feed_list_field<S: Serializer, T: Serialize>(
     ensures first { opened ≡ false → (start : S) →
         S.has start CompoundKind.Single serializer.old compound.old [] →
         MatchResult result
-        (λ _. Stands S.permits S.has start None CompoundKind.List serializer.new compound.new
+        (λ _. HasAfterDescriptor S.permits S.has start None CompoundKind.List serializer.new compound.new
         (T.tree value.now ∷ []))
         (λ e. S.has start CompoundKind.Single serializer.new compound.new [] × ((rest : List (Option Tree)) →
         S.permits start (tree_of_parts CompoundKind.List (T.tree value.now ∷ rest)) (Err e) serializer.new)) }

@@ -100,7 +100,7 @@ impl<'a, S: Serializer> SerializeStruct<'a, S> {
     /// The ubyte 1 with the key `x` appends `5001`, and under the name `DESCRIBED_MAP`
     /// `a101785001`. As the first field, the ulong 1 with the key `DESCRIPTOR` puts `005301` before
     /// the fields.
-    #[tactic(auto, unfolding(crate::specs::Structs::Stands))]
+    #[tactic(auto, unfolding(crate::specs::Structs::HasAfterDescriptor))]
     #[inline(always)]
     pub fn serialize_field<T: Serialize>(
         &mut self,

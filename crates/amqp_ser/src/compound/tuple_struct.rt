@@ -97,7 +97,7 @@ impl<'a, S: Serializer> SerializeTupleStruct<'a, S> {
     /// # Example
     /// The ubyte 1 appends `5001`. Under the name `DESCRIBED_LIST` a first ulong 1 puts `005301`
     /// before the fields.
-    #[tactic(auto, unfolding(crate::specs::Structs::Stands))]
+    #[tactic(auto, unfolding(crate::specs::Structs::HasAfterDescriptor))]
     #[inline(always)]
     pub fn serialize_field<T: Serialize>(&mut self, value: &T) -> Result<(), S::Error>
         ensures ok { IfOk result

@@ -14,7 +14,7 @@ ghost use Rattle.amqp_data.specs.Text.{symbol_ref_text, symbol_text};
 ghost use Rattle.amqp_data.specs.declared.descriptor.Descriptor.TheVariants.{Code, Name};
 ghost use Rattle.amqp_ser.specs.Compounds.{all_trees, parts_of, tree_of_parts};
 ghost use Rattle.amqp_ser.specs.Named as fields;
-ghost use Rattle.amqp_ser.specs.Named.{string_key, symbol_key, up_to_last, values_of};
+ghost use Rattle.amqp_ser.specs.Named.{string_key, symbol_key, up_to_last_present, values_of};
 ghost use Rattle.amqp_ser.specs.Tree as tree;
 ghost use Rattle.amqp_ser.specs.Tree.{scalar};
 ghost use Rattle.amqp_ser.specs.declared.kind.CompoundKind.TheVariants.{Map};
@@ -159,10 +159,10 @@ pub fn meanings_of_fields<V: Serialize, R: Fields>()
 /// of the present fields, with strings or symbols as keys.
 pub fn trees_of_fields<F: Fields>()
     ensures list { (l : ListOf F) → ⟦<ListOf<F> as Serialize>⟧.tree l
-        ≡ option_map tree.list (all_trees (up_to_last (values_of (F.named l.0)))) }
+        ≡ option_map tree.list (all_trees (up_to_last_present (values_of (F.named l.0)))) }
     ensures variant { (v : VariantOf F) → ⟦<VariantOf<F> as Serialize>⟧.tree v
         ≡ option_map (λ ts. tree.variant v.0 (tree.list ts))
-        (all_trees (up_to_last (values_of (F.named v.1)))) }
+        (all_trees (up_to_last_present (values_of (F.named v.1)))) }
     ensures strings { (m : MapOf F) → ⟦<MapOf<F> as Serialize>⟧.tree m
         ≡ tree_of_parts Map (fields.named_parts string_key (F.named m.0)) }
     ensures symbols { (m : SymbolMapOf F) → ⟦<SymbolMapOf<F> as Serialize>⟧.tree m

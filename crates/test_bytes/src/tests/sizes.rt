@@ -1,7 +1,7 @@
 //! Lengths of values, calculated by hand from the standard's encoding tables.
 
 ghost use Rattle.amqp_ser.specs.SizeAndBytes.{IsSizeOf};
-ghost use Rattle.amqp_pass.specs.Refused.{told};
+ghost use Rattle.amqp_pass.specs.Refused.{error_result};
 
 use super::calls::samples::NoName;
 use super::compare::is;
@@ -262,7 +262,7 @@ fn descriptor_after_a_string<S: Serializer<Ok = usize, Error = SizeError>>(
 /// Returns the length of the second value, by a serializer that has serialized, or failed to
 /// serialize, the first.
 fn counted_after<A: Serialize, B: Serialize>(first: &A, second: &B) -> Result<usize, SizeError>
-    ensures { IsSizeOf (B.tree second.now) (told result) }
+    ensures { IsSizeOf (B.tree second.now) (error_result result) }
 {
     let mut serializer = SizeSerializer::default();
     let _ = first.serialize(&mut serializer);

@@ -16,8 +16,8 @@ struct Same<F>(F);
 impl<F: Fields> Fields for Same<F> {
     ghost named = { λ s. F.named s.0 };
 
-    fn any_there(&self) -> bool {
-        self.0.any_there()
+    fn any_present(&self) -> bool {
+        self.0.any_present()
     }
 
     fn feed<S: Serializer>(

@@ -1,4 +1,4 @@
-use Rattle.amqp_round_trip.proofs.StandLemmas.{array_stands}
+use Rattle.amqp_round_trip.proofs.HasImageLemmas.{array_stands}
 use Rattle.amqp_round_trip.proofs.laws.arrays_return.Goals as goal
 
 pub returns : goal.returns

@@ -1,4 +1,4 @@
-use Rattle.amqp_round_trip.proofs.StandLemmas.{described_stands}
+use Rattle.amqp_round_trip.proofs.HasImageLemmas.{described_stands}
 use Rattle.amqp_round_trip.proofs.laws.described_return.Goals as goal
 
 pub returns : goal.returns

@@ -1,4 +1,4 @@
-use Rattle.amqp_round_trip.proofs.StandLemmas.{list_stands}
+use Rattle.amqp_round_trip.proofs.HasImageLemmas.{list_stands}
 use Rattle.amqp_round_trip.proofs.laws.lists_return.Goals as goal
 
 pub returns : goal.returns

@@ -1,4 +1,4 @@
-use Rattle.amqp_round_trip.proofs.StandLemmas.{fields_stand, value_stands}
+use Rattle.amqp_round_trip.proofs.HasImageLemmas.{fields_stand, value_stands}
 use Rattle.amqp_round_trip.proofs.laws.variants_return.Goals as goal
 
 pub returns : goal.returns

@@ -27,9 +27,9 @@ returns-in_err-value-clause-others c =
 
 pub returns-clause-ok : goal.returns-clause-ok
 returns-clause-ok c =
-    let told = reported c.args.lines.now.items c.in_ok-size.size c.in_ok-bytes.bytes.items c.in_ok-value.value c.in_ok-size.ensures c.in_ok-bytes.ensures c.in_ok-value.ensures.image in
+    let error_result = reported c.args.lines.now.items c.in_ok-size.size c.in_ok-bytes.bytes.items c.in_ok-value.value c.in_ok-size.ensures c.in_ok-bytes.ensures c.in_ok-value.ensures.image in
     let size = c.in_ok-size.size in
     let value = text_of (tree_of c.in_ok-value.value) in
     let t = strings_tree (texts c.args.lines.now.items) in
-    let given : three_lines size c.deref.result.now value ≡ report t = ap (λ l. three_lines size l value) c.deref.ensures.value ∙ told.1 in
-    IfOk-weaker c.print_report.result (λ text. text.items ≡ three_lines size c.deref.result.now value) (λ text. (writable t ≡ true) × (text.items ≡ report t)) (λ text e. (told.0, e ∙ given)) c.print_report.ensures.ok
+    let given : three_lines size c.deref.result.now value ≡ report t = ap (λ l. three_lines size l value) c.deref.ensures.value ∙ error_result.1 in
+    IfOk-weaker c.print_report.result (λ text. text.items ≡ three_lines size c.deref.result.now value) (λ text. (writable t ≡ true) × (text.items ≡ report t)) (λ text e. (error_result.0, e ∙ given)) c.print_report.ensures.ok

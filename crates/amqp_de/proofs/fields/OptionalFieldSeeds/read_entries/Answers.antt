@@ -1,7 +1,7 @@
 use Rattle.std.proofs.Common.{is_some, rules}
 use Rattle.amqp_de.proofs.LeftOut.{absent_same, others_distinct, present_value, rest_there}
 use Rattle.amqp_de.proofs.fields.OptionalFieldSeeds.read_entries.Goals as goal
-use Rattle.amqp_de.specs.Present.{those_there}
+use Rattle.amqp_de.specs.Present.{present_fields}
 use Rattle.amqp_de.specs.Reads.{image_option}
 
 pub returns-in_ok-rest-in-Some-clause-law : goal.returns-in_ok-rest-in-Some-clause-law
@@ -22,7 +22,7 @@ returns-in_ok-rest-in-None-clause-law g c x r d e =
     let images = g.R.FieldSeeds.images x.1 in
     let entries = g.D.Deserializer.pairs c.args.entries.now in
     let image = image_option g.V.Deserialize.image x.0 in (
-      absent_same g.V.Deserialize.same x.0 n image (those_there names images) entries e c.in-None.ensures.0,
+      absent_same g.V.Deserialize.same x.0 n image (present_fields names images) entries e c.in-None.ensures.0,
       c.in_ok-rest-in-None.ensures.law x.1 r.1 (others_distinct n names d)
           (rest_there n (is_some x.0) image names images entries _ d e c.in-None.ensures.1),
     )
