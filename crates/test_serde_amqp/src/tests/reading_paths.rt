@@ -3,7 +3,7 @@
 use super::rows::{hold, holds, is};
 use serde_amqp::de::{
     Deserialize as _, DeserializeCompounds, DeserializeSeed as _, Deserializer as _,
-    EnumAccess as _, MapAccess as _, SeqAccess as _, VariantAccess as _,
+    EnumAccess as _, MapAccess as _, SeqAccess as _, VariantAccess as _, variant, variants,
 };
 use serde_amqp::described::Described;
 use serde_amqp::descriptor::Descriptor;
@@ -232,8 +232,13 @@ fn records_are_read(rt: &HostRuntime) -> Result<bool, Error> {
     )
 }
 
+fn macros_select_a_variant(alloc: Global) -> bool {
+    let seed = de::EnumSeed(variants! { unit, unit });
+    matches!(seed.deserialize(alloc, uint(alloc)), Ok(variant!(1, ())))
+}
+
 // Reads a variant.
-fn variant<V: de::Variants>(alloc: Global, variants: V) -> Result<V::Value, Error> {
+fn variant_of<V: de::Variants>(alloc: Global, variants: V) -> Result<V::Value, Error> {
     de::EnumSeed(variants).deserialize(alloc, uint(alloc))
 }
 
@@ -246,7 +251,7 @@ fn types_of_a_program_are_read(rt: &HostRuntime) -> bool {
             rest: (),
         },
     };
-    let missing: Result<de::Either<(), de::Either<u32, de::Never>>, Error> = variant(
+    let missing: Result<de::Either<(), de::Either<u32, de::Never>>, Error> = variant_of(
         rt.alloc(),
         variants,
     );
@@ -254,6 +259,7 @@ fn types_of_a_program_are_read(rt: &HostRuntime) -> bool {
     holds(rt, "deserialize_any", matches!(any, Ok(de::Plain::U32(1))))
         && holds(rt, "is", de::Describes::is(&1u64, &Descriptor::Code(1)))
         && holds(rt, "a missing value", missing)
+        && holds(rt, "macros", macros_select_a_variant(rt.alloc()))
 }
 
 #[test]
