@@ -274,9 +274,9 @@ pub trait DeserializeCompounds: Deserializer {
     ) -> Result<V::Value, Self::Error>
         ensures { Visits
             (ByEnum (V.gives visitor) (is_value_name name.now)
-                (is_descriptor_name name.now) (is_array_name name.now))
+            (is_descriptor_name name.now) (is_array_name name.now))
             (ByEnum (V.represents visitor) (is_value_name name.now)
-                (is_descriptor_name name.now) (is_array_name name.now))
+            (is_descriptor_name name.now) (is_array_name name.now))
             V.same Self.Error.is_out_of_memory (Self.value self) result }
     {
         if is_value_name(name) {
