@@ -60,7 +60,7 @@ fn data(alloc: Global) -> Result<bool, Error> {
 fn are_inserted(alloc: Global) -> Result<bool, Error> {
     let mut map = OrderedMap::new(alloc);
     for key in 0..1024u16 {
-        drop(map.insert(key, [1u8; 1024])?);
+        drop(map.insert(key, Vec::from_elem(alloc, 1u8, 1024)?)?);
     }
     Ok(map.len() == 1024)
 }
@@ -108,10 +108,8 @@ fn descending_keys(alloc: Global) -> Result<bool, Error> {
 
 // Returns an encoded binary of a mebibyte.
 fn long_frame(alloc: Global) -> Result<Vec<u8>, Error> {
-    let payload = Vec::from_elem(alloc, 1u8, MEBIBYTE)?;
-    let mut frame = Vec::new(alloc);
-    frame.extend_from_slice(&[0xb0, 0, 0x10, 0, 0])?;
-    frame.extend_from_slice(&payload)?;
+    let mut frame = Vec::from_slice(alloc, b"\xb0\0\x10\0\0")?;
+    frame.resize(MEBIBYTE + 5, 1)?;
     Ok(frame)
 }
 
