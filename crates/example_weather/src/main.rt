@@ -8,7 +8,7 @@ use serde_amqp::decode::decode_value_limited;
 use serde_amqp::lazy::LazyValue;
 use serde_amqp::read::{IoReader, Read};
 use serde_amqp::value::round_trip;
-use serde_amqp::{Error, from_value, to_vec};
+use serde_amqp::{Error, from_value, to_value, to_vec};
 use std::alloc::Global;
 use std::io::{BufReader, Read as _};
 
@@ -24,16 +24,17 @@ fn main(rt: HostRuntime) -> Result<(), Error> {
     receive(&rt, alloc, &mut IoReader::new(input.take(65_536)))
 }
 
-// Prints the encoding of the gust, and the gust.
+// Prints the encoding of the gust, and its untyped value.
 fn print_gust(rt: &impl Print, alloc: Global, gust: &Gust) -> Result<(), Error> {
     for byte in to_vec(alloc, gust)?.iter() {
         let _ = print!(rt; "{byte:02x}");
     }
-    let _ = println!(rt; " {gust:?}");
+    let value = to_value(alloc, gust)?;
+    let _ = println!(rt; " {value}");
     Ok(())
 }
 
-// Prints the gusts until the input ends or the first error.
+// Prints the gusts until the input ends, and the error of a value that is no gust.
 fn receive<R: Read>(rt: &impl Print, alloc: Global, reader: &mut R) -> Result<(), Error> {
     for _ in 0..u64::MAX {
         if reader.peek()?.is_none() {
@@ -41,7 +42,12 @@ fn receive<R: Read>(rt: &impl Print, alloc: Global, reader: &mut R) -> Result<()
         }
         let encoded = LazyValue::from_reader(alloc, reader)?;
         let value = decode_value_limited(alloc, encoded.as_slice(), 100)?;
-        print_gust(rt, alloc, &from_value::<Gust>(alloc, value)?)?;
+        match from_value::<Gust>(alloc, value) {
+            Ok(gust) => print_gust(rt, alloc, &gust)?,
+            Err(error) => {
+                let _ = println!(rt; "no gust: {error}");
+            }
+        }
     }
     Err(Error::TooLong)
 }
