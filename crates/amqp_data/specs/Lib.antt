@@ -3,6 +3,7 @@ pub mod Compares
 pub mod Fixed
 pub mod FormatCode
 pub mod Hexadecimal
+pub mod Index
 pub mod Items
 pub mod Iterates
 pub mod Lends

@@ -1,0 +1,174 @@
+//! An index of the keys of a list of entries, by hash.
+//!
+//! Each bucket has the number of the last entry whose key is in it, and each entry the number of
+//! the entry before it in its bucket. An entry's number is its position plus one, and 0 stands for
+//! no entry. A list without an index has no buckets.
+
+ghost use Rattle.std.specs.Prelude.{◌≡◌, ℕ, ◌+◌, ◌<◌, ◌∷◌, ◌++◌, [], List, length, position};
+ghost use Rattle.std.specs.Prelude.{IfSome, IsTrue};
+ghost use Rattle.amqp_data.specs.Index as chains;
+ghost use Rattle.amqp_data.specs.Index.{IsIndexed, IsChained, buckets};
+
+use std::alloc::Global;
+use std::hash::{FoldHasher, Hash, Hasher};
+
+/// The number of entries from which on a list has an index.
+const FIRST_INDEXED: usize = 48;
+
+// Returns the bucket of a key among so many.
+#[tactic(auto, unfolding(crate::specs::Index::bucket_of, crate::specs::Index::hash_of))]
+fn bucket_of<K: Hash>(key: &K, count: usize) -> usize
+    requires { 0 < count }
+    ensures bucket { result ≡ chains.bucket_of count (K.hash_input key.now) }
+    ensures within { result < count }
+{
+    let mut hasher = FoldHasher::default();
+    key.hash(&mut hasher);
+    ((hasher.finish() >> 32) % count as u64) as usize
+}
+
+// Returns the position of the key, in a list without an index.
+#[inline(always)]
+fn find_in_order<K: Eq, V>(entries: &[(K, V)], key: &K) -> Option<usize>
+    ensures { result ≡ position (λ e. K.eq key.now e.0) entries.now }
+{
+    entries.iter().position(|entry| *key == entry.0)
+}
+
+// Returns the position of the key, which is in the bucket if it is present.
+fn find_in_bucket<K: Hash + Eq, V>(
+    entries: &[(K, V)],
+    heads: &[u32],
+    earlier: &[u32],
+    bucket: usize,
+    key: &K,
+) -> Option<usize>
+    requires indexed { IsIndexed K.eq K.hash_input heads.now earlier.now entries.now }
+    requires within { bucket < length heads.now }
+    requires bucket { bucket ≡ chains.bucket_of (length heads.now) (K.hash_input key.now) }
+    ensures { result ≡ position (λ e. K.eq key.now e.0) entries.now }
+{
+    let mut number = heads[bucket] as usize;
+    while number > 0 {
+        let at = number - 1;
+        if *key == entries[at].0 {
+            return Some(at);
+        }
+        number = earlier[at] as usize;
+    }
+    None
+}
+
+/// Returns the position of the key, and its bucket if there is an index.
+#[inline(always)]
+pub(crate) fn locate<K: Hash + Eq, V>(
+    entries: &[(K, V)],
+    heads: &[u32],
+    earlier: &[u32],
+    key: &K,
+) -> (Option<usize>, usize)
+    requires { IsIndexed K.eq K.hash_input heads.now earlier.now entries.now }
+    ensures position { result.0 ≡ position (λ e. K.eq key.now e.0) entries.now }
+    ensures bucket { 0 < length heads.now →
+        result.1 ≡ chains.bucket_of (length heads.now) (K.hash_input key.now) }
+    ensures within { 0 < length heads.now → result.1 < length heads.now }
+{
+    if heads.is_empty() {
+        return (find_in_order(entries, key), 0);
+    }
+    let bucket = bucket_of(key, heads.len());
+    (find_in_bucket(entries, heads, earlier, bucket, key), bucket)
+}
+
+// Adds an entry to the index, after the others. Returns false if an allocation fails.
+fn add(heads: &mut [u32], earlier: &mut Vec<u32>, bucket: usize) -> bool
+    requires { bucket < length heads.old }
+    ensures length { length heads.new ≡ length heads.old }
+    ensures chained { IsTrue result → (bs : List ℕ) → IsChained heads.old earlier.old.items bs →
+        IsChained heads.new earlier.new.items (bs ++ bucket ∷ []) }
+{
+    let Ok(number) = u32::try_from(earlier.len() + 1) else {
+        return false;
+    };
+    if earlier.push(heads[bucket]).is_err() {
+        return false;
+    }
+    heads[bucket] = number;
+    true
+}
+
+// Makes an index with so many buckets. Returns `None` if an allocation fails.
+fn build<K: Hash, V>(
+    alloc: Global,
+    entries: &[(K, V)],
+    count: usize,
+) -> Option<(Vec<u32>, Vec<u32>)>
+    requires { 0 < count }
+    ensures length { IfSome result (λ r. length r.0.items ≡ count) }
+    ensures chained { IfSome result
+        (λ r. IsChained r.0.items r.1.items (buckets K.hash_input count entries.now)) }
+{
+    let mut heads = Vec::from_elem(alloc, 0u32, count).ok()?;
+    let mut earlier = Vec::with_capacity(alloc, count).ok()?;
+    for entry in entries {
+        if !add(&mut heads, &mut earlier, bucket_of(&entry.0, count)) {
+            return None;
+        }
+    }
+    Some((heads, earlier))
+}
+
+/// Adds the last entry to the index, if there is one or there are enough entries for one.
+#[inline(always)]
+pub(crate) fn add_last<K: Hash + Eq, V>(
+    entries: &[(K, V)],
+    heads: &mut Vec<u32>,
+    earlier: &mut Vec<u32>,
+    bucket: usize,
+)
+    requires some { 0 < length entries.now }
+    requires within { 0 < length heads.old.items → bucket < length heads.old.items }
+    ensures { (es : List (K × V)) (e : K × V) → entries.now ≡ es ++ e ∷ [] →
+        (0 < length heads.old.items →
+        (bucket ≡ chains.bucket_of (length heads.old.items) (K.hash_input e.0))
+        × IsChained heads.old.items earlier.old.items
+        (buckets K.hash_input (length heads.old.items) es)) →
+        0 < length heads.new.items →
+        IsChained heads.new.items earlier.new.items
+        (buckets K.hash_input (length heads.new.items) entries.now) }
+{
+    if heads.is_empty() && entries.len() < FIRST_INDEXED {
+        return;
+    }
+    add_to_index(entries, heads, earlier, bucket);
+}
+
+// Adds the last entry to the index. Makes an index with twice as many buckets as entries if there
+// are more entries than buckets. If an allocation fails, there is no index.
+fn add_to_index<K: Hash + Eq, V>(
+    entries: &[(K, V)],
+    heads: &mut Vec<u32>,
+    earlier: &mut Vec<u32>,
+    bucket: usize,
+)
+    requires some { 0 < length entries.now }
+    requires within { 0 < length heads.old.items → bucket < length heads.old.items }
+    ensures { (es : List (K × V)) (e : K × V) → entries.now ≡ es ++ e ∷ [] →
+        (0 < length heads.old.items →
+        (bucket ≡ chains.bucket_of (length heads.old.items) (K.hash_input e.0))
+        × IsChained heads.old.items earlier.old.items
+        (buckets K.hash_input (length heads.old.items) es)) →
+        0 < length heads.new.items →
+        IsChained heads.new.items earlier.new.items
+        (buckets K.hash_input (length heads.new.items) entries.now) }
+{
+    if entries.len() <= heads.len() && add(heads, earlier, bucket) {
+        return;
+    }
+    heads.clear();
+    let count = entries.len().saturating_mul(2);
+    if let Some((new_heads, new_earlier)) = build(*heads.allocator(), entries, count) {
+        *heads = new_heads;
+        *earlier = new_earlier;
+    }
+}
