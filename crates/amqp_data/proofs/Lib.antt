@@ -1,3 +1,4 @@
 pub mod Searches
 pub mod PairLemmas
 pub mod IndexLemmas
+pub mod DigitLemmas

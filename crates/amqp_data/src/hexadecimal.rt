@@ -1,11 +1,14 @@
 //! Lower-case hexadecimal for display.
 
-ghost use Rattle.std.specs.Prelude.{◌≡◌, ◌<◌};
+ghost use Rattle.std.specs.Prelude.{◌≡◌, ◌+◌, ◌*◌, ◌<◌, ◌≤◌, ◌++◌, length, take, IsAscii};
 ghost use Rattle.std.specs.Fmt.{WritesOnOk};
 ghost use Rattle.amqp_data.specs.Hexadecimal.{hex, hex_digit};
 
 use std::fmt;
 use std::fmt::{Formatter, Write};
+use std::str::from_utf8_unchecked;
+
+static DIGITS: [u8; 16] = *b"0123456789abcdef";
 
 /// Writes two hexadecimal digits for each byte.
 ///
@@ -20,11 +23,65 @@ use std::fmt::{Formatter, Write};
 pub fn write_hexadecimal<W: Write>(bytes: &[u8], f: &mut Formatter<W>) -> fmt::Result
     ensures { WritesOnOk W.write_str_gives f.old result (hex bytes.now) f.new }
 {
-    for byte in bytes {
-        f.write_char(hexadecimal_digit(*byte / 16) as char)?;
-        f.write_char(hexadecimal_digit(*byte % 16) as char)?;
+    let mut from = 0;
+    while from < bytes.len() {
+        let to = bytes.len().min(from + 32);
+        write_block(&bytes[from..to], f)?;
+        from = to;
     }
     Ok(())
+}
+
+// Writes the digits of at most 32 bytes by one call.
+fn write_block<W: Write>(bytes: &[u8], f: &mut Formatter<W>) -> fmt::Result
+    requires { length bytes.now ≤ 32 }
+    ensures { WritesOnOk W.write_str_gives f.old result (hex bytes.now) f.new }
+{
+    let mut digits = [0; 64];
+    put_block(bytes, &mut digits);
+    f.write_str(unsafe { from_utf8_unchecked(&digits[..2 * bytes.len()]) })
+}
+
+// Puts two digits for each of at most 32 bytes at the start of `digits`.
+#[inline(always)]
+fn put_block(bytes: &[u8], digits: &mut [u8; 64])
+    requires { length bytes.now ≤ 32 }
+    ensures text { take (2 * length bytes.now) digits.new ≡ hex bytes.now }
+    ensures ascii { IsAscii (hex bytes.now) }
+{
+    if bytes.len() < 32 {
+        put_digits(bytes, digits, 0);
+    } else {
+        put_whole(bytes, digits);
+    }
+}
+
+// Puts the digits of 32 bytes. The digits are computed, and not read from a table, so that LLVM
+// computes those of several bytes at once.
+#[inline(always)]
+fn put_whole(bytes: &[u8], digits: &mut [u8; 64])
+    requires { length bytes.now ≡ 32 }
+    ensures text { take (2 * length bytes.now) digits.new ≡ hex bytes.now }
+    ensures ascii { IsAscii (hex bytes.now) }
+{
+    for index in 0..32 {
+        digits[2 * index] = hexadecimal_digit(bytes[index] / 16);
+        digits[2 * index + 1] = hexadecimal_digit(bytes[index] % 16);
+    }
+}
+
+// Puts two digits for each byte into `text`, from the offset `at` on.
+#[inline(always)]
+pub(crate) fn put_digits(bytes: &[u8], text: &mut [u8], at: usize)
+    requires { at + 2 * length bytes.now ≤ length text.old }
+    ensures text { take (at + 2 * length bytes.now) text.new ≡ take at text.old ++ hex bytes.now }
+    ensures ascii { IsAscii (hex bytes.now) }
+{
+    for index in 0..bytes.len() {
+        let byte = bytes[index];
+        text[at + 2 * index] = DIGITS[(byte / 16) as usize];
+        text[at + 2 * index + 1] = DIGITS[(byte % 16) as usize];
+    }
 }
 
 /// Returns the hexadecimal digit of a number below 16.

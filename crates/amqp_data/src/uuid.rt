@@ -1,13 +1,15 @@
 //! Universally unique identifiers (AMQP 1.0 part 1, section 1.6.18).
 
-ghost use Rattle.std.specs.Prelude.{◌≡◌, ◌+◌, ◌≤◌, Some};
-ghost use Rattle.std.specs.Fmt.{WritesOnOk};
+ghost use Rattle.std.specs.Prelude.{◌≡◌, ◌+◌, ◌*◌, ◌≤◌, ◌++◌, take, drop, Some, IsAscii};
 ghost use Rattle.amqp_data.specs.Fixed.{uuid_bytes, GivesFixed};
+ghost use Rattle.amqp_data.specs.Hexadecimal.{hex};
 ghost use Rattle.amqp_data.specs.Shown.{shown_uuid, uuid_group};
 
-use crate::{Error, write_hexadecimal};
+use crate::Error;
+use crate::hexadecimal::put_digits;
 use std::fmt;
 use std::fmt::{Formatter, Write};
+use std::str::from_utf8_unchecked;
 
 /// A universally unique identifier of any version, as its 16 bytes.
 ///
@@ -80,24 +82,47 @@ impl fmt::Display for Uuid {
     ghost output = { λ uuid. Some (shown_uuid (uuid_bytes uuid)) };
 
     fn fmt<W: Write>(&self, f: &mut Formatter<W>) -> fmt::Result {
-        write_hexadecimal(&self.0[..4], f)?;
-        write_group(&self.0, 4, 2, f)?;
-        write_group(&self.0, 6, 2, f)?;
-        write_group(&self.0, 8, 2, f)?;
-        write_group(&self.0, 10, 6, f)
+        let text = uuid_text(&self.0);
+        f.write_str(unsafe { from_utf8_unchecked(&text) })
     }
 }
 
-// Writes a hyphen and the digits of `count` bytes, from the offset `from`.
-fn write_group<W: Write>(
-    bytes: &[u8; 16],
-    from: usize,
-    count: usize,
-    f: &mut Formatter<W>,
-) -> fmt::Result
-    requires { from + count ≤ 16 }
-    ensures { WritesOnOk W.write_str_gives f.old result (uuid_group bytes.now from count) f.new }
+// Returns the text of the uuid with these bytes.
+fn uuid_text(bytes: &[u8; 16]) -> [u8; 36]
+    ensures text { result ≡ shown_uuid bytes.now }
+    ensures ascii { IsAscii result }
 {
-    f.write_str("-")?;
-    write_hexadecimal(&bytes[from..from + count], f)
+    let mut text = [0; 36];
+    put_part(bytes, 0, 4, &mut text, 0);
+    put_group(bytes, 4, 2, &mut text, 8);
+    put_group(bytes, 6, 2, &mut text, 13);
+    put_group(bytes, 8, 2, &mut text, 18);
+    put_group(bytes, 10, 6, &mut text, 23);
+    text
+}
+
+// Puts a hyphen and the digits of `count` bytes, from the offset `from`, into `text`, from the
+// offset `at` on.
+#[inline(always)]
+fn put_group(bytes: &[u8; 16], from: usize, count: usize, text: &mut [u8; 36], at: usize)
+    requires bytes { from + count ≤ 16 }
+    requires text { at + 1 + 2 * count ≤ 36 }
+    ensures text { take (at + 1 + 2 * count) text.new
+        ≡ take at text.old ++ uuid_group bytes.now from count }
+    ensures ascii { IsAscii (uuid_group bytes.now from count) }
+{
+    text[at] = b'-';
+    put_part(bytes, from, count, text, at + 1);
+}
+
+// The same without a hyphen.
+#[inline(always)]
+fn put_part(bytes: &[u8; 16], from: usize, count: usize, text: &mut [u8; 36], at: usize)
+    requires bytes { from + count ≤ 16 }
+    requires text { at + 2 * count ≤ 36 }
+    ensures text { take (at + 2 * count) text.new
+        ≡ take at text.old ++ hex (take count (drop from bytes.now)) }
+    ensures ascii { IsAscii (hex (take count (drop from bytes.now))) }
+{
+    put_digits(&bytes[from..from + count], text, at);
 }
