@@ -1,5 +1,5 @@
 -- The bytes consumed by reads into the parts of a buffer.
-use Rattle.std.proofs.Common.{◌≡◌, ℕ, ◌+◌, ◌-◌, ◌≤◌, ◌<◌, List, [], ◌∷◌, ◌++◌, Option, None, Some, Result, Ok, Err, OnOk, length, take, sym, ap, ◌∙◌, subst, arith, length-take, length-append, slice_set}
+use Rattle.std.proofs.Common.{◌≡◌, ℕ, ◌+◌, ◌-◌, ◌≤◌, ◌<◌, List, [], ◌∷◌, ◌++◌, Option, None, Some, Result, Ok, Err, OnOk, length, take, refl, sym, ap, ◌∙◌, subst, arith, length-take, length-append, slice_set}
 use Rattle.std.proofs.lemmas.List.{take-append-le, drop_all, append-nil}
 use Rattle.std.specs.Io.KnownBytes.{Consumes, prepend_known}
 use Rattle.std.proofs.KnownBytes.{Consumes-trans}
@@ -46,3 +46,13 @@ put-behind byte (x ∷ buf) part some len =
 pub length-put : (at k : ℕ) (buf part : List ℕ) → at ≤ length buf → at + length part ≤ length (put_mid at k buf part)
 length-put at k buf part within =
     simp length-append (omega (arith, length-take at buf))
+
+-- one byte at the start of a buffer
+pub first-put : (byte : ℕ) (buf : List ℕ) → 0 < length buf → take 1 (slice_set buf 0 byte) ≡ byte ∷ []
+first-put byte [] some = absurd (omega arith)
+first-put byte (x ∷ buf) some = refl
+
+-- the byte that was peeked is read
+pub seen-read : (byte : ℕ) (a : Option (List ℕ)) → Consumes (prepend_known (byte ∷ []) a) (prepend_known [] a) (byte ∷ [])
+seen-read byte None = tt
+seen-read byte (Some xs) = refl

@@ -1,6 +1,6 @@
 //! The trait of readers.
 
-ghost use Rattle.std.specs.Prelude.{◌≡◌, ◌≤◌, ◌⊎◌, ℕ, Bool, List, Option, None, IfOk, OnOk, IfErr, OnErr, IfSome, IsErrOf, length, slice_get};
+ghost use Rattle.std.specs.Prelude.{◌≡◌, ◌≤◌, ◌<◌, ◌⊎◌, ℕ, Bool, List, Option, None, Ok, IfOk, OnOk, IfErr, OnErr, IfSome, IsErrOf, length, take, slice_get};
 ghost use Rattle.std.specs.Option.{option_to_list};
 ghost use Rattle.std.specs.Io.KnownBytes.{Keeps, Consumes, IsAtEnd};
 ghost use Rattle.amqp_frame.specs.Reader.{last_count, Failed, Takes, RunsOut, answers_io};
@@ -100,4 +100,39 @@ pub trait Read {
         ensures last { failures self.old ≡ last_count → IsErrOf result Error.Io }
         ensures counts { counts (answers_io result) (failures self.old) (failures self.new) }
         ensures count { failures self.old ≤ failures self.new };
+
+    /// Reads at least one byte into the start of `buf` and returns how many, or 0 at the end.
+    ///
+    /// Unless the implementation provides its own, reads one byte with `next`.
+    ///
+    /// # Errors
+    ///
+    /// Returns [`Error::Io`] if a read fails. No byte is lost.
+    ///
+    /// # Memory
+    ///
+    /// Allocates nothing.
+    ///
+    /// # Example
+    ///
+    /// With `5001` remaining, a buffer of three bytes receives 50, or 50 and 01.
+    fn read_some(&mut self, buf: &mut [u8]) -> Result<usize, Error>
+        requires { 0 < length buf.old }
+        ensures ok { IfOk result (λ count.
+            Consumes (left self.old) (left self.new) (take count buf.new)) }
+        ensures bound { IfOk result (λ count. count ≤ length buf.new) }
+        ensures end { result ≡ Ok 0 → IsAtEnd (left self.new) }
+        ensures io { IfErr result (λ e.
+            (e ≡ Error.Io) × Failed (failures self.old) (failures self.new)) }
+        ensures last { failures self.old ≡ last_count → IsErrOf result Error.Io }
+        ensures kept { OnErr result (Keeps (left self.old) (left self.new)) }
+        ensures counts { counts (answers_io result) (failures self.old) (failures self.new) }
+        ensures count { failures self.old ≤ failures self.new }
+    {
+        let Some(byte) = self.next()? else {
+            return Ok(0);
+        };
+        buf[0] = byte;
+        Ok(1)
+    }
 }

@@ -58,6 +58,14 @@ impl Read for SliceReader<'_> {
         self.rest = &rest[len..];
         Ok(())
     }
+
+    fn read_some(&mut self, buf: &mut [u8]) -> Result<usize, Error> {
+        let rest = self.rest;
+        let count = rest.len().min(buf.len());
+        buf[..count].copy_from_slice(&rest[..count]);
+        self.rest = &rest[count..];
+        Ok(count)
+    }
 }
 
 /// A reader over the bytes of a `std` reader.
@@ -131,6 +139,18 @@ impl<R: io::Read> Read for IoReader<R> {
         self.seen = None;
         buf[0] = byte;
         fill(&mut self.inner, &mut buf[1..], &mut self.failures)
+    }
+
+    fn read_some(&mut self, buf: &mut [u8]) -> Result<usize, Error> {
+        if self.failures == u64::MAX {
+            return Err(Error::Io);
+        }
+        let Some(byte) = self.seen else {
+            return read_some(&mut self.inner, buf, &mut self.failures);
+        };
+        self.seen = None;
+        buf[0] = byte;
+        Ok(1)
     }
 }
 
