@@ -1,13 +1,13 @@
 //! Reads the bytes of the next encoded value into a buffer.
 
-ghost use Rattle.std.specs.Prelude.{◌≡◌, ◌≤◌, ◌<◌, [], ◌∷◌, ◌++◌, IfOk, OnOk, IfErr, IfSome, Some, length};
+ghost use Rattle.std.specs.Prelude.{◌≡◌, ◌≤◌, ◌<◌, [], ◌∷◌, ◌++◌, IfOk, OnOk, IfErr, IfSome, IsOkUnless, Some, length};
 ghost use Rattle.std.specs.Io.KnownBytes.{Consumes};
-ghost use Rattle.amqp_frame.specs.Code.{payload_len};
+ghost use Rattle.amqp_frame.specs.Code.{category, payload_len};
 ghost use Rattle.amqp_frame.specs.Frame.{IsFrame};
 ghost use Rattle.amqp_frame.specs.Reader.{RunsOut};
 ghost use Rattle.amqp_frame.specs.Taking.{FrameRefuses, Moves, TakesIncomplete, TakesMalformed};
 
-use crate::code::{Category, body_len_of, category_of, is_primitive, size_width_of};
+use crate::code::{body_len_of, category_of, is_primitive, size_width_of};
 use crate::read::Read;
 use amqp_data::Error;
 use bytes::Bytes;
@@ -16,6 +16,10 @@ use std::alloc::Global;
 // The maximum number of bytes requested at once. It bounds the memory allocated for a declared size
 // that exceeds the input.
 const PIECE: usize = 4096;
+
+// The maximum number of bytes that are copied to a larger block instead of enlarging theirs, which
+// takes more steps than a copy of so few bytes.
+const COPIED: usize = 24;
 
 /// Reads the next encoded value, one format code at a time, and counts the values still expected.
 ///
@@ -44,14 +48,15 @@ pub fn take_value<R: Read>(alloc: Global, reader: &mut R) -> Result<Bytes, Error
     let mut taken = Vec::new(alloc);
     let mut open: u64 = 1;
     while open > 0 {
-        let code = take_byte(reader, &mut taken)?;
+        let code = next_code(reader)?;
         if code == 0 {
+            push_zero(&mut taken)?;
             open += 1;
         } else {
             if !is_primitive(code) {
                 return Err(Error::InvalidFormatCode);
             }
-            take_payload(reader, &mut taken, category_of(code))?;
+            take_primitive(reader, &mut taken, code)?;
             open -= 1;
         }
     }
@@ -59,9 +64,8 @@ pub fn take_value<R: Read>(alloc: Global, reader: &mut R) -> Result<Bytes, Error
     Ok(bytes)
 }
 
-// Reads one byte and appends it to `taken`.
-fn take_byte<R: Read>(reader: &mut R, taken: &mut Vec<u8>) -> Result<u8, Error>
-    ensures bytes { IfOk result (λ byte. taken.new.items ≡ taken.old.items ++ byte ∷ []) }
+// Reads the next format code.
+fn next_code<R: Read>(reader: &mut R) -> Result<u8, Error>
     ensures ok { IfOk result (λ byte.
         Consumes (R.left reader.old) (R.left reader.new) (byte ∷ [])) }
     ensures refused { IfErr result (FrameRefuses (R.left reader.old) (R.left reader.new)
@@ -69,33 +73,102 @@ fn take_byte<R: Read>(reader: &mut R, taken: &mut Vec<u8>) -> Result<u8, Error>
         (RunsOut (R.left reader.old) (R.left reader.new) 1) ⊥) }
     ensures count { R.failures reader.old ≤ R.failures reader.new }
 {
-    let Some(byte) = reader.next()? else {
-        return Err(Error::UnexpectedEof);
-    };
-    taken.push(byte)?;
-    Ok(byte)
+    match reader.next()? {
+        Some(byte) => Ok(byte),
+        None => Err(Error::UnexpectedEof),
+    }
 }
 
-// Reads a payload of this category and appends it to `taken`.
-fn take_payload<R: Read>(
-    reader: &mut R,
-    taken: &mut Vec<u8>,
-    category: Category,
-) -> Result<(), Error>
+// Appends the code 00.
+fn push_zero(taken: &mut Vec<u8>) -> Result<(), Error>
+    ensures ok { OnOk result (taken.new.items ≡ taken.old.items ++ 0 ∷ []) }
+    ensures memory { IsOkUnless result Error.OutOfMemory }
+{
+    taken.push(0)?;
+    Ok(())
+}
+
+// Reads the payload of this code and appends the code and the payload to `taken`.
+fn take_primitive<R: Read>(reader: &mut R, taken: &mut Vec<u8>, code: u8) -> Result<(), Error>
     ensures ok { OnOk result (Moves (R.left reader.old) (R.left reader.new)
-        taken.old.items taken.new.items
-        (λ bytes. length bytes ≡ payload_len category bytes)) }
+        (taken.old.items ++ code ∷ []) taken.new.items
+        (λ bytes. length bytes ≡ payload_len (category code) bytes)) }
     ensures refused { IfErr result (FrameRefuses (R.left reader.old) (R.left reader.new)
         (R.failures reader.old) (R.failures reader.new)
         (IfSome (R.left reader.old) (λ s.
-        (length s < payload_len category s) × (R.left reader.new ≡ Some []))) ⊥) }
+        (length s < payload_len (category code) s) × (R.left reader.new ≡ Some []))) ⊥) }
     ensures count { R.failures reader.old ≤ R.failures reader.new }
 {
-    let at = taken.len();
-    let width = size_width_of(category);
-    take_bytes(reader, taken, width as u32)?;
-    let body = body_len_of(category, &taken[at..]);
+    let category = category_of(code);
+    let mut size = [0; 4];
+    let size = &mut size[..size_width_of(category)];
+    read_size(reader, size)?;
+    let body = body_len_of(category, size);
+    push_header(taken, code, size, body)?;
     take_bytes(reader, taken, body)
+}
+
+// Reads the size at the start of a payload.
+fn read_size<R: Read>(reader: &mut R, size: &mut [u8]) -> Result<(), Error>
+    ensures ok { OnOk result (Consumes (R.left reader.old) (R.left reader.new) size.new) }
+    ensures refused { IfErr result (FrameRefuses (R.left reader.old) (R.left reader.new)
+        (R.failures reader.old) (R.failures reader.new)
+        (RunsOut (R.left reader.old) (R.left reader.new) (length size.old)) ⊥) }
+    ensures count { R.failures reader.old ≤ R.failures reader.new }
+{
+    if size.is_empty() {
+        return Ok(());
+    }
+    reader.read_exact(size)
+}
+
+// Appends a code and the size of its payload, with room for the first bytes of its body.
+fn push_header(taken: &mut Vec<u8>, code: u8, size: &[u8], body: u32) -> Result<(), Error>
+    requires { length size.now ≤ 4 }
+    ensures ok { OnOk result
+        (taken.new.items ≡ (taken.old.items ++ code ∷ []) ++ size.now) }
+    ensures memory { IsOkUnless result Error.OutOfMemory }
+{
+    let room = (body as usize).min(PIECE);
+    make_room(taken, 1 + size.len() + room)?;
+    taken.push(code)?;
+    push_size(taken, size)
+}
+
+// Appends the size of a payload, if it has one.
+fn push_size(taken: &mut Vec<u8>, size: &[u8]) -> Result<(), Error>
+    ensures ok { OnOk result (taken.new.items ≡ taken.old.items ++ size.now) }
+    ensures memory { IsOkUnless result Error.OutOfMemory }
+{
+    if size.is_empty() {
+        return Ok(());
+    }
+    taken.extend_from_slice(size)?;
+    Ok(())
+}
+
+// Makes room for `count` more bytes, and for no others in the first block.
+fn make_room(taken: &mut Vec<u8>, count: usize) -> Result<(), Error>
+    requires { count ≤ 4101 }
+    ensures items { taken.new.items ≡ taken.old.items }
+    ensures memory { IsOkUnless result Error.OutOfMemory }
+{
+    let len = taken.len();
+    if count <= taken.capacity() - len {
+        return Ok(());
+    }
+    if len == 0 {
+        *taken = Vec::with_capacity(*taken.allocator(), count)?;
+        return Ok(());
+    }
+    if len > COPIED {
+        taken.reserve(count)?;
+        return Ok(());
+    }
+    let mut block = Vec::with_capacity(*taken.allocator(), len + count)?;
+    block.extend_from_slice(taken)?;
+    *taken = block;
+    Ok(())
 }
 
 // Reads `count` bytes, one piece at a time, and appends them to `taken`.

@@ -1,18 +1,35 @@
-use Rattle.std.proofs.Common.{◌≡◌, length, ap, ◌∙◌, arith}
-use Rattle.amqp_frame.specs.Code.{body_len}
-use Rattle.amqp_frame.proofs.Taking.{refuses-last, falls-short-body, moves-payload, behind}
-use Rattle.amqp_frame.proofs.take_value.take_payload.Goals as goal
+use Rattle.std.proofs.Common.{◌≡◌, ℕ, length, length-take, ap, ◌∙◌, arith}
+use Rattle.amqp_frame.specs.Code.{category, size_width, body_len}
+use Rattle.amqp_frame.proofs.Taking.{refuses-last, falls-short-body, moves-payload}
+use Rattle.amqp_frame.proofs.take_value.take_primitive.Goals as goal
 
-pub returns : goal.returns
-returns g c =
-    let head = c.in_ok-take_bytes.ensures.ok in
-    let at : c.len-at.result ≡ length c.args.taken.now.items = omega (arith, c.args.taken.now.ok.0) in
-    let rest = behind _ head.0 _ _ (c.deref.ensures.value ∙ head.2) at in
-    let told : c.body_len_of-body.result ≡ body_len c.args.category head.0 = c.body_len_of-body.ensures
-    ∙ ap (body_len c.args.category) rest in
-    let width = head.3 ∙ c.size_width_of-width.ensures.width in record {
-      ok = moves-payload c.take_bytes-2.result c.args.category _ _ _ _ _ _ head.0 _ head.1 head.2 width told c.take_bytes-2.ensures.ok;
-      refused = refuses-last c.take_bytes-2.result _ _ _ _ _ _ head.0 head.1 c.take_bytes.ensures.count c.take_bytes-2.ensures.count
-          (falls-short-body c.args.category _ _ _ head.0 _ head.1 width told) (λ h. h) c.take_bytes-2.ensures.refused;
-      count = omega (arith, c.take_bytes.ensures.count, c.take_bytes-2.ensures.count);
-    }
+pub returns-clause-ok : goal.returns-clause-ok
+returns-clause-ok g c =
+    let size = c.read_size.new.size in
+    let width : length size ≡ size_width (category c.args.code) = omega (
+      arith,
+      length-take {A = ℕ},
+      ap size_width c.category_of-category.ensures,
+      c.size_width_of.ensures.width,
+      c.size_width_of.ensures.bound,
+    ) in
+    let told : c.body_len_of-body.result ≡ body_len (category c.args.code) size
+    = c.body_len_of-body.ensures ∙ ap (λ k. body_len k size) c.category_of-category.ensures in
+    moves-payload c.take_bytes.result (category c.args.code) _ _ _ _ _ _ size _ c.in_ok-read_size.ensures.ok
+    c.in_ok-push_header.ensures.ok width told c.take_bytes.ensures.ok
+
+pub returns-clause-refused : goal.returns-clause-refused
+returns-clause-refused g c =
+    let size = c.read_size.new.size in
+    let width : length size ≡ size_width (category c.args.code) = omega (
+      arith,
+      length-take {A = ℕ},
+      ap size_width c.category_of-category.ensures,
+      c.size_width_of.ensures.width,
+      c.size_width_of.ensures.bound,
+    ) in
+    let told : c.body_len_of-body.result ≡ body_len (category c.args.code) size
+    = c.body_len_of-body.ensures ∙ ap (λ k. body_len k size) c.category_of-category.ensures in
+    refuses-last c.take_bytes.result _ _ _ _ _ _ size c.in_ok-read_size.ensures.ok c.read_size.ensures.count
+    c.take_bytes.ensures.count (falls-short-body (category c.args.code) _ _ _ size _ c.in_ok-read_size.ensures.ok width told)
+    (λ h. h) c.take_bytes.ensures.refused

@@ -1,4 +1,4 @@
-use Rattle.std.proofs.Common.{◌≡◌, ◌≤◌, ◌∷◌, [], ◌++◌, length, sym, ap, ◌∙◌, length-append, arith}
+use Rattle.std.proofs.Common.{◌≡◌, ◌≤◌, ◌∷◌, [], ◌++◌, length, sym, ap, length-append, arith}
 use Rattle.std.proofs.lemmas.Result.{err_from_is_err_and}
 use Rattle.std.proofs.KnownBytes.{Consumes-trans}
 use Rattle.amqp_frame.proofs.Open.{open-more, open-frame}
@@ -12,7 +12,7 @@ returns-in_err-code-clause-refused g c =
     let p = err_from_is_err_and c.from_residual.result c.from_residual.ensures.1 in
     let taken = c.loop-open.taken.items in
     let at_end = ends-at-code _ _ _ taken _ o.completes (omega arith) o.moved in
-    rw (p.1, p.2) (refuses-later _ _ _ _ _ _ taken o.moved o.count c.take_byte.ensures.count at_end (λ h. absurd h)
+    rw (p.1, p.2) (refuses-later _ _ _ _ _ _ taken o.moved o.count c.next_code.ensures.count at_end (λ h. absurd h)
     c.in_err-code.field-0.0 c.in_err-code.ensures.refused)
 
 pub loop-open-preserved-then-code-eq0 : goal.loop-open-preserved-then-code-eq0
@@ -20,20 +20,29 @@ loop-open-preserved-then-code-eq0 g c =
     let o = c.loop-open.invariant in
     let zero : c.in_ok-code.code ≡ 0 = omega arith in
     let was = c.in_ok-code.ensures in
-    let bytes = was.bytes in
-    let more : c.take_byte.new.taken.items ≡ c.loop-open.taken.items ++ 0 ∷ [] = rw zero at bytes in
+    let consumed = rw zero at was.ok in
+    let more : c.push_zero.new.taken.items ≡ c.loop-open.taken.items ++ 0 ∷ [] = c.in_ok-push_zero.ensures.ok in
     record {
-      moved = rw was.bytes (Consumes-trans _ _ _ _ _ o.moved was.ok);
+      moved = rw more (Consumes-trans _ _ _ _ _ o.moved consumed);
       completes = rw more (open-more _ _ (omega arith) o.completes);
       bound = omega (
         arith,
-        c.take_byte.new.taken.ok.0,
+        c.push_zero.new.taken.ok.0,
         c.loop-open.taken.ok.0,
         ap length more,
         length-append c.loop-open.taken.items (0 ∷ []),
       );
       count = omega (arith, o.count, was.count);
     }
+
+pub returns-in_err-push_zero-clause-refused : goal.returns-in_err-push_zero-clause-refused
+returns-in_err-push_zero-clause-refused g c =
+    let o = c.loop-open.invariant in
+    let residual = c.from_residual-in_err-push_zero in
+    let p = err_from_is_err_and residual.result residual.ensures.1 in
+    let memory = c.in_err-push_zero.ensures.memory in
+    let consumed = Consumes-trans _ _ _ _ _ o.moved c.in_ok-code.ensures.ok in
+    rw (p.1, p.2, memory) (c.loop-open.taken.items ++ c.in_ok-code.code ∷ [], consumed)
 
 pub returns-then-not-is_primitive-clause-refused : goal.returns-then-not-is_primitive-clause-refused
 returns-then-not-is_primitive-clause-refused g c =
@@ -42,35 +51,35 @@ returns-then-not-is_primitive-clause-refused g c =
     loses-code _ _ c.loop-open.taken.items c.in_ok-code.code _ o.completes (omega arith) (omega arith)
     (sym c.if-not-is_primitive.ensures) (Consumes-trans _ _ _ _ _ o.moved was.ok)
 
-pub returns-in_err-take_payload-clause-refused : goal.returns-in_err-take_payload-clause-refused
-returns-in_err-take_payload-clause-refused g c =
+pub returns-in_err-take_primitive-clause-refused : goal.returns-in_err-take_primitive-clause-refused
+returns-in_err-take_primitive-clause-refused g c =
     let o = c.loop-open.invariant in
     let was = c.in_ok-code.ensures in
-    let residual = c.from_residual-in_err-take_payload in
+    let residual = c.from_residual-in_err-take_primitive in
     let p = err_from_is_err_and residual.result residual.ensures.1 in
     let moved = Consumes-trans _ _ _ _ _ o.moved was.ok in
-    let refused = rw c.category_of.ensures at c.in_err-take_payload.ensures.refused in
+    let refused = c.in_err-take_primitive.ensures.refused in
     let taken = c.loop-open.taken.items ++ c.in_ok-code.code ∷ [] in
     let at_end = ends-in-payload _ _ _ c.loop-open.taken.items c.in_ok-code.code _ o.completes (omega arith)
     (sym c.if-not-is_primitive.ensures) moved in
     rw (p.1, p.2) (refuses-later _ _ _ _ _ _ taken moved (omega (arith, o.count, was.count))
-    c.take_payload.ensures.count at_end (λ h. absurd h) c.in_err-take_payload.field-0.0 refused)
+    c.take_primitive.ensures.count at_end (λ h. absurd h) c.in_err-take_primitive.field-0.0 refused)
 
 pub loop-open-preserved : goal.loop-open-preserved
 loop-open-preserved g c =
     let o = c.loop-open.invariant in
     let was = c.in_ok-code.ensures in
     let moved = Consumes-trans _ _ _ _ _ o.moved was.ok in
-    let payload = rw c.category_of.ensures at c.in_ok-take_payload.ensures.ok in
-    let whole = payload.2 ∙ ap (λ l. l ++ payload.0) was.bytes in
-    let len : length c.loop-open.taken.items ≤ length c.take_payload.new.taken.items
-    = grown c.loop-open.taken.items c.take_payload.new.taken.items (c.in_ok-code.code ∷ []) payload.0 whole in
+    let payload = c.in_ok-take_primitive.ensures.ok in
+    let whole = payload.2 in
+    let len : length c.loop-open.taken.items ≤ length c.take_primitive.new.taken.items
+    = grown c.loop-open.taken.items c.take_primitive.new.taken.items (c.in_ok-code.code ∷ []) payload.0 whole in
     record {
       moved = rw whole (Consumes-trans _ _ _ _ _ moved payload.1);
       completes = keeps-primitive c.loop-open.taken.items _ c.in_ok-code.code _ payload.0 o.completes (omega arith)
           (sym c.if-not-is_primitive.ensures) payload.3 whole;
-      bound = omega (arith, len, c.take_payload.new.taken.ok.0, c.loop-open.taken.ok.0);
-      count = omega (arith, o.count, was.count, c.take_payload.ensures.count);
+      bound = omega (arith, len, c.take_primitive.new.taken.ok.0, c.loop-open.taken.ok.0);
+      count = omega (arith, o.count, was.count, c.take_primitive.ensures.count);
     }
 
 pub returns-clause-frame : goal.returns-clause-frame
