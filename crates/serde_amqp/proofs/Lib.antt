@@ -6,3 +6,4 @@ pub mod LineLemmas
 pub mod StringLemmas
 pub mod LazyLemmas
 pub mod PartLemmas
+pub mod Digits

@@ -148,7 +148,9 @@ fn line_of(alloc: Global, frame: &[u8]) -> Result<Vec<u8>, Error>
     ensures memory { IsOkUnless result Error.OutOfMemory }
 {
     let length = frame.len().to_string(alloc)?;
-    let mut line = Vec::new(alloc);
+    let digits = frame.len().saturating_mul(2);
+    let len = digits.saturating_add(length.len()).saturating_add(2);
+    let mut line = Vec::with_capacity(alloc, len)?;
     line.extend_from_slice(length.as_bytes())?;
     line.push(b' ')?;
     push_hexadecimal(&mut line, frame)?;
