@@ -1,5 +1,5 @@
--- Contracts of public items depend on all of these, except for `all_of` in TreeOf and `PairGives`
--- in Converts, which only contracts of private functions use.
+-- Contracts of public items depend on all of these, except for `all_of` in TreeOf, `PairGives` in
+-- Converts and EscapedBytes, which only contracts of private functions use.
 pub mod Image
 pub mod Plain
 pub mod AsMap
@@ -13,3 +13,4 @@ pub mod ComesBack
 pub mod Sound
 pub mod MapBuilder
 pub mod Places
+pub mod EscapedBytes

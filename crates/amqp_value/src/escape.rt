@@ -1,8 +1,10 @@
 //! Strings and characters in quotes, with escapes.
 
+ghost use Rattle.std.specs.Prelude.{◌≡◌, ◌-◌, ◌<◌, ◌≤◌, true, false, [], ◌∷◌, ◌++◌, length, take, drop, slice_index};
 ghost use Rattle.std.specs.Fmt.{WritesOnOk};
 ghost use Rattle.std.specs.List.{flat_map};
 ghost use Rattle.std.specs.Str.{chars};
+ghost use Rattle.amqp_value.specs.EscapedBytes.{byte_escaped};
 ghost use Rattle.amqp_value.specs.Text.{char_escaped, escaped, quoted, quoted_char, string_escaped};
 
 use std::fmt;
@@ -28,10 +30,70 @@ fn escape_all<W: Write>(text: &str, f: &mut Formatter<W>) -> fmt::Result
     ensures { WritesOnOk W.write_str_gives f.old result (flat_map string_escaped (chars text.now))
         f.new }
 {
-    for c in text.chars() {
-        escape_in_string(c, f)?;
+    let bytes = text.as_bytes();
+    let mut from = 0;
+    while from < bytes.len() {
+        let byte = bytes[from];
+        if needs_escape(byte) {
+            escape_byte(byte, f)?;
+            from += 1;
+            continue;
+        }
+        let to = plain_end(bytes, from);
+        f.write_str(&text[from..to])?;
+        from = to;
     }
     Ok(())
+}
+
+// Returns the offset of the first byte after the one at `from`, which has no escape in a string, that
+// has one, or the length if there is none.
+fn plain_end(bytes: &[u8], from: usize) -> usize
+    requires inside { from < length bytes.now }
+    requires plain { byte_escaped (slice_index bytes.now from) ≡ slice_index bytes.now from ∷ [] }
+    ensures low { from < result }
+    ensures high { result ≤ length bytes.now }
+    ensures plain { flat_map byte_escaped (take result bytes.now)
+        ≡ flat_map byte_escaped (take from bytes.now) ++ take (result - from) (drop from bytes.now) }
+    ensures stop { result < length bytes.now → slice_index bytes.now result < 128 }
+{
+    let mut to = from + 1;
+    while 16 <= bytes.len() - to && !has_escape(&bytes[to..to + 16]) {
+        to += 16;
+    }
+    while to < bytes.len() && !needs_escape(bytes[to]) {
+        to += 1;
+    }
+    to
+}
+
+// Returns whether one of 16 bytes has an escape. It looks at all of them, so that LLVM compares
+// them at once.
+#[inline(always)]
+fn has_escape(bytes: &[u8]) -> bool
+    requires { length bytes.now ≡ 16 }
+    ensures { result ≡ false → flat_map byte_escaped bytes.now ≡ bytes.now }
+{
+    let mut found = false;
+    for index in 0..16 {
+        found = found | needs_escape(bytes[index]);
+    }
+    found
+}
+
+#[inline(always)]
+fn needs_escape(byte: u8) -> bool
+    ensures plain { result ≡ false → byte_escaped byte ≡ byte ∷ [] }
+    ensures ascii { result ≡ true → byte < 128 }
+{
+    (byte < 32) | (byte == b'"') | (byte == b'\\') | (byte == 127)
+}
+
+fn escape_byte<W: Write>(byte: u8, f: &mut Formatter<W>) -> fmt::Result
+    requires { byte < 128 }
+    ensures { WritesOnOk W.write_str_gives f.old result (byte_escaped byte) f.new }
+{
+    escape_in_string(byte as char, f)
 }
 
 fn escape_in_string<W: Write>(c: char, f: &mut Formatter<W>) -> fmt::Result
