@@ -4,3 +4,4 @@ pub mod YearLemmas
 pub mod OneDate
 pub mod DateOfLemmas
 pub mod PaddingLemmas
+pub mod BlockLemmas
