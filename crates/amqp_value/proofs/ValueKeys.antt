@@ -75,24 +75,24 @@ apart : (k l : Value) → key_order l k ≡ Less → equal k l ≡ false
 apart k l less = equal-symmetric k l ∙ laws.matches_eq-law l k ∙ ap is_eq less
 
 -- No entry has the key.
-abbrev Misses : Value → List (Value × Value) → Type 0
+abbrev pub Misses : Value → List (Value × Value) → Type 0
 Misses k [] = Unit {0}
 Misses k (e ∷ es) = (equal k e.0 ≡ false) × Misses k es
 
-misses-place : (k : Value) (es : List (Value × Value)) → Misses k es → place equal k es ≡ None
+pub misses-place : (k : Value) (es : List (Value × Value)) → Misses k es → place equal k es ≡ None
 misses-place k [] h = refl
 misses-place k (e ∷ es) h = rw (h.0, misses-place k es h.1) refl
 
-misses-push : (k : Value) (es : List (Value × Value)) (e : Value × Value) → Misses k es → equal k e.0 ≡ false → Misses k (es ++ e ∷ [])
+pub misses-push : (k : Value) (es : List (Value × Value)) (e : Value × Value) → Misses k es → equal k e.0 ≡ false → Misses k (es ++ e ∷ [])
 misses-push k [] e h other = (other, tt)
 misses-push k (x ∷ es) e h other = (h.0, misses-push k es e h.1 other)
 
 -- No entry of the second list has a key of the first.
-abbrev AllMiss : List (Value × Value) → List (Value × Value) → Type 0
+abbrev pub AllMiss : List (Value × Value) → List (Value × Value) → Type 0
 AllMiss [] done = Unit {0}
 AllMiss (e ∷ es) done = Misses e.0 done × AllMiss es done
 
-all_miss-nothing : (es : List (Value × Value)) → AllMiss es []
+pub all_miss-nothing : (es : List (Value × Value)) → AllMiss es []
 all_miss-nothing [] = tt
 all_miss-nothing (e ∷ es) = (tt, all_miss-nothing es)
 
@@ -108,7 +108,7 @@ merged-after (e ∷ es) done sorted h =
     ∙ merged-after es (done ++ e ∷ []) sorted.1 (all_miss-push es e done sorted.0 h.1)
     ∙ append_assoc done (e ∷ []) es
 
-less_from_test : (o : Ordering) → true ≡ is_lt o → o ≡ Less
+pub less_from_test : (o : Ordering) → true ≡ is_lt o → o ≡ Less
 less_from_test Less h = refl
 less_from_test Equal h = absurd (true≢false h)
 less_from_test Greater h = absurd (true≢false h)

@@ -5,6 +5,7 @@
 //! which a value serializer returns, is encoded.
 #![tactic(auto)]
 
+mod distinct;
 mod escape;
 mod format_code;
 mod from;

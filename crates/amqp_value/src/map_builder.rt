@@ -1,16 +1,15 @@
 //! Entries in the order in which they were inserted.
 
-ghost use Rattle.std.specs.Prelude.{◌≡◌, [], OnOk, IfErr, OnErr, IfOk, MatchResult};
+ghost use Rattle.std.specs.Prelude.{◌≡◌, OnOk, IfErr, OnErr, MatchResult};
 ghost use Rattle.amqp_ser.specs.Tree.{map, no_pairs};
 ghost use Rattle.amqp_value.specs.Image.{insert_tree};
 ghost use Rattle.amqp_value.specs.TreeOf.{tree_of};
 ghost use Rattle.amqp_value.specs.MapBuilder.{collected_pairs};
-ghost use Rattle.amqp_value.specs.Places.{equal, merged};
 
-use crate::places::{ascends, places_of, rebuild};
+use crate::distinct::once_each;
 use crate::value::Value;
 use amqp_data::{Error, OrderedMap};
-use std::alloc::{AllocError, AllocFailed, Global};
+use std::alloc::{AllocFailed, Global};
 
 /// The entries of a map, inserted one after another. A repeated key keeps its position and gets the
 /// new value, and a new key is appended.
@@ -52,12 +51,13 @@ impl MapBuilder {
     /// Returns the map of the entries, in order.
     ///
     /// # Errors
-    /// Returns `Error::OutOfMemory` if an allocation fails, which can happen only if the keys do
-    /// not ascend.
+    /// Returns `Error::OutOfMemory` if an allocation fails, which can happen only if a key repeats,
+    /// or if there are more than 16 entries and their keys do not ascend.
     ///
     /// # Memory
-    /// None if each key is greater than the one before it. Otherwise a B-tree of the keys, a
-    /// position for each entry, and a vector of the entries of the map.
+    /// None if each key is greater than the one before it, or if there are at most 16 entries and no
+    /// key repeats. Otherwise a reference to each key. If a key repeats, also a B-tree of the keys,
+    /// a position for each entry, and a vector of the entries of the map.
     pub fn into_value(self, alloc: Global) -> Result<Value, Error>
         ensures { MatchResult result
             (λ v. tree_of v ≡ map (collected_pairs self))
@@ -66,15 +66,4 @@ impl MapBuilder {
         let entries = once_each(alloc, self.pairs)?;
         Ok(Value::Map(OrderedMap::from_distinct(entries)))
     }
-}
-
-// Returns the entries, with each key once.
-fn once_each(alloc: Global, pairs: Vec<(Value, Value)>) -> Result<Vec<(Value, Value)>, AllocError>
-    ensures { IfOk result (λ entries. entries.items ≡ merged equal pairs.items []) }
-{
-    if ascends(&pairs) {
-        return Ok(pairs);
-    }
-    let places = places_of(alloc, &pairs)?;
-    rebuild(alloc, pairs, places)
 }
