@@ -1,13 +1,16 @@
 -- Lists whose items are related index by index, and the items that an iterator of a vector has
 -- returned.
-use Rattle.std.proofs.Common.{◌≡◌, Bool, List, [], ◌∷◌, ◌++◌, ◌∙◌, ap, sym, subst, refl, fold, Some, true, Result, Ok, Err, is_ok, OnOk, true≢false}
+use Rattle.std.proofs.Common.{◌≡◌, List, [], ◌∷◌, ◌++◌, ◌∙◌, ap, sym, subst, refl, fold, map, Option, Some, None, IsSomeAnd, MatchResult, true, Result, Ok, Err, is_ok, OnOk, true≢false}
 use Rattle.std.specs.Iterator.{Yields}
 use Rattle.std.specs.List.{AllZip}
 use Rattle.std.specs.Vec.Iter.{into_iter_items, into_iter_steps}
 use Rattle.std.specs.declared.vec.IntoIter.{IntoIter}
 use Rattle.amqp_data.specs.Pairs.{entries_of, insert_pair}
-use Rattle.amqp_data.specs.declared.ordered_map.OrderedMap.{OrderedMap}
+use Rattle.amqp_data.specs.declared.error.Error.{Error}
+use Rattle.amqp_data.specs.declared.error.Error.TheVariants.{OutOfMemory}
+use Rattle.amqp_value.specs.Contents.{map_in}
 use Rattle.amqp_value.specs.Converts.{FirstFits, IsMapOf, StopsAt, ConvertsAll, PairConverts, PairFits, PairFails, PairGives, PairsGive}
+use Rattle.amqp_value.specs.Places.{equal, merged}
 use Rattle.amqp_value.specs.declared.try_from.ConvertFault.{ConvertFault}
 use Rattle.amqp_value.specs.declared.try_from.ConvertFault.TheVariants.{Unfit, Memory}
 use Rattle.amqp_value.specs.declared.value.Value.{Value}
@@ -74,11 +77,22 @@ pub on_ok : {T E : Type 0} (r : Result T E) (P : Type 0) → OnOk r P → is_ok 
 on_ok (Ok x) P h e = h
 on_ok (Err x) P h e = absurd (true≢false (sym e))
 
--- One more entry is inserted, with its key and value converted.
-pub one_more_converted : {K X : Type 0} (eq : Value → Value → Bool) (kc : K → Value → Type 0) (xc : X → Value → Type 0) (es : List (K × X)) (k : K) (x : X) (key value : Value) (old new : OrderedMap Value Value)
-    → IsMapOf eq kc xc es old → kc k key → xc x value → entries_of new ≡ insert_pair eq (entries_of old) key value → IsMapOf eq kc xc (es ++ (k, x) ∷ []) new
-one_more_converted eq kc xc es k x key value old new is kf xf put = (
-  is.0 ++ (key, value) ∷ [],
-  zip_push (PairConverts kc xc) es is.0 (k, x) (key, value) is.1 (kf, xf),
-  fold_pushed (λ done p. insert_pair eq done p.0 p.1) [] is.0 (key, value) (entries_of old) (entries_of new) put is.2,
-)
+merged_folds : (es done : List (Value × Value)) → merged equal es done ≡ fold (λ made e. insert_pair equal made e.0 e.1) done es
+merged_folds [] done = refl
+merged_folds (e ∷ es) done = merged_folds es (insert_pair equal done e.0 e.1)
+
+some_and : {A : Type 0} (P Q : A → Type 0) (o : Option A) → ((x : A) → P x → Q x) → IsSomeAnd o P → IsSomeAnd o Q
+some_and P Q (Some x) step h = step x h
+some_and P Q None step h = absurd h
+
+-- The items as they are.
+pub same_items : {A : Type 0} (xs : List A) → map (λ x. x) xs ≡ xs
+same_items [] = refl
+same_items (x ∷ xs) = ap (λ ys. x ∷ ys) (same_items xs)
+
+-- The entries are converted one by one, and then inserted in order.
+pub converted_map : {K X : Type 0} (kc : K → Value → Type 0) (xc : X → Value → Type 0) (es : List (K × X)) (ps : List (Value × Value)) (r : Result Value Error) → AllZip (PairConverts kc xc) es ps
+    → MatchResult r (λ v. IsSomeAnd (map_in v) (λ map. entries_of map ≡ merged equal ps [])) (λ e. e ≡ OutOfMemory)
+    → MatchResult r (λ v. IsSomeAnd (map_in v) (IsMapOf equal kc xc es)) (λ e. e ≡ OutOfMemory)
+converted_map kc xc es ps (Ok v) each h = some_and _ _ (map_in v) (λ map is. (ps, each, is ∙ merged_folds ps [])) h
+converted_map kc xc es ps (Err e) each h = h

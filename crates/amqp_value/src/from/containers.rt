@@ -1,15 +1,17 @@
 //! Conversions of a text and of containers, which convert each element.
 
-ghost use Rattle.std.specs.Prelude.{◌≡◌, List, [], ◌∷◌, ◌++◌, MatchResult, IsSomeAnd, IfErr};
+ghost use Rattle.std.specs.Prelude.{◌≡◌, List, [], MatchResult, IsSomeAnd, IfErr};
 ghost use Rattle.std.specs.List.{AllZip};
 ghost use Rattle.amqp_data.specs.Items.{array_items};
 ghost use Rattle.amqp_data.specs.Pairs.{entries_of};
 ghost use Rattle.amqp_ser.specs.Tree.{scalar, string};
 ghost use Rattle.amqp_value.specs.Contents.{array_in, described_in, list_in, map_in};
 ghost use Rattle.amqp_value.specs.Converts.{IsMapOf};
+ghost use Rattle.amqp_value.specs.Places.{equal, merged};
 ghost use Rattle.amqp_value.specs.TreeOf.{tree_of};
 
 use crate::Value;
+use crate::distinct::once_each;
 use amqp_data::{Array, Described, Error, OrderedMap};
 use std::alloc::Global;
 use std::collections::BTreeMap;
@@ -111,10 +113,12 @@ impl Value {
     /// Returns `Error::OutOfMemory` if an allocation fails. The argument is dropped.
     ///
     /// # Memory
-    /// Allocates from `alloc` as the map grows.
+    /// Allocates once from `alloc` for the entries, or not at all if there are none. To find repeated
+    /// keys it allocates as `MapBuilder::into_value`.
     ///
     /// # Example
     /// `1u8` to `true` gives a `Map` that is encoded as `c10402500141`.
+    #[tactic(auto, using(crate::proofs::Zips::zip_push))]
     pub fn try_from_btree_map<K: Into<Value> + Ord + Drop, V: Into<Value> + Drop>(
         alloc: Global,
         map: BTreeMap<K, V>,
@@ -124,11 +128,11 @@ impl Value {
             (IsMapOf ⟦<Value as PartialEq>⟧.eq K.converts V.converts map.entries))
             (λ e. e ≡ Error.OutOfMemory) }
     {
-        let mut pairs = OrderedMap::new(alloc);
+        let mut pairs = Vec::with_capacity(alloc, map.len())?;
         for (key, value) in map {
-            insert_converted(&mut pairs, key, value)?;
+            pairs.push((key.into(), value.into()))?;
         }
-        Ok(Value::Map(pairs))
+        inserted(alloc, pairs)
     }
 
     /// Returns a `Map` of the entries, each key and value converted, inserted in their order.
@@ -140,11 +144,13 @@ impl Value {
     /// Returns `Error::OutOfMemory` if an allocation fails. The argument is dropped.
     ///
     /// # Memory
-    /// Allocates from `alloc` as the map grows.
+    /// Allocates once from `alloc` for the entries, or not at all if there are none. To find repeated
+    /// keys it allocates as `MapBuilder::into_value`.
     ///
     /// # Example
     /// The ubyte keys 2 to `true` and 1 to `false` give a `Map` that is encoded as
     /// `c10704500241500142`.
+    #[tactic(auto, using(crate::proofs::Zips::zip_push, crate::proofs::Zips::converted_map))]
     pub fn try_from_ordered_map<K: Into<Value> + Drop, V: Into<Value> + Drop>(
         alloc: Global,
         map: OrderedMap<K, V>,
@@ -154,11 +160,11 @@ impl Value {
             (IsMapOf ⟦<Value as PartialEq>⟧.eq K.converts V.converts (entries_of map)))
             (λ e. e ≡ Error.OutOfMemory) }
     {
-        let mut pairs = OrderedMap::new(alloc);
+        let mut pairs = Vec::with_capacity(alloc, map.len())?;
         for (key, value) in map.into_inner() {
-            insert_converted(&mut pairs, key, value)?;
+            pairs.push((key.into(), value.into()))?;
         }
-        Ok(Value::Map(pairs))
+        inserted(alloc, pairs)
     }
 }
 
@@ -175,19 +181,12 @@ fn convert_items<T: Into<Value> + Drop>(alloc: Global, items: Vec<T>) -> Result<
     Ok(values)
 }
 
-// Converts a key and its value, and inserts them.
-fn insert_converted<K: Into<Value> + Drop, V: Into<Value> + Drop>(
-    pairs: &mut OrderedMap<Value, Value>,
-    key: K,
-    value: V,
-) -> Result<(), Error>
+// Returns the map of the entries, inserted in order.
+fn inserted(alloc: Global, pairs: Vec<(Value, Value)>) -> Result<Value, Error>
     ensures { MatchResult result
-        (λ _. (done : List (K × V))
-        → IsMapOf ⟦<Value as PartialEq>⟧.eq K.converts V.converts done pairs.old
-        → IsMapOf ⟦<Value as PartialEq>⟧.eq K.converts V.converts
-        (done ++ (key, value) ∷ []) pairs.new)
+        (λ v. IsSomeAnd (map_in v) (λ map. entries_of map ≡ merged equal pairs.items []))
         (λ e. e ≡ Error.OutOfMemory) }
 {
-    drop(pairs.insert(key.into(), value.into())?);
-    Ok(())
+    let entries = once_each(alloc, pairs)?;
+    Ok(Value::Map(OrderedMap::from_distinct(entries)))
 }
