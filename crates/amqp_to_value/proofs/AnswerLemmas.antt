@@ -12,6 +12,7 @@ use Rattle.amqp_to_value.specs.PendingDescriptors.{DescriptorsState, under_descr
 use Rattle.amqp_to_value.specs.ValueSerializer.{IsSaved, IsFresh, IsKept, Leaves, described_none, meant_by, meant_none, ValuePermits}
 use Rattle.amqp_to_value.specs.ImageOf.{refuses, StandsFor}
 use Rattle.amqp_to_value.specs.PendingMarker.{meant}
+use Rattle.amqp_to_value.specs.declared.next_capacity.NextCapacity.{NextCapacity}
 use Rattle.amqp_to_value.specs.declared.pending_marker.PendingMarker.TheVariants as pending
 use Rattle.amqp_to_value.specs.declared.serializer.Serializer.{Serializer}
 use Rattle.amqp_to_value.proofs.PendingDescriptorLemmas.{refuses_in, standing_left, stands_in}
@@ -46,16 +47,16 @@ pub parted_again : (start now : Serializer) → IsKept (start.descriptors.kept +
     → now.descriptors.kept ++ now.descriptors.later ≡ start.descriptors.kept ++ (standing start.descriptors ++ now.descriptors.later)
 parted_again start now k = ap (λ ds. ds ++ now.descriptors.later) k.1 ∙ append_assoc start.descriptors.kept (standing start.descriptors) now.descriptors.later
 
-pub aside_again : (start now : Serializer) (descriptors : DescriptorsState) (more : List Descriptor) → IsFresh now → descriptors.next ≡ now.descriptors.next
-    → (descriptors.kept ≡ start.descriptors.kept) × (descriptors.later ≡ standing start.descriptors ++ more) → IsSaved start (record { alloc = now.alloc; pending = now.pending; descriptors = descriptors })
-aside_again start now descriptors more fresh next rel = (((fresh.0, next ∙ fresh.1), rel.0), (more, rel.1))
+pub aside_again : (start now : Serializer) (descriptors : DescriptorsState) (capacity : NextCapacity) (more : List Descriptor) → IsFresh now → descriptors.next ≡ now.descriptors.next
+    → (descriptors.kept ≡ start.descriptors.kept) × (descriptors.later ≡ standing start.descriptors ++ more) → IsSaved start (record { alloc = now.alloc; pending = now.pending; descriptors = descriptors; capacity = capacity })
+aside_again start now descriptors capacity more fresh next rel = (((fresh.0, next ∙ fresh.1), rel.0), (more, rel.1))
 
-pub saved_after : (start before now : Serializer) (descriptors : DescriptorsState) (r : Result Value Error) → before.descriptors.kept ≡ start.descriptors.kept ++ standing start.descriptors → Leaves before.descriptors.kept (standing before.descriptors) r now
+pub saved_after : (start before now : Serializer) (descriptors : DescriptorsState) (capacity : NextCapacity) (r : Result Value Error) → before.descriptors.kept ≡ start.descriptors.kept ++ standing start.descriptors → Leaves before.descriptors.kept (standing before.descriptors) r now
     → descriptors.next ≡ now.descriptors.next → ((rest : List Descriptor) → now.descriptors.kept ++ now.descriptors.later ≡ start.descriptors.kept ++ rest → (descriptors.kept ≡ start.descriptors.kept) × (descriptors.later ≡ rest))
-    → IsSaved start (record { alloc = now.alloc; pending = now.pending; descriptors = descriptors })
-saved_after start before now descriptors r same left next parted =
+    → IsSaved start (record { alloc = now.alloc; pending = now.pending; descriptors = descriptors; capacity = capacity })
+saved_after start before now descriptors capacity r same left next parted =
     let kept = kept_same (start.descriptors.kept ++ standing start.descriptors) before now r same left in
-    aside_again start now descriptors now.descriptors.later kept.0 next (parted (standing start.descriptors ++ now.descriptors.later) (parted_again start now kept))
+    aside_again start now descriptors capacity now.descriptors.later kept.0 next (parted (standing start.descriptors ++ now.descriptors.later) (parted_again start now kept))
 
 -- An error that is permitted for no tree is permitted for none under markers and descriptors.
 pub none_too : (s : Serializer) (e : Error) → refuses e None → refuses e (meant_by s None)

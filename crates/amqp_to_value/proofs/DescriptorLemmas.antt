@@ -70,7 +70,7 @@ leaves-prefix others own d (Err e) s k = (k.0, ((d ∷ []) ++ k.1.0, k.1.1 ∙ a
 -- it.
 pub permitted_before : (start : Serializer) (inner : PendingMarker) (x : Descriptor) (d t : Option Tree) (r : Result Value Error) (after : Serializer) → descriptor_of d ≡ Some x
     → as_described (Some x) (meant inner t) ≡ meant start.pending (as_described (Some x) t)
-    → ValuePermits (record { alloc = start.alloc; pending = inner; descriptors = record { kept = start.descriptors.kept; later = standing start.descriptors ++ (x ∷ []); next = true; room = 0 } }) t r after
+    → ValuePermits (record { alloc = start.alloc; pending = inner; descriptors = record { kept = start.descriptors.kept; later = standing start.descriptors ++ (x ∷ []); next = true; room = 0 }; capacity = start.capacity }) t r after
     → ValuePermits start (as_described (descriptor_of d) t) r after
 permitted_before start inner x d t r after is means p = (
   subst (λ o. IsImageOf o r)

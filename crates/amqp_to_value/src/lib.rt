@@ -12,6 +12,7 @@
 mod image;
 pub mod laws;
 mod lazy;
+mod next_capacity;
 mod open_map;
 mod open_value;
 mod parts;

@@ -11,6 +11,7 @@ ghost use Rattle.amqp_to_value.specs.ImageOf.{IsImageOf};
 ghost use Rattle.amqp_to_value.specs.PendingMarker.{meant};
 ghost use Rattle.amqp_to_value.specs.declared.pending_marker.PendingMarker.{PendingMarker};
 
+use crate::next_capacity::NextCapacity;
 use crate::parts::CollectedParts;
 use crate::pending_descriptors::Saved;
 use crate::pending_marker::PendingMarker;
@@ -79,14 +80,14 @@ impl OpenBody {
     /// Returns `Error::InvalidValue` if the parts do not form a value, and `Error::OutOfMemory` if
     /// an allocation fails.
     #[inline(always)]
-    pub fn into_value(self, alloc: Global) -> Result<Value, Error>
+    pub fn into_value(self, alloc: Global, capacity: &mut NextCapacity) -> Result<Value, Error>
         ensures { (pending : PendingMarker) (kind : CompoundKind) (ps : List (Option Tree)) →
             HasParts pending kind self ps → complete kind ps ≡ true →
             IsImageOf (meant pending (tree_of_parts kind ps)) result }
     {
         match self {
             OpenBody::Single(_, value) => value.ok_or(Error::InvalidValue),
-            OpenBody::CollectedParts(parts) => parts.into_value(alloc),
+            OpenBody::CollectedParts(parts) => parts.into_value(alloc, capacity),
         }
     }
 }

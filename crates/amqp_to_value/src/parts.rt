@@ -8,6 +8,7 @@ ghost use Rattle.amqp_value.specs.TreeOf.{tree_of};
 ghost use Rattle.amqp_to_value.specs.HeldImages.{HoldsImages, is_single, compound_tree, then, TakesPairs, IsOpenedImage};
 ghost use Rattle.amqp_to_value.specs.PendingMarker.{meant};
 
+use crate::next_capacity::NextCapacity;
 use crate::open_map::OpenMap;
 use crate::pending_marker::PendingMarker;
 use amqp_data::{Array, Error, OrderedMap};
@@ -69,7 +70,7 @@ impl CollectedParts {
     /// Returns `AllocError` if an allocation fails. The argument is dropped, and the parts are
     /// unchanged.
     #[inline(always)]
-    pub fn add_part(&mut self, part: Value) -> Result<(), AllocError>
+    pub fn add_part(&mut self, part: Value, capacity: &mut NextCapacity) -> Result<(), AllocError>
         ensures makes { (o : Option Trees) → compound_tree self.new o ≡ compound_tree self.old o }
         ensures step { (ts : Trees) (t : Tree) → HoldsImages self.old ts → tree_of part ≡ image t →
             MatchResult result
@@ -77,12 +78,12 @@ impl CollectedParts {
             (λ _. HoldsImages self.new ts) }
     {
         match self {
-            CollectedParts::List(items) => gather(items, part),
-            CollectedParts::Array(items) => gather(items, part),
-            CollectedParts::Transparent(items) => gather(items, part),
+            CollectedParts::List(items) => gather(items, part, capacity),
+            CollectedParts::Array(items) => gather(items, part, capacity),
+            CollectedParts::Transparent(items) => gather(items, part, capacity),
             CollectedParts::Map(pairs) => pairs.add_part(part),
-            CollectedParts::Variant(_, items) => gather(items, part),
-            CollectedParts::NewtypeVariant(_, items) => gather(items, part),
+            CollectedParts::Variant(_, items) => gather_field(items, part),
+            CollectedParts::NewtypeVariant(_, items) => gather_field(items, part),
             CollectedParts::Refused => {
                 let_go(part);
                 Ok(())
@@ -108,14 +109,27 @@ impl CollectedParts {
     /// Returns `Error::InvalidValue` if the parts do not form a value, and `Error::OutOfMemory` if
     /// an allocation fails.
     #[inline(always)]
-    pub fn into_value(self, alloc: Global) -> Result<Value, Error>
+    pub fn into_value(self, alloc: Global, capacity: &mut NextCapacity) -> Result<Value, Error>
         ensures { (ts : Trees) → HoldsImages self ts →
             IsOpenedImage (compound_tree self (Some ts)) result }
     {
         match self {
-            CollectedParts::List(items) => Ok(Value::List(items)),
-            CollectedParts::Array(items) => Ok(Value::Array(Array::from(items))),
-            CollectedParts::Transparent(items) => Ok(Value::List(items)),
+            CollectedParts::List(items) => Ok(Value::List(capacity.close(items))),
+            parts => parts.into_other(alloc, capacity),
+        }
+    }
+
+    // Returns the value of the compound. Never inlined: lists, which are the most frequent, have a
+    // shorter path.
+    #[inline(never)]
+    fn into_other(self, alloc: Global, capacity: &mut NextCapacity) -> Result<Value, Error>
+        ensures { (ts : Trees) → HoldsImages self ts →
+            IsOpenedImage (compound_tree self (Some ts)) result }
+    {
+        match self {
+            CollectedParts::List(items) => Ok(Value::List(capacity.close(items))),
+            CollectedParts::Array(items) => Ok(Value::Array(Array::from(capacity.close(items)))),
+            CollectedParts::Transparent(items) => Ok(Value::List(capacity.close(items))),
             CollectedParts::Map(pairs) => pairs.into_value(alloc),
             CollectedParts::Variant(index, items) => variant(alloc, index, Value::List(items)),
             CollectedParts::NewtypeVariant(index, items) => match only(items) {
@@ -127,9 +141,28 @@ impl CollectedParts {
     }
 }
 
-// Appends a value, or drops it if an allocation fails.
+// Appends an element of a list, or drops it if an allocation fails.
 #[inline(always)]
-fn gather(items: &mut Vec<Value>, value: Value) -> Result<(), AllocError>
+fn gather(
+    items: &mut Vec<Value>,
+    value: Value,
+    capacity: &mut NextCapacity,
+) -> Result<(), AllocError>
+    ensures { MatchResult result
+        (λ _. items.new.items ≡ items.old.items ++ (value ∷ []))
+        (λ _. items.new.items ≡ items.old.items) }
+{
+    if items.len() == items.capacity() && !capacity.grow(items) {
+        let_go(value);
+        return Err(AllocError);
+    }
+    items.push_reserved(value);
+    Ok(())
+}
+
+// Appends a value of a variant, or drops it if an allocation fails.
+#[inline(always)]
+fn gather_field(items: &mut Vec<Value>, value: Value) -> Result<(), AllocError>
     ensures { MatchResult result
         (λ _. items.new.items ≡ items.old.items ++ (value ∷ []))
         (λ _. items.new.items ≡ items.old.items) }

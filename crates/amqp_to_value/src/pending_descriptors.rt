@@ -164,7 +164,11 @@ impl PendingDescriptors {
             return value;
         }
         self.next = false;
-        wrap_from(&mut self.stack, self.kept, value)
+        if self.kept < self.stack.len() {
+            wrap_from(&mut self.stack, self.kept, value)
+        } else {
+            value
+        }
     }
 
     /// Leaves the descriptors of a failed value in the stack, for the compound that serialized the

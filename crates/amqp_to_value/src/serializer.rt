@@ -7,6 +7,7 @@ ghost use Rattle.amqp_to_value.specs.ValueSerializer.{IsFresh, ValuePermits};
 ghost use Rattle.amqp_to_value.specs.ImageOf.{IsImageOf};
 ghost use Rattle.amqp_to_value.specs.PendingMarker.{meant};
 
+use crate::next_capacity::NextCapacity;
 use crate::open_value::{OpenBody, OpenValue, set_first};
 use crate::parts::let_go;
 use crate::pending_descriptors::PendingDescriptors;
@@ -34,6 +35,7 @@ pub struct Serializer {
     alloc: Global,
     pending: PendingMarker,
     descriptors: PendingDescriptors,
+    capacity: NextCapacity,
 }
 
 /// A list that is being serialized.
@@ -70,6 +72,7 @@ impl Serializer {
             alloc,
             pending: PendingMarker::Marker(Marker::Other),
             descriptors: PendingDescriptors::new(alloc),
+            capacity: NextCapacity::new(),
         }
     }
 
@@ -213,7 +216,7 @@ impl amqp_ser::Serializer for Serializer {
                     Err(Error::InvalidValue)
                 }
             },
-            OpenBody::CollectedParts(parts) => match parts.add_part(value) {
+            OpenBody::CollectedParts(parts) => match parts.add_part(value, &mut self.capacity) {
                 Ok(()) => Ok(()),
                 Err(_) => Err(Error::OutOfMemory),
             },
@@ -261,7 +264,7 @@ impl amqp_ser::Serializer for Serializer {
     #[inline(always)]
     fn end(&mut self, compound: OpenValue) -> Result<Value, Error> {
         let OpenValue { saved, body } = compound;
-        let answer = body.into_value(self.alloc);
+        let answer = body.into_value(self.alloc, &mut self.capacity);
         self.descriptors.restore(saved);
         self.finish(answer)
     }

@@ -16,7 +16,7 @@ pub returns-in-Map-clause-step : goal.returns-in-Map-clause-step
 returns-in-Map-clause-step c = λ ts t h e. pair_taken _ _ _ c.args.part ts t c.add_part.ensures (subst (λ o. HoldsImages o ts) c.in-Map.is h) e
 
 pub returns-in-Variant-clause-step : goal.returns-in-Variant-clause-step
-returns-in-Variant-clause-step c = λ ts t h e. item_taken _ _ _ c.args.part ts t c.gather-in-Variant.ensures (subst (λ o. HoldsImages o ts) c.in-Variant.is h) e
+returns-in-Variant-clause-step c = λ ts t h e. item_taken _ _ _ c.args.part ts t c.gather_field.ensures (subst (λ o. HoldsImages o ts) c.in-Variant.is h) e
 
 pub returns-in-NewtypeVariant-clause-step : goal.returns-in-NewtypeVariant-clause-step
-returns-in-NewtypeVariant-clause-step c = λ ts t h e. item_taken _ _ _ c.args.part ts t c.gather-in-NewtypeVariant.ensures (subst (λ o. HoldsImages o ts) c.in-NewtypeVariant.is h) e
+returns-in-NewtypeVariant-clause-step c = λ ts t h e. item_taken _ _ _ c.args.part ts t c.gather_field-in-NewtypeVariant.ensures (subst (λ o. HoldsImages o ts) c.in-NewtypeVariant.is h) e

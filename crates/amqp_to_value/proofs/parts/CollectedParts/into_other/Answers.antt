@@ -3,7 +3,7 @@ use Rattle.amqp_to_value.specs.HeldImages.{HoldsImages, compound_tree, RefusesOp
 use Rattle.amqp_data.specs.declared.error.Error.TheVariants.{InvalidValue}
 use Rattle.std.proofs.Common.{sym}
 use Rattle.amqp_to_value.proofs.HeldImagesLemmas.{not_one}
-use Rattle.amqp_to_value.proofs.parts.CollectedParts.into_value.Goals as goal
+use Rattle.amqp_to_value.proofs.parts.CollectedParts.into_other.Goals as goal
 
 pub returns-in-None : goal.returns-in-None
 returns-in-None c = λ ts h. subst (λ o. RefusesOpened InvalidValue (compound_tree o (Some ts))) (sym c.in-NewtypeVariant.is)
