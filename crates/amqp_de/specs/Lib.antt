@@ -6,6 +6,7 @@ pub mod Fields
 pub mod Present
 pub mod Answers
 pub mod ContentTree
+pub mod Kinds
 pub mod Enums
 pub mod Access
 pub mod Events

@@ -7,5 +7,6 @@ pub use crate::content::Content;
 pub use crate::deserialize::Deserialize;
 pub use crate::deserialize_error::DeserializeError;
 pub use crate::deserializer::Deserializer;
+pub use crate::fixed_content::FixedContent;
 pub use crate::shown::{Plain, Visit};
 pub use crate::visitor::Visitor;

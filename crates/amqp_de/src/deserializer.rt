@@ -1,14 +1,16 @@
 //! Source of one value, opened level by level.
 
-ghost use Rattle.std.specs.Prelude.{◌≡◌, ◌↔◌, IsTrue, List};
+ghost use Rattle.std.specs.Prelude.{◌≡◌, ◌↔◌, ◌≤◌, IsTrue, List, length};
 ghost use Rattle.amqp_ser.specs.Tree.{Tree, scalar, null, bool};
 ghost use Rattle.amqp_value.specs.TreeOf.{tree_of};
 ghost use Rattle.amqp_de.specs.Answers.{TakesNext, TakesPair, TakesNamed};
 ghost use Rattle.amqp_de.specs.ContentTree.{content_tree};
 ghost use Rattle.amqp_de.specs.Events.{is_index};
+ghost use Rattle.amqp_de.specs.Kinds.{HoldsFixed, HoldsText, HoldsElements};
 
 use crate::content::Content;
 use crate::deserialize_error::DeserializeError;
+use crate::fixed_content::FixedContent;
 use crate::untyped;
 use amqp_value::Value;
 use std::alloc::Global;
@@ -62,6 +64,10 @@ use std::alloc::Global;
 /// `next_pair` and `take_named`. `open` and `into_value` return a level and a `Value` whose tree is
 /// `value`. `next_element` and `next_pair` remove the first of `items` and `pairs`; `take_named`
 /// removes the first entry with the given name.
+///
+/// Provided methods: `into_fixed`, `into_text`, `into_list` and `elements_left`. The first three open
+/// the value and return the content of one kind. A deserializer that knows the kind without opening
+/// implements them to be faster.
 pub trait Deserializer: Sized + Drop {
     /// The error type.
     type Error: DeserializeError;
@@ -136,4 +142,78 @@ pub trait Deserializer: Sized + Drop {
     /// deserializer of 2, and the name `z` returns `None`.
     fn take_named(entries: &mut Self::Entries, name: &str) -> Option<Self>
         ensures { TakesNamed value name.now (pairs entries.old) (pairs entries.new) result };
+
+    /// Opens the value if it is a scalar with a fixed width of at most 64 bits.
+    ///
+    /// # Example
+    /// The ubyte 1 is returned as `FixedContent::Ubyte(1)`, and the string `a` as
+    /// `FixedContent::Other`.
+    fn into_fixed(self) -> FixedContent
+        ensures { HoldsFixed (value self) result }
+    {
+        match self.open() {
+            Content::Null => FixedContent::Null,
+            Content::Bool(v) => FixedContent::Bool(v),
+            Content::Ubyte(v) => FixedContent::Ubyte(v),
+            Content::Ushort(v) => FixedContent::Ushort(v),
+            Content::Uint(v) => FixedContent::Uint(v),
+            Content::Ulong(v) => FixedContent::Ulong(v),
+            Content::Byte(v) => FixedContent::Byte(v),
+            Content::Short(v) => FixedContent::Short(v),
+            Content::Int(v) => FixedContent::Int(v),
+            Content::Long(v) => FixedContent::Long(v),
+            Content::Float(v) => FixedContent::Float(v),
+            Content::Double(v) => FixedContent::Double(v),
+            Content::Char(v) => FixedContent::Char(v),
+            Content::Timestamp(v) => FixedContent::Timestamp(v),
+            Content::Decimal32(_)
+            | Content::Decimal64(_)
+            | Content::Decimal128(_)
+            | Content::Uuid(_)
+            | Content::Binary(_)
+            | Content::String(_)
+            | Content::Symbol(_)
+            | Content::List(_)
+            | Content::Array(_)
+            | Content::Map(_)
+            | Content::Described(_, _) => FixedContent::Other,
+        }
+    }
+
+    /// Opens the value if it is a string.
+    ///
+    /// # Example
+    /// The string `a` is returned as `Some`. The symbol `a` gives `None`.
+    fn into_text(self) -> Option<String>
+        ensures { HoldsText (value self) result }
+    {
+        match self.open() {
+            Content::String(text) => Some(text),
+            _ => None,
+        }
+    }
+
+    /// Opens the value if it is a list.
+    ///
+    /// # Example
+    /// A list is returned as `Some` of its elements. An array gives `None`.
+    fn into_list(self) -> Option<Self::Elements>
+        ensures { HoldsElements items (value self) result }
+    {
+        match self.open() {
+            Content::List(elements) => Some(elements),
+            _ => None,
+        }
+    }
+
+    /// Returns a number of elements that are certainly left, for which room can be reserved.
+    ///
+    /// # Example
+    /// For the elements of a list of three values in memory, returns 3 before the first is taken. A
+    /// deserializer that does not know the number returns 0.
+    fn elements_left(_elements: &Self::Elements) -> usize
+        ensures { result ≤ length (items _elements.now) }
+    {
+        0
+    }
 }

@@ -11,6 +11,7 @@ mod deserialize_error;
 mod deserializer;
 mod enums;
 mod fields;
+mod fixed_content;
 mod impls;
 pub mod laws;
 mod names;

@@ -121,14 +121,14 @@ impl<F: FieldSeeds> DeserializeSeed for ListSeed<F> {
         alloc: Global,
         deserializer: D,
     ) -> Result<F::Values, D::Error> {
-        match deserializer.open() {
-            Content::List(mut fields) => {
+        match deserializer.into_list() {
+            Some(mut fields) => {
                 match self.0.read_elements::<D>(alloc, &mut fields) {
                     Ok(values) => Ok(values),
                     Err(error) => Err(error),
                 }
             }
-            _ => Err(D::Error::invalid_value()),
+            None => Err(D::Error::invalid_value()),
         }
     }
 }

@@ -8,7 +8,7 @@ ghost use Rattle.amqp_de.specs.Answers.{Answers, Restores};
 
 use crate::key_of_name::find;
 use amqp_data::{Error, OrderedMap};
-use amqp_de::de::{self, Content, Deserialize};
+use amqp_de::de::{self, Content, Deserialize, FixedContent};
 use amqp_value::Value;
 use std::alloc::Global;
 use std::collections::VecDeque;
@@ -102,6 +102,7 @@ impl de::Deserializer for Deserializer {
         self.alloc
     }
 
+    #[inline(always)]
     fn is_null(&self) -> bool {
         matches!(&self.value, Value::Null)
     }
@@ -164,6 +165,7 @@ impl de::Deserializer for Deserializer {
         value
     }
 
+    #[inline(always)]
     fn next_element(elements: &mut Elements) -> Option<Deserializer> {
         match elements.values.next() {
             Some(value) => Some(Deserializer {
@@ -174,6 +176,7 @@ impl de::Deserializer for Deserializer {
         }
     }
 
+    #[inline(always)]
     fn next_pair(entries: &mut Entries) -> Option<(Deserializer, Deserializer)> {
         match entries.pairs.pop_front() {
             Some((key, value)) => Some((
@@ -201,6 +204,62 @@ impl de::Deserializer for Deserializer {
             },
             None => None,
         }
+    }
+
+    #[inline(always)]
+    fn into_fixed(self) -> FixedContent {
+        match self.value {
+            Value::Null => FixedContent::Null,
+            Value::Bool(v) => FixedContent::Bool(v),
+            Value::Ubyte(v) => FixedContent::Ubyte(v),
+            Value::Ushort(v) => FixedContent::Ushort(v),
+            Value::Uint(v) => FixedContent::Uint(v),
+            Value::Ulong(v) => FixedContent::Ulong(v),
+            Value::Byte(v) => FixedContent::Byte(v),
+            Value::Short(v) => FixedContent::Short(v),
+            Value::Int(v) => FixedContent::Int(v),
+            Value::Long(v) => FixedContent::Long(v),
+            Value::Float(v) => FixedContent::Float(v),
+            Value::Double(v) => FixedContent::Double(v),
+            Value::Char(v) => FixedContent::Char(v),
+            Value::Timestamp(v) => FixedContent::Timestamp(v),
+            Value::Decimal32(_)
+            | Value::Decimal64(_)
+            | Value::Decimal128(_)
+            | Value::Uuid(_)
+            | Value::Binary(_)
+            | Value::String(_)
+            | Value::Symbol(_)
+            | Value::List(_)
+            | Value::Map(_)
+            | Value::Array(_)
+            | Value::Described(_) => FixedContent::Other,
+        }
+    }
+
+    #[inline(always)]
+    fn into_text(self) -> Option<String> {
+        match self.value {
+            Value::String(text) => Some(text),
+            _ => None,
+        }
+    }
+
+    #[inline(always)]
+    fn into_list(self) -> Option<Elements> {
+        let Deserializer { alloc, value } = self;
+        match value {
+            Value::List(values) => Some(Elements {
+                alloc,
+                values: values.into_iter(),
+            }),
+            _ => None,
+        }
+    }
+
+    #[inline(always)]
+    fn elements_left(elements: &Elements) -> usize {
+        elements.values.len()
     }
 }
 

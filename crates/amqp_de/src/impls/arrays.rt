@@ -6,10 +6,10 @@ ghost use Rattle.amqp_ser.specs.Tree.{list, trees_of};
 ghost use Rattle.amqp_de.specs.Answers.{Refuses};
 ghost use Rattle.amqp_de.specs.Reads.{OnList, ReadsFirst};
 
-use crate::content::Content;
 use crate::deserialize::Deserialize;
 use crate::deserialize_error::DeserializeError;
 use crate::deserializer::Deserializer;
+use crate::impls::lists::reserve;
 use std::alloc::Global;
 
 /// Reads `count` elements, in order. Further elements are ignored.
@@ -29,7 +29,7 @@ fn read_first<T: Deserialize, D: Deserializer>(
         length xs ≡ count → D.items elements.old ≡ map T.image xs →
         MatchResult result (λ v. AllZip T.same v.items xs) D.Error.is_out_of_memory }
 {
-    let mut values = Vec::new(alloc);
+    let mut values = reserve::<T, D>(alloc, &*elements, count)?;
     'elements: while values.len() < count {
         match D::next_element(&mut *elements) {
             Some(element) => match T::deserialize(alloc, element) {
@@ -57,15 +57,15 @@ impl<T: Deserialize, const N: usize> Deserialize for [T; N] {
     ghost same = { λ a b. AllZip T.same a b };
 
     fn deserialize<D: Deserializer>(alloc: Global, deserializer: D) -> Result<[T; N], D::Error> {
-        match deserializer.open() {
-            Content::List(mut elements) => match read_first::<T, D>(alloc, &mut elements, N) {
+        match deserializer.into_list() {
+            Some(mut elements) => match read_first::<T, D>(alloc, &mut elements, N) {
                 Ok(values) => match <[T; N]>::try_from(values) {
                     Ok(array) => Ok(array),
                     Err(_) => Err(D::Error::invalid_value()),
                 },
                 Err(error) => Err(error),
             },
-            _ => Err(D::Error::invalid_value()),
+            None => Err(D::Error::invalid_value()),
         }
     }
 }

@@ -9,6 +9,7 @@ use crate::content::Content;
 use crate::deserialize::Deserialize;
 use crate::deserialize_error::DeserializeError;
 use crate::deserializer::Deserializer;
+use crate::fixed_content::FixedContent;
 use amqp_data::{Dec32, Dec64, Dec128, F32Bits, F64Bits, Timestamp, Uuid};
 use std::alloc::Global;
 
@@ -21,9 +22,10 @@ impl Deserialize for F32Bits {
 
     ghost same = { λ x y. f32_bits x ≡ f32_bits y };
 
+    #[inline(always)]
     fn deserialize<D: Deserializer>(_alloc: Global, deserializer: D) -> Result<F32Bits, D::Error> {
-        match deserializer.open() {
-            Content::Float(value) => Ok(value),
+        match deserializer.into_fixed() {
+            FixedContent::Float(value) => Ok(value),
             _ => Err(D::Error::invalid_value()),
         }
     }
@@ -38,9 +40,10 @@ impl Deserialize for F64Bits {
 
     ghost same = { λ x y. f64_bits x ≡ f64_bits y };
 
+    #[inline(always)]
     fn deserialize<D: Deserializer>(_alloc: Global, deserializer: D) -> Result<F64Bits, D::Error> {
-        match deserializer.open() {
-            Content::Double(value) => Ok(value),
+        match deserializer.into_fixed() {
+            FixedContent::Double(value) => Ok(value),
             _ => Err(D::Error::invalid_value()),
         }
     }
@@ -106,12 +109,13 @@ impl Deserialize for Timestamp {
 
     ghost same = { λ x y. milliseconds_of x ≡ milliseconds_of y };
 
+    #[inline(always)]
     fn deserialize<D: Deserializer>(
         _alloc: Global,
         deserializer: D,
     ) -> Result<Timestamp, D::Error> {
-        match deserializer.open() {
-            Content::Timestamp(value) => Ok(value),
+        match deserializer.into_fixed() {
+            FixedContent::Timestamp(value) => Ok(value),
             _ => Err(D::Error::invalid_value()),
         }
     }

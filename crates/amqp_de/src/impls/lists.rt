@@ -1,6 +1,6 @@
 //! Vectors and arrays, which are read from all elements, in order.
 
-ghost use Rattle.std.specs.Prelude.{◌≡◌, List, map, MatchResult};
+ghost use Rattle.std.specs.Prelude.{◌≡◌, [], List, map, MatchResult};
 ghost use Rattle.std.specs.List.{AllZip, AllByRecursion};
 ghost use Rattle.amqp_data.specs.Items.{array_items, transparent_items};
 ghost use Rattle.amqp_ser.specs.Tree.{list, array, trees_of};
@@ -13,6 +13,30 @@ use crate::deserialize_error::DeserializeError;
 use crate::deserializer::Deserializer;
 use amqp_data::{Array, TransparentVec};
 use std::alloc::Global;
+
+/// How many values at most have room reserved before they are read. A value may be larger than the
+/// element that it is read from, and an element may be refused.
+const MOST_RESERVED: usize = 256;
+
+/// Returns an empty vector with room for the elements that are certainly left, but for no more than
+/// `most` and `MOST_RESERVED`.
+///
+/// # Errors
+/// Returns `DeserializeError::out_of_memory` if the allocation fails.
+#[inline(always)]
+pub(crate) fn reserve<T, D: Deserializer>(
+    alloc: Global,
+    elements: &D::Elements,
+    most: usize,
+) -> Result<Vec<T>, D::Error>
+    ensures { MatchResult result (λ v. v.items ≡ []) D.Error.is_out_of_memory }
+{
+    let room = D::elements_left(elements).min(most).min(MOST_RESERVED);
+    match Vec::with_capacity(alloc, room) {
+        Ok(values) => Ok(values),
+        Err(_) => Err(D::Error::out_of_memory()),
+    }
+}
 
 /// Reads all remaining elements, in order.
 ///
@@ -29,7 +53,7 @@ fn read_all<T: Deserialize, D: Deserializer>(
         D.items elements.old ≡ map T.image xs →
         MatchResult result (λ v. AllZip T.same v.items xs) D.Error.is_out_of_memory }
 {
-    let mut values = Vec::new(alloc);
+    let mut values = reserve::<T, D>(alloc, &*elements, MOST_RESERVED)?;
     'elements: loop {
         match D::next_element(&mut *elements) {
             Some(element) => match T::deserialize(alloc, element) {
@@ -56,12 +80,12 @@ impl<T: Deserialize> Deserialize for Vec<T> {
     ghost same = { λ v w. AllZip T.same v.items w.items };
 
     fn deserialize<D: Deserializer>(alloc: Global, deserializer: D) -> Result<Vec<T>, D::Error> {
-        match deserializer.open() {
-            Content::List(mut elements) => match read_all::<T, D>(alloc, &mut elements) {
+        match deserializer.into_list() {
+            Some(mut elements) => match read_all::<T, D>(alloc, &mut elements) {
                 Ok(values) => Ok(values),
                 Err(error) => Err(error),
             },
-            _ => Err(D::Error::invalid_value()),
+            None => Err(D::Error::invalid_value()),
         }
     }
 }

@@ -36,6 +36,7 @@ trait Inserts<K, V>: Sized + Drop {
 }
 
 /// Reads a key, and then its value.
+#[inline(always)]
 fn read_pair<K: Deserialize, V: Deserialize, D: Deserializer>(
     alloc: Global,
     key: D,

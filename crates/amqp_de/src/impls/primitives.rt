@@ -4,10 +4,10 @@ ghost use Rattle.std.specs.Prelude.{◌≡◌};
 ghost use Rattle.amqp_ser.specs.Tree.{scalar, null, bool, ubyte, ushort, uint, ulong, byte, short, int, long, char};
 ghost use Rattle.amqp_de.specs.Reads.{Always};
 
-use crate::content::Content;
 use crate::deserialize::Deserialize;
 use crate::deserialize_error::DeserializeError;
 use crate::deserializer::Deserializer;
+use crate::fixed_content::FixedContent;
 use std::alloc::Global;
 
 impl Deserialize for () {
@@ -37,9 +37,10 @@ impl Deserialize for bool {
 
     ghost same = { λ x y. x ≡ y };
 
+    #[inline(always)]
     fn deserialize<D: Deserializer>(_alloc: Global, deserializer: D) -> Result<bool, D::Error> {
-        match deserializer.open() {
-            Content::Bool(value) => Ok(value),
+        match deserializer.into_fixed() {
+            FixedContent::Bool(value) => Ok(value),
             _ => Err(D::Error::invalid_value()),
         }
     }
@@ -54,9 +55,10 @@ impl Deserialize for u8 {
 
     ghost same = { λ x y. x ≡ y };
 
+    #[inline(always)]
     fn deserialize<D: Deserializer>(_alloc: Global, deserializer: D) -> Result<u8, D::Error> {
-        match deserializer.open() {
-            Content::Ubyte(value) => Ok(value),
+        match deserializer.into_fixed() {
+            FixedContent::Ubyte(value) => Ok(value),
             _ => Err(D::Error::invalid_value()),
         }
     }
@@ -71,9 +73,10 @@ impl Deserialize for u16 {
 
     ghost same = { λ x y. x ≡ y };
 
+    #[inline(always)]
     fn deserialize<D: Deserializer>(_alloc: Global, deserializer: D) -> Result<u16, D::Error> {
-        match deserializer.open() {
-            Content::Ushort(value) => Ok(value),
+        match deserializer.into_fixed() {
+            FixedContent::Ushort(value) => Ok(value),
             _ => Err(D::Error::invalid_value()),
         }
     }
@@ -88,9 +91,10 @@ impl Deserialize for u32 {
 
     ghost same = { λ x y. x ≡ y };
 
+    #[inline(always)]
     fn deserialize<D: Deserializer>(_alloc: Global, deserializer: D) -> Result<u32, D::Error> {
-        match deserializer.open() {
-            Content::Uint(value) => Ok(value),
+        match deserializer.into_fixed() {
+            FixedContent::Uint(value) => Ok(value),
             _ => Err(D::Error::invalid_value()),
         }
     }
@@ -105,9 +109,10 @@ impl Deserialize for u64 {
 
     ghost same = { λ x y. x ≡ y };
 
+    #[inline(always)]
     fn deserialize<D: Deserializer>(_alloc: Global, deserializer: D) -> Result<u64, D::Error> {
-        match deserializer.open() {
-            Content::Ulong(value) => Ok(value),
+        match deserializer.into_fixed() {
+            FixedContent::Ulong(value) => Ok(value),
             _ => Err(D::Error::invalid_value()),
         }
     }
@@ -122,9 +127,10 @@ impl Deserialize for i8 {
 
     ghost same = { λ x y. x ≡ y };
 
+    #[inline(always)]
     fn deserialize<D: Deserializer>(_alloc: Global, deserializer: D) -> Result<i8, D::Error> {
-        match deserializer.open() {
-            Content::Byte(value) => Ok(value),
+        match deserializer.into_fixed() {
+            FixedContent::Byte(value) => Ok(value),
             _ => Err(D::Error::invalid_value()),
         }
     }
@@ -139,9 +145,10 @@ impl Deserialize for i16 {
 
     ghost same = { λ x y. x ≡ y };
 
+    #[inline(always)]
     fn deserialize<D: Deserializer>(_alloc: Global, deserializer: D) -> Result<i16, D::Error> {
-        match deserializer.open() {
-            Content::Short(value) => Ok(value),
+        match deserializer.into_fixed() {
+            FixedContent::Short(value) => Ok(value),
             _ => Err(D::Error::invalid_value()),
         }
     }
@@ -156,9 +163,10 @@ impl Deserialize for i32 {
 
     ghost same = { λ x y. x ≡ y };
 
+    #[inline(always)]
     fn deserialize<D: Deserializer>(_alloc: Global, deserializer: D) -> Result<i32, D::Error> {
-        match deserializer.open() {
-            Content::Int(value) => Ok(value),
+        match deserializer.into_fixed() {
+            FixedContent::Int(value) => Ok(value),
             _ => Err(D::Error::invalid_value()),
         }
     }
@@ -173,9 +181,10 @@ impl Deserialize for i64 {
 
     ghost same = { λ x y. x ≡ y };
 
+    #[inline(always)]
     fn deserialize<D: Deserializer>(_alloc: Global, deserializer: D) -> Result<i64, D::Error> {
-        match deserializer.open() {
-            Content::Long(value) => Ok(value),
+        match deserializer.into_fixed() {
+            FixedContent::Long(value) => Ok(value),
             _ => Err(D::Error::invalid_value()),
         }
     }
@@ -190,9 +199,10 @@ impl Deserialize for char {
 
     ghost same = { λ x y. x ≡ y };
 
+    #[inline(always)]
     fn deserialize<D: Deserializer>(_alloc: Global, deserializer: D) -> Result<char, D::Error> {
-        match deserializer.open() {
-            Content::Char(value) => Ok(value),
+        match deserializer.into_fixed() {
+            FixedContent::Char(value) => Ok(value),
             _ => Err(D::Error::invalid_value()),
         }
     }

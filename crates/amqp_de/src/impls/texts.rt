@@ -41,9 +41,9 @@ impl Deserialize for String {
 
     #[inline(always)]
     fn deserialize<D: Deserializer>(_alloc: Global, deserializer: D) -> Result<String, D::Error> {
-        match deserializer.open() {
-            Content::String(value) => Ok(value),
-            _ => Err(D::Error::invalid_value()),
+        match deserializer.into_text() {
+            Some(value) => Ok(value),
+            None => Err(D::Error::invalid_value()),
         }
     }
 }
