@@ -3,12 +3,11 @@
 ghost use Rattle.std.specs.Prelude.{◌≡◌, List, [], ◌∷◌, ◌++◌, IsTrue};
 ghost use Rattle.std.specs.HashMap.{IsFromIterResult};
 ghost use Rattle.indexmap.specs.IndexMap.{insert_all};
-ghost use Rattle.amqp_data.specs.Pairs.{entries_of};
 ghost use Rattle.amqp_value.specs.Converts.{PairGives, PairsGive, inserted_in_order, inserted_sorted};
 
 use super::ConvertFault;
 use crate::Value;
-use amqp_data::OrderedMap;
+use amqp_data::OrderedMapBuilder;
 use indexmap::IndexMap;
 use std::alloc::Global;
 use std::collections::{BTreeMap, HashMap};
@@ -34,16 +33,16 @@ pub(super) trait Inserts<K, V>: Sized + Drop {
             holds done self.old → holds (done ++ (key, value) ∷ []) self.new };
 }
 
-impl<K: Hash + Eq + Drop, V: Drop> Inserts<K, V> for OrderedMap<K, V> {
-    ghost holds = { λ done map. entries_of map ≡ inserted_in_order K.eq done };
+impl<K: Hash + Eq + Drop, V: Drop> Inserts<K, V> for OrderedMapBuilder<K, V> {
+    ghost holds = { λ done entries. entries ≡ inserted_in_order K.eq done };
 
-    fn empty(alloc: Global) -> OrderedMap<K, V> {
-        OrderedMap::new(alloc)
+    fn empty(alloc: Global) -> OrderedMapBuilder<K, V> {
+        OrderedMapBuilder::new(alloc)
     }
 
     #[tactic(auto, using(crate::proofs::Zips::fold_pushed))]
     fn put(&mut self, key: K, value: V) -> bool {
-        OrderedMap::insert(self, key, value).is_ok()
+        OrderedMapBuilder::insert(self, key, value).is_ok()
     }
 }
 
