@@ -1,11 +1,15 @@
 -- A scalar of fixed width, with its format code.
 use Rattle.std.proofs.Common.{rules, ◌≡◌, ℕ, ℤ, true, false, IsTrue, List, [], ◌∷◌, Some, refl}
-use Rattle.std.specs.Int.{w8, w32, w64, from_be_bytes, cast_signed}
+use Rattle.std.specs.Int.{w8, w16, w32, w64, from_be_bytes, cast_signed}
+use Rattle.amqp_data.specs.Fixed.{f32_bits, f64_bits, milliseconds_of}
+use Rattle.amqp_data.specs.declared.bits.F32Bits.{F32Bits}
+use Rattle.amqp_data.specs.declared.bits.F64Bits.{F64Bits}
+use Rattle.amqp_data.specs.declared.timestamp.Timestamp.{Timestamp}
 use Rattle.amqp_data.specs.FormatCode.{code_of}
 use Rattle.amqp_data.specs.declared.format_code.EncodingCodes.{EncodingCodes}
 use Rattle.amqp_data.specs.declared.format_code.EncodingCodes.TheVariants as code
 use Rattle.amqp_frame.specs.Code.{category}
-use Rattle.amqp_ser.specs.Tree.{Scalar, scalar, null, bool, ubyte, uint, ulong, int, long}
+use Rattle.amqp_ser.specs.Tree.{Scalar, scalar, null, bool, ubyte, ushort, uint, ulong, byte, short, int, long, float, double, timestamp}
 use Rattle.amqp_value.specs.TreeOf.{tree_of}
 use Rattle.amqp_value.specs.declared.value.Value.{Value, the_lemmas}
 use Rattle.amqp_value.specs.declared.value.Value.TheVariants as kind
@@ -49,6 +53,11 @@ module _ (f : FrameReader) (h : ContentReader) where
   ubyte-framed a s n is =
       framed code.Ubyte (a ∷ s) (a ∷ []) s (ubyte n) (kind.Ubyte n) refl refl (payload-found (IsPayload.of_width (a ∷ [])) s) (rw is refl) (search (rules, the_lemmas))
 
+  pub byte-framed : (a : ℕ) (s : List ℕ) (n : ℤ) → n ≡ cast_signed w8 a → frame_in f h (0x51 ∷ a ∷ s) ≡ Some (tree_of (kind.Byte n), s)
+  unfolding scalar_in category
+  byte-framed a s n is =
+      framed code.Byte (a ∷ s) (a ∷ []) s (byte n) (kind.Byte n) refl refl (payload-found (IsPayload.of_width (a ∷ [])) s) (rw is refl) (search (rules, the_lemmas))
+
   pub small_uint-framed : (a : ℕ) (s : List ℕ) (n : ℕ) → n ≡ a → frame_in f h (0x52 ∷ a ∷ s) ≡ Some (tree_of (kind.Uint n), s)
   unfolding scalar_in category
   small_uint-framed a s n is =
@@ -68,6 +77,24 @@ module _ (f : FrameReader) (h : ContentReader) where
   unfolding scalar_in category
   small_long-framed a s n is =
       framed code.SmallLong (a ∷ s) (a ∷ []) s (long n) (kind.Long n) refl refl (payload-found (IsPayload.of_width (a ∷ [])) s) (rw is refl) (search (rules, the_lemmas))
+
+  pub ushort-framed : (s bs rest : List ℕ) (n : ℕ) → n ≡ from_be_bytes w16 bs → cut 2 s ≡ Some (bs, rest) → exact 2 bs ≡ Some bs
+      → frame_in f h (0x60 ∷ s) ≡ Some (tree_of (kind.Ushort n), rest)
+  unfolding scalar_in category
+  ushort-framed s bs rest n is found whole =
+      framed code.Ushort s bs rest (ushort n) (kind.Ushort n) refl refl found (rw (whole, is) refl) (search (rules, the_lemmas))
+
+  pub short-framed : (s bs rest : List ℕ) (n : ℤ) → n ≡ cast_signed w16 (from_be_bytes w16 bs) → cut 2 s ≡ Some (bs, rest) → exact 2 bs ≡ Some bs
+      → frame_in f h (0x61 ∷ s) ≡ Some (tree_of (kind.Short n), rest)
+  unfolding scalar_in category
+  short-framed s bs rest n is found whole =
+      framed code.Short s bs rest (short n) (kind.Short n) refl refl found (rw (whole, is) refl) (search (rules, the_lemmas))
+
+  pub float-framed : (s bs rest : List ℕ) (x : F32Bits) → f32_bits x ≡ from_be_bytes w32 bs → cut 4 s ≡ Some (bs, rest) → exact 4 bs ≡ Some bs
+      → frame_in f h (0x72 ∷ s) ≡ Some (tree_of (kind.Float x), rest)
+  unfolding scalar_in category
+  float-framed s bs rest x is found whole =
+      framed code.Float s bs rest (float (f32_bits x)) (kind.Float x) refl refl found (rw (whole, is) refl) (search (rules, the_lemmas))
 
   pub uint-framed : (s bs rest : List ℕ) (n : ℕ) → n ≡ from_be_bytes w32 bs → cut 4 s ≡ Some (bs, rest) → exact 4 bs ≡ Some bs
       → frame_in f h (0x70 ∷ s) ≡ Some (tree_of (kind.Uint n), rest)
@@ -92,3 +119,15 @@ module _ (f : FrameReader) (h : ContentReader) where
   unfolding scalar_in category
   long-framed s bs rest n is found whole =
       framed code.Long s bs rest (long n) (kind.Long n) refl refl found (rw (whole, is) refl) (search (rules, the_lemmas))
+
+  pub double-framed : (s bs rest : List ℕ) (x : F64Bits) → f64_bits x ≡ from_be_bytes w64 bs → cut 8 s ≡ Some (bs, rest) → exact 8 bs ≡ Some bs
+      → frame_in f h (0x82 ∷ s) ≡ Some (tree_of (kind.Double x), rest)
+  unfolding scalar_in category
+  double-framed s bs rest x is found whole =
+      framed code.Double s bs rest (double (f64_bits x)) (kind.Double x) refl refl found (rw (whole, is) refl) (search (rules, the_lemmas))
+
+  pub timestamp-framed : (s bs rest : List ℕ) (x : Timestamp) → milliseconds_of x ≡ cast_signed w64 (from_be_bytes w64 bs) → cut 8 s ≡ Some (bs, rest) → exact 8 bs ≡ Some bs
+      → frame_in f h (0x83 ∷ s) ≡ Some (tree_of (kind.Timestamp x), rest)
+  unfolding scalar_in category
+  timestamp-framed s bs rest x is found whole =
+      framed code.Timestamp s bs rest (timestamp (milliseconds_of x)) (kind.Timestamp x) refl refl found (rw (whole, is) refl) (search (rules, the_lemmas))

@@ -1,5 +1,5 @@
 -- The parsing functions at each step of the reader.
-use Rattle.std.proofs.Common.{◌≡◌, ℕ, zero, suc, ◌+◌, ◌-◌, ◌/◌, ◌%◌, ◌<◌, Bool, true, false, List, [], ◌∷◌, ◌++◌, length, map, Option, Some, None, Result, Ok, Err, if◌then◌else◌, ◌==◌, refl, sym, ap, ◌∙◌, arith}
+use Rattle.std.proofs.Common.{◌≡◌, ℕ, zero, suc, ◌+◌, ◌-◌, ◌/◌, ◌%◌, ◌<◌, Bool, true, false, IsTrue, List, [], ◌∷◌, ◌++◌, length, map, Option, Some, None, Result, Ok, Err, if◌then◌else◌, ◌==◌, refl, sym, ap, ◌∙◌, arith}
 use Rattle.std.proofs.lemmas.Grind.{common_steps}
 use Rattle.std.specs.Prelude.{IfOk, IfErr}
 use Rattle.amqp_data.specs.FormatCode.{code_of}
@@ -8,14 +8,14 @@ use Rattle.amqp_data.specs.declared.error.Error.TheVariants.{OutOfMemory}
 use Rattle.amqp_data.specs.declared.format_code.EncodingCodes.{EncodingCodes}
 use Rattle.amqp_frame.specs.Code.{category}
 use Rattle.amqp_ser.specs.Tree as tree
-use Rattle.amqp_ser.specs.Tree.{Tree, Pairs, no_pairs}
+use Rattle.amqp_ser.specs.Tree.{Tree, Pairs, trees_of, no_pairs}
 use Rattle.amqp_value.specs.Image.{insert_tree}
 use Rattle.amqp_value.specs.TreeOf.{tree_of}
 use Rattle.amqp_value.specs.declared.value.Value.{Value}
-use Rattle.amqp_decode.specs.Codes.{primitive_of}
+use Rattle.amqp_decode.specs.Codes.{is_primitive, primitive_of}
 use Rattle.amqp_decode.specs.Scalars.{and_then}
 use Rattle.amqp_decode.specs.Parsed.{FrameReader, ContentReader, gather, insert, all, parse_list, parse_map, parse_array, content_at, with_rest, payload_in, content_of, frame_in, parse, parse_content}
-use Rattle.amqp_decode.proofs.CodeLemmas.{named}
+use Rattle.amqp_decode.proofs.CodeLemmas.{named, primitive-found, primitive-nonzero}
 
 pub parse_content-zero : (d : ℕ) (c : EncodingCodes) (s : List ℕ) → d ≡ 0 → parse_content d c s ≡ None
 unfolding parse_content
@@ -87,6 +87,26 @@ item-fixed (suc d) c s r lt some e =
     rw (same, not-zero (code_of c) some, named (code_of c) c some refl) refl in
     sym framed ∙ e
 
+-- A scalar of fixed width that was found is the next array element.
+pub item-found : (d : ℕ) (c : EncodingCodes) (s : List ℕ) (r : Option (Tree × List ℕ)) → 0 < d → (code_of c ≡ 0 → ⊥)
+    → ((f : FrameReader) (h : ContentReader) → frame_in f h (code_of c ∷ s) ≡ r) → payload_in (parse_content d) c s ≡ r
+item-found d c s r lt some found = item-fixed d c s r lt some (found (parse (d - 1)) (parse_content (d - 1)))
+
+-- The payload after the byte of a primitive code.
+module _ (f : FrameReader) (h : ContentReader) (b : ℕ) (c : EncodingCodes) (s : List ℕ) where
+  after-byte : b ≡ code_of c → IsTrue (is_primitive c) → frame_in f h (b ∷ s) ≡ payload_in (content_of f h) c s
+  after-byte is ok = rw (is, primitive-nonzero c ok, primitive-found c ok) refl
+
+  pub byte-ok : (r : Result Value Error) (rest : List ℕ) → b ≡ code_of c → IsTrue (is_primitive c)
+      → IfOk r (λ v. payload_in (content_of f h) c s ≡ Some (tree_of v, rest)) → IfOk r (λ v. frame_in f h (b ∷ s) ≡ Some (tree_of v, rest))
+  byte-ok (Ok v) rest is ok e = after-byte is ok ∙ e
+  byte-ok (Err g) rest is ok e = tt
+
+  pub byte-err : (r : Result Value Error) → b ≡ code_of c → IsTrue (is_primitive c)
+      → IfErr r (λ e. (e ≡ OutOfMemory → ⊥) → payload_in (content_of f h) c s ≡ None) → IfErr r (λ e. (e ≡ OutOfMemory → ⊥) → frame_in f h (b ∷ s) ≡ None)
+  byte-err (Ok v) is ok e = tt
+  byte-err (Err g) is ok e = λ other. after-byte is ok ∙ e other
+
 pub trees-push : (vs : List Value) (v : Value) → map tree_of (vs ++ v ∷ []) ≡ map tree_of vs ++ tree_of v ∷ []
 trees-push [] v = refl
 trees-push (x ∷ vs) v = ap (λ r. tree_of x ∷ r) (trees-push vs v)
@@ -116,6 +136,12 @@ module _ (f : FrameReader) where
   pub list-none : (n i : ℕ) (s body : List ℕ) (done : List Tree) → i < n → gather f (n - i) s done ≡ gather f n body [] → f s ≡ None → parse_list f (n, body) ≡ None
   list-none n i s body done lt same e =
       let no : gather f n body [] ≡ None = sym same ∙ gather-none n i s done lt e in
+      rw no refl
+
+  -- If an element cannot be read, there are no elements of an array.
+  pub items-none : (n m i : ℕ) (s body : List ℕ) (done : List Tree) → i < m → gather f (m - i) s done ≡ gather f n body [] → f s ≡ None → and_then (gather f n body []) all ≡ None
+  items-none n m i s body done lt same e =
+      let no : gather f n body [] ≡ None = sym same ∙ gather-none m i s done lt e in
       rw no refl
 
   entry-more : (m : ℕ) (s mid rest : List ℕ) (k v : Tree) (done : Pairs) → f s ≡ Some (k, mid) → f mid ≡ Some (v, rest) → insert f (suc m) s done ≡ insert f m rest (insert_tree done k v)
@@ -151,10 +177,19 @@ module _ (f : FrameReader) where
       by_parity true = rw e refl
       by_parity false = refl
 
--- If an array element cannot be read, there is no array.
-pub array-none : (h : ContentReader) (c : ℕ) (code : EncodingCodes) (n i : ℕ) (s body rest : List ℕ) (done : List Tree) → i < n → primitive_of c ≡ Some code → body ≡ c ∷ rest
-    → gather (payload_in h code) (n - i) s done ≡ gather (payload_in h code) n rest [] → payload_in h code s ≡ None → parse_array h (n, body) ≡ None
-array-none h c code zero i s body rest done lt ok is same e = absurd (omega arith)
-array-none h c code (suc n) i s body rest done lt ok is same e =
-    let no : gather (payload_in h code) (suc n) rest [] ≡ None = sym same ∙ gather-none (payload_in h code) (suc n) i s done lt e in
-    rw (is, ok, no) refl
+-- An array, given what its elements are or that they are none.
+module _ (h : ContentReader) (c : ℕ) (code : EncodingCodes) (n : ℕ) (body rest : List ℕ) where
+  array-of : primitive_of c ≡ Some code → body ≡ c ∷ rest
+      → parse_array h (n, body) ≡ and_then (and_then (gather (payload_in h code) n rest []) all) (λ ts. Some (tree.array (trees_of ts)))
+  array-of ok is = by_count n
+    where
+      by_count : (m : ℕ) → parse_array h (m, body) ≡ and_then (and_then (gather (payload_in h code) m rest []) all) (λ ts. Some (tree.array (trees_of ts)))
+      by_count zero = rw (is, ok) refl
+      by_count (suc m) = rw (is, ok) refl
+
+  pub array-found : (ts : List Tree) → primitive_of c ≡ Some code → body ≡ c ∷ rest → and_then (gather (payload_in h code) n rest []) all ≡ Some ts
+      → parse_array h (n, body) ≡ Some (tree.array (trees_of ts))
+  array-found ts ok is found = array-of ok is ∙ ap (λ o. and_then o (λ us. Some (tree.array (trees_of us)))) found
+
+  pub array-none : primitive_of c ≡ Some code → body ≡ c ∷ rest → and_then (gather (payload_in h code) n rest []) all ≡ None → parse_array h (n, body) ≡ None
+  array-none ok is none = array-of ok is ∙ ap (λ o. and_then o (λ us. Some (tree.array (trees_of us)))) none

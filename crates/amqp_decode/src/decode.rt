@@ -28,9 +28,10 @@ use std::alloc::Global;
 /// left over, and for every other invalid input. Returns `OutOfMemory` if an allocation fails.
 ///
 /// # Memory
-/// Allocates from `alloc`. Buffers grow element by element; a count reserves no capacity. An array
-/// whose elements have no bytes, such as nulls, takes memory for as many elements as its count says.
-/// `decode_value_limited` limits them.
+/// Allocates from `alloc`. A count reserves capacity only for elements whose bytes can be there: for
+/// at most 31 elements of a list, and in an array of numbers for those whose payloads are there.
+/// Other buffers grow element by element. An array whose elements have no bytes, such as nulls,
+/// takes memory for as many elements as its count says. `decode_value_limited` limits them.
 ///
 /// # Example
 /// `43`, `5200` and `7000000000` are the uint 0.
@@ -60,7 +61,7 @@ pub fn decode_value_limited(alloc: Global, bytes: &[u8], elements: u32) -> Resul
     ensures err { IfErr result (λ e. ¬ (e ≡ OutOfMemory) → (t : Tree) → ¬ Spells 256 bytes.now t) }
 {
     let mut rest = bytes;
-    let value = read_encoded_value(alloc, &mut rest, 256, elements)?;
+    let value = read_encoded_value(alloc, &mut rest, 256, elements, bytes.len())?;
     if rest.is_empty() {
         Ok(value)
     } else {

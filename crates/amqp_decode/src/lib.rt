@@ -11,8 +11,10 @@ mod fixed;
 pub mod laws;
 mod payload;
 mod payload_shape;
+mod push;
 mod read;
+mod reserve;
+mod run;
 mod scalar;
-mod stack;
 
 pub use decode::{decode_value, decode_value_limited};

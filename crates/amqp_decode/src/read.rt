@@ -1,48 +1,65 @@
 //! Reads an encoded value, recursively, from its first byte on.
 
-ghost use Rattle.std.specs.Prelude.{◌≡◌, ◌∷◌, ℕ, IfOk, OnOk, IfErr, Some, None};
+ghost use Rattle.std.specs.Prelude.{◌≡◌, [], ◌∷◌, ◌++◌, ◌<◌, ℕ, IfOk, OnOk, IfErr, Some, None, map, vec_len, vec_capacity};
 ghost use Rattle.amqp_data.specs.declared.error.Error.TheVariants.{OutOfMemory};
 ghost use Rattle.amqp_value.specs.TreeOf.{tree_of};
-ghost use Rattle.amqp_decode.specs.Parsed.{parse, parse_content, payload_in, content_of, frame_in, parse_list, parse_map, parse_array};
+ghost use Rattle.amqp_value.specs.declared.value.Value.{Value};
+ghost use Rattle.amqp_decode.specs.Scalars.{and_then};
+ghost use Rattle.amqp_decode.specs.Parsed.{all, gather, parse, parse_content, payload_in, content_of, frame_in, parse_list, parse_map, parse_array};
 
 use crate::fixed::read_fixed;
 use crate::payload::{read_count, read_payload};
 use crate::payload_shape::{PayloadShape, has_no_payload, payload_shape, primitive_code};
+use crate::push::push_fixed;
+use crate::reserve::{make_room, reserved};
+use crate::run::read_run;
 use crate::scalar::{read_descriptor, read_scalar};
-use crate::stack::take_from;
 use amqp_data::{Array, Described, EncodingCodes, Error};
 use amqp_value::{MapBuilder, Value};
 use std::alloc::Global;
 
+// The codes of texts, binaries and compounds that most messages have.
+const BINARY: u8 = EncodingCodes::Vbin8 as u8;
+
+const STRING: u8 = EncodingCodes::Str8 as u8;
+
+const SYMBOL: u8 = EncodingCodes::Sym8 as u8;
+
+const LIST: u8 = EncodingCodes::List8 as u8;
+
+const LONG_STRING: u8 = EncodingCodes::Str32 as u8;
+
+const LONG_LIST: u8 = EncodingCodes::List32 as u8;
+
 // Reads the first encoded value of `bytes`, and leaves the bytes after it. An array of more than
-// `elements` elements without bytes fails with `OutOfMemory`.
+// `elements` elements without bytes fails with `OutOfMemory`. Memory is reserved for at most
+// `spare` elements of the lists and arrays inside.
 #[cycle(read)]
 pub fn read_encoded_value(
     alloc: Global,
     bytes: &mut &[u8],
     depth: u16,
     elements: u32,
+    spare: usize,
 ) -> Result<Value, Error>
     ensures ok { IfOk result (λ v. parse depth bytes.old.now ≡ Some (tree_of v, bytes.new.now)) }
     ensures err { IfErr result (λ e. ¬ (e ≡ OutOfMemory) → parse depth bytes.old.now ≡ None) }
 {
-    read_on_stack(alloc, bytes, depth, elements, &mut Vec::new(alloc))
+    read_value(alloc, bytes, depth, elements, spare)
 }
 
-// Like `read_encoded_value`. The stack contains the elements read so far of the enclosing lists,
-// and is unchanged if the call succeeds.
+// Like `read_encoded_value`, inlined.
 #[cycle(read)]
 #[inline(always)]
-fn read_on_stack(
+fn read_value(
     alloc: Global,
     bytes: &mut &[u8],
     depth: u16,
     elements: u32,
-    stack: &mut Vec<Value>,
+    spare: usize,
 ) -> Result<Value, Error>
     ensures ok { IfOk result (λ v. parse depth bytes.old.now ≡ Some (tree_of v, bytes.new.now)) }
     ensures err { IfErr result (λ e. ¬ (e ≡ OutOfMemory) → parse depth bytes.old.now ≡ None) }
-    ensures stack { OnOk result (stack.new.items ≡ stack.old.items) }
 {
     if depth == 0 {
         return Err(Error::InvalidValue);
@@ -55,12 +72,12 @@ fn read_on_stack(
                 return Ok(value);
             }
             *bytes = rest;
-            read_after_code(alloc, *code, bytes, depth - 1, elements, stack)
+            read_after_code(alloc, *code, bytes, depth - 1, elements, spare)
         }
     }
 }
 
-// Like `read_on_stack`, after the format code has been read. `depth` limits the values inside.
+// Like `read_value`, after the format code has been read. `depth` limits the values inside.
 #[cycle(read)]
 #[inline(never)]
 fn read_after_code(
@@ -69,54 +86,53 @@ fn read_after_code(
     bytes: &mut &[u8],
     depth: u16,
     elements: u32,
-    stack: &mut Vec<Value>,
+    spare: usize,
 ) -> Result<Value, Error>
     ensures ok { IfOk result (λ v.
         frame_in (parse depth) (parse_content depth) (code ∷ bytes.old.now)
         ≡ Some (tree_of v, bytes.new.now)) }
     ensures err { IfErr result (λ e. ¬ (e ≡ OutOfMemory) →
         frame_in (parse depth) (parse_content depth) (code ∷ bytes.old.now) ≡ None) }
-    ensures stack { OnOk result (stack.new.items ≡ stack.old.items) }
 {
     if code == 0 {
         let (descriptor, rest) = read_descriptor(alloc, bytes)?;
         *bytes = rest;
-        let value = read_on_stack(alloc, bytes, depth, elements, stack)?;
+        let value = read_value(alloc, bytes, depth, elements, spare)?;
         let described = Box::new(alloc, Described { descriptor, value })?;
         return Ok(Value::Described(described));
     }
-    let code = primitive_code(code)?;
-    let (content, rest) = read_payload(code, bytes)?;
-    *bytes = rest;
-    read_content(alloc, code, content, depth, elements, stack)
+    match code {
+        BINARY => read_named(alloc, EncodingCodes::Vbin8, bytes, depth, elements, spare),
+        STRING => read_named(alloc, EncodingCodes::Str8, bytes, depth, elements, spare),
+        SYMBOL => read_named(alloc, EncodingCodes::Sym8, bytes, depth, elements, spare),
+        LIST => read_named(alloc, EncodingCodes::List8, bytes, depth, elements, spare),
+        LONG_STRING => read_named(alloc, EncodingCodes::Str32, bytes, depth, elements, spare),
+        LONG_LIST => read_named(alloc, EncodingCodes::List32, bytes, depth, elements, spare),
+        _ => read_named(alloc, primitive_code(code)?, bytes, depth, elements, spare),
+    }
 }
 
-// Reads the payload of this code at the start of `bytes`, as an array element, and leaves the bytes
-// after it.
+// Reads the payload of this code at the start of `bytes`, and leaves the bytes after it. `depth`
+// limits the values inside.
 #[cycle(read)]
-fn read_item(
+#[inline(always)]
+fn read_named(
     alloc: Global,
     code: EncodingCodes,
     bytes: &mut &[u8],
     depth: u16,
     elements: u32,
-    stack: &mut Vec<Value>,
+    spare: usize,
 ) -> Result<Value, Error>
     ensures ok { IfOk result (λ v.
-        payload_in (parse_content depth) code bytes.old.now ≡ Some (tree_of v, bytes.new.now)) }
+        payload_in (content_of (parse depth) (parse_content depth)) code bytes.old.now
+        ≡ Some (tree_of v, bytes.new.now)) }
     ensures err { IfErr result (λ e. ¬ (e ≡ OutOfMemory) →
-        payload_in (parse_content depth) code bytes.old.now ≡ None) }
+        payload_in (content_of (parse depth) (parse_content depth)) code bytes.old.now ≡ None) }
 {
-    if depth == 0 {
-        return Err(Error::InvalidValue);
-    }
-    if let Some((value, rest)) = read_fixed(u8::from(code), bytes) {
-        *bytes = rest;
-        return Ok(value);
-    }
     let (content, rest) = read_payload(code, bytes)?;
     *bytes = rest;
-    read_content(alloc, code, content, depth - 1, elements, stack)
+    read_content(alloc, code, content, depth, elements, spare)
 }
 
 // Reads a value from the content of a payload of this code. `depth` limits the values inside.
@@ -128,33 +144,56 @@ fn read_content(
     content: &[u8],
     depth: u16,
     elements: u32,
-    stack: &mut Vec<Value>,
+    spare: usize,
 ) -> Result<Value, Error>
     ensures ok { IfOk result (λ v.
         content_of (parse depth) (parse_content depth) code content.now ≡ Some (tree_of v)) }
     ensures err { IfErr result (λ e. ¬ (e ≡ OutOfMemory) →
         content_of (parse depth) (parse_content depth) code content.now ≡ None) }
-    ensures stack { OnOk result (stack.new.items ≡ stack.old.items) }
 {
     match payload_shape(code) {
         PayloadShape::Described => Err(Error::InvalidValue),
         PayloadShape::Scalar => read_scalar(alloc, code, content),
         PayloadShape::List(count) => {
             let (count, body) = read_count(count, content)?;
-            read_list(alloc, count, body, depth, elements, stack)
+            read_list(alloc, count, body, depth, elements, spare)
         }
         PayloadShape::Map(count) => {
             let (count, body) = read_count(count, content)?;
-            read_entries(alloc, count, body, depth, elements)
+            read_entries(alloc, count, body, depth, elements, spare)
         }
         PayloadShape::Array(count) => {
             let (count, body) = read_count(count, content)?;
-            read_array(alloc, count, body, depth, elements)
+            read_array(alloc, count, body, depth, elements, spare)
         }
     }
 }
 
-// Reads `count` elements that must fill `body`. They are kept on the stack until all are read.
+// Reads the payload of this code at the start of `bytes`, as an array element, and leaves the bytes
+// after it.
+#[cycle(read)]
+fn read_item(
+    alloc: Global,
+    code: EncodingCodes,
+    bytes: &mut &[u8],
+    depth: u16,
+    elements: u32,
+    spare: usize,
+) -> Result<Value, Error>
+    ensures ok { IfOk result (λ v.
+        payload_in (parse_content depth) code bytes.old.now ≡ Some (tree_of v, bytes.new.now)) }
+    ensures err { IfErr result (λ e. ¬ (e ≡ OutOfMemory) →
+        payload_in (parse_content depth) code bytes.old.now ≡ None) }
+{
+    if depth == 0 {
+        return Err(Error::InvalidValue);
+    }
+    let (content, rest) = read_payload(code, bytes)?;
+    *bytes = rest;
+    read_content(alloc, code, content, depth - 1, elements, spare)
+}
+
+// Reads `count` elements that must fill `body`.
 #[cycle(read)]
 #[inline(never)]
 fn read_list(
@@ -163,23 +202,58 @@ fn read_list(
     body: &[u8],
     depth: u16,
     elements: u32,
-    stack: &mut Vec<Value>,
+    spare: usize,
 ) -> Result<Value, Error>
     ensures ok { IfOk result (λ v. parse_list (parse depth) (count, body.now) ≡ Some (tree_of v)) }
     ensures err { IfErr result (λ e. ¬ (e ≡ OutOfMemory) →
         parse_list (parse depth) (count, body.now) ≡ None) }
-    ensures stack { OnOk result (stack.new.items ≡ stack.old.items) }
 {
-    let start = stack.len();
+    let room = reserved(count, body, spare);
+    let mut list = Vec::with_capacity(alloc, room)?;
     let mut rest = body;
-    for _ in 0..count {
-        let item = read_on_stack(alloc, &mut rest, depth, elements, stack)?;
-        stack.push(item)?;
+    for read in 0..count {
+        make_room(&mut list, (count - read) as usize)?;
+        push_value(alloc, &mut rest, depth, elements, spare - room, &mut list)?;
     }
-    if !rest.is_empty() {
+    if rest.is_empty() {
+        Ok(Value::List(list))
+    } else {
+        Err(Error::InvalidValue)
+    }
+}
+
+// Reads the first encoded value of `bytes`, appends it to `list`, and leaves the bytes after it.
+#[cycle(read)]
+#[inline(always)]
+fn push_value(
+    alloc: Global,
+    bytes: &mut &[u8],
+    depth: u16,
+    elements: u32,
+    spare: usize,
+    list: &mut Vec<Value>,
+) -> Result<(), Error>
+    requires { vec_len list.old < vec_capacity list.old }
+    ensures ok { OnOk result ((v : Value) × (list.new.items ≡ list.old.items ++ v ∷ [])
+        × (parse depth bytes.old.now ≡ Some (tree_of v, bytes.new.now))) }
+    ensures err { IfErr result (λ e. ¬ (e ≡ OutOfMemory) → parse depth bytes.old.now ≡ None) }
+{
+    if depth == 0 {
         return Err(Error::InvalidValue);
     }
-    Ok(Value::List(take_from(alloc, stack, start)?))
+    match bytes.split_first() {
+        None => Err(Error::UnexpectedEof),
+        Some((code, rest)) => {
+            if let Some(rest) = push_fixed(*code, rest, list) {
+                *bytes = rest;
+                return Ok(());
+            }
+            *bytes = rest;
+            let value = read_after_code(alloc, *code, bytes, depth - 1, elements, spare)?;
+            list.push_reserved(value);
+            Ok(())
+        }
+    }
 }
 
 // Reads `count` keys and values, alternately, that must fill `body`.
@@ -191,6 +265,7 @@ fn read_entries(
     body: &[u8],
     depth: u16,
     elements: u32,
+    spare: usize,
 ) -> Result<Value, Error>
     ensures ok { IfOk result (λ v. parse_map (parse depth) (count, body.now) ≡ Some (tree_of v)) }
     ensures err { IfErr result (λ e. ¬ (e ≡ OutOfMemory) →
@@ -202,8 +277,8 @@ fn read_entries(
     let mut pairs = MapBuilder::new(alloc);
     let mut rest = body;
     for _ in 0..count / 2 {
-        let key = read_encoded_value(alloc, &mut rest, depth, elements)?;
-        let value = read_encoded_value(alloc, &mut rest, depth, elements)?;
+        let key = read_encoded_value(alloc, &mut rest, depth, elements, spare)?;
+        let value = read_encoded_value(alloc, &mut rest, depth, elements, spare)?;
         pairs.insert(key, value)?;
     }
     if rest.is_empty() {
@@ -222,30 +297,54 @@ fn read_array(
     body: &[u8],
     depth: u16,
     elements: u32,
+    spare: usize,
 ) -> Result<Value, Error>
     ensures ok { IfOk result (λ v.
         parse_array (parse_content depth) (count, body.now) ≡ Some (tree_of v)) }
     ensures err { IfErr result (λ e. ¬ (e ≡ OutOfMemory) →
         parse_array (parse_content depth) (count, body.now) ≡ None) }
 {
-    let mut items = Vec::new(alloc);
-    let mut stack = Vec::new(alloc);
     match body.split_first() {
-        None if count == 0 => {}
-        None => return Err(Error::UnexpectedEof),
-        Some((constructor, mut rest)) => {
+        None if count == 0 => Ok(Value::Array(Array::from(Vec::new(alloc)))),
+        None => Err(Error::UnexpectedEof),
+        Some((constructor, payloads)) => {
             let code = primitive_code(*constructor)?;
             if count > elements && has_no_payload(code) {
                 return Err(Error::OutOfMemory);
             }
-            for _ in 0..count {
-                let item = read_item(alloc, code, &mut rest, depth, elements, &mut stack)?;
-                items.push(item)?;
-            }
-            if !rest.is_empty() {
-                return Err(Error::InvalidValue);
-            }
+            let items = read_items(alloc, code, count, payloads, depth, elements, spare)?;
+            Ok(Value::Array(Array::from(items)))
         }
     }
-    Ok(Value::Array(Array::from(items)))
+}
+
+// Reads `count` payloads of this code, as array elements, that must fill `payloads`.
+#[cycle(read)]
+#[inline(always)]
+fn read_items(
+    alloc: Global,
+    code: EncodingCodes,
+    count: u32,
+    payloads: &[u8],
+    depth: u16,
+    elements: u32,
+    spare: usize,
+) -> Result<Vec<Value>, Error>
+    ensures ok { IfOk result (λ v.
+        and_then (gather (payload_in (parse_content depth) code) count payloads.now []) all
+        ≡ Some (map tree_of v.items)) }
+    ensures err { IfErr result (λ e. ¬ (e ≡ OutOfMemory) →
+        and_then (gather (payload_in (parse_content depth) code) count payloads.now []) all ≡ None) }
+{
+    let mut items = Vec::new(alloc);
+    let mut rest = payloads;
+    let left = read_run(code, depth, count, &mut rest, &mut items)?;
+    for _ in 0..left {
+        let item = read_item(alloc, code, &mut rest, depth, elements, spare)?;
+        items.push(item)?;
+    }
+    if !rest.is_empty() {
+        return Err(Error::InvalidValue);
+    }
+    Ok(items)
 }

@@ -1,5 +1,5 @@
-use Rattle.std.proofs.Common.{rules, ◌≡◌, ◌∷◌, w32, w64, to_z, of_z}
-use Rattle.amqp_decode.proofs.ScalarFramed.{null-framed, true-framed, false-framed, zero_uint-framed, zero_ulong-framed, ubyte-framed, small_uint-framed, small_ulong-framed, small_int-framed, small_long-framed}
+use Rattle.std.proofs.Common.{rules, ◌≡◌, ◌∷◌, w8, w32, w64, to_z, of_z}
+use Rattle.amqp_decode.proofs.ScalarFramed.{null-framed, true-framed, false-framed, zero_uint-framed, zero_ulong-framed, ubyte-framed, byte-framed, small_uint-framed, small_ulong-framed, small_int-framed, small_long-framed}
 use Rattle.amqp_decode.proofs.fixed.read_fixed.Goals as goal
 
 pub returns-in-64-clause-found : goal.returns-in-64-clause-found
@@ -21,6 +21,11 @@ pub returns-in_ok-byte-in-80-clause-found : goal.returns-in_ok-byte-in-80-clause
 returns-in_ok-byte-in-80-clause-found c f h =
     let bytes : c.args.bytes.now ≡ c.in_ok-byte-in-80.byte.now ∷ c.in_ok-byte-in-80.rest.now = search rules in
     rw (c.in-80.is, bytes) (ubyte-framed f h c.in_ok-byte-in-80.byte.now c.in_ok-byte-in-80.rest.now c.in_ok-byte-in-80.byte.now (search rules))
+
+pub returns-in_ok-byte-in-81-clause-found : goal.returns-in_ok-byte-in-81-clause-found
+returns-in_ok-byte-in-81-clause-found c f h =
+    let bytes : c.args.bytes.now ≡ c.in_ok-byte-in-81.byte.now ∷ c.in_ok-byte-in-81.rest.now = search rules in
+    rw (c.in-81.is, bytes) (byte-framed f h c.in_ok-byte-in-81.byte.now c.in_ok-byte-in-81.rest.now (to_z w8 (of_z w8 c.cast_signed.result)) (search rules))
 
 pub returns-in_ok-byte-in-82-clause-found : goal.returns-in_ok-byte-in-82-clause-found
 returns-in_ok-byte-in-82-clause-found c f h =

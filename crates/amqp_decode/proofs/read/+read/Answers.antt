@@ -1,21 +1,16 @@
-use Rattle.std.proofs.Common.{rules, ◌≡◌, [], ◌∷◌, ◌++◌, Some, None, sym, ap, ◌∙◌, map, ◌+◌, ◌-◌, ◌/◌, arith, append_assoc}
+use Rattle.std.proofs.Common.{rules, ◌≡◌, [], ◌∷◌, ◌++◌, Some, None, refl, sym, ap, ◌∙◌, map, ◌+◌, ◌-◌, ◌/◌, arith}
 use Rattle.amqp_value.specs.TreeOf.{tree_of}
 use Rattle.amqp_value.specs.MapBuilder.{collected_pairs}
-use Rattle.amqp_data.specs.FormatCode.{code_of}
+use Rattle.amqp_value.specs.declared.value.Value.{the_lemmas}
+use Rattle.amqp_data.specs.declared.format_code.EncodingCodes.TheVariants as code
 use Rattle.amqp_decode.specs.Codes.{primitive_of}
-use Rattle.amqp_decode.specs.Parsed.{parse, parse_content, payload_in, parse_list, parse_map, parse_array, insert}
-use Rattle.amqp_decode.proofs.Steps.{item-zero, item-ok, item-err, item-fixed, parse-zero, parse-at, parse-empty, values-and_then, insert-and_then, insert-no_key, insert-no_value, list-none, map-none, array-none}
+use Rattle.amqp_decode.specs.Scalars.{and_then}
+use Rattle.amqp_decode.specs.Parsed.{all, frame_in, gather, parse, parse_content, payload_in, parse_list, parse_map, parse_array, insert}
+use Rattle.amqp_decode.proofs.Steps.{item-zero, byte-ok, byte-err, item-ok, item-err, parse-zero, parse-at, parse-empty, values-and_then, insert-and_then, insert-no_key, insert-no_value, list-none, map-none, items-none, array-found, array-none}
 use Rattle.amqp_decode.proofs.read.+read.Goals as goal
 
 pub read_item-returns-then-depth-eq0-clause-err : goal.read_item-returns-then-depth-eq0-clause-err
 read_item-returns-then-depth-eq0-clause-err t c = λ _. item-zero c.args.depth c.args.code c.args.bytes.now.now c.if-depth-eq0.true
-
-pub read_item-returns-in-Some-clause-ok : goal.read_item-returns-in-Some-clause-ok
-read_item-returns-in-Some-clause-ok t c =
-    let byte : c.from.result ≡ code_of c.args.code = search rules in
-    item-fixed c.args.depth c.args.code c.args.bytes.now.now (Some (tree_of c.in-Some.value, c.in-Some.rest.now)) (omega (arith, c.if-depth-eq0.false))
-    (λ zero. c.in-Some.ensures.primitive (byte ∙ zero))
-    (rw (sym byte) (c.in-Some.ensures.found (parse (c.args.depth - 1)) (parse_content (c.args.depth - 1))))
 
 pub read_item-returns-clause-ok : goal.read_item-returns-clause-ok
 read_item-returns-clause-ok t c =
@@ -27,42 +22,106 @@ read_item-returns-clause-err t c =
     item-err c.args.depth c.args.code c.args.bytes.now.now c.in_ok-content.content.now c.in_ok-content.rest.now c.read_content.result
     (omega (arith, c.if-depth-eq0.false)) c.in_ok-content.ensures.ok c.read_content.ensures.err
 
-pub read_on_stack-returns-then-depth-eq0-clause-err : goal.read_on_stack-returns-then-depth-eq0-clause-err
-read_on_stack-returns-then-depth-eq0-clause-err t c = λ _. parse-zero c.args.depth c.args.bytes.now.now c.if-depth-eq0.true
+pub read_value-returns-then-depth-eq0-clause-err : goal.read_value-returns-then-depth-eq0-clause-err
+read_value-returns-then-depth-eq0-clause-err t c = λ _. parse-zero c.args.depth c.args.bytes.now.now c.if-depth-eq0.true
 
-pub read_on_stack-returns-in-None-clause-err : goal.read_on_stack-returns-in-None-clause-err
-read_on_stack-returns-in-None-clause-err t c = λ _. parse-empty c.args.depth c.args.bytes.now.now (omega (arith, c.if-depth-eq0.false)) (search rules)
+pub read_value-returns-in-None-clause-err : goal.read_value-returns-in-None-clause-err
+read_value-returns-in-None-clause-err t c = λ _. parse-empty c.args.depth c.args.bytes.now.now (omega (arith, c.if-depth-eq0.false)) (search rules)
 
-pub read_on_stack-returns-in-Some-read_fixed-clause-ok : goal.read_on_stack-returns-in-Some-read_fixed-clause-ok
-read_on_stack-returns-in-Some-read_fixed-clause-ok t c =
+pub read_value-returns-in-Some-read_fixed-clause-ok : goal.read_value-returns-in-Some-read_fixed-clause-ok
+read_value-returns-in-Some-read_fixed-clause-ok t c =
     let bytes : c.args.bytes.now.now ≡ c.in-Some.code.now ∷ c.in-Some.rest.now = search rules in
     rw (parse-at c.args.depth c.args.bytes.now.now (omega (arith, c.if-depth-eq0.false)), bytes)
     (c.in-Some-read_fixed.ensures.found (parse (c.args.depth - 1)) (parse_content (c.args.depth - 1)))
 
-pub read_on_stack-returns-in_default-clause-ok : goal.read_on_stack-returns-in_default-clause-ok
-read_on_stack-returns-in_default-clause-ok t c =
+pub read_value-returns-in_default-clause-ok : goal.read_value-returns-in_default-clause-ok
+read_value-returns-in_default-clause-ok t c =
     let bytes : c.args.bytes.now.now ≡ c.in-Some.code.now ∷ c.in-Some.rest.now = search rules in
     rw (parse-at c.args.depth c.args.bytes.now.now (omega (arith, c.if-depth-eq0.false)), bytes) c.read_after_code.ensures.ok
 
-pub read_on_stack-returns-in_default-clause-err : goal.read_on_stack-returns-in_default-clause-err
-read_on_stack-returns-in_default-clause-err t c =
+pub read_value-returns-in_default-clause-err : goal.read_value-returns-in_default-clause-err
+read_value-returns-in_default-clause-err t c =
     let bytes : c.args.bytes.now.now ≡ c.in-Some.code.now ∷ c.in-Some.rest.now = search rules in
     rw (parse-at c.args.depth c.args.bytes.now.now (omega (arith, c.if-depth-eq0.false)), bytes) c.read_after_code.ensures.err
 
-pub read_list-loop-preserved : goal.read_list-loop-preserved
-read_list-loop-preserved t c =
-    let done = c.loop.invariant.0 in
-    let step = values-and_then (parse c.args.depth) c.args.count c.loop.counter c.loop.rest.now c.read_on_stack.new.bytes.now c.in_ok-item.item done c.loop-test.true c.in_ok-item.ensures.ok in
-    let pushed : c.push.new.self.items ≡ c.read_on_stack.new.stack.items ++ c.in_ok-item.item ∷ [] = search rules in (
-      done ++ c.in_ok-item.item ∷ [],
-      pushed ∙ ap (λ s. s ++ c.in_ok-item.item ∷ []) (c.in_ok-item.ensures.stack ∙ c.loop.invariant.1) ∙ append_assoc c.args.stack.now.items done (c.in_ok-item.item ∷ []),
-      step ∙ c.loop.invariant.2,
-    )
+pub read_after_code-returns-in-160-clause-ok : goal.read_after_code-returns-in-160-clause-ok
+read_after_code-returns-in-160-clause-ok t c = byte-ok (parse c.args.depth) (parse_content c.args.depth) c.args.code code.Vbin8 c.args.bytes.now.now c.read_named.result c.read_named.new.bytes.now c.in-160.is refl c.read_named.ensures.ok
 
-pub read_list-returns-in_err-item-clause-err : goal.read_list-returns-in_err-item-clause-err
-read_list-returns-in_err-item-clause-err t c =
-    let none : parse c.args.depth c.loop.rest.now ≡ None → parse_list (parse c.args.depth) (c.args.count, c.args.body.now) ≡ None =
-    λ h. list-none (parse c.args.depth) c.args.count c.loop.counter c.loop.rest.now c.args.body.now (map tree_of c.loop.invariant.0) c.loop-test.true c.loop.invariant.2 h in
+pub read_after_code-returns-in-160-clause-err : goal.read_after_code-returns-in-160-clause-err
+read_after_code-returns-in-160-clause-err t c = byte-err (parse c.args.depth) (parse_content c.args.depth) c.args.code code.Vbin8 c.args.bytes.now.now c.read_named.result c.in-160.is refl c.read_named.ensures.err
+
+pub read_after_code-returns-in-161-clause-ok : goal.read_after_code-returns-in-161-clause-ok
+read_after_code-returns-in-161-clause-ok t c = byte-ok (parse c.args.depth) (parse_content c.args.depth) c.args.code code.Str8 c.args.bytes.now.now c.read_named-in-161.result c.read_named-in-161.new.bytes.now c.in-161.is refl c.read_named-in-161.ensures.ok
+
+pub read_after_code-returns-in-161-clause-err : goal.read_after_code-returns-in-161-clause-err
+read_after_code-returns-in-161-clause-err t c = byte-err (parse c.args.depth) (parse_content c.args.depth) c.args.code code.Str8 c.args.bytes.now.now c.read_named-in-161.result c.in-161.is refl c.read_named-in-161.ensures.err
+
+pub read_after_code-returns-in-163-clause-ok : goal.read_after_code-returns-in-163-clause-ok
+read_after_code-returns-in-163-clause-ok t c = byte-ok (parse c.args.depth) (parse_content c.args.depth) c.args.code code.Sym8 c.args.bytes.now.now c.read_named-in-163.result c.read_named-in-163.new.bytes.now c.in-163.is refl c.read_named-in-163.ensures.ok
+
+pub read_after_code-returns-in-163-clause-err : goal.read_after_code-returns-in-163-clause-err
+read_after_code-returns-in-163-clause-err t c = byte-err (parse c.args.depth) (parse_content c.args.depth) c.args.code code.Sym8 c.args.bytes.now.now c.read_named-in-163.result c.in-163.is refl c.read_named-in-163.ensures.err
+
+pub read_after_code-returns-in-192-clause-ok : goal.read_after_code-returns-in-192-clause-ok
+read_after_code-returns-in-192-clause-ok t c = byte-ok (parse c.args.depth) (parse_content c.args.depth) c.args.code code.List8 c.args.bytes.now.now c.read_named-in-192.result c.read_named-in-192.new.bytes.now c.in-192.is refl c.read_named-in-192.ensures.ok
+
+pub read_after_code-returns-in-192-clause-err : goal.read_after_code-returns-in-192-clause-err
+read_after_code-returns-in-192-clause-err t c = byte-err (parse c.args.depth) (parse_content c.args.depth) c.args.code code.List8 c.args.bytes.now.now c.read_named-in-192.result c.in-192.is refl c.read_named-in-192.ensures.err
+
+pub read_after_code-returns-in-177-clause-ok : goal.read_after_code-returns-in-177-clause-ok
+read_after_code-returns-in-177-clause-ok t c = byte-ok (parse c.args.depth) (parse_content c.args.depth) c.args.code code.Str32 c.args.bytes.now.now c.read_named-in-177.result c.read_named-in-177.new.bytes.now c.in-177.is refl c.read_named-in-177.ensures.ok
+
+pub read_after_code-returns-in-177-clause-err : goal.read_after_code-returns-in-177-clause-err
+read_after_code-returns-in-177-clause-err t c = byte-err (parse c.args.depth) (parse_content c.args.depth) c.args.code code.Str32 c.args.bytes.now.now c.read_named-in-177.result c.in-177.is refl c.read_named-in-177.ensures.err
+
+pub read_after_code-returns-in-208-clause-ok : goal.read_after_code-returns-in-208-clause-ok
+read_after_code-returns-in-208-clause-ok t c = byte-ok (parse c.args.depth) (parse_content c.args.depth) c.args.code code.List32 c.args.bytes.now.now c.read_named-in-208.result c.read_named-in-208.new.bytes.now c.in-208.is refl c.read_named-in-208.ensures.ok
+
+pub read_after_code-returns-in-208-clause-err : goal.read_after_code-returns-in-208-clause-err
+read_after_code-returns-in-208-clause-err t c = byte-err (parse c.args.depth) (parse_content c.args.depth) c.args.code code.List32 c.args.bytes.now.now c.read_named-in-208.result c.in-208.is refl c.read_named-in-208.ensures.err
+
+pub push_value-returns-then-depth-eq0-clause-err : goal.push_value-returns-then-depth-eq0-clause-err
+push_value-returns-then-depth-eq0-clause-err t c = λ _. parse-zero c.args.depth c.args.bytes.now.now c.if-depth-eq0.true
+
+pub push_value-returns-in-None-clause-err : goal.push_value-returns-in-None-clause-err
+push_value-returns-in-None-clause-err t c = λ _. parse-empty c.args.depth c.args.bytes.now.now (omega (arith, c.if-depth-eq0.false)) (search rules)
+
+pub push_value-returns-in-Some-push_fixed-clause-ok : goal.push_value-returns-in-Some-push_fixed-clause-ok
+push_value-returns-in-Some-push_fixed-clause-ok t c =
+    let bytes : c.args.bytes.now.now ≡ c.in-Some.code.now ∷ c.in-Some.rest.now = search rules in
+    let pushed = c.in-Some-push_fixed.ensures.found in
+    let found : parse c.args.depth c.args.bytes.now.now ≡ Some (tree_of pushed.0, c.in-Some-push_fixed.rest.now) =
+    rw (parse-at c.args.depth c.args.bytes.now.now (omega (arith, c.if-depth-eq0.false)), bytes)
+    (pushed.2 (parse (c.args.depth - 1)) (parse_content (c.args.depth - 1))) in
+    (pushed.0, pushed.1, found)
+
+pub push_value-returns-in_ok-value-in-Some-clause-ok : goal.push_value-returns-in_ok-value-in-Some-clause-ok
+push_value-returns-in_ok-value-in-Some-clause-ok t c =
+    let bytes : c.args.bytes.now.now ≡ c.in-Some.code.now ∷ c.in-Some.rest.now = search rules in
+    let pushed : c.push_reserved.new.self.items ≡ c.push_fixed.new.list.items ++ c.in_ok-value-in-Some.value ∷ [] = search rules in
+    let kept : c.push_fixed.new.list.items ≡ c.args.list.now.items = search rules in
+    let found : parse c.args.depth c.args.bytes.now.now ≡ Some (tree_of c.in_ok-value-in-Some.value, c.read_after_code.new.bytes.now) =
+    rw (parse-at c.args.depth c.args.bytes.now.now (omega (arith, c.if-depth-eq0.false)), bytes) c.in_ok-value-in-Some.ensures.ok in
+    (c.in_ok-value-in-Some.value, pushed ∙ ap (λ s. s ++ c.in_ok-value-in-Some.value ∷ []) kept, found)
+
+pub push_value-returns-in_err-value-in-Some-clause-err : goal.push_value-returns-in_err-value-in-Some-clause-err
+push_value-returns-in_err-value-in-Some-clause-err t c =
+    let bytes : c.args.bytes.now.now ≡ c.in-Some.code.now ∷ c.in-Some.rest.now = search rules in
+    let none : frame_in (parse (c.args.depth - 1)) (parse_content (c.args.depth - 1)) (c.in-Some.code.now ∷ c.in-Some.rest.now) ≡ None → parse c.args.depth c.args.bytes.now.now ≡ None =
+    λ h. rw (parse-at c.args.depth c.args.bytes.now.now (omega (arith, c.if-depth-eq0.false)), bytes) h in
+    search (rules, none)
+
+pub read_list-loop-read-preserved : goal.read_list-loop-read-preserved
+read_list-loop-read-preserved t c =
+    let p = c.in_ok-push_value.ensures.ok in
+    let step = values-and_then (parse c.args.depth) c.args.count c.loop-read.read c.loop-read.rest.now c.push_value.new.bytes.now p.0 c.loop-read.list.items c.loop-read-test.true p.2 in
+    let pushed : c.push_value.new.list.items ≡ c.loop-read.list.items ++ p.0 ∷ [] = p.1 ∙ ap (λ s. s ++ p.0 ∷ []) c.make_room.ensures.items in
+    rw pushed (step ∙ c.loop-read.invariant)
+
+pub read_list-returns-in_err-push_value-clause-err : goal.read_list-returns-in_err-push_value-clause-err
+read_list-returns-in_err-push_value-clause-err t c =
+    let none : parse c.args.depth c.loop-read.rest.now ≡ None → parse_list (parse c.args.depth) (c.args.count, c.args.body.now) ≡ None =
+    λ h. list-none (parse c.args.depth) c.args.count c.loop-read.read c.loop-read.rest.now c.args.body.now (map tree_of c.loop-read.list.items) c.loop-read-test.true c.loop-read.invariant h in
     search (rules, none)
 
 pub read_entries-loop-preserved : goal.read_entries-loop-preserved
@@ -84,16 +143,29 @@ read_entries-returns-in_err-value-clause-err t c =
     (sym c.loop.invariant ∙ insert-no_value (parse c.args.depth) (c.args.count / 2) c.loop.counter c.loop.rest.now c.read_encoded_value.new.bytes.now (tree_of c.in_ok-key.key) (collected_pairs c.loop.pairs) c.loop-test.true c.in_ok-key.ensures.ok h) in
     search (rules, none)
 
-pub read_array-loop-preserved : goal.read_array-loop-preserved
-read_array-loop-preserved t c =
-    let step = values-and_then (payload_in (parse_content c.args.depth) c.in_ok-code-in-Some.code) c.args.count c.loop.counter c.loop.rest.now c.read_item.new.bytes.now c.in_ok-item-in-Some.item c.loop.items.items c.loop-test.true c.in_ok-item-in-Some.ensures.ok in
-    let pushed : c.push.new.self.items ≡ c.loop.items.items ++ c.in_ok-item-in-Some.item ∷ [] = search rules in
+pub read_items-loop-preserved : goal.read_items-loop-preserved
+read_items-loop-preserved t c =
+    let step = values-and_then (payload_in (parse_content c.args.depth) c.args.code) c.in_ok-left.left c.loop.counter c.loop.rest.now c.read_item.new.bytes.now c.in_ok-item.item c.loop.items.items c.loop-test.true c.in_ok-item.ensures.ok in
+    let pushed : c.push.new.self.items ≡ c.loop.items.items ++ c.in_ok-item.item ∷ [] = search rules in
     rw pushed (step ∙ c.loop.invariant)
 
-pub read_array-returns-in_err-item-in-Some-clause-err : goal.read_array-returns-in_err-item-in-Some-clause-err
-read_array-returns-in_err-item-in-Some-clause-err t c =
-    let body : c.args.body.now ≡ c.in-Some.constructor.now ∷ c.in-Some.rest.now = search rules in
+pub read_items-returns-in_err-item-clause-err : goal.read_items-returns-in_err-item-clause-err
+read_items-returns-in_err-item-clause-err t c =
+    let none : payload_in (parse_content c.args.depth) c.args.code c.loop.rest.now ≡ None → and_then (gather (payload_in (parse_content c.args.depth) c.args.code) c.args.count c.args.payloads.now []) all ≡ None =
+    λ h. items-none (payload_in (parse_content c.args.depth) c.args.code) c.args.count c.in_ok-left.left c.loop.counter c.loop.rest.now c.args.payloads.now (map tree_of c.loop.items.items) c.loop-test.true c.loop.invariant h in
+    search (rules, none)
+
+pub read_array-returns-in_ok-items-in-Some-clause-ok : goal.read_array-returns-in_ok-items-in-Some-clause-ok
+read_array-returns-in_ok-items-in-Some-clause-ok t c =
+    let body : c.args.body.now ≡ c.in-Some.constructor.now ∷ c.in-Some.payloads.now = search rules in
     let named : primitive_of c.in-Some.constructor.now ≡ Some c.in_ok-code-in-Some.code = search rules in
-    let none : payload_in (parse_content c.args.depth) c.in_ok-code-in-Some.code c.loop.rest.now ≡ None → parse_array (parse_content c.args.depth) (c.args.count, c.args.body.now) ≡ None =
-    λ h. array-none (parse_content c.args.depth) c.in-Some.constructor.now c.in_ok-code-in-Some.code c.args.count c.loop.counter c.loop.rest.now c.args.body.now c.in-Some.rest.now (map tree_of c.loop.items.items) c.loop-test.true named body c.loop.invariant h in
+    let found = array-found (parse_content c.args.depth) c.in-Some.constructor.now c.in_ok-code-in-Some.code c.args.count c.args.body.now c.in-Some.payloads.now (map tree_of c.in_ok-items-in-Some.items.items) named body c.in_ok-items-in-Some.ensures.ok in
+    search (rules, the_lemmas, found)
+
+pub read_array-returns-in_err-items-in-Some-clause-err : goal.read_array-returns-in_err-items-in-Some-clause-err
+read_array-returns-in_err-items-in-Some-clause-err t c =
+    let body : c.args.body.now ≡ c.in-Some.constructor.now ∷ c.in-Some.payloads.now = search rules in
+    let named : primitive_of c.in-Some.constructor.now ≡ Some c.in_ok-code-in-Some.code = search rules in
+    let none : and_then (gather (payload_in (parse_content c.args.depth) c.in_ok-code-in-Some.code) c.args.count c.in-Some.payloads.now []) all ≡ None → parse_array (parse_content c.args.depth) (c.args.count, c.args.body.now) ≡ None =
+    array-none (parse_content c.args.depth) c.in-Some.constructor.now c.in_ok-code-in-Some.code c.args.count c.args.body.now c.in-Some.payloads.now named body in
     search (rules, none)

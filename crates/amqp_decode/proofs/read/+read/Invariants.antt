@@ -1,8 +1,7 @@
-use Rattle.std.proofs.Common.{◌≡◌, List, [], ◌++◌, map, ◌+◌, ◌-◌, ◌*◌, ◌/◌}
+use Rattle.std.proofs.Common.{◌≡◌, [], map, ◌+◌, ◌-◌, ◌*◌, ◌/◌}
 use Rattle.amqp_ser.specs.Tree.{no_pairs}
 use Rattle.amqp_value.specs.TreeOf.{tree_of}
 use Rattle.amqp_value.specs.MapBuilder.{collected_pairs}
-use Rattle.amqp_value.specs.declared.value.Value.{Value}
 use Rattle.amqp_decode.specs.Parsed.{parse, parse_content, payload_in, gather, insert}
 use Rattle.amqp_decode.proofs.read.+read.Given as goal
 
@@ -11,11 +10,17 @@ use Rattle.amqp_decode.proofs.read.+read.Given as goal
 abbrev pub decreases-read_item : goal.decreases-read_item
 decreases-read_item l = 9 * l.depth
 
-abbrev pub decreases-read_on_stack : goal.decreases-read_on_stack
-decreases-read_on_stack l = 9 * l.depth
+abbrev pub decreases-read_value : goal.decreases-read_value
+decreases-read_value l = 9 * l.depth
+
+abbrev pub decreases-push_value : goal.decreases-push_value
+decreases-push_value l = 9 * l.depth
 
 abbrev pub decreases-read_encoded_value : goal.decreases-read_encoded_value
 decreases-read_encoded_value l = 9 * l.depth + 1
+
+abbrev pub decreases-read_items : goal.decreases-read_items
+decreases-read_items l = 9 * l.depth + 1
 
 abbrev pub decreases-read_list : goal.decreases-read_list
 decreases-read_list l = 9 * l.depth + 2
@@ -29,19 +34,21 @@ decreases-read_array l = 9 * l.depth + 2
 abbrev pub decreases-read_content : goal.decreases-read_content
 decreases-read_content l = 9 * l.depth + 3
 
+abbrev pub decreases-read_named : goal.decreases-read_named
+decreases-read_named l = 9 * l.depth + 4
+
 abbrev pub decreases-read_after_code : goal.decreases-read_after_code
-decreases-read_after_code l = 9 * l.depth + 4
+decreases-read_after_code l = 9 * l.depth + 5
 
 -- The remaining bytes, after the elements so far, give the complete list.
-abbrev pub invariant-read_list-loop : goal.invariant-read_list-loop
-invariant-read_list-loop l =
-    (done : List Value) × (l.stack.items ≡ l.initial.stack.items ++ done)
-    × (gather (parse l.depth) (l.count - l.counter) l.rest (map tree_of done) ≡ gather (parse l.depth) l.count l.body [])
+abbrev pub invariant-read_list-loop-read : goal.invariant-read_list-loop-read
+invariant-read_list-loop-read l =
+    gather (parse l.depth) (l.count - l.read) l.rest (map tree_of l.list.items) ≡ gather (parse l.depth) l.count l.body []
 
 abbrev pub invariant-read_entries-loop : goal.invariant-read_entries-loop
 invariant-read_entries-loop l =
     insert (parse l.depth) (l.end - l.counter) l.rest (collected_pairs l.pairs) ≡ insert (parse l.depth) (l.count / 2) l.body no_pairs
 
-abbrev pub invariant-read_array-loop : goal.invariant-read_array-loop
-invariant-read_array-loop l =
-    gather (payload_in (parse_content l.depth) l.code) (l.count - l.counter) l.rest (map tree_of l.items.items) ≡ gather (payload_in (parse_content l.depth) l.code) l.count l.initial.rest []
+abbrev pub invariant-read_items-loop : goal.invariant-read_items-loop
+invariant-read_items-loop l =
+    gather (payload_in (parse_content l.depth) l.code) (l.left - l.counter) l.rest (map tree_of l.items.items) ≡ gather (payload_in (parse_content l.depth) l.code) l.count l.payloads []

@@ -1,0 +1,9 @@
+use Rattle.std.proofs.Common.{◌≡◌, map, ◌-◌}
+use Rattle.amqp_value.specs.TreeOf.{tree_of}
+use Rattle.amqp_decode.specs.Parsed.{parse_content, payload_in, gather}
+use Rattle.amqp_decode.proofs.run.read_fixed_run.Given as goal
+
+-- The remaining payloads, after the elements so far, give all elements.
+abbrev pub invariant-loop-read : goal.invariant-loop-read
+invariant-loop-read l =
+    gather (payload_in (parse_content l.depth) l.fn.code) (l.count - l.read) l.rest (map tree_of l.items.items) ≡ gather (payload_in (parse_content l.depth) l.fn.code) l.count l.initial.rest (map tree_of l.initial.items.items)
