@@ -6,6 +6,7 @@ ghost use Rattle.std.specs.HashMap as hashed;
 ghost use Rattle.std.specs.Map.{keys_of};
 ghost use Rattle.amqp_data.specs.Pairs.{entries_of};
 ghost use Rattle.amqp_ser.specs.Tree as tree;
+ghost use Rattle.amqp_value.specs.Converts.{inserted_in_order};
 ghost use Rattle.amqp_value.specs.TreeOf.{pairs_of};
 ghost use Rattle.amqp_de.specs.Answers.{Answers, Refuses};
 ghost use Rattle.amqp_de.specs.Maps.{OnMap, ReadsPair, ReadsPairs, pair_image, IsPair, SamePair};
@@ -15,7 +16,7 @@ use crate::content::Content;
 use crate::deserialize::Deserialize;
 use crate::deserialize_error::DeserializeError;
 use crate::deserializer::Deserializer;
-use amqp_data::OrderedMap;
+use amqp_data::{OrderedMap, OrderedMapBuilder};
 use std::alloc::Global;
 use std::collections::{BTreeMap, HashMap};
 use std::hash::Hash;
@@ -86,15 +87,15 @@ fn read_pairs<K: Deserialize, V: Deserialize, M: Inserts<K, V>, D: Deserializer>
     }
 }
 
-impl<K: Hash + Eq + Drop, V: Drop> Inserts<K, V> for OrderedMap<K, V> {
-    ghost holds = { HoldsInOrder K.eq };
+impl<K: Hash + Eq + Drop, V: Drop> Inserts<K, V> for OrderedMapBuilder<K, V> {
+    ghost holds = { λ done entries. entries ≡ inserted_in_order K.eq done };
 
-    fn empty(alloc: Global) -> OrderedMap<K, V> {
-        OrderedMap::new(alloc)
+    fn empty(alloc: Global) -> OrderedMapBuilder<K, V> {
+        OrderedMapBuilder::new(alloc)
     }
 
     fn put(&mut self, key: K, value: V) -> bool {
-        OrderedMap::insert(self, key, value).is_ok()
+        OrderedMapBuilder::insert(self, key, value).is_ok()
     }
 }
 
@@ -139,8 +140,8 @@ impl<K: Deserialize + Hash + Eq, V: Deserialize> Deserialize for OrderedMap<K, V
     ) -> Result<OrderedMap<K, V>, D::Error> {
         match deserializer.open() {
             Content::Map(mut entries) => {
-                match read_pairs::<K, V, OrderedMap<K, V>, D>(alloc, &mut entries) {
-                    Ok(map) => Ok(map),
+                match read_pairs::<K, V, OrderedMapBuilder<K, V>, D>(alloc, &mut entries) {
+                    Ok(builder) => Ok(builder.into_map()),
                     Err(error) => Err(error),
                 }
             }
