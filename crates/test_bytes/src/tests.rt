@@ -7,6 +7,7 @@ mod codes;
 mod compare;
 mod containers;
 mod made;
+mod maps_built;
 mod readers;
 mod scalars;
 mod shown;
