@@ -8,7 +8,10 @@ use amqp_data::Error;
 use amqp_frame::Read;
 use std::alloc::Global;
 
-// Reads all bytes up to the end.
+// The maximum number of bytes read at once.
+const BLOCK: usize = 1024;
+
+// Reads all bytes up to the end, never more at once than the vector has room for.
 pub(crate) fn read_to_end<R: Read>(alloc: Global, reader: &mut R) -> Result<Vec<u8>, Error>
     ensures ok { IfOk result (λ bytes.
         Consumes (R.left reader.old) (R.left reader.new) bytes.items
@@ -18,10 +21,22 @@ pub(crate) fn read_to_end<R: Read>(alloc: Global, reader: &mut R) -> Result<Vec<
     ensures count { R.failures reader.old ≤ R.failures reader.new }
 {
     let mut bytes = Vec::new(alloc);
+    let mut block = [0; BLOCK];
     loop {
-        let Some(byte) = reader.next()? else {
-            return Ok(bytes);
-        };
-        bytes.push(byte)?;
+        let spare = bytes.capacity() - bytes.len();
+        if spare == 0 {
+            // If the vector cannot grow, no more than this byte is lost.
+            let Some(byte) = reader.next()? else {
+                return Ok(bytes);
+            };
+            bytes.push(byte)?;
+        } else {
+            let len = spare.min(BLOCK);
+            let count = reader.read_some(&mut block[..len])?;
+            if count == 0 {
+                return Ok(bytes);
+            }
+            bytes.extend_from_slice(&block[..count])?;
+        }
     }
 }
