@@ -24,6 +24,7 @@
 //! | conversions | `Value::try_from_str`, `Value::try_from_described`, `Value::try_from_array`, `Value::try_from_vec` |
 //! | the same | `Value::try_from_btree_map`, `Value::try_from_ordered_map`, `Vec::try_from`, `Array::try_from` |
 //! | the same | `OrderedMap::try_from`, `BTreeMap::try_from`, `HashMap::try_from`, `IndexMap::try_from` |
+//! | the same | `OrderedMapBuilder::new`, `OrderedMapBuilder::insert` |
 //! | the same | `TryFromSerializable::try_from_serializable` |
 //! | rows of decode and decode_within | `decode_value`, `decode_value_limited` |
 //! | rows of decode and read | `MapBuilder::new`, `MapBuilder::into_value` |
