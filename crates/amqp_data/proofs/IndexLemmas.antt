@@ -2,7 +2,7 @@
 use Rattle.std.proofs.Common.{◌≡◌, ℕ, zero, suc, ◌<◌, ◌≤◌, Bool, true, false, List, [], ◌∷◌, ◌++◌, length, get_or, map, slice_index, slice_set, position, Option, Some, None, refl, sym, ap, ◌∙◌, ◌⊎◌, inl, inr, subst, true≢false, arith}
 use Rattle.std.proofs.lemmas.Bool.{cases_order}
 use Rattle.std.proofs.lemmas.Bool.Decides.{nat_tests}
-use Rattle.std.proofs.lemmas.List.{get_or-map, length-map}
+use Rattle.std.proofs.lemmas.List.{get_or-map, length-map, map-append}
 use Rattle.std.specs.Cmp.{IsEquivalence}
 use Rattle.std.specs.Hash.{HashWrites}
 use Rattle.std.specs.List.{position_or_len}
@@ -168,3 +168,20 @@ indexed_push eq input symmetric heads earlier new_heads new_earlier es fs k v b 
   distinct = subst (λ (xs : List (_ × _)). AreDistinct eq (keys_of xs)) (sym is) (distinct_push eq input symmetric es k v indexed.distinct none);
   chained = added es (k, v) is (λ some. (bucket some, indexed.chained some));
 }
+
+-- an entry with a new key has been added to the index, which has as many buckets as before
+pub indexed_next : {K V : Type 0} (eq : K → K → Bool) (input : K → HashWrites) → ((x y : K) → eq x y ≡ eq y x)
+    → (heads earlier new_heads new_earlier : List ℕ) (es : List (K × V)) (e : K × V) (b : ℕ)
+    → IsIndexed eq input heads earlier es → None ≡ position (λ x. eq e.0 x.0) es → length new_heads ≡ length heads
+    → 0 < length heads → b ≡ bucket_of (length heads) (input e.0)
+    → ((bs : List ℕ) → IsChained heads earlier bs → IsChained new_heads new_earlier (bs ++ b ∷ []))
+    → IsIndexed eq input new_heads new_earlier (es ++ e ∷ [])
+indexed_next eq input symmetric heads earlier new_heads new_earlier es e b indexed none same some is added =
+    let bucket = λ (x : _ × _). bucket_of (length heads) (input x.0) in
+    let one : map bucket es ++ b ∷ [] ≡ buckets input (length heads) (es ++ e ∷ []) =
+    ap (λ c. map bucket es ++ c ∷ []) is ∙ sym (map-append bucket es (e ∷ [])) in
+    record {
+      distinct = distinct_push eq input symmetric es e.0 e.1 indexed.distinct none;
+      chained = λ more. subst (λ (n : ℕ). IsChained new_heads new_earlier (buckets input n (es ++ e ∷ []))) (sym same)
+          (subst (IsChained new_heads new_earlier) one (added (buckets input (length heads) es) (indexed.chained some)));
+    }

@@ -1,8 +1,8 @@
 //! An index of the keys of a list of entries, by hash.
 //!
 //! Each bucket has the number of the last entry whose key is in it, and each entry the number of
-//! the entry before it in its bucket. An entry's number is its position plus one, and 0 stands for
-//! no entry. A list without an index has no buckets.
+//! the entry before it in its bucket. An entry's number is its position plus one, and 0 means no
+//! entry. A list without an index has no buckets.
 
 ghost use Rattle.std.specs.Prelude.{◌≡◌, ℕ, ◌+◌, ◌<◌, ◌∷◌, ◌++◌, [], List, length, position};
 ghost use Rattle.std.specs.Prelude.{IfSome, IsTrue};
@@ -15,9 +15,9 @@ use std::hash::{FoldHasher, Hash, Hasher};
 /// The number of entries from which on a list has an index.
 const FIRST_INDEXED: usize = 48;
 
-// Returns the bucket of a key among so many.
+/// Returns the bucket of a key among so many.
 #[tactic(auto, unfolding(crate::specs::Index::bucket_of, crate::specs::Index::hash_of))]
-fn bucket_of<K: Hash>(key: &K, count: usize) -> usize
+pub(crate) fn bucket_of<K: Hash>(key: &K, count: usize) -> usize
     requires { 0 < count }
     ensures bucket { result ≡ chains.bucket_of count (K.hash_input key.now) }
     ensures within { result < count }
@@ -80,8 +80,8 @@ pub(crate) fn locate<K: Hash + Eq, V>(
     (find_in_bucket(entries, heads, earlier, bucket, key), bucket)
 }
 
-// Adds an entry to the index, after the others. Returns false if an allocation fails.
-fn add(heads: &mut [u32], earlier: &mut Vec<u32>, bucket: usize) -> bool
+/// Adds an entry to the index, after the others. Returns false if an allocation fails.
+pub(crate) fn add(heads: &mut [u32], earlier: &mut Vec<u32>, bucket: usize) -> bool
     requires { bucket < length heads.old }
     ensures length { length heads.new ≡ length heads.old }
     ensures chained { IsTrue result → (bs : List ℕ) → IsChained heads.old earlier.old.items bs →

@@ -1,17 +1,19 @@
 //! Entries with each key once. Entries whose keys are distinct need no change.
 
-ghost use Rattle.std.specs.Prelude.{◌≡◌, [], IfOk, map};
+ghost use Rattle.std.specs.Prelude.{◌≡◌, [], IfOk, position};
 ghost use Rattle.std.specs.Bool.{OnTrue};
-ghost use Rattle.std.specs.List.{IsDistinct, list_any};
+ghost use Rattle.std.specs.List.{list_any};
 ghost use Rattle.amqp_value.specs.Places.{equal, merged};
 
-use crate::places::{ascends, places_of, rebuild};
+use crate::places::{ascends, places_of, put, rebuild};
+use crate::short_keys::have_short_keys;
 use crate::value::Value;
+use amqp_data::finds_distinct_keys;
 use std::alloc::{AllocError, Global};
 
 // The number of entries up to which comparing each key with each one before it costs less than
-// sorting the keys.
-const FEW: usize = 16;
+// the hashes of the keys.
+const FEW: usize = 8;
 
 // Returns the entries, inserted in order: a repeated key keeps its position and gets the new value.
 pub fn once_each(
@@ -20,22 +22,30 @@ pub fn once_each(
 ) -> Result<Vec<(Value, Value)>, AllocError>
     ensures { IfOk result (λ entries. entries.items ≡ merged equal pairs.items []) }
 {
-    if ascends(&pairs) || are_distinct(alloc, &pairs)? {
+    if ascends(&pairs) {
+        return Ok(pairs);
+    }
+    if pairs.len() <= FEW {
+        if differ_from_each_before(&pairs) {
+            return Ok(pairs);
+        }
+        return insert_each(alloc, pairs);
+    }
+    if are_distinct(alloc, &pairs) {
         return Ok(pairs);
     }
     let places = places_of(alloc, &pairs)?;
     rebuild(alloc, pairs, places)
 }
 
-// Returns whether the keys are distinct. Allocates nothing if there are few.
-fn are_distinct(alloc: Global, pairs: &[(Value, Value)]) -> Result<bool, AllocError>
-    ensures { IfOk result (λ distinct. OnTrue distinct (merged equal pairs.now [] ≡ pairs.now)) }
+// Returns true if the hashes of the keys show that they are distinct. Long keys are not hashed.
+fn are_distinct(alloc: Global, pairs: &[(Value, Value)]) -> bool
+    ensures { OnTrue result (merged equal pairs.now [] ≡ pairs.now) }
 {
-    if pairs.len() <= FEW {
-        Ok(differ_from_each_before(pairs))
-    } else {
-        ascend_once_sorted(alloc, pairs)
+    if !have_short_keys(pairs) {
+        return false;
     }
+    finds_distinct_keys(alloc, pairs)
 }
 
 // Returns whether each key differs from each one before it.
@@ -57,26 +67,21 @@ fn has_key(pairs: &[(Value, Value)], key: &Value) -> bool
     pairs.iter().any(|pair| *key == pair.0)
 }
 
-// Sorts references to the keys, and returns whether each is then greater than the one before it.
-fn ascend_once_sorted(alloc: Global, pairs: &[(Value, Value)]) -> Result<bool, AllocError>
-    ensures { IfOk result (λ distinct. OnTrue distinct (merged equal pairs.now [] ≡ pairs.now)) }
+// Inserts the entries in order, and finds each key by comparison with those before it.
+fn insert_each(alloc: Global, pairs: Vec<(Value, Value)>) -> Result<Vec<(Value, Value)>, AllocError>
+    ensures { IfOk result (λ entries. entries.items ≡ merged equal pairs.items []) }
 {
-    let mut keys = Vec::with_capacity(alloc, pairs.len())?;
-    for pair in pairs {
-        keys.push(&pair.0)?;
+    let mut entries = Vec::new(alloc);
+    for (key, value) in pairs {
+        let at = position_of(&entries, &key);
+        put(&mut entries, at, key, value)?;
     }
-    keys.sort_unstable();
-    Ok(keys_ascend(&keys))
+    Ok(entries)
 }
 
-// Returns whether each key is greater than the one before it.
-fn keys_ascend(keys: &[&Value]) -> bool
-    ensures { OnTrue result (IsDistinct equal (map (λ k. k.now) keys.now)) }
+// Returns the position of the key, if it is there.
+fn position_of(entries: &[(Value, Value)], key: &Value) -> Option<usize>
+    ensures { result ≡ position (λ e. equal key.now e.0) entries.now }
 {
-    for i in 1..keys.len() {
-        if !keys[i - 1].cmp(keys[i]).is_lt() {
-            return false;
-        }
-    }
-    true
+    entries.iter().position(|entry| *key == entry.0)
 }

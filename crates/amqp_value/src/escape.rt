@@ -46,8 +46,8 @@ fn escape_all<W: Write>(text: &str, f: &mut Formatter<W>) -> fmt::Result
     Ok(())
 }
 
-// Returns the offset of the first byte after the one at `from`, which has no escape in a string, that
-// has one, or the length if there is none.
+// Returns the offset of the next byte after `from` that needs an escape in a string, or the length if
+// there is none. The byte at `from` needs none.
 fn plain_end(bytes: &[u8], from: usize) -> usize
     requires inside { from < length bytes.now }
     requires plain { byte_escaped (slice_index bytes.now from) ≡ slice_index bytes.now from ∷ [] }
@@ -67,7 +67,7 @@ fn plain_end(bytes: &[u8], from: usize) -> usize
     to
 }
 
-// Returns whether one of 16 bytes has an escape. It looks at all of them, so that LLVM compares
+// Returns whether one of 16 bytes needs an escape. It looks at all of them, so that LLVM compares
 // them at once.
 #[inline(always)]
 fn has_escape(bytes: &[u8]) -> bool

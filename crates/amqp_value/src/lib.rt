@@ -13,10 +13,12 @@ pub mod laws;
 mod map_builder;
 mod places;
 mod serialize;
+mod short_keys;
 mod show;
 mod try_from;
 mod value;
 
 pub use map_builder::MapBuilder;
+pub use short_keys::is_short_key;
 pub use try_from::ConvertFault;
 pub use value::Value;

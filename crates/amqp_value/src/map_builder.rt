@@ -1,6 +1,6 @@
 //! Entries in the order in which they were inserted.
 
-ghost use Rattle.std.specs.Prelude.{◌≡◌, OnOk, IfErr, OnErr, MatchResult};
+ghost use Rattle.std.specs.Prelude.{◌≡◌, OnOk, IfOk, IfErr, OnErr, MatchResult};
 ghost use Rattle.amqp_ser.specs.Tree.{map, no_pairs};
 ghost use Rattle.amqp_value.specs.Image.{insert_tree};
 ghost use Rattle.amqp_value.specs.TreeOf.{tree_of};
@@ -9,7 +9,7 @@ ghost use Rattle.amqp_value.specs.MapBuilder.{collected_pairs};
 use crate::distinct::once_each;
 use crate::value::Value;
 use amqp_data::{Error, OrderedMap};
-use std::alloc::{AllocFailed, Global};
+use std::alloc::{AllocError, AllocFailed, Global};
 
 /// The entries of a map, inserted one after another. A repeated key keeps its position and gets the
 /// new value, and a new key is appended.
@@ -29,6 +29,20 @@ impl MapBuilder {
         MapBuilder {
             pairs: Vec::new(alloc),
         }
+    }
+
+    /// Returns a collection without entries that can hold `capacity` entries without allocating.
+    ///
+    /// # Errors
+    /// Returns `AllocError` if the allocation fails.
+    ///
+    /// # Memory
+    /// One block of `64 * capacity` bytes, or none if that is 0.
+    pub fn with_capacity(alloc: Global, capacity: usize) -> Result<MapBuilder, AllocError>
+        ensures { IfOk result (λ builder. collected_pairs builder ≡ no_pairs) }
+    {
+        let pairs = Vec::with_capacity(alloc, capacity)?;
+        Ok(MapBuilder { pairs })
     }
 
     /// Inserts an entry.
@@ -52,12 +66,15 @@ impl MapBuilder {
     ///
     /// # Errors
     /// Returns `Error::OutOfMemory` if an allocation fails, which can happen only if a key repeats,
-    /// or if there are more than 16 entries and their keys do not ascend.
+    /// or if there are more than 8 entries, their keys do not ascend, and their hashes do not show
+    /// that they differ.
     ///
     /// # Memory
-    /// None if each key is greater than the one before it, or if there are at most 16 entries and no
-    /// key repeats. Otherwise a reference to each key. If a key repeats, also a B-tree of the keys,
-    /// a position for each entry, and a vector of the entries of the map.
+    /// None if each key is greater than the one before it, or if there are at most 8 entries and no
+    /// key repeats. If one repeats, a vector of the entries of the map. With more than 8 entries, 12
+    /// bytes for each, if all keys are scalars, texts of at most 256 bytes or binaries of at most 32.
+    /// If these do not show that the keys differ, a B-tree of the keys, a position for each entry, and
+    /// that vector.
     pub fn into_value(self, alloc: Global) -> Result<Value, Error>
         ensures { MatchResult result
             (λ v. tree_of v ≡ map (collected_pairs self))

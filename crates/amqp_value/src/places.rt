@@ -73,7 +73,7 @@ pub fn rebuild(
 }
 
 // Replaces the value at the position of the key, or appends the entry.
-fn put(
+pub fn put(
     entries: &mut Vec<(Value, Value)>,
     at: Option<usize>,
     key: Value,

@@ -10,6 +10,7 @@ ghost use Rattle.amqp_value.specs.Converts.{MapGives, inserted_in_order, inserte
 use super::ConvertFault;
 use super::pairs::convert_pairs;
 use crate::Value;
+use crate::short_keys::have_short_keys;
 use amqp_data::{OrderedMap, OrderedMapBuilder};
 use indexmap::IndexMap;
 use std::collections::{BTreeMap, HashMap};
@@ -23,8 +24,8 @@ use std::hash::Hash;
 /// be converted.
 ///
 /// # Memory
-/// Allocates from the map's own allocator as the new map grows. From 48 entries on, an index takes 8
-/// to 16 bytes for each entry until the map is complete.
+/// Allocates from the map's own allocator as the new map grows. From 48 entries on, if the keys are
+/// scalars or short, an index takes 8 to 16 bytes for each entry until the map is complete.
 ///
 /// # Example
 /// The map from the ubyte 1 to `true` gives 1 to `true` as an `OrderedMap<u8, bool>`, and
@@ -42,7 +43,11 @@ where
     fn try_from(value: Value) -> Result<OrderedMap<K, V>, ConvertFault> {
         match value {
             Value::Map(pairs) => {
-                match convert_pairs::<K, V, OrderedMapBuilder<K, V>>(pairs.into_inner()) {
+                let pairs = pairs.into_inner();
+                if !have_short_keys(&pairs) {
+                    return convert_pairs::<K, V, OrderedMap<K, V>>(pairs);
+                }
+                match convert_pairs::<K, V, OrderedMapBuilder<K, V>>(pairs) {
                     Ok(builder) => Ok(builder.into_map()),
                     Err(ConvertFault::Unfit(unfit)) => Err(ConvertFault::Unfit(unfit)),
                     Err(ConvertFault::Memory) => Err(ConvertFault::Memory),

@@ -3,11 +3,12 @@
 ghost use Rattle.std.specs.Prelude.{◌≡◌, List, [], ◌∷◌, ◌++◌, IsTrue};
 ghost use Rattle.std.specs.HashMap.{IsFromIterResult};
 ghost use Rattle.indexmap.specs.IndexMap.{insert_all};
+ghost use Rattle.amqp_data.specs.Pairs.{entries_of};
 ghost use Rattle.amqp_value.specs.Converts.{PairGives, PairsGive, inserted_in_order, inserted_sorted};
 
 use super::ConvertFault;
 use crate::Value;
-use amqp_data::OrderedMapBuilder;
+use amqp_data::{OrderedMap, OrderedMapBuilder};
 use indexmap::IndexMap;
 use std::alloc::Global;
 use std::collections::{BTreeMap, HashMap};
@@ -31,6 +32,19 @@ pub(super) trait Inserts<K, V>: Sized + Drop {
     fn put(&mut self, key: K, value: V) -> bool
         ensures { (done : List (K × V)) → IsTrue result →
             holds done self.old → holds (done ++ (key, value) ∷ []) self.new };
+}
+
+impl<K: Hash + Eq + Drop, V: Drop> Inserts<K, V> for OrderedMap<K, V> {
+    ghost holds = { λ done map. entries_of map ≡ inserted_in_order K.eq done };
+
+    fn empty(alloc: Global) -> OrderedMap<K, V> {
+        OrderedMap::new(alloc)
+    }
+
+    #[tactic(auto, using(crate::proofs::Zips::fold_pushed))]
+    fn put(&mut self, key: K, value: V) -> bool {
+        OrderedMap::insert(self, key, value).is_ok()
+    }
 }
 
 impl<K: Hash + Eq + Drop, V: Drop> Inserts<K, V> for OrderedMapBuilder<K, V> {

@@ -1,0 +1,29 @@
+//! Keys whose hashes are computed in few steps.
+
+use crate::value::Value;
+
+// The hash reads all bytes of a key, those of a binary one at a time. A comparison of two keys often
+// reads only the first ones.
+const SHORT_TEXT: usize = 256;
+
+const SHORT_BINARY: usize = 32;
+
+/// Returns whether the hash of the key is computed in few steps: whether it is a scalar, and at most
+/// 256 bytes long if it is a text, or 32 if it is a binary.
+///
+/// # Example
+/// True for the string `a`, false for an empty list.
+pub fn is_short_key(key: &Value) -> bool {
+    match key {
+        Value::Binary(bytes) => bytes.as_inner().len() <= SHORT_BINARY,
+        Value::String(text) => text.len() <= SHORT_TEXT,
+        Value::Symbol(name) => name.as_inner().len() <= SHORT_TEXT,
+        Value::Described(_) | Value::List(_) | Value::Map(_) | Value::Array(_) => false,
+        _ => true,
+    }
+}
+
+/// Returns whether `is_short_key` is true for each key.
+pub(crate) fn have_short_keys(entries: &[(Value, Value)]) -> bool {
+    entries.iter().all(|entry| is_short_key(&entry.0))
+}
