@@ -11,7 +11,7 @@ use crate::fixed::read_fixed;
 use crate::payload::{read_count, read_payload};
 use crate::payload_shape::{PayloadShape, has_no_payload, payload_shape, primitive_code};
 use crate::push::push_fixed;
-use crate::reserve::{make_room, reserved};
+use crate::reserve::{make_room, reserved, reserved_of_a_map};
 use crate::run::read_run;
 use crate::scalar::{read_descriptor, read_scalar};
 use amqp_data::{Array, Described, EncodingCodes, Error};
@@ -32,9 +32,8 @@ const LONG_STRING: u8 = EncodingCodes::Str32 as u8;
 const LONG_LIST: u8 = EncodingCodes::List32 as u8;
 
 // Reads the first encoded value of `bytes`, and leaves the bytes after it. An array of more than
-// `elements` elements without bytes fails with `OutOfMemory`. Memory is reserved for at most
-// `spare` elements of the lists and arrays inside.
-#[cycle(read)]
+// `elements` elements without bytes fails with `OutOfMemory`. The counts of lists and maps reserve
+// memory for at most `spare` elements, keys and values.
 pub fn read_encoded_value(
     alloc: Global,
     bytes: &mut &[u8],
@@ -95,11 +94,7 @@ fn read_after_code(
         frame_in (parse depth) (parse_content depth) (code ∷ bytes.old.now) ≡ None) }
 {
     if code == 0 {
-        let (descriptor, rest) = read_descriptor(alloc, bytes)?;
-        *bytes = rest;
-        let value = read_value(alloc, bytes, depth, elements, spare)?;
-        let described = Box::new(alloc, Described { descriptor, value })?;
-        return Ok(Value::Described(described));
+        return read_described(alloc, bytes, depth, elements, spare);
     }
     match code {
         BINARY => read_named(alloc, EncodingCodes::Vbin8, bytes, depth, elements, spare),
@@ -110,6 +105,30 @@ fn read_after_code(
         LONG_LIST => read_named(alloc, EncodingCodes::List32, bytes, depth, elements, spare),
         _ => read_named(alloc, primitive_code(code)?, bytes, depth, elements, spare),
     }
+}
+
+// Like `read_after_code`, after the code of a described value: in a separate function, so that other
+// values clear no stack space for it.
+#[cycle(read)]
+#[inline(never)]
+fn read_described(
+    alloc: Global,
+    bytes: &mut &[u8],
+    depth: u16,
+    elements: u32,
+    spare: usize,
+) -> Result<Value, Error>
+    ensures ok { IfOk result (λ v.
+        frame_in (parse depth) (parse_content depth) (0 ∷ bytes.old.now)
+        ≡ Some (tree_of v, bytes.new.now)) }
+    ensures err { IfErr result (λ e. ¬ (e ≡ OutOfMemory) →
+        frame_in (parse depth) (parse_content depth) (0 ∷ bytes.old.now) ≡ None) }
+{
+    let (descriptor, rest) = read_descriptor(alloc, bytes)?;
+    *bytes = rest;
+    let value = read_value(alloc, bytes, depth, elements, spare)?;
+    let described = Box::new(alloc, Described { descriptor, value })?;
+    Ok(Value::Described(described))
 }
 
 // Reads the payload of this code at the start of `bytes`, and leaves the bytes after it. `depth`
@@ -212,7 +231,7 @@ fn read_list(
     let mut list = Vec::with_capacity(alloc, room)?;
     let mut rest = body;
     for read in 0..count {
-        make_room(&mut list, (count - read) as usize)?;
+        make_room(&mut list, ((count - read) as usize).min(rest.len().max(1)))?;
         push_value(alloc, &mut rest, depth, elements, spare - room, &mut list)?;
     }
     if rest.is_empty() {
@@ -274,11 +293,12 @@ fn read_entries(
     if count % 2 != 0 {
         return Err(Error::InvalidValue);
     }
-    let mut pairs = MapBuilder::new(alloc);
+    let room = reserved_of_a_map(count, body, spare);
+    let mut pairs = MapBuilder::with_capacity(alloc, room / 2)?;
     let mut rest = body;
     for _ in 0..count / 2 {
-        let key = read_encoded_value(alloc, &mut rest, depth, elements, spare)?;
-        let value = read_encoded_value(alloc, &mut rest, depth, elements, spare)?;
+        let key = read_value(alloc, &mut rest, depth, elements, spare - room)?;
+        let value = read_value(alloc, &mut rest, depth, elements, spare - room)?;
         pairs.insert(key, value)?;
     }
     if rest.is_empty() {

@@ -7,6 +7,9 @@ use std::alloc::AllocError;
 /// The largest number of elements that are reserved by a count. They take 992 bytes.
 const MOST: usize = 31;
 
+/// The largest number of keys and values that are reserved by a count. They take 4,096 bytes.
+const MOST_OF_A_MAP: usize = 128;
+
 /// The smallest number of elements that are reserved later, if as many are missing.
 const LEAST: usize = 4;
 
@@ -18,9 +21,26 @@ const LEAST: usize = 4;
 pub fn reserved(count: u32, body: &[u8], spare: usize) -> usize
     ensures { result ≤ spare }
 {
+    reserved_up_to(MOST, count, body, spare)
+}
+
+/// Like `reserved`, for the keys and values of a map.
+#[inline(always)]
+pub fn reserved_of_a_map(count: u32, body: &[u8], spare: usize) -> usize
+    ensures { result ≤ spare }
+{
+    reserved_up_to(MOST_OF_A_MAP, count, body, spare)
+}
+
+// Returns the count, or 0 if it is more than `most`, more than `spare`, or more than the body has
+// bytes.
+#[inline(always)]
+fn reserved_up_to(most: usize, count: u32, body: &[u8], spare: usize) -> usize
+    ensures { result ≤ spare }
+{
     let count = count as usize;
-    if count <= spare && count <= body.len() {
-        if count <= MOST { count } else { 0 }
+    if count <= spare && count <= body.len() && count <= most {
+        count
     } else {
         0
     }

@@ -36,6 +36,28 @@ pub fn read_run(
     }
     match code {
         EncodingCodes::Null => read_fixed_run(EncodingCodes::Null, depth, 0, count, bytes, items),
+        EncodingCodes::BooleanTrue => {
+            read_fixed_run(EncodingCodes::BooleanTrue, depth, 0, count, bytes, items)
+        }
+        EncodingCodes::BooleanFalse => {
+            read_fixed_run(EncodingCodes::BooleanFalse, depth, 0, count, bytes, items)
+        }
+        EncodingCodes::Uint0 => read_fixed_run(EncodingCodes::Uint0, depth, 0, count, bytes, items),
+        EncodingCodes::Ulong0 => {
+            read_fixed_run(EncodingCodes::Ulong0, depth, 0, count, bytes, items)
+        }
+        EncodingCodes::SmallUint => {
+            read_fixed_run(EncodingCodes::SmallUint, depth, 1, count, bytes, items)
+        }
+        EncodingCodes::SmallUlong => {
+            read_fixed_run(EncodingCodes::SmallUlong, depth, 1, count, bytes, items)
+        }
+        EncodingCodes::SmallInt => {
+            read_fixed_run(EncodingCodes::SmallInt, depth, 1, count, bytes, items)
+        }
+        EncodingCodes::SmallLong => {
+            read_fixed_run(EncodingCodes::SmallLong, depth, 1, count, bytes, items)
+        }
         EncodingCodes::Ubyte => read_fixed_run(EncodingCodes::Ubyte, depth, 1, count, bytes, items),
         EncodingCodes::Byte => read_fixed_run(EncodingCodes::Byte, depth, 1, count, bytes, items),
         EncodingCodes::Ushort => {

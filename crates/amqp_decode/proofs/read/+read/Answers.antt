@@ -126,8 +126,8 @@ read_list-returns-in_err-push_value-clause-err t c =
 
 pub read_entries-loop-preserved : goal.read_entries-loop-preserved
 read_entries-loop-preserved t c =
-    let step = insert-and_then (parse c.args.depth) (c.args.count / 2) c.loop.counter c.loop.rest.now c.read_encoded_value.new.bytes.now c.read_encoded_value-in-loop.new.bytes.now (tree_of c.in_ok-key.key) (tree_of c.in_ok-value.value) (collected_pairs c.loop.pairs) c.loop-test.true c.in_ok-key.ensures.ok c.in_ok-value.ensures.ok in
-    ap (insert (parse c.args.depth) (c.args.count / 2 - (c.loop.counter + 1)) c.read_encoded_value-in-loop.new.bytes.now) c.in_ok-insert.ensures.ok ∙ (step ∙ c.loop.invariant)
+    let step = insert-and_then (parse c.args.depth) (c.args.count / 2) c.loop.counter c.loop.rest.now c.read_value.new.bytes.now c.read_value-in-loop.new.bytes.now (tree_of c.in_ok-key.key) (tree_of c.in_ok-value.value) (collected_pairs c.loop.pairs) c.loop-test.true c.in_ok-key.ensures.ok c.in_ok-value.ensures.ok in
+    ap (insert (parse c.args.depth) (c.args.count / 2 - (c.loop.counter + 1)) c.read_value-in-loop.new.bytes.now) c.in_ok-insert.ensures.ok ∙ (step ∙ c.loop.invariant)
 
 pub read_entries-returns-in_err-key-clause-err : goal.read_entries-returns-in_err-key-clause-err
 read_entries-returns-in_err-key-clause-err t c =
@@ -138,9 +138,9 @@ read_entries-returns-in_err-key-clause-err t c =
 
 pub read_entries-returns-in_err-value-clause-err : goal.read_entries-returns-in_err-value-clause-err
 read_entries-returns-in_err-value-clause-err t c =
-    let none : parse c.args.depth c.read_encoded_value.new.bytes.now ≡ None → parse_map (parse c.args.depth) (c.args.count, c.args.body.now) ≡ None =
+    let none : parse c.args.depth c.read_value.new.bytes.now ≡ None → parse_map (parse c.args.depth) (c.args.count, c.args.body.now) ≡ None =
     λ h. map-none (parse c.args.depth) c.args.count c.args.body.now
-    (sym c.loop.invariant ∙ insert-no_value (parse c.args.depth) (c.args.count / 2) c.loop.counter c.loop.rest.now c.read_encoded_value.new.bytes.now (tree_of c.in_ok-key.key) (collected_pairs c.loop.pairs) c.loop-test.true c.in_ok-key.ensures.ok h) in
+    (sym c.loop.invariant ∙ insert-no_value (parse c.args.depth) (c.args.count / 2) c.loop.counter c.loop.rest.now c.read_value.new.bytes.now (tree_of c.in_ok-key.key) (collected_pairs c.loop.pairs) c.loop-test.true c.in_ok-key.ensures.ok h) in
     search (rules, none)
 
 pub read_items-loop-preserved : goal.read_items-loop-preserved

@@ -16,9 +16,6 @@ decreases-read_value l = 9 * l.depth
 abbrev pub decreases-push_value : goal.decreases-push_value
 decreases-push_value l = 9 * l.depth
 
-abbrev pub decreases-read_encoded_value : goal.decreases-read_encoded_value
-decreases-read_encoded_value l = 9 * l.depth + 1
-
 abbrev pub decreases-read_items : goal.decreases-read_items
 decreases-read_items l = 9 * l.depth + 1
 
@@ -36,6 +33,9 @@ decreases-read_content l = 9 * l.depth + 3
 
 abbrev pub decreases-read_named : goal.decreases-read_named
 decreases-read_named l = 9 * l.depth + 4
+
+abbrev pub decreases-read_described : goal.decreases-read_described
+decreases-read_described l = 9 * l.depth + 4
 
 abbrev pub decreases-read_after_code : goal.decreases-read_after_code
 decreases-read_after_code l = 9 * l.depth + 5
