@@ -65,9 +65,9 @@ use std::alloc::Global;
 /// `value`. `next_element` and `next_pair` remove the first of `items` and `pairs`; `take_named`
 /// removes the first entry with the given name.
 ///
-/// Provided methods: `into_fixed`, `into_text`, `into_list` and `elements_left`. The first three open
-/// the value and return the content of one kind. A deserializer that knows the kind without opening
-/// implements them to be faster.
+/// Provided methods: `into_fixed`, `into_text`, `into_list`, `has_short_keys` and `elements_left`.
+/// The first three open the value and return the content of one kind. A deserializer that knows the
+/// kind without opening implements them to be faster.
 pub trait Deserializer: Sized + Drop {
     /// The error type.
     type Error: DeserializeError;
@@ -204,6 +204,16 @@ pub trait Deserializer: Sized + Drop {
             Content::List(elements) => Some(elements),
             _ => None,
         }
+    }
+
+    /// Returns whether the keys that are left are certainly short, so that their hashes are computed in
+    /// few steps.
+    ///
+    /// # Example
+    /// True for an untyped map from the string `a`. A deserializer that does not know the keys returns
+    /// false.
+    fn has_short_keys(_entries: &Self::Entries) -> bool {
+        false
     }
 
     /// Returns a number of elements that are certainly left, for which room can be reserved.

@@ -9,7 +9,7 @@ ghost use Rattle.amqp_de.specs.Answers.{Answers, Restores};
 use crate::key_of_name::find;
 use amqp_data::{Error, OrderedMap};
 use amqp_de::de::{self, Content, Deserialize, FixedContent};
-use amqp_value::Value;
+use amqp_value::{Value, is_short_key};
 use std::alloc::Global;
 use std::collections::VecDeque;
 use std::vec::IntoIter;
@@ -255,6 +255,10 @@ impl de::Deserializer for Deserializer {
             }),
             _ => None,
         }
+    }
+
+    fn has_short_keys(entries: &Entries) -> bool {
+        entries.pairs.iter().all(|pair| is_short_key(&pair.0))
     }
 
     #[inline(always)]

@@ -1,6 +1,6 @@
 //! Vectors and arrays, which are read from all elements, in order.
 
-ghost use Rattle.std.specs.Prelude.{◌≡◌, [], List, map, MatchResult};
+ghost use Rattle.std.specs.Prelude.{◌≡◌, ◌++◌, ◌∷◌, [], List, map, MatchResult, IsTrue};
 ghost use Rattle.std.specs.List.{AllZip, AllByRecursion};
 ghost use Rattle.amqp_data.specs.Items.{array_items, transparent_items};
 ghost use Rattle.amqp_ser.specs.Tree.{list, array, trees_of};
@@ -38,6 +38,25 @@ pub(crate) fn reserve<T, D: Deserializer>(
     }
 }
 
+/// Appends a value. With the first one, makes room for the elements that are certainly left, but for
+/// no more than `MOST_RESERVED` values. Returns false if an allocation fails.
+#[inline(always)]
+fn push_value<T: Drop, D: Deserializer>(
+    values: &mut Vec<T>,
+    elements: &D::Elements,
+    value: T,
+) -> bool
+    ensures { IsTrue result → values.new.items ≡ values.old.items ++ value ∷ [] }
+{
+    if values.capacity() == 0 {
+        let left = D::elements_left(elements).min(MOST_RESERVED - 1);
+        if values.reserve_exact(left + 1).is_err() {
+            return false;
+        }
+    }
+    values.push(value).is_ok()
+}
+
 /// Reads all remaining elements, in order.
 ///
 /// # Errors
@@ -53,12 +72,12 @@ fn read_all<T: Deserialize, D: Deserializer>(
         D.items elements.old ≡ map T.image xs →
         MatchResult result (λ v. AllZip T.same v.items xs) D.Error.is_out_of_memory }
 {
-    let mut values = reserve::<T, D>(alloc, &*elements, MOST_RESERVED)?;
+    let mut values = Vec::new(alloc);
     'elements: loop {
         match D::next_element(&mut *elements) {
             Some(element) => match T::deserialize(alloc, element) {
                 Ok(value) => {
-                    if values.push(value).is_err() {
+                    if !push_value::<T, D>(&mut values, &*elements, value) {
                         return Err(D::Error::out_of_memory());
                     }
                 }

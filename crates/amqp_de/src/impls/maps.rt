@@ -87,6 +87,18 @@ fn read_pairs<K: Deserialize, V: Deserialize, M: Inserts<K, V>, D: Deserializer>
     }
 }
 
+impl<K: Hash + Eq + Drop, V: Drop> Inserts<K, V> for OrderedMap<K, V> {
+    ghost holds = { HoldsInOrder K.eq };
+
+    fn empty(alloc: Global) -> OrderedMap<K, V> {
+        OrderedMap::new(alloc)
+    }
+
+    fn put(&mut self, key: K, value: V) -> bool {
+        OrderedMap::insert(self, key, value).is_ok()
+    }
+}
+
 impl<K: Hash + Eq + Drop, V: Drop> Inserts<K, V> for OrderedMapBuilder<K, V> {
     ghost holds = { λ done entries. entries ≡ inserted_in_order K.eq done };
 
@@ -140,9 +152,16 @@ impl<K: Deserialize + Hash + Eq, V: Deserialize> Deserialize for OrderedMap<K, V
     ) -> Result<OrderedMap<K, V>, D::Error> {
         match deserializer.open() {
             Content::Map(mut entries) => {
-                match read_pairs::<K, V, OrderedMapBuilder<K, V>, D>(alloc, &mut entries) {
-                    Ok(builder) => Ok(builder.into_map()),
-                    Err(error) => Err(error),
+                if D::has_short_keys(&entries) {
+                    match read_pairs::<K, V, OrderedMapBuilder<K, V>, D>(alloc, &mut entries) {
+                        Ok(builder) => Ok(builder.into_map()),
+                        Err(error) => Err(error),
+                    }
+                } else {
+                    match read_pairs::<K, V, OrderedMap<K, V>, D>(alloc, &mut entries) {
+                        Ok(map) => Ok(map),
+                        Err(error) => Err(error),
+                    }
                 }
             }
             _ => Err(D::Error::invalid_value()),

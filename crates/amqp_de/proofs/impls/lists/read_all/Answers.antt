@@ -5,7 +5,7 @@ use Rattle.amqp_de.proofs.impls.lists.read_all.Goals as goal
 pub elements-preserved : goal.elements-preserved
 elements-preserved g c =
     let taken = c.in-Some.ensures in
-    let p : c.push.new.self.items ≡ c.elements.values.items ++ c.in-Ok.value ∷ [] = search rules in
+    let p : c.push_value.new.values.items ≡ c.elements.values.items ++ c.in-Ok.value ∷ [] = search rules in
     rw p (
       read_more g.T.Deserialize.reads _ _ _ c.elements.values.items _ c.in-Ok.value c.elements.invariant.0 taken c.in-Ok.ensures.read,
       same_more g.T.Deserialize.image g.T.Deserialize.restorable g.T.Deserialize.same _ _ _ c.elements.values.items _ c.in-Ok.value c.elements.invariant.1 taken c.in-Ok.ensures.law,
