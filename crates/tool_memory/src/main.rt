@@ -25,9 +25,10 @@
 //! | the same | `Value::try_from_btree_map`, `Value::try_from_ordered_map`, `Vec::try_from`, `Array::try_from` |
 //! | the same | `OrderedMap::try_from`, `BTreeMap::try_from`, `HashMap::try_from`, `IndexMap::try_from` |
 //! | the same | `OrderedMapBuilder::new`, `OrderedMapBuilder::insert` |
+//! | none, since a failed allocation changes no result | `finds_distinct_keys` |
 //! | the same | `TryFromSerializable::try_from_serializable` |
 //! | rows of decode and decode_within | `decode_value`, `decode_value_limited` |
-//! | rows of decode and read | `MapBuilder::new`, `MapBuilder::into_value` |
+//! | rows of decode and read | `MapBuilder::new`, `MapBuilder::with_capacity`, `MapBuilder::into_value` |
 //! | rows of read | `from_value`, `Deserializer::new` |
 //! | types of one's own | `round_trip`, `read`, `read_composite`, `read_described`, `TypeSeed::deserialize`, `ListSeed::deserialize`, `NamedSeed::deserialize` |
 //! | the same | `read_map`, `read_described_map` |

@@ -1,6 +1,7 @@
 //! Examples of `to_value` and its serializer.
 
 mod again;
+mod capacities;
 mod compounds;
 mod memory;
 
