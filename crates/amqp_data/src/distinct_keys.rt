@@ -14,8 +14,8 @@ use std::hash::Hash;
 /// Returns true if the hashes of the keys show that no two keys are equal.
 ///
 /// Returns false if two keys are equal, if many keys have hashes in the same bucket, so that more
-/// than two comparisons for each entry would be needed, or if an allocation fails. The hash has a
-/// fixed seed.
+/// than two comparisons for each entry would be needed, or if an allocation fails or there are 2³²
+/// entries. The hash has a fixed seed.
 ///
 /// # Memory
 /// 12 bytes for each entry, until it returns.

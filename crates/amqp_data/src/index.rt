@@ -7,7 +7,7 @@
 ghost use Rattle.std.specs.Prelude.{◌≡◌, ℕ, ◌+◌, ◌<◌, ◌∷◌, ◌++◌, [], List, length, position};
 ghost use Rattle.std.specs.Prelude.{IfSome, IsTrue};
 ghost use Rattle.amqp_data.specs.Index as chains;
-ghost use Rattle.amqp_data.specs.Index.{IsIndexed, IsChained, buckets};
+ghost use Rattle.amqp_data.specs.Index.{AddsLast, IsIndexed, IsChained, buckets};
 
 use std::alloc::Global;
 use std::hash::{FoldHasher, Hash, Hasher};
@@ -15,7 +15,7 @@ use std::hash::{FoldHasher, Hash, Hasher};
 /// The number of entries from which on a list has an index.
 const FIRST_INDEXED: usize = 48;
 
-/// Returns the bucket of a key among so many.
+/// Returns the bucket of a key, of `count` buckets.
 #[tactic(auto, unfolding(crate::specs::Index::bucket_of, crate::specs::Index::hash_of))]
 pub(crate) fn bucket_of<K: Hash>(key: &K, count: usize) -> usize
     requires { 0 < count }
@@ -80,7 +80,8 @@ pub(crate) fn locate<K: Hash + Eq, V>(
     (find_in_bucket(entries, heads, earlier, bucket, key), bucket)
 }
 
-/// Adds an entry to the index, after the others. Returns false if an allocation fails.
+/// Adds an entry to the index, after the others. Returns false if an allocation fails, or if there
+/// are 2³² - 1 entries.
 pub(crate) fn add(heads: &mut [u32], earlier: &mut Vec<u32>, bucket: usize) -> bool
     requires { bucket < length heads.old }
     ensures length { length heads.new ≡ length heads.old }
@@ -97,7 +98,7 @@ pub(crate) fn add(heads: &mut [u32], earlier: &mut Vec<u32>, bucket: usize) -> b
     true
 }
 
-// Makes an index with so many buckets. Returns `None` if an allocation fails.
+// Makes an index with `count` buckets. Returns `None` if `add` fails.
 fn build<K: Hash, V>(
     alloc: Global,
     entries: &[(K, V)],
@@ -128,14 +129,8 @@ pub(crate) fn add_last<K: Hash + Eq, V>(
 )
     requires some { 0 < length entries.now }
     requires within { 0 < length heads.old.items → bucket < length heads.old.items }
-    ensures { (es : List (K × V)) (e : K × V) → entries.now ≡ es ++ e ∷ [] →
-        (0 < length heads.old.items →
-        (bucket ≡ chains.bucket_of (length heads.old.items) (K.hash_input e.0))
-        × IsChained heads.old.items earlier.old.items
-        (buckets K.hash_input (length heads.old.items) es)) →
-        0 < length heads.new.items →
-        IsChained heads.new.items earlier.new.items
-        (buckets K.hash_input (length heads.new.items) entries.now) }
+    ensures { AddsLast K.hash_input entries.now bucket heads.old.items earlier.old.items
+        heads.new.items earlier.new.items }
 {
     if heads.is_empty() && entries.len() < FIRST_INDEXED {
         return;
@@ -144,7 +139,7 @@ pub(crate) fn add_last<K: Hash + Eq, V>(
 }
 
 // Adds the last entry to the index. Makes an index with twice as many buckets as entries if there
-// are more entries than buckets. If an allocation fails, there is no index.
+// are more entries than buckets. If that fails, there is no index until the next entry is added.
 fn add_to_index<K: Hash + Eq, V>(
     entries: &[(K, V)],
     heads: &mut Vec<u32>,
@@ -153,14 +148,8 @@ fn add_to_index<K: Hash + Eq, V>(
 )
     requires some { 0 < length entries.now }
     requires within { 0 < length heads.old.items → bucket < length heads.old.items }
-    ensures { (es : List (K × V)) (e : K × V) → entries.now ≡ es ++ e ∷ [] →
-        (0 < length heads.old.items →
-        (bucket ≡ chains.bucket_of (length heads.old.items) (K.hash_input e.0))
-        × IsChained heads.old.items earlier.old.items
-        (buckets K.hash_input (length heads.old.items) es)) →
-        0 < length heads.new.items →
-        IsChained heads.new.items earlier.new.items
-        (buckets K.hash_input (length heads.new.items) entries.now) }
+    ensures { AddsLast K.hash_input entries.now bucket heads.old.items earlier.old.items
+        heads.new.items earlier.new.items }
 {
     if entries.len() <= heads.len() && add(heads, earlier, bucket) {
         return;

@@ -13,8 +13,9 @@ use std::mem;
 
 /// A map that is being built. It is a list of entries, and no two of its keys are equal.
 ///
-/// The calls behave as those of [`OrderedMap`], but many keys are found by their hashes, so that an
-/// insertion does not take longer the more entries there are.
+/// The calls behave as those of [`OrderedMap`], but many keys are found by their hashes: a key is
+/// compared with those in its bucket alone. An insertion after which the number of entries has
+/// doubled makes the index anew, and hashes all keys.
 #[derive(Drop)]
 pub struct OrderedMapBuilder<K: Hash + Eq, V> {
     entries: Vec<(K, V)>,
@@ -61,7 +62,7 @@ impl<K: Hash + Eq, V> OrderedMapBuilder<K, V> {
     /// # Errors
     /// Returns `Error::OutOfMemory` if an allocation for the entries fails. The entries are then
     /// unchanged, and the key and the value are dropped. If an allocation for the index fails, the
-    /// keys are searched in order.
+    /// keys are searched in order, and the next insertion tries again to make the index.
     ///
     /// # Memory
     /// Allocates nothing if the key is present. From 48 entries on, the index takes 8 to 16 bytes for
