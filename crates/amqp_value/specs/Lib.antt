@@ -13,4 +13,5 @@ pub mod ComesBack
 pub mod Sound
 pub mod MapBuilder
 pub mod Places
+pub mod ShortKeys
 pub mod EscapedBytes

@@ -16,6 +16,7 @@ use std::alloc::{AllocError, Global};
 const FEW: usize = 8;
 
 // Returns the entries, inserted in order: a repeated key keeps its position and gets the new value.
+// Repeated long keys are found by their order alone.
 pub fn once_each(
     alloc: Global,
     pairs: Vec<(Value, Value)>,
@@ -25,26 +26,49 @@ pub fn once_each(
     if ascends(&pairs) {
         return Ok(pairs);
     }
-    if pairs.len() <= FEW {
-        if differ_from_each_before(&pairs) {
+    if have_short_keys(&pairs) {
+        if pairs.len() <= FEW {
+            return once_each_by_pairs(alloc, pairs);
+        }
+        if are_distinct(alloc, &pairs) {
             return Ok(pairs);
         }
-        return insert_each(alloc, pairs);
-    }
-    if are_distinct(alloc, &pairs) {
-        return Ok(pairs);
     }
     let places = places_of(alloc, &pairs)?;
     rebuild(alloc, pairs, places)
 }
 
-// Returns true if the hashes of the keys show that they are distinct. Long keys are not hashed.
+// Does the same for entries whose keys were distinct before they were converted, so that a repeated
+// key is rare. Long keys are compared each with each one before it.
+pub fn once_each_converted(
+    alloc: Global,
+    pairs: Vec<(Value, Value)>,
+) -> Result<Vec<(Value, Value)>, AllocError>
+    ensures { IfOk result (λ entries. entries.items ≡ merged equal pairs.items []) }
+{
+    if have_short_keys(&pairs) {
+        return once_each(alloc, pairs);
+    }
+    once_each_by_pairs(alloc, pairs)
+}
+
+// Does the same by comparing each key with each one before it.
+fn once_each_by_pairs(
+    alloc: Global,
+    pairs: Vec<(Value, Value)>,
+) -> Result<Vec<(Value, Value)>, AllocError>
+    ensures { IfOk result (λ entries. entries.items ≡ merged equal pairs.items []) }
+{
+    if differ_from_each_before(&pairs) {
+        return Ok(pairs);
+    }
+    insert_each(alloc, pairs)
+}
+
+// Returns true if the hashes of the keys show that they are distinct.
 fn are_distinct(alloc: Global, pairs: &[(Value, Value)]) -> bool
     ensures { OnTrue result (merged equal pairs.now [] ≡ pairs.now) }
 {
-    if !have_short_keys(pairs) {
-        return false;
-    }
     finds_distinct_keys(alloc, pairs)
 }
 

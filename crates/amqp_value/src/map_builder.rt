@@ -66,15 +66,14 @@ impl MapBuilder {
     ///
     /// # Errors
     /// Returns `Error::OutOfMemory` if an allocation fails, which can happen only if a key repeats,
-    /// or if there are more than 8 entries, their keys do not ascend, and their hashes do not show
-    /// that they differ.
+    /// or if the keys do not ascend, and a key is long (`is_short_key`), or there are more than 8
+    /// entries and the hashes of their keys do not show that they differ.
     ///
     /// # Memory
-    /// None if each key is greater than the one before it, or if there are at most 8 entries and no
-    /// key repeats. If one repeats, a vector of the entries of the map. With more than 8 entries, 12
-    /// bytes for each, if all keys are scalars, texts of at most 256 bytes or binaries of at most 32.
-    /// If these do not show that the keys differ, a B-tree of the keys, a position for each entry, and
-    /// that vector.
+    /// None if each key is greater than the one before it, or if there are at most 8 entries, all
+    /// keys are short, and none repeats. If one of at most 8 short keys repeats, a vector of the
+    /// entries of the map. More short keys take 12 bytes each. If a key is long, or these do not show
+    /// that the keys differ, a B-tree of the keys, a position for each entry, and that vector.
     pub fn into_value(self, alloc: Global) -> Result<Value, Error>
         ensures { MatchResult result
             (λ v. tree_of v ≡ map (collected_pairs self))

@@ -1,5 +1,9 @@
 //! Keys whose hashes are computed in few steps.
 
+ghost use Rattle.std.specs.Prelude.{◌≡◌};
+ghost use Rattle.std.specs.List.{list_all};
+ghost use Rattle.amqp_value.specs.ShortKeys.{is_short};
+
 use crate::value::Value;
 
 // The hash reads all bytes of a key, those of a binary one at a time. A comparison of two keys often
@@ -13,7 +17,9 @@ const SHORT_BINARY: usize = 32;
 ///
 /// # Example
 /// True for the string `a`, false for an empty list.
-pub fn is_short_key(key: &Value) -> bool {
+pub fn is_short_key(key: &Value) -> bool
+    ensures { result ≡ is_short key.now }
+{
     match key {
         Value::Binary(bytes) => bytes.as_inner().len() <= SHORT_BINARY,
         Value::String(text) => text.len() <= SHORT_TEXT,
@@ -24,6 +30,8 @@ pub fn is_short_key(key: &Value) -> bool {
 }
 
 /// Returns whether `is_short_key` is true for each key.
-pub(crate) fn have_short_keys(entries: &[(Value, Value)]) -> bool {
+pub(crate) fn have_short_keys(entries: &[(Value, Value)]) -> bool
+    ensures { result ≡ list_all (λ e. is_short e.0) entries.now }
+{
     entries.iter().all(|entry| is_short_key(&entry.0))
 }

@@ -11,7 +11,7 @@ ghost use Rattle.amqp_value.specs.Places.{equal, merged};
 ghost use Rattle.amqp_value.specs.TreeOf.{tree_of};
 
 use crate::Value;
-use crate::distinct::once_each;
+use crate::distinct::once_each_converted;
 use amqp_data::{Array, Described, Error, OrderedMap};
 use std::alloc::Global;
 use std::collections::BTreeMap;
@@ -113,8 +113,9 @@ impl Value {
     /// Returns `Error::OutOfMemory` if an allocation fails. The argument is dropped.
     ///
     /// # Memory
-    /// Allocates once from `alloc` for the entries, or not at all if there are none. To find repeated
-    /// keys it allocates as `MapBuilder::into_value`.
+    /// Allocates once from `alloc` for the entries, or not at all if there are none. To find equal
+    /// keys, it allocates as `MapBuilder::into_value` if all keys are short (`is_short_key`).
+    /// Otherwise it allocates a vector that grows, if there are equal keys.
     ///
     /// # Example
     /// `1u8` to `true` gives a `Map` that is encoded as `c10402500141`.
@@ -144,8 +145,9 @@ impl Value {
     /// Returns `Error::OutOfMemory` if an allocation fails. The argument is dropped.
     ///
     /// # Memory
-    /// Allocates once from `alloc` for the entries, or not at all if there are none. To find repeated
-    /// keys it allocates as `MapBuilder::into_value`.
+    /// Allocates once from `alloc` for the entries, or not at all if there are none. To find equal
+    /// keys, it allocates as `MapBuilder::into_value` if all keys are short (`is_short_key`).
+    /// Otherwise it allocates a vector that grows, if there are equal keys.
     ///
     /// # Example
     /// The ubyte keys 2 to `true` and 1 to `false` give a `Map` that is encoded as
@@ -187,6 +189,6 @@ fn inserted(alloc: Global, pairs: Vec<(Value, Value)>) -> Result<Value, Error>
         (λ v. IsSomeAnd (map_in v) (λ map. entries_of map ≡ merged equal pairs.items []))
         (λ e. e ≡ Error.OutOfMemory) }
 {
-    let entries = once_each(alloc, pairs)?;
+    let entries = once_each_converted(alloc, pairs)?;
     Ok(Value::Map(OrderedMap::from_distinct(entries)))
 }

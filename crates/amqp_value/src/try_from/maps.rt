@@ -16,6 +16,10 @@ use indexmap::IndexMap;
 use std::collections::{BTreeMap, HashMap};
 use std::hash::Hash;
 
+// The number of entries from which on an index costs less than comparing each key with each one
+// before it.
+const MANY: usize = 96;
+
 /// Converts a `Map`. Inserts its entries in order, each key converted before its value.
 ///
 /// # Errors
@@ -24,8 +28,8 @@ use std::hash::Hash;
 /// be converted.
 ///
 /// # Memory
-/// Allocates from the map's own allocator as the new map grows. From 48 entries on, if the keys are
-/// scalars or short, an index takes 8 to 16 bytes for each entry until the map is complete.
+/// Allocates from the map's own allocator as the new map grows. From 96 entries on, if the keys are
+/// short (`is_short_key`), an index takes 8 to 16 bytes for each entry until the map is complete.
 ///
 /// # Example
 /// The map from the ubyte 1 to `true` gives 1 to `true` as an `OrderedMap<u8, bool>`, and
@@ -44,7 +48,7 @@ where
         match value {
             Value::Map(pairs) => {
                 let pairs = pairs.into_inner();
-                if !have_short_keys(&pairs) {
+                if pairs.len() < MANY || !have_short_keys(&pairs) {
                     return convert_pairs::<K, V, OrderedMap<K, V>>(pairs);
                 }
                 match convert_pairs::<K, V, OrderedMapBuilder<K, V>>(pairs) {

@@ -99,6 +99,7 @@ impl<K: Hash + Eq + Drop, V: Drop> Inserts<K, V> for HashMap<K, V> {
 }
 
 /// Converts a key and then its value.
+#[inline(always)]
 fn convert_pair<K, V>(key: Value, value: Value) -> Result<(K, V), ConvertFault>
 where
     K: TryFrom<Value, Error = Value> + Drop,
