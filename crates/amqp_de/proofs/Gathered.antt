@@ -13,6 +13,9 @@ module _ {A T : Type 0} (R : A → T → Type 0) where
   pub read_none : (whole : List A) → ReadSoFar whole whole []
   read_none whole = ([], refl, tt)
 
+  pub read_one : (t : A) (rest : List A) (x : T) → R t x → ReadSoFar (t ∷ rest) rest (x ∷ [])
+  read_one t rest x r = (t ∷ [], refl, (r, tt))
+
   pub read_more : (whole rest after : List A) (xs : List T) (t : A) (x : T) → ReadSoFar whole rest xs → rest ≡ t ∷ after → R t x
       → ReadSoFar whole after (xs ++ x ∷ [])
   read_more whole rest after xs t x (done, e, h) f r =
@@ -57,6 +60,9 @@ module _ {A T : Type 0} (image : T → A) (P : T → Type 0) (S : T → T → Ty
       let head : t ≡ image x = cc in
       let tail : after ≡ map image left = cc in
       (done ++ x ∷ [], left, tail, rw append_assoc q, all.1, zip_push S ys done y x z (s x all.0 head))
+
+  pub same_one : (t : A) (rest : List A) (y : T) → ((x : T) → P x → t ≡ image x → S y x) → SameSoFar (t ∷ rest) rest (y ∷ [])
+  same_one t rest y s xs all p = next_half t rest [] y xs [] xs s p refl all tt
 
   pub same_more : (whole rest after : List A) (ys : List T) (t : A) (y : T) → SameSoFar whole rest ys → rest ≡ t ∷ after
       → ((x : T) → P x → t ≡ image x → S y x) → SameSoFar whole after (ys ++ y ∷ [])

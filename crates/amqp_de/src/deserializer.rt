@@ -65,7 +65,8 @@ use std::alloc::Global;
 /// `value`. `next_element` and `next_pair` remove the first of `items` and `pairs`; `take_named`
 /// removes the first entry with the given name.
 ///
-/// Provided methods: `into_fixed`, `into_text`, `into_list`, `has_short_keys` and `elements_left`.
+/// Provided methods: `into_fixed`, `into_text`, `into_list`, `has_many_short_keys` and
+/// `elements_left`.
 /// The first three open the value and return the content of one kind. A deserializer that knows the
 /// kind without opening implements them to be faster.
 pub trait Deserializer: Sized + Drop {
@@ -206,13 +207,13 @@ pub trait Deserializer: Sized + Drop {
         }
     }
 
-    /// Returns whether the keys that are left are certainly short, so that their hashes are computed in
-    /// few steps.
+    /// Returns whether many keys are left, all of them certainly short, so that an index of their
+    /// hashes costs less than comparing each key with each one before it.
     ///
     /// # Example
-    /// True for an untyped map from the string `a`. A deserializer that does not know the keys returns
-    /// false.
-    fn has_short_keys(_entries: &Self::Entries) -> bool {
+    /// True for an untyped map from 64 ubytes, and false for one from 63. A deserializer that does not
+    /// know the keys returns false.
+    fn has_many_short_keys(_entries: &Self::Entries) -> bool {
         false
     }
 

@@ -14,6 +14,10 @@ use std::alloc::Global;
 use std::collections::VecDeque;
 use std::vec::IntoIter;
 
+// The number of entries from which on an index of their keys costs less than comparing each key with
+// each one before it.
+const MANY: usize = 64;
+
 /// A deserializer of a `Value`.
 #[derive(Drop)]
 pub struct Deserializer {
@@ -257,8 +261,8 @@ impl de::Deserializer for Deserializer {
         }
     }
 
-    fn has_short_keys(entries: &Entries) -> bool {
-        entries.pairs.iter().all(|pair| is_short_key(&pair.0))
+    fn has_many_short_keys(entries: &Entries) -> bool {
+        entries.pairs.len() >= MANY && entries.pairs.iter().all(|pair| is_short_key(&pair.0))
     }
 
     #[inline(always)]

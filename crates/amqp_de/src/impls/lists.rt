@@ -1,9 +1,9 @@
 //! Vectors and arrays, which are read from all elements, in order.
 
-ghost use Rattle.std.specs.Prelude.{◌≡◌, ◌++◌, ◌∷◌, [], List, map, MatchResult, IsTrue};
+ghost use Rattle.std.specs.Prelude.{◌≡◌, ◌∷◌, [], List, map, MatchResult};
 ghost use Rattle.std.specs.List.{AllZip, AllByRecursion};
 ghost use Rattle.amqp_data.specs.Items.{array_items, transparent_items};
-ghost use Rattle.amqp_ser.specs.Tree.{list, array, trees_of};
+ghost use Rattle.amqp_ser.specs.Tree.{Tree, list, array, trees_of};
 ghost use Rattle.amqp_de.specs.Answers.{Refuses};
 ghost use Rattle.amqp_de.specs.Reads.{OnList, OnArray};
 
@@ -14,8 +14,8 @@ use crate::deserializer::Deserializer;
 use amqp_data::{Array, TransparentVec};
 use std::alloc::Global;
 
-/// How many values at most have room reserved before they are read. A value may be larger than the
-/// element that it is read from, and an element may be refused.
+/// The maximum number of values for which room is reserved before they are read. A value may be larger
+/// than the element that it is read from, and an element may be refused.
 const MOST_RESERVED: usize = 256;
 
 /// Returns an empty vector with room for the elements that are certainly left, but for no more than
@@ -38,23 +38,46 @@ pub(crate) fn reserve<T, D: Deserializer>(
     }
 }
 
-/// Appends a value. With the first one, makes room for the elements that are certainly left, but for
-/// no more than `MOST_RESERVED` values. Returns false if an allocation fails.
-#[inline(always)]
-fn push_value<T: Drop, D: Deserializer>(
-    values: &mut Vec<T>,
-    elements: &D::Elements,
-    value: T,
-) -> bool
-    ensures { IsTrue result → values.new.items ≡ values.old.items ++ value ∷ [] }
+/// Reads all remaining elements, after the first one. Makes room first for the elements that are
+/// certainly left, but for no more than `MOST_RESERVED` values.
+///
+/// # Errors
+/// Those of `read_all`.
+fn read_rest<T: Deserialize, D: Deserializer>(
+    alloc: Global,
+    elements: &mut D::Elements,
+    first: T,
+) -> Result<Vec<T>, D::Error>
+    ensures read { (t : Tree) → T.reads t first →
+        MatchResult result (λ v. AllZip T.reads (t ∷ D.items elements.old) v.items)
+        (Refuses D.Error.is_out_of_memory (λ (xs : List T).
+        AllZip T.reads (t ∷ D.items elements.old) xs)) }
+    ensures law { (t : Tree) → ((x : T) → T.restorable x → t ≡ T.image x → T.same first x) →
+        (xs : List T) → AllByRecursion T.restorable xs →
+        t ∷ D.items elements.old ≡ map T.image xs →
+        MatchResult result (λ v. AllZip T.same v.items xs) D.Error.is_out_of_memory }
 {
-    if values.capacity() == 0 {
-        let left = D::elements_left(elements).min(MOST_RESERVED - 1);
-        if values.reserve_exact(left + 1).is_err() {
-            return false;
+    let left = D::elements_left(&*elements).min(MOST_RESERVED - 1);
+    let mut values = Vec::new(alloc);
+    if left > 0 && values.reserve_exact(left + 1).is_err() {
+        return Err(D::Error::out_of_memory());
+    }
+    if values.push(first).is_err() {
+        return Err(D::Error::out_of_memory());
+    }
+    'elements: loop {
+        match D::next_element(&mut *elements) {
+            Some(element) => match T::deserialize(alloc, element) {
+                Ok(value) => {
+                    if values.push(value).is_err() {
+                        return Err(D::Error::out_of_memory());
+                    }
+                }
+                Err(error) => return Err(error),
+            },
+            None => return Ok(values),
         }
     }
-    values.push(value).is_ok()
 }
 
 /// Reads all remaining elements, in order.
@@ -72,19 +95,12 @@ fn read_all<T: Deserialize, D: Deserializer>(
         D.items elements.old ≡ map T.image xs →
         MatchResult result (λ v. AllZip T.same v.items xs) D.Error.is_out_of_memory }
 {
-    let mut values = Vec::new(alloc);
-    'elements: loop {
-        match D::next_element(&mut *elements) {
-            Some(element) => match T::deserialize(alloc, element) {
-                Ok(value) => {
-                    if !push_value::<T, D>(&mut values, &*elements, value) {
-                        return Err(D::Error::out_of_memory());
-                    }
-                }
-                Err(error) => return Err(error),
-            },
-            None => return Ok(values),
-        }
+    match D::next_element(&mut *elements) {
+        Some(element) => match T::deserialize(alloc, element) {
+            Ok(first) => read_rest::<T, D>(alloc, &mut *elements, first),
+            Err(error) => Err(error),
+        },
+        None => Ok(Vec::new(alloc)),
     }
 }
 

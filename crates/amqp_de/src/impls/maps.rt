@@ -152,7 +152,7 @@ impl<K: Deserialize + Hash + Eq, V: Deserialize> Deserialize for OrderedMap<K, V
     ) -> Result<OrderedMap<K, V>, D::Error> {
         match deserializer.open() {
             Content::Map(mut entries) => {
-                if D::has_short_keys(&entries) {
+                if D::has_many_short_keys(&entries) {
                     match read_pairs::<K, V, OrderedMapBuilder<K, V>, D>(alloc, &mut entries) {
                         Ok(builder) => Ok(builder.into_map()),
                         Err(error) => Err(error),
