@@ -30,7 +30,7 @@ use std::alloc::Global;
 /// # Memory
 /// Allocates from `alloc`. A count reserves capacity only for elements whose bytes can be there: for
 /// a list of at most 31 elements, a map of at most 64 entries, and an array of numbers. Other
-/// buffers grow element by element. An array whose elements have no bytes, such as nulls,
+/// buffers grow as their elements are read. An array whose elements have no bytes, such as nulls,
 /// takes memory for as many elements as its count says. `decode_value_limited` limits them.
 ///
 /// # Example

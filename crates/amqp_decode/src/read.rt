@@ -108,7 +108,7 @@ fn read_after_code(
 }
 
 // Like `read_after_code`, after the code of a described value: in a separate function, so that other
-// values clear no stack space for it.
+// values need no stack space for it, which is cleared.
 #[cycle(read)]
 #[inline(never)]
 fn read_described(

@@ -17,8 +17,8 @@ use std::alloc::Global;
 // that exceeds the input.
 const PIECE: usize = 4096;
 
-// The maximum number of bytes that are copied to a larger block instead of enlarging theirs, which
-// takes more steps than a copy of so few bytes.
+// The maximum number of bytes that are copied to a new, larger block. Enlarging the block takes more
+// instructions than copying so few bytes.
 const COPIED: usize = 24;
 
 /// Reads the next encoded value, one format code at a time, and counts the values still expected.

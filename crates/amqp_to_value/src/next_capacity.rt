@@ -15,8 +15,8 @@ const GREATEST: usize = 128;
 ///
 /// A list grows from a capacity of 4 by doubling. If the last lists ended with the same capacity, as
 /// the rows of a table do, this capacity is reserved at the first element of the next one. If that
-/// list then needs less, the rest is freed when it ends, and twice as many equal lists must follow
-/// one another before a capacity is reserved again.
+/// list then needs half of it or less, the rest is freed when it ends, and twice as many equal lists
+/// must follow one another before a capacity is reserved again.
 #[derive(Clone, Copy)]
 pub struct NextCapacity {
     // The capacity for the next list, or 0 to let it grow.

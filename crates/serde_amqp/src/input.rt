@@ -11,7 +11,7 @@ use std::alloc::Global;
 // The maximum number of bytes read at once.
 const BLOCK: usize = 1024;
 
-// Reads all bytes up to the end, never more at once than the vector has room for.
+// Reads all bytes up to the end, in blocks. Into a full vector, one byte is read.
 pub(crate) fn read_to_end<R: Read>(alloc: Global, reader: &mut R) -> Result<Vec<u8>, Error>
     ensures ok { IfOk result (λ bytes.
         Consumes (R.left reader.old) (R.left reader.new) bytes.items
