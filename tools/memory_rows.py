@@ -7,6 +7,9 @@ crates/test_rows/stdout while no allocation fails. The first allocations hold th
 fails, the program must print nothing and end with status 1. While any other one fails, it must end with status 0, and one line must
 differ: it must have `<out of memory>` in place of its result or of a part of it.
 
+The rows of crates/tool_memory/optional_rows make calls that go on without some of their allocations: the hashes of keys, the index of
+a map, the capacity of a list. They are run likewise, but while one of `OPTIONAL` allocations fails, no line may differ.
+
 The rows of crates/tool_memory/deep_rows read deep and wide values of about a mebibyte. They must have their results while each
 allocation of more than 16 MiB fails.
 """
@@ -18,6 +21,8 @@ from pathlib import Path
 
 ROOT = Path(__file__).resolve().parent.parent / "crates"
 REFUSED = "<out of memory>"
+# Two for the hashes of each of four maps, decoded or made by `to_value`; two for each of two indexes; one for each of two lists.
+OPTIONAL = 14
 
 
 def run(rows, **refused):
@@ -49,13 +54,11 @@ def is_refused(line, full):
     return bool(found) and is_whole and before.startswith(full.partition(" = ")[0] + " = ")
 
 
-def main():
-    rows, expected = rows_of("deep_rows")
-    if run(rows, REFUSE_PAST="16777216")[:2] != (0, expected):
-        wrong("deep or wide values of a mebibyte take more than 16 MiB at once, or have other results")
-    rows, expected = rows_of("rows")
+def fail_each(name, optional):
+    """Runs the rows of a file with each allocation failing in turn; `optional` of them may fail without a change."""
+    rows, expected = rows_of(name)
     status, printed, requests = run(rows, REFUSE="0")
-    first, lines = 0, expected.splitlines()
+    first, unchanged, lines = 0, 0, expected.splitlines()
     if (status, printed) != (0, expected):
         wrong(f"with no allocation failing the results are wrong (status {status}): {set(printed.splitlines()) - set(lines)}")
     for number in range(1, int(requests) + 1):
@@ -63,11 +66,25 @@ def main():
         if (status, printed, first) == (1, "", number - 1):
             first = number
             continue
+        if optional and (status, printed) == (0, expected):
+            unchanged += 1
+            continue
         changed = [(line, full) for line, full in zip(printed.splitlines(), lines) if line != full]
         is_right = status == 0 and printed.count("\n") == len(lines) and len(changed) == 1
         if not is_right or not is_refused(*changed[0]):
             wrong(f"allocation {number} failed, and the lines that changed are wrong (status {status}): {changed or printed}")
-    print(f"of {requests.strip()} allocations of test_rows, each failing in turn, {first} ended the program and all others one call")
+    if unchanged != optional:
+        wrong(f"{unchanged} allocations of {name} failed without a change, not {optional}")
+    ended = f"{first} ended the program, {unchanged} changed nothing and all others ended one call"
+    print(f"of {requests.strip()} allocations of {name}, each failing in turn, {ended}")
+
+
+def main():
+    rows, expected = rows_of("deep_rows")
+    if run(rows, REFUSE_PAST="16777216")[:2] != (0, expected):
+        wrong("deep or wide values of a mebibyte take more than 16 MiB at once, or have other results")
+    fail_each("rows", 0)
+    fail_each("optional_rows", OPTIONAL)
 
 
 main()

@@ -7,8 +7,8 @@
 //! allocate.
 //!
 //! The file `rows` has more calls that allocate: rows of the program `test_rows`, which
-//! `tools/memory` runs once for each of their allocations too. Those of `deep_rows` read deep and
-//! wide values.
+//! `tools/memory` runs once for each of their allocations too. Those of `optional_rows` make calls
+//! that go on without some of their allocations, and those of `deep_rows` read deep and wide values.
 //!
 //! Each public call that allocates is in this table, next to the line that is printed after it, or
 //! to the rows that make it; `tools/memory` checks that none is missing.
@@ -19,13 +19,12 @@
 //! | the same | `OrderedMap::new`, `OrderedMap::insert` |
 //! | rows of read, refused elements | `to_vec`, `Serialize::serialize`, `Value::serialize` |
 //! | rows of read and write | `to_value`, `Serializer::new` |
+//! | optional rows of decode and read | `finds_distinct_keys`, `OrderedMapBuilder::new`, `OrderedMapBuilder::insert` |
 //! | frames, rows of lazy and hold | `LazyValue::from_reader`, `to_lazy_value` |
 //! | frames | `LazyValue::try_into_vec` |
 //! | conversions | `Value::try_from_str`, `Value::try_from_described`, `Value::try_from_array`, `Value::try_from_vec` |
 //! | the same | `Value::try_from_btree_map`, `Value::try_from_ordered_map`, `Vec::try_from`, `Array::try_from` |
 //! | the same | `OrderedMap::try_from`, `BTreeMap::try_from`, `HashMap::try_from`, `IndexMap::try_from` |
-//! | the same | `OrderedMapBuilder::new`, `OrderedMapBuilder::insert` |
-//! | none, since a failed allocation changes no result | `finds_distinct_keys` |
 //! | the same | `TryFromSerializable::try_from_serializable` |
 //! | rows of decode and decode_within | `decode_value`, `decode_value_limited` |
 //! | rows of decode and read | `MapBuilder::new`, `MapBuilder::with_capacity`, `MapBuilder::into_value` |

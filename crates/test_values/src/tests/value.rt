@@ -2,8 +2,10 @@
 //! order are data of the program `test_rows`.
 
 mod conversions;
+mod distinct_keys;
 mod maps;
 mod order;
+mod writers;
 
 use amqp_value::laws;
 
