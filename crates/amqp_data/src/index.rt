@@ -98,8 +98,9 @@ pub(crate) fn add(heads: &mut [u32], earlier: &mut Vec<u32>, bucket: usize) -> b
     true
 }
 
-// Makes an index with `count` buckets. Returns `None` if `add` fails.
-fn build<K: Hash, V>(
+/// Makes an index with `count` buckets. Returns `None` if an allocation fails, or if there are 2³² - 1
+/// entries.
+pub(crate) fn build<K: Hash, V>(
     alloc: Global,
     entries: &[(K, V)],
     count: usize,

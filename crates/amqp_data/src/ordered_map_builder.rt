@@ -4,7 +4,7 @@ ghost use Rattle.std.specs.Prelude.{◌≡◌, [], IsOk, IfOk, IfErr, OnOk, OnEr
 ghost use Rattle.std.specs.Map.{lookup};
 ghost use Rattle.amqp_data.specs.Pairs.{entries_of, insert_pair};
 
-use crate::index::{add_last, locate};
+use crate::index::{add_last, build, locate};
 use crate::{Error, OrderedMap};
 use std::alloc::Global;
 use std::hash::Hash;
@@ -14,8 +14,8 @@ use std::mem;
 /// A map that is being built. It is a list of entries, and no two of its keys are equal.
 ///
 /// The calls behave as those of [`OrderedMap`], but many keys are found by their hashes: a key is
-/// compared with those in its bucket alone. An insertion after which the number of entries has
-/// doubled makes the index anew, and hashes all keys.
+/// compared with those in its bucket alone. An insertion after which there are more entries than
+/// buckets makes the index anew, twice as large, and hashes all keys.
 #[derive(Drop)]
 pub struct OrderedMapBuilder<K: Hash + Eq, V> {
     entries: Vec<(K, V)>,
@@ -53,11 +53,33 @@ impl<K: Hash + Eq, V> OrderedMapBuilder<K, V> {
         }
     }
 
+    /// Returns a collection without entries, with an index for `count` entries, which is larger
+    /// than necessary if there are fewer. If the allocation of the index fails, returns the same as
+    /// `new`.
+    ///
+    /// # Memory
+    /// The index takes 16 bytes for each of `count` entries, in two blocks, so `count` is a number of
+    /// entries that exist. Keeps `alloc` for later insertions.
+    pub fn with_index(alloc: Global, count: usize) -> Self
+        ensures { result ≡ [] }
+    {
+        let entries = Vec::new(alloc);
+        let (heads, earlier) = match build(alloc, &entries, count.saturating_mul(2).max(1)) {
+            Some(index) => index,
+            None => (Vec::new(alloc), Vec::new(alloc)),
+        };
+        OrderedMapBuilder {
+            entries,
+            heads,
+            earlier,
+        }
+    }
+
     /// Inserts a key with its value, and returns the previous value if the key was present.
     ///
     /// A key that is present keeps its position, and the key argument is dropped. A new key is
-    /// appended. The keys are searched in order up to 47 entries, and by an index from then on. The
-    /// hash has a fixed seed.
+    /// appended. The keys are searched by the index if there is one, and it is made at the latest for
+    /// the 48th entry. Before, the keys are searched in order. The hash has a fixed seed.
     ///
     /// # Errors
     /// Returns `Error::OutOfMemory` if an allocation for the entries fails. The entries are then
@@ -66,7 +88,8 @@ impl<K: Hash + Eq, V> OrderedMapBuilder<K, V> {
     ///
     /// # Memory
     /// Allocates nothing if the key is present. From 48 entries on, the index takes 8 to 16 bytes for
-    /// each entry. While it is made anew for more entries, there are two.
+    /// each entry, or what `with_index` took, if that is more. While it is made anew for more entries,
+    /// there are two.
     pub fn insert(&mut self, key: K, value: V) -> Result<Option<V>, Error>
     where
         K: Drop,
