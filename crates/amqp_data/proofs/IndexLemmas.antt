@@ -3,6 +3,7 @@ use Rattle.std.proofs.Common.{◌≡◌, ℕ, zero, suc, ◌<◌, ◌≤◌, Boo
 use Rattle.std.proofs.lemmas.Bool.{cases_order}
 use Rattle.std.proofs.lemmas.Bool.Decides.{nat_tests}
 use Rattle.std.proofs.lemmas.List.{get_or-map, length-map, map-append}
+use Rattle.std.specs.Bool.{OnTrue}
 use Rattle.std.specs.Cmp.{IsEquivalence}
 use Rattle.std.specs.Hash.{HashWrites}
 use Rattle.std.specs.List.{position_or_len}
@@ -185,3 +186,11 @@ indexed_next eq input symmetric heads earlier new_heads new_earlier es e b index
       chained = λ more. subst (λ (n : ℕ). IsChained new_heads new_earlier (buckets input n (es ++ e ∷ []))) (sym same)
           (subst (IsChained new_heads new_earlier) one (added (buckets input (length heads) es) (indexed.chained some)));
     }
+
+pub if_true : {P : Type 0} (b : Bool) → (b ≡ true → P) → OnTrue b P
+if_true true f = f refl
+if_true false f = tt
+
+pub unless_true : (P : Type 0) (b : Bool) → b ≡ false → OnTrue b P
+unless_true P true is = absurd (true≢false is)
+unless_true P false is = tt

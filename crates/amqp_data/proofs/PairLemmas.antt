@@ -1,8 +1,9 @@
 -- Lookup and insertion of a key, by its position in the list.
-use Rattle.std.proofs.Common.{◌≡◌, ℕ, zero, suc, ◌<◌, Bool, true, false, List, [], ◌∷◌, ◌++◌, length, get_or, slice_set, position, Some, None, refl, sym, ap, ◌∙◌, arith}
+use Rattle.std.proofs.Common.{◌≡◌, ℕ, zero, suc, ◌<◌, Bool, true, false, List, [], ◌∷◌, ◌++◌, length, get_or, slice_set, position, Some, None, refl, sym, ap, ◌∙◌, append_assoc, arith}
+use Rattle.std.proofs.lemmas.List.{append-nil}
 use Rattle.std.proofs.lemmas.List.Quantifiers.{position-Some}
 use Rattle.std.specs.Map.{keys_of, lookup}
-use Rattle.amqp_data.specs.Pairs.{insert_pair, LacksKey, AreDistinct}
+use Rattle.amqp_data.specs.Pairs.{insert_pair, insert_pairs, LacksKey, AreDistinct}
 use Rattle.amqp_data.proofs.Searches.{AllFail, fail_by_position}
 
 module _ {K V : Type 0} (eq : K → K → Bool) (k : K) where
@@ -74,3 +75,44 @@ module _ {K V : Type 0} (eq : K → K → Bool) (symmetric : (x y : K) → eq x 
   pub distinct_after : (es : List (K × V)) → AreDistinct eq (keys_of es) → AreDistinct eq (keys_of (insert_pair eq es k v))
   distinct_after [] distinct = (tt, tt)
   distinct_after (e ∷ es) distinct = distinct_step (eq k e.0) e es refl distinct (distinct_after es distinct.1)
+
+module _ {K V : Type 0} (eq : K → K → Bool) where
+  -- one more pair after others
+  pub insert_pairs_push : (es : List (K × V)) (e : K × V) (done : List (K × V)) → insert_pairs eq (es ++ e ∷ []) done ≡ insert_pair eq (insert_pairs eq es done) e.0 e.1
+  insert_pairs_push [] e done = refl
+  insert_pairs_push (x ∷ es) e done = insert_pairs_push es e (insert_pair eq done x.0 x.1)
+
+  fail_push : (p : K × V → Bool) (xs : List (K × V)) (x : K × V) → AllFail p xs → p x ≡ false → AllFail p (xs ++ x ∷ [])
+  fail_push p [] x fails is = (is, tt)
+  fail_push p (y ∷ xs) x fails is = (fails.0, fail_push p xs x fails.1 is)
+
+  -- no pair of the second list has a key of the first
+  abbrev AllMiss : List (K × V) → List (K × V) → Type 0
+  AllMiss [] done = Unit {0}
+  AllMiss (e ∷ es) done = AllFail (λ (x : K × V). eq e.0 x.0) done × AllMiss es done
+
+  miss_nothing : (es : List (K × V)) → AllMiss es []
+  miss_nothing [] = tt
+  miss_nothing (e ∷ es) = (tt, miss_nothing es)
+
+  miss_push : ((x y : K) → eq x y ≡ eq y x) → (es : List (K × V)) (e : K × V) (done : List (K × V)) → LacksKey eq e.0 (keys_of es) → AllMiss es done → AllMiss es (done ++ e ∷ [])
+  miss_push symmetric [] e done lacks misses = tt
+  miss_push symmetric (x ∷ es) e done lacks misses =
+      (fail_push (λ (y : K × V). eq x.0 y.0) done e misses.0 (symmetric x.0 e.0 ∙ lacks.0), miss_push symmetric es e done lacks.1 misses.1)
+
+  insert_onto : ((x y : K) → eq x y ≡ eq y x) → (es done : List (K × V)) → AreDistinct eq (keys_of es) → AllMiss es done → insert_pairs eq es done ≡ done ++ es
+  insert_onto symmetric [] done distinct misses = sym (append-nil done)
+  insert_onto symmetric (e ∷ es) done distinct misses =
+      ap (insert_pairs eq es) (insert_absent eq e.0 done e.1 misses.0)
+      ∙ insert_onto symmetric es (done ++ e ∷ []) distinct.1 (miss_push symmetric es e done distinct.0 misses.1)
+      ∙ append_assoc done (e ∷ []) es
+
+  -- pairs with distinct keys stay as they are
+  pub insert_pairs_distinct : ((x y : K) → eq x y ≡ eq y x) → (es : List (K × V)) → AreDistinct eq (keys_of es) → insert_pairs eq es [] ≡ es
+  insert_pairs_distinct symmetric es distinct = insert_onto symmetric es [] distinct (miss_nothing es)
+
+  -- a pair is inserted into pairs with distinct keys
+  pub inserted_one : ((x y : K) → eq x y ≡ eq y x) → (old new : List (K × V)) (k : K) (v : V) → AreDistinct eq (keys_of old) → AreDistinct eq (keys_of new)
+      → new ≡ insert_pair eq old k v → insert_pairs eq new [] ≡ insert_pair eq (insert_pairs eq old []) k v
+  inserted_one symmetric old new k v before after is =
+      insert_pairs_distinct symmetric new after ∙ is ∙ ap (λ es. insert_pair eq es k v) (sym (insert_pairs_distinct symmetric old before))

@@ -17,6 +17,11 @@ module _ {K V : Type 0} (eq : K → K → Bool) where
   insert_pair [] k v = (k, v) ∷ []
   insert_pair (e ∷ es) k v = if eq k e.0 then (e.0, v) ∷ es else e ∷ insert_pair es k v
 
+  -- inserts pairs in order
+  abbrev pub insert_pairs : List (K × V) → List (K × V) → List (K × V)
+  insert_pairs [] done = done
+  insert_pairs (e ∷ es) done = insert_pairs es (insert_pair done e.0 e.1)
+
 module _ {K : Type 0} (eq : K → K → Bool) where
   -- no key of the list equals k
   abbrev pub LacksKey : K → List K → Type 0

@@ -31,7 +31,7 @@ pub use byte_buf::ByteBuf;
 pub use decimal::{Dec32, Dec64, Dec128};
 pub use described::Described;
 pub use descriptor::Descriptor;
-pub use distinct_keys::finds_distinct_keys;
+pub use distinct_keys::{finds_distinct_keys, merge_repeated_keys};
 pub use error::Error;
 pub use format_code::EncodingCodes;
 pub use hexadecimal::{hexadecimal_digit, write_hexadecimal};

@@ -1,6 +1,6 @@
 use Rattle.amqp_data.proofs.IndexLemmas.{IsSearched}
 use Rattle.std.proofs.Common.{length}
-use Rattle.amqp_data.proofs.distinct_keys.differs_in_bucket.Given as goal
+use Rattle.amqp_data.proofs.distinct_keys.find_within.Given as goal
 
 -- the entries from the number on have been searched
 abbrev pub invariant-loop-number : goal.invariant-loop-number
