@@ -56,8 +56,13 @@ fn insert_in_order<K: Made>(list: &mut Vec<(K, u32)>, key: K, value: u32) -> Opt
 }
 
 /// Inserts so many entries into a map and a list, with less than `keys` different keys.
-fn same_as_in_order<K: Made>(alloc: Global, count: u32, keys: u32) -> bool {
-    let mut builder = OrderedMapBuilder::new(alloc);
+fn same_as_in_order<K: Made>(
+    alloc: Global,
+    empty: OrderedMapBuilder<K, u32>,
+    count: u32,
+    keys: u32,
+) -> bool {
+    let mut builder = empty;
     let mut list = Vec::new(alloc);
     let mut seed = count;
     for value in 0..count {
@@ -76,8 +81,22 @@ fn same_as_in_order<K: Made>(alloc: Global, count: u32, keys: u32) -> bool {
     builder.into_map().as_slice() == list.as_slice()
 }
 
-/// The numbers of entries: about the first index at 48 entries, and about the next at 97 and 195.
-const COUNTS: [u32; 12] = [0, 1, 2, 47, 48, 49, 96, 97, 98, 194, 195, 700];
+/// Does the same for a map without an index, one with an index for all entries, and one with an index
+/// for ten.
+fn same_with_and_without_index<K: Made>(alloc: Global, count: u32, keys: u32) -> bool {
+    same_as_in_order::<K>(alloc, OrderedMapBuilder::new(alloc), count, keys)
+        && same_as_in_order::<K>(
+            alloc,
+            OrderedMapBuilder::with_index(alloc, count as usize),
+            count,
+            keys,
+        )
+        && same_as_in_order::<K>(alloc, OrderedMapBuilder::with_index(alloc, 10), count, keys)
+}
+
+/// The numbers of entries: about the first index at 48 entries, about the next at 97 and 195, and
+/// about the next of an index for ten at 21.
+const COUNTS: [u32; 15] = [0, 1, 2, 20, 21, 22, 47, 48, 49, 96, 97, 98, 194, 195, 700];
 
 #[test]
 fn maps_are_built_as_by_searches_in_order(rt: HostRuntime) {
@@ -85,8 +104,8 @@ fn maps_are_built_as_by_searches_in_order(rt: HostRuntime) {
     for count in COUNTS {
         for keys in [1, 30, 60, 130, 1000000] {
             same = same
-                && same_as_in_order::<u32>(rt.alloc(), count, keys)
-                && same_as_in_order::<Alike>(rt.alloc(), count, keys);
+                && same_with_and_without_index::<u32>(rt.alloc(), count, keys)
+                && same_with_and_without_index::<Alike>(rt.alloc(), count, keys);
         }
     }
     assert!(rt; same, "maps are built as by searches in order");
