@@ -10,7 +10,8 @@ use std::str::from_utf8_unchecked;
 
 static DIGITS: [u8; 16] = *b"0123456789abcdef";
 
-/// Writes two hexadecimal digits for each byte.
+/// Writes two hexadecimal digits for each byte, at most 16 by one call of the writer: one that takes
+/// the text of a call whole or not at all has all but the last 15 of those that fit.
 ///
 /// # Errors
 /// Returns the formatter's error if its writer fails. Some of the digits may have been written.
@@ -25,46 +26,46 @@ pub fn write_hexadecimal<W: Write>(bytes: &[u8], f: &mut Formatter<W>) -> fmt::R
 {
     let mut from = 0;
     while from < bytes.len() {
-        let to = bytes.len().min(from + 32);
+        let to = bytes.len().min(from + 8);
         write_block(&bytes[from..to], f)?;
         from = to;
     }
     Ok(())
 }
 
-// Writes the digits of at most 32 bytes by one call.
+// Writes the digits of at most 8 bytes by one call.
 fn write_block<W: Write>(bytes: &[u8], f: &mut Formatter<W>) -> fmt::Result
-    requires { length bytes.now ≤ 32 }
+    requires { length bytes.now ≤ 8 }
     ensures { WritesOnOk W.write_str_gives f.old result (hex bytes.now) f.new }
 {
-    let mut digits = [0; 64];
+    let mut digits = [0; 16];
     put_block(bytes, &mut digits);
     f.write_str(unsafe { from_utf8_unchecked(&digits[..2 * bytes.len()]) })
 }
 
-// Puts two digits for each of at most 32 bytes at the start of `digits`.
+// Puts two digits for each of at most 8 bytes at the start of `digits`.
 #[inline(always)]
-fn put_block(bytes: &[u8], digits: &mut [u8; 64])
-    requires { length bytes.now ≤ 32 }
+fn put_block(bytes: &[u8], digits: &mut [u8; 16])
+    requires { length bytes.now ≤ 8 }
     ensures text { take (2 * length bytes.now) digits.new ≡ hex bytes.now }
     ensures ascii { IsAscii (hex bytes.now) }
 {
-    if bytes.len() < 32 {
+    if bytes.len() < 8 {
         put_digits(bytes, digits, 0);
     } else {
         put_whole(bytes, digits);
     }
 }
 
-// Puts the digits of 32 bytes. The digits are computed, and not read from a table, so that LLVM
+// Puts the digits of 8 bytes. The digits are computed, and not read from a table, so that LLVM
 // computes those of several bytes at once.
 #[inline(always)]
-fn put_whole(bytes: &[u8], digits: &mut [u8; 64])
-    requires { length bytes.now ≡ 32 }
+fn put_whole(bytes: &[u8], digits: &mut [u8; 16])
+    requires { length bytes.now ≡ 8 }
     ensures text { take (2 * length bytes.now) digits.new ≡ hex bytes.now }
     ensures ascii { IsAscii (hex bytes.now) }
 {
-    for index in 0..32 {
+    for index in 0..8 {
         digits[2 * index] = hexadecimal_digit(bytes[index] / 16);
         digits[2 * index + 1] = hexadecimal_digit(bytes[index] % 16);
     }
