@@ -10,8 +10,8 @@ use std::str::from_utf8_unchecked;
 
 static DIGITS: [u8; 16] = *b"0123456789abcdef";
 
-/// Writes two hexadecimal digits for each byte, at most 16 by one call of the writer: one that takes
-/// the text of a call whole or not at all has all but the last 15 of those that fit.
+/// Writes two hexadecimal digits for each byte, at most 16 by one call of the writer. A writer that
+/// takes the text of a call whole or not at all has all but the last 15 of those that fit.
 ///
 /// # Errors
 /// Returns the formatter's error if its writer fails. Some of the digits may have been written.

@@ -3,12 +3,16 @@
 ghost use Rattle.std.specs.Prelude.{◌≡◌, ◌-◌, ◌<◌, ◌≤◌, true, false, [], ◌∷◌, ◌++◌, length, take, drop, slice_index};
 ghost use Rattle.std.specs.Fmt.{WritesOnOk};
 ghost use Rattle.std.specs.List.{flat_map};
-ghost use Rattle.std.specs.Str.{chars};
+ghost use Rattle.std.specs.Str.{IsCharBoundary, chars};
 ghost use Rattle.amqp_value.specs.EscapedBytes.{byte_escaped};
 ghost use Rattle.amqp_value.specs.Text.{char_escaped, escaped, quoted, quoted_char, string_escaped};
 
 use std::fmt;
 use std::fmt::{Formatter, Write};
+
+// The most bytes of a string that are written by one call, in whole characters. A writer that takes
+// the text of a call whole or not at all has all of those that fit, but for fewer than so many.
+const PIECE: usize = 16;
 
 pub(crate) fn quote_char<W: Write>(c: char, f: &mut Formatter<W>) -> fmt::Result
     ensures { WritesOnOk W.write_str_gives f.old result (quoted_char c) f.new }
@@ -40,10 +44,34 @@ fn escape_all<W: Write>(text: &str, f: &mut Formatter<W>) -> fmt::Result
             continue;
         }
         let to = plain_end(bytes, from);
-        f.write_str(&text[from..to])?;
+        write_plain(&text[from..to], f)?;
         from = to;
     }
     Ok(())
+}
+
+// Writes a text as it is, in pieces of at most `PIECE` bytes.
+fn write_plain<W: Write>(text: &str, f: &mut Formatter<W>) -> fmt::Result
+    ensures { WritesOnOk W.write_str_gives f.old result text.now f.new }
+{
+    let mut rest = text;
+    while PIECE < rest.len() {
+        let (piece, after) = rest.split_at(piece_end(rest));
+        f.write_str(piece)?;
+        rest = after;
+    }
+    f.write_str(rest)
+}
+
+// Returns the end of the last character that ends within the first `PIECE` bytes of a longer text.
+#[inline(always)]
+fn piece_end(text: &str) -> usize
+    requires { PIECE < length text.now }
+    ensures low { 0 < result }
+    ensures high { result ≤ PIECE }
+    ensures boundary { IsCharBoundary text.now result }
+{
+    text.floor_char_boundary(PIECE)
 }
 
 // Returns the offset of the next byte after `from` that needs an escape in a string, or the length if
