@@ -147,7 +147,9 @@ fn push_size(taken: &mut Vec<u8>, size: &[u8]) -> Result<(), Error>
     Ok(())
 }
 
-// Makes room for `count` more bytes, and for no others in the first block.
+// Makes room for `count` more bytes, and for no others in the first block. While few bytes are held,
+// a count of at least the capacity takes a new block of exact size, and a smaller one doubles the
+// block, so that many small values are not copied one by one.
 fn make_room(taken: &mut Vec<u8>, count: usize) -> Result<(), Error>
     requires { count ≤ 4101 }
     ensures items { taken.new.items ≡ taken.old.items }
@@ -161,7 +163,7 @@ fn make_room(taken: &mut Vec<u8>, count: usize) -> Result<(), Error>
         *taken = Vec::with_capacity(*taken.allocator(), count)?;
         return Ok(());
     }
-    if len > COPIED {
+    if len > COPIED || count < taken.capacity() {
         taken.reserve(count)?;
         return Ok(());
     }
