@@ -1,13 +1,14 @@
 -- Sequences of calls of a reader.
-use Rattle.std.proofs.Common.{◌≡◌, ℕ, ◌+◌, ◌<◌, ◌≤◌, inl, inr, List, [], ◌++◌, Option, None, Some, Result, Ok, Err, IfErr, OnOk, IfSome, length, ◌-◌, take, drop, ap, ◌∙◌, arith, length-append, append_assoc}
+use Rattle.std.proofs.Common.{◌≡◌, ℕ, ◌+◌, ◌<◌, ◌≤◌, inl, inr, List, [], ◌++◌, Option, None, Some, Result, Ok, Err, IfErr, OnOk, IfSome, length, ◌-◌, take, drop, ap, ◌∙◌, arith, length-append, append_assoc, append-nil, sym}
 use Rattle.std.specs.Io.KnownBytes.{Consumes}
-use Rattle.std.proofs.KnownBytes.{Consumes-trans}
+use Rattle.std.proofs.KnownBytes.{Consumes-nil, Consumes-trans}
 use Rattle.std.proofs.lemmas.Bool.{cases_lt}
 use Rattle.std.proofs.Math.Seq.{drop-append_seam}
 use Rattle.amqp_frame.proofs.Primitive.{rest-is}
 use Rattle.amqp_data.specs.declared.error.Error.{Error}
 use Rattle.amqp_data.specs.declared.error.Error.TheVariants.{OutOfMemory, TooLong, InvalidValue, InvalidFormatCode, UnexpectedEof, Io, Message}
 use Rattle.amqp_frame.specs.declared.code.Category.{Category}
+use Rattle.amqp_frame.specs.declared.code.Category.TheVariants.{Fixed}
 use Rattle.amqp_frame.specs.Code.{size_width, body_len, payload_len}
 use Rattle.amqp_frame.specs.Reader.{Failed, RunsOut}
 use Rattle.amqp_frame.specs.Taking.{FrameRefuses, Moves}
@@ -72,6 +73,14 @@ moves-payload (Ok x) k a b c before mid after head n t m len e (body, u, v, size
     let whole : after ≡ before ++ (head ++ body) = v ∙ ap (λ l. l ++ body) m ∙ append_assoc before head body in
     (head ++ body, Consumes-trans a b c head body t u, whole, omega (arith, length-append head body))
 moves-payload (Err d) k a b c before mid after head n t m len e h = tt
+
+-- a payload of a fixed width of 0 is no bytes
+pub moves-none : {T : Type 0} (r : Result T Error) (k : Category) (a : Option (List ℕ)) (before after : List ℕ)
+    → k ≡ Fixed 0 → OnOk r (after ≡ before) → OnOk r (Moves a a before after (λ bytes. length bytes ≡ payload_len k bytes))
+unfolding size_width body_len
+moves-none (Ok x) k a before after fixed same =
+    ([], Consumes-nil a, same ∙ sym (append-nil before), rw fixed (λ i. 0))
+moves-none (Err d) k a before after fixed same = tt
 
 -- the bytes that follow `before`
 pub behind : (before head now : List ℕ) (at : ℕ) → now ≡ before ++ head → at ≡ length before

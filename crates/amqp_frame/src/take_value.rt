@@ -7,7 +7,7 @@ ghost use Rattle.amqp_frame.specs.Frame.{IsFrame};
 ghost use Rattle.amqp_frame.specs.Reader.{RunsOut};
 ghost use Rattle.amqp_frame.specs.Taking.{FrameRefuses, Moves, TakesIncomplete, TakesMalformed};
 
-use crate::code::{body_len_of, category_of, is_primitive, size_width_of};
+use crate::code::{Category, body_len_of, category_of, is_primitive, size_width_of};
 use crate::read::Read;
 use amqp_data::Error;
 use bytes::Bytes;
@@ -100,6 +100,9 @@ fn take_primitive<R: Read>(reader: &mut R, taken: &mut Vec<u8>, code: u8) -> Res
     ensures count { R.failures reader.old ≤ R.failures reader.new }
 {
     let category = category_of(code);
+    if let Category::Fixed(0) = category {
+        return push_code(taken, code);
+    }
     let mut size = [0; 4];
     let size = &mut size[..size_width_of(category)];
     read_size(reader, size)?;
@@ -135,6 +138,15 @@ fn push_header(taken: &mut Vec<u8>, code: u8, size: &[u8], body: u32) -> Result<
     push_size(taken, size)
 }
 
+// Appends a code.
+fn push_code(taken: &mut Vec<u8>, code: u8) -> Result<(), Error>
+    ensures ok { OnOk result (taken.new.items ≡ taken.old.items ++ code ∷ []) }
+    ensures memory { IsOkUnless result Error.OutOfMemory }
+{
+    taken.push(code)?;
+    Ok(())
+}
+
 // Appends the size of a payload, if it has one.
 fn push_size(taken: &mut Vec<u8>, size: &[u8]) -> Result<(), Error>
     ensures ok { OnOk result (taken.new.items ≡ taken.old.items ++ size.now) }
@@ -148,8 +160,8 @@ fn push_size(taken: &mut Vec<u8>, size: &[u8]) -> Result<(), Error>
 }
 
 // Makes room for `count` more bytes, and for no others in the first block. While few bytes are held,
-// a count of at least the capacity takes a new block of exact size, and a smaller one doubles the
-// block, so that many small values are not copied one by one.
+// a count of at least twice the capacity takes a new block of exact size, and a smaller one doubles
+// the block, so that many small values are not copied one by one.
 fn make_room(taken: &mut Vec<u8>, count: usize) -> Result<(), Error>
     requires { count ≤ 4101 }
     ensures items { taken.new.items ≡ taken.old.items }
@@ -163,7 +175,7 @@ fn make_room(taken: &mut Vec<u8>, count: usize) -> Result<(), Error>
         *taken = Vec::with_capacity(*taken.allocator(), count)?;
         return Ok(());
     }
-    if len > COPIED || count < taken.capacity() {
+    if len > COPIED || count / 2 < taken.capacity() {
         taken.reserve(count)?;
         return Ok(());
     }

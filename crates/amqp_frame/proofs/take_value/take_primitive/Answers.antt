@@ -1,7 +1,13 @@
-use Rattle.std.proofs.Common.{◌≡◌, ℕ, length, length-take, ap, ◌∙◌, arith}
+use Rattle.std.proofs.Common.{◌≡◌, ℕ, length, length-take, ap, sym, ◌∙◌, arith}
+use Rattle.amqp_frame.specs.declared.code.Category.TheVariants.{Fixed}
 use Rattle.amqp_frame.specs.Code.{category, size_width, body_len}
-use Rattle.amqp_frame.proofs.Taking.{refuses-last, falls-short-body, moves-payload}
+use Rattle.amqp_frame.proofs.Taking.{refuses-last, falls-short-body, moves-payload, moves-none}
 use Rattle.amqp_frame.proofs.take_value.take_primitive.Goals as goal
+
+pub returns-in-Fixed-eq0-clause-ok : goal.returns-in-Fixed-eq0-clause-ok
+returns-in-Fixed-eq0-clause-ok g c =
+    let fixed : category c.args.code ≡ Fixed 0 = sym c.category_of-category.ensures ∙ (c.in-Fixed-eq0.is ∙ (ap Fixed (sym c.in-Fixed-eq0.field-0-is) ∙ ap Fixed c.in-Fixed-eq0.field-0-test)) in
+    moves-none c.push_code.result _ _ _ _ fixed c.push_code.ensures.ok
 
 pub returns-clause-ok : goal.returns-clause-ok
 returns-clause-ok g c =
