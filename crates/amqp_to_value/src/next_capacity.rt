@@ -11,12 +11,19 @@ const LEAST: usize = 8;
 
 const GREATEST: usize = 128;
 
+// The maximum number of lists for which a capacity is reserved while they are open together, one in
+// the other.
+const MOST_OPEN: usize = 4;
+
 /// The capacity that is reserved for the next list, from those of the lists before it.
 ///
 /// A list grows from a capacity of 4 by doubling. If the last lists ended with the same capacity, as
 /// the rows of a table do, this capacity is reserved at the first element of the next one. If that
 /// list then needs half of it or less, the rest is freed when it ends, and twice as many equal lists
 /// must follow one another before a capacity is reserved again.
+///
+/// A list that contains such lists may have few elements. Since it ends after them, few lists that are
+/// open together have a reserved capacity.
 #[derive(Clone, Copy)]
 pub struct NextCapacity {
     // The capacity for the next list, or 0 to let it grow.
@@ -27,6 +34,9 @@ pub struct NextCapacity {
     equal: usize,
     // The number of such lists that is needed to reserve a capacity.
     needed: usize,
+    // The number of lists that have a first element and did not end, from the first one on for which
+    // a capacity was reserved; 0 if there is none. Lists that are dropped count too.
+    open: usize,
 }
 
 impl NextCapacity {
@@ -38,6 +48,7 @@ impl NextCapacity {
             last: 0,
             equal: 0,
             needed: 1,
+            open: 0,
         }
     }
 
@@ -48,13 +59,14 @@ impl NextCapacity {
         ensures items { items.new.items ≡ items.old.items }
         ensures room { IsTrue result → vec_len items.new < vec_capacity items.new }
     {
-        if self.next != 0 {
+        if (self.next | self.open) != 0 {
             return self.grow_first(items);
         }
         items.reserve(1).is_ok()
     }
 
-    // The part of `grow` if a capacity is to be reserved. If this fails, the list grows from 4.
+    // The part of `grow` if a capacity is to be reserved, or is reserved for an open list. If the
+    // allocation fails, the list grows from 4.
     #[inline(never)]
     fn grow_first(&mut self, items: &mut Vec<Value>) -> bool
         ensures items { items.new.items ≡ items.old.items }
@@ -62,7 +74,11 @@ impl NextCapacity {
     {
         if items.capacity() == 0 {
             let next = mem::replace(&mut self.next, 0);
-            if next >= LEAST && items.reserve_exact(next).is_ok() {
+            if self.open != 0 {
+                self.open = self.open.saturating_add(1);
+            }
+            if next >= LEAST && self.open <= MOST_OPEN && items.reserve_exact(next).is_ok() {
+                self.open = self.open.max(1);
                 return true;
             }
         }
@@ -75,6 +91,7 @@ impl NextCapacity {
     pub fn close(&mut self, items: Vec<Value>) -> Vec<Value>
         ensures { result.items ≡ items.items }
     {
+        self.open = self.open.saturating_sub(items.capacity().min(1));
         if items.capacity() < LEAST {
             self.next = 0;
             self.last = 0;

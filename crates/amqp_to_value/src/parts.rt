@@ -114,7 +114,10 @@ impl CollectedParts {
             IsOpenedImage (compound_tree self (Some ts)) result }
     {
         match self {
-            CollectedParts::List(items) => Ok(Value::List(capacity.close(items))),
+            CollectedParts::List(items) | CollectedParts::Transparent(items) => Ok(Value::List(
+                capacity.close(items),
+            )),
+            CollectedParts::Array(items) => Ok(Value::Array(Array::from(capacity.close(items)))),
             parts => parts.into_other(alloc, capacity),
         }
     }
