@@ -20,6 +20,7 @@ mod optional_field;
 mod serialize;
 mod serializer;
 mod struct_encoding;
+mod whole;
 
 pub use calls::compounds::SerializeCompounds;
 pub use calls::scalars::SerializeScalars;
@@ -36,6 +37,7 @@ pub use optional_field::OptionalField;
 pub use serialize::Serialize;
 pub use serializer::Serializer;
 pub use struct_encoding::StructEncoding;
+pub use whole::Whole;
 
 /// Builds the fields of a struct, in order: `fields! { "name": value, "other"?: option, .. }`.
 ///

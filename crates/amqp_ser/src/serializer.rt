@@ -1,6 +1,6 @@
 //! The serializer trait: its laws, its required methods, and the methods that values call.
 
-ghost use Rattle.std.specs.Prelude.{◌≡◌, ◌++◌, ◌∷◌, [], List, Option, Some, None, Result, Ok, Err, MatchResult, IfErr, IsErr, true};
+ghost use Rattle.std.specs.Prelude.{◌≡◌, ◌++◌, ◌∷◌, [], List, Option, Some, None, Result, Ok, Err, MatchResult, IfErr, IsErr, MatchOption, true};
 ghost use Rattle.amqp_ser.specs.Tree.{Tree, scalar, null, string, binary};
 ghost use Rattle.amqp_ser.specs.Fixed.{fixed_scalar};
 ghost use Rattle.amqp_ser.specs.Ends.{EndsPart};
@@ -11,6 +11,7 @@ ghost use Rattle.amqp_ser.specs.Marked.{with_marker};
 use crate::fixed::Fixed;
 use crate::kind::CompoundKind;
 use crate::marker::Marker;
+use crate::whole::Whole;
 
 /// A serializer: turns a data tree into a result, such as its length, its bytes or an untyped
 /// value.
@@ -286,4 +287,26 @@ pub trait Serializer {
         ensures { (start : Self) (kind : CompoundKind) (ps : List (Option Tree)) →
             has start kind self.old compound ps →
             complete kind ps ≡ true → permits start (tree_of_parts kind ps) result self.new };
+
+    /// Serializes a value without its parts being serialized one by one. Returns `None` if this
+    /// serializer does not support that for the value at this position: the caller then serializes
+    /// the parts.
+    ///
+    /// # Implementer notes
+    /// The provided method returns `None`. After `None` the serializer permits only what it
+    /// permitted before. If every part of a value were tried again after the value, the cost would
+    /// be quadratic in the depth: after a `None` from the value, return `None` for its parts.
+    ///
+    /// # Example
+    /// A serializer that measures may return 3 for the string `a`, `a10161`, or `None`.
+    #[inline(always)]
+    fn try_whole<W: Whole>(&mut self, whole: &W) -> Option<Self::Ok>
+        ensures { MatchOption result
+            ((t : Option Tree) (r : Result Self.Ok Self.Error) (after : Self) →
+            permits self.new t r after → permits self.old t r after)
+            (λ ok. permits self.old (Some (W.whole_tree whole.now)) (Ok ok) self.new) }
+    {
+        let _whole = whole;
+        None
+    }
 }

@@ -1,0 +1,42 @@
+//! Values that are measured and encoded without a serializer.
+
+ghost use Rattle.std.specs.Prelude.{◌≡◌, true, length, IfSome};
+ghost use Rattle.amqp_ser.specs.Tree.{Tree};
+ghost use Rattle.amqp_ser.specs.Encoding.{encoding};
+ghost use Rattle.amqp_ser.specs.Writable.{within_limits, uniform_arrays, inside, writable};
+
+use std::alloc::Global;
+
+/// A value that can measure and encode its data tree without a serializer.
+///
+/// A `Serialize` implementation passes such a value to [`Serializer::try_whole`](crate::Serializer)
+/// and serializes the parts of the value if the result is `None`.
+///
+/// # Implementer notes
+/// Each method may return `None` for any value: the caller then serializes the value, which finds
+/// the error if there is one. So `None` is the result for everything that is not supported, such as
+/// a value that exceeds a limit, or an allocation that failed.
+pub trait Whole {
+    /// The data tree of the value.
+    ghost whole_tree: { Self → Tree };
+
+    /// Returns the length of the encoding, or `None` if it is not measured, as for a tree that
+    /// cannot be written.
+    ///
+    /// # Example
+    /// The string `a` is `a10161`, of length 3.
+    fn whole_len(&self) -> Option<usize>
+        ensures { IfSome result (λ n. (within_limits (whole_tree self.now) ≡ true)
+            × ((uniform_arrays (whole_tree self.now) ≡ true)
+            × ((inside (whole_tree self.now) ≡ true)
+            × (n ≡ length (encoding (whole_tree self.now)))))) };
+
+    /// Returns the encoding, or `None` if the value is not encoded, as for a tree that cannot be
+    /// written or if an allocation fails.
+    ///
+    /// # Example
+    /// The string `a` is `a10161`.
+    fn whole_bytes(&self, alloc: Global) -> Option<Vec<u8>>
+        ensures { IfSome result (λ bytes. (writable (whole_tree self.now) ≡ true)
+            × (bytes.items ≡ encoding (whole_tree self.now))) };
+}
