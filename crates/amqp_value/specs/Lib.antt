@@ -15,3 +15,5 @@ pub mod MapBuilder
 pub mod Places
 pub mod ShortKeys
 pub mod EscapedBytes
+pub mod Measured
+pub mod Wrote

@@ -17,6 +17,7 @@ mod short_keys;
 mod show;
 mod try_from;
 mod value;
+mod whole;
 
 pub use map_builder::MapBuilder;
 pub use short_keys::is_short_key;

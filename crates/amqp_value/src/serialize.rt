@@ -9,34 +9,46 @@ use amqp_ser::{Serialize, SerializeScalars, Serializer};
 impl Serialize for Value {
     ghost tree = { λ v. Some (tree_of v) };
 
+    #[cycle(serialize)]
     fn serialize<S: Serializer>(&self, serializer: &mut S) -> Result<S::Ok, S::Error> {
-        match self {
-            Value::Described(v) => apart(v, serializer),
-            Value::Null => serializer.serialize_unit(),
-            Value::Bool(v) => v.serialize(serializer),
-            Value::Ubyte(v) => v.serialize(serializer),
-            Value::Ushort(v) => v.serialize(serializer),
-            Value::Uint(v) => v.serialize(serializer),
-            Value::Ulong(v) => v.serialize(serializer),
-            Value::Byte(v) => v.serialize(serializer),
-            Value::Short(v) => v.serialize(serializer),
-            Value::Int(v) => v.serialize(serializer),
-            Value::Long(v) => v.serialize(serializer),
-            Value::Float(v) => v.serialize(serializer),
-            Value::Double(v) => v.serialize(serializer),
-            Value::Decimal32(v) => v.serialize(serializer),
-            Value::Decimal64(v) => v.serialize(serializer),
-            Value::Decimal128(v) => v.serialize(serializer),
-            Value::Char(v) => v.serialize(serializer),
-            Value::Timestamp(v) => v.serialize(serializer),
-            Value::Uuid(v) => v.serialize(serializer),
-            Value::Binary(v) => v.serialize(serializer),
-            Value::String(v) => v.serialize(serializer),
-            Value::Symbol(v) => v.serialize(serializer),
-            Value::List(v) => apart(v, serializer),
-            Value::Map(v) => apart(v, serializer),
-            Value::Array(v) => apart(v, serializer),
+        match serializer.try_whole(self) {
+            Some(ok) => Ok(ok),
+            None => serialize_parts(self, serializer),
         }
+    }
+}
+
+/// Serializes a value through the methods of the serializer.
+#[cycle(serialize)]
+fn serialize_parts<S: Serializer>(value: &Value, serializer: &mut S) -> Result<S::Ok, S::Error>
+    ensures { S.permits serializer.old (Some (tree_of value.now)) result serializer.new }
+{
+    match value {
+        Value::Described(v) => apart(v, serializer),
+        Value::Null => serializer.serialize_unit(),
+        Value::Bool(v) => v.serialize(serializer),
+        Value::Ubyte(v) => v.serialize(serializer),
+        Value::Ushort(v) => v.serialize(serializer),
+        Value::Uint(v) => v.serialize(serializer),
+        Value::Ulong(v) => v.serialize(serializer),
+        Value::Byte(v) => v.serialize(serializer),
+        Value::Short(v) => v.serialize(serializer),
+        Value::Int(v) => v.serialize(serializer),
+        Value::Long(v) => v.serialize(serializer),
+        Value::Float(v) => v.serialize(serializer),
+        Value::Double(v) => v.serialize(serializer),
+        Value::Decimal32(v) => v.serialize(serializer),
+        Value::Decimal64(v) => v.serialize(serializer),
+        Value::Decimal128(v) => v.serialize(serializer),
+        Value::Char(v) => v.serialize(serializer),
+        Value::Timestamp(v) => v.serialize(serializer),
+        Value::Uuid(v) => v.serialize(serializer),
+        Value::Binary(v) => v.serialize(serializer),
+        Value::String(v) => v.serialize(serializer),
+        Value::Symbol(v) => v.serialize(serializer),
+        Value::List(v) => apart(v, serializer),
+        Value::Map(v) => apart(v, serializer),
+        Value::Array(v) => apart(v, serializer),
     }
 }
 

@@ -1,0 +1,23 @@
+use Rattle.std.proofs.Common.{◌≡◌, ◌≤◌, length, drop}
+use Rattle.amqp_value.specs.TreeOf.{all_of, pairs_trees}
+use Rattle.amqp_value.specs.Measured.{MeasuredEach, MeasuredPayloads, MeasuredPairs, IsLength}
+use Rattle.amqp_value.proofs.whole.measuring.+measure.Given as goal
+
+-- The parts from `at` on are measured.
+abbrev pub invariant-measure_list-loop-at : goal.invariant-measure_list-loop-at
+invariant-measure_list-loop-at g l = (l.at ≤ length l.items) × (IsLength l.len → MeasuredEach (all_of (drop l.at l.items)) l.len)
+
+abbrev pub invariant-measure_payloads-loop-at : goal.invariant-measure_payloads-loop-at
+invariant-measure_payloads-loop-at g l = (l.at ≤ length l.items) × (IsLength l.len → MeasuredPayloads (all_of (drop l.at l.items)) l.len)
+
+abbrev pub invariant-measure_map-loop-at : goal.invariant-measure_map-loop-at
+invariant-measure_map-loop-at g l = (l.at ≤ length l.pairs) × (IsLength l.len → MeasuredPairs (pairs_trees (drop l.at l.pairs)) l.len)
+
+abbrev pub decreases-measure_list-loop-at : goal.decreases-measure_list-loop-at
+decreases-measure_list-loop-at g l = l.at
+
+abbrev pub decreases-measure_payloads-loop-at : goal.decreases-measure_payloads-loop-at
+decreases-measure_payloads-loop-at g l = l.at
+
+abbrev pub decreases-measure_map-loop-at : goal.decreases-measure_map-loop-at
+decreases-measure_map-loop-at g l = l.at

@@ -1,0 +1,301 @@
+//! The bytes of a value, by recursion, with the lengths of bodies that `measure` recorded.
+//!
+//! No function assumes that a length is right: each is compared with the body that is written. If
+//! one differs, an array has elements of two types or the capacity is too small, the result is
+//! `false`, and the bytes that were appended are not used.
+
+ghost use Rattle.std.specs.Prelude.{◌≡◌, ◌<◌, true};
+ghost use Rattle.amqp_ser.specs.Tree.{list, array, map};
+ghost use Rattle.amqp_ser.specs.Tree as tree;
+ghost use Rattle.amqp_ser.specs.Carried.{descriptor_content};
+ghost use Rattle.amqp_value.specs.TreeOf.{tree_of, all_of, pairs_trees};
+ghost use Rattle.amqp_value.specs.Wrote.{Wrote, WrotePayload, WroteEach, WrotePairs, WroteContent, WrotePayloads};
+
+use crate::Value;
+use crate::whole::append::{
+    put, put_binary, put_descriptor, put_exact, put_few, put_int, put_long, put_string, put_symbol,
+    put_text_payload, put_timestamp, put_u16, put_u32, put_u64, put_uint, put_ulong,
+};
+use crate::whole::bodies::next;
+use crate::whole::constructors::constructor_of;
+use crate::whole::headers::{put_array_header, put_list_header, put_map_header, put_wide_header};
+use crate::whole::numbers::write_numbers;
+use amqp_data::{Described, EncodingCodes};
+
+/// Appends the encoding of a value.
+#[inline(always)]
+#[cycle(write)]
+pub(crate) fn write(value: &Value, lens: &mut Vec<usize>, out: &mut Vec<u8>) -> bool
+    ensures { result ≡ true → Wrote (tree_of value.now) out.old.items out.new.items }
+{
+    match value {
+        Value::Null => put_few(&[EncodingCodes::Null as u8], out),
+        Value::Bool(true) => put_few(&[EncodingCodes::BooleanTrue as u8], out),
+        Value::Bool(false) => put_few(&[EncodingCodes::BooleanFalse as u8], out),
+        Value::Ubyte(v) => put_few(&[EncodingCodes::Ubyte as u8, *v], out),
+        Value::Byte(v) => put_few(&[EncodingCodes::Byte as u8, v.cast_unsigned()], out),
+        Value::Ushort(v) => put_u16(EncodingCodes::Ushort as u8, *v, out),
+        Value::Short(v) => put_u16(EncodingCodes::Short as u8, v.cast_unsigned(), out),
+        Value::Uint(v) => put_uint(*v, out),
+        Value::Ulong(v) => put_ulong(*v, out),
+        Value::Int(v) => put_int(*v, out),
+        Value::Long(v) => put_long(*v, out),
+        Value::Float(v) => put_u32(EncodingCodes::Float as u8, v.into_inner(), out),
+        Value::Double(v) => put_u64(EncodingCodes::Double as u8, v.into_inner(), out),
+        Value::Char(v) => put_u32(EncodingCodes::Char as u8, *v as u32, out),
+        Value::Timestamp(v) => put_timestamp(v.milliseconds(), out),
+        Value::Decimal32(v) => put_exact(EncodingCodes::Decimal32 as u8, v.as_inner(), out),
+        Value::Decimal64(v) => put_exact(EncodingCodes::Decimal64 as u8, v.as_inner(), out),
+        Value::Decimal128(v) => put_exact(EncodingCodes::Decimal128 as u8, v.as_inner(), out),
+        Value::Uuid(v) => put_exact(EncodingCodes::Uuid as u8, v.as_inner(), out),
+        Value::Binary(v) => put_binary(v.as_inner(), out),
+        Value::String(v) => put_string(v.as_bytes(), out),
+        Value::Symbol(v) => put_symbol(v.as_inner().as_bytes(), out),
+        Value::List(v) => write_list(v, lens, out),
+        Value::Map(v) => write_map(v.as_slice(), lens, out),
+        Value::Array(v) => write_array(v.as_inner(), lens, out),
+        Value::Described(v) => write_described(v, lens, out),
+    }
+}
+
+/// Appends a list.
+#[inline(never)]
+#[cycle(write)]
+fn write_list(items: &[Value], lens: &mut Vec<usize>, out: &mut Vec<u8>) -> bool
+    ensures { result ≡ true → Wrote (list (all_of items.now)) out.old.items out.new.items }
+{
+    let len = next(lens);
+    if !put_list_header(len, items.len(), out) {
+        return false;
+    }
+    let start = out.len();
+    if !write_items(items, lens, out) {
+        return false;
+    }
+    out.len() - start == len
+}
+
+/// Appends the encodings of the elements of a list.
+#[inline(always)]
+#[cycle(write)]
+fn write_items(items: &[Value], lens: &mut Vec<usize>, out: &mut Vec<u8>) -> bool
+    ensures { result ≡ true → WroteEach (all_of items.now) out.old.items out.new.items }
+{
+    for item in items {
+        if !write(item, lens, out) {
+            return false;
+        }
+    }
+    true
+}
+
+/// Appends a map.
+#[inline(never)]
+#[cycle(write)]
+fn write_map(pairs: &[(Value, Value)], lens: &mut Vec<usize>, out: &mut Vec<u8>) -> bool
+    ensures { result ≡ true → Wrote (map (pairs_trees pairs.now)) out.old.items out.new.items }
+{
+    let len = next(lens);
+    if !put_map_header(len, pairs.len().saturating_mul(2), out) {
+        return false;
+    }
+    let start = out.len();
+    if !write_pairs(pairs, lens, out) {
+        return false;
+    }
+    out.len() - start == len
+}
+
+/// Appends the encodings of the keys and values of a map.
+#[inline(always)]
+#[cycle(write)]
+fn write_pairs(pairs: &[(Value, Value)], lens: &mut Vec<usize>, out: &mut Vec<u8>) -> bool
+    ensures { result ≡ true → WrotePairs (pairs_trees pairs.now) out.old.items out.new.items }
+{
+    for pair in pairs {
+        if !write(&pair.0, lens, out) {
+            return false;
+        }
+        if !write(&pair.1, lens, out) {
+            return false;
+        }
+    }
+    true
+}
+
+/// Appends an array.
+#[inline(never)]
+#[cycle(write)]
+fn write_array(items: &[Value], lens: &mut Vec<usize>, out: &mut Vec<u8>) -> bool
+    ensures { result ≡ true → Wrote (array (all_of items.now)) out.old.items out.new.items }
+{
+    let len = next(lens);
+    if !put_array_header(len, items.len(), out) {
+        return false;
+    }
+    let start = out.len();
+    if !write_content(items, lens, out) {
+        return false;
+    }
+    out.len() - start == len
+}
+
+/// Appends the content of an array: the constructor and the payloads of the elements.
+#[inline(always)]
+#[cycle(write)]
+fn write_content(items: &[Value], lens: &mut Vec<usize>, out: &mut Vec<u8>) -> bool
+    ensures { result ≡ true → WroteContent (all_of items.now) out.old.items out.new.items }
+{
+    match items.first() {
+        None => true,
+        Some(first) => {
+            let code = constructor_of(first);
+            if code == 0 {
+                return false;
+            }
+            if !put_few(&[code], out) {
+                return false;
+            }
+            write_elements(items, code, lens, out)
+        }
+    }
+}
+
+/// Appends the payloads of the elements. The common numbers have loops of their own, in which one
+/// comparison of the variant is left.
+#[inline(always)]
+#[cycle(write)]
+fn write_elements(items: &[Value], code: u8, lens: &mut Vec<usize>, out: &mut Vec<u8>) -> bool
+    ensures { result ≡ true → 0 < code →
+        WrotePayloads code (all_of items.now) out.old.items out.new.items }
+{
+    match code {
+        0x70 => write_numbers(items, 0x70, 4, out),
+        0x71 => write_numbers(items, 0x71, 4, out),
+        0x80 => write_numbers(items, 0x80, 8, out),
+        0x81 => write_numbers(items, 0x81, 8, out),
+        0x82 => write_numbers(items, 0x82, 8, out),
+        _ => write_payloads(items, code, lens, out),
+    }
+}
+
+/// Appends the payloads of the elements, which must have this constructor.
+#[inline(always)]
+#[cycle(write)]
+fn write_payloads(items: &[Value], code: u8, lens: &mut Vec<usize>, out: &mut Vec<u8>) -> bool
+    ensures { result ≡ true → 0 < code → WrotePayloads code (all_of items.now) out.old.items out.new.items }
+{
+    for item in items {
+        if constructor_of(item) != code {
+            return false;
+        }
+        if !write_payload(item, lens, out) {
+            return false;
+        }
+    }
+    true
+}
+
+/// Appends the payload of a value in an array, after the constructor.
+#[inline(always)]
+#[cycle(write)]
+fn write_payload(value: &Value, lens: &mut Vec<usize>, out: &mut Vec<u8>) -> bool
+    ensures { result ≡ true → WrotePayload (tree_of value.now) out.old.items out.new.items }
+{
+    match value {
+        Value::Null => true,
+        Value::Bool(true) => put_few(&[1], out),
+        Value::Bool(false) => put_few(&[0], out),
+        Value::Ubyte(v) => put_few(&[*v], out),
+        Value::Byte(v) => put_few(&[v.cast_unsigned()], out),
+        Value::Ushort(v) => put_few(&v.to_be_bytes(), out),
+        Value::Short(v) => put_few(&v.cast_unsigned().to_be_bytes(), out),
+        Value::Uint(v) => put_few(&v.to_be_bytes(), out),
+        Value::Int(v) => put_few(&v.cast_unsigned().to_be_bytes(), out),
+        Value::Ulong(v) => put_few(&v.to_be_bytes(), out),
+        Value::Long(v) => put_few(&v.cast_unsigned().to_be_bytes(), out),
+        Value::Float(v) => put_few(&v.into_inner().to_be_bytes(), out),
+        Value::Double(v) => put_few(&v.into_inner().to_be_bytes(), out),
+        Value::Char(v) => put_few(&(*v as u32).to_be_bytes(), out),
+        Value::Timestamp(v) => put_few(&v.milliseconds().cast_unsigned().to_be_bytes(), out),
+        Value::Decimal32(v) => put(v.as_inner(), out),
+        Value::Decimal64(v) => put(v.as_inner(), out),
+        Value::Decimal128(v) => put(v.as_inner(), out),
+        Value::Uuid(v) => put(v.as_inner(), out),
+        Value::Binary(v) => put_text_payload(v.as_inner(), out),
+        Value::String(v) => put_text_payload(v.as_bytes(), out),
+        Value::Symbol(v) => put_text_payload(v.as_inner().as_bytes(), out),
+        Value::List(v) => write_wide_list(v, lens, out),
+        Value::Map(v) => write_wide_map(v.as_slice(), lens, out),
+        Value::Array(v) => write_wide_array(v.as_inner(), lens, out),
+        Value::Described(_) => false,
+    }
+}
+
+/// Appends the payload of a list in an array.
+#[inline(never)]
+#[cycle(write)]
+fn write_wide_list(items: &[Value], lens: &mut Vec<usize>, out: &mut Vec<u8>) -> bool
+    ensures { result ≡ true → WrotePayload (list (all_of items.now)) out.old.items out.new.items }
+{
+    let len = next(lens);
+    if !put_wide_header(len, items.len(), out) {
+        return false;
+    }
+    let start = out.len();
+    if !write_items(items, lens, out) {
+        return false;
+    }
+    out.len() - start == len
+}
+
+/// Appends the payload of a map in an array.
+#[inline(never)]
+#[cycle(write)]
+fn write_wide_map(pairs: &[(Value, Value)], lens: &mut Vec<usize>, out: &mut Vec<u8>) -> bool
+    ensures { result ≡ true → WrotePayload (map (pairs_trees pairs.now)) out.old.items out.new.items }
+{
+    let len = next(lens);
+    if !put_wide_header(len, pairs.len().saturating_mul(2), out) {
+        return false;
+    }
+    let start = out.len();
+    if !write_pairs(pairs, lens, out) {
+        return false;
+    }
+    out.len() - start == len
+}
+
+/// Appends the payload of an array in an array.
+#[inline(never)]
+#[cycle(write)]
+fn write_wide_array(items: &[Value], lens: &mut Vec<usize>, out: &mut Vec<u8>) -> bool
+    ensures { result ≡ true → WrotePayload (array (all_of items.now)) out.old.items out.new.items }
+{
+    let len = next(lens);
+    if !put_wide_header(len, items.len(), out) {
+        return false;
+    }
+    let start = out.len();
+    if !write_content(items, lens, out) {
+        return false;
+    }
+    out.len() - start == len
+}
+
+/// Appends a described value.
+#[inline(never)]
+#[cycle(write)]
+fn write_described(described: &Described<Value>, lens: &mut Vec<usize>, out: &mut Vec<u8>) -> bool
+    ensures { result ≡ true →
+        Wrote (tree.described (descriptor_content described.now.descriptor) (tree_of described.now.value))
+        out.old.items out.new.items }
+{
+    if !put_few(&[EncodingCodes::DescribedType as u8], out) {
+        return false;
+    }
+    if !put_descriptor(&described.descriptor, out) {
+        return false;
+    }
+    write(&described.value, lens, out)
+}
