@@ -1,6 +1,6 @@
 //! Conversions of a text and of containers, which convert each element.
 
-ghost use Rattle.std.specs.Prelude.{◌≡◌, List, [], MatchResult, IsSomeAnd, IfErr};
+ghost use Rattle.std.specs.Prelude.{◌≡◌, ◌≤◌, List, [], MatchResult, IsSomeAnd, IfErr};
 ghost use Rattle.std.specs.List.{AllZip};
 ghost use Rattle.amqp_data.specs.Items.{array_items};
 ghost use Rattle.amqp_data.specs.Pairs.{entries_of};
@@ -113,9 +113,10 @@ impl Value {
     /// Returns `Error::OutOfMemory` if an allocation fails. The argument is dropped.
     ///
     /// # Memory
-    /// Allocates once from `alloc` for the entries, or not at all if there are none. To find equal
-    /// keys, it allocates as `MapBuilder::into_value` if all keys are short (`is_short_key`).
-    /// Otherwise it allocates a vector that grows, if there are equal keys.
+    /// Allocates once from `alloc` for the entries, or not at all if there are none. The capacity is
+    /// a power of two, at least 4, as after insertions one by one. To find equal keys, it allocates
+    /// as `MapBuilder::into_value` if all keys are short (`is_short_key`). Otherwise it allocates a
+    /// vector that grows, if there are equal keys.
     ///
     /// # Example
     /// `1u8` to `true` gives a `Map` that is encoded as `c10402500141`.
@@ -129,7 +130,7 @@ impl Value {
             (IsMapOf ⟦<Value as PartialEq>⟧.eq K.converts V.converts map.entries))
             (λ e. e ≡ Error.OutOfMemory) }
     {
-        let mut pairs = Vec::with_capacity(alloc, map.len())?;
+        let mut pairs = Vec::with_capacity(alloc, grown_capacity(map.len()))?;
         for (key, value) in map {
             pairs.push((key.into(), value.into()))?;
         }
@@ -145,9 +146,10 @@ impl Value {
     /// Returns `Error::OutOfMemory` if an allocation fails. The argument is dropped.
     ///
     /// # Memory
-    /// Allocates once from `alloc` for the entries, or not at all if there are none. To find equal
-    /// keys, it allocates as `MapBuilder::into_value` if all keys are short (`is_short_key`).
-    /// Otherwise it allocates a vector that grows, if there are equal keys.
+    /// Allocates once from `alloc` for the entries, or not at all if there are none. The capacity is
+    /// a power of two, at least 4, as after insertions one by one. To find equal keys, it allocates
+    /// as `MapBuilder::into_value` if all keys are short (`is_short_key`). Otherwise it allocates a
+    /// vector that grows, if there are equal keys.
     ///
     /// # Example
     /// The ubyte keys 2 to `true` and 1 to `false` give a `Map` that is encoded as
@@ -162,7 +164,7 @@ impl Value {
             (IsMapOf ⟦<Value as PartialEq>⟧.eq K.converts V.converts (entries_of map)))
             (λ e. e ≡ Error.OutOfMemory) }
     {
-        let mut pairs = Vec::with_capacity(alloc, map.len())?;
+        let mut pairs = Vec::with_capacity(alloc, grown_capacity(map.len()))?;
         for (key, value) in map.into_inner() {
             pairs.push((key.into(), value.into()))?;
         }
@@ -191,4 +193,15 @@ fn inserted(alloc: Global, pairs: Vec<(Value, Value)>) -> Result<Value, Error>
 {
     let entries = once_each_converted(alloc, pairs)?;
     Ok(Value::Map(OrderedMap::from_distinct(entries)))
+}
+
+// Returns the capacity of a vector of entries to which `len` entries were pushed: a power of two, at
+// least 4, or 0 for no entries.
+fn grown_capacity(len: usize) -> usize
+    ensures { len ≤ result }
+{
+    match len.checked_next_power_of_two() {
+        Some(capacity) if len > 0 => capacity.max(4),
+        _ => len,
+    }
 }
