@@ -227,6 +227,9 @@ fn read_list(
     ensures err { IfErr result (λ e. ¬ (e ≡ OutOfMemory) →
         parse_list (parse depth) (count, body.now) ≡ None) }
 {
+    if count == 0 && body.is_empty() {
+        return Ok(Value::List(Vec::new(alloc)));
+    }
     let room = reserved(count, body, spare);
     let mut list = Vec::with_capacity(alloc, room)?;
     let mut rest = body;

@@ -1,49 +1,51 @@
-//! How much memory is reserved for the elements of a list.
+//! How much memory is reserved for the elements of a list or a map.
 
 ghost use Rattle.std.specs.Prelude.{◌≡◌, ◌<◌, ◌≤◌, OnOk, vec_len, vec_capacity};
 
 use std::alloc::AllocError;
 
-/// The largest number of elements that are reserved by a count. They take 992 bytes.
-const MOST: usize = 31;
+/// The largest number of elements that are reserved by a count. They take 2,048 bytes.
+const MOST: usize = 64;
 
-/// The largest number of keys and values that are reserved by a count. They take 4,096 bytes.
-const MOST_OF_A_MAP: usize = 128;
+/// The largest number of entries that are reserved by a count. They take 4,096 bytes.
+const MOST_ENTRIES: u32 = 64;
 
-/// The smallest number of elements that are reserved later, if as many are missing.
+/// The smallest number of elements of a longer list, and of entries of a map, that are reserved.
 const LEAST: usize = 4;
 
-/// Returns for how many elements of a list memory is reserved before they are read.
+/// Returns for how many elements of a list memory is reserved before they are read: all of a list
+/// of at most 64, and four of a longer one.
 ///
-/// An element takes at least one byte of the body. A count that is larger than the body is false
-/// and reserves nothing; nor does one of more than `spare` elements.
+/// An element takes at least one byte of the body. A count that is larger than the body is false,
+/// and reserves at most four. No more than `spare` are reserved.
 #[inline(always)]
 pub fn reserved(count: u32, body: &[u8], spare: usize) -> usize
     ensures { result ≤ spare }
 {
-    reserved_up_to(MOST, count, body, spare)
+    let most = (count as usize).min(body.len());
+    if most == count as usize && most <= MOST && most <= spare {
+        most
+    } else {
+        most.min(LEAST).min(spare)
+    }
 }
 
-/// Like `reserved`, for the keys and values of a map.
+/// Returns for how many keys and values of a map memory is reserved before they are read: twice the
+/// capacity that a vector has after as many insertions, a power of two and at least 4 entries, for a
+/// map of at most 64.
+///
+/// A count that is larger than the body reserves nothing; nor does one for which more than `spare`
+/// would be reserved.
 #[inline(always)]
 pub fn reserved_of_a_map(count: u32, body: &[u8], spare: usize) -> usize
     ensures { result ≤ spare }
 {
-    reserved_up_to(MOST_OF_A_MAP, count, body, spare)
-}
-
-// Returns the count, or 0 if it is more than `most`, more than `spare`, or more than the body has
-// bytes.
-#[inline(always)]
-fn reserved_up_to(most: usize, count: u32, body: &[u8], spare: usize) -> usize
-    ensures { result ≤ spare }
-{
-    let count = count as usize;
-    if count <= spare && count <= body.len() && count <= most {
-        count
-    } else {
-        0
+    let entries = count / 2;
+    if entries == 0 || entries > MOST_ENTRIES || count as usize > body.len() {
+        return 0;
     }
+    let room = 2 * (entries as usize).next_power_of_two().max(LEAST);
+    if room <= spare { room } else { 0 }
 }
 
 /// Makes room for one more element of a list of which `missing` elements are missing.
@@ -52,7 +54,8 @@ fn reserved_up_to(most: usize, count: u32, body: &[u8], spare: usize) -> usize
 /// Returns `AllocError` if an allocation fails.
 ///
 /// # Memory
-/// Doubles the capacity if it is used up, but reserves no more than the missing elements.
+/// Doubles the capacity if it is used up, but reserves no more than the missing elements. A list
+/// with no capacity reserves one element.
 #[inline(always)]
 pub fn make_room<T>(list: &mut Vec<T>, missing: usize) -> Result<(), AllocError>
     requires { 0 < missing }
@@ -62,5 +65,10 @@ pub fn make_room<T>(list: &mut Vec<T>, missing: usize) -> Result<(), AllocError>
     if list.len() < list.capacity() {
         return Ok(());
     }
-    list.reserve_exact(list.len().max(LEAST).min(missing))
+    let more = if list.is_empty() {
+        1
+    } else {
+        list.len().max(LEAST)
+    };
+    list.reserve_exact(more.min(missing))
 }
