@@ -28,13 +28,13 @@ use std::alloc::Global;
 /// left over, and for every other invalid input. Returns `OutOfMemory` if an allocation fails.
 ///
 /// # Memory
-/// Allocates from `alloc`. Before its elements are read, a list of at most 64 reserves them, a map of
-/// at most 64 entries the next power of two of them, at least 4, and an array of numbers those whose
-/// bytes are there. A longer list reserves four. All open lists and maps together reserve in this
-/// way at most one element, of 32 bytes, for each byte of the input, a map two for each entry. If
-/// these are used up, a list reserves one, and a map nothing. Afterwards vectors double. An array
-/// whose elements have no bytes, such as nulls, takes memory for as many elements as its count says.
-/// `decode_value_limited` limits them.
+/// Allocates from `alloc`. A list of at most 64 elements reserves memory for all of them before the
+/// first is read, a longer list for four, a map of at most 64 entries for the next power of two of
+/// entries, at least four, and an array of numbers for those whose bytes are there. All open lists
+/// and maps together reserve in this way memory for at most one element, key or value for each byte
+/// of the input, 32 bytes each, and each list for at least one element. Capacities double as more
+/// elements are read. An array whose elements have no bytes, such as nulls, takes memory for as
+/// many elements as its count says. `decode_value_limited` limits them.
 ///
 /// # Example
 /// `43`, `5200` and `7000000000` are the uint 0.
