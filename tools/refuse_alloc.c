@@ -1,5 +1,6 @@
 /* Refuses one of the program's own requests for memory: the one whose number, from 1 on, stands in REFUSE. With 0 there
-   it refuses none, and prints how many there were. And it refuses each request for more bytes than stand in REFUSE_PAST.
+   it refuses none, and prints how many there were. It refuses each request from the one on whose number stands in
+   REFUSE_FROM, and each request for more bytes than stand in REFUSE_PAST.
    Requests that the C library makes for itself are not counted. Loaded before the C library. */
 #define _GNU_SOURCE
 #include <elf.h>
@@ -33,8 +34,11 @@ static int is_refused(const void *caller, size_t size) {
   if ((uintptr_t)caller < first || (uintptr_t)caller >= end) return 0;
   const char *past = getenv("REFUSE_PAST");
   if (past && size > strtoul(past, NULL, 10)) return 1;
+  number++;
+  const char *from = getenv("REFUSE_FROM");
+  if (from && number >= atol(from)) return 1;
   const char *at = getenv("REFUSE");
-  return at && ++number == atol(at);
+  return at && number == atol(at);
 }
 
 void *malloc(size_t size) { return is_refused(__builtin_return_address(0), size) ? NULL : __libc_malloc(size); }

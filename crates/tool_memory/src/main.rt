@@ -3,8 +3,8 @@
 //! `tools/memory` runs the part `calls` once for each of its allocations, with that allocation
 //! failing. The call that allocates must return `OutOfMemory`, and the program must end with status
 //! 1, unless the failed call is repeated. Any other result is visible as different output. The
-//! first argument selects one part: `calls`, `lengths`, `large`, or `none`, whose calls do not
-//! allocate.
+//! first argument selects one part: `calls`, `lengths`, `large`, `none`, whose calls do not
+//! allocate, or `inserted`, whose last calls do not.
 //!
 //! The file `rows` has more calls that allocate: rows of the program `test_rows`, which
 //! `tools/memory` runs once for each of their allocations too. Those of `optional_rows` make calls
@@ -59,6 +59,7 @@ mod accessors;
 mod again;
 mod calls;
 mod conversions;
+mod inserted;
 mod large;
 mod lengths;
 mod own_types;
@@ -103,6 +104,9 @@ fn make(rt: &(impl Print + AllocGlobal), part: &[u8]) -> Result<(), Error> {
     }
     if part.is_empty() || part == b"large".as_slice() {
         large::all(rt)?;
+    }
+    if part.is_empty() || part == b"inserted".as_slice() {
+        inserted::all(rt)?;
     }
     Ok(())
 }
