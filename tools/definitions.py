@@ -1,10 +1,11 @@
-"""The encodings of AMQP 1.0 part 1, section 1.6: the bytes of a tree, and the tree that bytes stand for.
+"""The encodings of AMQP 1.0 part 1, section 1.6: the codes, and the bytes of a tree. decoding.py reads them.
 
 A tree is a tuple of its kind and its content; None has no tree.
 """
 
 INVALID, EOF, CODE = "<invalid value>", "<unexpected end of input>", "<invalid format code>"
 FAULTS = (INVALID, EOF, CODE)
+MEMORY = "<out of memory>"
 
 # Kind: code in an array, and the bytes of its payload there; texts and compounds stand apart.
 FIXED = {
@@ -17,6 +18,12 @@ SIGNED = {"byte", "short", "int", "long", "timestamp"}
 RAW = {"decimal32", "decimal64", "decimal128", "uuid"}
 TEXTS = {"binary": 0xA0, "string": 0xA1, "symbol": 0xA3}
 COMPOUNDS = {"list": 0xC0, "map": 0xC1, "array": 0xE0}
+
+# Code of a shorter form of a scalar, or of the empty list: kind, bytes of its payload, and the content if it has none.
+SHORT = {
+    0x41: ("bool", 0, 1), 0x42: ("bool", 0, 0), 0x43: ("uint", 0, 0), 0x44: ("ulong", 0, 0), 0x45: ("list", 0, []),
+    0x52: ("uint", 1, None), 0x53: ("ulong", 1, None), 0x54: ("int", 1, None), 0x55: ("long", 1, None),
+}
 
 
 class Refused(Exception):
@@ -108,138 +115,3 @@ def written(tree):
     if tree[0] == "transparent":
         return b"".join(map(written, tree[1]))
     return encoding(tree)
-
-
-# What bytes stand for.
-
-
-def frozen(tree):
-    kind, content = tree
-    return (kind, tuple(map(frozen, content)) if isinstance(content, list) else content)
-
-
-def gathered(parts):
-    """A map: a present key keeps its place and takes the new value."""
-    entries = {}
-    for key, value in zip(parts[::2], parts[1::2]):
-        name = frozen(key)
-        entries[name] = (entries[name][0] if name in entries else key, value)
-    return ("map", [each for entry in entries.values() for each in entry])
-
-
-def frame_len(data):
-    """The length of the first encoded value, None where there is none."""
-    at, wanted = 0, 1
-    while wanted:
-        if at >= len(data):
-            return None
-        code, at, wanted = data[at], at + 1, wanted - 1
-        if code == 0:
-            wanted += 2
-            continue
-        if code < 0x40 or code & 15 == 15:
-            return None
-        high = code >> 4
-        width = {0xA: 1, 0xC: 1, 0xE: 1, 0xB: 4, 0xD: 4, 0xF: 4}.get(high, 0)
-        if at + width > len(data):
-            return None
-        length = int.from_bytes(data[at:at + width], "big") if width else {4: 0, 5: 1, 6: 2, 7: 4, 8: 8, 9: 16}[high]
-        at += width + length
-        if at > len(data):
-            return None
-    return at
-
-
-def decoded(data):
-    tree, at = decode(data, 0)
-    if at != len(data):
-        raise Refused(INVALID)
-    return tree
-
-
-CODES = {code: kind for kind, (code, _) in FIXED.items()}
-SHORT = {
-    0x41: ("bool", 0, 1), 0x42: ("bool", 0, 0), 0x43: ("uint", 0, 0), 0x44: ("ulong", 0, 0), 0x45: ("list", 0, []),
-    0x52: ("uint", 1, None), 0x53: ("ulong", 1, None), 0x54: ("int", 1, None), 0x55: ("long", 1, None),
-}
-
-
-def take(data, at, count):
-    if at + count > len(data):
-        raise Refused(EOF)
-    return data[at:at + count], at + count
-
-
-def decode(data, at, depth=256):
-    """The value that comes first, at most so deep, and the place after it. A descriptor has no parts: its depth is 0."""
-    (code,), at = take(data, at, 1)
-    if code:
-        return contents(code, data, at, depth)
-    if depth < 2:
-        raise Refused(INVALID)
-    (code,), at = take(data, at, 1)
-    if code == 0:
-        raise Refused(INVALID)
-    descriptor, at = contents(code, data, at, 0)
-    if descriptor[0] not in ("ulong", "symbol"):
-        raise Refused(INVALID)
-    tree, at = decode(data, at, depth - 1)
-    return ("described", [descriptor, tree]), at
-
-
-def contents(code, data, at, depth):
-    if code in SHORT:
-        kind, width, content = SHORT[code]
-        found, at = take(data, at, width)
-        return (kind, content if content is not None else int.from_bytes(found, "big", signed=kind in SIGNED)), at
-    if code in CODES:
-        return scalar(CODES[code], data, at)
-    wide = 4 if code & 0x10 else 1
-    kind = {**TEXTS, **COMPOUNDS}
-    kind = next((name for name, short in kind.items() if short == code & ~0x10), None)
-    if kind is None:
-        raise Refused(CODE)
-    size, at = take(data, at, wide)
-    inner, at = take(data, at, int.from_bytes(size, "big"))
-    if kind in TEXTS:
-        if kind != "binary":
-            utf8(inner)
-        return (kind, inner), at
-    if depth == 0:
-        raise Refused(INVALID)
-    return elements(kind, inner, wide, depth), at
-
-
-def utf8(data):
-    try:
-        return data.decode("utf-8")
-    except UnicodeDecodeError:
-        raise Refused(INVALID) from None
-
-
-def scalar(kind, data, at):
-    found, at = take(data, at, FIXED[kind][1])
-    content = found if kind in RAW else int.from_bytes(found, "big", signed=kind in SIGNED)
-    if kind == "bool" and content > 1 or kind == "char" and (content > 0x10FFFF or 0xD800 <= content < 0xE000):
-        raise Refused(INVALID)
-    return (kind, content), at
-
-
-def elements(kind, inner, wide, depth):
-    count, at = take(inner, 0, wide)
-    count = int.from_bytes(count, "big")
-    parts = []
-    if kind == "array" and (count or at < len(inner)):
-        (code,), at = take(inner, at, 1)
-        if code == 0:
-            raise Refused(INVALID)
-        if code not in SHORT and code not in CODES and (code & ~0x10) not in (*TEXTS.values(), *COMPOUNDS.values()):
-            raise Refused(CODE)
-    if kind == "map" and count % 2 or count and depth < 2:
-        raise Refused(INVALID)
-    for _ in range(count):
-        part, at = contents(code, inner, at, depth - 1) if kind == "array" else decode(inner, at, depth - 1)
-        parts.append(part)
-    if at != len(inner):
-        raise Refused(INVALID)
-    return gathered(parts) if kind == "map" else (kind, parts)

@@ -1,9 +1,11 @@
 """Compares the results that the program tool_trees prints with those of an evaluator in plain Python.
 
-    differential.py PROGRAM SEED COUNT    runs the program once on random rows (grow.py), and prints the first that differs
+    differential.py PROGRAM SEED COUNT    runs the program once on random rows (grow.py) and as many rows of one encoding,
+                                          most of which is malformed (malformed.py), and prints the first that differs
     differential.py --expected            reads rows, and prints what the program has to print for them
 
-The encodings are in definitions.py, the text of a value in shown.py, and the trees of nodes and of rows in nodes.py.
+The encodings are in definitions.py, what bytes stand for, with the order of faults, in decoding.py, the text of a value in
+shown.py, and the trees of nodes and of rows in nodes.py.
 Several errors may come first for some rows. --expected then prints one of them: if a row of its input is followed by
 results of the program, the error there if it is permitted, else the first one.
 """
@@ -11,14 +13,21 @@ results of the program, the error there if it is permitted, else the first one.
 import subprocess
 import sys
 import tempfile
+from itertools import zip_longest
 from random import Random
+from resource import RLIMIT_AS, setrlimit
 
-from definitions import FAULTS, INVALID, Refused, decoded, frame_len, frozen, written
-from grow import rows
+from decoding import decoded, frame_len, frozen
+from definitions import FAULTS, INVALID, MEMORY, Refused, written
+from grow import Grower, rows
+from malformed import malformed
 from nodes import image, tree_of
 from shown import shown
 
 SIGN = " = "
+
+# How many bytes the program may have, beside eight for each of its input.
+MEMORY_LIMIT = 2 ** 26
 
 
 def answer(make):
@@ -61,6 +70,14 @@ def results(tree, row):
     return fields + [on_one_line(value), refusal or again.hex(), same, "="]
 
 
+def answers(row):
+    """The fields of the results of a row, or its only field if it is not well formed."""
+    try:
+        return results(tree_of(row), row)
+    except Refused as refused:
+        return [refused.args[0]]
+
+
 def holds(found, wanted):
     return found == wanted or isinstance(wanted, (list, tuple)) and found in wanted
 
@@ -68,31 +85,48 @@ def holds(found, wanted):
 # Random rows.
 
 
-def printed(program, grown):
-    """The lines that the program prints for these rows. Exits if it fails, or prints more or fewer lines."""
+def printed(program, given):
+    """The lines that the program prints for these rows. Exits if it fails, or prints more or fewer lines.
+
+    Its memory is limited, so that a call fails which allocates what a false count says.
+    """
+    text = "".join(row + "\n" for row in given).encode()
+    most = MEMORY_LIMIT + 8 * len(text)
     with tempfile.TemporaryFile() as file:
-        file.write("".join(row + "\n" for _, row in grown).encode())
+        file.write(text)
         file.seek(0)
-        ran = subprocess.run([program], stdin=file, stdout=subprocess.PIPE)
+        ran = subprocess.run(
+            [program], stdin=file, stdout=subprocess.PIPE, preexec_fn=lambda: setrlimit(RLIMIT_AS, (most, most))
+        )
     lines = ran.stdout.decode().split("\n")
-    if ran.returncode != 0 or lines.pop() != "" or len(lines) != len(grown):
-        sys.exit(f"tool_trees ended with status {ran.returncode} after {len(lines)} lines for {len(grown)} rows")
+    if ran.returncode != 0 or lines.pop() != "" or len(lines) != len(given):
+        sys.exit(f"tool_trees ended with status {ran.returncode} after {len(lines)} lines for {len(given)} rows")
     return lines
 
 
 def compare(program, seed, count):
-    grown = list(rows(Random(seed), count))
-    refused = 0
-    for (tree, row), line in zip(grown, printed(program, grown)):
-        given, _, fields = line.partition(SIGN)
-        found, wanted = [given, *fields.split("\t")], [row, *results(tree, row)]
-        refused += wanted[1] == INVALID
-        if len(found) != len(wanted) or not all(map(holds, found, wanted)):
-            print("tool_trees and the evaluator differ:")
-            for ours, other in zip(found, wanted):
-                print("  " + ours if holds(ours, other) else f"! {ours}\n  {other}")
-            sys.exit(1)
-    print(f"of {count} random trees, {refused} of which are refused, each answer is the evaluator's")
+    grower = Grower(Random(seed))
+    grown = list(rows(grower, count))
+    encodings = malformed(grower, [tree for tree, _ in grown], count)
+    lines = printed(program, [row for _, row in grown] + encodings)
+    refused = sum(compare_row(row, line, results(tree, row)) for (tree, row), line in zip(grown, lines))
+    faulty = sum(compare_row(row, line, answers(row)) for row, line in zip(encodings, lines[count:]))
+    print(
+        f"of {count} random trees, {refused} of which are refused, "
+        f"and {count} encodings, {faulty} of which are refused, each answer is the evaluator's"
+    )
+
+
+def compare_row(row, line, fields):
+    """Whether the row is refused. Exits if the program's line does not have these results."""
+    given, _, printed_fields = line.partition(SIGN)
+    found, wanted = [given, *printed_fields.split("\t")], [row, *fields]
+    if len(found) != len(wanted) or not all(map(holds, found, wanted)):
+        print("tool_trees and the evaluator differ:")
+        for ours, other in zip_longest(found, wanted, fillvalue=""):
+            print("  " + ours if holds(ours, other) else f"! {ours}\n  {other}")
+        sys.exit(1)
+    return fields[0] in (*FAULTS, MEMORY)
 
 
 # Rows that are given.
@@ -109,15 +143,14 @@ def expected(line):
     if not line or line.startswith("#"):
         return line
     row, _, found = line.partition(SIGN)
-    try:
-        wanted = results(tree_of(row), row)
-    except Refused as refused:
-        wanted = [refused.args[0]]
+    wanted = answers(row)
     found = found.split("\t") + [""] * len(wanted)
     return row + SIGN + "\t".join(map(chosen, wanted, found))
 
 
 def main():
+    # A value has up to 256 levels, each of which takes some calls.
+    sys.setrecursionlimit(10_000)
     if sys.argv[1:] == ["--expected"]:
         lines = sys.stdin.buffer.read().decode().split("\n")
         sys.stdout.buffer.write("\n".join(map(expected, lines)).encode())

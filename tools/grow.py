@@ -4,7 +4,8 @@ A row has the tokens of a tree in reverse Polish notation (crates/tool_trees/src
 limits of the short forms, numbers near the boundaries of their widths, and characters often those that a text escapes.
 """
 
-from definitions import FIXED, RAW, SIGNED, Refused, encoding, frame_len, written
+from decoding import frame_len
+from definitions import FIXED, RAW, SIGNED, Refused, encoding, written
 from nodes import FED, MARKS, combined, compound, image_or_itself
 
 # The kinds of scalars. Those before `float` are numbers, those from `char` on have any length.
@@ -188,9 +189,8 @@ def lazy_of(data):
     return ("lazy", data), ["lazy:" + data.hex()]
 
 
-def rows(random, count):
+def rows(grower, count):
     """Random trees, each with its row."""
-    grower = Grower(random)
     for _ in range(count):
         tree, tokens = grower.tree()
         yield tree, " ".join(tokens)

@@ -4,7 +4,12 @@ A tree is a tuple of its kind and its content (definitions.py). A node that has 
 is the value that its bytes encode, at most 256 deep.
 """
 
-from definitions import INVALID, Refused, decoded, frame_len, gathered
+from decoding import decoded, frame_len, gathered
+from definitions import INVALID, Refused
+
+
+# The limit of the token `limited` (crates/tool_trees/src/row.rt).
+LIMIT = 1000
 
 
 def of(kind, parts):
@@ -130,6 +135,8 @@ def with_argument(stack, name, argument):
         if frame_len(content) != len(content):
             raise Refused(INVALID)
         return ("lazy", content)
+    if name == "limited":
+        return decoded(bytes_of(argument), LIMIT)
     if not argument.isdecimal():
         raise Refused("<no number>")
     parts = popped(stack, int(argument))

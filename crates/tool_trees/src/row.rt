@@ -3,13 +3,16 @@
 use crate::fed::{Fed, Way};
 use crate::node::Node;
 use amqp_data::{Array, Error, OrderedMap, TransparentVec};
-use amqp_decode::decode_value;
+use amqp_decode::{decode_value, decode_value_limited};
 use amqp_frame::LazyValue;
 use amqp_ser::Marker;
 use amqp_to_value::to_value;
 use bytes::Bytes;
 use hex::FromHexError;
 use std::alloc::Global;
+
+/// The limit of the elements without bytes in an array of a token `limited`.
+const LIMIT: u32 = 1000;
 
 /// Returns the node of the row.
 pub fn node_of(alloc: Global, row: &str) -> Result<Node, Error> {
@@ -48,6 +51,10 @@ fn with_argument(
 ) -> Result<Node, Error> {
     if name == "lazy" {
         return lazy(alloc, argument);
+    }
+    if name == "limited" {
+        let bytes = bytes_of(alloc, argument)?;
+        return Ok(Node::Value(decode_value_limited(alloc, &bytes, LIMIT)?));
     }
     compound(alloc, name, pop_several(stack, number_of(argument)?)?)
 }
