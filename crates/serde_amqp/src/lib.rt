@@ -2,9 +2,10 @@
 //!
 //! One `Serialize` implementation provides the length of a value's encoding ([`serialized_size`],
 //! without allocating), the encoding ([`to_vec`]) and the untyped [`Value`] ([`to_value`]). One
-//! `Deserialize` implementation reads a type from a [`Value`] ([`from_value`]). [`lazy::LazyValue`]
-//! reads one encoded value from any reader without decoding its content; [`to_value`] decodes it,
-//! as [`decode::decode_value`] decodes bytes.
+//! `Deserialize` implementation reads a type from bytes ([`from_slice`]), from a reader
+//! ([`from_reader`]) and from a [`Value`] ([`from_value`]). [`lazy::LazyValue`] reads one encoded
+//! value from any reader without decoding its content; [`lazy::ReadLazy`] reads a type from it, and
+//! [`to_value`] decodes it, as [`decode::decode_value`] decodes bytes.
 //!
 //! This crate is the top of the workspace. Its modules re-export items of the crates below under
 //! the names of the Rust crate `serde_amqp`. It adds [`Write`], the counterpart of [`read::Read`],
@@ -34,6 +35,7 @@ mod write;
 mod writers;
 
 pub use amqp_data::Error;
+pub use amqp_from_slice::{from_reader, from_slice, round_trip_bytes};
 pub use amqp_from_value::from_value;
 pub use amqp_size::serialized_size;
 pub use amqp_to_value::to_value;

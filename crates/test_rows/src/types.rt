@@ -3,12 +3,14 @@
 use crate::compounds;
 use crate::notation::bytes_of;
 use crate::results::results;
+use crate::row::refusal;
 use amqp_data::{ByteBuf, Dec32, Dec64, Dec128, Error, F32Bits, F64Bits, Symbol, Timestamp, Uuid};
 use amqp_de::de::Deserialize;
 use amqp_decode::decode_value;
+use amqp_frame::{LazyValue, Read, SliceReader, is_frame};
+use amqp_from_slice::{ReadLazy, from_reader, from_slice};
 use amqp_from_value::from_value;
 use amqp_ser::Serialize;
-use amqp_value::Value;
 use std::alloc::Global;
 
 // The types whose values are scalars.
@@ -48,14 +50,14 @@ pub fn read(alloc: Global, arguments: &str) -> Result<String, Error> {
 /// `InvalidValue` is returned.
 pub fn readers(alloc: Global, bytes: &[u8]) -> Result<String, Error> {
     let mut names = String::new(alloc);
+    let invalid = refusal(alloc, &Error::InvalidValue)?;
     for name in &SCALARS {
-        match by_name(alloc, *name, bytes) {
-            Ok(_) => {
-                names.push_str(if names.is_empty() { "" } else { " " })?;
-                names.push_str(*name)?;
-            }
-            Err(Error::InvalidValue) => {}
-            Err(error) => return Err(error),
+        let text = by_name(alloc, *name, bytes)?;
+        if !text.starts_with('<') {
+            names.push_str(if names.is_empty() { "" } else { " " })?;
+            names.push_str(*name)?;
+        } else if text != invalid {
+            return Ok(text);
         }
     }
     if names.is_empty() {
@@ -65,49 +67,89 @@ pub fn readers(alloc: Global, bytes: &[u8]) -> Result<String, Error> {
 }
 
 fn by_name(alloc: Global, name: &str, bytes: &[u8]) -> Result<String, Error> {
-    let value = decode_value(alloc, bytes)?;
     if SCALARS.contains(&name) {
-        scalar(alloc, name, value)
+        scalar(alloc, name, bytes)
     } else {
-        compounds::read(alloc, name, value)
+        compounds::read(alloc, name, bytes)
     }
 }
 
-/// Reads the value as this type, and returns the results of what was read.
-pub fn read_as<T: Serialize + Deserialize>(alloc: Global, value: Value) -> Result<String, Error> {
-    let read: T = from_value(alloc, value)?;
-    results(alloc, &read)
+/// Reads the bytes as this type by `decode_value` and `from_value`, and returns the results of what
+/// was read. Each other call that reads a type from bytes must have the same results.
+pub fn read_as<T: Serialize + Deserialize>(alloc: Global, bytes: &[u8]) -> Result<String, Error> {
+    let by_value = match decode_value(alloc, bytes) {
+        Ok(value) => text_of(alloc, from_value::<T>(alloc, value))?,
+        Err(error) => refusal(alloc, &error)?,
+    };
+    let by_slice = text_of(alloc, from_slice::<T>(alloc, bytes))?;
+    if by_slice != by_value {
+        return Ok(format!(in alloc; "{by_value}, but from_slice {by_slice}")?);
+    }
+    if is_frame(bytes) {
+        let by_reader = text_of(alloc, from_longer::<T>(alloc, bytes))?;
+        let lazy = LazyValue::from_reader(alloc, &mut SliceReader::new(bytes))?;
+        let by_lazy = text_of(alloc, lazy.read::<T>(alloc))?;
+        if by_reader != by_value || by_lazy != by_value {
+            return Ok(format!(in alloc; "{by_value}, but {by_reader} and {by_lazy}")?);
+        }
+    }
+    Ok(by_value)
 }
 
-fn scalar(alloc: Global, name: &str, value: Value) -> Result<String, Error> {
-    match name {
-        "()" => read_as::<()>(alloc, value),
-        "bool" => read_as::<bool>(alloc, value),
-        "u8" => read_as::<u8>(alloc, value),
-        "u16" => read_as::<u16>(alloc, value),
-        "u32" => read_as::<u32>(alloc, value),
-        "u64" => read_as::<u64>(alloc, value),
-        "i8" => read_as::<i8>(alloc, value),
-        "i16" => read_as::<i16>(alloc, value),
-        "i32" => read_as::<i32>(alloc, value),
-        "i64" => read_as::<i64>(alloc, value),
-        "char" => read_as::<char>(alloc, value),
-        "String" => read_as::<String>(alloc, value),
-        _ => data(alloc, name, value),
+// Returns the results of what was read, or the error in angle brackets. Out of memory is returned as
+// an error.
+fn text_of<T: Serialize + Deserialize>(
+    alloc: Global,
+    read: Result<T, Error>,
+) -> Result<String, Error> {
+    match read {
+        Ok(read) => results(alloc, &read),
+        Err(Error::OutOfMemory) => Err(Error::OutOfMemory),
+        Err(error) => refusal(alloc, &error),
     }
 }
 
-fn data(alloc: Global, name: &str, value: Value) -> Result<String, Error> {
+// Reads the type from a reader over the bytes and a null, which must remain.
+fn from_longer<T: Deserialize>(alloc: Global, bytes: &[u8]) -> Result<T, Error> {
+    let mut longer = Vec::from_slice(alloc, bytes)?;
+    longer.push(0x40)?;
+    let mut reader = SliceReader::new(&longer);
+    let read = from_reader::<T, SliceReader<'_>>(alloc, &mut reader);
+    if reader.next()? != Some(0x40) || reader.next()?.is_some() {
+        return Err(Error::Message("not exactly one encoded value was read"));
+    }
+    read
+}
+
+fn scalar(alloc: Global, name: &str, bytes: &[u8]) -> Result<String, Error> {
     match name {
-        "F32Bits" => read_as::<F32Bits>(alloc, value),
-        "F64Bits" => read_as::<F64Bits>(alloc, value),
-        "Dec32" => read_as::<Dec32>(alloc, value),
-        "Dec64" => read_as::<Dec64>(alloc, value),
-        "Dec128" => read_as::<Dec128>(alloc, value),
-        "Timestamp" => read_as::<Timestamp>(alloc, value),
-        "Uuid" => read_as::<Uuid>(alloc, value),
-        "ByteBuf" => read_as::<ByteBuf>(alloc, value),
-        "Symbol" => read_as::<Symbol>(alloc, value),
+        "()" => read_as::<()>(alloc, bytes),
+        "bool" => read_as::<bool>(alloc, bytes),
+        "u8" => read_as::<u8>(alloc, bytes),
+        "u16" => read_as::<u16>(alloc, bytes),
+        "u32" => read_as::<u32>(alloc, bytes),
+        "u64" => read_as::<u64>(alloc, bytes),
+        "i8" => read_as::<i8>(alloc, bytes),
+        "i16" => read_as::<i16>(alloc, bytes),
+        "i32" => read_as::<i32>(alloc, bytes),
+        "i64" => read_as::<i64>(alloc, bytes),
+        "char" => read_as::<char>(alloc, bytes),
+        "String" => read_as::<String>(alloc, bytes),
+        _ => data(alloc, name, bytes),
+    }
+}
+
+fn data(alloc: Global, name: &str, bytes: &[u8]) -> Result<String, Error> {
+    match name {
+        "F32Bits" => read_as::<F32Bits>(alloc, bytes),
+        "F64Bits" => read_as::<F64Bits>(alloc, bytes),
+        "Dec32" => read_as::<Dec32>(alloc, bytes),
+        "Dec64" => read_as::<Dec64>(alloc, bytes),
+        "Dec128" => read_as::<Dec128>(alloc, bytes),
+        "Timestamp" => read_as::<Timestamp>(alloc, bytes),
+        "Uuid" => read_as::<Uuid>(alloc, bytes),
+        "ByteBuf" => read_as::<ByteBuf>(alloc, bytes),
+        "Symbol" => read_as::<Symbol>(alloc, bytes),
         _ => Err(Error::Message("no such type")),
     }
 }

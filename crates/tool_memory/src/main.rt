@@ -28,8 +28,8 @@
 //! | the same | `TryFromSerializable::try_from_serializable` |
 //! | rows of decode and decode_within | `decode_value`, `decode_value_limited` |
 //! | rows of decode and read | `MapBuilder::new`, `MapBuilder::with_capacity`, `MapBuilder::into_value` |
-//! | rows of read | `from_value`, `Deserializer::new` |
-//! | types of one's own | `round_trip`, `read`, `read_composite`, `read_described`, `TypeSeed::deserialize`, `ListSeed::deserialize`, `NamedSeed::deserialize` |
+//! | rows of read | `from_value`, `from_slice`, `from_reader`, `ReadLazy::read`, `Deserializer::new` |
+//! | types of one's own | `round_trip`, `round_trip_bytes`, `read`, `read_composite`, `read_described`, `TypeSeed::deserialize`, `ListSeed::deserialize`, `NamedSeed::deserialize` |
 //! | the same | `read_map`, `read_described_map` |
 //! | the same | `FieldSeeds::read_elements`, `Required::read_elements`, `Optional::read_elements`, `Elements::new` |
 //! | the same | `FieldSeeds::read_entries`, `Required::read_entries`, `Optional::read_entries`, `Entries::new`, `DeserializeSeed::deserialize` |

@@ -11,6 +11,7 @@ use amqp_round_trip::{RoundTrip, round_trip};
 use amqp_ser::Serialize;
 use amqp_to_value::to_value;
 use example_reading::{Calibration, Day, Limits, Position, Rain, Sky, Title};
+use serde_amqp::round_trip_bytes;
 use std::alloc::Global;
 use std::collections::BTreeMap;
 use std::str;
@@ -65,9 +66,9 @@ fn maps(alloc: Global) -> Result<bool, Error> {
     Ok(calibrations && is_read(alloc, &rain)? && comes_back(alloc, &day)?)
 }
 
-// Returns whether the value round-trips.
+// Returns whether the value round-trips through its untyped value and through its bytes.
 fn comes_back<T: RoundTrip + PartialEq>(alloc: Global, value: &T) -> Result<bool, Error> {
-    Ok(round_trip(alloc, value)? == *value)
+    Ok(round_trip(alloc, value)? == *value && round_trip_bytes(alloc, value)? == *value)
 }
 
 // Returns whether the value has the encoding of its image and is read from its image.

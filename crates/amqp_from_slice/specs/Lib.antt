@@ -1,0 +1,2 @@
+-- Contracts of public items rest on it.
+pub mod ReadsSpelled

@@ -1,0 +1,43 @@
+//! Reading a type from the bytes of one encoded value.
+
+ghost use Rattle.std.specs.Prelude.{◌≡◌, MatchResult};
+ghost use Rattle.amqp_data.specs.declared.error.Error.TheVariants.{OutOfMemory};
+ghost use Rattle.amqp_decode.specs.Spells.{Spells};
+ghost use Rattle.amqp_de.specs.Answers.{Answers};
+ghost use Rattle.amqp_from_slice.specs.ReadsSpelled.{ReadsSpelled};
+
+use amqp_data::Error;
+use amqp_de::de::Deserialize;
+use amqp_decode::decode_value;
+use amqp_from_value::from_value;
+use std::alloc::Global;
+
+/// Reads a `T` from the bytes of exactly one encoded value.
+///
+/// # Encoding
+/// Accepts the bytes that `decode_value` accepts: every form of AMQP 1.0 part 1, section 1.6, to a
+/// depth of 256. `T` determines which values are read.
+///
+/// # Errors
+/// Returns the errors of `decode_value` if the bytes are not one encoded value, or if bytes are left
+/// over, and otherwise the errors of `from_value`. An error other than `OutOfMemory` is returned
+/// only if the bytes encode no value of which a `T` can be read.
+///
+/// # Memory
+/// Allocates the untyped value and the `T` from `alloc`; the untyped value is freed.
+///
+/// # Example
+/// `5205` is read as the `u32` 5. `520540` and `5105` are not.
+pub fn from_slice<T: Deserialize>(alloc: Global, bytes: &[u8]) -> Result<T, Error>
+    ensures read { Answers (λ e. e ≡ OutOfMemory) (ReadsSpelled T.reads bytes.now) result }
+    ensures law { (x : T) → T.restorable x → Spells 256 bytes.now (T.image x) →
+        MatchResult result (λ y. T.same y x) (λ e. e ≡ OutOfMemory) }
+{
+    match decode_value(alloc, bytes) {
+        Ok(value) => match from_value::<T>(alloc, value) {
+            Ok(read) => Ok(read),
+            Err(error) => Err(error),
+        },
+        Err(error) => Err(error),
+    }
+}
