@@ -10,6 +10,7 @@ mod day;
 mod maps;
 mod position;
 mod region;
+mod report;
 mod round_trips;
 mod sky;
 
@@ -18,4 +19,5 @@ pub use day::{Day, Rain};
 pub use maps::{Calibration, Contact};
 pub use position::Position;
 pub use region::Region;
+pub use report::Report;
 pub use sky::Sky;

@@ -10,8 +10,9 @@ use crate::day::{Day, Rain};
 use crate::maps::{Calibration, Contact};
 use crate::position::Position;
 use crate::region::Region;
+use crate::report::Report;
 use crate::sky::Sky;
-use amqp_data::Symbol;
+use amqp_data::{OrderedMap, Symbol};
 use amqp_round_trip::{MapKey, RoundTrip, laws};
 use amqp_value::Value;
 use std::collections::BTreeMap;
@@ -86,6 +87,17 @@ impl RoundTrip for Region {
     fn law() {
         laws::lists_return();
         <Vec<Value> as RoundTrip>::law();
+    }
+}
+
+impl RoundTrip for Report {
+    fn law() {
+        laws::short_lists_return();
+        laws::described_return();
+        <String as RoundTrip>::law();
+        <Vec<String> as RoundTrip>::law();
+        <OrderedMap<Symbol, Value> as RoundTrip>::law();
+        <Position as RoundTrip>::law();
     }
 }
 
