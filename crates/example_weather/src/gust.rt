@@ -3,7 +3,10 @@
 //! For readers who need composites as the AMQP standard writes them: shows the optional fields
 //! `"from"?` and `"at"?`. An absent field before a present one is null.
 
-use serde_amqp::de::{Deserialize, Deserializer, ListSeed, Record, named, read_described, values};
+use serde_amqp::de::{
+    Deserialize, DeserializeSeed, Deserializer, ListSeed, Optional, Record, Required, named,
+    read_composite, values,
+};
 use serde_amqp::ser::{ListOf, Serialize, SerializeCompounds, Serializer, fields};
 use serde_amqp::value::{RoundTrip, laws};
 use std::alloc::Global;
@@ -39,40 +42,39 @@ impl Serialize for Gust {
     }
 }
 
+/// The types of the fields, in order: required, or optional.
+type Fields = ListSeed<Required<u32, Optional<u16, Optional<u16, ()>>>>;
+
 impl Record for Gust {
-    type Values = (u32, (Option<u16>, (Option<u16>, ())));
+    type Values = <Fields as DeserializeSeed>::Value;
 
     ghost parts = { λ g. (g.speed, (g.from, (g.at, tt))) };
 }
 
 impl Deserialize for Gust {
-    ghost use Rattle.std.specs.Prelude.{◌≡◌, [], ◌∷◌, codes};
-    ghost use Rattle.amqp_ser.specs.Tree.{code, described, scalar, uint};
+    ghost use Rattle.std.specs.Prelude.{codes};
+    ghost use Rattle.amqp_ser.specs.Tree.{code, described};
     ghost use Rattle.amqp_de.specs.Fields.{OnDescribed, OnFields, ReadsRequired, ReadsOptional, NoMoreFields};
-    ghost use Rattle.amqp_de.specs.Present.{short_list, required, optional};
 
     ghost reads = { λ t g. OnDescribed (code 0x17) (OnFields (
         ReadsRequired (codes "speed") ⟦<u32 as Deserialize>⟧.reads g.speed (
         ReadsOptional (codes "from") ⟦<u16 as Deserialize>⟧.reads g.from (
-        ReadsOptional (codes "at") ⟦<u16 as Deserialize>⟧.reads g.at NoMoreFields)))) t };
+        ReadsOptional (codes "at") ⟦<u16 as Deserialize>⟧.reads g.at
+        NoMoreFields)))) t };
 
-    ghost image = { λ g. described (code 0x17) (short_list (
-        required (scalar (uint g.speed))
-        ∷ optional ⟦<u16 as Deserialize>⟧.image g.from
-        ∷ optional ⟦<u16 as Deserialize>⟧.image g.at ∷ [])) };
+    ghost image = { λ g. described (code 0x17)
+        (⟦<Fields as DeserializeSeed>⟧.short (⟦<Gust as Record>⟧.parts g)) };
 
-    ghost restorable = { λ g. ⟦<Option<u16> as Deserialize>⟧.restorable g.from
-        × ⟦<Option<u16> as Deserialize>⟧.restorable g.at };
+    ghost restorable = { λ g. ⟦<Fields as DeserializeSeed>⟧.restorable (⟦<Gust as Record>⟧.parts g) };
 
-    ghost same = { λ g h. (g.speed ≡ h.speed)
-        × ⟦<Option<u16> as Deserialize>⟧.same g.from h.from
-        × ⟦<Option<u16> as Deserialize>⟧.same g.at h.at };
+    ghost same = { λ g h. ⟦<Fields as DeserializeSeed>⟧.same
+        (⟦<Gust as Record>⟧.parts g) (⟦<Gust as Record>⟧.parts h) };
 
     fn deserialize<D: Deserializer>(alloc: Global, deserializer: D) -> Result<Gust, D::Error> {
-        let values! { speed, from, at } = read_described::<Gust, D, _, _>(
+        let values! { speed, from, at } = read_composite::<Gust, D, _>(
             alloc,
             deserializer,
-            &0x17u64,
+            0x17,
             ListSeed(named! { "speed", "from"?, "at"? }),
         )?;
         Ok(Gust { speed, from, at })

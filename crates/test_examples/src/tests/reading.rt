@@ -7,6 +7,7 @@ mod composites;
 mod days;
 mod fields;
 mod regions;
+mod reports;
 mod variants;
 
 use super::{wrong, wrong_error, wrong_value};
