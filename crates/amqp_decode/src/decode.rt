@@ -20,7 +20,8 @@ use std::alloc::Global;
 /// The count of a map is even, and its entries are inserted in order. An array without elements may
 /// end after its count or contain one constructor. A descriptor is a ulong or a symbol. The depth
 /// is at most 256. A scalar or an empty compound has depth 1, any other compound has one more than
-/// its deepest part, and a described value has one more than its value.
+/// its deepest part, and a described value has one more than its value. An array whose constructor
+/// is described (section 1.2) is not accepted.
 ///
 /// # Errors
 /// Returns `InvalidFormatCode` if a byte is not a format code where one is required. Returns
