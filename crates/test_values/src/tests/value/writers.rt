@@ -7,6 +7,9 @@ use amqp_value::Value;
 use std::fmt;
 use std::fmt::Write;
 
+// The most bytes of a binary or a string that are written by one call.
+const PIECE: usize = 16;
+
 // A writer with room for a number of bytes. A piece that does not fit is refused, and its beginning
 // is taken or not.
 #[derive(Drop)]
@@ -48,8 +51,9 @@ fn received(
     (writer.bytes, failed)
 }
 
-// Returns the number of rooms for which the writer has received something else than it should.
-fn wrong_rooms(rt: &HostRuntime, value: &Value, len: usize) -> usize {
+// Returns the number of rooms for which a writer has received something else than it should. One
+// that takes no beginnings has all but less than a piece of what fits.
+fn wrong_rooms(rt: &HostRuntime, value: &Value, len: usize, piece: usize) -> usize {
     let (whole, _) = received(rt, value, 4096, true);
     let mut wrong = if whole.len() == len { 0usize } else { 1 };
     for room in 0..=whole.len() {
@@ -59,6 +63,7 @@ fn wrong_rooms(rt: &HostRuntime, value: &Value, len: usize) -> usize {
         if beginning.as_slice() != &whole[..room]
             || !whole.starts_with(pieces.as_slice())
             || pieces.len() > room
+            || room - pieces.len() >= piece
             || failed != fails
             || also_failed != fails
         {
@@ -73,14 +78,14 @@ fn scalars(rt: &HostRuntime) -> bool {
     let decimal = Value::Decimal128(Dec128::from([0x0fu8; 16]));
     let moment = Value::Timestamp(Timestamp::from_milliseconds(-1));
     let far = Value::Timestamp(Timestamp::from_milliseconds(i64::MAX));
-    is(rt, "binary", &wrong_rooms(rt, &binary, 204), &0)
-        && is(rt, "decimal", &wrong_rooms(rt, &decimal, 36), &0)
-        && is(rt, "moment", &wrong_rooms(rt, &moment, 24), &0)
-        && is(rt, "far moment", &wrong_rooms(rt, &far, 30), &0)
+    is(rt, "binary", &wrong_rooms(rt, &binary, 204, PIECE), &0)
+        && is(rt, "decimal", &wrong_rooms(rt, &decimal, 36, PIECE), &0)
+        && is(rt, "moment", &wrong_rooms(rt, &moment, 24, 24), &0)
+        && is(rt, "far moment", &wrong_rooms(rt, &far, 30, 30), &0)
         && is(
             rt,
             "uuid",
-            &wrong_rooms(rt, &Value::Uuid(Uuid::from([7u8; 16])), 36),
+            &wrong_rooms(rt, &Value::Uuid(Uuid::from([7u8; 16])), 36, 36),
             &0,
         )
 }
@@ -91,6 +96,10 @@ fn texts(rt: &HostRuntime) -> bool {
         "a text of more than sixteen bytes, with \u{20ac} and \u{e9}",
     );
     let quotes = string(rt, "\"\\\n\u{7f}, one two three four five \"six\"");
+    let wide = string(
+        rt,
+        "\u{20ac}\u{20ac}\u{20ac}\u{20ac}\u{20ac}\u{20ac}a\u{1d11e}\u{1d11e}\u{1d11e}\u{1d11e}b\u{e9}",
+    );
     let number = described(rt, Descriptor::from(36u64), Value::Uint(1));
     let items = list(
         rt,
@@ -101,9 +110,10 @@ fn texts(rt: &HostRuntime) -> bool {
             Value::Null,
         ],
     );
-    is(rt, "plain", &wrong_rooms(rt, &plain, 52), &0)
-        && is(rt, "quotes", &wrong_rooms(rt, &quotes, 47), &0)
-        && is(rt, "list", &wrong_rooms(rt, &items, 28), &0)
+    is(rt, "plain", &wrong_rooms(rt, &plain, 52, PIECE), &0)
+        && is(rt, "quotes", &wrong_rooms(rt, &quotes, 47, PIECE), &0)
+        && is(rt, "wide", &wrong_rooms(rt, &wide, 40, PIECE), &0)
+        && is(rt, "list", &wrong_rooms(rt, &items, 28, PIECE), &0)
 }
 
 #[test]
