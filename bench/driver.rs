@@ -2,6 +2,7 @@
 //!
 //!     driver list                          each contender, shape and operation that answers, with the answer of one run
 //!     driver run WHO SHAPE OP TIMES        one call, to be counted from outside
+//!     driver maps KIND COUNT OP TIMES      maps read by the project, to be counted from outside
 //!     driver count WHO SHAPE OP            allocations and bytes asked for by one run (where built with --cfg count)
 //!     driver time [OP]                     the least ns of one run, of that operation alone
 //!
@@ -61,6 +62,7 @@ const WHO: [(&str, Who); 4] =
 unsafe extern "C" {
     fn amqp_shape(shape: u32, op: u32, times: u64) -> u64;
     fn amqp_bench(work: u32, op: u32, data: *const u8, len: usize, times: u64) -> u64;
+    fn amqp_maps(kind: u32, count: u32, op: u32, times: u64) -> u64;
 }
 
 struct Attach {
@@ -363,6 +365,10 @@ fn main() {
     let who = |i: usize| WHO.iter().find(|w| w.0 == words[i]).unwrap().1;
     match words[1].as_str() {
         "run" => println!("{}", answer(who(2), number(3) as usize, number(4) as u32, number(5))),
+        "maps" => {
+            let read = unsafe { amqp_maps(number(2) as u32, number(3) as u32, number(4) as u32, number(5)) };
+            assert_eq!(read, number(5), "the maps are not read");
+        }
         "count" => {
             let (calls, bytes) = count(who(2), number(3) as usize, number(4) as u32);
             println!("{calls} {bytes}");

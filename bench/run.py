@@ -1,11 +1,12 @@
 """Builds the project's library and the driver, measures, and prints a table and what was asked beside what is.
 
-    python3 bench/run.py [--check | --proton] [--library FILE] [--keep FOLDER] [--no-instructions] [--no-time]
+    python3 bench/run.py [--check | --proton] [--library FILE] [--jobs FILE] [--keep FOLDER] [--no-instructions] [--no-time]
 
 Needs rt, rustc and ar, and valgrind for the instructions. --library takes a library that stands ready, made by --keep:
-FOLDER/libamqp.a is the project with the kit's heap functions, in one file. --check measures the project's instructions and
-allocations alone, compares them with the table of README.md, and fails where one is more than five percent above it.
---proton measures reading untyped values beside Qpid Proton alone, and needs libqpid-proton11-dev.
+FOLDER/libamqp.a is the project with the kit's heap functions, in one file. --jobs takes a built program tool_jobs, whose
+workloads are counted. --check measures the project's instructions and allocations alone, compares them with the tables of
+README.md, and fails where one is more than three percent above them. --proton measures reading untyped values beside Qpid
+Proton alone, and needs libqpid-proton11-dev.
 """
 import datetime
 import os
@@ -15,11 +16,15 @@ import sys
 import tempfile
 
 HERE = os.path.dirname(os.path.abspath(__file__))
-CRATE = os.path.join(HERE, '..', 'crates', 'tool_bench')
+CRATES = os.path.join(HERE, '..', 'crates')
 CALLS = {0: 'size', 1: 'bytes', 3: 'value', 4: 'text', 5: 'read', 6: 'typed'}
 READ = 5
 WHO = ['table', 'buffers', 'project']
-ALLOWED = 1.05
+ALLOWED = 1.03
+# The kinds of keys of the maps that are read, their numbers of keys, and the calls.
+KINDS, COUNTS, READS = ['text', 'symbol', 'uuid'], [64, 130], ['`from_value`', '`TryFrom`']
+# The part of a workload's rounds that is counted.
+PART = 20
 
 # A shape, its short name, and what is asked: bytes and size at most so many times those of *table*, and size at most so many
 # instructions.
@@ -45,9 +50,10 @@ def run(words, **more):
 
 def library(folder):
     """The project's static library and the kit's heap functions, in one file."""
-    subprocess.run(['rt', 'lib'], cwd=CRATE, check=True, stdout=subprocess.DEVNULL)
+    crate = os.path.join(CRATES, 'tool_bench')
+    subprocess.run(['rt', 'lib'], cwd=crate, check=True, stdout=subprocess.DEVNULL)
     kit = os.path.dirname(run(['rt', 'doc']).strip())
-    for made in [os.path.join(CRATE, 'out', 'libtool_bench.a'), os.path.join(kit, 'c', 'liblibc_c.a')]:
+    for made in [os.path.join(crate, 'out', 'libtool_bench.a'), os.path.join(kit, 'c', 'liblibc_c.a')]:
         run(['ar', 'x', os.path.abspath(made)], cwd=folder)
     parts = [part for part in os.listdir(folder) if part.endswith('.o')]
     run(['ar', 'rcs', 'libamqp.a'] + parts, cwd=folder)
@@ -61,12 +67,38 @@ def driver(folder, made, name, more):
     return out
 
 
-def instructions(plain, who, shape, call):
-    """By callgrind: the second of two runs has four calls more, so building the value falls out."""
-    def whole(times):
-        words = ['valgrind', '--tool=callgrind', '--callgrind-out-file=/dev/null', plain, 'run', who, shape, call, str(times)]
-        return int(re.search(r'Collected : (\d+)', subprocess.run(words, check=True, capture_output=True, text=True).stderr)[1])
-    return (whole(8) - whole(4)) / 4
+def jobs():
+    """The program of the workloads."""
+    crate = os.path.join(CRATES, 'tool_jobs')
+    subprocess.run(['rt', 'run'], cwd=crate, check=True, stdin=subprocess.DEVNULL, stdout=subprocess.DEVNULL)
+    return os.path.join(crate, 'out', 'tool_jobs')
+
+
+def counted(words):
+    """The instructions of a whole run, by callgrind."""
+    words = ['valgrind', '--tool=callgrind', '--callgrind-out-file=/dev/null'] + words
+    return int(re.search(r'Collected : (\d+)', subprocess.run(words, check=True, capture_output=True, text=True).stderr)[1])
+
+
+def instructions(words):
+    """Those of a call: the second of two runs has four calls more, so building the value falls out."""
+    return (counted(words + ['8']) - counted(words + ['4'])) / 4
+
+
+def maps(plain):
+    """The instructions of reading each map, by its name and the call."""
+    return {('%d %s keys' % (count, word), read): round(instructions([plain, 'maps', str(kind), str(count), str(op)]))
+            for kind, word in enumerate(KINDS) for count in COUNTS for op, read in enumerate(READS)}
+
+
+def workloads(program):
+    """The instructions of a part of the rounds of each workload, with the seed 1."""
+    found = {}
+    for line in open(os.path.join(HERE, 'workloads.txt')):
+        name, _, *words, rounds = line.split()
+        words = ['1' if word == 'SEED' else word for word in words]
+        found[name, 'instructions'] = counted([program] + words + [str(int(rounds) // PART)])
+    return found
 
 
 def answers(plain, counting, who):
@@ -87,7 +119,7 @@ def answers(plain, counting, who):
             continue
         at['calls'], at['bytes'] = run([counting, 'count', one[0], shape, str(call)]).split()
         if '--no-instructions' not in sys.argv:
-            at['instructions'] = instructions(plain, one[0], shape, str(call))
+            at['instructions'] = instructions([plain, 'run', one[0], shape, str(call)])
     return names, size, {key: at for key, at in found.items() if len(key) == 3}
 
 
@@ -101,7 +133,7 @@ def main():
     wraps = ['-C', 'link-arg=-Wl,--wrap=malloc,--wrap=realloc', '--cfg', 'count']
     counting = driver(folder, made, 'counting', wraps)
     if '--check' in sys.argv:
-        sys.exit(check(*answers(plain, counting, ['project'])))
+        sys.exit(check(*answers(plain, counting, ['project']), {**maps(plain), **workloads(arg('--jobs') or jobs())}))
     names, size, found = answers(plain, counting, WHO)
     if '--no-time' not in sys.argv:
         for line in run([plain, 'time']).splitlines():
@@ -110,6 +142,8 @@ def main():
     show(names, size, found)
     if '--no-instructions' not in sys.argv:
         targets(names, found)
+        others('Map', READS, maps(plain))
+        others('Workload', ['instructions'], workloads(arg('--jobs') or jobs()))
 
 
 def beside_proton(built):
@@ -125,7 +159,7 @@ def beside_proton(built):
             ns[who, shape] = float(least)
     print('| Shape | instructions: project | Proton | Proton / project | ns: project | Proton | Proton / project |\n|' + '---|' * 7)
     for shape, name in names.items():
-        count = [instructions(built, who, shape, str(READ)) for who in both]
+        count = [instructions([built, 'run', who, shape, str(READ)]) for who in both]
         least = [ns.get((who, shape)) for who in both]
         row = [name] + ['%d' % one for one in count] + ['%.1f' % (count[1] / count[0])]
         row += ['%.0f' % one for one in least] + ['%.1f' % (least[1] / least[0])] if all(least) else ['-'] * 3
@@ -133,45 +167,55 @@ def beside_proton(built):
 
 
 def recorded():
-    """The project's instructions and allocations, by shape and call, as README.md has them."""
+    """The project's instructions and allocations, by shape and call, and the instructions of maps and workloads, as README.md has them."""
     rows, heads = {}, None
     for line in open(os.path.join(HERE, 'README.md')):
         cells = [cell.strip() for cell in line.strip().strip('|').split('|')]
-        if cells[0] == 'Shape' and 'instructions: table' in cells:
+        if cells[0] == 'Shape' and 'instructions: table' in cells or cells[0] in ['Map', 'Workload']:
             heads = cells
-        elif heads and len(cells) == len(heads) and cells[2] in CALLS.values() and cells[-1] != '-':
-            calls, asked = cells[-1].strip(')').split(' (')
-            rows[cells[0], cells[2]] = (int(cells[heads.index('project')]), int(calls), int(asked))
         elif not line.startswith('|'):
             heads = None
+        elif heads and heads[0] == 'Shape' and cells[2] in CALLS.values() and cells[-1] != '-':
+            calls, asked = cells[-1].strip(')').split(' (')
+            rows[cells[0], cells[2]] = (int(cells[heads.index('project')]), int(calls), int(asked))
+        elif heads and heads[0] != 'Shape' and cells[1].isdigit():
+            rows.update({(cells[0], head): (int(cell),) for head, cell in zip(heads[1:], cells[1:])})
     return rows
 
 
-def check(names, size, found):
-    """Prints each call that differs from the table; 1 where one is worse, or is not there."""
+def check(names, size, found, more):
+    """Prints each call that differs from the tables; 1 where one is worse, or is not there."""
     rows, worse = recorded(), 0
+    now = {key: (count,) for key, count in more.items()}
     for (shape, call, _), at in found.items():
-        key = names[shape], CALLS[call]
+        now[names[shape], CALLS[call]] = (round(at['instructions']), int(at['calls']), int(at['bytes']))
+    for key, counts in now.items():
         if key not in rows:
-            print('%s, %s: not in the table' % key)
+            print('%s, %s: not in the tables' % key)
             worse = 1
             continue
-        now = (round(at['instructions']), int(at['calls']), int(at['bytes']))
-        for word, new, old in zip(['instructions', 'allocations', 'bytes asked for'], now, rows[key]):
+        for word, new, old in zip(['instructions', 'allocations', 'bytes asked for'], counts, rows[key]):
             if new > old * ALLOWED:
                 worse = 1
             if new != old:
                 print('%s, %s: %d %s for %d%s' % (*key, new, word, old, ', WORSE' if new > old * ALLOWED else ''))
-    print('worse than the table' if worse else 'within five percent of the table')
+    print('worse than the tables' if worse else 'within three percent of the tables')
     return worse
+
+
+def others(what, heads, found):
+    """Prints a table of instructions, by name and head."""
+    print('\n| ' + ' | '.join([what] + heads) + ' |\n|' + '---|' * (1 + len(heads)))
+    for name in dict.fromkeys(name for name, _ in found):
+        print('| ' + ' | '.join([name] + [str(found[name, head]) for head in heads]) + ' |')
 
 
 def show(names, size, found):
     cpu = [line.split(':')[1].strip() for line in open('/proc/cpuinfo') if line.startswith('model name')][0]
     print('%s, %s; %s; %s.\n' % (datetime.date.today().strftime('%-d %B %Y'), cpu, run(['rt', 'version']).strip(), run(['rustc', '--version']).strip()))
-    heads = ['Shape', 'Bytes', 'Call']
-    heads += ['instructions: table', 'buffers', 'project', 'project / table']
-    heads += ['ns a byte: table', 'buffers', 'project', 'allocations: table', 'buffers', 'project']
+    with_times = any('ns' in at for at in found.values())
+    heads = ['Shape', 'Bytes', 'Call', 'instructions: table', 'buffers', 'project']
+    heads += ['ns a byte: table', 'buffers', 'project'] * with_times + ['allocations: buffers', 'project']
     print('| ' + ' | '.join(heads) + ' |\n|' + '---|' * len(heads))
     for shape, name in names.items():
         for call, word in CALLS.items():
@@ -179,10 +223,8 @@ def show(names, size, found):
             length = at[2].get('length', int(size[shape]))
             row = [name, str(length), word]
             row += ['%d' % round(x['instructions']) if 'instructions' in x else '-' for x in at]
-            both = 'instructions' in at[0] and 'instructions' in at[2]
-            row.append('%.2f' % (at[2]['instructions'] / at[0]['instructions']) if both else '-')
-            row += ['%.4f' % (x['ns'] / length) if 'ns' in x else '-' for x in at]
-            row += ['%s (%s)' % (x['calls'], x['bytes']) if 'calls' in x else '-' for x in at]
+            row += ['%.4f' % (x['ns'] / length) if 'ns' in x else '-' for x in at] * with_times
+            row += ['%s (%s)' % (x['calls'], x['bytes']) if 'calls' in x else '-' for x in at[1:]]
             print('| ' + ' | '.join(row) + ' |')
 
 

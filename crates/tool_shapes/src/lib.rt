@@ -12,6 +12,7 @@ mod described_read;
 mod fed;
 mod hash;
 mod inputs;
+mod maps;
 mod repeat;
 mod run;
 
@@ -21,4 +22,5 @@ pub use chain_read::read_chain;
 pub use fed::{FedDescribedFields, FedFields};
 pub use hash::hash_of;
 pub use inputs::{blob, ints, numbered, rows};
+pub use maps::run_maps;
 pub use run::{run_shape, run_work};

@@ -11,7 +11,7 @@ use amqp_size::serialized_size;
 use amqp_to_value::to_value;
 use amqp_value::Value;
 use std::alloc::Global;
-use tool_shapes::{Chain, hash_of, read_chain, run_shape, run_work};
+use tool_shapes::{Chain, hash_of, read_chain, run_maps, run_shape, run_work};
 
 #[test]
 fn operations_have_worked_results(rt: HostRuntime) {
@@ -29,6 +29,9 @@ fn each_shape_has_each_result(rt: HostRuntime) {
         assert!(rt; is_written_and_decoded(&rt, shape), "shape {shape}");
     }
     assert!(rt; types_are_read(&rt), "types are read");
+    for kind in 0..3 {
+        assert!(rt; maps_are_read(&rt, kind), "maps of kind {kind}");
+    }
     for links in [0, 1, 2, 255] {
         assert!(rt; chain_comes_back(&rt, links), "{links} links");
     }
@@ -116,6 +119,24 @@ fn types_are_read(rt: &HostRuntime) -> bool {
         && of_shape(rt, 9, 6, 3, 0)
         && of_work(rt, 0, 6, b"a\nbc", 3, 3)
         && of_work(rt, 1, 6, b"\0\0\0\x01", 3, 3)
+}
+
+/// Checks that maps of few and of many keys are read, and at most eight.
+fn maps_are_read(rt: &HostRuntime, kind: u32) -> bool {
+    let (few, many) = (
+        run_maps(rt.alloc(), kind, 3, 0, 2),
+        run_maps(rt.alloc(), kind, 130, 0, 9),
+    );
+    is(rt, "maps of kind", kind, 0, few, 2)
+        && is(rt, "maps of kind", kind, 0, many, 8)
+        && is(
+            rt,
+            "maps of kind",
+            kind,
+            1,
+            run_maps(rt.alloc(), kind, 130, 1, 3),
+            3,
+        )
 }
 
 /// Compares the sizes of a chain and of the chain read from its untyped value.
