@@ -149,6 +149,7 @@ pub trait Deserializer: Sized + Drop {
     /// # Example
     /// The ubyte 1 is returned as `FixedContent::Ubyte(1)`, and the string `a` as
     /// `FixedContent::Other`.
+    #[inline(always)]
     fn into_fixed(self) -> FixedContent
         ensures { HoldsFixed (value self) result }
     {
@@ -185,6 +186,7 @@ pub trait Deserializer: Sized + Drop {
     ///
     /// # Example
     /// The string `a` is returned as `Some`. The symbol `a` gives `None`.
+    #[inline(always)]
     fn into_text(self) -> Option<String>
         ensures { HoldsText (value self) result }
     {
@@ -198,6 +200,7 @@ pub trait Deserializer: Sized + Drop {
     ///
     /// # Example
     /// A list is returned as `Some` of its elements. An array gives `None`.
+    #[inline(always)]
     fn into_list(self) -> Option<Self::Elements>
         ensures { HoldsElements items (value self) result }
     {
@@ -213,6 +216,7 @@ pub trait Deserializer: Sized + Drop {
     /// # Example
     /// True for an untyped map from 64 ubytes, and false for one from 63. A deserializer that does not
     /// know the keys returns false.
+    #[inline(always)]
     fn has_many_short_keys(_entries: &Self::Entries) -> bool {
         false
     }
@@ -222,6 +226,7 @@ pub trait Deserializer: Sized + Drop {
     /// # Example
     /// For the elements of a list of three values in memory, returns 3 before the first is taken. A
     /// deserializer that does not know the number returns 0.
+    #[inline(always)]
     fn elements_left(_elements: &Self::Elements) -> usize
         ensures { result ≤ length (items _elements.now) }
     {

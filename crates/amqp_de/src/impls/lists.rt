@@ -13,10 +13,27 @@ use crate::deserialize_error::DeserializeError;
 use crate::deserializer::Deserializer;
 use amqp_data::{Array, TransparentVec};
 use std::alloc::Global;
+use std::mem::size_of_val;
 
-/// The maximum number of values for which room is reserved before they are read. A value may be larger
-/// than the element that it is read from, and an element may be refused.
+// The maximum number of values for which room is reserved before they are read. A value may be larger
+// than the element that it is read from, and an element may be refused.
 const MOST_RESERVED: usize = 256;
+
+// Returns the maximum number of values of this size for which room is reserved after the first one:
+// as many as 4,096 bytes hold, but at least 4 and at most `MOST_RESERVED`. It is a power of two, so
+// that a longer vector grows to the same capacity as one that begins with 4.
+#[inline(always)]
+fn most_reserved(size: usize) -> usize {
+    match size {
+        0..=16 => MOST_RESERVED,
+        17..=32 => 128,
+        33..=64 => 64,
+        65..=128 => 32,
+        129..=256 => 16,
+        257..=512 => 8,
+        _ => 4,
+    }
+}
 
 /// Returns an empty vector with room for the elements that are certainly left, but for no more than
 /// `most` and `MOST_RESERVED`.
@@ -38,8 +55,8 @@ pub(crate) fn reserve<T, D: Deserializer>(
     }
 }
 
-/// Reads all remaining elements, after the first one. Makes room first for the elements that are
-/// certainly left, but for no more than `MOST_RESERVED` values.
+/// Reads all remaining elements, after the first one. Makes room first for `count` values, but for no
+/// more than `most_reserved`.
 ///
 /// # Errors
 /// Those of `read_all`.
@@ -47,6 +64,7 @@ fn read_rest<T: Deserialize, D: Deserializer>(
     alloc: Global,
     elements: &mut D::Elements,
     first: T,
+    count: usize,
 ) -> Result<Vec<T>, D::Error>
     ensures read { (t : Tree) → T.reads t first →
         MatchResult result (λ v. AllZip T.reads (t ∷ D.items elements.old) v.items)
@@ -57,9 +75,9 @@ fn read_rest<T: Deserialize, D: Deserializer>(
         t ∷ D.items elements.old ≡ map T.image xs →
         MatchResult result (λ v. AllZip T.same v.items xs) D.Error.is_out_of_memory }
 {
-    let left = D::elements_left(&*elements).min(MOST_RESERVED - 1);
     let mut values = Vec::new(alloc);
-    if left > 0 && values.reserve_exact(left + 1).is_err() {
+    let room = count.min(most_reserved(size_of_val(&first)));
+    if values.reserve_exact(room).is_err() {
         return Err(D::Error::out_of_memory());
     }
     if values.push(first).is_err() {
@@ -95,9 +113,10 @@ fn read_all<T: Deserialize, D: Deserializer>(
         D.items elements.old ≡ map T.image xs →
         MatchResult result (λ v. AllZip T.same v.items xs) D.Error.is_out_of_memory }
 {
+    let count = D::elements_left(&*elements);
     match D::next_element(&mut *elements) {
         Some(element) => match T::deserialize(alloc, element) {
-            Ok(first) => read_rest::<T, D>(alloc, &mut *elements, first),
+            Ok(first) => read_rest::<T, D>(alloc, &mut *elements, first, count),
             Err(error) => Err(error),
         },
         None => Ok(Vec::new(alloc)),
