@@ -134,7 +134,7 @@ fn push_header(taken: &mut Vec<u8>, code: u8, size: &[u8], body: u32) -> Result<
 {
     let room = (body as usize).min(PIECE);
     make_room(taken, 1 + size.len() + room)?;
-    taken.push(code)?;
+    push_code(taken, code)?;
     push_size(taken, size)
 }
 
