@@ -12,7 +12,7 @@ from nodes import LIMIT
 CODES = [0, *SCALARS, *SIZED]
 SHORTER = {kind: [(code, width) for code, (name, width, _) in SHORT.items() if name == kind] for kind in FIXED}
 WITHOUT_BYTES = [code for code, (_, width, _) in SCALARS.items() if width == 0]
-COUNTS = [0, 1, 2, 255, 256, LIMIT - 1, LIMIT, LIMIT + 1, 2 ** 32 - 1]
+COUNTS = [1, LIMIT - 1, LIMIT, LIMIT, LIMIT + 1, 2 ** 32 - 1]
 # About these numbers of elements or entries, memory is reserved or keys are compared in another way.
 LENGTHS = [4, 8, 16, 31, 48, 64, 96, 128]
 
@@ -22,6 +22,12 @@ EDGE_TEXTS = [bytes.fromhex(digits) for digits in (
     "f0808080", "f08fbfbf", "f0908080", "f48fbfbf", "f4908080", "f09f98", "61c3",
 )]
 EDGE_CHARS = [number(code, 4) for code in (0xD7FF, 0xD800, 0xDFFF, 0xE000, 0x10FFFF, 0x110000, 0x80000061)]
+
+# Encodings with a fault, which are put on about the last level.
+DEEP_FAULTS = [bytes.fromhex(digits) for digits in (
+    "c00101", "c0020146", "c10102", "c1020246", "e00101", "e0020100", "e0020146", "e0020150", "e00201a1", "00", "0046",
+    "00a10161", "0044", "004446",
+)]
 
 # Three descriptors, and trees that are none.
 DESCRIPTORS = [
@@ -73,6 +79,8 @@ class Encoder:
     def encoding(self, tree):
         """An encoding of the tree."""
         kind, content = tree
+        if kind == "lazy":
+            return content
         if kind == "described":
             descriptor = self.one(DESCRIPTORS) if self.has_fault() else content[0]
             return self.code(0) + self.encoding(descriptor) + self.encoding(content[1])
@@ -120,8 +128,6 @@ class Encoder:
         """The count of these parts, and the bytes after it."""
         if kind != "array":
             return len(parts), self.content(b"".join(map(self.encoding, parts)))
-        if self.has_fault():
-            return self.one(COUNTS), self.code(self.one(WITHOUT_BYTES))
         if not parts:
             return 0, self.one((b"", self.code(self.one(CODES[1:]))))
         code, payloads = self.payloads(parts)
@@ -144,20 +150,31 @@ class Encoder:
         return ("map", [each for key in keys for each in (key, ("null", 0))][:-1] + [tree])
 
     def nested(self, tree):
-        """The tree in compounds of about as many levels as are permitted."""
-        for _ in range(LEVELS - 4 + self.below(6)):
+        """The tree, or an encoding with a fault, in compounds that make about as many levels as are permitted."""
+        if self.below(4):
+            tree = ("lazy", self.one(DEEP_FAULTS))
+        for _ in range(LEVELS - levels(tree) + self.below(4) - 1):
             tree = self.one((
                 ("list", [tree]), ("map", [tree, ("null", 0)]), ("map", [("null", 0), tree]),
-                ("described", [("ulong", 7), tree]), ("array" if tree[0] != "described" else "list", [tree]),
+                ("described", [("ulong", 7), tree]), ("list" if tree[0] in ("described", "lazy") else "array", [tree]),
             ))
         return tree
+
+    def without_bytes(self, tree):
+        """The tree and an array whose elements have no bytes, or which has no elements and any constructor."""
+        count = self.one(COUNTS) if self.below(4) else 0
+        code = self.one(WITHOUT_BYTES) if count else self.one((0, self.one(CODES), self.below(256)))
+        array = ("lazy", b"\xf0" + number(5, 4) + number(count, 4) + bytes([code]))
+        return ("list", [array, tree] if self.below(2) else [tree, array])
 
     def made_of(self, tree, other):
         """A tree that is made of the first, or of both."""
         case = self.below(64)
-        if case == 0:
+        if case < 2:
             return self.nested(tree)
         if case < 5:
+            return self.without_bytes(tree)
+        if case < 8:
             return self.many(tree)
         if case < 15:
             return ("described", [self.one(DESCRIPTORS[:3]), tree])
@@ -178,7 +195,7 @@ class Encoder:
     def row(self, tree, other):
         """A row of one encoding of a tree made of these: decoded, decoded with a limit, or as a lazy value."""
         data = self.data(self.made_of(tree, other))
-        token = self.one(("", "", "limited:", "lazy:"))
+        token = self.one(("", "limited:", "limited:", "lazy:"))
         # Without a limit, a false count could take gigabytes. An empty row is no row.
         if not data or refusal(lambda: decoded(data, LIMIT)) == MEMORY:
             token = "limited:"
@@ -187,6 +204,10 @@ class Encoder:
 
 def nodes(tree):
     return 1 + (sum(map(nodes, tree[1])) if isinstance(tree[1], list) else 0)
+
+
+def levels(tree):
+    return 1 + max(map(levels, tree[1]), default=0) if isinstance(tree[1], list) else 1
 
 
 def refusal(make):
