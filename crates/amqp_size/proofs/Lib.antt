@@ -13,3 +13,4 @@ pub mod Settled
 pub mod Spoil
 pub mod Transparent
 pub mod Whole
+pub mod TakesWhole

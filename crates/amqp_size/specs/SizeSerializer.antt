@@ -43,6 +43,13 @@ AtPosition p (Some t) (Err e) after = refused p t e × (after ≡ Plain (without
 abbrev pub SizePermits : SizeSerializer → Option Tree → Result ℕ SizeError → SizeSerializer → Type 0
 SizePermits s t r after = AtPosition (position_of s.context) (meant s.context t) r after.context
 
+-- A value has its ordinary form here: no marker and no descriptor precedes it, and it is no element
+-- of an array.
+abbrev pub TakesWhole : Context → Type 0
+TakesWhole (context.Plain Root) = Unit {0}
+TakesWhole (context.Plain InCompound) = Unit {0}
+TakesWhole u = ⊥
+
 -- The bytes of the parts, in an array or not.
 abbrev pub body_bytes : Bool → Trees → List ℕ
 body_bytes false ts = encoding_each ts

@@ -7,6 +7,7 @@
 mod compounds;
 mod serializer;
 mod tree_sizes;
+mod whole_values;
 
 pub use amqp_pass::{SizeError, width};
 pub use compounds::{

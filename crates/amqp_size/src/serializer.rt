@@ -13,7 +13,7 @@ use amqp_pass::width::{array_width, list_width, map_width};
 use amqp_pass::{
     Context, OpenCompound, Position, ResolvedKind, ScalarEncoding, ScalarMarker, SizeError,
 };
-use amqp_ser::{CompoundKind, Fixed, Marker, Serialize, Serializer};
+use amqp_ser::{CompoundKind, Fixed, Marker, Serialize, Serializer, Whole};
 use std::marker::Model;
 
 /// A serializer that counts the bytes of encodings. It can be used again after each call, also
@@ -35,6 +35,9 @@ pub struct SizeSerializer {
     pub(crate) context: Context,
     /// Length of the descriptors before the value, if it is after a descriptor.
     pub(crate) prefix_len: usize,
+    /// Whether the parts of a compound may be measured at once. It is false after a value that was
+    /// not measured at once: its parts were part of that attempt.
+    pub(crate) tries_parts: bool,
 }
 
 impl Model for SizeSerializer {
@@ -54,6 +57,7 @@ impl SizeSerializer {
         SizeSerializer {
             context: Context::Plain(Position::Root),
             prefix_len: 0,
+            tries_parts: true,
         }
     }
 }
@@ -358,6 +362,16 @@ impl Serializer for SizeSerializer {
             }
             ResolvedKind::Refused => Err(SizeError::InvalidValue),
         }
+    }
+
+    #[inline(always)]
+    fn try_whole<W: Whole>(&mut self, whole: &W) -> Option<usize> {
+        if !self.takes_whole() {
+            return None;
+        }
+        let len = whole.whole_len();
+        self.tried_whole(len.is_some());
+        len
     }
 }
 
