@@ -10,3 +10,4 @@ pub mod Positions
 pub mod State
 pub mod Writer
 pub mod Measurer
+pub mod WholeEncoder
