@@ -64,10 +64,10 @@ def results(tree, row):
         fields = [str(len(data)), data.hex(), "none" if length is None else str(length), lazy, text]
     value, refusal = answer(lambda: image(tree))
     if value is None:
-        return fields + [faults_on_none(row) if tree is None else refusal, "", "", ""]
+        return fields + [faults_on_none(row) if tree is None else refusal, "", "", "", ""]
     again, refusal = answer(lambda: written(value))
     same = "none" if meant is None else "=" if frozen(meant) == frozen(value) else "other"
-    return fields + [on_one_line(value), refusal or again.hex(), same, "="]
+    return fields + [on_one_line(value), refusal or again.hex(), same, "=", "="]
 
 
 def answers(row):

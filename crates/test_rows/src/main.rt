@@ -7,6 +7,7 @@
 //! |---|---|
 //! | `decode BYTES` | the value, as the bytes that `to_vec` returns and its text |
 //! | `decode_within LIMIT BYTES` | like `decode`, with `decode_value_limited` |
+//! | `whole BYTES` | the length and the bytes by which the value encodes itself: `whole_len`, `whole_bytes` |
 //! | `code BYTES` | the format code of the value |
 //! | `count BYTES` | the number of elements or pairs of the compound |
 //! | `depth BYTES` | the number of lists around the empty one |

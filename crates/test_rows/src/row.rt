@@ -26,6 +26,7 @@ pub fn answer(alloc: Global, line: &str) -> Result<String, Error> {
 fn of_bytes(alloc: Global, call: &str, bytes: &[u8]) -> Result<String, Error> {
     match call {
         "decode" => values::decode(alloc, bytes),
+        "whole" => values::whole(alloc, bytes),
         "code" => values::code(alloc, bytes),
         "count" => values::count(alloc, bytes),
         "depth" => values::depth(alloc, bytes),

@@ -4,6 +4,7 @@ use crate::notation::{bytes_of, number_of, word_of};
 use crate::row::refusal;
 use amqp_data::Error;
 use amqp_decode::{decode_value, decode_value_limited};
+use amqp_ser::Whole as _;
 use amqp_value::Value;
 use amqp_wire::to_vec;
 use std::alloc::Global;
@@ -24,6 +25,22 @@ pub fn decode_within(alloc: Global, arguments: &str) -> Result<String, Error> {
         alloc,
         &decode_value_limited(alloc, &bytes, number_of(limit)?)?,
     )
+}
+
+/// Returns the length and the bytes that the value returns without a serializer, or `none` for each
+/// that it does not return.
+pub fn whole(alloc: Global, bytes: &[u8]) -> Result<String, Error> {
+    let value = decode_value(alloc, bytes)?;
+    let mut text = String::new(alloc);
+    match value.whole_len() {
+        Some(len) => text.push_str(&format!(in alloc; "{len}")?)?,
+        None => text.push_str("none")?,
+    }
+    match value.whole_bytes(alloc) {
+        Some(bytes) => text.push_str(&format!(in alloc; " {}", hex::encode(alloc, &bytes)?)?)?,
+        None => text.push_str(" none")?,
+    }
+    Ok(text)
 }
 
 /// Returns the format code of the value, in hexadecimal.

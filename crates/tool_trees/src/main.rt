@@ -32,10 +32,11 @@
 //! | 7 | the bytes of the image |
 //! | 8 | whether the bytes decode to the image, or `none` if they do not decode |
 //! | 9 | whether `from_value` returns the image |
+//! | 10 | whether `whole_len` and `whole_bytes` of the image return what `to_vec` returns, or `None` if it fails |
 //!
 //! A comparison is `=` or `other`. In a text, a newline is `\n` and a tab is `\t`. If a call fails,
 //! its field is the error in angle brackets. Fields 3 to 5 are empty if the node has no bytes, and
-//! fields 7 to 9 if it has no image. For a row that is not well formed, the only field is an error.
+//! fields 7 to 10 if it has no image. For a row that is not well formed, the only field is an error.
 //!
 //! `tools/differential` makes random rows and computes their results independently.
 #![tactic(auto)]

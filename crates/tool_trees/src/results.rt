@@ -5,6 +5,7 @@ use amqp_data::Error;
 use amqp_decode::decode_value;
 use amqp_frame::frame_len;
 use amqp_from_value::from_value;
+use amqp_ser::Whole as _;
 use amqp_size::serialized_size;
 use amqp_to_value::to_value;
 use amqp_value::Value;
@@ -35,6 +36,12 @@ fn refusal(alloc: Global, text: &mut String, error: &Error) -> Result<(), Error>
 fn refusal_of_four(alloc: Global, text: &mut String, error: &Error) -> Result<(), Error> {
     refusal(alloc, text, error)?;
     push(text, "\t\t\t")
+}
+
+// Appends the error and four empty fields.
+fn refusal_of_five(alloc: Global, text: &mut String, error: &Error) -> Result<(), Error> {
+    refusal_of_four(alloc, text, error)?;
+    push(text, "\t")
 }
 
 // Appends whether two results are the same.
@@ -111,11 +118,11 @@ fn decoded(alloc: Global, text: &mut String, bytes: &[u8]) -> Result<(), Error> 
 fn image(alloc: Global, text: &mut String, node: &Node) -> Result<(), Error> {
     match to_value(alloc, node) {
         Ok(value) => of_image(alloc, text, node, &value),
-        Err(error) => refusal_of_four(alloc, text, &error),
+        Err(error) => refusal_of_five(alloc, text, &error),
     }
 }
 
-// Appends the four fields of a node that has an image.
+// Appends the five fields of a node that has an image.
 fn of_image(alloc: Global, text: &mut String, node: &Node, value: &Value) -> Result<(), Error> {
     shown(alloc, text, value)?;
     push(text, "\t")?;
@@ -123,7 +130,9 @@ fn of_image(alloc: Global, text: &mut String, node: &Node, value: &Value) -> Res
     push(text, "\t")?;
     image_decoded(alloc, text, node, value)?;
     push(text, "\t")?;
-    image_read(alloc, text, value)
+    image_read(alloc, text, value)?;
+    push(text, "\t")?;
+    image_whole(alloc, text, value)
 }
 
 fn image_bytes(alloc: Global, text: &mut String, value: &Value) -> Result<(), Error> {
@@ -148,6 +157,21 @@ fn image_decoded(
 
 fn value_of(alloc: Global, node: &Node) -> Result<Value, Error> {
     decode_value(alloc, &to_vec(alloc, node)?)
+}
+
+// Appends whether the image encodes itself: its length and its bytes are those of `to_vec`, and it
+// has neither if `to_vec` fails.
+fn image_whole(alloc: Global, text: &mut String, value: &Value) -> Result<(), Error> {
+    let same = match (
+        to_vec(alloc, value),
+        value.whole_len(),
+        value.whole_bytes(alloc),
+    ) {
+        (Ok(bytes), Some(len), Some(whole)) => bytes.len() == len && bytes == whole,
+        (Err(_), None, None) => true,
+        _ => false,
+    };
+    comparison(text, same)
 }
 
 // Appends whether `from_value` returns the image.
