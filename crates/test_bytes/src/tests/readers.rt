@@ -289,6 +289,65 @@ fn peeked<R: Read>(rt: &HostRuntime, reader: &mut R) -> bool {
         )
 }
 
+/// A reader with the required calls alone.
+#[derive(Drop)]
+struct Plain<'a> {
+    inner: SliceReader<'a>,
+}
+
+impl<'a> Read for Plain<'a> {
+    ghost left = { λ r. ⟦<SliceReader<'a> as Read>⟧.left r.inner };
+
+    ghost failures = { λ _. 0 };
+
+    fn peek(&mut self) -> Result<Option<u8>, Error> {
+        self.inner.peek()
+    }
+
+    fn next(&mut self) -> Result<Option<u8>, Error> {
+        self.inner.next()
+    }
+
+    fn read_exact(&mut self, buf: &mut [u8]) -> Result<(), Error> {
+        self.inner.read_exact(buf)
+    }
+}
+
+/// Reads some bytes into three, and returns how many there are, and the first.
+fn some<R: Read>(reader: &mut R) -> Result<(usize, u8), Error> {
+    let mut buf = [0; 3];
+    match reader.read_some(&mut buf) {
+        Ok(count) => Ok((count, buf[0])),
+        Err(error) => Err(error),
+    }
+}
+
+fn some_bytes(rt: &HostRuntime) -> bool {
+    let mut plain = Plain {
+        inner: SliceReader::new(b"\x50\x01"),
+    };
+    let mut slice = SliceReader::new(b"\x50\x01");
+    let mut after_peek = by_bytes(b"\x50\x01", 0, ErrorKind::Other);
+    is(rt, "one byte by next", some(&mut plain), Ok((1, 0x50)))
+        && is(rt, "the next one", some(&mut plain), Ok((1, 0x01)))
+        && is(rt, "none at the end", some(&mut plain), Ok((0, 0)))
+        && is(rt, "all of a slice", some(&mut slice), Ok((2, 0x50)))
+        && peeks(rt, "peek", &mut after_peek, 0x50)
+        && is(
+            rt,
+            "the byte peeked at",
+            some(&mut after_peek),
+            Ok((1, 0x50)),
+        )
+        && is(
+            rt,
+            "the byte after it",
+            some(&mut after_peek),
+            Ok((1, 0x01)),
+        )
+        && is(rt, "the end", some(&mut after_peek), Ok((0, 0)))
+}
+
 /// Returns whether reading a deep value has this result.
 fn deep(
     rt: &HostRuntime,
@@ -409,6 +468,7 @@ fn encoded_values(rt: HostRuntime) {
     );
     let mut reader = by_bytes(b"\x40\x41\x42", 3, ErrorKind::Other);
     assert!(rt; peeked(&rt, &mut reader), "what was peeked at stays");
+    assert!(rt; some_bytes(&rt), "some bytes");
     assert!(rt; deep_values(&rt), "deep values are counted");
     assert!(rt; lazy_values(&rt), "a lazy value gives its bytes");
 }
