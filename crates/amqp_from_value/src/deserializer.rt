@@ -16,7 +16,7 @@ use std::vec::IntoIter;
 
 // The number of entries from which on an index of their keys costs less than comparing each key with
 // each one before it.
-const MANY: usize = 64;
+const MANY: usize = 24;
 
 /// A deserializer of a `Value`.
 #[derive(Drop)]
@@ -263,6 +263,11 @@ impl de::Deserializer for Deserializer {
 
     fn has_many_short_keys(entries: &Entries) -> bool {
         entries.pairs.len() >= MANY && entries.pairs.iter().all(|pair| is_short_key(&pair.0))
+    }
+
+    #[inline(always)]
+    fn entries_left(entries: &Entries) -> usize {
+        entries.pairs.len()
     }
 
     #[inline(always)]

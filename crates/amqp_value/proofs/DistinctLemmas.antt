@@ -1,11 +1,11 @@
 -- Entries with distinct keys, inserted in order.
-use Rattle.std.proofs.Common.{◌≡◌, ℕ, zero, suc, ◌+◌, ◌<◌, Bool, true, false, true≢false, ◌||◌, List, [], ◌∷◌, ◌++◌, length, get_or, take, position, Option, Some, None, option_map, refl, sym, ap, ◌∙◌, append_assoc, arith}
+use Rattle.std.proofs.Common.{◌≡◌, ℕ, zero, suc, ◌+◌, ◌<◌, Bool, true, false, true≢false, ◌||◌, List, [], ◌∷◌, ◌++◌, length, get_or, take, drop, position, Option, Some, None, option_map, Result, Ok, Err, IfOk, OnOk, refl, sym, ap, subst, ◌∙◌, append_assoc, arith}
 use Rattle.std.proofs.lemmas.List.{append-nil}
 use Rattle.std.proofs.lemmas.List.Quantifiers.{position-Some}
 use Rattle.std.specs.Bool.{OnTrue}
 use Rattle.std.specs.List.{list_any}
 use Rattle.std.specs.Map.{keys_of}
-use Rattle.amqp_data.specs.Pairs.{insert_pair, LacksKey, AreDistinct}
+use Rattle.amqp_data.specs.Pairs.{insert_pair, insert_pairs, LacksKey, AreDistinct}
 use Rattle.amqp_value.specs.declared.value.Value.{Value}
 use Rattle.amqp_data.proofs.Searches.{AllFail, fail_by_position}
 use Rattle.amqp_value.specs.Places.{equal, merged, place}
@@ -44,6 +44,40 @@ merged_onto (e ∷ es) done distinct h =
 pub merged-if_distinct : (es : List (Value × Value)) (b : Bool) → OnTrue b (AreDistinct equal (keys_of es)) → OnTrue b (merged equal es [] ≡ es)
 merged-if_distinct es true distinct = merged_onto es [] distinct (all_miss-nothing es)
 merged-if_distinct es false distinct = tt
+
+merged_insert_pairs : (es done : List (Value × Value)) → merged equal es done ≡ insert_pairs equal es done
+merged_insert_pairs [] done = refl
+merged_insert_pairs (e ∷ es) done = merged_insert_pairs es (insert_pair equal done e.0 e.1)
+
+-- The same, of results.
+pub merged-kept : {E : Type 0} (r : Result Bool E) (new old : List (Value × Value)) → OnOk r (insert_pairs equal new [] ≡ insert_pairs equal old [])
+    → OnOk r (merged equal new [] ≡ merged equal old [])
+merged-kept (Ok b) new old is = merged_insert_pairs new [] ∙ is ∙ sym (merged_insert_pairs old [])
+merged-kept (Err e) new old is = tt
+
+pub merged-found : {E : Type 0} (r : Result Bool E) (es : List (Value × Value)) → IfOk r (λ found. OnTrue found (AreDistinct equal (keys_of es)))
+    → IfOk r (λ found. OnTrue found (merged equal es [] ≡ es))
+merged-found (Ok b) es distinct = merged-if_distinct es b distinct
+merged-found (Err e) es distinct = tt
+
+merged_append : (xs ys done : List (Value × Value)) → merged equal (xs ++ ys) done ≡ merged equal ys (merged equal xs done)
+merged_append [] ys done = refl
+merged_append (x ∷ xs) ys done = merged_append xs ys (insert_pair equal done x.0 x.1)
+
+split_at : (n : ℕ) (es : List (Value × Value)) → take n es ++ drop n es ≡ es
+split_at zero es = refl
+split_at (suc n) [] = refl
+split_at (suc n) (e ∷ es) = ap (λ r. e ∷ r) (split_at n es)
+
+-- The first entries are distinct, and the rest is inserted after them.
+pub merged-split : (n : ℕ) (es seen first rest : List (Value × Value)) → seen ≡ es → merged equal (take n seen) [] ≡ take n seen
+    → first ≡ take n es → rest ≡ drop n es → merged equal rest first ≡ merged equal es []
+merged-split n es seen first rest same distinct head tail =
+    let kept = subst (λ (xs : List (Value × Value)). merged equal (take n xs) [] ≡ take n xs) same distinct in
+    ap (λ xs. merged equal xs first) tail
+    ∙ ap (merged equal (drop n es)) (head ∙ sym kept)
+    ∙ sym (merged_append (take n es) (drop n es) [])
+    ∙ ap (λ xs. merged equal xs []) (split_at n es)
 
 module _ {K V : Type 0} (eq : K → K → Bool) (k : K) where
   place_none : (es : List (K × V)) → AllFail (λ e. eq k e.0) es → place eq k es ≡ None

@@ -1,6 +1,6 @@
 //! Entries with each key once. Entries whose keys are distinct need no change.
 
-ghost use Rattle.std.specs.Prelude.{◌≡◌, [], IfOk, position};
+ghost use Rattle.std.specs.Prelude.{◌≡◌, ◌≤◌, [], IfOk, OnOk, length, position, take};
 ghost use Rattle.std.specs.Bool.{OnTrue};
 ghost use Rattle.std.specs.List.{list_any};
 ghost use Rattle.amqp_value.specs.Places.{equal, merged};
@@ -8,7 +8,7 @@ ghost use Rattle.amqp_value.specs.Places.{equal, merged};
 use crate::places::{ascends, places_of, put, rebuild};
 use crate::short_keys::have_short_keys;
 use crate::value::Value;
-use amqp_data::finds_distinct_keys;
+use amqp_data::merge_repeated_keys;
 use std::alloc::{AllocError, Global};
 
 // The number of entries up to which comparing each key with each one before it costs less than
@@ -28,14 +28,11 @@ pub fn once_each(
     }
     if have_short_keys(&pairs) {
         if pairs.len() <= FEW {
-            return once_each_by_pairs(alloc, pairs);
+            return once_each_by_pairs(pairs);
         }
-        if are_distinct(alloc, &pairs) {
-            return Ok(pairs);
-        }
+        return once_each_by_hashes(alloc, pairs);
     }
-    let places = places_of(alloc, &pairs)?;
-    rebuild(alloc, pairs, places)
+    once_each_by_order(alloc, pairs)
 }
 
 // Does the same for entries whose keys were distinct before they were converted, so that a repeated
@@ -49,39 +46,69 @@ pub fn once_each_converted(
     if have_short_keys(&pairs) {
         return once_each(alloc, pairs);
     }
-    once_each_by_pairs(alloc, pairs)
+    once_each_by_pairs(pairs)
 }
 
-// Does the same by comparing each key with each one before it.
-fn once_each_by_pairs(
+// Does the same by the order of the keys.
+fn once_each_by_order(
     alloc: Global,
     pairs: Vec<(Value, Value)>,
 ) -> Result<Vec<(Value, Value)>, AllocError>
     ensures { IfOk result (λ entries. entries.items ≡ merged equal pairs.items []) }
 {
-    if differ_from_each_before(&pairs) {
+    let places = places_of(alloc, &pairs)?;
+    rebuild(alloc, pairs, places)
+}
+
+// Does the same by the hashes of the keys, and by their order if many have hashes in the same bucket.
+fn once_each_by_hashes(
+    alloc: Global,
+    pairs: Vec<(Value, Value)>,
+) -> Result<Vec<(Value, Value)>, AllocError>
+    ensures { IfOk result (λ entries. entries.items ≡ merged equal pairs.items []) }
+{
+    let mut entries = pairs;
+    if merge_repeated(alloc, &mut entries)? {
+        return Ok(entries);
+    }
+    once_each_by_order(alloc, entries)
+}
+
+// Inserts the entries in order, as far as the hashes of their keys show the places. Returns true if no
+// key repeats then.
+fn merge_repeated(alloc: Global, pairs: &mut Vec<(Value, Value)>) -> Result<bool, AllocError>
+    ensures merged { OnOk result
+        (merged equal pairs.new.items [] ≡ merged equal pairs.old.items []) }
+    ensures distinct { IfOk result
+        (λ found. OnTrue found (merged equal pairs.new.items [] ≡ pairs.new.items)) }
+{
+    merge_repeated_keys(alloc, pairs)
+}
+
+// Does the same as `once_each` by comparing each key with each one before it.
+fn once_each_by_pairs(pairs: Vec<(Value, Value)>) -> Result<Vec<(Value, Value)>, AllocError>
+    ensures { IfOk result (λ entries. entries.items ≡ merged equal pairs.items []) }
+{
+    let first = first_repeated(&pairs);
+    if first >= pairs.len() {
         return Ok(pairs);
     }
-    insert_each(alloc, pairs)
+    let mut entries = pairs;
+    let rest = entries.split_off(first)?;
+    insert_each(entries, rest)
 }
 
-// Returns true if the hashes of the keys show that they are distinct.
-fn are_distinct(alloc: Global, pairs: &[(Value, Value)]) -> bool
-    ensures { OnTrue result (merged equal pairs.now [] ≡ pairs.now) }
-{
-    finds_distinct_keys(alloc, pairs)
-}
-
-// Returns whether each key differs from each one before it.
-fn differ_from_each_before(pairs: &[(Value, Value)]) -> bool
-    ensures { OnTrue result (merged equal pairs.now [] ≡ pairs.now) }
+// Returns the number of entries before the first one with a repeated key.
+fn first_repeated(pairs: &[(Value, Value)]) -> usize
+    ensures within { result ≤ length pairs.now }
+    ensures distinct { merged equal (take result pairs.now) [] ≡ take result pairs.now }
 {
     for i in 0..pairs.len() {
         if has_key(&pairs[..i], &pairs[i].0) {
-            return false;
+            return i;
         }
     }
-    true
+    pairs.len()
 }
 
 // Returns whether one of the entries has the key.
@@ -91,12 +118,15 @@ fn has_key(pairs: &[(Value, Value)], key: &Value) -> bool
     pairs.iter().any(|pair| *key == pair.0)
 }
 
-// Inserts the entries in order, and finds each key by comparison with those before it.
-fn insert_each(alloc: Global, pairs: Vec<(Value, Value)>) -> Result<Vec<(Value, Value)>, AllocError>
-    ensures { IfOk result (λ entries. entries.items ≡ merged equal pairs.items []) }
+// Inserts the rest of the entries in order, and finds each key by comparison with those before it.
+fn insert_each(
+    entries: Vec<(Value, Value)>,
+    rest: Vec<(Value, Value)>,
+) -> Result<Vec<(Value, Value)>, AllocError>
+    ensures { IfOk result (λ made. made.items ≡ merged equal rest.items entries.items) }
 {
-    let mut entries = Vec::new(alloc);
-    for (key, value) in pairs {
+    let mut entries = entries;
+    for (key, value) in rest {
         let at = position_of(&entries, &key);
         put(&mut entries, at, key, value)?;
     }

@@ -71,9 +71,10 @@ impl MapBuilder {
     ///
     /// # Memory
     /// None if each key is greater than the one before it, or if there are at most 8 entries, all
-    /// keys are short, and none repeats. If one of at most 8 short keys repeats, a vector of the
-    /// entries of the map. More short keys take 12 bytes each. If a key is long, or these do not show
-    /// that the keys differ, a B-tree of the keys, a position for each entry, and that vector.
+    /// keys are short, and none repeats. More short keys take 12 bytes each. If a short key repeats, a
+    /// block for the entries from the first repeated key on. If a key is long, or there are more than
+    /// 16 entries and many keys have hashes in the same bucket, a B-tree of the keys, a position for
+    /// each entry, and a vector of the entries.
     pub fn into_value(self, alloc: Global) -> Result<Value, Error>
         ensures { MatchResult result
             (λ v. tree_of v ≡ map (collected_pairs self))

@@ -26,8 +26,8 @@ trait Inserts<K, V>: Sized + Drop {
     /// Which maps result from inserting these pairs, in order.
     ghost holds: { List (K × V) → Self → Type 0 };
 
-    /// Returns an empty map.
-    fn empty(alloc: Global) -> Self
+    /// Returns an empty map, for `count` pairs if it makes room.
+    fn empty(alloc: Global, count: usize) -> Self
         ensures { holds [] result };
 
     /// Inserts a pair; returns `false` if an allocation fails.
@@ -71,7 +71,7 @@ fn read_pairs<K: Deserialize, V: Deserialize, M: Inserts<K, V>, D: Deserializer>
         MatchResult result (λ m. (ys : List (K × V))
         × AllZip (SamePair K.same V.same) ys xs × M.holds ys m) D.Error.is_out_of_memory }
 {
-    let mut map = M::empty(alloc);
+    let mut map = M::empty(alloc, D::entries_left(&*entries));
     'entries: loop {
         match D::next_pair(&mut *entries) {
             Some((key, value)) => match read_pair::<K, V, D>(alloc, key, value) {
@@ -90,7 +90,7 @@ fn read_pairs<K: Deserialize, V: Deserialize, M: Inserts<K, V>, D: Deserializer>
 impl<K: Hash + Eq + Drop, V: Drop> Inserts<K, V> for OrderedMap<K, V> {
     ghost holds = { HoldsInOrder K.eq };
 
-    fn empty(alloc: Global) -> OrderedMap<K, V> {
+    fn empty(alloc: Global, _count: usize) -> OrderedMap<K, V> {
         OrderedMap::new(alloc)
     }
 
@@ -102,8 +102,8 @@ impl<K: Hash + Eq + Drop, V: Drop> Inserts<K, V> for OrderedMap<K, V> {
 impl<K: Hash + Eq + Drop, V: Drop> Inserts<K, V> for OrderedMapBuilder<K, V> {
     ghost holds = { λ done entries. entries ≡ inserted_in_order K.eq done };
 
-    fn empty(alloc: Global) -> OrderedMapBuilder<K, V> {
-        OrderedMapBuilder::new(alloc)
+    fn empty(alloc: Global, count: usize) -> OrderedMapBuilder<K, V> {
+        OrderedMapBuilder::with_index(alloc, count)
     }
 
     fn put(&mut self, key: K, value: V) -> bool {
@@ -114,7 +114,7 @@ impl<K: Hash + Eq + Drop, V: Drop> Inserts<K, V> for OrderedMapBuilder<K, V> {
 impl<K: Ord + Drop, V: Drop> Inserts<K, V> for BTreeMap<K, V> {
     ghost holds = { HoldsSorted K.cmp };
 
-    fn empty(alloc: Global) -> BTreeMap<K, V> {
+    fn empty(alloc: Global, _count: usize) -> BTreeMap<K, V> {
         BTreeMap::new(alloc)
     }
 
@@ -126,7 +126,7 @@ impl<K: Ord + Drop, V: Drop> Inserts<K, V> for BTreeMap<K, V> {
 impl<K: Hash + Eq + Drop, V: Drop> Inserts<K, V> for HashMap<K, V> {
     ghost holds = { HoldsHashed K.eq };
 
-    fn empty(alloc: Global) -> HashMap<K, V> {
+    fn empty(alloc: Global, _count: usize) -> HashMap<K, V> {
         HashMap::new(alloc)
     }
 

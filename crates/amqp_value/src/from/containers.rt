@@ -116,7 +116,7 @@ impl Value {
     /// Allocates once from `alloc` for the entries, or not at all if there are none. The capacity is
     /// a power of two, at least 4, as after insertions one by one. To find equal keys, it allocates
     /// as `MapBuilder::into_value` if all keys are short (`is_short_key`). Otherwise it allocates a
-    /// vector that grows, if there are equal keys.
+    /// block for the entries from the first repeated key on, if there is one.
     ///
     /// # Example
     /// `1u8` to `true` gives a `Map` that is encoded as `c10402500141`.
@@ -149,7 +149,7 @@ impl Value {
     /// Allocates once from `alloc` for the entries, or not at all if there are none. The capacity is
     /// a power of two, at least 4, as after insertions one by one. To find equal keys, it allocates
     /// as `MapBuilder::into_value` if all keys are short (`is_short_key`). Otherwise it allocates a
-    /// vector that grows, if there are equal keys.
+    /// block for the entries from the first repeated key on, if there is one.
     ///
     /// # Example
     /// The ubyte keys 2 to `true` and 1 to `false` give a `Map` that is encoded as

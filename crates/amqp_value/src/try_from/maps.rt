@@ -18,7 +18,7 @@ use std::hash::Hash;
 
 // The number of entries from which on an index costs less than comparing each key with each one
 // before it.
-const MANY: usize = 96;
+const MANY: usize = 48;
 
 /// Converts a `Map`. Inserts its entries in order, each key converted before its value.
 ///
@@ -28,8 +28,8 @@ const MANY: usize = 96;
 /// be converted.
 ///
 /// # Memory
-/// Allocates from the map's own allocator as the new map grows. From 96 entries on, if the keys are
-/// short (`is_short_key`), an index takes 8 to 16 bytes for each entry until the map is complete.
+/// Allocates from the map's own allocator as the new map grows. From 48 entries on, if the keys are
+/// short (`is_short_key`), an index takes 16 bytes for each entry until the map is complete.
 ///
 /// # Example
 /// The map from the ubyte 1 to `true` gives 1 to `true` as an `OrderedMap<u8, bool>`, and

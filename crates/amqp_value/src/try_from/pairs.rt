@@ -24,8 +24,8 @@ pub(super) trait Inserts<K, V>: Sized + Drop {
     /// States that the map is the result of inserting these entries in order.
     ghost holds: { List (K × V) → Self → Type 0 };
 
-    /// Returns a map without entries.
-    fn empty(alloc: Global) -> Self
+    /// Returns a map without entries, for `count` entries if it makes room.
+    fn empty(alloc: Global, count: usize) -> Self
         ensures { holds [] result };
 
     /// Inserts an entry. Returns `false` if an allocation fails.
@@ -37,7 +37,7 @@ pub(super) trait Inserts<K, V>: Sized + Drop {
 impl<K: Hash + Eq + Drop, V: Drop> Inserts<K, V> for OrderedMap<K, V> {
     ghost holds = { λ done map. entries_of map ≡ inserted_in_order K.eq done };
 
-    fn empty(alloc: Global) -> OrderedMap<K, V> {
+    fn empty(alloc: Global, _count: usize) -> OrderedMap<K, V> {
         OrderedMap::new(alloc)
     }
 
@@ -50,8 +50,8 @@ impl<K: Hash + Eq + Drop, V: Drop> Inserts<K, V> for OrderedMap<K, V> {
 impl<K: Hash + Eq + Drop, V: Drop> Inserts<K, V> for OrderedMapBuilder<K, V> {
     ghost holds = { λ done entries. entries ≡ inserted_in_order K.eq done };
 
-    fn empty(alloc: Global) -> OrderedMapBuilder<K, V> {
-        OrderedMapBuilder::new(alloc)
+    fn empty(alloc: Global, count: usize) -> OrderedMapBuilder<K, V> {
+        OrderedMapBuilder::with_index(alloc, count)
     }
 
     #[tactic(auto, using(crate::proofs::Zips::fold_pushed))]
@@ -63,7 +63,7 @@ impl<K: Hash + Eq + Drop, V: Drop> Inserts<K, V> for OrderedMapBuilder<K, V> {
 impl<K: Ord + Drop, V: Drop> Inserts<K, V> for BTreeMap<K, V> {
     ghost holds = { λ done map. map.entries ≡ inserted_sorted K.cmp done };
 
-    fn empty(alloc: Global) -> BTreeMap<K, V> {
+    fn empty(alloc: Global, _count: usize) -> BTreeMap<K, V> {
         BTreeMap::new(alloc)
     }
 
@@ -76,7 +76,7 @@ impl<K: Ord + Drop, V: Drop> Inserts<K, V> for BTreeMap<K, V> {
 impl<K: Hash + Eq + Drop, V: Drop> Inserts<K, V> for IndexMap<K, V> {
     ghost holds = { λ done map. map.entries ≡ insert_all K.eq [] done };
 
-    fn empty(alloc: Global) -> IndexMap<K, V> {
+    fn empty(alloc: Global, _count: usize) -> IndexMap<K, V> {
         IndexMap::new(alloc)
     }
 
@@ -89,7 +89,7 @@ impl<K: Hash + Eq + Drop, V: Drop> Inserts<K, V> for IndexMap<K, V> {
 impl<K: Hash + Eq + Drop, V: Drop> Inserts<K, V> for HashMap<K, V> {
     ghost holds = { λ done map. IsFromIterResult K.eq done map };
 
-    fn empty(alloc: Global) -> HashMap<K, V> {
+    fn empty(alloc: Global, _count: usize) -> HashMap<K, V> {
         HashMap::new(alloc)
     }
 
@@ -124,7 +124,7 @@ where
     M: Inserts<K, V>,
     ensures { PairsGive K.try_from_gives V.try_from_gives M.holds pairs.items result }
 {
-    let mut map = M::empty(*pairs.allocator());
+    let mut map = M::empty(*pairs.allocator(), pairs.len());
     for (key, value) in pairs {
         let (key, value) = convert_pair(key, value)?;
         if !map.put(key, value) {

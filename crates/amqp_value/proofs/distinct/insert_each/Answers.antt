@@ -1,4 +1,4 @@
-use Rattle.std.proofs.Common.{◌≡◌, [], List, position, sym, ap, ◌∙◌, subst}
+use Rattle.std.proofs.Common.{◌≡◌, List, position, sym, ap, ◌∙◌, subst}
 use Rattle.amqp_value.specs.declared.value.Value.{Value}
 use Rattle.amqp_value.proofs.DistinctLemmas.{place-position}
 use Rattle.amqp_data.specs.Pairs.{insert_pair}
@@ -13,4 +13,4 @@ put-requires c =
 
 pub loop-key-preserved : goal.loop-key-preserved
 loop-key-preserved c =
-    c.in_ok-put.ensures ∙ ap (λ es. insert_pair equal es c.in-Some.key c.in-Some.value) c.loop-key.invariant ∙ sym (merged-push equal c.loop-key.yielded (c.in-Some.key, c.in-Some.value) [])
+    c.in_ok-put.ensures ∙ ap (λ es. insert_pair equal es c.in-Some.key c.in-Some.value) c.loop-key.invariant ∙ sym (merged-push equal c.loop-key.yielded (c.in-Some.key, c.in-Some.value) c.args.entries.items)

@@ -121,9 +121,48 @@ fn the_last_of_equal_keys_has_its_value_kept(rt: &HostRuntime) -> Result<bool, C
     )
 }
 
+// Returns a map of so many ubytes to themselves.
+fn numbers(rt: &HostRuntime, count: u8) -> Result<Value, Error> {
+    let mut pairs = OrderedMap::new(rt.alloc());
+    for number in 0..count {
+        drop(pairs.insert(Value::Ubyte(number), Value::Ubyte(number))?);
+    }
+    Ok(Value::Map(pairs))
+}
+
+// Returns whether so many keys, which are equal to 16, keep the position of the first of each and the
+// value of the last.
+fn sixteen_are_left(rt: &HostRuntime, count: u8) -> bool {
+    let Ok(value) = numbers(rt, count) else {
+        return false;
+    };
+    let Ok(map) = OrderedMap::<LowBits, u8>::try_from(value) else {
+        return false;
+    };
+    let last = count.wrapping_sub(1);
+    let mut low = 0u8;
+    for (key, value) in map.iter() {
+        if *key != LowBits(low) || *value != last.wrapping_sub(last.wrapping_sub(low) % 16) {
+            return false;
+        }
+        low = low.wrapping_add(1);
+    }
+    low == 16
+}
+
+// The numbers of keys are on both sides of those from which on an index is used, now or before.
+fn many_equal_keys_have_their_last_values_kept(rt: &HostRuntime) -> bool {
+    let mut kept = true;
+    for count in [16, 23, 24, 25, 47, 48, 49, 95, 96, 97, 200] {
+        kept = kept && sixteen_are_left(rt, count);
+    }
+    kept
+}
+
 #[test]
 fn maps(rt: HostRuntime) {
     assert!(rt; maps_are_made_of_their_pairs(&rt));
     assert!(rt; a_key_is_found_unfit_before_its_value(&rt));
     assert!(rt; matches!(the_last_of_equal_keys_has_its_value_kept(&rt), Ok(true)));
+    assert!(rt; many_equal_keys_have_their_last_values_kept(&rt));
 }

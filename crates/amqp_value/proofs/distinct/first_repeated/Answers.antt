@@ -2,7 +2,7 @@ use Rattle.std.proofs.Common.{◌≡◌, false, take, rules}
 use Rattle.std.specs.List.{list_any}
 use Rattle.amqp_value.specs.Places.{equal}
 use Rattle.amqp_value.proofs.DistinctLemmas.{merged-new}
-use Rattle.amqp_value.proofs.distinct.differ_from_each_before.Goals as goal
+use Rattle.amqp_value.proofs.distinct.first_repeated.Goals as goal
 
 pub loop-i-preserved : goal.loop-i-preserved
 loop-i-preserved c =
