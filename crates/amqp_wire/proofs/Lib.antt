@@ -18,4 +18,3 @@ pub mod DescribedPosition
 pub mod DescribedBytes
 pub mod EndedBytes
 pub mod EncodePasses
-pub mod WholeEncoderLemmas

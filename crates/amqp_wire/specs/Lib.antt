@@ -10,4 +10,3 @@ pub mod Positions
 pub mod State
 pub mod Writer
 pub mod Measurer
-pub mod WholeEncoder

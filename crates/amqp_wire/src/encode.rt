@@ -5,7 +5,6 @@ ghost use Rattle.amqp_ser.specs.SizeAndBytes.{AreBytesOf};
 ghost use Rattle.amqp_wire.specs.ResultBytes.{result_bytes};
 
 use crate::measurer::Measurer;
-use crate::whole_encoder::encode_whole;
 use crate::writer::Writer;
 use amqp_data::Error;
 use amqp_pass::SizeError;
@@ -26,23 +25,11 @@ use std::alloc::Global;
 ///
 /// # Memory
 /// Allocates from `alloc` once for the bytes, and for a table of 12 bytes for each compound. A
-/// scalar needs no table. For an untyped value, the table has 8 bytes for each compound. If an
-/// allocation for it fails, both are freed, and the value is encoded like any other.
+/// scalar needs no table.
 ///
 /// # Example
 /// The list of the strings `a` and `bc` is `c00802a10161a1026263`.
 pub fn to_vec<T: Serialize>(alloc: Global, value: &T) -> Result<Vec<u8>, Error>
-    ensures { AreBytesOf (T.tree value.now) (result_bytes result) }
-{
-    match encode_whole(alloc, value) {
-        Some(bytes) => Ok(bytes),
-        None => encode_parts(alloc, value),
-    }
-}
-
-// Returns the encoding of any value, in two passes.
-#[inline(always)]
-fn encode_parts<T: Serialize>(alloc: Global, value: &T) -> Result<Vec<u8>, Error>
     ensures { AreBytesOf (T.tree value.now) (result_bytes result) }
 {
     let mut measurer = Measurer::new(alloc);

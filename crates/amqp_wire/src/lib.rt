@@ -2,9 +2,8 @@
 //!
 //! `to_vec` makes two passes over a value. The first pass measures the encoding and lists the
 //! headers of all compounds. Then the buffer is allocated, and the second pass writes into it
-//! without allocating. A value that can encode itself, such as an untyped value, makes both passes
-//! without a serializer. Unless an allocation fails, `to_vec` succeeds if and only if the tree of
-//! the value is writable, and returns the encoding of the tree.
+//! without allocating. Unless an allocation fails, `to_vec` succeeds if and only if the tree of the
+//! value is writable, and returns the encoding of the tree.
 #![tactic(auto)]
 
 mod encode;
@@ -19,7 +18,6 @@ mod scalars;
 mod table;
 #[cfg(test)]
 mod tests;
-mod whole_encoder;
 mod writer;
 mod writer_compound;
 

@@ -2,7 +2,7 @@ use Rattle.std.proofs.Common.{◌≤◌, ap, ◌∙◌, sym, subst, Ok}
 use Rattle.std.specs.Vec.{vec_capacity}
 use Rattle.amqp_ser.specs.SizeAndBytes.{AreBytesOf}
 use Rattle.amqp_wire.proofs.EncodePasses.{walked, never_refused, kept_answer}
-use Rattle.amqp_wire.proofs.encode.encode_parts.Goals as goal
+use Rattle.amqp_wire.proofs.encode.to_vec.Goals as goal
 
 pub returns-in_err-serialize : goal.returns-in_err-serialize
 returns-in_err-serialize g c = absurd (never_refused c.new-measurer.result c.serialize-answer.new.serializer (g.T.Serialize.tree c.args.value.now) c.in_ok-len.len c.new-writer.result c.serialize.new.serializer _
