@@ -20,7 +20,7 @@
 //! | rows of read, refused elements | `to_vec`, `Serialize::serialize`, `Value::serialize` |
 //! | rows of read and write | `to_value`, `Serializer::new` |
 //! | optional rows of decode and read | `finds_distinct_keys`, `merge_repeated_keys`, `OrderedMapBuilder::new`, `OrderedMapBuilder::with_index`, `OrderedMapBuilder::insert` |
-//! | optional rows of decode and read | `Whole::whole_bytes`, `Value::whole_bytes` |
+//! | rows of whole in test_rows, no allocation of which fails | `Whole::whole_bytes`, `Value::whole_bytes` |
 //! | frames, rows of lazy and hold | `LazyValue::from_reader`, `to_lazy_value` |
 //! | frames | `LazyValue::try_into_vec` |
 //! | conversions | `Value::try_from_str`, `Value::try_from_described`, `Value::try_from_array`, `Value::try_from_vec` |
