@@ -21,8 +21,6 @@ from pathlib import Path
 
 ROOT = Path(__file__).resolve().parent.parent / "crates"
 REFUSED = "<out of memory>"
-# What a row of `read` prints if `from_reader` failed: bytes of the value are left then.
-LEFT = "<not exactly one encoded value was read>"
 # Two for the hashes of each of two maps that are decoded. For each of the four calls of the rows of `read`: two for the hashes of each
 # of two maps, decoded or made by `to_value`; two for an index; one for each of two lists.
 OPTIONAL = 36
@@ -55,7 +53,7 @@ def results_of(line):
     row, _, result = line.partition(" = ")
     first, _, others = result.partition(", but ")
     more = others.removeprefix("from_slice ").split(" and ") if others else []
-    return row, [REFUSED if it == LEFT else it for it in (first, *more)]
+    return row, [first, *more]
 
 
 def is_refused(line, full):

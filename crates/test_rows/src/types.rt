@@ -77,10 +77,7 @@ fn by_name(alloc: Global, name: &str, bytes: &[u8]) -> Result<String, Error> {
 /// Reads the bytes as this type by `decode_value` and `from_value`, and returns the results of what
 /// was read. Each other call that reads a type from bytes must have the same results.
 pub fn read_as<T: Serialize + Deserialize>(alloc: Global, bytes: &[u8]) -> Result<String, Error> {
-    let by_value = match decode_value(alloc, bytes) {
-        Ok(value) => text_of(alloc, from_value::<T>(alloc, value))?,
-        Err(error) => refusal(alloc, &error)?,
-    };
+    let by_value = text_of(alloc, from_decoded::<T>(alloc, bytes))?;
     let by_slice = text_of(alloc, from_slice::<T>(alloc, bytes))?;
     if by_slice != by_value {
         return Ok(format!(in alloc; "{by_value}, but from_slice {by_slice}")?);
@@ -109,12 +106,20 @@ fn text_of<T: Serialize + Deserialize>(
     }
 }
 
-// Reads the type from a reader over the bytes and a null, which must remain.
+// Reads the type by `decode_value` and `from_value`.
+fn from_decoded<T: Deserialize>(alloc: Global, bytes: &[u8]) -> Result<T, Error> {
+    from_value(alloc, decode_value(alloc, bytes)?)
+}
+
+// Reads the type from a reader over the bytes and a null, which must remain unless memory is missing.
 fn from_longer<T: Deserialize>(alloc: Global, bytes: &[u8]) -> Result<T, Error> {
     let mut longer = Vec::from_slice(alloc, bytes)?;
     longer.push(0x40)?;
     let mut reader = SliceReader::new(&longer);
     let read = from_reader::<T, SliceReader<'_>>(alloc, &mut reader);
+    if let Err(Error::OutOfMemory) = &read {
+        return read;
+    }
     if reader.next()? != Some(0x40) || reader.next()?.is_some() {
         return Err(Error::Message("not exactly one encoded value was read"));
     }
