@@ -18,7 +18,7 @@ pub extern "C" fn amqp_bench(alloc: Global, work: u32, op: u32, data: &[u8], tim
 /// Returns the result of `run_shape`.
 #[unsafe(no_mangle)]
 pub extern "C" fn amqp_shape(alloc: Global, shape: u32, op: u32, times: u64) -> u64
-    ensures shapes { 10 ≤ shape → result ≡ 0 }
+    ensures shapes { 11 ≤ shape → result ≡ 0 }
     ensures operations { 7 ≤ op → result ≡ 0 }
 {
     run_shape(alloc, shape, op, times)

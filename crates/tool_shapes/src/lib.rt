@@ -13,6 +13,7 @@ mod fed;
 mod hash;
 mod inputs;
 mod maps;
+mod message;
 mod repeat;
 mod run;
 
@@ -23,4 +24,5 @@ pub use fed::{FedDescribedFields, FedFields};
 pub use hash::hash_of;
 pub use inputs::{blob, ints, numbered, rows};
 pub use maps::run_maps;
+pub use message::{ApplicationProperties, Header, Message, Properties};
 pub use run::{run_shape, run_work};

@@ -7,6 +7,7 @@ use crate::chain::Chain;
 use crate::chain_read::repeat_chain;
 use crate::fed::{FedDescribedFields, FedFields};
 use crate::inputs::{blob, ints, lines, numbered, numbers, rows};
+use crate::message::Message;
 use crate::repeat::{repeat, repeat_typed};
 use amqp_data::Error;
 use amqp_de::de::Deserialize;
@@ -53,6 +54,16 @@ fn attached(alloc: Global, form: u32, op: u32, times: u64) -> u64
     }
 }
 
+/// Returns the result of an operation on a message with untyped application properties.
+fn messaged(alloc: Global, op: u32, times: u64) -> u64
+    ensures { 7 ≤ op → result ≡ 0 }
+{
+    match Message::example(alloc) {
+        Ok(message) => repeat(alloc, &message, op, times),
+        Err(_) => 0,
+    }
+}
+
 /// Runs an operation on a value made from `data`, and returns its result.
 ///
 /// The value of work 0 is the list of the lines of the text, and of work 1 the array of the numbers
@@ -82,14 +93,14 @@ pub fn run_work(alloc: Global, work: u32, op: u32, data: &[u8], times: u64) -> u
 /// Shape 0 is a list of fourteen fields, 1 a list of 1,000 ints, 2 a list of 1,000 rows of ten
 /// ints, 3 a chain of 256 lists, 4 a binary of 65,536 bytes, and 5 and 6 are maps of 1,000 and
 /// 10,000 keys. Shape 7 is the list of fields with a descriptor. Shape 8 is the list of the first
-/// seven fields, serialized one at a time, and shape 9 is that list with a descriptor. The
-/// operations are those of `run_work`. For any other shape or operation, and if a call fails, the
-/// result is 0.
+/// seven fields, serialized one at a time, and shape 9 is that list with a descriptor. Shape 10 is
+/// a message with untyped application properties. The operations are those of `run_work`. For any
+/// other shape or operation, and if a call fails, the result is 0.
 ///
 /// # Memory
 /// Allocates from `alloc`, and frees all of it before it returns.
 pub fn run_shape(alloc: Global, shape: u32, op: u32, times: u64) -> u64
-    ensures shapes { 10 ≤ shape → result ≡ 0 }
+    ensures shapes { 11 ≤ shape → result ≡ 0 }
     ensures operations { 7 ≤ op → result ≡ 0 }
 {
     match shape {
@@ -101,6 +112,7 @@ pub fn run_shape(alloc: Global, shape: u32, op: u32, times: u64) -> u64
         5 => answer(alloc, numbered(alloc, 1000), op, times),
         6 => answer(alloc, numbered(alloc, 10000), op, times),
         7..=9 => attached(alloc, shape, op, times),
+        10 => messaged(alloc, op, times),
         _ => 0,
     }
 }

@@ -25,7 +25,7 @@ fn operations_have_worked_results(rt: HostRuntime) {
 
 #[test]
 fn each_shape_has_each_result(rt: HostRuntime) {
-    for shape in 0..10 {
+    for shape in 0..11 {
         assert!(rt; is_written_and_decoded(&rt, shape), "shape {shape}");
     }
     assert!(rt; types_are_read(&rt), "types are read");
@@ -117,6 +117,7 @@ fn types_are_read(rt: &HostRuntime) -> bool {
         && of_shape(rt, 7, 6, 3, 3)
         && of_shape(rt, 8, 6, 3, 0)
         && of_shape(rt, 9, 6, 3, 0)
+        && of_shape(rt, 10, 6, 3, 0)
         && of_work(rt, 0, 6, b"a\nbc", 3, 3)
         && of_work(rt, 1, 6, b"\0\0\0\x01", 3, 3)
 }
