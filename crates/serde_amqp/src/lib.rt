@@ -45,3 +45,9 @@ pub use cut::run_cut;
 pub use lines::run_lines;
 pub use write::Write;
 pub use writers::{IoWriter, VecWriter};
+
+/// Version of this library, the first one in `CHANGELOG.md`.
+///
+/// # Example
+/// `0.1.0`.
+pub const VERSION: &str = "0.1.0";
