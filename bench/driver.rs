@@ -1,4 +1,4 @@
-//! Runs the encoders on the shapes: `plain.rs` and the project, which is linked as a static library.
+//! Runs the encoders on the shapes: `plain.rs`, `values.rs` and the project, which is linked as a static library.
 //!
 //!     driver list                          each contender, shape and operation that answers, with the answer of one run
 //!     driver run WHO SHAPE OP TIMES        one call, to be counted from outside
@@ -8,12 +8,15 @@
 //!
 //! Operations: 0 the size, 1 the bytes in a fresh vector, 2 the hash (FNV-1a) of the bytes, 3 an untyped value,
 //! 4 the text of an untyped value that stands ready, in a fresh string, 5 an untyped value read from the bytes, 6 as 3,
-//! and the value read out of it. Where built with --cfg proton, Qpid Proton reads the bytes too.
+//! and the value read out of it, 7 to 9 as 0 to 2 of an untyped value that stands ready. Where built with --cfg proton, Qpid
+//! Proton reads the bytes too.
 
 mod plain;
+mod values;
 
 use plain::{Array, Blob, Error, Serialize, Serializer};
 use std::hint::black_box;
+use values::{Parts, Value};
 
 /// Where the library's value of a shape comes from: a rule of its own, or data that it is handed.
 #[derive(Clone, Copy)]
@@ -24,7 +27,7 @@ enum Source {
 
 use Source::{Data, Rule};
 
-const SHAPES: [(&str, Source); 12] = [
+const SHAPES: [(&str, Source); 13] = [
     ("14 fields", Rule(0)),
     ("14 fields, described", Rule(7)),
     ("7 fields, one by one", Rule(8)),
@@ -37,13 +40,18 @@ const SHAPES: [(&str, Source); 12] = [
     ("array of 10,000", Data(1)),
     ("map of 1,000 keys", Rule(5)),
     ("map of 10,000 keys", Rule(6)),
+    ("message", Rule(10)),
 ];
 
-/// How many operations there are.
-const OPERATIONS: u32 = 7;
+/// How many operations there are, and how many of them begin with a type.
+const OPERATIONS: u32 = 10;
+const TYPED: u32 = 7;
 
-/// The operation that answers with a hash: it is compared and not measured.
-const HASH: u32 = 2;
+/// The work of the library whose value is the untyped one that the data encodes.
+const UNTYPED: u32 = 2;
+
+/// The operations that answer with a hash: it is compared and not measured.
+const HASHES: [u32; 2] = [2, 9];
 
 /// The operation that reads an untyped value from bytes.
 const READ: u32 = 5;
@@ -52,12 +60,18 @@ const READ: u32 = 5;
 enum Who {
     Table,
     Buffers,
+    Values,
     Project,
     Proton,
 }
 
-const WHO: [(&str, Who); 4] =
-    [("table", Who::Table), ("buffers", Who::Buffers), ("project", Who::Project), ("proton", Who::Proton)];
+const WHO: [(&str, Who); 5] = [
+    ("table", Who::Table),
+    ("buffers", Who::Buffers),
+    ("values", Who::Values),
+    ("project", Who::Project),
+    ("proton", Who::Proton),
+];
 
 unsafe extern "C" {
     fn amqp_shape(shape: u32, op: u32, times: u64) -> u64;
@@ -186,6 +200,44 @@ fn hash(bytes: &[u8]) -> u64 {
     bytes.iter().fold(0xcbf29ce484222325, |h, b| (h ^ *b as u64).wrapping_mul(0x100000001b3))
 }
 
+/// The message: its header, its properties and the properties of the application.
+fn message() -> Value {
+    use Value::*;
+    let text = |text: &str| Text(text.into());
+    let header = vec![Bool(true), Ubyte(4), Uint(30000), Null, Uint(2)];
+    let properties = vec![
+        Ulong(81985529216486895),
+        Binary(vec![0x5a; 8]),
+        text("orders/eu-west/incoming"),
+        text("order.created"),
+        text("replies/7f3a9c21"),
+        Null,
+        Symbol("application/json".into()),
+    ];
+    let application = (0..12).map(|index| {
+        let value = match index % 6 {
+            0 => text("eu-west-1"),
+            1 => Int(70000),
+            2 => Bool(index == 2),
+            3 => Ulong(1048576),
+            4 => Symbol("priority-high".into()),
+            _ => Uuid([0x5a; 16]),
+        };
+        (text(&format!("property-{index}")), value)
+    });
+    let section = |code, value| Described(Box::new((code, value)));
+    List(Parts(vec![
+        section(0x70, List(Parts(header))),
+        section(0x73, List(Parts(properties))),
+        section(0x74, Map(Parts(application.collect()))),
+    ]))
+}
+
+/// The map from each number below `count` to itself.
+fn numbered(count: u32) -> Value {
+    Value::Map(Parts((0..count).map(|number| (Value::Uint(number), Value::Uint(number))).collect()))
+}
+
 #[cfg(proton)]
 mod proton {
     //! Reading by Qpid Proton's codec, with a fresh tree each time.
@@ -215,9 +267,8 @@ mod proton {
 }
 
 fn repeat<T: Serialize>(who: Who, v: &T, op: u32, times: u64) -> u64 {
-    if who == Who::Proton {
-        let bytes = if op == READ { plain::table(v).unwrap() } else { return 0 };
-        return (0..times).map(|_| proton::read(black_box(&bytes))).sum();
+    if !matches!(who, Who::Table | Who::Buffers) {
+        return on_bytes(who, &plain::table(v).unwrap(), op, times);
     }
     let encode = |v: &T| if who == Who::Table { plain::table(v) } else { plain::buffers(v) };
     match op {
@@ -228,9 +279,41 @@ fn repeat<T: Serialize>(who: Who, v: &T, op: u32, times: u64) -> u64 {
     }
 }
 
+/// What is done with bytes, and with the untyped value that they encode.
+fn on_bytes(who: Who, bytes: &[u8], op: u32, times: u64) -> u64 {
+    match who {
+        Who::Project => unsafe { amqp_bench(UNTYPED, op - TYPED, bytes.as_ptr(), bytes.len(), times) },
+        Who::Proton if op == READ => (0..times).map(|_| proton::read(black_box(bytes))).sum(),
+        Who::Values if op == READ => (0..times).map(|_| decoded(black_box(bytes))).sum(),
+        Who::Values if op == 4 || op >= TYPED => on_value(&values::decode(bytes).unwrap(), op, times),
+        _ => 0,
+    }
+}
+
+fn decoded(bytes: &[u8]) -> u64 {
+    u64::from(black_box(values::decode(bytes)).is_ok())
+}
+
+fn on_value(v: &Value, op: u32, times: u64) -> u64 {
+    match op {
+        4 => (0..times).map(|_| black_box(black_box(v).text()).len() as u64).sum(),
+        7 => (0..times).map(|_| values::bytes::size(black_box(v)).unwrap() as u64).sum(),
+        8 => (0..times).map(|_| black_box(values::bytes::to_vec(black_box(v)).unwrap()).len() as u64).sum(),
+        _ => hash(&values::bytes::to_vec(v).unwrap()),
+    }
+}
+
+/// An operation on a shape that has no type here, but the untyped value.
+fn untyped(who: Who, v: Value, op: u32, times: u64) -> u64 {
+    match who {
+        Who::Project | Who::Values => on_bytes(who, &values::bytes::to_vec(&v).unwrap(), op, times),
+        _ => 0,
+    }
+}
+
 fn answer(who: Who, shape: usize, op: u32, times: u64) -> u64 {
     let source = SHAPES[shape].1;
-    if who == Who::Project {
+    if who == Who::Project && op < TYPED {
         return match source {
             Rule(rule) => unsafe { amqp_shape(rule, op, times) },
             Data(work) => {
@@ -256,6 +339,9 @@ fn answer(who: Who, shape: usize, op: u32, times: u64) -> u64 {
             let numbers = data(1).chunks(4).map(|c| u32::from_be_bytes(c.try_into().unwrap())).collect();
             repeat(who, &Array(numbers), op, times)
         }
+        Rule(5) => untyped(who, numbered(1000), op, times),
+        Rule(6) => untyped(who, numbered(10000), op, times),
+        Rule(10) => untyped(who, message(), op, times),
         _ => 0,
     }
 }
@@ -381,7 +467,7 @@ fn main() {
                         let found = answer(*who, shape, op, 1);
                         if found != 0 && command == "list" {
                             println!("{} {shape} {op} {found} {}", WHO[name].0, SHAPES[shape].0);
-                        } else if found != 0 && op != HASH && (words.len() < 3 || op as u64 == number(2)) {
+                        } else if found != 0 && !HASHES.contains(&op) && (words.len() < 3 || op as u64 == number(2)) {
                             rows.push((name, *who, shape, op));
                         }
                     }

@@ -17,9 +17,11 @@ import tempfile
 
 HERE = os.path.dirname(os.path.abspath(__file__))
 CRATES = os.path.join(HERE, '..', 'crates')
-CALLS = {0: 'size', 1: 'bytes', 3: 'value', 4: 'text', 5: 'read', 6: 'typed'}
-READ = 5
-WHO = ['table', 'buffers', 'project']
+CALLS = {0: 'size', 1: 'bytes', 3: 'value', 4: 'text', 5: 'read', 6: 'typed', 7: 'untyped size', 8: 'untyped bytes'}
+READ, UNTYPED_SIZE, UNTYPED_BYTES = 5, 7, 8
+# The calls that answer with the length of the bytes, and those that answer with the hash.
+LENGTHS, HASHES = [0, 7], [2, 9]
+WHO = ['table', 'buffers', 'values', 'project']
 ALLOWED = 1.03
 # The kinds of keys of the maps that are read, their numbers of keys, and the calls.
 KINDS, COUNTS, READS = ['text', 'symbol', 'uuid'], [64, 130], ['`from_value`', '`TryFrom`']
@@ -31,13 +33,21 @@ PART = 20
 TARGETS = {
     '14 fields': ('14 fields', 0.9, 0.75, 200),
     '14 fields, described': ('described', 0.9, 0.75, 200),
+    '7 fields, one by one': ('7 fields', None, None, None),
+    '7 fields, described, one by one': ('7 described', None, None, None),
     '1,000 ints': ('ints', 0.9, 0.75, None),
     '1,000 rows of 10': ('rows', 0.9, 0.75, None),
     'chain of 256': ('chain', 1.2, 1.2, None),
     'blob of 64 KiB': ('blob', 1.0, None, None),
     '1,000 strings': ('strings', 1.0, 0.75, None),
     'array of 10,000': ('array', 0.9, 0.75, None),
+    'map of 1,000 keys': ('map', None, None, None),
+    'map of 10,000 keys': ('large map', None, None, None),
+    'message': ('message', None, None, None),
 }
+# What is asked of each shape: untyped size and bytes at most so many times those of *values*; and of the message, whose
+# properties are untyped, at most so many times the same message as an untyped value by *values*.
+MOST_UNTYPED_SIZE, MOST_UNTYPED_BYTES, MOST_MESSAGE = 1.3, 1.5, 1.5
 
 
 def arg(name, default=None):
@@ -103,24 +113,24 @@ def workloads(program):
 
 def answers(plain, counting, who):
     """The shapes' names and lengths, and what is measured of each call: its allocations, and its instructions unless left out."""
-    names, size, found = {}, {}, {}
+    names, size, text, hashes, found = {}, {}, {}, {}, {}
     for line in run([plain, 'list']).splitlines():
         one, shape, call, answer, name = line.split(' ', 4)
         names[shape] = name
-        if call == '0':
+        if int(call) in LENGTHS:
             size.setdefault(shape, answer)
             assert size[shape] == answer, '%s counts another length for shape %s' % (one, name)
-        if call == '2':
-            assert found.setdefault((shape, 2), answer) == answer, '%s writes other bytes for shape %s' % (one, name)
+        if CALLS.get(int(call)) == 'text':
+            assert text.setdefault(shape, answer) == answer, '%s writes another text for shape %s' % (one, name)
+        if int(call) in HASHES:
+            assert hashes.setdefault(shape, answer) == answer, '%s writes other bytes for shape %s' % (one, name)
         elif one in who:
             found[shape, int(call), one] = {'length': int(answer)} if CALLS[int(call)] == 'text' else {}
-    for (shape, call, *one), at in found.items():
-        if not one:
-            continue
-        at['calls'], at['bytes'] = run([counting, 'count', one[0], shape, str(call)]).split()
+    for (shape, call, one), at in found.items():
+        at['calls'], at['bytes'] = run([counting, 'count', one, shape, str(call)]).split()
         if '--no-instructions' not in sys.argv:
-            at['instructions'] = instructions([plain, 'run', one[0], shape, str(call)])
-    return names, size, {key: at for key, at in found.items() if len(key) == 3}
+            at['instructions'] = instructions([plain, 'run', one, shape, str(call)])
+    return names, size, found
 
 
 def main():
@@ -157,13 +167,22 @@ def beside_proton(built):
         for line in run([built, 'time', str(READ)]).splitlines():
             who, shape, call, least = line.split()
             ns[who, shape] = float(least)
-    print('| Shape | instructions: project | Proton | Proton / project | ns: project | Proton | Proton / project |\n|' + '---|' * 7)
+    heading(['Shape', 'instructions: project', 'Proton', 'Proton / project', 'ns: project', 'Proton', 'Proton / project'])
     for shape, name in names.items():
         count = [instructions([built, 'run', who, shape, str(READ)]) for who in both]
         least = [ns.get((who, shape)) for who in both]
         row = [name] + ['%d' % one for one in count] + ['%.1f' % (count[1] / count[0])]
         row += ['%.0f' % one for one in least] + ['%.1f' % (least[1] / least[0])] if all(least) else ['-'] * 3
-        print('| ' + ' | '.join(row) + ' |')
+        print(line_of(row))
+
+
+def line_of(cells):
+    """A row of a table. Without blanks between, since tools/check_documents counts each bar between blanks as a word."""
+    return '|' + '|'.join(cells) + '|'
+
+
+def heading(heads):
+    print(line_of(heads) + '\n' + line_of(['-'] * len(heads)))
 
 
 def recorded():
@@ -205,47 +224,58 @@ def check(names, size, found, more):
 
 def others(what, heads, found):
     """Prints a table of instructions, by name and head."""
-    print('\n| ' + ' | '.join([what] + heads) + ' |\n|' + '---|' * (1 + len(heads)))
+    print()
+    heading([what] + heads)
     for name in dict.fromkeys(name for name, _ in found):
-        print('| ' + ' | '.join([name] + [str(found[name, head]) for head in heads]) + ' |')
+        print(line_of([name] + [str(found[name, head]) for head in heads]))
 
 
 def show(names, size, found):
     cpu = [line.split(':')[1].strip() for line in open('/proc/cpuinfo') if line.startswith('model name')][0]
     print('%s, %s; %s; %s.\n' % (datetime.date.today().strftime('%-d %B %Y'), cpu, run(['rt', 'version']).strip(), run(['rustc', '--version']).strip()))
     with_times = any('ns' in at for at in found.values())
-    heads = ['Shape', 'Bytes', 'Call', 'instructions: table', 'buffers', 'project']
-    heads += ['ns a byte: table', 'buffers', 'project'] * with_times + ['allocations: buffers', 'project']
-    print('| ' + ' | '.join(heads) + ' |\n|' + '---|' * len(heads))
+    heads = ['Shape', 'Bytes', 'Call', 'instructions: table', 'buffers', 'values', 'project']
+    heads += ['ns a byte: table', 'buffers', 'values', 'project'] * with_times + ['allocations: buffers', 'values', 'project']
+    heading(heads)
     for shape, name in names.items():
         for call, word in CALLS.items():
             at = [found.get((shape, call, who), {}) for who in WHO]
-            length = at[2].get('length', int(size[shape]))
+            if not any(at):
+                continue
+            length = at[-1].get('length', int(size[shape]))
             row = [name, str(length), word]
             row += ['%d' % round(x['instructions']) if 'instructions' in x else '-' for x in at]
             row += ['%.4f' % (x['ns'] / length) if 'ns' in x else '-' for x in at] * with_times
             row += ['%s (%s)' % (x['calls'], x['bytes']) if 'calls' in x else '-' for x in at[1:]]
-            print('| ' + ' | '.join(row) + ' |')
+            print(line_of(row))
 
 
 def targets(names, found):
     """Prints what was asked beside what is, with the misses in bold."""
-    def told(value, limit, form):
-        text = form % value
-        return '%s of %s' % (text if float(text) <= limit else '**%s**' % text, limit)
-    rows = [['Target'], ['`to_vec`, of *table*'], ['`serialized_size`, of *table*'], ['`serialized_size`, instructions'], ["allocations: the table's growths, and one"]]
+    rows = [['Target'], ['`to_vec`, of *table*'], ['`serialized_size`, of *table*'], ['`serialized_size`, instructions'], ["allocations: the table's growths, and one"],
+            ['untyped `serialized_size`, of *values*'], ['untyped `to_vec`, of *values*'], ['`to_vec`, of untyped *values*']]
     for shape, name in names.items():
         if name not in TARGETS:
             continue
         word, most_bytes, most_size, most = TARGETS[name]
         count = lambda call, who: found[shape, call, who]['instructions']
-        rows[0].append(word)
-        rows[1].append(told(count(1, 'project') / count(1, 'table'), most_bytes, '%.2f'))
-        rows[2].append(told(count(0, 'project') / count(0, 'table'), most_size, '%.2f') if most_size else '-')
-        rows[3].append(told(count(0, 'project'), most, '%.0f') if most else '-')
-        rows[4].append('%d + 1' % (int(found[shape, 1, 'project']['calls']) - 1))
-    rows.insert(1, ['---'] * len(rows[0]))
-    print('\n' + '\n'.join('| ' + ' | '.join(row) + ' |' for row in rows))
+
+        def told(limit, form, call, who=None, by=None):
+            """The project's instructions, or how many times those of another call they are."""
+            if not limit:
+                return '-'
+            text = form % (count(call, 'project') / (count(by or call, who) if who else 1))
+            return '%s of %s' % (text if float(text) <= limit else '**%s**' % text, limit)
+        cells = [word, told(most_bytes, '%.2f', 1, 'table'), told(most_size, '%.2f', 0, 'table'), told(most, '%.0f', 0)]
+        cells += ['%d + 1' % (int(found[shape, 1, 'project']['calls']) - 1)]
+        cells += [told(MOST_UNTYPED_SIZE, '%.2f', UNTYPED_SIZE, 'values'), told(MOST_UNTYPED_BYTES, '%.2f', UNTYPED_BYTES, 'values')]
+        cells += [told(MOST_MESSAGE if name == 'message' else None, '%.2f', 1, 'values', UNTYPED_BYTES)]
+        for row, cell in zip(rows, cells):
+            row.append(cell)
+    print()
+    heading(rows[0])
+    for row in rows[1:]:
+        print(line_of(row))
 
 
 if __name__ == '__main__':
