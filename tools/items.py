@@ -3,7 +3,7 @@
 import re
 
 KINDS = "fn|struct|enum|union|trait|type|const|static|mod|macro_rules!|impl|use"
-ITEM = re.compile(rf"(pub(?:\([a-z]+\))? )?((?:unsafe |const (?=fn|unsafe)|final |ghost )*)(?:({KINDS})(?!\w) ?(\w*)|(\w+)(?=:| =))")
+ITEM = re.compile(rf"(pub(?:\([^)]+\))? )?((?:unsafe |const (?=fn|unsafe)|final |ghost |extern \"C\" )*)(?:({KINDS})(?!\w) ?(\w*)|(\w+)(?=:| =))")
 VARIANT = re.compile(r"([A-Z]\w*)")
 FIELD = re.compile(r"(pub(?:\([a-z]+\))? )?(?:ghost )?(\w+): ")
 CLAUSE = re.compile(r"\s*(ensures|requires)(\*?) (?:(\w+) )?\{")
@@ -53,7 +53,8 @@ def end_of(lines, first, last, indent, marks):
     for at in range(first, last):
         text = code(lines[at])
         depth += depth_of(text)
-        if depth == 0 and (text.endswith(marks) or text.startswith((f"{indent}}}", f"{indent}{{}}")) or at == first and text.endswith("}")):
+        is_body = text.startswith((f"{indent}}}", f"{indent}{{}}")) or text.endswith("}" if at == first else " {}") and not CLAUSE.match(text)
+        if depth == 0 and (text.endswith(marks) or is_body):
             return at
     raise ValueError(f"line {first + 1}: the item has no end")
 
