@@ -2,6 +2,7 @@ pub mod CodeLemmas
 pub mod TextLemmas
 pub mod DescriptorLemmas
 pub mod Steps
+pub mod Counts
 pub mod Finds
 pub mod ScalarFramed
 pub mod Means

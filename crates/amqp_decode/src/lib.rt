@@ -9,6 +9,7 @@
 mod decode;
 mod fixed;
 pub mod laws;
+mod limit;
 mod payload;
 mod payload_shape;
 mod push;
@@ -17,4 +18,4 @@ mod reserve;
 mod run;
 mod scalar;
 
-pub use decode::{decode_value, decode_value_limited};
+pub use decode::{decode_value, decode_value_limited, decode_value_to_depth};

@@ -7,11 +7,13 @@
 
 pub mod laws;
 mod lazy;
+mod limited;
 mod read;
 mod reader;
 mod round_trip;
 
 pub use lazy::ReadLazy;
+pub use limited::{Limits, from_slice_limited};
 pub use read::from_slice;
 pub use reader::from_reader;
 pub use round_trip::round_trip_bytes;

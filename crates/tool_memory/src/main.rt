@@ -27,7 +27,8 @@
 //! | the same | `Value::try_from_btree_map`, `Value::try_from_ordered_map`, `Vec::try_from`, `Array::try_from` |
 //! | the same | `OrderedMap::try_from`, `BTreeMap::try_from`, `HashMap::try_from`, `IndexMap::try_from` |
 //! | the same | `TryFromSerializable::try_from_serializable` |
-//! | rows of decode and decode_within | `decode_value`, `decode_value_limited` |
+//! | rows of decode and decode_within | `decode_value`, `decode_value_limited`, `decode_value_to_depth` |
+//! | rows of read_within | `from_slice_limited` |
 //! | rows of decode and read | `MapBuilder::new`, `MapBuilder::with_capacity`, `MapBuilder::into_value` |
 //! | rows of read | `from_value`, `from_slice`, `from_reader`, `ReadLazy::read`, `Deserializer::new` |
 //! | types of one's own | `round_trip`, `round_trip_bytes`, `read`, `read_composite`, `read_described`, `TypeSeed::deserialize`, `ListSeed::deserialize`, `NamedSeed::deserialize` |
