@@ -4,5 +4,7 @@ pub mod Codes
 pub mod Scalars
 pub mod Spells
 pub mod Depth
--- Definitions that only contracts of private functions use, with those four.
+-- Definitions that contracts of reading without an untyped value use, and contracts of private
+-- functions, with those four.
 pub mod Parsed
+pub mod Prefix

@@ -11,6 +11,7 @@ mod fixed;
 pub mod laws;
 mod payload;
 mod payload_shape;
+pub mod prefix;
 mod push;
 mod read;
 mod reserve;

@@ -8,6 +8,7 @@ ghost use Rattle.amqp_de.specs.Reads.{ReadsOption, image_option, RestorableOptio
 use crate::deserialize::Deserialize;
 use crate::deserialize_error::DeserializeError;
 use crate::deserializer::Deserializer;
+use amqp_decode::prefix::GaveUp;
 use amqp_value::Value;
 use std::alloc::Global;
 
@@ -26,6 +27,22 @@ impl<T: Deserialize> Deserialize for Option<T> {
             return Ok(None);
         }
         Ok(Some(T::deserialize(alloc, deserializer)?))
+    }
+
+    #[inline(always)]
+    fn read_encoded(
+        alloc: Global,
+        code: u8,
+        input: &mut &[u8],
+        depth: u16,
+    ) -> Result<Option<T>, GaveUp> {
+        if code == 0x40 {
+            return Ok(None);
+        }
+        match T::read_encoded(alloc, code, input, depth) {
+            Ok(value) => Ok(Some(value)),
+            Err(error) => Err(error),
+        }
     }
 }
 

@@ -1,6 +1,7 @@
 //! Null, booleans, integers and characters. Each type is read only from a value of its own kind.
 
-ghost use Rattle.std.specs.Prelude.{◌≡◌};
+ghost use Rattle.std.specs.Prelude.{◌≡◌, IfOk, map};
+ghost use Rattle.std.specs.Int.{w32, from_be_bytes};
 ghost use Rattle.amqp_ser.specs.Tree.{scalar, null, bool, ubyte, ushort, uint, ulong, byte, short, int, long, char};
 ghost use Rattle.amqp_de.specs.Reads.{Always};
 
@@ -8,6 +9,7 @@ use crate::deserialize::Deserialize;
 use crate::deserialize_error::DeserializeError;
 use crate::deserializer::Deserializer;
 use crate::fixed_content::FixedContent;
+use amqp_decode::prefix::{GaveUp, read_bool, read_uint};
 use std::alloc::Global;
 
 impl Deserialize for () {
@@ -43,6 +45,18 @@ impl Deserialize for bool {
             FixedContent::Bool(value) => Ok(value),
             _ => Err(D::Error::invalid_value()),
         }
+    }
+
+    #[inline(always)]
+    fn read_encoded(
+        _alloc: Global,
+        code: u8,
+        input: &mut &[u8],
+        _depth: u16,
+    ) -> Result<bool, GaveUp> {
+        let (value, rest) = read_bool(code, *input)?;
+        *input = rest;
+        Ok(value)
     }
 }
 
@@ -97,6 +111,37 @@ impl Deserialize for u32 {
             FixedContent::Uint(value) => Ok(value),
             _ => Err(D::Error::invalid_value()),
         }
+    }
+
+    #[inline(always)]
+    fn read_encoded(
+        _alloc: Global,
+        code: u8,
+        input: &mut &[u8],
+        _depth: u16,
+    ) -> Result<u32, GaveUp> {
+        let (value, rest) = read_uint(code, *input)?;
+        *input = rest;
+        Ok(value)
+    }
+
+    #[inline(never)]
+    fn read_array(
+        alloc: Global,
+        code: u8,
+        count: u32,
+        content: &[u8],
+        _depth: u16,
+    ) -> Result<Vec<u32>, GaveUp> {
+        if code != 0x70 {
+            return Err(GaveUp);
+        }
+        let (chunks, left) = content.as_chunks::<4>();
+        if !left.is_empty() || chunks.len() != count as usize {
+            return Err(GaveUp);
+        }
+        let items = numbers(alloc, chunks)?;
+        Ok(items)
     }
 }
 
@@ -204,6 +249,24 @@ impl Deserialize for char {
         match deserializer.into_fixed() {
             FixedContent::Char(value) => Ok(value),
             _ => Err(D::Error::invalid_value()),
+        }
+    }
+}
+
+// Converts numbers of four bytes.
+#[inline(always)]
+fn numbers(alloc: Global, chunks: &[[u8; 4]]) -> Result<Vec<u32>, GaveUp>
+    ensures { IfOk result (λ v. v.items ≡ map (from_be_bytes w32) chunks.now) }
+{
+    let mut items = Vec::with_capacity(alloc, chunks.len())?;
+    let mut rest = chunks;
+    'fours: loop {
+        match rest.split_first() {
+            Some((four, after)) => {
+                items.push_reserved(u32::from_be_bytes(*four));
+                rest = after;
+            }
+            None => return Ok(items),
         }
     }
 }

@@ -11,6 +11,7 @@ use crate::deserialize::Deserialize;
 use crate::deserialize_error::DeserializeError;
 use crate::deserializer::Deserializer;
 use amqp_data::{ByteBuf, Symbol};
+use amqp_decode::prefix::{GaveUp, read_string};
 use std::alloc::Global;
 
 impl Deserialize for ByteBuf {
@@ -45,6 +46,18 @@ impl Deserialize for String {
             Some(value) => Ok(value),
             None => Err(D::Error::invalid_value()),
         }
+    }
+
+    #[inline(always)]
+    fn read_encoded(
+        alloc: Global,
+        code: u8,
+        input: &mut &[u8],
+        _depth: u16,
+    ) -> Result<String, GaveUp> {
+        let (value, rest) = read_string(alloc, code, *input)?;
+        *input = rest;
+        Ok(value)
     }
 }
 
