@@ -1,7 +1,8 @@
 -- Arrays of numbers, whose payloads have the same length.
-use Rattle.std.proofs.Common.{◌≡◌, ℕ, zero, suc, ◌+◌, ◌-◌, ◌*◌, ◌≤◌, IsTrue, List, [], ◌∷◌, ◌++◌, length, take, drop, map, Some, refl, sym, ap, ◌∙◌, arith}
+use Rattle.std.proofs.Common.{◌≡◌, ℕ, zero, suc, ◌+◌, ◌-◌, ◌*◌, ◌≤◌, IsTrue, List, [], ◌∷◌, ◌++◌, length, take, drop, Some, refl, sym, ap, ◌∙◌, arith}
 use Rattle.std.proofs.lemmas.Grind.{common_steps}
 use Rattle.std.proofs.lemmas.List.{take-append-drop, length-take-le, length-drop}
+use Rattle.std.specs.List.{AllZip}
 use Rattle.std.specs.Simd.{first_chunks}
 use Rattle.amqp_data.specs.FormatCode.{code_of}
 use Rattle.amqp_data.specs.declared.format_code.EncodingCodes.{EncodingCodes}
@@ -21,33 +22,35 @@ use Rattle.amqp_de.specs.Encoded.{Fills}
 use Rattle.amqp_de.proofs.Leaves.{ReadingLeaf, leaf_reading}
 
 module _ {T A : Type 0} (kind : A → Scalar) (told : (a b : A) → kind a ≡ kind b → a ≡ b) (content : T → A)
-    (c : EncodingCodes) (width : ℕ) (value : List ℕ → T) (ok : IsTrue (is_primitive c)) (is : shape_of_code c ≡ shape.Scalar)
+    (c : EncodingCodes) (width : ℕ) (Is : List ℕ → T → Type 0) (ok : IsTrue (is_primitive c)) (is : shape_of_code c ≡ shape.Scalar)
     (wide : category (code_of c) ≡ Fixed width)
-    (reads : (bs : List ℕ) → length bs ≡ width → scalar_in c bs ≡ Some (kind (content (value bs)))) where
-  one_chunk : (d : ℕ) (bs s : List ℕ) → length bs ≡ width → item_of d (code_of c) (bs ++ s) ≡ Some (scalar (kind (content (value bs))), s)
-  one_chunk d bs s len =
+    (reads : (bs : List ℕ) (x : T) → length bs ≡ width → Is bs x → scalar_in c bs ≡ Some (kind (content x))) where
+  one_chunk : (d : ℕ) (bs s : List ℕ) (x : T) → length bs ≡ width → Is bs x → item_of d (code_of c) (bs ++ s) ≡ Some (scalar (kind (content x)), s)
+  one_chunk d bs s x len h =
       parse_frame d (code_of c ∷ (bs ++ s))
-      ∙ fixed-is c bs s (kind (content (value bs))) ok is (wide ∙ ap Fixed (sym len)) (reads bs len) (parse d) (parse_content d)
+      ∙ fixed-is c bs s (kind (content x)) ok is (wide ∙ ap Fixed (sym len)) (reads bs x len h) (parse d) (parse_content d)
 
   -- The numbers that fill the content are the elements.
-  pub chunks_fill : (d n : ℕ) (s : List ℕ) → length s ≡ n * width
-      → Fills (ReadingLeaf kind told content) (item_of d (code_of c)) n s (map value (first_chunks width n s))
-  chunks_fill d zero s e =
+  pub chunks_fill : (d n : ℕ) (s : List ℕ) (xs : List T) → length s ≡ n * width → AllZip Is (first_chunks width n s) xs
+      → Fills (ReadingLeaf kind told content) (item_of d (code_of c)) n s xs
+  chunks_fill d zero s [] e zip =
       let none : length s ≡ 0 = grind (arith, common_steps) in
       ([], ap (λ z. Some ([], z)) (nil-from_length s none), tt)
-  chunks_fill d (suc n) s e =
+  chunks_fill d zero s (x ∷ xs) e zip = absurd zip
+  chunks_fill d (suc n) s [] e zip = absurd zip
+  chunks_fill d (suc n) s (x ∷ xs) e zip =
       let total : suc n * width ≡ width + n * width = grind (arith, common_steps) in
       let fits : width ≤ length s = omega (arith, e, total) in
       let len : length (take width s) ≡ width = length-take-le width s fits in
       let dropped : length (drop width s) ≡ length s - width = length-drop width s in
       let more : length (drop width s) ≡ n * width = omega (arith, e, total, dropped) in
-      let (ts, all, zip) = chunks_fill d n (drop width s) more in
+      let (ts, all, others) = chunks_fill d n (drop width s) xs more zip.1 in
       let less : suc n - 1 ≡ n = omega arith in
-      let chunk : T = value (take width s) in
-      let first : item_of d (code_of c) s ≡ Some (scalar (kind (content chunk)), drop width s) =
-      ap (item_of d (code_of c)) (sym (take-append-drop width s)) ∙ one_chunk d (take width s) (drop width s) len in
+      let t : Tree = scalar (kind (content x)) in
+      let first : item_of d (code_of c) s ≡ Some (t, drop width s) =
+      ap (item_of d (code_of c)) (sym (take-append-drop width s)) ∙ one_chunk d (take width s) (drop width s) x len zip.0 in
       let rest : gather (item_of d (code_of c)) (suc n - 1) (drop width s) [] ≡ Some (ts, []) = ap (λ m. gather (item_of d (code_of c)) m (drop width s) []) less ∙ all in (
-        scalar (kind (content chunk)) ∷ ts,
-        first_gathered (item_of d (code_of c)) (suc n) s (drop width s) (scalar (kind (content chunk))) ts (λ z. absurd cc) first rest,
-        (leaf_reading kind told content chunk, zip),
+        t ∷ ts,
+        first_gathered (item_of d (code_of c)) (suc n) s (drop width s) t ts (λ z. absurd cc) first rest,
+        (leaf_reading kind told content x, others),
       )

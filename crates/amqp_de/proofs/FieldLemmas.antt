@@ -4,7 +4,7 @@ use Rattle.std.proofs.lemmas.List.{append-nil}
 use Rattle.amqp_ser.specs.Tree as tree
 use Rattle.amqp_ser.specs.Tree.{Tree, Descriptor, trees_of, described}
 use Rattle.amqp_decode.specs.Parsed.{FrameReader, parse, parse_content, gather}
-use Rattle.amqp_de.specs.Fields.{FieldSource, by_position, ReadsRequired, ReadsOptional, NoMoreFields, OnFields, OnDescribed}
+use Rattle.amqp_de.specs.Fields.{FieldSource, by_position, ReadsRequired, ReadsOptional, NoMoreFields, OnFields, OnNamed, OnDescribed}
 use Rattle.amqp_de.specs.Present.{required, optional, any_there, all_images, short_list, up_to_last, EndsEarly}
 use Rattle.amqp_de.specs.Reads.{ReadsOption, image_option, RestorableOption, SameOption}
 use Rattle.amqp_de.proofs.Lists.{list_of_trees}
@@ -69,21 +69,39 @@ pub no_fields : (f : FrameReader) (count : ℕ) (body : List ℕ) → count ≡ 
 unfolding NoMoreFields
 no_fields f count body none empty = ([], ap (λ m. gather f m body []) none ∙ ap (λ z. Some ([], z)) empty, tt, λ x p k. tt)
 
-module _ {V : Type 0} (Q : V → FieldSource → Type 0) (images : V → List (Bool × Tree)) (P : V → Type 0) (S : V → V → Type 0) where
-  pub fields_prefix : (depth d : ℕ) (bytes rest : List ℕ) (n : ℕ) (body : List ℕ) (v : V) → IsListOf bytes rest n body → depth ≡ suc d
+on_fields : (K : FieldSource → Type 0) (ts : List Tree) → K (by_position ts) → OnFields K (tree.list (trees_of ts))
+unfolding OnFields
+on_fields K ts reads = subst (λ us. K (by_position us)) (sym (list_of_trees ts)) reads
+
+on_named : (K : FieldSource → Type 0) (ts : List Tree) → K (by_position ts) → OnNamed K (tree.list (trees_of ts))
+unfolding OnNamed
+on_named K ts reads = subst (λ us. K (by_position us)) (sym (list_of_trees ts)) reads
+
+module _ (On : (FieldSource → Type 0) → Tree → Type 0) (on : (K : FieldSource → Type 0) (ts : List Tree) → K (by_position ts) → On K (tree.list (trees_of ts)))
+    {V : Type 0} (Q : V → FieldSource → Type 0) (images : V → List (Bool × Tree)) (P : V → Type 0) (S : V → V → Type 0) where
+  read_fields : (depth d : ℕ) (bytes rest : List ℕ) (n : ℕ) (body : List ℕ) (v : V) → IsListOf bytes rest n body → depth ≡ suc d
       → FieldsFill Q images P S (parse (suc d)) n body v
-      → ReadsPrefix (SeedReading (λ t y. OnFields (Q y) t) (λ y. tree.list (trees_of (all_images (images y)))) (λ y. short_list (images y)) P S) depth bytes rest v
-  unfolding OnFields short_list
-  fields_prefix depth d bytes rest n body v is deep (ts, all, reads, law) =
+      → ReadsPrefix (SeedReading (λ t y. On (Q y) t) (λ y. tree.list (trees_of (all_images (images y)))) (λ y. short_list (images y)) P S) depth bytes rest v
+  unfolding short_list
+  read_fields depth d bytes rest n body v is deep (ts, all, reads, law) =
       let inner : gather (parse depth) n body [] ≡ Some (ts, []) = ap (λ z. gather (parse z) n body []) deep ∙ all in (
         tree.list (trees_of ts),
         parse_frame depth bytes ∙ is (parse depth) (parse_content depth) ts inner,
         (
-          subst (λ us. Q v (by_position us)) (sym (list_of_trees ts)) reads,
+          on (Q v) ts reads,
           (λ x p e. law x p (full (images x) ts (tree.list (trees_of ts)) refl e)),
           (λ x p e. law x p (cut (images x) ts (tree.list (trees_of ts)) refl e)),
         ),
       )
+
+module _ {V : Type 0} (Q : V → FieldSource → Type 0) (images : V → List (Bool × Tree)) (P : V → Type 0) (S : V → V → Type 0)
+    (depth d : ℕ) (bytes rest : List ℕ) (n : ℕ) (body : List ℕ) (v : V) (is : IsListOf bytes rest n body) (deep : depth ≡ suc d)
+    (fill : FieldsFill Q images P S (parse (suc d)) n body v) where
+  pub fields_prefix : ReadsPrefix (SeedReading (λ t y. OnFields (Q y) t) (λ y. tree.list (trees_of (all_images (images y)))) (λ y. short_list (images y)) P S) depth bytes rest v
+  fields_prefix = read_fields OnFields on_fields Q images P S depth d bytes rest n body v is deep fill
+
+  pub named_prefix : ReadsPrefix (SeedReading (λ t y. OnNamed (Q y) t) (λ y. tree.list (trees_of (all_images (images y)))) (λ y. short_list (images y)) P S) depth bytes rest v
+  named_prefix = read_fields OnNamed on_named Q images P S depth d bytes rest n body v is deep fill
 
 module _ {T V : Type 0} (parts : T → V) (R : Tree → V → Type 0) (image short : V → Tree) (P : V → Type 0) (S : V → V → Type 0) where
   pub described_prefix : (depth d : ℕ) (bytes after rest : List ℕ) (e : Descriptor) (v : V) → IsDescribedBy e bytes after → depth ≡ suc d

@@ -1,6 +1,6 @@
 -- Types that are read from a scalar of their own kind.
 use Rattle.std.proofs.Common.{◌≡◌, ℕ, List, refl, ◌∙◌}
-use Rattle.amqp_ser.specs.Tree.{Tree, Scalar, scalar}
+use Rattle.amqp_ser.specs.Tree.{Tree, Scalar, scalar, null}
 use Rattle.amqp_decode.specs.Parsed.{parse, parse_content}
 use Rattle.amqp_decode.specs.Prefix.{IsScalar}
 use Rattle.amqp_decode.proofs.Levels.{parse_frame}
@@ -24,3 +24,7 @@ module _ {T A : Type 0} (kind : A → Scalar) (told : (a b : A) → kind a ≡ k
 
   pub leaf_prefix : (d : ℕ) (bytes rest : List ℕ) (y : T) → IsScalar bytes rest (kind (content y)) → ReadsPrefix ReadingLeaf d bytes rest y
   leaf_prefix d bytes rest y is = scalar_prefix ReadingLeaf d bytes rest (kind (content y)) y is (leaf_reading y)
+
+pub unit_prefix : (d : ℕ) (bytes rest : List ℕ) → IsScalar bytes rest null
+    → ReadsPrefix {T = Unit {0}} (Reading (λ t x. t ≡ scalar null) (λ x. scalar null) Always (λ x y. x ≡ y)) d bytes rest tt
+unit_prefix d bytes rest is = scalar_prefix (Reading (λ t x. t ≡ scalar null) (λ x. scalar null) Always (λ x y. x ≡ y)) d bytes rest null tt is (refl, λ x p e. refl)

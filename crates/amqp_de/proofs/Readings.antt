@@ -1,13 +1,20 @@
 -- What is read from a list, an array and an optional value, from what is read from the parts.
-use Rattle.std.proofs.Common.{◌≡◌, ℕ, suc, List, [], ◌∷◌, map, Option, Some, None, refl, sym, ap, ◌∙◌, subst}
+use Rattle.std.proofs.Common.{◌≡◌, ℕ, suc, ◌≤◌, List, [], ◌∷◌, length, take, map, Option, Some, None, refl, sym, ap, ◌∙◌, subst, arith}
+use Rattle.std.proofs.lemmas.List.{take_all}
+use Rattle.std.proofs.lemmas.Slice.Zip.{AllZip-long}
 use Rattle.std.specs.List.{AllZip, AllByRecursion}
 use Rattle.amqp_ser.specs.Tree as tree
-use Rattle.amqp_ser.specs.Tree.{Tree, scalar, trees_of}
-use Rattle.amqp_decode.specs.Parsed.{parse}
-use Rattle.amqp_decode.specs.Prefix.{IsListOf, IsArrayOf, item_of}
+use Rattle.amqp_ser.specs.Tree.{Tree, Descriptor, scalar, described, trees_of}
+use Rattle.amqp_value.specs.Sound.{IsSound}
+use Rattle.amqp_value.specs.TreeOf.{tree_of}
+use Rattle.amqp_value.specs.declared.value.Value.{Value}
+use Rattle.amqp_decode.specs.Parsed.{parse, parse_content}
+use Rattle.amqp_decode.specs.Prefix.{IsListOf, IsArrayOf, IsDescribedBy, item_of}
+use Rattle.amqp_decode.proofs.Levels.{parse_frame}
 use Rattle.amqp_decode.proofs.ScalarForms.{null-is}
 use Rattle.amqp_de.specs.Encoded.{Reading, ReadsPrefix, Fills}
-use Rattle.amqp_de.specs.Reads.{OnList, OnArray, ReadsOption, image_option, RestorableOption, SameOption}
+use Rattle.amqp_de.specs.Fields.{OnDescribed}
+use Rattle.amqp_de.specs.Reads.{OnList, OnArray, ReadsFirst, ReadsOption, image_option, RestorableOption, SameOption}
 use Rattle.amqp_de.proofs.Lists.{list_of_trees, same_trees}
 use Rattle.amqp_de.proofs.Fillings.{list_prefix}
 use Rattle.amqp_de.proofs.Leaves.{scalar_prefix}
@@ -90,3 +97,46 @@ module _ {T : Type 0} (R : Tree → T → Type 0) (image : T → Tree) (P : T �
             zip_same ts (items v) (items x) zip p (same_trees ts (map image (items x)) inner),
       ),
     )
+
+  -- A list that is read as an array of a fixed length.
+  abbrev pub ReadingFixed : ℕ → Tree → List T → Type 0
+  ReadingFixed n = Reading (λ t a. OnList (λ ts. ReadsFirst R n ts a) t) (λ a. tree.list (trees_of (map image a)))
+      (λ a. (length a ≡ n) × AllByRecursion P a) (λ a b. AllZip S a b)
+
+  fixed_reads : (n : ℕ) (ts : List Tree) (ys : List T) → length ys ≡ n → AllZip (Reading R image P S) ts ys → OnList (λ us. ReadsFirst R n us ys) (tree.list (trees_of ts))
+  unfolding OnList
+  fixed_reads n ts ys len zip =
+      let same : length ys ≡ length ts = AllZip-long (Reading R image P S) ts ys zip in
+      let fits : length ts ≤ n = omega (arith, len, same) in
+      let whole : AllZip R (take n ts) ys = subst (λ us. AllZip R us ys) (sym (take_all n ts fits)) (zip_reads ts ys zip) in
+      subst (λ us. (length ys ≡ n) × AllZip R (take n us) ys) (sym (list_of_trees ts)) (len, whole)
+
+  pub fixed_prefix : (depth d : ℕ) (bytes rest : List ℕ) (count : ℕ) (body : List ℕ) (n : ℕ) (ys : List T) → IsListOf bytes rest count body → depth ≡ suc d
+      → Fills (Reading R image P S) (parse (suc d)) count body ys → length ys ≡ n → ReadsPrefix (ReadingFixed n) depth bytes rest ys
+  fixed_prefix depth d bytes rest count body n ys is deep fills len =
+      list_prefix (Reading R image P S) (ReadingFixed n) depth d bytes rest count body ys ys is deep fills
+      (λ ts zip. (fixed_reads n ts ys len zip, λ x p e. list_same ts ys x zip p.1 e))
+
+  module _ {V : Type 0} (content : V → Descriptor) (inner : V → T) where
+    abbrev pub ReadingDescribed : Tree → V → Type 0
+    ReadingDescribed = Reading (λ t x. OnDescribed (content x) (λ u. R u (inner x)) t) (λ x. described (content x) (image (inner x)))
+        (λ x. P (inner x)) (λ x y. (content x ≡ content y) × S (inner x) (inner y))
+
+    pub described_value : (depth d : ℕ) (bytes after rest : List ℕ) (v : V) → IsDescribedBy (content v) bytes after → depth ≡ suc d
+        → ReadsPrefix (Reading R image P S) d after rest (inner v) → ReadsPrefix ReadingDescribed depth bytes rest v
+    unfolding OnDescribed
+    described_value depth d bytes after rest v is deep (t, found, (reads, law)) =
+        let below : parse depth after ≡ Some (t, rest) = ap (λ z. parse z after) deep ∙ found in (
+          described (content v) t,
+          parse_frame depth bytes ∙ is (parse depth) (parse_content depth) t rest below,
+          (
+            (refl, reads),
+            λ x p e. let same : content v ≡ content x = cc in
+                let image_of : t ≡ image (inner x) = cc in
+                (same, law (inner x) p image_of),
+          ),
+        )
+
+pub value_prefix : (d : ℕ) (bytes rest : List ℕ) (v : Value) → parse (suc d) bytes ≡ Some (tree_of v, rest)
+    → ReadsPrefix (Reading (λ t w. tree_of w ≡ t) tree_of IsSound (λ v w. tree_of v ≡ tree_of w)) d bytes rest v
+value_prefix d bytes rest v e = (tree_of v, e, (refl, λ x p q. q))

@@ -1,4 +1,5 @@
-//! Functions that read the parts of a user-defined type straight from bytes.
+//! Functions that read the parts of a user-defined type from encoded bytes, without an untyped
+//! value.
 
 ghost use Rattle.std.specs.Prelude.{◌∷◌, IfOk};
 ghost use Rattle.amqp_ser.specs.Tree.{code as numbered, described};
@@ -10,7 +11,15 @@ use crate::seed::DeserializeSeed;
 use amqp_decode::prefix::{GaveUp, below, split_described};
 use std::alloc::Global;
 
-/// Reads the parts of a value.
+/// Reads the parts of a value after its format code. For `Deserialize::read_encoded` of a type whose
+/// `deserialize` calls `read` with the same seed.
+///
+/// # Errors
+/// Returns `GaveUp` as the seed does.
+///
+/// # Example
+/// For `ListSeed(named! { "x" })`, the code `c0` and the bytes `03015001`, returns the parts
+/// `(1, ())`.
 #[inline(always)]
 pub fn read_parts_encoded<T: Record, S: DeserializeSeed<Value = T::Values>>(
     alloc: Global,
@@ -29,7 +38,16 @@ pub fn read_parts_encoded<T: Record, S: DeserializeSeed<Value = T::Values>>(
     }
 }
 
-/// Reads the parts of a value with the given numeric descriptor.
+/// Reads the parts of a value with the given numeric descriptor after its format code. For
+/// `Deserialize::read_encoded` of a type whose `deserialize` calls `read_composite` with the same
+/// number and seed.
+///
+/// # Errors
+/// Returns `GaveUp` if the value has another descriptor, or none, and as the seed does.
+///
+/// # Example
+/// For `1`, `ListSeed(named! { "x" })`, the code `00` and the bytes `5301c003015001`, returns the
+/// parts `(1, ())`. With `2`, gives up.
 #[inline(always)]
 pub fn read_composite_encoded<T: Record, S: DeserializeSeed<Value = T::Values>>(
     alloc: Global,

@@ -82,7 +82,13 @@ pub trait FieldSeeds: Sized + Drop {
             D.pairs entries.old ≡ present_fields (names self.now) (images x) →
             MatchResult result (λ y. same y x) D.Error.is_out_of_memory };
 
-    /// Reads the fields from `count` values that fill the body of a list.
+    /// Reads the fields from `count` encoded values that fill the body of a list. Gives up if there
+    /// are more values than fields.
+    ///
+    /// The provided method gives up.
+    ///
+    /// # Errors
+    /// Returns `GaveUp` as `Deserialize::read_encoded` does.
     fn read_fields(
         &self,
         alloc: Global,

@@ -69,7 +69,13 @@ pub trait DeserializeSeed: Sized + Drop {
         ensures named { is_named self → Restores (by_name self) restorable same
             D.Error.is_out_of_memory (D.value deserializer) result };
 
-    /// Reads the payload after its code, and leaves the bytes after it.
+    /// Reads the payload after its format code without an untyped value, and leaves the bytes after
+    /// it. There are at most `depth` levels inside.
+    ///
+    /// The provided method gives up. A seed of one's own need not implement it.
+    ///
+    /// # Errors
+    /// Returns `GaveUp` as `Deserialize::read_encoded` does.
     fn read_encoded(
         self,
         alloc: Global,
@@ -224,6 +230,24 @@ impl<F: FieldSeeds> DeserializeSeed for NamedSeed<F> {
                 Err(error) => Err(error),
             },
             _ => Err(D::Error::invalid_value()),
+        }
+    }
+
+    /// Supports lists.
+    #[inline(always)]
+    fn read_encoded(
+        self,
+        alloc: Global,
+        code: u8,
+        input: &mut &[u8],
+        depth: u16,
+    ) -> Result<F::Values, GaveUp> {
+        let (count, body, rest) = split_list(code, *input)?;
+        *input = rest;
+        let inside = below(depth)?;
+        match self.0.read_fields(alloc, count, body, inside) {
+            Ok(values) => Ok(values),
+            Err(error) => Err(error),
         }
     }
 }

@@ -13,6 +13,7 @@ pub mod NotNull
 pub mod Gathers
 pub mod ScalarForms
 pub mod ListForms
+pub mod MapForms
 pub mod ArrayForms
 pub mod DescriptorForms
 pub mod OwnImage

@@ -7,9 +7,9 @@ use Rattle.amqp_data.specs.declared.format_code.EncodingCodes.{EncodingCodes}
 use Rattle.amqp_data.specs.declared.format_code.EncodingCodes.TheVariants as code
 use Rattle.amqp_frame.specs.Code.{category}
 use Rattle.amqp_frame.specs.declared.code.Category.TheVariants.{Fixed}
-use Rattle.amqp_ser.specs.Tree.{Scalar, null, bool, ubyte, ushort, uint, ulong, byte, short, int, long, float, double, char, timestamp, decimal32, decimal64, decimal128, uuid, binary, string, symbol}
+use Rattle.amqp_ser.specs.Tree.{Scalar, null, bool, ubyte, ushort, uint, ulong, byte, short, int, long, float, double, timestamp, decimal32, decimal64, decimal128, uuid, binary, string, symbol}
 use Rattle.amqp_decode.specs.Codes.{is_primitive, shape_of_code}
-use Rattle.amqp_decode.specs.Scalars.{exact, is_scalar_value, scalar_in}
+use Rattle.amqp_decode.specs.Scalars.{exact, character, scalar_in}
 use Rattle.amqp_decode.specs.Spells.{IsPayload}
 use Rattle.amqp_decode.specs.Parsed.{FrameReader, ContentReader, cut, content_at, sized_at}
 use Rattle.amqp_decode.specs.Prefix.{IsScalar}
@@ -124,12 +124,10 @@ pub timestamp-is : (s bs rest : List ℕ) (n : ℤ) → n ≡ cast_signed w64 (f
 unfolding scalar_in category
 timestamp-is s bs rest n is found whole = scalar-is code.Timestamp s bs rest (timestamp n) refl refl found (rw (whole, is) refl)
 
-pub char-is : (s bs rest : List ℕ) (n : ℕ) → n ≡ from_be_bytes w32 bs → cut 4 s ≡ Some (bs, rest) → exact 4 bs ≡ Some bs → is_scalar_value n ≡ true
-    → IsScalar (0x73 ∷ s) rest (char n)
+pub char-is : (s bs rest : List ℕ) (n : ℕ) (k : Scalar) → n ≡ from_be_bytes w32 bs → cut 4 s ≡ Some (bs, rest) → exact 4 bs ≡ Some bs → character n ≡ Some k
+    → IsScalar (0x73 ∷ s) rest k
 unfolding scalar_in category
-char-is s bs rest n is found whole valid =
-    let inner : is_scalar_value (from_be_bytes w32 bs) ≡ true = rw (sym is) valid in
-    scalar-is code.Char s bs rest (char n) refl refl found (rw (whole, inner, is) refl)
+char-is s bs rest n k is found whole valid = scalar-is code.Char s bs rest k refl refl found (rw (whole, sym is) valid)
 
 pub decimal32-is : (s bs rest : List ℕ) → cut 4 s ≡ Some (bs, rest) → exact 4 bs ≡ Some bs → IsScalar (0x74 ∷ s) rest (decimal32 bs)
 unfolding scalar_in category

@@ -1,4 +1,4 @@
-//! Reads scalars, and the headers of lists, arrays and described values, from the start of bytes.
+//! Reads scalars, and the headers of lists, maps, arrays and described values, from the start of bytes.
 //!
 //! Each function takes a format code that has been read and the bytes after it, and returns what it
 //! read with the bytes that are left. It accepts every form of a value, and fails with `GaveUp`
@@ -13,7 +13,7 @@ mod texts;
 mod values;
 
 pub use bytes::{split_byte, split_bytes};
-pub use compounds::{below, split_array, split_described, split_list};
+pub use compounds::{below, split_array, split_described, split_list, split_map};
 pub use gave_up::GaveUp;
 pub use integers::{
     read_byte, read_int, read_long, read_short, read_ubyte, read_uint, read_ulong, read_ushort,

@@ -201,4 +201,20 @@ impl<T: Deserialize> Deserialize for TransparentVec<T> {
             _ => Err(D::Error::invalid_value()),
         }
     }
+
+    #[inline(always)]
+    fn read_encoded(
+        alloc: Global,
+        code: u8,
+        input: &mut &[u8],
+        depth: u16,
+    ) -> Result<TransparentVec<T>, GaveUp> {
+        let (count, body, rest) = split_list(code, *input)?;
+        *input = rest;
+        let inside = below(depth)?;
+        match T::read_list(alloc, count, body, inside) {
+            Ok(items) => Ok(TransparentVec::new(items)),
+            Err(error) => Err(error),
+        }
+    }
 }

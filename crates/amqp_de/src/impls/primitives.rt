@@ -1,7 +1,6 @@
 //! Null, booleans, integers and characters. Each type is read only from a value of its own kind.
 
-ghost use Rattle.std.specs.Prelude.{◌≡◌, IfOk, map};
-ghost use Rattle.std.specs.Int.{w32, from_be_bytes};
+ghost use Rattle.std.specs.Prelude.{◌≡◌};
 ghost use Rattle.amqp_ser.specs.Tree.{scalar, null, bool, ubyte, ushort, uint, ulong, byte, short, int, long, char};
 ghost use Rattle.amqp_de.specs.Reads.{Always};
 
@@ -9,7 +8,11 @@ use crate::deserialize::Deserialize;
 use crate::deserialize_error::DeserializeError;
 use crate::deserializer::Deserializer;
 use crate::fixed_content::FixedContent;
-use amqp_decode::prefix::{GaveUp, read_bool, read_uint};
+use crate::impls::numbers::read_numbers;
+use amqp_decode::prefix::{
+    GaveUp, read_bool, read_byte, read_char, read_int, read_long, read_null, read_short, read_ubyte,
+    read_uint, read_ulong, read_ushort,
+};
 use std::alloc::Global;
 
 impl Deserialize for () {
@@ -27,6 +30,18 @@ impl Deserialize for () {
         } else {
             Err(D::Error::invalid_value())
         }
+    }
+
+    #[inline(always)]
+    fn read_encoded(
+        _alloc: Global,
+        code: u8,
+        input: &mut &[u8],
+        _depth: u16,
+    ) -> Result<(), GaveUp> {
+        let rest = read_null(code, *input)?;
+        *input = rest;
+        Ok(())
     }
 }
 
@@ -76,6 +91,18 @@ impl Deserialize for u8 {
             _ => Err(D::Error::invalid_value()),
         }
     }
+
+    #[inline(always)]
+    fn read_encoded(
+        _alloc: Global,
+        code: u8,
+        input: &mut &[u8],
+        _depth: u16,
+    ) -> Result<u8, GaveUp> {
+        let (value, rest) = read_ubyte(code, *input)?;
+        *input = rest;
+        Ok(value)
+    }
 }
 
 impl Deserialize for u16 {
@@ -93,6 +120,32 @@ impl Deserialize for u16 {
             FixedContent::Ushort(value) => Ok(value),
             _ => Err(D::Error::invalid_value()),
         }
+    }
+
+    #[inline(always)]
+    fn read_encoded(
+        _alloc: Global,
+        code: u8,
+        input: &mut &[u8],
+        _depth: u16,
+    ) -> Result<u16, GaveUp> {
+        let (value, rest) = read_ushort(code, *input)?;
+        *input = rest;
+        Ok(value)
+    }
+
+    #[inline(never)]
+    fn read_array(
+        alloc: Global,
+        code: u8,
+        count: u32,
+        content: &[u8],
+        _depth: u16,
+    ) -> Result<Vec<u16>, GaveUp> {
+        if code != 0x60 {
+            return Err(GaveUp);
+        }
+        read_numbers::<u16, 2>(alloc, count, content)
     }
 }
 
@@ -136,12 +189,7 @@ impl Deserialize for u32 {
         if code != 0x70 {
             return Err(GaveUp);
         }
-        let (chunks, left) = content.as_chunks::<4>();
-        if !left.is_empty() || chunks.len() != count as usize {
-            return Err(GaveUp);
-        }
-        let items = numbers(alloc, chunks)?;
-        Ok(items)
+        read_numbers::<u32, 4>(alloc, count, content)
     }
 }
 
@@ -161,6 +209,32 @@ impl Deserialize for u64 {
             _ => Err(D::Error::invalid_value()),
         }
     }
+
+    #[inline(always)]
+    fn read_encoded(
+        _alloc: Global,
+        code: u8,
+        input: &mut &[u8],
+        _depth: u16,
+    ) -> Result<u64, GaveUp> {
+        let (value, rest) = read_ulong(code, *input)?;
+        *input = rest;
+        Ok(value)
+    }
+
+    #[inline(never)]
+    fn read_array(
+        alloc: Global,
+        code: u8,
+        count: u32,
+        content: &[u8],
+        _depth: u16,
+    ) -> Result<Vec<u64>, GaveUp> {
+        if code != 0x80 {
+            return Err(GaveUp);
+        }
+        read_numbers::<u64, 8>(alloc, count, content)
+    }
 }
 
 impl Deserialize for i8 {
@@ -178,6 +252,18 @@ impl Deserialize for i8 {
             FixedContent::Byte(value) => Ok(value),
             _ => Err(D::Error::invalid_value()),
         }
+    }
+
+    #[inline(always)]
+    fn read_encoded(
+        _alloc: Global,
+        code: u8,
+        input: &mut &[u8],
+        _depth: u16,
+    ) -> Result<i8, GaveUp> {
+        let (value, rest) = read_byte(code, *input)?;
+        *input = rest;
+        Ok(value)
     }
 }
 
@@ -197,6 +283,32 @@ impl Deserialize for i16 {
             _ => Err(D::Error::invalid_value()),
         }
     }
+
+    #[inline(always)]
+    fn read_encoded(
+        _alloc: Global,
+        code: u8,
+        input: &mut &[u8],
+        _depth: u16,
+    ) -> Result<i16, GaveUp> {
+        let (value, rest) = read_short(code, *input)?;
+        *input = rest;
+        Ok(value)
+    }
+
+    #[inline(never)]
+    fn read_array(
+        alloc: Global,
+        code: u8,
+        count: u32,
+        content: &[u8],
+        _depth: u16,
+    ) -> Result<Vec<i16>, GaveUp> {
+        if code != 0x61 {
+            return Err(GaveUp);
+        }
+        read_numbers::<i16, 2>(alloc, count, content)
+    }
 }
 
 impl Deserialize for i32 {
@@ -214,6 +326,32 @@ impl Deserialize for i32 {
             FixedContent::Int(value) => Ok(value),
             _ => Err(D::Error::invalid_value()),
         }
+    }
+
+    #[inline(always)]
+    fn read_encoded(
+        _alloc: Global,
+        code: u8,
+        input: &mut &[u8],
+        _depth: u16,
+    ) -> Result<i32, GaveUp> {
+        let (value, rest) = read_int(code, *input)?;
+        *input = rest;
+        Ok(value)
+    }
+
+    #[inline(never)]
+    fn read_array(
+        alloc: Global,
+        code: u8,
+        count: u32,
+        content: &[u8],
+        _depth: u16,
+    ) -> Result<Vec<i32>, GaveUp> {
+        if code != 0x71 {
+            return Err(GaveUp);
+        }
+        read_numbers::<i32, 4>(alloc, count, content)
     }
 }
 
@@ -233,6 +371,32 @@ impl Deserialize for i64 {
             _ => Err(D::Error::invalid_value()),
         }
     }
+
+    #[inline(always)]
+    fn read_encoded(
+        _alloc: Global,
+        code: u8,
+        input: &mut &[u8],
+        _depth: u16,
+    ) -> Result<i64, GaveUp> {
+        let (value, rest) = read_long(code, *input)?;
+        *input = rest;
+        Ok(value)
+    }
+
+    #[inline(never)]
+    fn read_array(
+        alloc: Global,
+        code: u8,
+        count: u32,
+        content: &[u8],
+        _depth: u16,
+    ) -> Result<Vec<i64>, GaveUp> {
+        if code != 0x81 {
+            return Err(GaveUp);
+        }
+        read_numbers::<i64, 8>(alloc, count, content)
+    }
 }
 
 impl Deserialize for char {
@@ -251,22 +415,16 @@ impl Deserialize for char {
             _ => Err(D::Error::invalid_value()),
         }
     }
-}
 
-// Converts numbers of four bytes.
-#[inline(always)]
-fn numbers(alloc: Global, chunks: &[[u8; 4]]) -> Result<Vec<u32>, GaveUp>
-    ensures { IfOk result (λ v. v.items ≡ map (from_be_bytes w32) chunks.now) }
-{
-    let mut items = Vec::with_capacity(alloc, chunks.len())?;
-    let mut rest = chunks;
-    'fours: loop {
-        match rest.split_first() {
-            Some((four, after)) => {
-                items.push_reserved(u32::from_be_bytes(*four));
-                rest = after;
-            }
-            None => return Ok(items),
-        }
+    #[inline(always)]
+    fn read_encoded(
+        _alloc: Global,
+        code: u8,
+        input: &mut &[u8],
+        _depth: u16,
+    ) -> Result<char, GaveUp> {
+        let (value, rest) = read_char(code, *input)?;
+        *input = rest;
+        Ok(value)
     }
 }

@@ -1,9 +1,9 @@
-//! The headers of lists, arrays and described values.
+//! The headers of lists, maps, arrays and described values.
 
 ghost use Rattle.std.specs.Prelude.{◌≡◌, ◌∷◌, IfOk, Some, suc};
 ghost use Rattle.amqp_ser.specs.Tree.{code as numbered};
 ghost use Rattle.amqp_decode.specs.Parsed.{descriptor_at};
-ghost use Rattle.amqp_decode.specs.Prefix.{IsListOf, IsArrayOf, IsDescribedBy};
+ghost use Rattle.amqp_decode.specs.Prefix.{IsListOf, IsMapOf, IsArrayOf, IsDescribedBy};
 
 use crate::prefix::bytes::{split_byte, split_bytes, split_number, split_sized};
 use crate::prefix::gave_up::GaveUp;
@@ -43,6 +43,28 @@ pub fn split_list(code: u8, bytes: &[u8]) -> Result<(u32, &[u8], &[u8]), GaveUp>
         0x45 => Ok((0, &[], bytes)),
         _ => Err(GaveUp),
     }
+}
+
+/// Opens a map: returns the number of its entries, the bytes of the keys and values, and the bytes
+/// after the map.
+///
+/// # Encoding
+/// The codes `c1` and `d1` (AMQP 1.0 part 1, section 1.6.23). Gives up on an odd count.
+#[inline(always)]
+pub fn split_map(code: u8, bytes: &[u8]) -> Result<(u32, &[u8], &[u8]), GaveUp>
+    ensures { IfOk result (λ r. IsMapOf (code ∷ bytes.now) r.2.now r.0 r.1.now) }
+{
+    let wide = match code {
+        0xc1 => false,
+        0xd1 => true,
+        _ => return Err(GaveUp),
+    };
+    let (content, rest) = split_sized(wide, bytes)?;
+    let (count, body) = split_number(wide, content)?;
+    if count % 2 != 0 {
+        return Err(GaveUp);
+    }
+    Ok((count / 2, body, rest))
 }
 
 /// Opens an array that has elements with bytes: returns their number, their format code, their

@@ -1,10 +1,11 @@
 //! Null, booleans, floating-point numbers, characters, timestamps, decimals and uuids, after their
 //! format codes.
 
-ghost use Rattle.std.specs.Prelude.{◌∷◌, IfOk};
+ghost use Rattle.std.specs.Prelude.{◌≡◌, ◌∷◌, IfOk, Some};
 ghost use Rattle.amqp_data.specs.Fixed.{dec32_bytes, dec64_bytes, dec128_bytes, f32_bits, f64_bits, milliseconds_of, uuid_bytes};
 ghost use Rattle.amqp_ser.specs.Tree.{null, bool, float, double, char, timestamp, decimal32, decimal64, decimal128, uuid};
 ghost use Rattle.amqp_decode.specs.Prefix.{IsScalar};
+ghost use Rattle.amqp_decode.specs.Scalars.{character};
 
 use crate::prefix::bytes::{split_byte, split_bytes};
 use crate::prefix::gave_up::GaveUp;
@@ -47,6 +48,17 @@ pub fn read_bool(code: u8, bytes: &[u8]) -> Result<(bool, &[u8]), GaveUp>
     }
 }
 
+// Converts a Unicode scalar value to a character.
+#[inline(always)]
+fn character_of(number: u32) -> Result<char, GaveUp>
+    ensures { IfOk result (λ c. character number ≡ Some (char c)) }
+{
+    match char::from_u32(number) {
+        Some(character) => Ok(character),
+        None => Err(GaveUp),
+    }
+}
+
 /// Reads a character, which is a Unicode scalar value.
 ///
 /// # Encoding
@@ -58,10 +70,8 @@ pub fn read_char(code: u8, bytes: &[u8]) -> Result<(char, &[u8]), GaveUp>
     match code {
         0x73 => {
             let (value, rest) = split_bytes::<4>(bytes)?;
-            match char::from_u32(u32::from_be_bytes(value)) {
-                Some(character) => Ok((character, rest)),
-                None => Err(GaveUp),
-            }
+            let character = character_of(u32::from_be_bytes(value))?;
+            Ok((character, rest))
         }
         _ => Err(GaveUp),
     }

@@ -96,12 +96,14 @@ pub fn read_symbol(alloc: Global, code: u8, bytes: &[u8]) -> Result<(Symbol, &[u
     match code {
         0xa3 => {
             let (content, rest) = split_sized(false, bytes)?;
-            let value = Symbol::from(text_of(alloc, content)?);
+            let text = text_of(alloc, content)?;
+            let value = Symbol::from(text);
             Ok((value, rest))
         }
         0xb3 => {
             let (content, rest) = split_sized(true, bytes)?;
-            let value = Symbol::from(text_of(alloc, content)?);
+            let text = text_of(alloc, content)?;
+            let value = Symbol::from(text);
             Ok((value, rest))
         }
         _ => Err(GaveUp),

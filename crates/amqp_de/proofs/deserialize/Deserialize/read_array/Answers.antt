@@ -13,7 +13,7 @@ loop-read-init g c =
 
 pub loop-read-preserved : goal.loop-read-preserved
 loop-read-preserved g c =
-    let p : c.push.new.self.items ≡ c.loop-read.items.items ++ c.in_ok-item.item ∷ [] = search rules in
+    let p : c.push_item.new.items.items ≡ c.loop-read.items.items ++ c.in_ok-item.item ∷ [] = search rules in
     let taken = c.in_ok-item.ensures in
     rw p (filling_more (Reading g.Self.Deserialize.reads g.Self.Deserialize.image g.Self.Deserialize.restorable g.Self.Deserialize.same)
     (item_of c.args.depth c.args.code) c.args.count c.args.content.now c.loop-read.read c.loop-read.rest.now _ c.loop-read.items.items taken.0 c.in_ok-item.item

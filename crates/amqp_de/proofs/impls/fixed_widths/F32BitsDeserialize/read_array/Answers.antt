@@ -1,0 +1,15 @@
+use Rattle.std.proofs.Common.{rules, ◌≡◌, refl}
+use Rattle.amqp_data.specs.Fixed.{f32_bits}
+use Rattle.amqp_data.specs.declared.format_code.EncodingCodes.TheVariants as code
+use Rattle.amqp_frame.specs.Code.{category}
+use Rattle.amqp_ser.specs.Tree as tree
+use Rattle.amqp_decode.specs.Scalars.{scalar_in}
+use Rattle.amqp_de.proofs.Chunks.{chunks_fill}
+use Rattle.amqp_de.proofs.impls.fixed_widths.F32BitsDeserialize.read_array.Goals as goal
+
+pub returns : goal.returns
+unfolding scalar_in category
+returns c =
+    let wide : c.args.code ≡ 114 = search rules in
+    rw wide (chunks_fill tree.float (λ a b e. cc) f32_bits code.Float 4 _ refl refl refl (λ bs x len is. rw (len, is) refl)
+    c.args._depth c.args.count c.args.content.now _ c.read_numbers.ensures.length c.read_numbers.ensures.items)
