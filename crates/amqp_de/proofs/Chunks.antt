@@ -1,7 +1,7 @@
 -- Arrays of numbers, whose payloads have the same length.
-use Rattle.std.proofs.Common.{◌≡◌, ℕ, zero, suc, ◌+◌, ◌-◌, ◌*◌, ◌≤◌, IsTrue, List, [], ◌∷◌, ◌++◌, length, take, drop, Some, refl, sym, ap, ◌∙◌, arith}
+use Rattle.std.proofs.Common.{◌≡◌, ℕ, zero, suc, ◌+◌, ◌-◌, ◌*◌, ◌≤◌, IsTrue, List, [], ◌∷◌, ◌++◌, length, take, drop, Some, refl, sym, ap, ◌∙◌, subst, append_assoc, arith}
 use Rattle.std.proofs.lemmas.Grind.{common_steps}
-use Rattle.std.proofs.lemmas.List.{take-append-drop, length-take-le, length-drop}
+use Rattle.std.proofs.lemmas.List.{append-nil, take-append-drop, length-take-le, length-drop}
 use Rattle.std.specs.List.{AllZip}
 use Rattle.std.specs.Simd.{first_chunks}
 use Rattle.amqp_data.specs.FormatCode.{code_of}
@@ -20,6 +20,24 @@ use Rattle.amqp_decode.proofs.ScalarForms.{fixed-is}
 use Rattle.amqp_decode.proofs.Whole.{nil-from_length}
 use Rattle.amqp_de.specs.Encoded.{Fills}
 use Rattle.amqp_de.proofs.Leaves.{ReadingLeaf, leaf_reading}
+
+-- The values of the chunks so far: with values of the rest, they are values of all chunks.
+abbrev pub Converts : {T : Type 0} → (List ℕ → T → Type 0) → List (List ℕ) → List (List ℕ) → List T → Type 0
+Converts {T} Is rest chunks items = (ys : List T) → AllZip Is rest ys → AllZip Is chunks (items ++ ys)
+
+module _ {T : Type 0} (Is : List ℕ → T → Type 0) (chunks : List (List ℕ)) (items : List T) where
+  pub converts_none : items ≡ [] → Converts Is chunks chunks items
+  converts_none e ys zip = subst (λ z. AllZip Is chunks (z ++ ys)) (sym e) zip
+
+  pub converts_more : (b : List ℕ) (s : List (List ℕ)) (x : T) (more : List T) → more ≡ items ++ x ∷ [] → Is b x → Converts Is (b ∷ s) chunks items → Converts Is s chunks more
+  converts_more b s x more e is so ys zip = subst (AllZip Is chunks) (sym (ap (λ z. z ++ ys) e ∙ append_assoc items (x ∷ []) ys)) (so (x ∷ ys) (is, zip))
+
+  pub converted : (s : List (List ℕ)) → s ≡ [] → Converts Is s chunks items → AllZip Is chunks items
+  converted s e so = subst (AllZip Is chunks) (append-nil items) (so [] (subst (λ z. AllZip Is z []) (sym e) tt))
+
+pub chunk_values : {T : Type 0} (Is : List ℕ → T → Type 0) (width n count : ℕ) (s : List ℕ) (chunks : List (List ℕ)) (xs : List T)
+    → chunks ≡ first_chunks width n s → n ≡ count → AllZip Is chunks xs → AllZip Is (first_chunks width count s) xs
+chunk_values Is width n count s chunks xs e same zip = subst (λ z. AllZip Is z xs) (e ∙ ap (λ m. first_chunks width m s) same) zip
 
 module _ {T A : Type 0} (kind : A → Scalar) (told : (a b : A) → kind a ≡ kind b → a ≡ b) (content : T → A)
     (c : EncodingCodes) (width : ℕ) (Is : List ℕ → T → Type 0) (ok : IsTrue (is_primitive c)) (is : shape_of_code c ≡ shape.Scalar)

@@ -6,9 +6,9 @@ ghost use Rattle.amqp_ser.specs.Tree.{code as numbered, described};
 ghost use Rattle.amqp_de.specs.Fields.{OnDescribed};
 ghost use Rattle.amqp_de.specs.Encoded.{ReadsPrefix, PartsReading};
 
-use crate::record::Record;
+use crate::record::{Describes, Record};
 use crate::seed::DeserializeSeed;
-use amqp_decode::prefix::{GaveUp, below, split_described};
+use amqp_decode::prefix::{GaveUp, below, split_byte, split_described, split_descriptor};
 use std::alloc::Global;
 
 /// Reads the parts of a value after its format code. For `Deserialize::read_encoded` of a type whose
@@ -65,6 +65,50 @@ pub fn read_composite_encoded<T: Record, S: DeserializeSeed<Value = T::Values>>(
 {
     let (inner, after) = split_described(wanted, code, *input)?;
     *input = after;
+    let inside = below(depth)?;
+    match seed.read_encoded(alloc, inner, input, inside) {
+        Ok(values) => Ok(values),
+        Err(error) => Err(error),
+    }
+}
+
+/// Reads the parts of a value with the given descriptor after its format code. For
+/// `Deserialize::read_encoded` of a type whose `deserialize` calls `read_described` with the same
+/// descriptor and seed.
+///
+/// # Errors
+/// Returns `GaveUp` if the value has another descriptor, or none, and as the seed does.
+///
+/// # Memory
+/// Allocates the text of a symbolic descriptor from `alloc`, and frees it.
+///
+/// # Example
+/// For `&"a:b"`, `ListSeed(named! { "x" })`, the code `00` and the bytes `a303613a62c003015001`,
+/// returns the parts `(1, ())`.
+pub fn read_described_encoded<T: Record, K: Describes, S: DeserializeSeed<Value = T::Values>>(
+    alloc: Global,
+    code: u8,
+    input: &mut &[u8],
+    depth: u16,
+    descriptor: &K,
+    seed: S,
+) -> Result<T::Values, GaveUp>
+    ensures { IfOk result (λ v. ReadsPrefix
+        (PartsReading T.parts (λ t y. OnDescribed (K.wanted descriptor.now) (λ u. S.reads seed u y) t)
+        (λ y. described (K.wanted descriptor.now) (S.image y))
+        (λ y. described (K.wanted descriptor.now) (S.short y))
+        S.restorable S.same)
+        depth (code ∷ input.old.now) input.new.now v) }
+{
+    if code != 0 {
+        return Err(GaveUp);
+    }
+    let (found, after) = split_descriptor(alloc, *input)?;
+    if !descriptor.is(&found) {
+        return Err(GaveUp);
+    }
+    let (inner, payload) = split_byte(after)?;
+    *input = payload;
     let inside = below(depth)?;
     match seed.read_encoded(alloc, inner, input, inside) {
         Ok(values) => Ok(values),

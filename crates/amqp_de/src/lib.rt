@@ -27,7 +27,7 @@ mod visitor;
 
 pub use access::{ContentOf, ElementsOf, EntriesOf, EnumAccessOf};
 pub use composite::read_composite;
-pub use encoded::{read_composite_encoded, read_parts_encoded};
+pub use encoded::{read_composite_encoded, read_described_encoded, read_parts_encoded};
 pub use enums::{DataVariant, Either, EnumSeed, Never, UnitVariant, Variants};
 pub use fields::{FieldSeeds, Optional, Required};
 pub use record::{Describes, Record, read, read_described};

@@ -56,13 +56,7 @@ fn read_at_once<T: Deserialize>(alloc: Global, bytes: &[u8]) -> Option<T>
     };
     let mut rest = payload;
     match T::read_encoded(alloc, *code, &mut rest, DEPTH) {
-        Ok(read) => {
-            if rest.is_empty() {
-                Some(read)
-            } else {
-                None
-            }
-        }
+        Ok(read) => { if rest.is_empty() { Some(read) } else { None } }
         Err(_) => None,
     }
 }

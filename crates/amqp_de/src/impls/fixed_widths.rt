@@ -58,7 +58,8 @@ impl Deserialize for F32Bits {
         if code != 0x72 {
             return Err(GaveUp);
         }
-        read_numbers::<F32Bits, 4>(alloc, count, content)
+        let items = read_numbers::<F32Bits, 4>(alloc, count, content)?;
+        Ok(items)
     }
 }
 
@@ -102,7 +103,8 @@ impl Deserialize for F64Bits {
         if code != 0x82 {
             return Err(GaveUp);
         }
-        read_numbers::<F64Bits, 8>(alloc, count, content)
+        let items = read_numbers::<F64Bits, 8>(alloc, count, content)?;
+        Ok(items)
     }
 }
 
@@ -236,7 +238,8 @@ impl Deserialize for Timestamp {
         if code != 0x83 {
             return Err(GaveUp);
         }
-        read_numbers::<Timestamp, 8>(alloc, count, content)
+        let items = read_numbers::<Timestamp, 8>(alloc, count, content)?;
+        Ok(items)
     }
 }
 

@@ -1,6 +1,6 @@
 //! Arrays of numbers of a fixed width, which are read by chunks of their payloads.
 
-ghost use Rattle.std.specs.Prelude.{◌≡◌, ◌<◌, ◌*◌, ℕ, List, length, IfOk};
+ghost use Rattle.std.specs.Prelude.{◌≡◌, ◌<◌, ◌/◌, ◌%◌, ℕ, List, length, IfOk};
 ghost use Rattle.std.specs.Int.{w16, w32, w64, from_be_bytes, cast_signed};
 ghost use Rattle.std.specs.List.{AllZip};
 ghost use Rattle.std.specs.Simd.{first_chunks};
@@ -24,6 +24,7 @@ pub(crate) trait Number<const N: usize>: Drop {
 ///
 /// # Memory
 /// Allocates a vector for exactly the numbers whose bytes are there.
+#[tactic(auto, using(crate::proofs::Chunks::chunk_values))]
 #[inline(always)]
 pub(crate) fn read_numbers<T: Number<N>, const N: usize>(
     alloc: Global,
@@ -31,17 +32,19 @@ pub(crate) fn read_numbers<T: Number<N>, const N: usize>(
     content: &[u8],
 ) -> Result<Vec<T>, GaveUp>
     requires { 0 < N }
-    ensures length { IfOk result (λ v. length content.now ≡ count * N) }
+    ensures length { IfOk result (λ v. (length content.now / N ≡ count) × (length content.now % N ≡ 0)) }
     ensures items { IfOk result (λ v. AllZip T.is (first_chunks N count content.now) v.items) }
 {
     let (chunks, left) = content.as_chunks::<N>();
     if !left.is_empty() || chunks.len() != count as usize {
         return Err(GaveUp);
     }
-    convert::<T, N>(alloc, chunks)
+    let items = convert::<T, N>(alloc, chunks)?;
+    Ok(items)
 }
 
 // Converts each payload.
+#[tactic(auto, using(crate::proofs::Chunks::converts_none, crate::proofs::Chunks::converts_more, crate::proofs::Chunks::converted))]
 #[inline(always)]
 fn convert<T: Number<N>, const N: usize>(
     alloc: Global,

@@ -10,8 +10,8 @@ use crate::deserializer::Deserializer;
 use crate::fixed_content::FixedContent;
 use crate::impls::numbers::read_numbers;
 use amqp_decode::prefix::{
-    GaveUp, read_bool, read_byte, read_char, read_int, read_long, read_null, read_short, read_ubyte,
-    read_uint, read_ulong, read_ushort,
+    GaveUp, read_bool, read_byte, read_char, read_int, read_long, read_null, read_short,
+    read_ubyte, read_uint, read_ulong, read_ushort,
 };
 use std::alloc::Global;
 
@@ -145,7 +145,8 @@ impl Deserialize for u16 {
         if code != 0x60 {
             return Err(GaveUp);
         }
-        read_numbers::<u16, 2>(alloc, count, content)
+        let items = read_numbers::<u16, 2>(alloc, count, content)?;
+        Ok(items)
     }
 }
 
@@ -189,7 +190,8 @@ impl Deserialize for u32 {
         if code != 0x70 {
             return Err(GaveUp);
         }
-        read_numbers::<u32, 4>(alloc, count, content)
+        let items = read_numbers::<u32, 4>(alloc, count, content)?;
+        Ok(items)
     }
 }
 
@@ -233,7 +235,8 @@ impl Deserialize for u64 {
         if code != 0x80 {
             return Err(GaveUp);
         }
-        read_numbers::<u64, 8>(alloc, count, content)
+        let items = read_numbers::<u64, 8>(alloc, count, content)?;
+        Ok(items)
     }
 }
 
@@ -307,7 +310,8 @@ impl Deserialize for i16 {
         if code != 0x61 {
             return Err(GaveUp);
         }
-        read_numbers::<i16, 2>(alloc, count, content)
+        let items = read_numbers::<i16, 2>(alloc, count, content)?;
+        Ok(items)
     }
 }
 
@@ -351,7 +355,8 @@ impl Deserialize for i32 {
         if code != 0x71 {
             return Err(GaveUp);
         }
-        read_numbers::<i32, 4>(alloc, count, content)
+        let items = read_numbers::<i32, 4>(alloc, count, content)?;
+        Ok(items)
     }
 }
 
@@ -395,7 +400,8 @@ impl Deserialize for i64 {
         if code != 0x81 {
             return Err(GaveUp);
         }
-        read_numbers::<i64, 8>(alloc, count, content)
+        let items = read_numbers::<i64, 8>(alloc, count, content)?;
+        Ok(items)
     }
 }
 

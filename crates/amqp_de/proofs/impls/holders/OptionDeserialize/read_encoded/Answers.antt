@@ -1,6 +1,7 @@
 use Rattle.std.proofs.Common.{rules, ◌≡◌, refl, sym, ◌∙◌}
 use Rattle.amqp_ser.specs.Tree.{scalar, null}
-use Rattle.amqp_de.proofs.Readings.{some_reading, none_prefix, not_null}
+use Rattle.amqp_decode.proofs.NotNull.{not_null}
+use Rattle.amqp_de.proofs.Readings.{some_reading, none_prefix}
 use Rattle.amqp_de.proofs.impls.holders.OptionDeserialize.read_encoded.Goals as goal
 
 pub returns-then-code-eq64 : goal.returns-then-code-eq64
