@@ -4,6 +4,7 @@ mod arrays;
 mod described;
 mod fixed_widths;
 mod holders;
+mod integers;
 mod lazy;
 mod lists;
 mod maps;
