@@ -69,7 +69,9 @@ impl Number<2> for u16 {
     ghost is = { λ bs x. x ≡ from_be_bytes w16 bs };
 
     #[inline(always)]
-    fn from_payload(payload: [u8; 2]) -> u16 {
+    fn from_payload(payload: [u8; 2]) -> u16
+        ensures { result ≡ from_be_bytes w16 payload }
+    {
         u16::from_be_bytes(payload)
     }
 }
@@ -78,7 +80,9 @@ impl Number<4> for u32 {
     ghost is = { λ bs x. x ≡ from_be_bytes w32 bs };
 
     #[inline(always)]
-    fn from_payload(payload: [u8; 4]) -> u32 {
+    fn from_payload(payload: [u8; 4]) -> u32
+        ensures { result ≡ from_be_bytes w32 payload }
+    {
         u32::from_be_bytes(payload)
     }
 }
@@ -87,7 +91,9 @@ impl Number<8> for u64 {
     ghost is = { λ bs x. x ≡ from_be_bytes w64 bs };
 
     #[inline(always)]
-    fn from_payload(payload: [u8; 8]) -> u64 {
+    fn from_payload(payload: [u8; 8]) -> u64
+        ensures { result ≡ from_be_bytes w64 payload }
+    {
         u64::from_be_bytes(payload)
     }
 }
@@ -96,7 +102,9 @@ impl Number<2> for i16 {
     ghost is = { λ bs x. x ≡ cast_signed w16 (from_be_bytes w16 bs) };
 
     #[inline(always)]
-    fn from_payload(payload: [u8; 2]) -> i16 {
+    fn from_payload(payload: [u8; 2]) -> i16
+        ensures { result ≡ cast_signed w16 (from_be_bytes w16 payload) }
+    {
         i16::from_be_bytes(payload)
     }
 }
@@ -105,7 +113,9 @@ impl Number<4> for i32 {
     ghost is = { λ bs x. x ≡ cast_signed w32 (from_be_bytes w32 bs) };
 
     #[inline(always)]
-    fn from_payload(payload: [u8; 4]) -> i32 {
+    fn from_payload(payload: [u8; 4]) -> i32
+        ensures { result ≡ cast_signed w32 (from_be_bytes w32 payload) }
+    {
         i32::from_be_bytes(payload)
     }
 }
@@ -114,7 +124,9 @@ impl Number<8> for i64 {
     ghost is = { λ bs x. x ≡ cast_signed w64 (from_be_bytes w64 bs) };
 
     #[inline(always)]
-    fn from_payload(payload: [u8; 8]) -> i64 {
+    fn from_payload(payload: [u8; 8]) -> i64
+        ensures { result ≡ cast_signed w64 (from_be_bytes w64 payload) }
+    {
         i64::from_be_bytes(payload)
     }
 }
@@ -123,7 +135,9 @@ impl Number<4> for F32Bits {
     ghost is = { λ bs x. f32_bits x ≡ from_be_bytes w32 bs };
 
     #[inline(always)]
-    fn from_payload(payload: [u8; 4]) -> F32Bits {
+    fn from_payload(payload: [u8; 4]) -> F32Bits
+        ensures { f32_bits result ≡ from_be_bytes w32 payload }
+    {
         F32Bits::from(u32::from_be_bytes(payload))
     }
 }
@@ -132,7 +146,9 @@ impl Number<8> for F64Bits {
     ghost is = { λ bs x. f64_bits x ≡ from_be_bytes w64 bs };
 
     #[inline(always)]
-    fn from_payload(payload: [u8; 8]) -> F64Bits {
+    fn from_payload(payload: [u8; 8]) -> F64Bits
+        ensures { f64_bits result ≡ from_be_bytes w64 payload }
+    {
         F64Bits::from(u64::from_be_bytes(payload))
     }
 }
@@ -141,7 +157,9 @@ impl Number<8> for Timestamp {
     ghost is = { λ bs x. milliseconds_of x ≡ cast_signed w64 (from_be_bytes w64 bs) };
 
     #[inline(always)]
-    fn from_payload(payload: [u8; 8]) -> Timestamp {
+    fn from_payload(payload: [u8; 8]) -> Timestamp
+        ensures { milliseconds_of result ≡ cast_signed w64 (from_be_bytes w64 payload) }
+    {
         Timestamp::from(i64::from_be_bytes(payload))
     }
 }
