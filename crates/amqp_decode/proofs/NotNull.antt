@@ -1,5 +1,5 @@
 -- Only the code of null gives null.
-use Rattle.std.proofs.Common.{◌≡◌, ℕ, zero, suc, List, ◌∷◌, Some, sym, ap, ◌∙◌}
+use Rattle.std.proofs.Common.{◌≡◌, ℕ, zero, suc, List, ◌∷◌, Some, refl, sym, ap, ◌∙◌}
 use Rattle.amqp_data.specs.FormatCode.{code_of}
 use Rattle.amqp_data.specs.declared.format_code.EncodingCodes.{EncodingCodes}
 use Rattle.amqp_data.specs.declared.format_code.EncodingCodes.TheVariants as code

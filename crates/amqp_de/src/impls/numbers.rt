@@ -16,8 +16,8 @@ pub(crate) trait Number<const N: usize>: Drop {
     ghost is: { List ℕ → Self → Type 0 };
 
     /// Returns the number that the payload encodes.
-    fn from_payload(payload: [u8; N]) -> Self
-        ensures { is payload result };
+    fn from_payload(payload: &[u8; N]) -> Self
+        ensures { is payload.now result };
 }
 
 /// Reads `count` payloads that fill the content of an array.
@@ -57,7 +57,7 @@ fn convert<T: Number<N>, const N: usize>(
     'chunks: loop {
         match rest.split_first() {
             Some((payload, after)) => {
-                items.push_reserved(T::from_payload(*payload));
+                items.push_reserved(T::from_payload(payload));
                 rest = after;
             }
             None => return Ok(items),
@@ -69,10 +69,10 @@ impl Number<2> for u16 {
     ghost is = { λ bs x. x ≡ from_be_bytes w16 bs };
 
     #[inline(always)]
-    fn from_payload(payload: [u8; 2]) -> u16
-        ensures { result ≡ from_be_bytes w16 payload }
+    fn from_payload(payload: &[u8; 2]) -> u16
+        ensures { result ≡ from_be_bytes w16 payload.now }
     {
-        u16::from_be_bytes(payload)
+        u16::from_be_bytes(*payload)
     }
 }
 
@@ -80,10 +80,10 @@ impl Number<4> for u32 {
     ghost is = { λ bs x. x ≡ from_be_bytes w32 bs };
 
     #[inline(always)]
-    fn from_payload(payload: [u8; 4]) -> u32
-        ensures { result ≡ from_be_bytes w32 payload }
+    fn from_payload(payload: &[u8; 4]) -> u32
+        ensures { result ≡ from_be_bytes w32 payload.now }
     {
-        u32::from_be_bytes(payload)
+        u32::from_be_bytes(*payload)
     }
 }
 
@@ -91,10 +91,10 @@ impl Number<8> for u64 {
     ghost is = { λ bs x. x ≡ from_be_bytes w64 bs };
 
     #[inline(always)]
-    fn from_payload(payload: [u8; 8]) -> u64
-        ensures { result ≡ from_be_bytes w64 payload }
+    fn from_payload(payload: &[u8; 8]) -> u64
+        ensures { result ≡ from_be_bytes w64 payload.now }
     {
-        u64::from_be_bytes(payload)
+        u64::from_be_bytes(*payload)
     }
 }
 
@@ -102,10 +102,10 @@ impl Number<2> for i16 {
     ghost is = { λ bs x. x ≡ cast_signed w16 (from_be_bytes w16 bs) };
 
     #[inline(always)]
-    fn from_payload(payload: [u8; 2]) -> i16
-        ensures { result ≡ cast_signed w16 (from_be_bytes w16 payload) }
+    fn from_payload(payload: &[u8; 2]) -> i16
+        ensures { result ≡ cast_signed w16 (from_be_bytes w16 payload.now) }
     {
-        i16::from_be_bytes(payload)
+        i16::from_be_bytes(*payload)
     }
 }
 
@@ -113,10 +113,10 @@ impl Number<4> for i32 {
     ghost is = { λ bs x. x ≡ cast_signed w32 (from_be_bytes w32 bs) };
 
     #[inline(always)]
-    fn from_payload(payload: [u8; 4]) -> i32
-        ensures { result ≡ cast_signed w32 (from_be_bytes w32 payload) }
+    fn from_payload(payload: &[u8; 4]) -> i32
+        ensures { result ≡ cast_signed w32 (from_be_bytes w32 payload.now) }
     {
-        i32::from_be_bytes(payload)
+        i32::from_be_bytes(*payload)
     }
 }
 
@@ -124,10 +124,10 @@ impl Number<8> for i64 {
     ghost is = { λ bs x. x ≡ cast_signed w64 (from_be_bytes w64 bs) };
 
     #[inline(always)]
-    fn from_payload(payload: [u8; 8]) -> i64
-        ensures { result ≡ cast_signed w64 (from_be_bytes w64 payload) }
+    fn from_payload(payload: &[u8; 8]) -> i64
+        ensures { result ≡ cast_signed w64 (from_be_bytes w64 payload.now) }
     {
-        i64::from_be_bytes(payload)
+        i64::from_be_bytes(*payload)
     }
 }
 
@@ -135,10 +135,10 @@ impl Number<4> for F32Bits {
     ghost is = { λ bs x. f32_bits x ≡ from_be_bytes w32 bs };
 
     #[inline(always)]
-    fn from_payload(payload: [u8; 4]) -> F32Bits
-        ensures { f32_bits result ≡ from_be_bytes w32 payload }
+    fn from_payload(payload: &[u8; 4]) -> F32Bits
+        ensures { f32_bits result ≡ from_be_bytes w32 payload.now }
     {
-        F32Bits::from(u32::from_be_bytes(payload))
+        F32Bits::from(u32::from_be_bytes(*payload))
     }
 }
 
@@ -146,10 +146,10 @@ impl Number<8> for F64Bits {
     ghost is = { λ bs x. f64_bits x ≡ from_be_bytes w64 bs };
 
     #[inline(always)]
-    fn from_payload(payload: [u8; 8]) -> F64Bits
-        ensures { f64_bits result ≡ from_be_bytes w64 payload }
+    fn from_payload(payload: &[u8; 8]) -> F64Bits
+        ensures { f64_bits result ≡ from_be_bytes w64 payload.now }
     {
-        F64Bits::from(u64::from_be_bytes(payload))
+        F64Bits::from(u64::from_be_bytes(*payload))
     }
 }
 
@@ -157,9 +157,9 @@ impl Number<8> for Timestamp {
     ghost is = { λ bs x. milliseconds_of x ≡ cast_signed w64 (from_be_bytes w64 bs) };
 
     #[inline(always)]
-    fn from_payload(payload: [u8; 8]) -> Timestamp
-        ensures { milliseconds_of result ≡ cast_signed w64 (from_be_bytes w64 payload) }
+    fn from_payload(payload: &[u8; 8]) -> Timestamp
+        ensures { milliseconds_of result ≡ cast_signed w64 (from_be_bytes w64 payload.now) }
     {
-        Timestamp::from(i64::from_be_bytes(payload))
+        Timestamp::from(i64::from_be_bytes(*payload))
     }
 }

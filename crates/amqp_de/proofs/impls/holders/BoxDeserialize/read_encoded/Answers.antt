@@ -5,4 +5,4 @@ pub returns : goal.returns
 returns g c =
     let (t, found, read) = c.in_ok-value.ensures in
     let same : c.in_ok-boxed.boxed.value ≡ c.in_ok-value.value = search rules in
-    (t, found, rw same read)
+    (t, found, rw same (read.0, λ x p e. read.1 x.value p e))
