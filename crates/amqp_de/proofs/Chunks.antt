@@ -32,8 +32,9 @@ module _ {T : Type 0} (Is : List ℕ → T → Type 0) (chunks : List (List ℕ)
   pub converts_more : (b : List ℕ) (s : List (List ℕ)) (x : T) (more : List T) → more ≡ items ++ x ∷ [] → Is b x → Converts Is (b ∷ s) chunks items → Converts Is s chunks more
   converts_more b s x more e is so ys zip = subst (AllZip Is chunks) (sym (ap (λ z. z ++ ys) e ∙ append_assoc items (x ∷ []) ys)) (so (x ∷ ys) (is, zip))
 
-  pub converted : (s : List (List ℕ)) → s ≡ [] → Converts Is s chunks items → AllZip Is chunks items
-  converted s e so = subst (AllZip Is chunks) (append-nil items) (so [] (subst (λ z. AllZip Is z []) (sym e) tt))
+  pub converted : (s : List (List ℕ)) → length s ≡ 0 → Converts Is s chunks items → AllZip Is chunks items
+  converted [] e so = subst (AllZip Is chunks) (append-nil items) (so [] tt)
+  converted (b ∷ s) e so = absurd (omega (arith, e))
 
 pub chunk_values : {T : Type 0} (Is : List ℕ → T → Type 0) (width n count : ℕ) (s : List ℕ) (chunks : List (List ℕ)) (xs : List T)
     → chunks ≡ first_chunks width n s → n ≡ count → AllZip Is chunks xs → AllZip Is (first_chunks width count s) xs
