@@ -31,7 +31,7 @@ pub(crate) fn read_numbers<T: Number<N>, const N: usize>(
     count: u32,
     content: &[u8],
 ) -> Result<Vec<T>, GaveUp>
-    requires { 0 < N }
+    requires nonzero { 0 < N }
     requires size { N < 9223372036854775808 }
     ensures length { IfOk result (λ v. (length content.now / N ≡ count) × (length content.now % N ≡ 0)) }
     ensures items { IfOk result (λ v. AllZip T.is (first_chunks N count content.now) v.items) }
