@@ -10,3 +10,4 @@ pub mod Kinds
 pub mod Enums
 pub mod Access
 pub mod Events
+pub mod Encoded

@@ -1,6 +1,8 @@
 //! The fields of a struct that are read in one call.
 
-ghost use Rattle.std.specs.Prelude.{◌≡◌, ℕ, List, [], ◌∷◌, Bool, true, MatchResult};
+ghost use Rattle.std.specs.Prelude.{◌≡◌, ℕ, List, [], ◌∷◌, Bool, true, MatchResult, IfOk, suc};
+ghost use Rattle.amqp_decode.specs.Parsed.{parse};
+ghost use Rattle.amqp_de.specs.Encoded.{FieldsFill};
 ghost use Rattle.amqp_ser.specs.Tree.{Tree};
 ghost use Rattle.amqp_de.specs.Answers.{Answers};
 ghost use Rattle.amqp_de.specs.Fields.{FieldSource, by_position, by_name, ReadsRequired, ReadsOptional, NoMoreFields};
@@ -10,6 +12,7 @@ ghost use Rattle.amqp_de.specs.Reads.{Always, RestorableOption, SameOption};
 use crate::deserialize::Deserialize;
 use crate::deserialize_error::DeserializeError;
 use crate::deserializer::Deserializer;
+use amqp_decode::prefix::{GaveUp, split_byte};
 use std::alloc::Global;
 use std::marker::PhantomData;
 
@@ -78,6 +81,26 @@ pub trait FieldSeeds: Sized + Drop {
             distinct_names (names self.now) ≡ true →
             D.pairs entries.old ≡ present_fields (names self.now) (images x) →
             MatchResult result (λ y. same y x) D.Error.is_out_of_memory };
+
+    /// Reads the fields from `count` encoded values that fill the body of a list. Gives up if there
+    /// are more values than fields.
+    ///
+    /// The provided method gives up.
+    ///
+    /// # Errors
+    /// Returns `GaveUp` as `Deserialize::read_encoded` does.
+    fn read_fields(
+        &self,
+        alloc: Global,
+        count: u32,
+        body: &[u8],
+        depth: u16,
+    ) -> Result<Self::Values, GaveUp>
+        ensures { IfOk result (λ v. FieldsFill (reads self.now) images restorable
+            same (parse (suc depth)) count body.now v) }
+    {
+        Err(GaveUp)
+    }
 }
 
 #[tactic(auto, unfolding(crate::specs::Fields::NoMoreFields))]
@@ -108,6 +131,21 @@ impl FieldSeeds for () {
         _entries: &mut D::Entries,
     ) -> Result<(), D::Error> {
         Ok(())
+    }
+
+    #[inline(always)]
+    fn read_fields(
+        &self,
+        _alloc: Global,
+        count: u32,
+        body: &[u8],
+        _depth: u16,
+    ) -> Result<(), GaveUp> {
+        if count == 0 && body.is_empty() {
+            Ok(())
+        } else {
+            Err(GaveUp)
+        }
     }
 }
 
@@ -165,6 +203,24 @@ impl<V: Deserialize, R: FieldSeeds> FieldSeeds for Required<V, R> {
             None => Err(D::Error::invalid_value()),
         }
     }
+
+    #[inline(always)]
+    fn read_fields(
+        &self,
+        alloc: Global,
+        count: u32,
+        body: &[u8],
+        depth: u16,
+    ) -> Result<(V, R::Values), GaveUp> {
+        if count == 0 {
+            return Err(GaveUp);
+        }
+        let (code, after) = split_byte(body)?;
+        let mut rest = after;
+        let value = V::read_encoded(alloc, code, &mut rest, depth)?;
+        let others = self.rest.read_fields(alloc, count - 1, rest, depth)?;
+        Ok((value, others))
+    }
 }
 
 /// An optional field, which may be absent or null, and the fields after it.
@@ -221,5 +277,24 @@ impl<V: Deserialize, R: FieldSeeds> FieldSeeds for Optional<V, R> {
                 Ok((None, rest))
             }
         }
+    }
+
+    #[inline(always)]
+    fn read_fields(
+        &self,
+        alloc: Global,
+        count: u32,
+        body: &[u8],
+        depth: u16,
+    ) -> Result<(Option<V>, R::Values), GaveUp> {
+        if count == 0 {
+            let others = self.rest.read_fields(alloc, 0, body, depth)?;
+            return Ok((None, others));
+        }
+        let (code, after) = split_byte(body)?;
+        let mut rest = after;
+        let value = Option::<V>::read_encoded(alloc, code, &mut rest, depth)?;
+        let others = self.rest.read_fields(alloc, count - 1, rest, depth)?;
+        Ok((value, others))
     }
 }

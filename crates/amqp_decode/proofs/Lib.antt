@@ -7,6 +7,16 @@ pub mod Finds
 pub mod ScalarFramed
 pub mod Means
 pub mod Whole
+pub mod Levels
+pub mod Classes
+pub mod ClassLemmas
+pub mod NotNull
+pub mod Gathers
+pub mod ScalarForms
+pub mod ListForms
+pub mod MapForms
+pub mod ArrayForms
+pub mod DescriptorForms
 pub mod OwnImage
 pub mod Framed
 pub mod ScalarBytes

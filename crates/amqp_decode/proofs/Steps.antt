@@ -119,7 +119,7 @@ module _ (f : FrameReader) where
   none-more : (m : ℕ) (s : List ℕ) (done : List Tree) → f s ≡ None → gather f (suc m) s done ≡ None
   none-more m s done e = rw e refl
 
-  gather-and_then : (n i : ℕ) (s rest : List ℕ) (t : Tree) (done : List Tree) → i < n → f s ≡ Some (t, rest) → gather f (n - (i + 1)) rest (done ++ t ∷ []) ≡ gather f (n - i) s done
+  pub gather-and_then : (n i : ℕ) (s rest : List ℕ) (t : Tree) (done : List Tree) → i < n → f s ≡ Some (t, rest) → gather f (n - (i + 1)) rest (done ++ t ∷ []) ≡ gather f (n - i) s done
   gather-and_then n i s rest t done lt e =
       let same : n - i ≡ suc (n - (i + 1)) = omega arith in
       sym (ap (λ m. gather f m s done) same ∙ one-more (n - (i + 1)) s rest t done e)

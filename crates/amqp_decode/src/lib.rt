@@ -12,6 +12,7 @@ pub mod laws;
 mod limit;
 mod payload;
 mod payload_shape;
+pub mod prefix;
 mod push;
 mod read;
 mod reserve;

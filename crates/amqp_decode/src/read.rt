@@ -82,10 +82,10 @@ fn read_value(
     }
 }
 
-// Like `read_value`, after the format code has been read. `depth` limits the values inside.
+/// Like `read_value`, after the format code has been read. `depth` limits the values inside.
 #[cycle(read)]
 #[inline(never)]
-fn read_after_code(
+pub fn read_after_code(
     alloc: Global,
     code: u8,
     bytes: &mut &[u8],

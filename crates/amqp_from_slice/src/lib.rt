@@ -2,7 +2,8 @@
 //!
 //! `from_slice` reads any `amqp_de::de::Deserialize` type from the bytes of one encoded value,
 //! `from_reader` from the next encoded value of a reader, and `ReadLazy` from a lazy value. Each
-//! decodes the bytes to an untyped value, at most 256 deep, and reads the type from it.
+//! reads the type from the bytes in one pass if the type supports it. If that fails, it decodes the
+//! bytes to an untyped value, at most 256 deep, and reads the type from it.
 #![tactic(auto)]
 
 pub mod laws;

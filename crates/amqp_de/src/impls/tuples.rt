@@ -6,9 +6,11 @@ ghost use Rattle.amqp_de.specs.Fields.{OnFields, ReadsRequired, NoMoreFields};
 
 use crate::deserialize::Deserialize;
 use crate::deserializer::Deserializer;
+use crate::encoded::read_parts_encoded;
 use crate::record::{Record, read};
 use crate::seed::ListSeed;
 use crate::{named, values};
+use amqp_decode::prefix::GaveUp;
 use std::alloc::Global;
 
 impl<A: Deserialize> Record for (A,) {
@@ -28,6 +30,22 @@ impl<A: Deserialize> Deserialize for (A,) {
 
     fn deserialize<De: Deserializer>(alloc: Global, deserializer: De) -> Result<(A,), De::Error> {
         let values! { a } = read::<(A,), De, _>(alloc, deserializer, ListSeed(named! { "" }))?;
+        Ok((a,))
+    }
+
+    fn read_encoded(
+        alloc: Global,
+        code: u8,
+        input: &mut &[u8],
+        depth: u16,
+    ) -> Result<(A,), GaveUp> {
+        let values! { a } = read_parts_encoded::<(A,), _>(
+            alloc,
+            code,
+            input,
+            depth,
+            ListSeed(named! { "" }),
+        )?;
         Ok((a,))
     }
 }
@@ -51,6 +69,22 @@ impl<A: Deserialize, B: Deserialize> Deserialize for (A, B) {
         let values! { a, b } = read::<(A, B), De, _>(
             alloc,
             deserializer,
+            ListSeed(named! { "", "" }),
+        )?;
+        Ok((a, b))
+    }
+
+    fn read_encoded(
+        alloc: Global,
+        code: u8,
+        input: &mut &[u8],
+        depth: u16,
+    ) -> Result<(A, B), GaveUp> {
+        let values! { a, b } = read_parts_encoded::<(A, B), _>(
+            alloc,
+            code,
+            input,
+            depth,
             ListSeed(named! { "", "" }),
         )?;
         Ok((a, b))
@@ -84,6 +118,22 @@ impl<A: Deserialize, B: Deserialize, C: Deserialize> Deserialize for (A, B, C) {
         )?;
         Ok((a, b, c))
     }
+
+    fn read_encoded(
+        alloc: Global,
+        code: u8,
+        input: &mut &[u8],
+        depth: u16,
+    ) -> Result<(A, B, C), GaveUp> {
+        let values! { a, b, c } = read_parts_encoded::<(A, B, C), _>(
+            alloc,
+            code,
+            input,
+            depth,
+            ListSeed(named! { "", "", "" }),
+        )?;
+        Ok((a, b, c))
+    }
 }
 
 impl<A: Deserialize, B: Deserialize, C: Deserialize, D: Deserialize> Record for (A, B, C, D) {
@@ -111,6 +161,22 @@ impl<A: Deserialize, B: Deserialize, C: Deserialize, D: Deserialize> Deserialize
         let values! { a, b, c, d } = read::<(A, B, C, D), De, _>(
             alloc,
             deserializer,
+            ListSeed(named! { "", "", "", "" }),
+        )?;
+        Ok((a, b, c, d))
+    }
+
+    fn read_encoded(
+        alloc: Global,
+        code: u8,
+        input: &mut &[u8],
+        depth: u16,
+    ) -> Result<(A, B, C, D), GaveUp> {
+        let values! { a, b, c, d } = read_parts_encoded::<(A, B, C, D), _>(
+            alloc,
+            code,
+            input,
+            depth,
             ListSeed(named! { "", "", "", "" }),
         )?;
         Ok((a, b, c, d))
