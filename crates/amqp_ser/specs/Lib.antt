@@ -23,3 +23,6 @@ pub mod OpenStructs
 pub mod Named
 pub mod Words
 pub mod Ends
+pub mod Extends
+pub mod Headers
+pub mod Untyped

@@ -11,6 +11,7 @@ mod composite;
 mod compound;
 mod fields;
 mod fixed;
+mod header;
 mod impls;
 mod kind;
 pub mod laws;
@@ -31,6 +32,7 @@ pub use compound::{
 };
 pub use fields::{Field, Fields, Keys};
 pub use fixed::Fixed;
+pub use header::Header;
 pub use kind::CompoundKind;
 pub use marker::{Marker, marker_named};
 pub use optional_field::OptionalField;

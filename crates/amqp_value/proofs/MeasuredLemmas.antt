@@ -1,11 +1,11 @@
 -- Trees measured from their parts.
-use Rattle.std.proofs.Common.{◌≡◌, ℕ, zero, suc, ◌+◌, ◌*◌, ◌<◌, ◌≤◌, List, [], ◌∷◌, ◌++◌, ◌&&◌, Bool, true, false, Some, None, length, drop, get_or, min, refl, ap, sym, ◌∙◌, subst, arith, add-one, drop-cons, length-append, nat_le, nat_eq, if◌then◌else◌}
+use Rattle.std.proofs.Common.{◌≡◌, ℕ, suc, ◌+◌, ◌*◌, ◌<◌, ◌≤◌, List, [], ◌∷◌, ◌++◌, ◌&&◌, Bool, true, false, Some, length, drop, get_or, min, refl, ap, sym, ◌∙◌, subst, arith, add-one, drop-cons, length-append, nat_le, nat_eq, if◌then◌else◌}
 use Rattle.std.proofs.lemmas.Bool.Decides.{nat_tests}
 use Rattle.amqp_ser.specs.Tree.{Scalar, null, bool, ubyte, ushort, uint, ulong, byte, short, int, long, float, double, decimal32, decimal64, decimal128, char, timestamp, uuid, binary, string, symbol, Descriptor, Tree, Trees, Pairs, scalar, list, array, map, described, variant, lazy, transparent, no_trees, more, no_pairs, pair, count, pair_count}
-use Rattle.amqp_ser.specs.Limits.{fits, is_short, is_count, is_length}
+use Rattle.amqp_ser.specs.Limits.{fits, is_short}
 use Rattle.amqp_ser.specs.Scalars.{scalar_form, scalar_payload, scalar_code}
-use Rattle.amqp_ser.specs.Encoding.{encoding, encoding_each, encoding_pairs, payload, payload_each, array_constructor, constructor, code_list, counted, wide, list_form, array_form, descriptor_form}
-use Rattle.amqp_ser.specs.Writable.{within_limits, within_limits_each, uniform_arrays, inside, scalar_fits, one_constructor, same_constructor, each_constructor, descriptor_fits}
+use Rattle.amqp_ser.specs.Encoding.{encoding, encoding_each, encoding_pairs, payload_each, array_constructor, constructor, code_list, counted, wide, list_form, array_form, descriptor_form}
+use Rattle.amqp_ser.specs.Writable.{scalar_fits, same_constructor, each_constructor, descriptor_fits}
 use Rattle.amqp_ser.proofs.Bools.{both, le_true, is_le, left_true, right_true}
 use Rattle.amqp_pass.specs.Width.{map_width, list_width, array_width}
 use Rattle.amqp_value.specs.TreeOf.{tree_of, all_of, pairs_trees}
@@ -205,7 +205,7 @@ number_width (binary bs) c e h = let h' = subst (λ k. 0 < width_for k) (sym e) 
 number_width (string bs) c e h = let h' = subst (λ k. 0 < width_for k) (sym e) h in absurd (omega arith)
 number_width (symbol bs) c e h = let h' = subst (λ k. 0 < width_for k) (sym e) h in absurd (omega arith)
 
-no_width : (d c : ℕ) → nat_eq c d ≡ true → width_for d ≡ 0 → 0 < width_for c → ⊥
+pub no_width : (d c : ℕ) → nat_eq c d ≡ true → width_for d ≡ 0 → 0 < width_for c → ⊥
 no_width d c e z h = let k : c ≡ d = grind (arith, nat_tests) in let h' = subst (λ x. 0 < width_for x) k h in omega arith
 
 number : (t : Tree) (c : ℕ) → same_constructor (Some c) (constructor t) ≡ true → 0 < width_for c → MeasuredPayload t (width_for c)

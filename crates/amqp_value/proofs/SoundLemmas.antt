@@ -10,6 +10,7 @@ use Rattle.amqp_data.specs.declared.ordered_map.OrderedMap.{OrderedMap}
 use Rattle.amqp_ser.specs.Tree as tree
 use Rattle.amqp_ser.specs.Tree.{Tree, Trees, Pairs, scalar, list, array, described, variant, lazy, transparent, no_trees, more, no_pairs, pair}
 use Rattle.amqp_ser.specs.Same.{same_tree}
+use Rattle.amqp_ser.specs.Untyped.{IsUntyped, AreUntyped, HasUntypedPairs}
 use Rattle.amqp_value.specs.AsMap.{read_as_map, each_as_map, pairs_as_map}
 use Rattle.amqp_value.specs.Image.{image, images, images_onto, insert_tree}
 use Rattle.amqp_value.specs.Plain.{IsPlain, ArePlain, HasPlainPairs, LacksImage}
@@ -74,26 +75,7 @@ mutual
   images_onto-distinct (pair k v ps) done h =
       images_onto-distinct ps (insert_tree done (image k) (image v)) (distinct_inserted (image k) (image v) done h (image-distinct k) (image-distinct v))
 
--- The tree contains no variant and nothing lazy or transparent, like the tree of every value.
-abbrev mutual
-  IsUntyped : Tree → Type 0
-  IsUntyped (scalar s) = Unit {0}
-  IsUntyped (list ts) = AreUntyped ts
-  IsUntyped (array ts) = AreUntyped ts
-  IsUntyped (tree.map ps) = HasUntypedPairs ps
-  IsUntyped (described d t) = IsUntyped t
-  IsUntyped (variant n t) = ⊥
-  IsUntyped (lazy bs) = ⊥
-  IsUntyped (transparent ts) = ⊥
-
-  AreUntyped : Trees → Type 0
-  AreUntyped no_trees = Unit {0}
-  AreUntyped (more t ts) = IsUntyped t × AreUntyped ts
-
-  HasUntypedPairs : Pairs → Type 0
-  HasUntypedPairs no_pairs = Unit {0}
-  HasUntypedPairs (pair k v ps) = IsUntyped k × IsUntyped v × HasUntypedPairs ps
-
+-- The tree of a value contains no variant and nothing lazy or transparent.
 abbrev Such : Type 0
 Such = (v : Value) × IsUntyped (tree_of v)
 
@@ -125,7 +107,7 @@ core _ = tt
 built : (y : Value-F Such) → IsUntyped (tree_of (roll-Value (map-Value Such Value plain y)))
 built y = subst IsUntyped (sym (fold-roll-Value Tree tree_step (map-Value Such Value plain y))) (core y)
 
-tree_of-untyped : (v : Value) → IsUntyped (tree_of v)
+pub tree_of-untyped : (v : Value) → IsUntyped (tree_of v)
 tree_of-untyped = ind-Value (λ v. IsUntyped (tree_of v)) (λ x y is. subst (λ z. IsUntyped (tree_of (roll-Value z))) is (built y))
 
 mutual

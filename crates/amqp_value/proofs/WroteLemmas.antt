@@ -1,17 +1,17 @@
 -- Trees written from their parts.
-use Rattle.std.proofs.Common.{◌≡◌, ℕ, zero, suc, ◌+◌, ◌-◌, ◌*◌, ◌<◌, ◌≤◌, List, [], ◌∷◌, ◌++◌, ◌&&◌, Bool, true, false, Option, Some, None, length, drop, get_or, refl, ap, sym, ◌∙◌, subst, arith, add-one, drop-cons, length-append, append_assoc, append-nil, nat_le, nat_eq, min, ◌^◌, if◌then◌else◌}
+use Rattle.std.proofs.Common.{◌≡◌, ℕ, zero, suc, ◌+◌, ◌-◌, ◌*◌, ◌<◌, ◌≤◌, List, [], ◌∷◌, ◌++◌, ◌&&◌, Bool, true, false, Option, Some, Vec, Global, length, drop, get_or, refl, ap, sym, ◌∙◌, subst, arith, add-one, drop-cons, length-append, append_assoc, append-nil, nat_le, nat_eq, min, if◌then◌else◌}
 use Rattle.std.proofs.lemmas.Bool.Decides.{nat_tests}
 use Rattle.std.specs.Int.{w32, to_be_bytes}
 use Rattle.amqp_ser.specs.Tree.{Scalar, Descriptor, Tree, Trees, Pairs, scalar, list, array, map, described, no_trees, more, no_pairs, pair, count, pair_count}
-use Rattle.amqp_ser.specs.Limits.{fits, is_short, is_count, is_length}
+use Rattle.amqp_ser.specs.Limits.{fits, is_short}
 use Rattle.amqp_ser.specs.Scalars.{scalar_form, scalar_payload}
 use Rattle.amqp_ser.specs.Encoding.{encoding, encoding_each, encoding_pairs, payload, payload_each, array_constructor, constructor, code_list, counted, wide, list_form, array_form, descriptor_form}
-use Rattle.amqp_ser.specs.Writable.{within_limits, within_limits_each, uniform_arrays, inside, scalar_fits, one_constructor, same_constructor, each_constructor, descriptor_fits}
+use Rattle.amqp_ser.specs.Writable.{scalar_fits, same_constructor, each_constructor, descriptor_fits}
 use Rattle.amqp_ser.proofs.Bools.{both, le_true, nat_eq-refl}
+use Rattle.amqp_ser.specs.Headers.{headers_of, headers_of_each, headers_of_pairs}
 use Rattle.amqp_value.specs.TreeOf.{tree_of, all_of, pairs_trees}
 use Rattle.amqp_value.specs.declared.value.Value.{Value}
-use Rattle.amqp_value.specs.Wrote.{Wrote, WrotePayload, WroteEach, WrotePairs, WrotePayloads, WroteContent, wide_header, counted_header, list_header, array_header}
-use Rattle.amqp_value.proofs.MeasuredLemmas.{count-all_of}
+use Rattle.amqp_value.specs.Wrote.{Grows, Wrote, WrotePayload, WroteEach, WrotePairs, WrotePayloads, WroteContent, wide_header, counted_header, list_header, array_header}
 
 -- Headers before their bodies.
 if_append : (t : Bool) (xs ys zs ws body : List ℕ) → zs ≡ xs ++ body → ws ≡ ys ++ body → (if t then zs else ws) ≡ (if t then xs else ys) ++ body
@@ -142,7 +142,7 @@ cons t ts a i b p q = record {
   out = then_each a i b (encoding t) (encoding_each ts) p.out q.out;
 }
 
-cons_pair : (k v : Tree) (ps : Pairs) (a i j b : List ℕ) → Wrote k a i → Wrote v i j → WrotePairs ps j b → WrotePairs (pair k v ps) a b
+pub cons_pair : (k v : Tree) (ps : Pairs) (a i j b : List ℕ) → Wrote k a i → Wrote v i j → WrotePairs ps j b → WrotePairs (pair k v ps) a b
 cons_pair k v ps a i j b p q r = record {
   within_limits_all = both _ _ p.within_limits_it (both _ _ q.within_limits_it r.within_limits_all);
   uniform_arrays_all = both _ _ p.uniform_arrays_it (both _ _ q.uniform_arrays_it r.uniform_arrays_all);
@@ -185,14 +185,14 @@ each_step xs i v start a mid lt is inv one b rest =
     let o = subst (λ w. Wrote (tree_of w) a mid) is one in
     inv b (rw (drop-cons xs i v lt) (cons (tree_of (get_or xs i v)) (all_of (drop (suc i) xs)) a mid b o r))
 
-pub pair_step : (es : List (Value × Value)) (i : ℕ) (e : Value × Value) (start a j mid : List ℕ) → i < length es → e ≡ get_or es i e
-    → ((b : List ℕ) → WrotePairs (pairs_trees (drop i es)) a b → WrotePairs (pairs_trees es) start b) → Wrote (tree_of e.0) a j → Wrote (tree_of e.1) j mid
+pub pair_step : (es : List (Value × Value)) (i : ℕ) (e : Value × Value) (start a mid : List ℕ) → i < length es → e ≡ get_or es i e
+    → ((b : List ℕ) → WrotePairs (pairs_trees (drop i es)) a b → WrotePairs (pairs_trees es) start b)
+    → ((ps : Pairs) (b : List ℕ) → WrotePairs ps mid b → WrotePairs (pair (tree_of e.0) (tree_of e.1) ps) a b)
     → (b : List ℕ) → WrotePairs (pairs_trees (drop (i + 1) es)) mid b → WrotePairs (pairs_trees es) start b
-pair_step es i e start a j mid lt is inv key value b rest =
+pair_step es i e start a mid lt is inv one b rest =
     let r : WrotePairs (pairs_trees (drop (suc i) es)) mid b = rw add-one at rest in
-    let k = subst (λ w. Wrote (tree_of w.0) a j) is key in
-    let v = subst (λ w. Wrote (tree_of w.1) j mid) is value in
-    inv b (rw (drop-cons es i e lt) (cons_pair (tree_of (get_or es i e).0) (tree_of (get_or es i e).1) (pairs_trees (drop (suc i) es)) a j mid b k v r))
+    let o = subst (λ w. WrotePairs (pair (tree_of w.0) (tree_of w.1) (pairs_trees (drop (suc i) es))) a b) is (one (pairs_trees (drop (suc i) es)) b r) in
+    inv b (rw (drop-cons es i e lt) o)
 
 pub payload_step : (c : ℕ) (xs : List Value) (i : ℕ) (v : Value) (start a mid : List ℕ) → i < length xs → v ≡ get_or xs i v
     → ((b : List ℕ) → WrotePayloads c (all_of (drop i xs)) a b → WrotePayloads c (all_of xs) start b) → constructor (tree_of v) ≡ Some c → WrotePayload (tree_of v) a mid
@@ -249,3 +249,40 @@ pub room_next : (n i w len after cap : ℕ) → i < n → len + (n - i) * w ≤ 
 room_next n i w len after cap lt room e =
     let r = subst (λ k. len + k ≤ cap) (rest_times n i w lt) room in
     moved len w ((n - (i + 1)) * w) after cap r e
+
+-- The headers of the parts are taken one after another.
+pub each_taken : (xs : List Value) (i : ℕ) (v : Value) (start now after : ℕ) → i < length xs → v ≡ get_or xs i v
+    → now + length (headers_of_each (all_of (drop i xs))) ≡ start + length (headers_of_each (all_of xs)) → after ≡ now + length (headers_of (tree_of v))
+    → after + length (headers_of_each (all_of (drop (i + 1) xs))) ≡ start + length (headers_of_each (all_of xs))
+each_taken xs i v start now after lt is inv one =
+    let r : now + length (headers_of (tree_of (get_or xs i v)) ++ headers_of_each (all_of (drop (suc i) xs))) ≡ start + length (headers_of_each (all_of xs)) = rw (drop-cons xs i v lt) at inv in
+    let o = subst (λ w. after ≡ now + length (headers_of (tree_of w))) is one in
+    let l = length-append (headers_of (tree_of (get_or xs i v))) (headers_of_each (all_of (drop (suc i) xs))) in
+    rw add-one (omega arith)
+
+pub pair_taken : (es : List (Value × Value)) (i : ℕ) (e : Value × Value) (start now after : ℕ) → i < length es → e ≡ get_or es i e
+    → now + length (headers_of_pairs (pairs_trees (drop i es))) ≡ start + length (headers_of_pairs (pairs_trees es)) → after ≡ now + length (headers_of (tree_of e.0)) + length (headers_of (tree_of e.1))
+    → after + length (headers_of_pairs (pairs_trees (drop (i + 1) es))) ≡ start + length (headers_of_pairs (pairs_trees es))
+pair_taken es i e start now after lt is inv one =
+    let d = get_or es i e in
+    let hk = headers_of (tree_of d.0) in
+    let hv = headers_of (tree_of d.1) in
+    let hs = headers_of_pairs (pairs_trees (drop (suc i) es)) in
+    let r : now + length (hk ++ (hv ++ hs)) ≡ start + length (headers_of_pairs (pairs_trees es)) = rw (drop-cons es i e lt) at inv in
+    let o = subst (λ w. after ≡ now + length (headers_of (tree_of w.0)) + length (headers_of (tree_of w.1))) is one in
+    let l = length-append hk (hv ++ hs) in
+    let m = length-append hv hs in
+    rw add-one (omega arith)
+
+-- The item at an index, whatever stands for no item.
+pub same_item : (es : List (Value × Value)) (i : ℕ) (d e : Value × Value) → i < length es → d ≡ get_or es i d → e ≡ get_or es i e → d ≡ e
+same_item [] i d e lt a b = absurd (omega arith)
+same_item (x ∷ xs) zero d e lt a b = a ∙ sym b
+same_item (x ∷ xs) (suc i) d e lt a b = same_item xs i d e (omega arith) a b
+
+-- Output that grows.
+pub grows_itself : (a : Vec ℕ Global) → Grows a a
+grows_itself a = (omega arith, ([], sym (append-nil a.items)))
+
+pub grows_more : (a b c : Vec ℕ Global) → Grows a b → Grows b c → Grows a c
+grows_more a b c h k = (omega arith, (h.1.0 ++ k.1.0, k.1.1 ∙ (ap (λ x. x ++ k.1.0) h.1.1 ∙ append_assoc a.items h.1.0 k.1.0)))

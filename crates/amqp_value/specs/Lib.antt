@@ -16,4 +16,5 @@ pub mod Places
 pub mod ShortKeys
 pub mod EscapedBytes
 pub mod Measured
+pub mod Noted
 pub mod Wrote

@@ -4,6 +4,7 @@
 //! finds errors: for a value that cannot be written, a length is `usize::MAX` and an append returns
 //! `false`. A serializer then finds the error.
 
+ghost use Rattle.std.specs.Prelude.{◌≡◌, ◌≤◌, ◌++◌, length, take, drop, reverse};
 ghost use Rattle.amqp_value.specs.TreeOf.{tree_of};
 
 mod append;
@@ -16,8 +17,8 @@ mod sizes;
 mod writing;
 
 use crate::Value;
-use amqp_ser::Whole;
-use bodies::{NotRecorded, Recorded};
+use amqp_ser::{Header, Whole};
+use bodies::NotRecorded;
 use measuring::measure;
 use sizes::NOT_MEASURED;
 use std::alloc::Global;
@@ -36,20 +37,39 @@ impl Whole for Value {
     }
 
     fn whole_bytes(&self, alloc: Global) -> Option<Vec<u8>> {
-        let mut bodies = Recorded {
-            lens: Vec::new(alloc),
-            failed: false,
-        };
-        let len = measure(self, &mut bodies);
-        if len == NOT_MEASURED || bodies.failed {
-            return None;
-        }
+        let mut headers: Vec<Header> = Vec::new(alloc);
+        let len = self.whole_headers(&mut headers)?;
         let Ok(mut out) = Vec::with_capacity(alloc, len) else {
             return None;
         };
-        if write(self, &mut bodies.lens, &mut out) {
+        let mut taken = 0;
+        if write(self, headers.as_slice(), &mut taken, &mut out) {
             return Some(out);
         }
         None
     }
+
+    fn whole_headers(&self, headers: &mut Vec<Header>) -> Option<usize> {
+        let start = headers.len();
+        let len = measure(self, headers);
+        if len == NOT_MEASURED {
+            return None;
+        }
+        reverse_from(headers, start);
+        Some(len)
+    }
+
+    fn whole_write(&self, headers: &[Header], taken: &mut usize, out: &mut Vec<u8>) -> bool {
+        write(self, headers, taken, out)
+    }
+}
+
+/// Reverses the headers from index `start` on.
+#[inline(always)]
+fn reverse_from(headers: &mut Vec<Header>, start: usize)
+    requires { start ≤ length headers.now.items }
+    ensures { headers.new.items ≡ take start headers.old.items ++ reverse (drop start headers.old.items) }
+{
+    let (_, added) = headers.as_mut_slice().split_at_mut(start);
+    added.reverse();
 }

@@ -16,7 +16,7 @@ use Rattle.amqp_wire.specs.Dense.{dense}
 use Rattle.amqp_wire.specs.Measurer.{listed, MeasurerPermits}
 use Rattle.amqp_wire.specs.TreeHeaders.{headers_of}
 use Rattle.amqp_wire.specs.declared.measurer.Measurer.{Measurer}
-use Rattle.amqp_wire.specs.declared.header.Header.{Header}
+use Rattle.amqp_ser.specs.declared.header.Header.{Header}
 
 listed_if : (b : Bool) (t : Tree) (hs : List Header) (p : Position) (n : ℕ) (after : Context) → headers_of t ≡ []
     → (b ≡ true → dense t ≡ true) → AtPosition p (if b then Some t else None) (Ok n) after

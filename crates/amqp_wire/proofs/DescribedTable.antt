@@ -18,7 +18,7 @@ use Rattle.amqp_size.specs.declared.serializer.SizeSerializer.{SizeSerializer}
 use Rattle.amqp_pass.specs.declared.open_compound.OpenCompound.{OpenCompound}
 use Rattle.amqp_wire.specs.TreeHeaders.{headers_of}
 use Rattle.amqp_wire.specs.Measurer.{listed, CountsTree, MeasurerPermits, MeasurerHas}
-use Rattle.amqp_wire.specs.declared.header.Header.{Header}
+use Rattle.amqp_ser.specs.declared.header.Header.{Header}
 use Rattle.amqp_wire.specs.Dense.{is_opaque, dense}
 use Rattle.amqp_wire.specs.Writer.{Extends}
 use Rattle.amqp_wire.specs.declared.measurer.Measurer.{Measurer}

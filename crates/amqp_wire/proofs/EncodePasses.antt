@@ -18,7 +18,7 @@ use Rattle.amqp_wire.specs.Measurer.{listed, MeasurerPermits}
 use Rattle.amqp_wire.specs.Writer.{Kept, FitsOutput, Written, wrote, WritesTree, IsAccepted, WriterPermits}
 use Rattle.amqp_wire.specs.declared.measurer.Measurer.{Measurer}
 use Rattle.amqp_wire.specs.declared.output.Output.{Output}
-use Rattle.amqp_wire.specs.declared.header.Header.{Header}
+use Rattle.amqp_ser.specs.declared.header.Header.{Header}
 use Rattle.amqp_wire.specs.declared.writer.Writer.{Writer}
 use Rattle.amqp_size.proofs.Root.{at_root}
 use Rattle.amqp_wire.proofs.CountWithinBytes.{no_false}

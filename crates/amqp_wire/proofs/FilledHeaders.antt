@@ -29,7 +29,7 @@ use Rattle.amqp_wire.specs.HeaderBytes.{SmallHeaders}
 use Rattle.amqp_wire.specs.Measurer.{fills}
 use Rattle.amqp_wire.specs.Dense.{count_fits, is_opaque, dense, dense_each, dense_pairs}
 use Rattle.amqp_wire.specs.Positions.{is_single}
-use Rattle.amqp_wire.specs.declared.header.Header.{Header}
+use Rattle.amqp_ser.specs.declared.header.Header.{Header}
 use Rattle.amqp_wire.proofs.CountWithinBytes.{few, no_false}
 use Rattle.amqp_wire.proofs.CompoundHeaders.{pairs_are}
 use Rattle.amqp_wire.proofs.Positions.{is_not}

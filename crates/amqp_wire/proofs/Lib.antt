@@ -18,3 +18,4 @@ pub mod DescribedPosition
 pub mod DescribedBytes
 pub mod EndedBytes
 pub mod EncodePasses
+pub mod WholeValues

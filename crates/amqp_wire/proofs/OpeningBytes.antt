@@ -10,7 +10,7 @@ use Rattle.amqp_pass.specs.declared.resolved_kind.ResolvedKind.TheVariants as re
 use Rattle.amqp_wire.specs.TreeHeaders.{compound_headers}
 use Rattle.amqp_wire.specs.HeaderBytes.{header_bytes, small}
 use Rattle.amqp_wire.specs.Writer.{Kept, puts, leads, opens, PartsFitOutput}
-use Rattle.amqp_wire.specs.declared.header.Header.{Header}
+use Rattle.amqp_ser.specs.declared.header.Header.{Header}
 use Rattle.amqp_wire.specs.declared.opening.HeaderKind.TheVariants as header_kind
 use Rattle.amqp_wire.specs.declared.output.Output.{Output}
 

@@ -7,7 +7,7 @@ use Rattle.amqp_pass.specs.Position.{meant}
 use Rattle.amqp_ser.proofs.Single.{whole_single}
 use Rattle.amqp_wire.specs.Measurer.{listed, SingleTable}
 use Rattle.amqp_wire.specs.Writer.{Extends}
-use Rattle.amqp_wire.specs.declared.header.Header.{Header}
+use Rattle.amqp_ser.specs.declared.header.Header.{Header}
 use Rattle.amqp_wire.specs.declared.measurer.Measurer.{Measurer}
 use Rattle.amqp_wire.proofs.CountWithinBytes.{no_false}
 use Rattle.amqp_wire.proofs.ListPrefixes.{extends-more}

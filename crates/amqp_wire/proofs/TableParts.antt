@@ -22,7 +22,7 @@ use Rattle.amqp_wire.specs.Measurer.{CountsTree, listed, PartsTable, answered, f
 use Rattle.amqp_wire.specs.Dense.{dense, dense_each}
 use Rattle.amqp_wire.specs.Positions.{is_single}
 use Rattle.amqp_wire.specs.Writer.{Extends}
-use Rattle.amqp_wire.specs.declared.header.Header.{Header}
+use Rattle.amqp_ser.specs.declared.header.Header.{Header}
 use Rattle.amqp_wire.specs.declared.measurer.Measurer.{Measurer}
 use Rattle.amqp_wire.specs.declared.measurer.MeasurerCompound.{MeasurerCompound}
 use Rattle.amqp_wire.proofs.HeldKinds.{never_single, held_trees, held_shape}

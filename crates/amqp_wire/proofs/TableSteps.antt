@@ -16,7 +16,7 @@ use Rattle.amqp_wire.specs.Measurer.{appended, fills, listed, MeasurerPermits, S
 use Rattle.amqp_wire.specs.Dense.{dense_each}
 use Rattle.amqp_wire.specs.Positions.{is_single}
 use Rattle.amqp_wire.specs.Writer.{Extends}
-use Rattle.amqp_wire.specs.declared.header.Header.{Header}
+use Rattle.amqp_ser.specs.declared.header.Header.{Header}
 use Rattle.amqp_wire.specs.declared.measurer.Measurer.{Measurer}
 use Rattle.amqp_wire.specs.declared.measurer.MeasurerCompound.{MeasurerCompound}
 use Rattle.amqp_wire.proofs.HeldKinds.{single_kind, held_trees, held_plain, held_shape, held_single}

@@ -9,7 +9,7 @@ use Rattle.amqp_pass.specs.WholePosition.{Position}
 use Rattle.amqp_pass.specs.WholePosition.{Root, InCompound, FirstElement, OtherElement, Descriptor, Value}
 use Rattle.amqp_pass.specs.declared.resolved_kind.ResolvedKind.{ResolvedKind}
 use Rattle.amqp_pass.specs.declared.resolved_kind.ResolvedKind.TheVariants as resolved_kind
-use Rattle.amqp_wire.specs.declared.header.Header.{Header}
+use Rattle.amqp_ser.specs.declared.header.Header.{Header}
 use Rattle.amqp_wire.specs.declared.opening.HeaderKind.{HeaderKind}
 use Rattle.amqp_wire.specs.declared.opening.HeaderKind.TheVariants as header_kind
 

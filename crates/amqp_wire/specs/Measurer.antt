@@ -5,6 +5,9 @@ use Rattle.amqp_pass.specs.declared.size_error.SizeError.{SizeError}
 use Rattle.amqp_pass.specs.declared.size_error.SizeError.TheVariants.{OutOfMemory}
 use Rattle.amqp_ser.specs.Tree.{Tree, Trees, count}
 use Rattle.amqp_ser.specs.Compounds.{all_trees, paired}
+use Rattle.amqp_ser.specs.Encoding.{encoding}
+use Rattle.amqp_ser.specs.Untyped.{IsUntyped}
+use Rattle.amqp_ser.specs.Writable.{within_limits, uniform_arrays, inside}
 use Rattle.amqp_ser.specs.declared.kind.CompoundKind.{CompoundKind}
 use Rattle.amqp_pass.specs.Position.{position_of, meant, without_prefix, resolved_kind_of}
 use Rattle.amqp_size.specs.SizeSerializer.{SizePermits, SizeHas, SizeAwaits, SizeAwaitsDescriptor, no_count_on_none}
@@ -14,7 +17,7 @@ use Rattle.amqp_wire.specs.TreeHeaders.{headers_of, headers_of_each, header_coun
 use Rattle.amqp_wire.specs.Dense.{dense, dense_each}
 use Rattle.amqp_wire.specs.Positions.{is_single}
 use Rattle.amqp_wire.specs.Writer.{Extends}
-use Rattle.amqp_wire.specs.declared.header.Header.{Header}
+use Rattle.amqp_ser.specs.declared.header.Header.{Header}
 use Rattle.amqp_wire.specs.declared.measurer.Measurer.{Measurer}
 use Rattle.amqp_wire.specs.declared.measurer.MeasurerCompound.{MeasurerCompound}
 
@@ -90,3 +93,7 @@ answered compound part (Err e) = (e ≡ OutOfMemory) ⊎ (part ≡ Err e)
 -- If there is no tree, no length is returned.
 pub no_length_of_none : (s : Measurer) (n : ℕ) (after : Measurer) → MeasurerPermits s None (Ok n) after → ⊥
 no_length_of_none s n after h = no_count_on_none s.size n after.size h.1.0
+
+-- A whole tree is measured, and its headers are appended.
+abbrev pub AddsWhole : Tree → ℕ → List Header → List Header → Type 0
+AddsWhole t n b a = (within_limits t ≡ true) × ((uniform_arrays t ≡ true) × ((inside t ≡ true) × ((n ≡ length (encoding t)) × ((a ≡ b ++ headers_of t) × IsUntyped t))))

@@ -4,10 +4,12 @@ use Rattle.std.specs.Prelude.{◌≡◌, ℕ, ◌+◌, ◌<◌, ◌≤◌, List,
 use Rattle.std.specs.Vec.{vec_capacity}
 use Rattle.amqp_pass.specs.declared.size_error.SizeError.{SizeError}
 use Rattle.amqp_ser.specs.Tree.{Tree, Trees}
-use Rattle.amqp_ser.specs.Writable.{uniform_arrays, within_limits, within_limits_each}
+use Rattle.amqp_ser.specs.Writable.{uniform_arrays, inside, within_limits, within_limits_each}
 use Rattle.amqp_ser.specs.Compounds.{all_trees, paired}
+use Rattle.amqp_ser.specs.Encoding.{encoding}
 use Rattle.amqp_ser.specs.declared.kind.CompoundKind.{CompoundKind}
 use Rattle.amqp_ser.proofs.Joins.{join}
+pub use Rattle.amqp_ser.specs.Extends.{Extends}
 use Rattle.amqp_size.specs.SizeSerializer.{AtPosition}
 use Rattle.amqp_pass.specs.Position.{position_of, meant, without_prefix, suits, next, resolved_kind_of}
 use Rattle.amqp_pass.specs.WholePosition.{Position}
@@ -20,14 +22,10 @@ use Rattle.amqp_wire.specs.TreeHeaders.{headers_of, headers_of_each, compound_he
 use Rattle.amqp_wire.specs.HeaderBytes.{is_element, bytes_at, opening, after_opening, SmallHeaders}
 use Rattle.amqp_wire.specs.Dense.{dense_at, dense_each}
 use Rattle.amqp_wire.specs.Positions.{part_position, part_at, suited_parts, is_single}
-use Rattle.amqp_wire.specs.declared.header.Header.{Header}
+use Rattle.amqp_ser.specs.declared.header.Header.{Header}
 use Rattle.amqp_wire.specs.declared.output.Output.{Output}
 use Rattle.amqp_wire.specs.declared.writer.Writer.{Writer}
 use Rattle.amqp_wire.specs.declared.writer_compound.WriterCompound.{WriterCompound}
-
--- The second list is the first one with elements appended.
-abbrev pub Extends : {X : Type 0} → List X → List X → Type 0
-Extends {X} a b = (rest : List X) × (b ≡ a ++ rest)
 
 -- What no call changes.
 pub record Kept (s after : Output) : Type 0 where
@@ -183,3 +181,7 @@ takes_none (context.Nothing p) after h = h
 -- If there is no tree, no value is accepted.
 pub nothing_of_none : (s : Writer) (u : Unit {0}) (after : Writer) → WriterPermits s None (Ok u) after → ⊥
 nothing_of_none s u after h = takes_none s.context after.context h.1.0
+
+-- A whole tree is written, and its headers are consumed.
+abbrev pub WritesWhole : Tree → Output → Output → Type 0
+WritesWhole t s after = (uniform_arrays t ≡ true) × ((inside t ≡ true) × ((after.out.items ≡ s.out.items ++ encoding t) × (after.taken ≡ s.taken + length (headers_of t))))

@@ -7,7 +7,6 @@
 #![tactic(auto)]
 
 mod encode;
-mod header;
 mod lazy_value;
 mod measurer;
 mod next_context;

@@ -3,11 +3,10 @@
 ghost use Rattle.std.specs.Prelude.{◌≡◌, ◌≤◌, [], List, Option, Result, Ok, Err, IfErr, IsErr, true, false};
 ghost use Rattle.amqp_ser.specs.Tree.{Tree};
 
-use crate::header::Header;
 use crate::table::Table;
 use amqp_pass::width::MAX_LEN;
 use amqp_pass::{OpenCompound, SizeError};
-use amqp_ser::{CompoundKind, Fixed, Marker, Serializer};
+use amqp_ser::{CompoundKind, Fixed, Header, Marker, Serializer, Whole};
 use amqp_size::SizeSerializer;
 use std::alloc::Global;
 
@@ -298,5 +297,15 @@ impl Serializer for Measurer {
         let len = self.size.end(size)?;
         self.table.fill(at, resolved_kind, header);
         Ok(len)
+    }
+
+    #[inline(always)]
+    fn try_whole<W: Whole>(&mut self, whole: &W) -> Option<usize> {
+        if !self.size.takes_whole() {
+            return None;
+        }
+        let len = self.table.add_whole(whole);
+        self.size.tried_whole(len.is_some());
+        len
     }
 }

@@ -4,11 +4,10 @@ ghost use Rattle.std.specs.Prelude.{◌≡◌, ◌+◌, ◌<◌, ◌≤◌, ◌+
 ghost use Rattle.std.specs.Vec.{vec_capacity};
 ghost use Rattle.amqp_ser.specs.Tree.{Trees, uint};
 
-use crate::header::Header;
 use crate::output::Output;
 use amqp_data::EncodingCodes;
 use amqp_pass::{ResolvedKind, SizeError};
-use amqp_ser::Fixed;
+use amqp_ser::{Fixed, Header};
 
 /// The kind of a header, which determines its format codes.
 #[derive(Clone, Copy, Debug)]

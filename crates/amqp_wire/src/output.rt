@@ -1,12 +1,11 @@
 //! The output of the second pass, in a buffer whose capacity is allocated in advance.
 
-ghost use Rattle.std.specs.Prelude.{◌≡◌, ◌≤◌, ◌++◌, ◌∷◌, [], length, take, drop, nat_le, IfErr, false};
+ghost use Rattle.std.specs.Prelude.{◌≡◌, ◌≤◌, ◌++◌, ◌∷◌, [], length, take, drop, nat_le, IfErr, true, false};
 ghost use Rattle.std.specs.Vec.{vec_capacity};
 
-use crate::header::Header;
 use amqp_data::EncodingCodes;
 use amqp_pass::{ScalarEncoding, SizeError};
-use amqp_ser::Fixed;
+use amqp_ser::{Fixed, Header, Whole};
 
 /// A position in an output.
 #[derive(Clone, Copy, Debug)]
@@ -27,7 +26,7 @@ pub struct Output {
 
 impl Output {
     ghost use Rattle.amqp_wire.specs.HeaderBytes.{pick, text_header};
-    ghost use Rattle.amqp_wire.specs.Writer.{Kept, puts, nexts};
+    ghost use Rattle.amqp_wire.specs.Writer.{Kept, SameOutput, WritesWhole, puts, nexts};
     ghost use Rattle.amqp_ser.specs.Fixed.{fixed_scalar};
     ghost use Rattle.amqp_ser.specs.Scalars.{scalar_form, scalar_payload};
     ghost use Rattle.amqp_pass.specs.Width.{text_at};
@@ -99,6 +98,22 @@ impl Output {
         ensures { result ≡ nat_le self.now.taken (length self.now.table.items) }
     {
         self.taken <= self.table.len()
+    }
+
+    /// Appends a whole value with the next headers, which are consumed, and returns whether that
+    /// succeeded. If not, the output is as before.
+    #[inline(always)]
+    pub fn put_whole<W: Whole>(&mut self, whole: &W) -> bool
+        ensures kept { Kept self.old self.new }
+        ensures written { result ≡ true → WritesWhole (W.whole_tree whole.now) self.old self.new }
+        ensures restored { result ≡ false → SameOutput self.old self.new }
+    {
+        let checkpoint = self.checkpoint();
+        if whole.whole_write(self.table.as_slice(), &mut self.taken, &mut self.out) {
+            return true;
+        }
+        self.restore(checkpoint);
+        false
     }
 
     /// Consumes and returns the next header, or returns `None` at the end of the table.

@@ -1,10 +1,10 @@
 //! The headers of compounds, in the order in which the compounds are opened.
 
-ghost use Rattle.std.specs.Prelude.{◌≡◌, ◌+◌, ◌≤◌, ◌++◌, ◌∷◌, ◌||◌, [], false, length, take, slice_set};
+ghost use Rattle.std.specs.Prelude.{◌≡◌, ◌+◌, ◌≤◌, ◌++◌, ◌∷◌, ◌||◌, [], false, length, take, slice_set, MatchOption};
 
-use crate::header::Header;
 use amqp_pass::ResolvedKind;
 use amqp_pass::width::{list_width, uint_width};
+use amqp_ser::{Header, Whole};
 use std::alloc::Global;
 
 /// A table of headers.
@@ -28,7 +28,7 @@ fn narrow(n: usize) -> u32
 
 impl Table {
     ghost use Rattle.amqp_wire.specs.TreeHeaders.{header_count, headers_from, HeadersFit};
-    ghost use Rattle.amqp_wire.specs.Measurer.{appended, fills};
+    ghost use Rattle.amqp_wire.specs.Measurer.{AddsWhole, appended, fills};
 
     /// Creates an empty table.
     #[inline(always)]
@@ -77,6 +77,22 @@ impl Table {
         ensures refused { self.new.refused ≡ self.old.refused }
     {
         self.headers.truncate(len);
+    }
+
+    /// Appends the headers of a whole value and returns the length of its encoding. On `None` the
+    /// table is unchanged.
+    #[inline(always)]
+    pub fn add_whole<W: Whole>(&mut self, whole: &W) -> Option<usize>
+        ensures { MatchOption result (self.new.headers.items ≡ self.old.headers.items)
+            (λ n. AddsWhole (W.whole_tree whole.now) n self.old.headers.items
+            self.new.headers.items) }
+    {
+        let before = self.headers.len();
+        let len = whole.whole_headers(&mut self.headers);
+        if len.is_none() {
+            self.headers.truncate(before);
+        }
+        len
     }
 
     /// Appends one slot, and returns whether the allocation failed.

@@ -7,7 +7,7 @@ mod misplaced;
 mod passed_over;
 mod refused;
 
-use crate::header::Header;
+use amqp_ser::Header;
 use std::mem::size_of;
 
 #[test]

@@ -8,13 +8,12 @@
 ghost use Rattle.std.specs.Prelude.{◌≡◌, ◌++◌, ◌∷◌, [], List, Option, None, Result, Ok, Err, IfErr, IsErr, nat_le, length};
 ghost use Rattle.amqp_ser.specs.Tree.{Tree};
 
-use crate::header::Header;
 use crate::next_context::{after_descriptor, inner_context_after, is_element};
 use crate::output::{Checkpoint, Output};
 use crate::writer_compound::WriterCompound;
 use amqp_data::EncodingCodes;
 use amqp_pass::{Context, Position, ResolvedKind, ScalarMarker, SizeError};
-use amqp_ser::{CompoundKind, Fixed, Marker, Serializer};
+use amqp_ser::{CompoundKind, Fixed, Header, Marker, Serializer, Whole};
 use std::marker::Model;
 
 /// A serializer that writes into a buffer whose capacity is allocated in advance, with the headers
@@ -27,6 +26,9 @@ pub struct Writer {
     /// Position of the next value. The constructor of an array's first element is stored here
     /// (`context_after`), and `end_part` reads it; no result contains it.
     pub(crate) context: Context,
+    /// Whether the parts of a compound may be written at once. It is false after a value that was
+    /// not written at once: its parts were part of that attempt.
+    tries_parts: bool,
     pub(crate) output: Output,
 }
 
@@ -40,7 +42,8 @@ impl Model for Writer {
 }
 
 impl Writer {
-    ghost use Rattle.std.specs.Prelude.{◌≤◌, ◌+◌, false, is_err};
+    ghost use Rattle.std.specs.Prelude.{◌≤◌, ◌+◌, true, false, is_err};
+    ghost use Rattle.amqp_size.specs.SizeSerializer.{TakesWhole};
     ghost use Rattle.std.specs.Vec.{vec_capacity};
     ghost use Rattle.amqp_ser.specs.Tree.{Trees};
     ghost use Rattle.amqp_pass.specs.State.{position_at};
@@ -48,7 +51,7 @@ impl Writer {
     ghost use Rattle.amqp_pass.specs.WholePosition.{Root};
     ghost use Rattle.amqp_wire.specs.HeaderBytes.{is_element};
     ghost use Rattle.amqp_wire.specs.TreeHeaders.{compound_headers};
-    ghost use Rattle.amqp_wire.specs.Writer.{Kept, opens, PartsFitOutput};
+    ghost use Rattle.amqp_wire.specs.Writer.{Kept, SameOutput, WritesWhole, opens, PartsFitOutput};
 
     /// Creates a writer at the root.
     #[inline(always)]
@@ -60,6 +63,7 @@ impl Writer {
     {
         Writer {
             context: Context::Plain(Position::Root),
+            tries_parts: true,
             output: Output::new(table, out),
         }
     }
@@ -69,7 +73,11 @@ impl Writer {
     pub fn into_bytes(self) -> Vec<u8>
         ensures { result ≡ self.output.out }
     {
-        let Writer { context: _, output } = self;
+        let Writer {
+            context: _,
+            tries_parts: _,
+            output,
+        } = self;
         output.into_bytes()
     }
 
@@ -79,6 +87,33 @@ impl Writer {
         ensures { result ≡ nat_le self.now.output.taken (length self.now.output.table.items) }
     {
         self.output.is_whole()
+    }
+
+    /// Returns whether a value is written at once here: it has its ordinary form, and it is no part
+    /// of a value that was not written at once.
+    #[inline(always)]
+    fn takes_whole(&self) -> bool
+        ensures { result ≡ true → TakesWhole self.now.context }
+    {
+        match self.context {
+            Context::Plain(Position::Root) => true,
+            Context::Plain(Position::InCompound) => self.tries_parts,
+            _ => false,
+        }
+    }
+
+    /// Writes a whole value, and returns whether that succeeded. If not, nothing is written.
+    #[inline(always)]
+    fn put_whole<W: Whole>(&mut self, whole: &W) -> bool
+        ensures kept { Kept self.old.output self.new.output }
+        ensures context { self.new.context ≡ self.old.context }
+        ensures written { result ≡ true →
+            WritesWhole (W.whole_tree whole.now) self.old.output self.new.output }
+        ensures restored { result ≡ false → SameOutput self.old.output self.new.output }
+    {
+        let written = self.output.put_whole(whole);
+        self.tries_parts = written;
+        written
     }
 
     /// Invalidates the output if `put` is an error: what is written is then discarded.
@@ -367,5 +402,16 @@ impl Serializer for Writer {
             }
             ResolvedKind::Refused => Err(SizeError::InvalidValue),
         }
+    }
+
+    #[inline(always)]
+    fn try_whole<W: Whole>(&mut self, whole: &W) -> Option<()> {
+        if !self.takes_whole() {
+            return None;
+        }
+        if !self.put_whole(whole) {
+            return None;
+        }
+        Some(())
     }
 }

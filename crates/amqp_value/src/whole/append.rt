@@ -11,6 +11,7 @@ ghost use Rattle.amqp_ser.specs.Carried.{descriptor_content};
 ghost use Rattle.amqp_ser.specs.Encoding.{descriptor_form};
 ghost use Rattle.amqp_ser.specs.Writable.{descriptor_fits};
 ghost use Rattle.amqp_ser.specs.Scalars.{scalar_form, sized};
+ghost use Rattle.amqp_value.specs.Wrote.{Grows};
 
 use amqp_data::{Descriptor, EncodingCodes};
 use amqp_pass::width::MAX_LEN;
@@ -18,7 +19,8 @@ use amqp_pass::width::MAX_LEN;
 /// Appends a few bytes, one by one.
 #[inline(always)]
 pub(crate) fn put_few(bytes: &[u8], out: &mut Vec<u8>) -> bool
-    ensures { result ≡ true → out.new.items ≡ out.old.items ++ bytes.now }
+    ensures put { result ≡ true → out.new.items ≡ out.old.items ++ bytes.now }
+    ensures kept { Grows out.old out.new }
 {
     if bytes.len() > out.capacity() - out.len() {
         return false;
@@ -33,6 +35,7 @@ pub(crate) fn put_reserved(bytes: &[u8], width: usize, out: &mut Vec<u8>) -> boo
     ensures put { result ≡ true → out.new.items ≡ out.old.items ++ bytes.now }
     ensures width { result ≡ true → length out.new.items ≡ length out.old.items + width }
     ensures capacity { result ≡ true → vec_capacity out.new ≡ vec_capacity out.old }
+    ensures kept { Grows out.old out.new }
 {
     if bytes.len() != width {
         return false;
@@ -46,7 +49,8 @@ pub(crate) fn put_reserved(bytes: &[u8], width: usize, out: &mut Vec<u8>) -> boo
 /// Appends bytes with one copy.
 #[inline(always)]
 pub(crate) fn put(bytes: &[u8], out: &mut Vec<u8>) -> bool
-    ensures { result ≡ true → out.new.items ≡ out.old.items ++ bytes.now }
+    ensures put { result ≡ true → out.new.items ≡ out.old.items ++ bytes.now }
+    ensures kept { Grows out.old out.new }
 {
     if bytes.len() > out.capacity() - out.len() {
         return false;
@@ -57,7 +61,8 @@ pub(crate) fn put(bytes: &[u8], out: &mut Vec<u8>) -> bool
 /// Appends a code and a number of 16 bits.
 #[inline(always)]
 pub(crate) fn put_u16(code: u8, v: u16, out: &mut Vec<u8>) -> bool
-    ensures { result ≡ true → out.new.items ≡ out.old.items ++ (code ∷ to_be_bytes w16 v) }
+    ensures put { result ≡ true → out.new.items ≡ out.old.items ++ (code ∷ to_be_bytes w16 v) }
+    ensures kept { Grows out.old out.new }
 {
     let [a, b] = v.to_be_bytes();
     put_few(&[code, a, b], out)
@@ -66,7 +71,8 @@ pub(crate) fn put_u16(code: u8, v: u16, out: &mut Vec<u8>) -> bool
 /// Appends a code and a number of 32 bits.
 #[inline(always)]
 pub(crate) fn put_u32(code: u8, v: u32, out: &mut Vec<u8>) -> bool
-    ensures { result ≡ true → out.new.items ≡ out.old.items ++ (code ∷ to_be_bytes w32 v) }
+    ensures put { result ≡ true → out.new.items ≡ out.old.items ++ (code ∷ to_be_bytes w32 v) }
+    ensures kept { Grows out.old out.new }
 {
     let [a, b, c, d] = v.to_be_bytes();
     put_few(&[code, a, b, c, d], out)
@@ -75,7 +81,8 @@ pub(crate) fn put_u32(code: u8, v: u32, out: &mut Vec<u8>) -> bool
 /// Appends a code and a number of 64 bits.
 #[inline(always)]
 pub(crate) fn put_u64(code: u8, v: u64, out: &mut Vec<u8>) -> bool
-    ensures { result ≡ true → out.new.items ≡ out.old.items ++ (code ∷ to_be_bytes w64 v) }
+    ensures put { result ≡ true → out.new.items ≡ out.old.items ++ (code ∷ to_be_bytes w64 v) }
+    ensures kept { Grows out.old out.new }
 {
     let [a, b, c, d, e, f, g, h] = v.to_be_bytes();
     put_few(&[code, a, b, c, d, e, f, g, h], out)
@@ -84,7 +91,8 @@ pub(crate) fn put_u64(code: u8, v: u64, out: &mut Vec<u8>) -> bool
 /// Appends a uint.
 #[inline(always)]
 pub(crate) fn put_uint(v: u32, out: &mut Vec<u8>) -> bool
-    ensures { result ≡ true → out.new.items ≡ out.old.items ++ scalar_form (tree.uint v) }
+    ensures put { result ≡ true → out.new.items ≡ out.old.items ++ scalar_form (tree.uint v) }
+    ensures kept { Grows out.old out.new }
 {
     if v == 0 {
         put_few(&[EncodingCodes::Uint0 as u8], out)
@@ -98,7 +106,8 @@ pub(crate) fn put_uint(v: u32, out: &mut Vec<u8>) -> bool
 /// Appends a ulong.
 #[inline(always)]
 pub(crate) fn put_ulong(v: u64, out: &mut Vec<u8>) -> bool
-    ensures { result ≡ true → out.new.items ≡ out.old.items ++ scalar_form (tree.ulong v) }
+    ensures put { result ≡ true → out.new.items ≡ out.old.items ++ scalar_form (tree.ulong v) }
+    ensures kept { Grows out.old out.new }
 {
     if v == 0 {
         put_few(&[EncodingCodes::Ulong0 as u8], out)
@@ -112,7 +121,8 @@ pub(crate) fn put_ulong(v: u64, out: &mut Vec<u8>) -> bool
 /// Appends an int.
 #[inline(always)]
 pub(crate) fn put_int(v: i32, out: &mut Vec<u8>) -> bool
-    ensures { result ≡ true → out.new.items ≡ out.old.items ++ scalar_form (tree.int v) }
+    ensures put { result ≡ true → out.new.items ≡ out.old.items ++ scalar_form (tree.int v) }
+    ensures kept { Grows out.old out.new }
 {
     if -128 <= v && v <= 127 {
         put_few(
@@ -127,7 +137,8 @@ pub(crate) fn put_int(v: i32, out: &mut Vec<u8>) -> bool
 /// Appends a long.
 #[inline(always)]
 pub(crate) fn put_long(v: i64, out: &mut Vec<u8>) -> bool
-    ensures { result ≡ true → out.new.items ≡ out.old.items ++ scalar_form (tree.long v) }
+    ensures put { result ≡ true → out.new.items ≡ out.old.items ++ scalar_form (tree.long v) }
+    ensures kept { Grows out.old out.new }
 {
     if -128 <= v && v <= 127 {
         put_few(
@@ -142,8 +153,9 @@ pub(crate) fn put_long(v: i64, out: &mut Vec<u8>) -> bool
 /// Appends a timestamp.
 #[inline(always)]
 pub(crate) fn put_timestamp(milliseconds: i64, out: &mut Vec<u8>) -> bool
-    ensures { result ≡ true →
+    ensures put { result ≡ true →
         out.new.items ≡ out.old.items ++ scalar_form (tree.timestamp milliseconds) }
+    ensures kept { Grows out.old out.new }
 {
     put_u64(
         EncodingCodes::Timestamp as u8,
@@ -155,7 +167,8 @@ pub(crate) fn put_timestamp(milliseconds: i64, out: &mut Vec<u8>) -> bool
 /// Appends a code and bytes of a fixed number.
 #[inline(always)]
 pub(crate) fn put_exact(code: u8, bytes: &[u8], out: &mut Vec<u8>) -> bool
-    ensures { result ≡ true → out.new.items ≡ out.old.items ++ (code ∷ bytes.now) }
+    ensures put { result ≡ true → out.new.items ≡ out.old.items ++ (code ∷ bytes.now) }
+    ensures kept { Grows out.old out.new }
 {
     put_few(&[code], out) && put(bytes, out)
 }
@@ -165,6 +178,7 @@ pub(crate) fn put_exact(code: u8, bytes: &[u8], out: &mut Vec<u8>) -> bool
 fn put_text(short: u8, long: u8, bytes: &[u8], out: &mut Vec<u8>) -> bool
     ensures fits { result ≡ true → length bytes.now ≤ 4294967291 }
     ensures put { result ≡ true → out.new.items ≡ out.old.items ++ sized short long bytes.now }
+    ensures kept { Grows out.old out.new }
 {
     let n = bytes.len();
     if n <= 254 {
@@ -181,6 +195,7 @@ fn put_text(short: u8, long: u8, bytes: &[u8], out: &mut Vec<u8>) -> bool
 pub(crate) fn put_binary(bytes: &[u8], out: &mut Vec<u8>) -> bool
     ensures fits { result ≡ true → length bytes.now ≤ 4294967291 }
     ensures put { result ≡ true → out.new.items ≡ out.old.items ++ scalar_form (tree.binary bytes.now) }
+    ensures kept { Grows out.old out.new }
 {
     put_text(
         EncodingCodes::Vbin8 as u8,
@@ -195,6 +210,7 @@ pub(crate) fn put_binary(bytes: &[u8], out: &mut Vec<u8>) -> bool
 pub(crate) fn put_string(bytes: &[u8], out: &mut Vec<u8>) -> bool
     ensures fits { result ≡ true → length bytes.now ≤ 4294967291 }
     ensures put { result ≡ true → out.new.items ≡ out.old.items ++ scalar_form (tree.string bytes.now) }
+    ensures kept { Grows out.old out.new }
 {
     put_text(
         EncodingCodes::Str8 as u8,
@@ -209,6 +225,7 @@ pub(crate) fn put_string(bytes: &[u8], out: &mut Vec<u8>) -> bool
 pub(crate) fn put_symbol(bytes: &[u8], out: &mut Vec<u8>) -> bool
     ensures fits { result ≡ true → length bytes.now ≤ 4294967291 }
     ensures put { result ≡ true → out.new.items ≡ out.old.items ++ scalar_form (tree.symbol bytes.now) }
+    ensures kept { Grows out.old out.new }
 {
     put_text(
         EncodingCodes::Sym8 as u8,
@@ -224,6 +241,7 @@ pub(crate) fn put_text_payload(bytes: &[u8], out: &mut Vec<u8>) -> bool
     ensures fits { result ≡ true → length bytes.now ≤ 4294967291 }
     ensures put { result ≡ true →
         out.new.items ≡ out.old.items ++ (to_be_bytes w32 (length bytes.now) ++ bytes.now) }
+    ensures kept { Grows out.old out.new }
 {
     let n = bytes.len();
     if n <= MAX_LEN {
@@ -239,6 +257,7 @@ pub(crate) fn put_descriptor(descriptor: &Descriptor, out: &mut Vec<u8>) -> bool
     ensures fits { result ≡ true → descriptor_fits (descriptor_content descriptor.now) ≡ true }
     ensures put { result ≡ true →
         out.new.items ≡ out.old.items ++ descriptor_form (descriptor_content descriptor.now) }
+    ensures kept { Grows out.old out.new }
 {
     match descriptor {
         Descriptor::Name(name) => put_symbol(name.as_inner().as_bytes(), out),

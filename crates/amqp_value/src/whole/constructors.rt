@@ -1,8 +1,9 @@
 //! The constructors of the elements of arrays (AMQP 1.0 part 1, section 1.6.24).
 
-ghost use Rattle.std.specs.Prelude.{◌≡◌, ◌<◌, Some, true};
+ghost use Rattle.std.specs.Prelude.{◌≡◌, ◌<◌, Some, None, true};
 ghost use Rattle.amqp_ser.specs.Encoding.{constructor};
-ghost use Rattle.amqp_ser.specs.Writable.{each_constructor};
+ghost use Rattle.amqp_ser.specs.Headers.{first_constructor};
+ghost use Rattle.amqp_ser.specs.Writable.{each_constructor, one_constructor};
 ghost use Rattle.amqp_value.specs.TreeOf.{tree_of, all_of};
 ghost use Rattle.amqp_value.specs.Measured.{width_for};
 
@@ -11,9 +12,22 @@ use crate::Value;
 /// Returns the constructor of a value in an array, or 0 for a described value, which has none.
 #[inline(always)]
 pub(crate) fn constructor_of(value: &Value) -> u8
-    ensures { 0 < result → constructor (tree_of value.now) ≡ Some result }
+    ensures some { 0 < result → constructor (tree_of value.now) ≡ Some result }
+    ensures none { result ≡ 0 → constructor (tree_of value.now) ≡ None }
 {
     value.format_code()
+}
+
+/// Returns the constructor of the elements of an array, or `None` if the array is empty.
+#[inline(always)]
+pub(crate) fn constructor_of_each(items: &[Value]) -> Option<u8>
+    ensures { one_constructor (all_of items.now) ≡ true →
+        result ≡ first_constructor (all_of items.now) }
+{
+    match items.first() {
+        None => None,
+        Some(first) => Some(constructor_of(first)),
+    }
 }
 
 /// Returns whether each element has this constructor. The common numbers have loops of their own,

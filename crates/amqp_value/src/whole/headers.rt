@@ -2,7 +2,7 @@
 
 ghost use Rattle.std.specs.Prelude.{◌≡◌, ◌≤◌, ◌++◌, ◌+◌, true};
 ghost use Rattle.std.specs.Int.{w32, to_be_bytes};
-ghost use Rattle.amqp_value.specs.Wrote.{counted_header, list_header, array_header};
+ghost use Rattle.amqp_value.specs.Wrote.{Grows, counted_header, list_header, array_header};
 
 use crate::whole::append::put_few;
 use amqp_data::EncodingCodes;
@@ -15,6 +15,7 @@ pub(crate) fn put_wide_header(len: usize, count: usize, out: &mut Vec<u8>) -> bo
     ensures few { result ≡ true → count ≤ 4294967295 }
     ensures put { result ≡ true →
         out.new.items ≡ out.old.items ++ (to_be_bytes w32 (len + 4) ++ to_be_bytes w32 count) }
+    ensures kept { Grows out.old out.new }
 {
     if len > MAX_LEN || count > MAX_COUNT {
         return false;
@@ -31,6 +32,7 @@ fn put_counted_header(short: u8, long: u8, len: usize, count: usize, out: &mut V
     ensures few { result ≡ true → count ≤ 4294967295 }
     ensures put { result ≡ true →
         out.new.items ≡ out.old.items ++ counted_header short long len count }
+    ensures kept { Grows out.old out.new }
 {
     if len <= 254 {
         if count > 255 {
@@ -48,6 +50,7 @@ pub(crate) fn put_map_header(len: usize, count: usize, out: &mut Vec<u8>) -> boo
     ensures few { result ≡ true → count ≤ 4294967295 }
     ensures put { result ≡ true →
         out.new.items ≡ out.old.items ++ counted_header 0xc1 0xd1 len count }
+    ensures kept { Grows out.old out.new }
 {
     put_counted_header(
         EncodingCodes::Map8 as u8,
@@ -63,6 +66,7 @@ pub(crate) fn put_map_header(len: usize, count: usize, out: &mut Vec<u8>) -> boo
 pub(crate) fn put_list_header(len: usize, count: usize, out: &mut Vec<u8>) -> bool
     ensures fits { result ≡ true → len ≤ 4294967291 }
     ensures put { result ≡ true → out.new.items ≡ out.old.items ++ list_header len count }
+    ensures kept { Grows out.old out.new }
 {
     if len == 0 {
         return put_few(&[EncodingCodes::List0 as u8], out);
@@ -82,6 +86,7 @@ pub(crate) fn put_array_header(len: usize, count: usize, out: &mut Vec<u8>) -> b
     ensures fits { result ≡ true → len ≤ 4294967291 }
     ensures few { result ≡ true → count ≤ 4294967295 }
     ensures put { result ≡ true → out.new.items ≡ out.old.items ++ array_header len count }
+    ensures kept { Grows out.old out.new }
 {
     if len <= 254 && count <= 255 {
         return put_few(

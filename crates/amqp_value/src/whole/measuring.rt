@@ -2,15 +2,18 @@
 //!
 //! The parts of a compound are measured from the last to the first, as `Bodies` describes.
 
-ghost use Rattle.std.specs.Prelude.{◌≡◌};
+ghost use Rattle.std.specs.Prelude.{◌≡◌, ◌≤◌, true, length};
 ghost use Rattle.amqp_ser.specs.Tree as tree;
+ghost use Rattle.amqp_ser.specs.Tree.{list, array, map};
 ghost use Rattle.amqp_ser.specs.Carried.{descriptor_content};
+ghost use Rattle.amqp_ser.specs.Headers.{headers_of, headers_of_each, headers_of_pairs};
 ghost use Rattle.amqp_value.specs.TreeOf.{tree_of, all_of, pairs_trees};
 ghost use Rattle.amqp_value.specs.Measured.{Measured, MeasuredPayload, MeasuredEach, MeasuredPayloads, MeasuredContent, MeasuredPairs, IsLength};
+ghost use Rattle.amqp_value.specs.Noted.{NotesIf};
 
 use crate::Value;
 use crate::whole::bodies::Bodies;
-use crate::whole::constructors::{all_have, constructor_of, width_of};
+use crate::whole::constructors::{all_have, constructor_of, constructor_of_each, width_of};
 use crate::whole::sizes::{
     NOT_MEASURED, array_size, compound_payload_size, descriptor_size, exact_size, int_size,
     list_size, long_size, map_size, text_payload_size, text_size, uint_size, ulong_size,
@@ -22,7 +25,9 @@ use amqp_pass::width::MAX_COUNT;
 #[inline(always)]
 #[cycle(measure)]
 pub(crate) fn measure<B: Bodies>(value: &Value, bodies: &mut B) -> usize
-    ensures { IsLength result → Measured (tree_of value.now) result }
+    ensures measured { IsLength result → Measured (tree_of value.now) result }
+    ensures noted { B.keeps ≡ true → NotesIf (IsLength result)
+        (headers_of (tree_of value.now)) (B.noted bodies.old) (B.noted bodies.new) }
 {
     match value {
         Value::Null => 1,
@@ -60,7 +65,24 @@ pub(crate) fn measure<B: Bodies>(value: &Value, bodies: &mut B) -> usize
 #[inline(never)]
 #[cycle(measure)]
 fn measure_list<B: Bodies>(items: &[Value], bodies: &mut B) -> usize
-    ensures { IsLength result → MeasuredEach (all_of items.now) result }
+    ensures measured { IsLength result → MeasuredEach (all_of items.now) result }
+    ensures noted { B.keeps ≡ true → NotesIf (result ≤ 4294967291)
+        (headers_of (list (all_of items.now))) (B.noted bodies.old) (B.noted bodies.new) }
+{
+    let len = measure_items(items, bodies);
+    if !bodies.record(len, items.len(), None) {
+        return NOT_MEASURED;
+    }
+    len
+}
+
+/// Returns the length of the elements of a list.
+#[inline(always)]
+#[cycle(measure)]
+fn measure_items<B: Bodies>(items: &[Value], bodies: &mut B) -> usize
+    ensures measured { IsLength result → MeasuredEach (all_of items.now) result }
+    ensures noted { B.keeps ≡ true → NotesIf (IsLength result)
+        (headers_of_each (all_of items.now)) (B.noted bodies.old) (B.noted bodies.new) }
 {
     let mut len: usize = 0;
     let mut at = items.len();
@@ -71,7 +93,6 @@ fn measure_list<B: Bodies>(items: &[Value], bodies: &mut B) -> usize
             None => return NOT_MEASURED,
         };
     }
-    bodies.record(len);
     len
 }
 
@@ -79,23 +100,41 @@ fn measure_list<B: Bodies>(items: &[Value], bodies: &mut B) -> usize
 #[inline(never)]
 #[cycle(measure)]
 fn measure_map<B: Bodies>(pairs: &[(Value, Value)], bodies: &mut B) -> usize
-    ensures { IsLength result → MeasuredPairs (pairs_trees pairs.now) result }
+    ensures measured { IsLength result → MeasuredPairs (pairs_trees pairs.now) result }
+    ensures noted { B.keeps ≡ true → NotesIf (result ≤ 4294967291)
+        (headers_of (map (pairs_trees pairs.now))) (B.noted bodies.old) (B.noted bodies.new) }
+{
+    let len = measure_pairs(pairs, bodies);
+    if !bodies.record(len, pairs.len().saturating_mul(2), None) {
+        return NOT_MEASURED;
+    }
+    len
+}
+
+/// Returns the length of the keys and values of a map.
+#[inline(always)]
+#[cycle(measure)]
+fn measure_pairs<B: Bodies>(pairs: &[(Value, Value)], bodies: &mut B) -> usize
+    ensures measured { IsLength result → MeasuredPairs (pairs_trees pairs.now) result }
+    ensures noted { B.keeps ≡ true → NotesIf (IsLength result)
+        (headers_of_pairs (pairs_trees pairs.now)) (B.noted bodies.old) (B.noted bodies.new) }
 {
     let mut len: usize = 0;
     let mut at = pairs.len();
     while at > 0 {
         at -= 1;
         let pair = &pairs[at];
-        len = match len.checked_add(measure(&pair.1, bodies)) {
+        let value = measure(&pair.1, bodies);
+        let key = measure(&pair.0, bodies);
+        len = match len.checked_add(value) {
             Some(sum) => sum,
             None => return NOT_MEASURED,
         };
-        len = match len.checked_add(measure(&pair.0, bodies)) {
+        len = match len.checked_add(key) {
             Some(sum) => sum,
             None => return NOT_MEASURED,
         };
     }
-    bodies.record(len);
     len
 }
 
@@ -103,9 +142,11 @@ fn measure_map<B: Bodies>(pairs: &[(Value, Value)], bodies: &mut B) -> usize
 #[inline(never)]
 #[cycle(measure)]
 fn measure_described<B: Bodies>(described: &Described<Value>, bodies: &mut B) -> usize
-    ensures { IsLength result →
+    ensures measured { IsLength result →
         Measured (tree.described (descriptor_content described.now.descriptor)
         (tree_of described.now.value)) result }
+    ensures noted { B.keeps ≡ true → NotesIf (IsLength result)
+        (headers_of (tree_of described.now.value)) (B.noted bodies.old) (B.noted bodies.new) }
 {
     let descriptor = descriptor_size(&described.descriptor);
     descriptor
@@ -117,10 +158,14 @@ fn measure_described<B: Bodies>(described: &Described<Value>, bodies: &mut B) ->
 #[inline(never)]
 #[cycle(measure)]
 fn measure_array<B: Bodies>(items: &[Value], bodies: &mut B) -> usize
-    ensures { IsLength result → MeasuredContent (all_of items.now) result }
+    ensures measured { IsLength result → MeasuredContent (all_of items.now) result }
+    ensures noted { B.keeps ≡ true → NotesIf ((result ≤ 4294967291) × (length items.now ≤ 4294967295))
+        (headers_of (array (all_of items.now))) (B.noted bodies.old) (B.noted bodies.new) }
 {
     let len = measure_content(items, bodies);
-    bodies.record(len);
+    if !bodies.record(len, items.len(), constructor_of_each(items)) {
+        return NOT_MEASURED;
+    }
     len
 }
 
@@ -128,7 +173,9 @@ fn measure_array<B: Bodies>(items: &[Value], bodies: &mut B) -> usize
 #[inline(always)]
 #[cycle(measure)]
 fn measure_content<B: Bodies>(items: &[Value], bodies: &mut B) -> usize
-    ensures { IsLength result → MeasuredContent (all_of items.now) result }
+    ensures measured { IsLength result → MeasuredContent (all_of items.now) result }
+    ensures noted { B.keeps ≡ true → NotesIf (IsLength result)
+        (headers_of_each (all_of items.now)) (B.noted bodies.old) (B.noted bodies.new) }
 {
     match items.first() {
         None => 0,
@@ -150,7 +197,9 @@ fn measure_content<B: Bodies>(items: &[Value], bodies: &mut B) -> usize
 #[inline(never)]
 #[cycle(measure)]
 fn measure_payloads<B: Bodies>(items: &[Value], bodies: &mut B) -> usize
-    ensures { IsLength result → MeasuredPayloads (all_of items.now) result }
+    ensures measured { IsLength result → MeasuredPayloads (all_of items.now) result }
+    ensures noted { B.keeps ≡ true → NotesIf (IsLength result)
+        (headers_of_each (all_of items.now)) (B.noted bodies.old) (B.noted bodies.new) }
 {
     let mut len: usize = 0;
     let mut at = items.len();
@@ -168,7 +217,9 @@ fn measure_payloads<B: Bodies>(items: &[Value], bodies: &mut B) -> usize
 #[inline(always)]
 #[cycle(measure)]
 fn measure_payload<B: Bodies>(value: &Value, bodies: &mut B) -> usize
-    ensures { IsLength result → MeasuredPayload (tree_of value.now) result }
+    ensures measured { IsLength result → MeasuredPayload (tree_of value.now) result }
+    ensures noted { B.keeps ≡ true → NotesIf (IsLength result)
+        (headers_of (tree_of value.now)) (B.noted bodies.old) (B.noted bodies.new) }
 {
     match value {
         Value::Null => 0,

@@ -3,7 +3,7 @@
 ghost use Rattle.std.specs.Prelude.{◌≡◌, ◌+◌, ◌≤◌, ◌<◌, length, true};
 ghost use Rattle.std.specs.Vec.{vec_capacity};
 ghost use Rattle.amqp_value.specs.TreeOf.{tree_of, all_of};
-ghost use Rattle.amqp_value.specs.Wrote.{WrotePayload, WrotePayloads};
+ghost use Rattle.amqp_value.specs.Wrote.{Grows, WrotePayload, WrotePayloads};
 
 use crate::Value;
 use crate::whole::append::put_reserved;
@@ -12,8 +12,9 @@ use crate::whole::constructors::constructor_of;
 /// Appends the payloads of the elements, which must have this constructor and `width` bytes each.
 #[inline(always)]
 pub(crate) fn write_numbers(items: &[Value], code: u8, width: usize, out: &mut Vec<u8>) -> bool
-    ensures { result ≡ true → 0 < code →
+    ensures wrote { result ≡ true → 0 < code →
         WrotePayloads code (all_of items.now) out.old.items out.new.items }
+    ensures kept { Grows out.old out.new }
 {
     let Some(len) = items.len().checked_mul(width) else {
         return false;
@@ -39,6 +40,7 @@ fn put_number(value: &Value, width: usize, out: &mut Vec<u8>) -> bool
     ensures put { result ≡ true → WrotePayload (tree_of value.now) out.old.items out.new.items }
     ensures width { result ≡ true → length out.new.items ≡ length out.old.items + width }
     ensures capacity { result ≡ true → vec_capacity out.new ≡ vec_capacity out.old }
+    ensures kept { Grows out.old out.new }
 {
     match value {
         Value::Uint(v) => put_reserved(&v.to_be_bytes(), width, out),

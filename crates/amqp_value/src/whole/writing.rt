@@ -1,15 +1,17 @@
-//! The bytes of a value, by recursion, with the lengths of bodies that `measure` recorded.
+//! The bytes of a value, by recursion, with the headers that `measure` recorded.
 //!
 //! No function assumes that a length is right: each is compared with the body that is written. If
 //! one differs, an array has elements of two types or the capacity is too small, the result is
 //! `false`, and the bytes that were appended are not used.
 
-ghost use Rattle.std.specs.Prelude.{◌≡◌, ◌<◌, true};
+ghost use Rattle.std.specs.Prelude.{◌≡◌, ◌+◌, ◌<◌, true, length, get_or};
 ghost use Rattle.amqp_ser.specs.Tree.{list, array, map};
 ghost use Rattle.amqp_ser.specs.Tree as tree;
 ghost use Rattle.amqp_ser.specs.Carried.{descriptor_content};
+ghost use Rattle.amqp_ser.specs.Headers.{headers_of, headers_of_each, headers_of_pairs};
+ghost use Rattle.amqp_value.specs.declared.value.Value.{Value};
 ghost use Rattle.amqp_value.specs.TreeOf.{tree_of, all_of, pairs_trees};
-ghost use Rattle.amqp_value.specs.Wrote.{Wrote, WrotePayload, WroteEach, WrotePairs, WroteContent, WrotePayloads};
+ghost use Rattle.amqp_value.specs.Wrote.{Grows, Wrote, WrotePayload, WroteEach, WrotePairs, WroteContent, WrotePayloads};
 
 use crate::Value;
 use crate::whole::append::{
@@ -21,12 +23,15 @@ use crate::whole::constructors::constructor_of;
 use crate::whole::headers::{put_array_header, put_list_header, put_map_header, put_wide_header};
 use crate::whole::numbers::write_numbers;
 use amqp_data::{Described, EncodingCodes};
+use amqp_ser::Header;
 
 /// Appends the encoding of a value.
 #[inline(always)]
 #[cycle(write)]
-pub(crate) fn write(value: &Value, lens: &mut Vec<usize>, out: &mut Vec<u8>) -> bool
-    ensures { result ≡ true → Wrote (tree_of value.now) out.old.items out.new.items }
+pub(crate) fn write(value: &Value, headers: &[Header], taken: &mut usize, out: &mut Vec<u8>) -> bool
+    ensures wrote { result ≡ true → Wrote (tree_of value.now) out.old.items out.new.items }
+    ensures kept { Grows out.old out.new }
+    ensures taken { result ≡ true → taken.new ≡ taken.old + length (headers_of (tree_of value.now)) }
 {
     match value {
         Value::Null => put_few(&[EncodingCodes::Null as u8], out),
@@ -51,25 +56,27 @@ pub(crate) fn write(value: &Value, lens: &mut Vec<usize>, out: &mut Vec<u8>) -> 
         Value::Binary(v) => put_binary(v.as_inner(), out),
         Value::String(v) => put_string(v.as_bytes(), out),
         Value::Symbol(v) => put_symbol(v.as_inner().as_bytes(), out),
-        Value::List(v) => write_list(v, lens, out),
-        Value::Map(v) => write_map(v.as_slice(), lens, out),
-        Value::Array(v) => write_array(v.as_inner(), lens, out),
-        Value::Described(v) => write_described(v, lens, out),
+        Value::List(v) => write_list(v, headers, taken, out),
+        Value::Map(v) => write_map(v.as_slice(), headers, taken, out),
+        Value::Array(v) => write_array(v.as_inner(), headers, taken, out),
+        Value::Described(v) => write_described(v, headers, taken, out),
     }
 }
 
 /// Appends a list.
 #[inline(never)]
 #[cycle(write)]
-fn write_list(items: &[Value], lens: &mut Vec<usize>, out: &mut Vec<u8>) -> bool
-    ensures { result ≡ true → Wrote (list (all_of items.now)) out.old.items out.new.items }
+fn write_list(items: &[Value], headers: &[Header], taken: &mut usize, out: &mut Vec<u8>) -> bool
+    ensures wrote { result ≡ true → Wrote (list (all_of items.now)) out.old.items out.new.items }
+    ensures kept { Grows out.old out.new }
+    ensures taken { result ≡ true → taken.new ≡ taken.old + length (headers_of (list (all_of items.now))) }
 {
-    let len = next(lens);
+    let len = next(headers, taken);
     if !put_list_header(len, items.len(), out) {
         return false;
     }
     let start = out.len();
-    if !write_items(items, lens, out) {
+    if !write_items(items, headers, taken, out) {
         return false;
     }
     out.len() - start == len
@@ -78,11 +85,13 @@ fn write_list(items: &[Value], lens: &mut Vec<usize>, out: &mut Vec<u8>) -> bool
 /// Appends the encodings of the elements of a list.
 #[inline(always)]
 #[cycle(write)]
-fn write_items(items: &[Value], lens: &mut Vec<usize>, out: &mut Vec<u8>) -> bool
-    ensures { result ≡ true → WroteEach (all_of items.now) out.old.items out.new.items }
+fn write_items(items: &[Value], headers: &[Header], taken: &mut usize, out: &mut Vec<u8>) -> bool
+    ensures wrote { result ≡ true → WroteEach (all_of items.now) out.old.items out.new.items }
+    ensures kept { Grows out.old out.new }
+    ensures taken { result ≡ true → taken.new ≡ taken.old + length (headers_of_each (all_of items.now)) }
 {
     for item in items {
-        if !write(item, lens, out) {
+        if !write(item, headers, taken, out) {
             return false;
         }
     }
@@ -92,15 +101,22 @@ fn write_items(items: &[Value], lens: &mut Vec<usize>, out: &mut Vec<u8>) -> boo
 /// Appends a map.
 #[inline(never)]
 #[cycle(write)]
-fn write_map(pairs: &[(Value, Value)], lens: &mut Vec<usize>, out: &mut Vec<u8>) -> bool
-    ensures { result ≡ true → Wrote (map (pairs_trees pairs.now)) out.old.items out.new.items }
+fn write_map(
+    pairs: &[(Value, Value)],
+    headers: &[Header],
+    taken: &mut usize,
+    out: &mut Vec<u8>,
+) -> bool
+    ensures wrote { result ≡ true → Wrote (map (pairs_trees pairs.now)) out.old.items out.new.items }
+    ensures kept { Grows out.old out.new }
+    ensures taken { result ≡ true → taken.new ≡ taken.old + length (headers_of (map (pairs_trees pairs.now))) }
 {
-    let len = next(lens);
+    let len = next(headers, taken);
     if !put_map_header(len, pairs.len().saturating_mul(2), out) {
         return false;
     }
     let start = out.len();
-    if !write_pairs(pairs, lens, out) {
+    if !write_pairs(pairs, headers, taken, out) {
         return false;
     }
     out.len() - start == len
@@ -109,32 +125,67 @@ fn write_map(pairs: &[(Value, Value)], lens: &mut Vec<usize>, out: &mut Vec<u8>)
 /// Appends the encodings of the keys and values of a map.
 #[inline(always)]
 #[cycle(write)]
-fn write_pairs(pairs: &[(Value, Value)], lens: &mut Vec<usize>, out: &mut Vec<u8>) -> bool
-    ensures { result ≡ true → WrotePairs (pairs_trees pairs.now) out.old.items out.new.items }
+fn write_pairs(
+    pairs: &[(Value, Value)],
+    headers: &[Header],
+    taken: &mut usize,
+    out: &mut Vec<u8>,
+) -> bool
+    ensures wrote { result ≡ true → WrotePairs (pairs_trees pairs.now) out.old.items out.new.items }
+    ensures kept { Grows out.old out.new }
+    ensures taken { result ≡ true → taken.new ≡ taken.old + length (headers_of_pairs (pairs_trees pairs.now)) }
 {
-    for pair in pairs {
-        if !write(&pair.0, lens, out) {
+    let mut at = 0;
+    while at < pairs.len() {
+        let pair = &pairs[at];
+        let key = write(&pair.0, headers, taken, out);
+        let value = write_value(pairs, at, headers, taken, out);
+        if !key {
             return false;
         }
-        if !write(&pair.1, lens, out) {
+        if !value {
             return false;
         }
+        at += 1;
     }
     true
+}
+
+/// Appends the encoding of the value of the pair at this index. In a function of its own, the proof
+/// that the recursion ends is short.
+#[inline(always)]
+#[cycle(write)]
+fn write_value(
+    pairs: &[(Value, Value)],
+    at: usize,
+    headers: &[Header],
+    taken: &mut usize,
+    out: &mut Vec<u8>,
+) -> bool
+    requires { at < length pairs.now }
+    ensures wrote { (e : Value × Value) → e ≡ get_or pairs.now at e → result ≡ true →
+        Wrote (tree_of e.1) out.old.items out.new.items }
+    ensures kept { Grows out.old out.new }
+    ensures taken { (e : Value × Value) → e ≡ get_or pairs.now at e → result ≡ true →
+        taken.new ≡ taken.old + length (headers_of (tree_of e.1)) }
+{
+    write(&pairs[at].1, headers, taken, out)
 }
 
 /// Appends an array.
 #[inline(never)]
 #[cycle(write)]
-fn write_array(items: &[Value], lens: &mut Vec<usize>, out: &mut Vec<u8>) -> bool
-    ensures { result ≡ true → Wrote (array (all_of items.now)) out.old.items out.new.items }
+fn write_array(items: &[Value], headers: &[Header], taken: &mut usize, out: &mut Vec<u8>) -> bool
+    ensures wrote { result ≡ true → Wrote (array (all_of items.now)) out.old.items out.new.items }
+    ensures kept { Grows out.old out.new }
+    ensures taken { result ≡ true → taken.new ≡ taken.old + length (headers_of (array (all_of items.now))) }
 {
-    let len = next(lens);
+    let len = next(headers, taken);
     if !put_array_header(len, items.len(), out) {
         return false;
     }
     let start = out.len();
-    if !write_content(items, lens, out) {
+    if !write_content(items, headers, taken, out) {
         return false;
     }
     out.len() - start == len
@@ -143,8 +194,10 @@ fn write_array(items: &[Value], lens: &mut Vec<usize>, out: &mut Vec<u8>) -> boo
 /// Appends the content of an array: the constructor and the payloads of the elements.
 #[inline(always)]
 #[cycle(write)]
-fn write_content(items: &[Value], lens: &mut Vec<usize>, out: &mut Vec<u8>) -> bool
-    ensures { result ≡ true → WroteContent (all_of items.now) out.old.items out.new.items }
+fn write_content(items: &[Value], headers: &[Header], taken: &mut usize, out: &mut Vec<u8>) -> bool
+    ensures wrote { result ≡ true → WroteContent (all_of items.now) out.old.items out.new.items }
+    ensures kept { Grows out.old out.new }
+    ensures taken { result ≡ true → taken.new ≡ taken.old + length (headers_of_each (all_of items.now)) }
 {
     match items.first() {
         None => true,
@@ -156,7 +209,7 @@ fn write_content(items: &[Value], lens: &mut Vec<usize>, out: &mut Vec<u8>) -> b
             if !put_few(&[code], out) {
                 return false;
             }
-            write_elements(items, code, lens, out)
+            write_elements(items, code, headers, taken, out)
         }
     }
 }
@@ -165,9 +218,17 @@ fn write_content(items: &[Value], lens: &mut Vec<usize>, out: &mut Vec<u8>) -> b
 /// comparison of the variant is left.
 #[inline(always)]
 #[cycle(write)]
-fn write_elements(items: &[Value], code: u8, lens: &mut Vec<usize>, out: &mut Vec<u8>) -> bool
-    ensures { result ≡ true → 0 < code →
+fn write_elements(
+    items: &[Value],
+    code: u8,
+    headers: &[Header],
+    taken: &mut usize,
+    out: &mut Vec<u8>,
+) -> bool
+    ensures wrote { result ≡ true → 0 < code →
         WrotePayloads code (all_of items.now) out.old.items out.new.items }
+    ensures kept { Grows out.old out.new }
+    ensures taken { result ≡ true → taken.new ≡ taken.old + length (headers_of_each (all_of items.now)) }
 {
     match code {
         0x70 => write_numbers(items, 0x70, 4, out),
@@ -175,21 +236,29 @@ fn write_elements(items: &[Value], code: u8, lens: &mut Vec<usize>, out: &mut Ve
         0x80 => write_numbers(items, 0x80, 8, out),
         0x81 => write_numbers(items, 0x81, 8, out),
         0x82 => write_numbers(items, 0x82, 8, out),
-        _ => write_payloads(items, code, lens, out),
+        _ => write_payloads(items, code, headers, taken, out),
     }
 }
 
 /// Appends the payloads of the elements, which must have this constructor.
 #[inline(always)]
 #[cycle(write)]
-fn write_payloads(items: &[Value], code: u8, lens: &mut Vec<usize>, out: &mut Vec<u8>) -> bool
-    ensures { result ≡ true → 0 < code → WrotePayloads code (all_of items.now) out.old.items out.new.items }
+fn write_payloads(
+    items: &[Value],
+    code: u8,
+    headers: &[Header],
+    taken: &mut usize,
+    out: &mut Vec<u8>,
+) -> bool
+    ensures wrote { result ≡ true → 0 < code → WrotePayloads code (all_of items.now) out.old.items out.new.items }
+    ensures kept { Grows out.old out.new }
+    ensures taken { result ≡ true → taken.new ≡ taken.old + length (headers_of_each (all_of items.now)) }
 {
     for item in items {
         if constructor_of(item) != code {
             return false;
         }
-        if !write_payload(item, lens, out) {
+        if !write_payload(item, headers, taken, out) {
             return false;
         }
     }
@@ -199,8 +268,10 @@ fn write_payloads(items: &[Value], code: u8, lens: &mut Vec<usize>, out: &mut Ve
 /// Appends the payload of a value in an array, after the constructor.
 #[inline(always)]
 #[cycle(write)]
-fn write_payload(value: &Value, lens: &mut Vec<usize>, out: &mut Vec<u8>) -> bool
-    ensures { result ≡ true → WrotePayload (tree_of value.now) out.old.items out.new.items }
+fn write_payload(value: &Value, headers: &[Header], taken: &mut usize, out: &mut Vec<u8>) -> bool
+    ensures wrote { result ≡ true → WrotePayload (tree_of value.now) out.old.items out.new.items }
+    ensures kept { Grows out.old out.new }
+    ensures taken { result ≡ true → taken.new ≡ taken.old + length (headers_of (tree_of value.now)) }
 {
     match value {
         Value::Null => true,
@@ -225,9 +296,9 @@ fn write_payload(value: &Value, lens: &mut Vec<usize>, out: &mut Vec<u8>) -> boo
         Value::Binary(v) => put_text_payload(v.as_inner(), out),
         Value::String(v) => put_text_payload(v.as_bytes(), out),
         Value::Symbol(v) => put_text_payload(v.as_inner().as_bytes(), out),
-        Value::List(v) => write_wide_list(v, lens, out),
-        Value::Map(v) => write_wide_map(v.as_slice(), lens, out),
-        Value::Array(v) => write_wide_array(v.as_inner(), lens, out),
+        Value::List(v) => write_wide_list(v, headers, taken, out),
+        Value::Map(v) => write_wide_map(v.as_slice(), headers, taken, out),
+        Value::Array(v) => write_wide_array(v.as_inner(), headers, taken, out),
         Value::Described(_) => false,
     }
 }
@@ -235,15 +306,22 @@ fn write_payload(value: &Value, lens: &mut Vec<usize>, out: &mut Vec<u8>) -> boo
 /// Appends the payload of a list in an array.
 #[inline(never)]
 #[cycle(write)]
-fn write_wide_list(items: &[Value], lens: &mut Vec<usize>, out: &mut Vec<u8>) -> bool
-    ensures { result ≡ true → WrotePayload (list (all_of items.now)) out.old.items out.new.items }
+fn write_wide_list(
+    items: &[Value],
+    headers: &[Header],
+    taken: &mut usize,
+    out: &mut Vec<u8>,
+) -> bool
+    ensures wrote { result ≡ true → WrotePayload (list (all_of items.now)) out.old.items out.new.items }
+    ensures kept { Grows out.old out.new }
+    ensures taken { result ≡ true → taken.new ≡ taken.old + length (headers_of (list (all_of items.now))) }
 {
-    let len = next(lens);
+    let len = next(headers, taken);
     if !put_wide_header(len, items.len(), out) {
         return false;
     }
     let start = out.len();
-    if !write_items(items, lens, out) {
+    if !write_items(items, headers, taken, out) {
         return false;
     }
     out.len() - start == len
@@ -252,15 +330,22 @@ fn write_wide_list(items: &[Value], lens: &mut Vec<usize>, out: &mut Vec<u8>) ->
 /// Appends the payload of a map in an array.
 #[inline(never)]
 #[cycle(write)]
-fn write_wide_map(pairs: &[(Value, Value)], lens: &mut Vec<usize>, out: &mut Vec<u8>) -> bool
-    ensures { result ≡ true → WrotePayload (map (pairs_trees pairs.now)) out.old.items out.new.items }
+fn write_wide_map(
+    pairs: &[(Value, Value)],
+    headers: &[Header],
+    taken: &mut usize,
+    out: &mut Vec<u8>,
+) -> bool
+    ensures wrote { result ≡ true → WrotePayload (map (pairs_trees pairs.now)) out.old.items out.new.items }
+    ensures kept { Grows out.old out.new }
+    ensures taken { result ≡ true → taken.new ≡ taken.old + length (headers_of (map (pairs_trees pairs.now))) }
 {
-    let len = next(lens);
+    let len = next(headers, taken);
     if !put_wide_header(len, pairs.len().saturating_mul(2), out) {
         return false;
     }
     let start = out.len();
-    if !write_pairs(pairs, lens, out) {
+    if !write_pairs(pairs, headers, taken, out) {
         return false;
     }
     out.len() - start == len
@@ -269,15 +354,22 @@ fn write_wide_map(pairs: &[(Value, Value)], lens: &mut Vec<usize>, out: &mut Vec
 /// Appends the payload of an array in an array.
 #[inline(never)]
 #[cycle(write)]
-fn write_wide_array(items: &[Value], lens: &mut Vec<usize>, out: &mut Vec<u8>) -> bool
-    ensures { result ≡ true → WrotePayload (array (all_of items.now)) out.old.items out.new.items }
+fn write_wide_array(
+    items: &[Value],
+    headers: &[Header],
+    taken: &mut usize,
+    out: &mut Vec<u8>,
+) -> bool
+    ensures wrote { result ≡ true → WrotePayload (array (all_of items.now)) out.old.items out.new.items }
+    ensures kept { Grows out.old out.new }
+    ensures taken { result ≡ true → taken.new ≡ taken.old + length (headers_of (array (all_of items.now))) }
 {
-    let len = next(lens);
+    let len = next(headers, taken);
     if !put_wide_header(len, items.len(), out) {
         return false;
     }
     let start = out.len();
-    if !write_content(items, lens, out) {
+    if !write_content(items, headers, taken, out) {
         return false;
     }
     out.len() - start == len
@@ -286,10 +378,17 @@ fn write_wide_array(items: &[Value], lens: &mut Vec<usize>, out: &mut Vec<u8>) -
 /// Appends a described value.
 #[inline(never)]
 #[cycle(write)]
-fn write_described(described: &Described<Value>, lens: &mut Vec<usize>, out: &mut Vec<u8>) -> bool
-    ensures { result ≡ true →
+fn write_described(
+    described: &Described<Value>,
+    headers: &[Header],
+    taken: &mut usize,
+    out: &mut Vec<u8>,
+) -> bool
+    ensures wrote { result ≡ true →
         Wrote (tree.described (descriptor_content described.now.descriptor) (tree_of described.now.value))
         out.old.items out.new.items }
+    ensures kept { Grows out.old out.new }
+    ensures taken { result ≡ true → taken.new ≡ taken.old + length (headers_of (tree_of described.now.value)) }
 {
     if !put_few(&[EncodingCodes::DescribedType as u8], out) {
         return false;
@@ -297,5 +396,5 @@ fn write_described(described: &Described<Value>, lens: &mut Vec<usize>, out: &mu
     if !put_descriptor(&described.descriptor, out) {
         return false;
     }
-    write(&described.value, lens, out)
+    write(&described.value, headers, taken, out)
 }

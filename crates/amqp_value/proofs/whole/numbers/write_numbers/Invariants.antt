@@ -1,7 +1,7 @@
-use Rattle.std.proofs.Common.{◌≡◌, ◌+◌, ◌-◌, ◌*◌, ◌≤◌, ◌<◌, ℕ, List, length, drop}
+use Rattle.std.proofs.Common.{◌+◌, ◌-◌, ◌*◌, ◌≤◌, ◌<◌, ℕ, List, length, drop}
 use Rattle.std.specs.Vec.{vec_capacity}
 use Rattle.amqp_value.specs.TreeOf.{all_of}
-use Rattle.amqp_value.specs.Wrote.{WrotePayloads}
+use Rattle.amqp_value.specs.Wrote.{Grows, WrotePayloads}
 use Rattle.amqp_value.proofs.whole.numbers.write_numbers.Given as goal
 
 -- Whoever appends the rest has appended all, and there is room for the rest.
@@ -10,4 +10,5 @@ invariant-loop-item l =
     record {
       written : 0 < l.code → (b : List ℕ) → WrotePayloads l.code (all_of (drop l.item-index l.items)) l.out.items b → WrotePayloads l.code (all_of l.items) l.initial.out.items b;
       room : length l.out.items + (length l.items - l.item-index) * l.width ≤ vec_capacity l.out;
+      kept : Grows l.initial.out l.out;
     }

@@ -1,84 +1,189 @@
-use Rattle.std.proofs.Common.{◌≡◌, ℕ, ◌+◌, ◌-◌, ◌<◌, true, length, refl, sym, ap, ◌∙◌, subst, rules, arith, Some, drop}
+use Rattle.std.proofs.Common.{◌≡◌, ◌+◌, ◌<◌, length, sym, ◌∙◌, subst, rules, arith, Some}
 use Rattle.std.proofs.lemmas.Bool.Decides.{nat_tests}
 use Rattle.std.proofs.lemmas.List.{drop_all}
 use Rattle.amqp_ser.specs.Encoding.{constructor}
+use Rattle.amqp_ser.specs.Carried.{descriptor_content}
+use Rattle.amqp_ser.specs.Headers.{headers_of}
 use Rattle.amqp_ser.specs.Tree.{map}
 use Rattle.amqp_value.specs.TreeOf.{tree_of, pairs_trees, all_of}
+use Rattle.amqp_value.specs.declared.value.Value.{Value}
 use Rattle.amqp_value.proofs.TreeLemmas.{tree_of-Map}
 use Rattle.amqp_value.specs.Wrote.{Wrote, WrotePayload}
 use Rattle.amqp_value.proofs.MeasuredLemmas.{count-all_of}
-use Rattle.amqp_value.proofs.WroteLemmas.{of_list, of_list_payload, of_map, of_map_payload, of_array, of_array_payload, none_each, none_pairs, none_payloads, each_step, pair_step, payload_step, same_len, twice}
+use Rattle.amqp_value.proofs.NotedLemmas.{numbers_taken}
+use Rattle.amqp_value.proofs.WroteLemmas.{grows_more, each_taken, pair_taken, same_item, cons_pair, of_list, of_list_payload, of_map, of_map_payload, of_array, of_array_payload, of_described, none_each, none_pairs, none_payloads, each_step, pair_step, payload_step, same_len, twice}
 use Rattle.amqp_value.proofs.whole.writing.+write.Goals as goal
 
-pub write-returns-in-Map : goal.write-returns-in-Map
-write-returns-in-Map t c ok =
-    rw c.in-Map.is (rw (tree_of-Map c.in-Map.v) (subst (λ es. Wrote (map (pairs_trees es)) c.args.out.now.items c.write_map.new.out.items) c.as_slice.ensures (c.write_map.ensures ok)))
+pub write-returns-in-Map-clause-wrote : goal.write-returns-in-Map-clause-wrote
+write-returns-in-Map-clause-wrote t c ok =
+    rw c.in-Map.is (rw (tree_of-Map c.in-Map.v) (subst (λ es. Wrote (map (pairs_trees es)) c.args.out.now.items c.write_map.new.out.items) c.as_slice.ensures (c.write_map.ensures.wrote ok)))
 
-pub write_payload-returns-in-Map : goal.write_payload-returns-in-Map
-write_payload-returns-in-Map t c ok =
-    rw c.in-Map.is (rw (tree_of-Map c.in-Map.v) (subst (λ es. WrotePayload (map (pairs_trees es)) c.args.out.now.items c.write_wide_map.new.out.items) c.as_slice.ensures (c.write_wide_map.ensures ok)))
+pub write_payload-returns-in-Map-clause-wrote : goal.write_payload-returns-in-Map-clause-wrote
+write_payload-returns-in-Map-clause-wrote t c ok =
+    rw c.in-Map.is (rw (tree_of-Map c.in-Map.v) (subst (λ es. WrotePayload (map (pairs_trees es)) c.args.out.now.items c.write_wide_map.new.out.items) c.as_slice.ensures (c.write_wide_map.ensures.wrote ok)))
 
-pub write_list-returns : goal.write_list-returns
-write_list-returns t c ok =
+pub write_list-returns-clause-wrote : goal.write_list-returns-clause-wrote
+write_list-returns-clause-wrote t c ok =
     let put = c.if-not-put_list_header.false in
     of_list (all_of c.args.items.now) c.next-len.result _ c.args.out.now.items c.put_list_header.new.out.items c.write_items.new.out.items
-    (count-all_of c.args.items.now) (c.put_list_header.ensures.fits put) (c.put_list_header.ensures.put put) (c.write_items.ensures c.if-not-write_items.false)
+    (count-all_of c.args.items.now) (c.put_list_header.ensures.fits put) (c.put_list_header.ensures.put put) (c.write_items.ensures.wrote c.if-not-write_items.false)
     (same_len c.len.result c.len-start.result c.next-len.result _ _ ok (search rules) (search rules))
 
-pub write_wide_list-returns : goal.write_wide_list-returns
-write_wide_list-returns t c ok =
+pub write_wide_list-returns-clause-wrote : goal.write_wide_list-returns-clause-wrote
+write_wide_list-returns-clause-wrote t c ok =
     let put = c.if-not-put_wide_header.false in
     of_list_payload (all_of c.args.items.now) c.next-len.result _ c.args.out.now.items c.put_wide_header.new.out.items c.write_items.new.out.items
-    (count-all_of c.args.items.now) (c.put_wide_header.ensures.fits put) (c.put_wide_header.ensures.put put) (c.write_items.ensures c.if-not-write_items.false)
+    (count-all_of c.args.items.now) (c.put_wide_header.ensures.fits put) (c.put_wide_header.ensures.put put) (c.write_items.ensures.wrote c.if-not-write_items.false)
     (same_len c.len.result c.len-start.result c.next-len.result _ _ ok (search rules) (search rules))
 
-pub write_array-returns : goal.write_array-returns
-write_array-returns t c ok =
+pub write_array-returns-clause-wrote : goal.write_array-returns-clause-wrote
+write_array-returns-clause-wrote t c ok =
     let put = c.if-not-put_array_header.false in
     of_array (all_of c.args.items.now) c.next-len.result _ c.args.out.now.items c.put_array_header.new.out.items c.write_content.new.out.items
-    (count-all_of c.args.items.now) (c.put_array_header.ensures.fits put) (c.put_array_header.ensures.few put) (c.put_array_header.ensures.put put) (c.write_content.ensures c.if-not-write_content.false)
+    (count-all_of c.args.items.now) (c.put_array_header.ensures.fits put) (c.put_array_header.ensures.few put) (c.put_array_header.ensures.put put) (c.write_content.ensures.wrote c.if-not-write_content.false)
     (same_len c.len.result c.len-start.result c.next-len.result _ _ ok (search rules) (search rules))
 
-pub write_wide_array-returns : goal.write_wide_array-returns
-write_wide_array-returns t c ok =
+pub write_wide_array-returns-clause-wrote : goal.write_wide_array-returns-clause-wrote
+write_wide_array-returns-clause-wrote t c ok =
     let put = c.if-not-put_wide_header.false in
     of_array_payload (all_of c.args.items.now) c.next-len.result _ c.args.out.now.items c.put_wide_header.new.out.items c.write_content.new.out.items
-    (count-all_of c.args.items.now) (c.put_wide_header.ensures.fits put) (c.put_wide_header.ensures.few put) (c.put_wide_header.ensures.put put) (c.write_content.ensures c.if-not-write_content.false)
+    (count-all_of c.args.items.now) (c.put_wide_header.ensures.fits put) (c.put_wide_header.ensures.few put) (c.put_wide_header.ensures.put put) (c.write_content.ensures.wrote c.if-not-write_content.false)
     (same_len c.len.result c.len-start.result c.next-len.result _ _ ok (search rules) (search rules))
 
-pub write_map-returns : goal.write_map-returns
-write_map-returns t c ok =
+pub write_map-returns-clause-wrote : goal.write_map-returns-clause-wrote
+write_map-returns-clause-wrote t c ok =
     let put = c.if-not-put_map_header.false in
     of_map (pairs_trees c.args.pairs.now) c.next-len.result c.saturating_mul.result c.args.out.now.items c.put_map_header.new.out.items c.write_pairs.new.out.items
-    (twice c.args.pairs.now c.saturating_mul.result c.saturating_mul.ensures (c.put_map_header.ensures.few put)) (c.put_map_header.ensures.fits put) (c.put_map_header.ensures.put put) (c.write_pairs.ensures c.if-not-write_pairs.false)
+    (twice c.args.pairs.now c.saturating_mul.result c.saturating_mul.ensures (c.put_map_header.ensures.few put)) (c.put_map_header.ensures.fits put) (c.put_map_header.ensures.put put) (c.write_pairs.ensures.wrote c.if-not-write_pairs.false)
     (same_len c.len.result c.len-start.result c.next-len.result _ _ ok (search rules) (search rules))
 
-pub write_wide_map-returns : goal.write_wide_map-returns
-write_wide_map-returns t c ok =
+pub write_wide_map-returns-clause-wrote : goal.write_wide_map-returns-clause-wrote
+write_wide_map-returns-clause-wrote t c ok =
     let put = c.if-not-put_wide_header.false in
     of_map_payload (pairs_trees c.args.pairs.now) c.next-len.result c.saturating_mul.result c.args.out.now.items c.put_wide_header.new.out.items c.write_pairs.new.out.items
-    (twice c.args.pairs.now c.saturating_mul.result c.saturating_mul.ensures (c.put_wide_header.ensures.few put)) (c.put_wide_header.ensures.fits put) (c.put_wide_header.ensures.put put) (c.write_pairs.ensures c.if-not-write_pairs.false)
+    (twice c.args.pairs.now c.saturating_mul.result c.saturating_mul.ensures (c.put_wide_header.ensures.few put)) (c.put_wide_header.ensures.fits put) (c.put_wide_header.ensures.put put) (c.write_pairs.ensures.wrote c.if-not-write_pairs.false)
     (same_len c.len.result c.len-start.result c.next-len.result _ _ ok (search rules) (search rules))
 
 pub write_items-loop-item-preserved : goal.write_items-loop-item-preserved
 write_items-loop-item-preserved t c =
-    each_step c.args.items.now c.loop-item.item-index c.item-item.result c.args.out.now.items c.loop-item.out.items c.write.new.out.items c.loop-item-test.true c.item-item.is c.loop-item.invariant (c.write.ensures c.if-not-write.false)
+    let i = c.loop-item.invariant in
+    let ok = c.if-not-write.false in (
+      each_step c.args.items.now c.loop-item.item-index c.item-item.result c.args.out.now.items c.loop-item.out.items c.write.new.out.items c.loop-item-test.true c.item-item.is i.0 (c.write.ensures.wrote ok),
+      (
+        grows_more c.args.out.now c.loop-item.out c.write.new.out i.1.0 c.write.ensures.kept,
+        each_taken c.args.items.now c.loop-item.item-index c.item-item.result c.args.taken.now c.loop-item.taken c.write.new.taken c.loop-item-test.true c.item-item.is i.1.1 (c.write.ensures.taken ok),
+      ),
+    )
 
-pub write_pairs-loop-pair-preserved : goal.write_pairs-loop-pair-preserved
-write_pairs-loop-pair-preserved t c =
-    pair_step c.args.pairs.now c.loop-pair.pair-index c.pair-item.result c.args.out.now.items c.loop-pair.out.items c.write.new.out.items c.write-in-loop-pair.new.out.items c.loop-pair-test.true c.pair-item.is c.loop-pair.invariant (c.write.ensures c.if-not-write.false) (c.write-in-loop-pair.ensures c.if-not-write-2.false)
+pub write_pairs-loop-at-preserved : goal.write_pairs-loop-at-preserved
+write_pairs-loop-at-preserved t c =
+    let i = c.loop-at.invariant in
+    let e = c.index-pairs-at.result in
+    let key = c.if-not-key.false in
+    let value = c.if-not-value.false in
+    let sum : c.write_value-value.new.taken ≡ c.loop-at.taken + length (headers_of (tree_of e.0)) + length (headers_of (tree_of e.1)) =
+    let k = c.write-key.ensures.taken key in let v = c.write_value-value.ensures.taken e c.index-pairs-at.is value in omega arith in (
+      pair_step c.args.pairs.now c.loop-at.at e c.args.out.now.items c.loop-at.out.items c.write_value-value.new.out.items c.loop-at-test.true c.index-pairs-at.is i.0
+          (λ ps b rest. cons_pair (tree_of e.0) (tree_of e.1) ps c.loop-at.out.items c.write-key.new.out.items c.write_value-value.new.out.items b (c.write-key.ensures.wrote key) (c.write_value-value.ensures.wrote e c.index-pairs-at.is value) rest),
+      (
+        grows_more c.args.out.now c.write-key.new.out c.write_value-value.new.out (grows_more c.args.out.now c.loop-at.out c.write-key.new.out i.1.0 c.write-key.ensures.kept) c.write_value-value.ensures.kept,
+        pair_taken c.args.pairs.now c.loop-at.at e c.args.taken.now c.loop-at.taken c.write_value-value.new.taken c.loop-at-test.true c.index-pairs-at.is i.1.1 sum,
+      ),
+    )
 
 pub write_payloads-loop-item-preserved : goal.write_payloads-loop-item-preserved
-write_payloads-loop-item-preserved t c some =
-    let same : c.constructor_of.result ≡ c.args.code = grind (arith, nat_tests) in
-    payload_step c.args.code c.args.items.now c.loop-item.item-index c.item-item.result c.args.out.now.items c.loop-item.out.items c.write_payload.new.out.items c.loop-item-test.true c.item-item.is
-    (c.loop-item.invariant some) (subst (λ k. 0 < k → constructor (tree_of c.item-item.result) ≡ Some k) same c.constructor_of.ensures some) (c.write_payload.ensures c.if-not-write_payload.false)
+write_payloads-loop-item-preserved t c =
+    let i = c.loop-item.invariant in
+    let ok = c.if-not-write_payload.false in
+    let same : c.constructor_of.result ≡ c.args.code = grind (arith, nat_tests) in (
+      λ some. payload_step c.args.code c.args.items.now c.loop-item.item-index c.item-item.result c.args.out.now.items c.loop-item.out.items c.write_payload.new.out.items c.loop-item-test.true c.item-item.is
+          (i.0 some) (subst (λ k. 0 < k → constructor (tree_of c.item-item.result) ≡ Some k) same c.constructor_of.ensures.some some) (c.write_payload.ensures.wrote ok),
+      (
+        grows_more c.args.out.now c.loop-item.out c.write_payload.new.out i.1.0 c.write_payload.ensures.kept,
+        each_taken c.args.items.now c.loop-item.item-index c.item-item.result c.args.taken.now c.loop-item.taken c.write_payload.new.taken c.loop-item-test.true c.item-item.is i.1.1 (c.write_payload.ensures.taken ok),
+      ),
+    )
 
-pub write_items-returns : goal.write_items-returns
-write_items-returns t c ok = c.loop-item.invariant _ (rw (drop_all c.loop-item.item-index c.args.items.now c.loop-item-test.false) (none_each _))
+pub write_items-returns-clause-wrote : goal.write_items-returns-clause-wrote
+write_items-returns-clause-wrote t c ok = c.loop-item.invariant.0 _ (rw (drop_all c.loop-item.item-index c.args.items.now c.loop-item-test.false) (none_each _))
 
-pub write_pairs-returns : goal.write_pairs-returns
-write_pairs-returns t c ok = c.loop-pair.invariant _ (rw (drop_all c.loop-pair.pair-index c.args.pairs.now c.loop-pair-test.false) (none_pairs _))
+pub write_pairs-returns-clause-wrote : goal.write_pairs-returns-clause-wrote
+write_pairs-returns-clause-wrote t c ok = c.loop-at.invariant.0 _ (rw (drop_all c.loop-at.at c.args.pairs.now c.loop-at-test.false) (none_pairs _))
 
-pub write_payloads-returns : goal.write_payloads-returns
-write_payloads-returns t c ok some = c.loop-item.invariant some _ (rw (drop_all c.loop-item.item-index c.args.items.now c.loop-item-test.false) (none_payloads _ _))
+pub write_payloads-returns-clause-wrote : goal.write_payloads-returns-clause-wrote
+write_payloads-returns-clause-wrote t c ok some = c.loop-item.invariant.0 some _ (rw (drop_all c.loop-item.item-index c.args.items.now c.loop-item-test.false) (none_payloads _ _))
+
+pub write_list-returns-clause-kept : goal.write_list-returns-clause-kept
+write_list-returns-clause-kept t c = grows_more c.args.out.now c.put_list_header.new.out c.write_items.new.out c.put_list_header.ensures.kept c.write_items.ensures.kept
+
+pub write_list-returns-then-not-write_items-clause-kept : goal.write_list-returns-then-not-write_items-clause-kept
+write_list-returns-then-not-write_items-clause-kept t c = grows_more c.args.out.now c.put_list_header.new.out c.write_items.new.out c.put_list_header.ensures.kept c.write_items.ensures.kept
+
+pub write_wide_list-returns-clause-kept : goal.write_wide_list-returns-clause-kept
+write_wide_list-returns-clause-kept t c = grows_more c.args.out.now c.put_wide_header.new.out c.write_items.new.out c.put_wide_header.ensures.kept c.write_items.ensures.kept
+
+pub write_wide_list-returns-then-not-write_items-clause-kept : goal.write_wide_list-returns-then-not-write_items-clause-kept
+write_wide_list-returns-then-not-write_items-clause-kept t c = grows_more c.args.out.now c.put_wide_header.new.out c.write_items.new.out c.put_wide_header.ensures.kept c.write_items.ensures.kept
+
+pub write_array-returns-clause-kept : goal.write_array-returns-clause-kept
+write_array-returns-clause-kept t c = grows_more c.args.out.now c.put_array_header.new.out c.write_content.new.out c.put_array_header.ensures.kept c.write_content.ensures.kept
+
+pub write_array-returns-then-not-write_content-clause-kept : goal.write_array-returns-then-not-write_content-clause-kept
+write_array-returns-then-not-write_content-clause-kept t c = grows_more c.args.out.now c.put_array_header.new.out c.write_content.new.out c.put_array_header.ensures.kept c.write_content.ensures.kept
+
+pub write_wide_array-returns-clause-kept : goal.write_wide_array-returns-clause-kept
+write_wide_array-returns-clause-kept t c = grows_more c.args.out.now c.put_wide_header.new.out c.write_content.new.out c.put_wide_header.ensures.kept c.write_content.ensures.kept
+
+pub write_wide_array-returns-then-not-write_content-clause-kept : goal.write_wide_array-returns-then-not-write_content-clause-kept
+write_wide_array-returns-then-not-write_content-clause-kept t c = grows_more c.args.out.now c.put_wide_header.new.out c.write_content.new.out c.put_wide_header.ensures.kept c.write_content.ensures.kept
+
+pub write_map-returns-clause-kept : goal.write_map-returns-clause-kept
+write_map-returns-clause-kept t c = grows_more c.args.out.now c.put_map_header.new.out c.write_pairs.new.out c.put_map_header.ensures.kept c.write_pairs.ensures.kept
+
+pub write_map-returns-then-not-write_pairs-clause-kept : goal.write_map-returns-then-not-write_pairs-clause-kept
+write_map-returns-then-not-write_pairs-clause-kept t c = grows_more c.args.out.now c.put_map_header.new.out c.write_pairs.new.out c.put_map_header.ensures.kept c.write_pairs.ensures.kept
+
+pub write_wide_map-returns-clause-kept : goal.write_wide_map-returns-clause-kept
+write_wide_map-returns-clause-kept t c = grows_more c.args.out.now c.put_wide_header.new.out c.write_pairs.new.out c.put_wide_header.ensures.kept c.write_pairs.ensures.kept
+
+pub write_wide_map-returns-then-not-write_pairs-clause-kept : goal.write_wide_map-returns-then-not-write_pairs-clause-kept
+write_wide_map-returns-then-not-write_pairs-clause-kept t c = grows_more c.args.out.now c.put_wide_header.new.out c.write_pairs.new.out c.put_wide_header.ensures.kept c.write_pairs.ensures.kept
+
+pub write_pairs-returns-then-not-key-clause-kept : goal.write_pairs-returns-then-not-key-clause-kept
+write_pairs-returns-then-not-key-clause-kept t c =
+    grows_more c.args.out.now c.write-key.new.out c.write_value-value.new.out (grows_more c.args.out.now c.loop-at.out c.write-key.new.out c.loop-at.invariant.1.0 c.write-key.ensures.kept) c.write_value-value.ensures.kept
+
+pub write_pairs-returns-then-not-value-clause-kept : goal.write_pairs-returns-then-not-value-clause-kept
+write_pairs-returns-then-not-value-clause-kept t c =
+    grows_more c.args.out.now c.write-key.new.out c.write_value-value.new.out (grows_more c.args.out.now c.loop-at.out c.write-key.new.out c.loop-at.invariant.1.0 c.write-key.ensures.kept) c.write_value-value.ensures.kept
+
+pub write_described-returns-clause-wrote : goal.write_described-returns-clause-wrote
+write_described-returns-clause-wrote t c ok =
+    let put = c.if-not-put_descriptor.false in
+    of_described (descriptor_content c.args.described.now.descriptor) (tree_of c.args.described.now.value) c.args.out.now.items c.put_few.new.out.items c.put_descriptor.new.out.items c.write.new.out.items
+    (c.put_few.ensures.put c.if-not-put_few.false) (c.put_descriptor.ensures.fits put) (c.put_descriptor.ensures.put put) (c.write.ensures.wrote ok) (search rules)
+
+pub write_value-returns-clause-wrote : goal.write_value-returns-clause-wrote
+write_value-returns-clause-wrote t c e is ok =
+    let same = same_item c.args.pairs.now c.args.at c.index-pairs-at.result e c.requires c.index-pairs-at.is is in
+    subst (λ (w : Value × Value). Wrote (tree_of w.1) c.args.out.now.items c.write.new.out.items) (sym c.index-pairs-at.is ∙ same) (c.write.ensures.wrote ok)
+
+pub write_value-returns-clause-taken : goal.write_value-returns-clause-taken
+write_value-returns-clause-taken t c e is ok =
+    let same = same_item c.args.pairs.now c.args.at c.index-pairs-at.result e c.requires c.index-pairs-at.is is in
+    subst (λ (w : Value × Value). c.write.new.taken ≡ c.args.taken.now + length (headers_of (tree_of w.1))) (sym c.index-pairs-at.is ∙ same) (c.write.ensures.taken ok)
+
+pub write_elements-returns-in-112-clause-taken : goal.write_elements-returns-in-112-clause-taken
+write_elements-returns-in-112-clause-taken t c ok = numbers_taken (all_of c.args.items.now) 112 _ _ _ (c.write_numbers.ensures.wrote ok (omega arith)) (omega arith)
+
+pub write_elements-returns-in-113-clause-taken : goal.write_elements-returns-in-113-clause-taken
+write_elements-returns-in-113-clause-taken t c ok = numbers_taken (all_of c.args.items.now) 113 _ _ _ (c.write_numbers-in-113.ensures.wrote ok (omega arith)) (omega arith)
+
+pub write_elements-returns-in-128-clause-taken : goal.write_elements-returns-in-128-clause-taken
+write_elements-returns-in-128-clause-taken t c ok = numbers_taken (all_of c.args.items.now) 128 _ _ _ (c.write_numbers-in-128.ensures.wrote ok (omega arith)) (omega arith)
+
+pub write_elements-returns-in-129-clause-taken : goal.write_elements-returns-in-129-clause-taken
+write_elements-returns-in-129-clause-taken t c ok = numbers_taken (all_of c.args.items.now) 129 _ _ _ (c.write_numbers-in-129.ensures.wrote ok (omega arith)) (omega arith)
+
+pub write_elements-returns-in-130-clause-taken : goal.write_elements-returns-in-130-clause-taken
+write_elements-returns-in-130-clause-taken t c ok = numbers_taken (all_of c.args.items.now) 130 _ _ _ (c.write_numbers-in-130.ensures.wrote ok (omega arith)) (omega arith)
