@@ -4,3 +4,4 @@ pub mod Inserted
 pub mod Keys
 pub mod Lists
 pub mod LeftOut
+pub mod OtherCodes

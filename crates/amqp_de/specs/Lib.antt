@@ -8,5 +8,6 @@ pub mod Answers
 pub mod ContentTree
 pub mod Kinds
 pub mod Enums
+pub mod Composites
 pub mod Access
 pub mod Events

@@ -1,13 +1,14 @@
-//! The function that reads a composite type, whose descriptor is a number.
+//! The functions that read the fields of a type after one descriptor, a code or a name. Their laws
+//! have the descriptor itself, so they are found for any number of fields.
 
-ghost use Rattle.amqp_ser.specs.Tree.{code, described};
+ghost use Rattle.amqp_ser.specs.Tree.{code, name, described};
 ghost use Rattle.amqp_de.specs.Answers.{PartsOf, RestoresValues};
 ghost use Rattle.amqp_de.specs.Fields.{OnDescribed};
 
 use crate::content::Content;
 use crate::deserialize_error::DeserializeError;
 use crate::deserializer::Deserializer;
-use crate::record::Record;
+use crate::record::{Describes, Record};
 use crate::seed::DeserializeSeed;
 use amqp_data::Descriptor;
 use std::alloc::Global;
@@ -43,6 +44,39 @@ pub fn read_composite<T: Record, D: Deserializer, S: DeserializeSeed<Value = T::
     match deserializer.open() {
         Content::Described(Descriptor::Code(found), value) => {
             if found != wanted {
+                return Err(D::Error::invalid_value());
+            }
+            match seed.deserialize(alloc, value) {
+                Ok(parts) => Ok(parts),
+                Err(error) => Err(error),
+            }
+        }
+        _ => Err(D::Error::invalid_value()),
+    }
+}
+
+/// Reads the parts of a value whose descriptor is a symbol.
+///
+/// # Errors
+/// Returns `DeserializeError::invalid_value` if the value has another descriptor, or none;
+/// otherwise the seed's error.
+#[tactic(auto, unfolding(crate::specs::Fields::OnDescribed))]
+pub fn read_named<T: Record, D: Deserializer, S: DeserializeSeed<Value = T::Values>>(
+    alloc: Global,
+    deserializer: D,
+    wanted: &str,
+    seed: S,
+) -> Result<T::Values, D::Error>
+    ensures read { PartsOf T.parts D.Error.is_out_of_memory
+        (λ x. OnDescribed (name wanted.now) (λ t. S.reads seed t x) (D.value deserializer)) result }
+    ensures law { RestoresValues T.parts (λ v. described (name wanted.now) (S.image (T.parts v)))
+        S.restorable S.same D.Error.is_out_of_memory (D.value deserializer) result }
+    ensures short { RestoresValues T.parts (λ v. described (name wanted.now) (S.short (T.parts v)))
+        S.restorable S.same D.Error.is_out_of_memory (D.value deserializer) result }
+{
+    match deserializer.open() {
+        Content::Described(found, value) => {
+            if !wanted.is(&found) {
                 return Err(D::Error::invalid_value());
             }
             match seed.deserialize(alloc, value) {

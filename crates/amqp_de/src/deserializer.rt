@@ -5,7 +5,7 @@ ghost use Rattle.amqp_ser.specs.Tree.{Tree, scalar, null, bool};
 ghost use Rattle.amqp_value.specs.TreeOf.{tree_of};
 ghost use Rattle.amqp_de.specs.Answers.{TakesNext, TakesPair, TakesNamed};
 ghost use Rattle.amqp_de.specs.ContentTree.{content_tree};
-ghost use Rattle.amqp_de.specs.Events.{is_index};
+ghost use Rattle.amqp_de.specs.Events.{is_index, is_array_tree};
 ghost use Rattle.amqp_de.specs.Kinds.{HoldsFixed, HoldsText, HoldsElements};
 
 use crate::content::Content;
@@ -104,6 +104,13 @@ pub trait Deserializer: Sized + Drop {
     /// `true` for the uint 1 and for the symbol `a`, `false` for the ulong 1.
     fn is_index(&self) -> bool
         ensures { result ≡ is_index (value self.now) };
+
+    /// Returns `true` if and only if the value is an array.
+    ///
+    /// # Example
+    /// `true` for an array of ubytes, `false` for a list of them.
+    fn is_array(&self) -> bool
+        ensures { result ≡ is_array_tree (value self.now) };
 
     /// Opens the first level of the value.
     ///

@@ -4,6 +4,7 @@
 mod access;
 mod calls;
 mod composite;
+mod composites;
 mod content;
 pub mod de;
 mod deserialize;
@@ -14,6 +15,7 @@ mod fields;
 mod fixed_content;
 mod impls;
 pub mod laws;
+mod named_record;
 mod names;
 mod record;
 mod record_map;
@@ -24,9 +26,11 @@ mod unwritable;
 mod visitor;
 
 pub use access::{ContentOf, ElementsOf, EntriesOf, EnumAccessOf};
-pub use composite::read_composite;
+pub use composite::{read_composite, read_named};
+pub use composites::{Alternatives, Composite, read_alternatives, read_composite_type, read_no_fields};
 pub use enums::{DataVariant, Either, EnumSeed, Never, UnitVariant, Variants};
 pub use fields::{FieldSeeds, Optional, Required};
+pub use named_record::{NamedRecord, read_composite_map, read_fields_map, read_named_map};
 pub use record::{Describes, Record, read, read_described};
 pub use record_map::{read_described_map, read_map};
 pub use seed::{DeserializeSeed, ListSeed, NamedSeed, TypeSeed};
