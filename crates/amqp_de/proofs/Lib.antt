@@ -5,3 +5,4 @@ pub mod Keys
 pub mod Lists
 pub mod LeftOut
 pub mod OtherCodes
+pub mod MultipleRefused

@@ -1,6 +1,6 @@
 -- The trees that composites are read from: a described value whose descriptor is a code or a name
 -- (AMQP 1.0 part 1, sections 1.1.2 and 1.4).
-use Rattle.std.specs.Prelude.{◌≡◌, ℕ, List, Option, Some, None, ◌==◌, not, true}
+use Rattle.std.specs.Prelude.{◌≡◌, ℕ, List, ◌==◌, not, true}
 use Rattle.amqp_ser.specs.Tree.{Descriptor, name, code, Tree, described}
 use Rattle.amqp_de.specs.declared.enums.variants.Either.{Either}
 use Rattle.amqp_de.specs.declared.enums.variants.Either.TheVariants.{This, Other}
@@ -34,8 +34,3 @@ either f g (Other y) = g y
 abbrev pub RestorableAlternative : {A R : Type 0} → ℕ → (R → ℕ) → (A → Type 0) → (R → Type 0) → Either A R → Type 0
 RestorableAlternative c code_of P Q (This x) = P x
 RestorableAlternative c code_of P Q (Other y) = (not (code_of y == c) ≡ true) × Q y
-
--- The value, or another one if it is absent.
-abbrev pub value_or : {T : Type 0} → T → Option T → T
-value_or d None = d
-value_or d (Some x) = x

@@ -194,10 +194,6 @@ abbrev pub is_index : Tree → Bool
 is_index (scalar s) = is_index_scalar s
 is_index t = false
 
-abbrev pub is_array_tree : Tree → Bool
-is_array_tree (array ts) = true
-is_array_tree t = false
-
 -- The name of an enum that is read as the elements of an array, or as a format code.
 abbrev pub is_array_name : List ℕ → Bool
 is_array_name n = bytes_eq n (codes "__ARRAY")

@@ -5,8 +5,9 @@ ghost use Rattle.amqp_ser.specs.Tree.{Tree, scalar, null, bool};
 ghost use Rattle.amqp_value.specs.TreeOf.{tree_of};
 ghost use Rattle.amqp_de.specs.Answers.{TakesNext, TakesPair, TakesNamed};
 ghost use Rattle.amqp_de.specs.ContentTree.{content_tree};
-ghost use Rattle.amqp_de.specs.Events.{is_index, is_array_tree};
+ghost use Rattle.amqp_de.specs.Events.{is_index};
 ghost use Rattle.amqp_de.specs.Kinds.{HoldsFixed, HoldsText, HoldsElements};
+ghost use Rattle.amqp_de.specs.Multiple.{is_array_tree};
 
 use crate::content::Content;
 use crate::deserialize_error::DeserializeError;
@@ -60,7 +61,7 @@ use std::alloc::Global;
 /// visitor's.
 ///
 /// # Implementer notes
-/// Required methods: `alloc`, `is_null`, `is_index`, `open`, `into_value`, `next_element`,
+/// Required methods: `alloc`, `is_null`, `is_index`, `is_array`, `open`, `into_value`, `next_element`,
 /// `next_pair` and `take_named`. `open` and `into_value` return a level and a `Value` whose tree is
 /// `value`. `next_element` and `next_pair` remove the first of `items` and `pairs`; `take_named`
 /// removes the first entry with the given name.

@@ -7,6 +7,7 @@ mod holders;
 mod lazy;
 mod lists;
 mod maps;
+mod multiple;
 mod primitives;
 mod texts;
 mod tuples;

@@ -6,7 +6,7 @@ ghost use Rattle.amqp_ser.specs.Tree.{Tree};
 ghost use Rattle.amqp_round_trip.specs.FieldTrees.{FieldsStand};
 
 use crate::round_trips::RoundTrip;
-use amqp_de::{FieldSeeds, Optional, Required};
+use amqp_de::{Defaulted, FieldSeeds, Optional, Required};
 
 /// Fields whose types round-trip.
 ///
@@ -30,7 +30,7 @@ impl RoundTripFields for () {
 
 #[tactic(auto, unfolding(crate::specs::FieldTrees::FieldsStand))]
 impl<V: RoundTrip, R: RoundTripFields> RoundTripFields for Required<V, R> {
-    ghost trees = { λ x. (true, V.tree x.0) ∷ R.trees x.1 };
+    ghost trees = { λ x. (true, V.tree x.value) ∷ R.trees x.rest };
 
     fn law() {
         V::law();
@@ -40,10 +40,20 @@ impl<V: RoundTrip, R: RoundTripFields> RoundTripFields for Required<V, R> {
 
 #[tactic(auto, unfolding(crate::specs::FieldTrees::FieldsStand))]
 impl<V: RoundTrip, R: RoundTripFields> RoundTripFields for Optional<V, R> {
-    ghost trees = { λ x. (is_some x.0, optional V.tree x.0) ∷ R.trees x.1 };
+    ghost trees = { λ x. (is_some x.value, optional V.tree x.value) ∷ R.trees x.rest };
 
     fn law() {
         <Option<V> as RoundTrip>::law();
+        R::law();
+    }
+}
+
+#[tactic(auto, unfolding(crate::specs::FieldTrees::FieldsStand))]
+impl<V: RoundTrip + Copy, R: RoundTripFields> RoundTripFields for Defaulted<V, R> {
+    ghost trees = { λ x. (true, V.tree x.value) ∷ R.trees x.rest };
+
+    fn law() {
+        V::law();
         R::law();
     }
 }

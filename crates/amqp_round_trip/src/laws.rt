@@ -7,16 +7,16 @@ ghost use Rattle.amqp_ser.specs.Composites.{as_described};
 ghost use Rattle.amqp_ser.specs.Compounds.{tree_of_parts};
 ghost use Rattle.amqp_ser.specs.Marked.{with_marker};
 ghost use Rattle.amqp_ser.specs.Named.{string_key};
-ghost use Rattle.amqp_ser.specs.Tree.{Descriptor, Tree, Trees, array, list, described, trees_of};
+ghost use Rattle.amqp_ser.specs.Tree.{Descriptor, code, Tree, Trees, array, list, described, trees_of};
 ghost use Rattle.amqp_ser.specs.declared.kind.CompoundKind.TheVariants as kind;
 ghost use Rattle.amqp_ser.specs.declared.marker.Marker.TheVariants as marker;
 ghost use Rattle.amqp_value.specs.Image.{variant_map};
-ghost use Rattle.amqp_de.specs.Present.{distinct_names, short_list, short_map, up_to_last};
 ghost use Rattle.amqp_ser.specs.Words.{list_of, short_list_of, short_map_of};
-ghost use Rattle.amqp_de.specs.Present.{all_images};
+ghost use Rattle.amqp_de.specs.Present.{all_images, distinct_names, short_list, short_map, up_to_last};
 ghost use Rattle.amqp_round_trip.specs.FieldTrees.{FieldsStand, all_field_trees, with_names};
 ghost use Rattle.amqp_round_trip.specs.HasImage.{HasImage, HaveImages, FieldsHaveImages};
 
+use crate::alternatives::RoundTripAlternatives;
 use crate::fields::RoundTripFields;
 use amqp_de::{NamedRecord, Record};
 
@@ -106,4 +106,15 @@ pub fn named_fields_return<T: NamedRecord, F: RoundTripFields<Values = T::Values
 {
     T::names_are_distinct();
     F::law();
+}
+
+/// The image of one of several composites is declared for it, with the code of that composite.
+pub fn alternatives_return<T: Record>()
+where
+    T::Values: RoundTripAlternatives,
+    ensures { (x : T) → T.Values.restorable (T.parts x) →
+        HasImage (T.Values.trees (T.parts x))
+        (described (code (T.Values.code_of (T.parts x))) (T.Values.image (T.parts x))) }
+{
+    <T::Values>::law();
 }

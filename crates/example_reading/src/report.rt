@@ -78,24 +78,11 @@ type LastFields = Required<
 >;
 
 impl Record for Report {
+    ghost use Rattle.amqp_de.specs.Parts.{◌▸◌};
+
     type Values = <Fields as DeserializeSeed>::Value;
 
-    ghost parts = { λ r. (
-      r.number,
-      (
-        r.remark,
-        (
-          r.station,
-          (
-            r.observers,
-            (
-              r.readings,
-              (r.position, (r.time, (r.is_checked, (r.photograph, tt)))),
-            ),
-          ),
-        ),
-      ),
-    ) };
+    ghost parts = { λ r. r.number ▸ r.remark ▸ r.station ▸ r.observers ▸ r.readings ▸ r.position ▸ r.time ▸ r.is_checked ▸ r.photograph ▸ tt };
 }
 
 impl Deserialize for Report {

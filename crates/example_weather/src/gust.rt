@@ -46,9 +46,11 @@ impl Serialize for Gust {
 type Fields = ListSeed<Required<u32, Optional<u16, Optional<u16, ()>>>>;
 
 impl Record for Gust {
+    ghost use Rattle.amqp_de.specs.Parts.{◌▸◌};
+
     type Values = <Fields as DeserializeSeed>::Value;
 
-    ghost parts = { λ g. (g.speed, (g.from, (g.at, tt))) };
+    ghost parts = { λ g. g.speed ▸ g.from ▸ g.at ▸ tt };
 }
 
 impl Deserialize for Gust {

@@ -5,8 +5,8 @@ pub use amqp_de::de::{
     EnumAccess, FixedContent, MapAccess, Plain, SeqAccess, VariantAccess, Visit, Visitor,
 };
 pub use amqp_de::{
-    Alternatives, Composite, ContentOf, DataVariant, Describes, DeserializeSeed, Either, ElementsOf,
-    EntriesOf, EnumAccessOf, EnumSeed, FieldSeeds, ListSeed, NamedRecord, NamedSeed, Never, Optional, Record,
+    Alternatives, Composite, ContentOf, DataVariant, Defaulted, Describes, DeserializeSeed, Either, ElementsOf,
+    EntriesOf, EnumAccessOf, EnumSeed, FieldSeeds, FieldValues, ListSeed, NamedRecord, NamedSeed, Never, Optional, Record,
     Required, TypeSeed, UnitVariant, Variants, laws, named, read, read_alternatives, read_composite,
     read_composite_map, read_composite_type, read_described, read_described_map, read_fields_map,
     read_map,

@@ -1,7 +1,7 @@
 //! Sections of a message as a receiver reads them.
 
 use serde_amqp::Value;
-use serde_amqp::de::{Deserialize, Deserializer, ListSeed, Record, named, read_described, values};
+use serde_amqp::de::{Deserialize, Deserializer, FieldValues, ListSeed, Record, named, read_described, values};
 use serde_amqp::primitives::{ByteBuf, Symbol, Timestamp};
 use std::alloc::Global;
 
@@ -16,12 +16,11 @@ pub struct Header {
 }
 
 impl Record for Header {
-    type Values = (
-        Option<bool>,
-        (Option<u8>, (Option<u32>, (Option<bool>, (Option<u32>, ())))),
-    );
+    ghost use Rattle.amqp_de.specs.Parts.{◌▸◌};
 
-    ghost parts = { λ h. (h.durable, (h.priority, (h.ttl, (h.first_acquirer, (h.delivery_count, tt))))) };
+    type Values = FieldValues<Option<bool>, FieldValues<Option<u8>, FieldValues<Option<u32>, FieldValues<Option<bool>, FieldValues<Option<u32>, ()>>>>>;
+
+    ghost parts = { λ h. h.durable ▸ h.priority ▸ h.ttl ▸ h.first_acquirer ▸ h.delivery_count ▸ tt };
 }
 
 impl Deserialize for Header {
@@ -87,39 +86,11 @@ pub struct Properties {
 }
 
 impl Record for Properties {
-    type Values = (
-        Option<Value>,
-        (
-            Option<ByteBuf>,
-            (
-                Option<String>,
-                (
-                    Option<String>,
-                    (
-                        Option<String>,
-                        (
-                            Option<Value>,
-                            (
-                                Option<Symbol>,
-                                (
-                                    Option<Symbol>,
-                                    (
-                                        Option<Timestamp>,
-                                        (
-                                            Option<Timestamp>,
-                                            (Option<String>, (Option<u32>, (Option<String>, ()))),
-                                        ),
-                                    ),
-                                ),
-                            ),
-                        ),
-                    ),
-                ),
-            ),
-        ),
-    );
+    ghost use Rattle.amqp_de.specs.Parts.{◌▸◌};
 
-    ghost parts = { λ p. (p.message_id, (p.user_id, (p.to, (p.subject, (p.reply_to, (p.correlation_id, (p.content_type, (p.content_encoding, (p.absolute_expiry_time, (p.creation_time, (p.group_id, (p.group_sequence, (p.reply_to_group_id, tt))))))))))))) };
+    type Values = FieldValues<Option<Value>, FieldValues<Option<ByteBuf>, FieldValues<Option<String>, FieldValues<Option<String>, FieldValues<Option<String>, FieldValues<Option<Value>, FieldValues<Option<Symbol>, FieldValues<Option<Symbol>, FieldValues<Option<Timestamp>, FieldValues<Option<Timestamp>, FieldValues<Option<String>, FieldValues<Option<u32>, FieldValues<Option<String>, ()>>>>>>>>>>>>>;
+
+    ghost parts = { λ p. p.message_id ▸ p.user_id ▸ p.to ▸ p.subject ▸ p.reply_to ▸ p.correlation_id ▸ p.content_type ▸ p.content_encoding ▸ p.absolute_expiry_time ▸ p.creation_time ▸ p.group_id ▸ p.group_sequence ▸ p.reply_to_group_id ▸ tt };
 }
 
 impl Deserialize for Properties {

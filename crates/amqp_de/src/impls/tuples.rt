@@ -3,18 +3,20 @@
 ghost use Rattle.std.specs.Prelude.{[], ◌∷◌};
 ghost use Rattle.amqp_ser.specs.Tree.{list, trees_of};
 ghost use Rattle.amqp_de.specs.Fields.{OnFields, ReadsRequired, NoMoreFields};
+ghost use Rattle.amqp_de.specs.Parts.{◌▸◌};
 
 use crate::deserialize::Deserialize;
 use crate::deserializer::Deserializer;
+use crate::fields::FieldValues;
 use crate::record::{Record, read};
 use crate::seed::ListSeed;
 use crate::{named, values};
 use std::alloc::Global;
 
 impl<A: Deserialize> Record for (A,) {
-    type Values = (A, ());
+    type Values = FieldValues<A, ()>;
 
-    ghost parts = { λ x. (x.0, tt) };
+    ghost parts = { λ x. x.0 ▸ tt };
 }
 
 impl<A: Deserialize> Deserialize for (A,) {
@@ -33,9 +35,9 @@ impl<A: Deserialize> Deserialize for (A,) {
 }
 
 impl<A: Deserialize, B: Deserialize> Record for (A, B) {
-    type Values = (A, (B, ()));
+    type Values = FieldValues<A, FieldValues<B, ()>>;
 
-    ghost parts = { λ x. (x.0, (x.1, tt)) };
+    ghost parts = { λ x. x.0 ▸ x.1 ▸ tt };
 }
 
 impl<A: Deserialize, B: Deserialize> Deserialize for (A, B) {
@@ -58,9 +60,9 @@ impl<A: Deserialize, B: Deserialize> Deserialize for (A, B) {
 }
 
 impl<A: Deserialize, B: Deserialize, C: Deserialize> Record for (A, B, C) {
-    type Values = (A, (B, (C, ())));
+    type Values = FieldValues<A, FieldValues<B, FieldValues<C, ()>>>;
 
-    ghost parts = { λ x. (x.0, (x.1, (x.2, tt))) };
+    ghost parts = { λ x. x.0 ▸ x.1 ▸ x.2 ▸ tt };
 }
 
 impl<A: Deserialize, B: Deserialize, C: Deserialize> Deserialize for (A, B, C) {
@@ -87,9 +89,9 @@ impl<A: Deserialize, B: Deserialize, C: Deserialize> Deserialize for (A, B, C) {
 }
 
 impl<A: Deserialize, B: Deserialize, C: Deserialize, D: Deserialize> Record for (A, B, C, D) {
-    type Values = (A, (B, (C, (D, ()))));
+    type Values = FieldValues<A, FieldValues<B, FieldValues<C, FieldValues<D, ()>>>>;
 
-    ghost parts = { λ x. (x.0, (x.1, (x.2, (x.3, tt)))) };
+    ghost parts = { λ x. x.0 ▸ x.1 ▸ x.2 ▸ x.3 ▸ tt };
 }
 
 impl<A: Deserialize, B: Deserialize, C: Deserialize, D: Deserialize> Deserialize for (A, B, C, D) {

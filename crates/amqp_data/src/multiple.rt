@@ -1,0 +1,20 @@
+//! Fields that allow several values (AMQP 1.0 part 1, section 1.4).
+
+use crate::array::Array;
+
+/// The values of a field that allows several (`multiple="true"`): one value, or an array. No value
+/// is the `None` of an `Option<Multiple<T>>`.
+///
+/// # Encoding
+/// That of the value, or that of the array. An empty array is encoded as null, which means the same:
+/// Qpid Proton does not read an empty array without the constructor of its elements.
+///
+/// # Example
+/// One symbol is encoded as `a30161`, an array of two as `e00602a301610162`.
+#[derive(Debug, PartialEq, Eq, PartialOrd, Ord, Hash, Drop)]
+pub enum Multiple<T> {
+    /// One value, without an array.
+    One(T),
+    /// An array of values.
+    Many(Array<T>),
+}

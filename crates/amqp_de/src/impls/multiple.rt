@@ -1,0 +1,37 @@
+//! Fields that allow several values, which are read from one value or from an array.
+
+ghost use Rattle.std.specs.Prelude.{◌≡◌, true, false};
+ghost use Rattle.amqp_data.specs.Items.{array_items};
+ghost use Rattle.amqp_de.specs.Multiple.{is_array_tree, ReadsMultiple, multiple_image, RestorableMultiple, SameMultiple};
+
+use crate::deserialize::Deserialize;
+use crate::deserializer::Deserializer;
+use amqp_data::{Array, Multiple};
+use std::alloc::Global;
+
+#[tactic(auto, using(crate::proofs::MultipleRefused::many_refused, crate::proofs::MultipleRefused::one_refused))]
+impl<T: Deserialize> Deserialize for Multiple<T> {
+    ghost reads = { ReadsMultiple T.reads ⟦<Array<T> as Deserialize>⟧.reads };
+
+    ghost image = { multiple_image T.image ⟦<Array<T> as Deserialize>⟧.image };
+
+    ghost restorable = { RestorableMultiple T.image T.restorable ⟦<Array<T> as Deserialize>⟧.restorable };
+
+    ghost same = { SameMultiple T.same ⟦<Array<T> as Deserialize>⟧.same };
+
+    fn deserialize<D: Deserializer>(
+        alloc: Global,
+        deserializer: D,
+    ) -> Result<Multiple<T>, D::Error> {
+        if deserializer.is_array() {
+            return match Array::<T>::deserialize(alloc, deserializer) {
+                Ok(values) => Ok(Multiple::Many(values)),
+                Err(error) => Err(error),
+            };
+        }
+        match T::deserialize(alloc, deserializer) {
+            Ok(value) => Ok(Multiple::One(value)),
+            Err(error) => Err(error),
+        }
+    }
+}

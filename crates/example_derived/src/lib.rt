@@ -1,0 +1,17 @@
+//! Types whose impls `tools/derive` wrote, from one line of annotation each.
+//!
+//! For readers who want types of their own: each file has the types, with their annotations, and
+//! then the impls. Nothing of the impls was written by hand, and there are no proof files.
+#![tactic(auto)]
+
+mod choices;
+mod catalogue;
+mod item;
+mod outcome;
+mod report;
+
+pub use catalogue::{Contact, Product};
+pub use choices::{Address, Durability, Expiry, Role, Shape};
+pub use item::Item;
+pub use outcome::{Accepted, Failure, Modified, Outcome, Rejected};
+pub use report::{Position, Report};
