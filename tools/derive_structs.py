@@ -151,13 +151,14 @@ def round_trip(t):
 
 def defaults(t):
     """Methods that return the default of a field that is absent."""
-    out = []
-    for f in (f for f in t.fields if f.default):
-        value = f.default.replace("_", "")
+    out, said_by = [], []
+    for f in (f for f in t.fields if f.default and f.optional):
+        said = f"result ≡ value_or {f.default} {f.of('self.now')}"
+        said_by.append(said)
         out.append(f"    /// Returns `{f.member}`, or `{f.default}` if it is absent.\n    pub fn {f.member}_or_default(&self) -> {f.inner}\n"
-                   f"        ensures {{ result ≡ value_or {value} self.now.{f.member} }}\n    {{\n"
+                   f"        ensures {{ {said} }}\n    {{\n"
                    f"        match self.{f.member} {{\n            Some(value) => value,\n            None => {f.default},\n        }}\n    }}\n")
-    return [f"impl {t.name} {{\n" + "\n".join(out) + "}\n"] if out else []
+    return [f"impl {t.name} {{\n{uses(' '.join(said_by))}\n" + "\n".join(out) + "}\n"] if out else []
 
 
 def struct_impls(t):

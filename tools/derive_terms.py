@@ -23,7 +23,8 @@ PLACES = (
     ("amqp_ser.specs.Words", "basic_composite short_composite list_composite short_list_of list_of short_map_of map_of "
      "required_value optional_value variant_of " + " ".join(sorted(WORDS.values()))),
     ("amqp_de.specs.Fields", "OnDescribed OnFields OnNamed ReadsRequired ReadsOptional NoMoreFields"),
-    ("amqp_de.specs.Composites", "OnComposite OnAlternatives either value_or"),
+    ("amqp_de.specs.Composites", "OnComposite OnAlternatives"),
+    ("amqp_de.specs.Defaults", "ReadsDefaulted value_or"),
     ("amqp_de.specs.Enums", "OnEnum IsUnitVariant IsDataVariant IsNoVariant"),
     ("amqp_de.specs.Parts", "◌▸◌"),
     ("amqp_de.specs.Present", "short_list short_map"),
@@ -78,7 +79,7 @@ def fields_type(fields):
     """The type of the fields, as they are read."""
     of = "()"
     for f in reversed(fields):
-        of = f'{"Optional" if f.optional else "Required"}<{f.inner}, {of}>'
+        of = f"{f.seed}<{f.inner}, {of}>"
     return of
 
 
@@ -88,12 +89,15 @@ def field_rows(fields, values, short):
 
 
 def named(fields):
-    return "named! { " + ", ".join(f'"{f.name}"{"?" if f.optional else ""}' for f in fields) + " }" if fields else "()"
+    """The seeds of the fields."""
+    marks = {"Required": lambda f: "", "Optional": lambda f: "?",
+             "Defaulted": lambda f: f" = {f.default}" + ("" if f.inner == "bool" else f.inner)}
+    return "named! { " + ", ".join(f'"{f.name}"{marks[f.seed](f)}' for f in fields) + " }" if fields else "()"
 
 
 def reads_fields(fields, values, on="OnFields"):
     """Which trees are read as the values of the fields."""
-    rows = "".join(f'        {"ReadsOptional" if f.optional else "ReadsRequired"} (codes "{f.name}") '
+    rows = "".join(f'        Reads{f.seed} (codes "{f.name}") {f.default + " " if f.seed == "Defaulted" else ""}'
                    f'{member(f.inner, "Deserialize", "reads")} {value} (\n' for f, value in zip(fields, values))
     return f"{on} (\n{rows}        NoMoreFields{')' * len(fields)})"
 

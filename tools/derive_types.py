@@ -7,8 +7,8 @@ ENUM_ENCODINGS = ("described", "restricted", "scalar", "index")
 SOURCES = ("bool", "u8", "u16", "u32", "u64", "String", "Symbol")
 FLAGS = ("full", "by_name", "map_key", "no_round_trip", "write_only", "read_only")
 KEYS = ("encoding", "code", "name", "rename_all", "source", "values")
-NUMBERS = ("bool", "u8", "u16", "u32", "u64", "i8", "i16", "i32", "i64", "char")
-SCALARS = NUMBERS + ("F32Bits", "F64Bits", "Dec32", "Dec64", "Dec128", "Timestamp", "Uuid", "ByteBuf", "String", "Symbol")
+DEFAULTED = ("bool", "u8", "u16", "u32", "u64")
+SCALARS = DEFAULTED + ("i8", "i16", "i32", "i64", "char", "F32Bits", "F64Bits", "Dec32", "Dec64", "Dec128", "Timestamp", "Uuid", "ByteBuf", "String", "Symbol")
 NO_ROUND_TRIP = ("HashMap", "LazyValue")
 RESERVED = set("""data record deriving module where use mod pub package open as unfoldable abbrev axiom unfold unfolding
     ruleset mutual infix infixl infixr elim let in do""".split())
@@ -30,6 +30,11 @@ class Field:
         inner = re.fullmatch(r"Option<(.*)>", type_)
         self.optional = inner is not None
         self.inner = inner.group(1) if inner else type_
+
+    @property
+    def seed(self):
+        """The type that reads the field: Required, Optional, or Defaulted for a plain field with a default."""
+        return "Optional" if self.optional else "Defaulted" if self.default else "Required"
 
     def of(self, value):
         """The field of a value, as a term."""
@@ -198,9 +203,11 @@ def fields_of(t, text, is_tuple):
         name = said.get("name") or (RENAMES[t.rename](member) if t.rename and not is_tuple else member)
         field = Field(t.line, member, f"part{place}" if is_tuple else member, name, re.sub(r"\s+", " ", type_))
         if "default" in said or flags:
-            if field.inner not in NUMBERS:
-                raise Wrong(t.line, f"{t.name}.{member}: default is for a number, a bool or an Option of one")
-            field.default = said.get("default", "false" if field.inner == "bool" else "0")
+            if field.inner not in DEFAULTED:
+                raise Wrong(t.line, f"{t.name}.{member}: default is for {', '.join(DEFAULTED)} or an Option of one")
+            field.default = said.get("default", "false" if field.inner == "bool" else "0").replace("_", "")
+            if not re.fullmatch("true|false" if field.inner == "bool" else r"\d+", field.default):
+                raise Wrong(t.line, f"{t.name}.{member}: default = {said['default']} is no {field.inner}")
         fields.append(field)
     return fields
 
@@ -237,8 +244,6 @@ def check(t):
     for f in t.fields + [f for v in t.variants for f in v.fields]:
         if t.round_trips and any(re.search(rf"\b{name}\b", f.type) for name in NO_ROUND_TRIP):
             raise Wrong(line, f"{n}: {f.type} does not round-trip: add no_round_trip")
-        if f.default and not f.optional:
-            raise Wrong(line, f"{n}.{f.member}: a field with a default is an Option")
 
 
 def types_of(text):

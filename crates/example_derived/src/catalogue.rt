@@ -25,9 +25,6 @@ pub struct Contact {
 }
 
 // amqp: the impls below are written by tools/derive from the annotations above
-ghost use Rattle.std.specs.Prelude.{◌≡◌, true, false};
-ghost use Rattle.amqp_de.specs.Composites.{value_or};
-
 use serde_amqp::derive::{Deserialize, Deserializer, FieldSeeds, FieldValues, Global, MapOf, NamedRecord, Optional, Record, Required, RoundTrip, Serialize, SerializeCompounds, Serializer, fields, laws, named, read_composite_map, read_fields_map};
 
 impl Serialize for Product {
@@ -116,6 +113,9 @@ impl RoundTrip for Product {
 }
 
 impl Product {
+    ghost use Rattle.std.specs.Prelude.{◌≡◌};
+    ghost use Rattle.amqp_de.specs.Defaults.{value_or};
+
     /// Returns `size`, or `1` if it is absent.
     pub fn size_or_default(&self) -> u64
         ensures { result ≡ value_or 1 self.now.size }

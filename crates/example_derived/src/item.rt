@@ -20,6 +20,7 @@ pub struct Item {
     pub place: Option<String>,
     pub sold: bool,
     pub price: u64,
+    // amqp: default = 20
     pub tax: u16,
     pub stock: u32,
     pub rating: Option<u8>,
@@ -29,7 +30,7 @@ pub struct Item {
 }
 
 // amqp: the impls below are written by tools/derive from the annotations above
-use serde_amqp::derive::{Deserialize, DeserializeSeed, Deserializer, FieldSeeds, FieldValues, Global, ListOf, ListSeed, Name, Optional, Record, Required, RoundTrip, Serialize, SerializeCompounds, Serializer, fields, laws, named, read_named};
+use serde_amqp::derive::{Defaulted, Deserialize, DeserializeSeed, Deserializer, FieldSeeds, FieldValues, Global, ListOf, ListSeed, Name, Optional, Record, Required, RoundTrip, Serialize, SerializeCompounds, Serializer, fields, laws, named, read_named};
 
 impl Serialize for Item {
     ghost use Rattle.std.specs.Prelude.{[], ◌∷◌, codes};
@@ -86,7 +87,7 @@ impl Serialize for Item {
 }
 
 /// The fields of [`Item`], as they are read.
-type ItemFields = Required<Uuid, Required<String, Required<Symbol, Required<Timestamp, Required<u64, Required<u32, Required<u32, Optional<u32, Optional<u32, Optional<String, Optional<String, Optional<String, Required<bool, Required<u64, Required<u16, Required<u32, Optional<u8, Optional<u32, Optional<Multiple<Symbol>, Optional<String, ()>>>>>>>>>>>>>>>>>>>>;
+type ItemFields = Required<Uuid, Required<String, Required<Symbol, Required<Timestamp, Required<u64, Required<u32, Required<u32, Optional<u32, Optional<u32, Optional<String, Optional<String, Optional<String, Required<bool, Required<u64, Defaulted<u16, Required<u32, Optional<u8, Optional<u32, Optional<Multiple<Symbol>, Optional<String, ()>>>>>>>>>>>>>>>>>>>>;
 
 impl Record for Item {
     ghost use Rattle.amqp_de.specs.Parts.{◌▸◌};
@@ -100,6 +101,7 @@ impl Deserialize for Item {
     ghost use Rattle.std.specs.Prelude.{codes};
     ghost use Rattle.amqp_ser.specs.Tree.{name, described};
     ghost use Rattle.amqp_de.specs.Fields.{OnDescribed, OnFields, ReadsRequired, ReadsOptional, NoMoreFields};
+    ghost use Rattle.amqp_de.specs.Defaults.{ReadsDefaulted};
 
     ghost reads = { λ t x. OnDescribed (name (codes "shop:item")) (OnFields (
         ReadsRequired (codes "id") ⟦<Uuid as Deserialize>⟧.reads x.id (
@@ -116,7 +118,7 @@ impl Deserialize for Item {
         ReadsOptional (codes "place") ⟦<String as Deserialize>⟧.reads x.place (
         ReadsRequired (codes "sold") ⟦<bool as Deserialize>⟧.reads x.sold (
         ReadsRequired (codes "price") ⟦<u64 as Deserialize>⟧.reads x.price (
-        ReadsRequired (codes "tax") ⟦<u16 as Deserialize>⟧.reads x.tax (
+        ReadsDefaulted (codes "tax") 20 ⟦<u16 as Deserialize>⟧.reads x.tax (
         ReadsRequired (codes "stock") ⟦<u32 as Deserialize>⟧.reads x.stock (
         ReadsOptional (codes "rating") ⟦<u8 as Deserialize>⟧.reads x.rating (
         ReadsOptional (codes "votes") ⟦<u32 as Deserialize>⟧.reads x.votes (
@@ -131,7 +133,7 @@ impl Deserialize for Item {
     ghost same = { λ x y. ⟦<ListSeed<ItemFields> as DeserializeSeed>⟧.same (⟦<Item as Record>⟧.parts x) (⟦<Item as Record>⟧.parts y) };
 
     fn deserialize<D: Deserializer>(alloc: Global, deserializer: D) -> Result<Item, D::Error> {
-        let FieldValues { value: id, rest } = read_named::<Item, D, _>(alloc, deserializer, "shop:item", ListSeed(named! { "id", "title", "kind", "made", "size", "width", "height", "depth"?, "weight"?, "colour"?, "maker"?, "place"?, "sold", "price", "tax", "stock", "rating"?, "votes"?, "labels"?, "note"? }))?;
+        let FieldValues { value: id, rest } = read_named::<Item, D, _>(alloc, deserializer, "shop:item", ListSeed(named! { "id", "title", "kind", "made", "size", "width", "height", "depth"?, "weight"?, "colour"?, "maker"?, "place"?, "sold", "price", "tax" = 20u16, "stock", "rating"?, "votes"?, "labels"?, "note"? }))?;
         let FieldValues { value: title, rest } = rest;
         let FieldValues { value: kind, rest } = rest;
         let FieldValues { value: made, rest } = rest;

@@ -30,9 +30,6 @@ pub struct Report {
 }
 
 // amqp: the impls below are written by tools/derive from the annotations above
-ghost use Rattle.std.specs.Prelude.{◌≡◌, true, false};
-ghost use Rattle.amqp_de.specs.Composites.{value_or};
-
 use serde_amqp::derive::{Composite, Deserialize, DeserializeSeed, Deserializer, FieldSeeds, FieldValues, Global, ListOf, ListSeed, Optional, Record, Required, RoundTrip, RoundTripComposite, Serialize, SerializeCompounds, Serializer, fields, laws, named, read, read_composite_type};
 
 impl Serialize for Position {
@@ -218,6 +215,9 @@ impl RoundTrip for Report {
 }
 
 impl Report {
+    ghost use Rattle.std.specs.Prelude.{◌≡◌, false};
+    ghost use Rattle.amqp_de.specs.Defaults.{value_or};
+
     /// Returns `is_checked`, or `false` if it is absent.
     pub fn is_checked_or_default(&self) -> bool
         ensures { result ≡ value_or false self.now.is_checked }
