@@ -163,7 +163,7 @@ def index(t):
             return f'serializer.serialize_unit_variant("{t.name}", {at}, "{v.name}")'
         if v.kind == "newtype":
             return f'serializer.serialize_newtype_variant("{t.name}", {at}, "{v.name}", {v.fields[0].var})'
-        return f"VariantOf({at}, fields! {{\n{field_rows(v.fields, [f.var for f in v.fields], False)}        }}).serialize(serializer)"
+        return f"VariantOf({at}, {field_rows(v.fields, [f.var for f in v.fields], False, ' ' * 16)}).serialize(serializer)"
 
     seeds, values, reads = "()", [], "IsNoVariant"
     for at, v in reversed(list(enumerate(t.variants))):

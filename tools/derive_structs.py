@@ -21,9 +21,8 @@ def serialize(t):
             tree = f'{"short_composite" if t.short else "list_composite"} {described} {body}'
         else:
             tree = f"as_described (Some {described}) ({word} {body})" if described else f"{word} {body}"
-        rows = field_rows(t.fields, [f"&self.{f.member}" for f in t.fields], t.short)
-        rows = f"{{\n{rows}        }}" if rows else "{}"
-        body = f'{"MapOf" if t.encoding == "map" else "ListOf"}(fields! {rows})'
+        rows = field_rows(t.fields, [f"&self.{f.member}" for f in t.fields], t.short, " " * (12 if described else 8))
+        body = f'{"MapOf" if t.encoding == "map" else "ListOf"}({rows})'
     said = f"&{t.code}u64" if t.code else f'&Name("{t.symbol}")'
     if t.encoding == "basic":
         call = f"serializer.serialize_described({said}, {body})"

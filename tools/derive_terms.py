@@ -83,9 +83,10 @@ def fields_type(fields):
     return of
 
 
-def field_rows(fields, values, short):
-    """The rows of `fields!`."""
-    return "".join(f'            "{f.name}"{"?" if f.optional and short else ""}: {value},\n' for f, value in zip(fields, values))
+def field_rows(fields, values, short, indent):
+    """`fields!` with a row for each field."""
+    rows = "".join(f'{indent}    "{f.name}"{"?" if f.optional and short else ""}: {value},\n' for f, value in zip(fields, values))
+    return f"fields! {{\n{rows}{indent}}}" if rows else "fields! {}"
 
 
 def named(fields):
@@ -97,9 +98,10 @@ def named(fields):
 
 def reads_fields(fields, values, on="OnFields"):
     """Which trees are read as the values of the fields."""
-    rows = "".join(f'        Reads{f.seed} (codes "{f.name}") {f.default + " " if f.seed == "Defaulted" else ""}'
-                   f'{member(f.inner, "Deserialize", "reads")} {value} (\n' for f, value in zip(fields, values))
-    return f"{on} (\n{rows}        NoMoreFields{')' * len(fields)})"
+    rows = [f'Reads{f.seed} (codes "{f.name}") {f.default + " " if f.seed == "Defaulted" else ""}'
+            f'{member(f.inner, "Deserialize", "reads")} {value}' for f, value in zip(fields, values)]
+    rows = " (\n        ".join(rows) + "\n        " if rows else ""
+    return f"{on} (\n        {rows}NoMoreFields{')' * max(len(fields), 1)}" if rows else f"{on} NoMoreFields"
 
 
 def field_trees(fields, values, short):

@@ -19,12 +19,14 @@ no_one P Q t a h (Many xs) r = true≢false (sym r.0 ∙ a)
 
 pub many_refused : {T E : Type 0} (Memory : E → Type 0) (P : Tree → T → Type 0) (Q : Tree → Array T → Type 0) (t : Tree) (e : E) → is_array_tree t ≡ true →
     Refuses Memory (Q t) e → Refuses Memory (ReadsMultiple P Q t) e
-many_refused Memory P Q t e a h = elim h as (λ _. Refuses Memory (ReadsMultiple P Q t) e)
-    [ inl m ↦ inl m
-    | inr f ↦ inr (no_many P Q t a f) ]
+many_refused Memory P Q t e a h = elim h as (λ _. Refuses Memory (ReadsMultiple P Q t) e) [
+  | inl m ↦ inl m
+  | inr f ↦ inr (no_many P Q t a f)
+]
 
 pub one_refused : {T E : Type 0} (Memory : E → Type 0) (P : Tree → T → Type 0) (Q : Tree → Array T → Type 0) (t : Tree) (e : E) → is_array_tree t ≡ false →
     Refuses Memory (P t) e → Refuses Memory (ReadsMultiple P Q t) e
-one_refused Memory P Q t e a h = elim h as (λ _. Refuses Memory (ReadsMultiple P Q t) e)
-    [ inl m ↦ inl m
-    | inr f ↦ inr (no_one P Q t a f) ]
+one_refused Memory P Q t e a h = elim h as (λ _. Refuses Memory (ReadsMultiple P Q t) e) [
+  | inl m ↦ inl m
+  | inr f ↦ inr (no_one P Q t a f)
+]

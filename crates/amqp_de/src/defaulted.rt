@@ -84,7 +84,10 @@ impl<V: Deserialize + Copy, R: FieldSeeds> FieldSeeds for Defaulted<V, R> {
             }
             None => {
                 let rest = self.rest.read_entries::<D>(alloc, entries)?;
-                Ok(FieldValues { value: self.default, rest })
+                Ok(FieldValues {
+                    value: self.default,
+                    rest,
+                })
             }
         }
     }

@@ -28,7 +28,9 @@ mod visitor;
 
 pub use access::{ContentOf, ElementsOf, EntriesOf, EnumAccessOf};
 pub use composite::{read_composite, read_named};
-pub use composites::{Alternatives, Composite, read_alternatives, read_composite_type, read_no_fields};
+pub use composites::{
+    Alternatives, Composite, read_alternatives, read_composite_type, read_no_fields,
+};
 pub use defaulted::Defaulted;
 pub use enums::{DataVariant, Either, EnumSeed, Never, UnitVariant, Variants};
 pub use fields::{FieldSeeds, FieldValues, Optional, Required};

@@ -25,7 +25,11 @@ pub struct Contact {
 }
 
 // amqp: the impls below are written by tools/derive from the annotations above
-use serde_amqp::derive::{Deserialize, Deserializer, FieldSeeds, FieldValues, Global, MapOf, NamedRecord, Optional, Record, Required, RoundTrip, Serialize, SerializeCompounds, Serializer, fields, laws, named, read_composite_map, read_fields_map};
+use serde_amqp::derive::{
+    Deserialize, Deserializer, FieldSeeds, FieldValues, Global, MapOf, NamedRecord, Optional,
+    Record, Required, RoundTrip, Serialize, SerializeCompounds, Serializer, fields, laws, named,
+    read_composite_map, read_fields_map,
+};
 
 impl Serialize for Product {
     ghost use Rattle.std.specs.Prelude.{Some, [], ◌∷◌, codes};
@@ -43,19 +47,28 @@ impl Serialize for Product {
         ∷ [])) };
 
     fn serialize<S: Serializer>(&self, serializer: &mut S) -> Result<S::Ok, S::Error> {
-        serializer.serialize_described(&0x15u64, &MapOf(fields! {
-            "product-name": &self.product_name,
-            "version"?: &self.version,
-            "platform"?: &self.platform,
-            "number": &self.count,
-            "notes"?: &self.notes,
-            "size"?: &self.size,
-        }))
+        serializer.serialize_described(
+            &0x15u64,
+            &MapOf(fields! {
+                "product-name": &self.product_name,
+                "version"?: &self.version,
+                "platform"?: &self.platform,
+                "number": &self.count,
+                "notes"?: &self.notes,
+                "size"?: &self.size,
+            }),
+        )
     }
 }
 
 /// The fields of [`Product`], as they are read.
-type ProductFields = Required<String, Optional<String, Optional<Symbol, Required<u32, Optional<OrderedMap<Symbol, u32>, Optional<u64, ()>>>>>>;
+type ProductFields = Required<
+    String,
+    Optional<
+        String,
+        Optional<Symbol, Required<u32, Optional<OrderedMap<Symbol, u32>, Optional<u64, ()>>>>,
+    >,
+>;
 
 impl Record for Product {
     ghost use Rattle.amqp_de.specs.Parts.{◌▸◌};
@@ -85,8 +98,8 @@ impl Deserialize for Product {
         ReadsOptional (codes "platform") ⟦<Symbol as Deserialize>⟧.reads x.platform (
         ReadsRequired (codes "number") ⟦<u32 as Deserialize>⟧.reads x.count (
         ReadsOptional (codes "notes") ⟦<OrderedMap<Symbol, u32> as Deserialize>⟧.reads x.notes (
-        ReadsOptional (codes "size") ⟦<u64 as Deserialize>⟧.reads x.size (
-        NoMoreFields)))))))) t };
+        ReadsOptional (codes "size") ⟦<u64 as Deserialize>⟧.reads x.size
+        NoMoreFields))))))) t };
 
     ghost image = { λ x. described (code 0x15) (short_map ⟦<Product as NamedRecord>⟧.names (⟦<ProductFields as FieldSeeds>⟧.images (⟦<Product as Record>⟧.parts x))) };
 
@@ -95,13 +108,37 @@ impl Deserialize for Product {
     ghost same = { λ x y. ⟦<ProductFields as FieldSeeds>⟧.same (⟦<Product as Record>⟧.parts x) (⟦<Product as Record>⟧.parts y) };
 
     fn deserialize<D: Deserializer>(alloc: Global, deserializer: D) -> Result<Product, D::Error> {
-        let FieldValues { value: product_name, rest } = read_composite_map::<Product, D, _>(alloc, deserializer, 0x15u64, named! { "product-name", "version"?, "platform"?, "number", "notes"?, "size"? })?;
-        let FieldValues { value: version, rest } = rest;
-        let FieldValues { value: platform, rest } = rest;
+        let FieldValues {
+            value: product_name,
+            rest,
+        } = read_composite_map::<Product, D, _>(
+            alloc,
+            deserializer,
+            0x15u64,
+            named! { "product-name", "version"?, "platform"?, "number", "notes"?, "size"? },
+        )?;
+        let FieldValues {
+            value: version,
+            rest,
+        } = rest;
+        let FieldValues {
+            value: platform,
+            rest,
+        } = rest;
         let FieldValues { value: count, rest } = rest;
         let FieldValues { value: notes, rest } = rest;
-        let FieldValues { value: size, rest: () } = rest;
-        Ok(Product { product_name, version, platform, count, notes, size })
+        let FieldValues {
+            value: size,
+            rest: (),
+        } = rest;
+        Ok(Product {
+            product_name,
+            version,
+            platform,
+            count,
+            notes,
+            size,
+        })
     }
 }
 
@@ -140,7 +177,8 @@ impl Serialize for Contact {
         MapOf(fields! {
             "name": &self.name,
             "telephone"?: &self.telephone,
-        }).serialize(serializer)
+        })
+        .serialize(serializer)
     }
 }
 
@@ -170,8 +208,8 @@ impl Deserialize for Contact {
 
     ghost reads = { λ t x. (OnNamed (
         ReadsRequired (codes "name") ⟦<String as Deserialize>⟧.reads x.name (
-        ReadsOptional (codes "telephone") ⟦<String as Deserialize>⟧.reads x.telephone (
-        NoMoreFields)))) t };
+        ReadsOptional (codes "telephone") ⟦<String as Deserialize>⟧.reads x.telephone
+        NoMoreFields))) t };
 
     ghost image = { λ x. short_map ⟦<Contact as NamedRecord>⟧.names (⟦<ContactFields as FieldSeeds>⟧.images (⟦<Contact as Record>⟧.parts x)) };
 
@@ -180,8 +218,15 @@ impl Deserialize for Contact {
     ghost same = { λ x y. ⟦<ContactFields as FieldSeeds>⟧.same (⟦<Contact as Record>⟧.parts x) (⟦<Contact as Record>⟧.parts y) };
 
     fn deserialize<D: Deserializer>(alloc: Global, deserializer: D) -> Result<Contact, D::Error> {
-        let FieldValues { value: name, rest } = read_fields_map::<Contact, D, _>(alloc, deserializer, named! { "name", "telephone"? })?;
-        let FieldValues { value: telephone, rest: () } = rest;
+        let FieldValues { value: name, rest } = read_fields_map::<Contact, D, _>(
+            alloc,
+            deserializer,
+            named! { "name", "telephone"? },
+        )?;
+        let FieldValues {
+            value: telephone,
+            rest: (),
+        } = rest;
         Ok(Contact { name, telephone })
     }
 }

@@ -44,11 +44,19 @@ pub enum Shape {
     Point,
     Circle(u32),
     Box(u16, u16),
-    Label { text: String, colour: Option<Symbol> },
+    Label {
+        text: String,
+        colour: Option<Symbol>,
+    },
 }
 
 // amqp: the impls below are written by tools/derive from the annotations above
-use serde_amqp::derive::{Content, DataVariant, Deserialize, DeserializeError, DeserializeSeed, Deserializer, Either, EnumSeed, FieldValues, FixedContent, Global, ListSeed, MapKey, Name, Optional, Record, Required, RoundTrip, Serialize, SerializeCompounds, SerializeScalars, Serializer, TypeSeed, UnitVariant, VariantOf, fields, laws, named, read, variants};
+use serde_amqp::derive::{
+    Content, DataVariant, Deserialize, DeserializeError, DeserializeSeed, Deserializer, Either,
+    EnumSeed, FieldValues, FixedContent, Global, ListSeed, MapKey, Name, Optional, Record,
+    Required, RoundTrip, Serialize, SerializeCompounds, SerializeScalars, Serializer, TypeSeed,
+    UnitVariant, VariantOf, fields, laws, named, read, variants,
+};
 
 impl Serialize for Role {
     ghost use Rattle.std.specs.Prelude.{Some, Bool, true, false};
@@ -122,7 +130,10 @@ impl Deserialize for Durability {
 
     ghost same = { λ x y. x ≡ y };
 
-    fn deserialize<D: Deserializer>(_alloc: Global, deserializer: D) -> Result<Durability, D::Error> {
+    fn deserialize<D: Deserializer>(
+        _alloc: Global,
+        deserializer: D,
+    ) -> Result<Durability, D::Error> {
         match deserializer.into_fixed() {
             FixedContent::Uint(0) => Ok(Durability::None),
             FixedContent::Uint(1) => Ok(Durability::Configuration),
@@ -261,37 +272,69 @@ impl Serialize for Shape {
     ghost use Rattle.amqp_ser.specs.declared.kind.CompoundKind.TheVariants as kind;
     ghost use Rattle.example_derived.specs.declared.choices.Shape.TheVariants as variant;
 
-    ghost tree = { λ x. elim x as (λ _. Option Tree) [ variant.Point ↦ of_u32 0 | variant.Circle v0 ↦ tree_of_parts (kind.NewtypeVariant 1) (of_u32 v0 ∷ []) | variant.Box v0 v1 ↦ variant_of 2 (of_u16 v0
-        ∷ of_u16 v1
-        ∷ []) | variant.Label v0 v1 ↦ variant_of 3 (of_string v0
-        ∷ optional of_symbol v1
-        ∷ []) ] };
+    ghost tree = { λ x. elim x as (λ _. Option Tree) [
+      | variant.Point ↦ of_u32 0
+      | variant.Circle v0 ↦ tree_of_parts (kind.NewtypeVariant 1) (of_u32 v0 ∷ [])
+      | variant.Box v0 v1 ↦ variant_of 2 (of_u16 v0
+          ∷ of_u16 v1
+          ∷ [])
+      | variant.Label v0 v1 ↦ variant_of 3 (of_string v0
+          ∷ optional of_symbol v1
+          ∷ [])
+    ] };
 
     fn serialize<S: Serializer>(&self, serializer: &mut S) -> Result<S::Ok, S::Error> {
         match self {
             Shape::Point => serializer.serialize_unit_variant("Shape", 0, "Point"),
-            Shape::Circle(part0) => serializer.serialize_newtype_variant("Shape", 1, "Circle", part0),
-            Shape::Box(part0, part1) => VariantOf(2, fields! {
-            "0": part0,
-            "1": part1,
-        }).serialize(serializer),
-            Shape::Label { text, colour } => VariantOf(3, fields! {
-            "text": text,
-            "colour": colour,
-        }).serialize(serializer),
+            Shape::Circle(part0) => serializer.serialize_newtype_variant(
+                "Shape", 1, "Circle", part0,
+            ),
+            Shape::Box(part0, part1) => VariantOf(
+                2,
+                fields! {
+                    "0": part0,
+                    "1": part1,
+                },
+            )
+            .serialize(serializer),
+            Shape::Label { text, colour } => VariantOf(
+                3,
+                fields! {
+                    "text": text,
+                    "colour": colour,
+                },
+            )
+            .serialize(serializer),
         }
     }
 }
 
 /// The variants of [`Shape`], as they are read.
-type ShapeVariants = UnitVariant<DataVariant<TypeSeed<u32>, DataVariant<ListSeed<Required<u16, Required<u16, ()>>>, DataVariant<ListSeed<Required<String, Optional<Symbol, ()>>>, ()>>>>;
+type ShapeVariants = UnitVariant<
+    DataVariant<
+        TypeSeed<u32>,
+        DataVariant<
+            ListSeed<Required<u16, Required<u16, ()>>>,
+            DataVariant<ListSeed<Required<String, Optional<Symbol, ()>>>, ()>,
+        >,
+    >,
+>;
 
 impl Record for Shape {
     ghost use Rattle.amqp_de.specs.Parts.{◌▸◌};
     ghost use Rattle.amqp_de.specs.declared.enums.variants.Either.TheVariants.{This, Other};
     ghost use Rattle.example_derived.specs.declared.choices.Shape.TheVariants as variant;
 
-    type Values = Either<(), Either<u32, Either<<Required<u16, Required<u16, ()>> as FieldSeeds>::Values, Either<<Required<String, Optional<Symbol, ()>> as FieldSeeds>::Values, Never>>>>;
+    type Values = Either<
+        (),
+        Either<
+            u32,
+            Either<
+                <Required<u16, Required<u16, ()>> as FieldSeeds>::Values,
+                Either<<Required<String, Optional<Symbol, ()>> as FieldSeeds>::Values, Never>,
+            >,
+        >,
+    >;
 
     ghost parts = { λ x. elim x as (λ _. _) [ variant.Point ↦ This tt | variant.Circle v0 ↦ Other (This v0) | variant.Box v0 v1 ↦ Other (Other (This (v0 ▸ v1 ▸ tt))) | variant.Label v0 v1 ↦ Other (Other (Other (This (v0 ▸ v1 ▸ tt)))) ] };
 }
@@ -306,12 +349,12 @@ impl Deserialize for Shape {
         IsDataVariant ⟦<u32 as Deserialize>⟧.reads (
         IsDataVariant (λ u y. OnFields (
         ReadsRequired (codes "0") ⟦<u16 as Deserialize>⟧.reads y.value (
-        ReadsRequired (codes "1") ⟦<u16 as Deserialize>⟧.reads y.rest.value (
-        NoMoreFields))) u) (
+        ReadsRequired (codes "1") ⟦<u16 as Deserialize>⟧.reads y.rest.value
+        NoMoreFields)) u) (
         IsDataVariant (λ u y. OnFields (
         ReadsRequired (codes "text") ⟦<String as Deserialize>⟧.reads y.value (
-        ReadsOptional (codes "colour") ⟦<Symbol as Deserialize>⟧.reads y.rest.value (
-        NoMoreFields))) u) (
+        ReadsOptional (codes "colour") ⟦<Symbol as Deserialize>⟧.reads y.rest.value
+        NoMoreFields)) u) (
         IsNoVariant))))) t (⟦<Shape as Record>⟧.parts x) };
 
     ghost image = { λ x. ⟦<EnumSeed<ShapeVariants> as DeserializeSeed>⟧.image (⟦<Shape as Record>⟧.parts x) };
@@ -321,17 +364,29 @@ impl Deserialize for Shape {
     ghost same = { λ x y. ⟦<EnumSeed<ShapeVariants> as DeserializeSeed>⟧.same (⟦<Shape as Record>⟧.parts x) (⟦<Shape as Record>⟧.parts y) };
 
     fn deserialize<D: Deserializer>(alloc: Global, deserializer: D) -> Result<Shape, D::Error> {
-        match read::<Shape, D, _>(alloc, deserializer, EnumSeed(variants! { unit, newtype, named! { "0", "1" }, named! { "text", "colour"? } }))? {
+        match read::<Shape, D, _>(
+            alloc,
+            deserializer,
+            EnumSeed(
+                variants! { unit, newtype, named! { "0", "1" }, named! { "text", "colour"? } },
+            ),
+        )? {
             Either::This(()) => Ok(Shape::Point),
             Either::Other(Either::This(value)) => Ok(Shape::Circle(value)),
             Either::Other(Either::Other(Either::This(values))) => {
                 let FieldValues { value: part0, rest } = values;
-                let FieldValues { value: part1, rest: () } = rest;
+                let FieldValues {
+                    value: part1,
+                    rest: (),
+                } = rest;
                 Ok(Shape::Box(part0, part1))
             }
             Either::Other(Either::Other(Either::Other(Either::This(values)))) => {
                 let FieldValues { value: text, rest } = values;
-                let FieldValues { value: colour, rest: () } = rest;
+                let FieldValues {
+                    value: colour,
+                    rest: (),
+                } = rest;
                 Ok(Shape::Label { text, colour })
             }
             Either::Other(Either::Other(Either::Other(Either::Other(never)))) => match never {},

@@ -30,7 +30,11 @@ pub struct Item {
 }
 
 // amqp: the impls below are written by tools/derive from the annotations above
-use serde_amqp::derive::{Defaulted, Deserialize, DeserializeSeed, Deserializer, FieldSeeds, FieldValues, Global, ListOf, ListSeed, Name, Optional, Record, Required, RoundTrip, Serialize, SerializeCompounds, Serializer, fields, laws, named, read_named};
+use serde_amqp::derive::{
+    Defaulted, Deserialize, DeserializeSeed, Deserializer, FieldSeeds, FieldValues, Global, ListOf,
+    ListSeed, Name, Optional, Record, Required, RoundTrip, Serialize, SerializeCompounds,
+    Serializer, fields, laws, named, read_named,
+};
 
 impl Serialize for Item {
     ghost use Rattle.std.specs.Prelude.{[], ◌∷◌, codes};
@@ -61,33 +65,93 @@ impl Serialize for Item {
         ∷ []) };
 
     fn serialize<S: Serializer>(&self, serializer: &mut S) -> Result<S::Ok, S::Error> {
-        serializer.serialize_described(&Name("shop:item"), &ListOf(fields! {
-            "id": &self.id,
-            "title": &self.title,
-            "kind": &self.kind,
-            "made": &self.made,
-            "size": &self.size,
-            "width": &self.width,
-            "height": &self.height,
-            "depth"?: &self.depth,
-            "weight"?: &self.weight,
-            "colour"?: &self.colour,
-            "maker"?: &self.maker,
-            "place"?: &self.place,
-            "sold": &self.sold,
-            "price": &self.price,
-            "tax": &self.tax,
-            "stock": &self.stock,
-            "rating"?: &self.rating,
-            "votes"?: &self.votes,
-            "labels"?: &self.labels,
-            "note"?: &self.note,
-        }))
+        serializer.serialize_described(
+            &Name("shop:item"),
+            &ListOf(fields! {
+                "id": &self.id,
+                "title": &self.title,
+                "kind": &self.kind,
+                "made": &self.made,
+                "size": &self.size,
+                "width": &self.width,
+                "height": &self.height,
+                "depth"?: &self.depth,
+                "weight"?: &self.weight,
+                "colour"?: &self.colour,
+                "maker"?: &self.maker,
+                "place"?: &self.place,
+                "sold": &self.sold,
+                "price": &self.price,
+                "tax": &self.tax,
+                "stock": &self.stock,
+                "rating"?: &self.rating,
+                "votes"?: &self.votes,
+                "labels"?: &self.labels,
+                "note"?: &self.note,
+            }),
+        )
     }
 }
 
 /// The fields of [`Item`], as they are read.
-type ItemFields = Required<Uuid, Required<String, Required<Symbol, Required<Timestamp, Required<u64, Required<u32, Required<u32, Optional<u32, Optional<u32, Optional<String, Optional<String, Optional<String, Required<bool, Required<u64, Defaulted<u16, Required<u32, Optional<u8, Optional<u32, Optional<Multiple<Symbol>, Optional<String, ()>>>>>>>>>>>>>>>>>>>>;
+type ItemFields = Required<
+    Uuid,
+    Required<
+        String,
+        Required<
+            Symbol,
+            Required<
+                Timestamp,
+                Required<
+                    u64,
+                    Required<
+                        u32,
+                        Required<
+                            u32,
+                            Optional<
+                                u32,
+                                Optional<
+                                    u32,
+                                    Optional<
+                                        String,
+                                        Optional<
+                                            String,
+                                            Optional<
+                                                String,
+                                                Required<
+                                                    bool,
+                                                    Required<
+                                                        u64,
+                                                        Defaulted<
+                                                            u16,
+                                                            Required<
+                                                                u32,
+                                                                Optional<
+                                                                    u8,
+                                                                    Optional<
+                                                                        u32,
+                                                                        Optional<
+                                                                            Multiple<Symbol>,
+                                                                            Optional<String, ()>,
+                                                                        >,
+                                                                    >,
+                                                                >,
+                                                            >,
+                                                        >,
+                                                    >,
+                                                >,
+                                            >,
+                                        >,
+                                    >,
+                                >,
+                            >,
+                        >,
+                    >,
+                >,
+            >,
+        >,
+    >,
+>;
 
 impl Record for Item {
     ghost use Rattle.amqp_de.specs.Parts.{◌▸◌};
@@ -123,8 +187,8 @@ impl Deserialize for Item {
         ReadsOptional (codes "rating") ⟦<u8 as Deserialize>⟧.reads x.rating (
         ReadsOptional (codes "votes") ⟦<u32 as Deserialize>⟧.reads x.votes (
         ReadsOptional (codes "labels") ⟦<Multiple<Symbol> as Deserialize>⟧.reads x.labels (
-        ReadsOptional (codes "note") ⟦<String as Deserialize>⟧.reads x.note (
-        NoMoreFields)))))))))))))))))))))) t };
+        ReadsOptional (codes "note") ⟦<String as Deserialize>⟧.reads x.note
+        NoMoreFields))))))))))))))))))))) t };
 
     ghost image = { λ x. described (name (codes "shop:item")) (⟦<ListSeed<ItemFields> as DeserializeSeed>⟧.short (⟦<Item as Record>⟧.parts x)) };
 
@@ -133,27 +197,73 @@ impl Deserialize for Item {
     ghost same = { λ x y. ⟦<ListSeed<ItemFields> as DeserializeSeed>⟧.same (⟦<Item as Record>⟧.parts x) (⟦<Item as Record>⟧.parts y) };
 
     fn deserialize<D: Deserializer>(alloc: Global, deserializer: D) -> Result<Item, D::Error> {
-        let FieldValues { value: id, rest } = read_named::<Item, D, _>(alloc, deserializer, "shop:item", ListSeed(named! { "id", "title", "kind", "made", "size", "width", "height", "depth"?, "weight"?, "colour"?, "maker"?, "place"?, "sold", "price", "tax" = 20u16, "stock", "rating"?, "votes"?, "labels"?, "note"? }))?;
+        let FieldValues { value: id, rest } = read_named::<Item, D, _>(
+            alloc,
+            deserializer,
+            "shop:item",
+            ListSeed(
+                named! { "id", "title", "kind", "made", "size", "width", "height", "depth"?, "weight"?, "colour"?, "maker"?, "place"?, "sold", "price", "tax" = 20u16, "stock", "rating"?, "votes"?, "labels"?, "note"? },
+            ),
+        )?;
         let FieldValues { value: title, rest } = rest;
         let FieldValues { value: kind, rest } = rest;
         let FieldValues { value: made, rest } = rest;
         let FieldValues { value: size, rest } = rest;
         let FieldValues { value: width, rest } = rest;
-        let FieldValues { value: height, rest } = rest;
+        let FieldValues {
+            value: height,
+            rest,
+        } = rest;
         let FieldValues { value: depth, rest } = rest;
-        let FieldValues { value: weight, rest } = rest;
-        let FieldValues { value: colour, rest } = rest;
+        let FieldValues {
+            value: weight,
+            rest,
+        } = rest;
+        let FieldValues {
+            value: colour,
+            rest,
+        } = rest;
         let FieldValues { value: maker, rest } = rest;
         let FieldValues { value: place, rest } = rest;
         let FieldValues { value: sold, rest } = rest;
         let FieldValues { value: price, rest } = rest;
         let FieldValues { value: tax, rest } = rest;
         let FieldValues { value: stock, rest } = rest;
-        let FieldValues { value: rating, rest } = rest;
+        let FieldValues {
+            value: rating,
+            rest,
+        } = rest;
         let FieldValues { value: votes, rest } = rest;
-        let FieldValues { value: labels, rest } = rest;
-        let FieldValues { value: note, rest: () } = rest;
-        Ok(Item { id, title, kind, made, size, width, height, depth, weight, colour, maker, place, sold, price, tax, stock, rating, votes, labels, note })
+        let FieldValues {
+            value: labels,
+            rest,
+        } = rest;
+        let FieldValues {
+            value: note,
+            rest: (),
+        } = rest;
+        Ok(Item {
+            id,
+            title,
+            kind,
+            made,
+            size,
+            width,
+            height,
+            depth,
+            weight,
+            colour,
+            maker,
+            place,
+            sold,
+            price,
+            tax,
+            stock,
+            rating,
+            votes,
+            labels,
+            note,
+        })
     }
 }
 

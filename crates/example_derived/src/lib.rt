@@ -4,8 +4,8 @@
 //! then the impls. Nothing of the impls was written by hand, and there are no proof files.
 #![tactic(auto)]
 
-mod choices;
 mod catalogue;
+mod choices;
 mod item;
 mod outcome;
 mod report;

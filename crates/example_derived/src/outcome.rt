@@ -43,7 +43,12 @@ pub enum Outcome {
 }
 
 // amqp: the impls below are written by tools/derive from the annotations above
-use serde_amqp::derive::{Alternatives, Composite, Deserialize, DeserializeSeed, Deserializer, Either, FieldSeeds, FieldValues, Global, ListOf, ListSeed, Never, Optional, Record, Required, RoundTrip, RoundTripAlternatives, RoundTripComposite, Serialize, SerializeCompounds, Serializer, fields, laws, named, read, read_alternatives, read_composite_type, read_no_fields};
+use serde_amqp::derive::{
+    Alternatives, Composite, Deserialize, DeserializeSeed, Deserializer, Either, FieldSeeds,
+    FieldValues, Global, ListOf, ListSeed, Never, Optional, Record, Required, RoundTrip,
+    RoundTripAlternatives, RoundTripComposite, Serialize, SerializeCompounds, Serializer, fields,
+    laws, named, read, read_alternatives, read_composite_type, read_no_fields,
+};
 
 impl Serialize for Accepted {
     ghost use Rattle.std.specs.Prelude.{[]};
@@ -74,8 +79,7 @@ impl Composite for Accepted {
 
     ghost descriptor_name = { codes "amqp:accepted:list" };
 
-    ghost reads = { λ t _. (OnFields (
-        NoMoreFields)) t };
+    ghost reads = { λ t _. (OnFields NoMoreFields) t };
 
     ghost image = { λ x. ⟦<ListSeed<AcceptedFields> as DeserializeSeed>⟧.short (⟦<Accepted as Record>⟧.parts x) };
 
@@ -140,11 +144,14 @@ impl Serialize for Failure {
         ∷ []) };
 
     fn serialize<S: Serializer>(&self, serializer: &mut S) -> Result<S::Ok, S::Error> {
-        serializer.serialize_described(&0x1du64, &ListOf(fields! {
-            "condition": &self.condition,
-            "description"?: &self.description,
-            "info"?: &self.info,
-        }))
+        serializer.serialize_described(
+            &0x1du64,
+            &ListOf(fields! {
+                "condition": &self.condition,
+                "description"?: &self.description,
+                "info"?: &self.info,
+            }),
+        )
     }
 }
 
@@ -170,8 +177,8 @@ impl Composite for Failure {
     ghost reads = { λ t x. (OnFields (
         ReadsRequired (codes "condition") ⟦<Symbol as Deserialize>⟧.reads x.condition (
         ReadsOptional (codes "description") ⟦<String as Deserialize>⟧.reads x.description (
-        ReadsOptional (codes "info") ⟦<OrderedMap<Symbol, Value> as Deserialize>⟧.reads x.info (
-        NoMoreFields))))) t };
+        ReadsOptional (codes "info") ⟦<OrderedMap<Symbol, Value> as Deserialize>⟧.reads x.info
+        NoMoreFields)))) t };
 
     ghost image = { λ x. ⟦<ListSeed<FailureFields> as DeserializeSeed>⟧.short (⟦<Failure as Record>⟧.parts x) };
 
@@ -188,10 +195,27 @@ impl Composite for Failure {
     }
 
     fn read_body<D: Deserializer>(alloc: Global, deserializer: D) -> Result<Failure, D::Error> {
-        let FieldValues { value: condition, rest } = read::<Failure, D, _>(alloc, deserializer, ListSeed(named! { "condition", "description"?, "info"? }))?;
-        let FieldValues { value: description, rest } = rest;
-        let FieldValues { value: info, rest: () } = rest;
-        Ok(Failure { condition, description, info })
+        let FieldValues {
+            value: condition,
+            rest,
+        } = read::<Failure, D, _>(
+            alloc,
+            deserializer,
+            ListSeed(named! { "condition", "description"?, "info"? }),
+        )?;
+        let FieldValues {
+            value: description,
+            rest,
+        } = rest;
+        let FieldValues {
+            value: info,
+            rest: (),
+        } = rest;
+        Ok(Failure {
+            condition,
+            description,
+            info,
+        })
     }
 }
 
@@ -236,9 +260,12 @@ impl Serialize for Rejected {
         ∷ []) };
 
     fn serialize<S: Serializer>(&self, serializer: &mut S) -> Result<S::Ok, S::Error> {
-        serializer.serialize_described(&0x25u64, &ListOf(fields! {
-            "error"?: &self.error,
-        }))
+        serializer.serialize_described(
+            &0x25u64,
+            &ListOf(fields! {
+                "error"?: &self.error,
+            }),
+        )
     }
 }
 
@@ -262,8 +289,8 @@ impl Composite for Rejected {
     ghost descriptor_name = { codes "amqp:rejected:list" };
 
     ghost reads = { λ t x. (OnFields (
-        ReadsOptional (codes "error") ⟦<Failure as Deserialize>⟧.reads x.error (
-        NoMoreFields))) t };
+        ReadsOptional (codes "error") ⟦<Failure as Deserialize>⟧.reads x.error
+        NoMoreFields)) t };
 
     ghost image = { λ x. ⟦<ListSeed<RejectedFields> as DeserializeSeed>⟧.short (⟦<Rejected as Record>⟧.parts x) };
 
@@ -280,7 +307,10 @@ impl Composite for Rejected {
     }
 
     fn read_body<D: Deserializer>(alloc: Global, deserializer: D) -> Result<Rejected, D::Error> {
-        let FieldValues { value: error, rest: () } = read::<Rejected, D, _>(alloc, deserializer, ListSeed(named! { "error"? }))?;
+        let FieldValues {
+            value: error,
+            rest: (),
+        } = read::<Rejected, D, _>(alloc, deserializer, ListSeed(named! { "error"? }))?;
         Ok(Rejected { error })
     }
 }
@@ -328,11 +358,14 @@ impl Serialize for Modified {
         ∷ []) };
 
     fn serialize<S: Serializer>(&self, serializer: &mut S) -> Result<S::Ok, S::Error> {
-        serializer.serialize_described(&0x27u64, &ListOf(fields! {
-            "delivery-failed"?: &self.delivery_failed,
-            "undeliverable-here"?: &self.undeliverable_here,
-            "message-annotations"?: &self.message_annotations,
-        }))
+        serializer.serialize_described(
+            &0x27u64,
+            &ListOf(fields! {
+                "delivery-failed"?: &self.delivery_failed,
+                "undeliverable-here"?: &self.undeliverable_here,
+                "message-annotations"?: &self.message_annotations,
+            }),
+        )
     }
 }
 
@@ -358,8 +391,8 @@ impl Composite for Modified {
     ghost reads = { λ t x. (OnFields (
         ReadsOptional (codes "delivery-failed") ⟦<bool as Deserialize>⟧.reads x.delivery_failed (
         ReadsOptional (codes "undeliverable-here") ⟦<bool as Deserialize>⟧.reads x.undeliverable_here (
-        ReadsOptional (codes "message-annotations") ⟦<OrderedMap<Symbol, Value> as Deserialize>⟧.reads x.message_annotations (
-        NoMoreFields))))) t };
+        ReadsOptional (codes "message-annotations") ⟦<OrderedMap<Symbol, Value> as Deserialize>⟧.reads x.message_annotations
+        NoMoreFields)))) t };
 
     ghost image = { λ x. ⟦<ListSeed<ModifiedFields> as DeserializeSeed>⟧.short (⟦<Modified as Record>⟧.parts x) };
 
@@ -376,10 +409,27 @@ impl Composite for Modified {
     }
 
     fn read_body<D: Deserializer>(alloc: Global, deserializer: D) -> Result<Modified, D::Error> {
-        let FieldValues { value: delivery_failed, rest } = read::<Modified, D, _>(alloc, deserializer, ListSeed(named! { "delivery-failed"?, "undeliverable-here"?, "message-annotations"? }))?;
-        let FieldValues { value: undeliverable_here, rest } = rest;
-        let FieldValues { value: message_annotations, rest: () } = rest;
-        Ok(Modified { delivery_failed, undeliverable_here, message_annotations })
+        let FieldValues {
+            value: delivery_failed,
+            rest,
+        } = read::<Modified, D, _>(
+            alloc,
+            deserializer,
+            ListSeed(named! { "delivery-failed"?, "undeliverable-here"?, "message-annotations"? }),
+        )?;
+        let FieldValues {
+            value: undeliverable_here,
+            rest,
+        } = rest;
+        let FieldValues {
+            value: message_annotations,
+            rest: (),
+        } = rest;
+        Ok(Modified {
+            delivery_failed,
+            undeliverable_here,
+            message_annotations,
+        })
     }
 }
 

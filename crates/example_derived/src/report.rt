@@ -30,7 +30,11 @@ pub struct Report {
 }
 
 // amqp: the impls below are written by tools/derive from the annotations above
-use serde_amqp::derive::{Composite, Deserialize, DeserializeSeed, Deserializer, FieldSeeds, FieldValues, Global, ListOf, ListSeed, Optional, Record, Required, RoundTrip, RoundTripComposite, Serialize, SerializeCompounds, Serializer, fields, laws, named, read, read_composite_type};
+use serde_amqp::derive::{
+    Composite, Deserialize, DeserializeSeed, Deserializer, FieldSeeds, FieldValues, Global, ListOf,
+    ListSeed, Optional, Record, Required, RoundTrip, RoundTripComposite, Serialize,
+    SerializeCompounds, Serializer, fields, laws, named, read, read_composite_type,
+};
 
 impl Serialize for Position {
     ghost use Rattle.std.specs.Prelude.{[], ◌∷◌};
@@ -47,7 +51,8 @@ impl Serialize for Position {
             "latitude": &self.latitude,
             "longitude": &self.longitude,
             "height"?: &self.height,
-        }).serialize(serializer)
+        })
+        .serialize(serializer)
     }
 }
 
@@ -69,8 +74,8 @@ impl Deserialize for Position {
     ghost reads = { λ t x. (OnFields (
         ReadsRequired (codes "latitude") ⟦<i32 as Deserialize>⟧.reads x.latitude (
         ReadsRequired (codes "longitude") ⟦<i32 as Deserialize>⟧.reads x.longitude (
-        ReadsOptional (codes "height") ⟦<u32 as Deserialize>⟧.reads x.height (
-        NoMoreFields))))) t };
+        ReadsOptional (codes "height") ⟦<u32 as Deserialize>⟧.reads x.height
+        NoMoreFields)))) t };
 
     ghost image = { λ x. ⟦<ListSeed<PositionFields> as DeserializeSeed>⟧.short (⟦<Position as Record>⟧.parts x) };
 
@@ -79,10 +84,27 @@ impl Deserialize for Position {
     ghost same = { λ x y. ⟦<ListSeed<PositionFields> as DeserializeSeed>⟧.same (⟦<Position as Record>⟧.parts x) (⟦<Position as Record>⟧.parts y) };
 
     fn deserialize<D: Deserializer>(alloc: Global, deserializer: D) -> Result<Position, D::Error> {
-        let FieldValues { value: latitude, rest } = read::<Position, D, _>(alloc, deserializer, ListSeed(named! { "latitude", "longitude", "height"? }))?;
-        let FieldValues { value: longitude, rest } = rest;
-        let FieldValues { value: height, rest: () } = rest;
-        Ok(Position { latitude, longitude, height })
+        let FieldValues {
+            value: latitude,
+            rest,
+        } = read::<Position, D, _>(
+            alloc,
+            deserializer,
+            ListSeed(named! { "latitude", "longitude", "height"? }),
+        )?;
+        let FieldValues {
+            value: longitude,
+            rest,
+        } = rest;
+        let FieldValues {
+            value: height,
+            rest: (),
+        } = rest;
+        Ok(Position {
+            latitude,
+            longitude,
+            height,
+        })
     }
 }
 
@@ -110,22 +132,40 @@ impl Serialize for Report {
         ∷ []) };
 
     fn serialize<S: Serializer>(&self, serializer: &mut S) -> Result<S::Ok, S::Error> {
-        serializer.serialize_described(&0x18u64, &ListOf(fields! {
-            "number": &self.number,
-            "remark"?: &self.remark,
-            "station": &self.station,
-            "observers": &self.observers,
-            "readings": &self.readings,
-            "position": &self.position,
-            "time": &self.time,
-            "is-checked"?: &self.is_checked,
-            "photograph": &self.photograph,
-        }))
+        serializer.serialize_described(
+            &0x18u64,
+            &ListOf(fields! {
+                "number": &self.number,
+                "remark"?: &self.remark,
+                "station": &self.station,
+                "observers": &self.observers,
+                "readings": &self.readings,
+                "position": &self.position,
+                "time": &self.time,
+                "is-checked"?: &self.is_checked,
+                "photograph": &self.photograph,
+            }),
+        )
     }
 }
 
 /// The fields of [`Report`], as they are read.
-type ReportFields = Required<u32, Optional<String, Required<Symbol, Required<Vec<String>, Required<OrderedMap<Symbol, Value>, Required<Position, Required<Timestamp, Optional<bool, Required<ByteBuf, ()>>>>>>>>>;
+type ReportFields = Required<
+    u32,
+    Optional<
+        String,
+        Required<
+            Symbol,
+            Required<
+                Vec<String>,
+                Required<
+                    OrderedMap<Symbol, Value>,
+                    Required<Position, Required<Timestamp, Optional<bool, Required<ByteBuf, ()>>>>,
+                >,
+            >,
+        >,
+    >,
+>;
 
 impl Record for Report {
     ghost use Rattle.amqp_de.specs.Parts.{◌▸◌};
@@ -152,8 +192,8 @@ impl Composite for Report {
         ReadsRequired (codes "position") ⟦<Position as Deserialize>⟧.reads x.position (
         ReadsRequired (codes "time") ⟦<Timestamp as Deserialize>⟧.reads x.time (
         ReadsOptional (codes "is-checked") ⟦<bool as Deserialize>⟧.reads x.is_checked (
-        ReadsRequired (codes "photograph") ⟦<ByteBuf as Deserialize>⟧.reads x.photograph (
-        NoMoreFields))))))))))) t };
+        ReadsRequired (codes "photograph") ⟦<ByteBuf as Deserialize>⟧.reads x.photograph
+        NoMoreFields)))))))))) t };
 
     ghost image = { λ x. ⟦<ListSeed<ReportFields> as DeserializeSeed>⟧.short (⟦<Report as Record>⟧.parts x) };
 
@@ -170,16 +210,56 @@ impl Composite for Report {
     }
 
     fn read_body<D: Deserializer>(alloc: Global, deserializer: D) -> Result<Report, D::Error> {
-        let FieldValues { value: number, rest } = read::<Report, D, _>(alloc, deserializer, ListSeed(named! { "number", "remark"?, "station", "observers", "readings", "position", "time", "is-checked"?, "photograph" }))?;
-        let FieldValues { value: remark, rest } = rest;
-        let FieldValues { value: station, rest } = rest;
-        let FieldValues { value: observers, rest } = rest;
-        let FieldValues { value: readings, rest } = rest;
-        let FieldValues { value: position, rest } = rest;
+        let FieldValues {
+            value: number,
+            rest,
+        } = read::<Report, D, _>(
+            alloc,
+            deserializer,
+            ListSeed(
+                named! { "number", "remark"?, "station", "observers", "readings", "position", "time", "is-checked"?, "photograph" },
+            ),
+        )?;
+        let FieldValues {
+            value: remark,
+            rest,
+        } = rest;
+        let FieldValues {
+            value: station,
+            rest,
+        } = rest;
+        let FieldValues {
+            value: observers,
+            rest,
+        } = rest;
+        let FieldValues {
+            value: readings,
+            rest,
+        } = rest;
+        let FieldValues {
+            value: position,
+            rest,
+        } = rest;
         let FieldValues { value: time, rest } = rest;
-        let FieldValues { value: is_checked, rest } = rest;
-        let FieldValues { value: photograph, rest: () } = rest;
-        Ok(Report { number, remark, station, observers, readings, position, time, is_checked, photograph })
+        let FieldValues {
+            value: is_checked,
+            rest,
+        } = rest;
+        let FieldValues {
+            value: photograph,
+            rest: (),
+        } = rest;
+        Ok(Report {
+            number,
+            remark,
+            station,
+            observers,
+            readings,
+            position,
+            time,
+            is_checked,
+            photograph,
+        })
     }
 }
 

@@ -5,8 +5,8 @@
 
 use amqp_de::de::{Deserialize, Deserializer};
 use amqp_de::{
-    DataVariant, DeserializeSeed, Either, EnumSeed, FieldValues, ListSeed, Never, Optional, Record, Required,
-    TypeSeed, UnitVariant, named, read, values, variant, variants,
+    DataVariant, DeserializeSeed, Either, EnumSeed, FieldValues, ListSeed, Never, Optional, Record,
+    Required, TypeSeed, UnitVariant, named, read, values, variant, variants,
 };
 use amqp_ser::{Serialize, SerializeCompounds, SerializeScalars, Serializer, VariantOf, fields};
 use std::alloc::Global;

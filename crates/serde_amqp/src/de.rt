@@ -5,10 +5,10 @@ pub use amqp_de::de::{
     EnumAccess, FixedContent, MapAccess, Plain, SeqAccess, VariantAccess, Visit, Visitor,
 };
 pub use amqp_de::{
-    Alternatives, Composite, ContentOf, DataVariant, Defaulted, Describes, DeserializeSeed, Either, ElementsOf,
-    EntriesOf, EnumAccessOf, EnumSeed, FieldSeeds, FieldValues, ListSeed, NamedRecord, NamedSeed, Never, Optional, Record,
-    Required, TypeSeed, UnitVariant, Variants, laws, named, read, read_alternatives, read_composite,
-    read_composite_map, read_composite_type, read_described, read_described_map, read_fields_map,
-    read_map,
-    read_named, read_named_map, read_no_fields, values, variant, variants,
+    Alternatives, Composite, ContentOf, DataVariant, Defaulted, Describes, DeserializeSeed, Either,
+    ElementsOf, EntriesOf, EnumAccessOf, EnumSeed, FieldSeeds, FieldValues, ListSeed, NamedRecord,
+    NamedSeed, Never, Optional, Record, Required, TypeSeed, UnitVariant, Variants, laws, named,
+    read, read_alternatives, read_composite, read_composite_map, read_composite_type,
+    read_described, read_described_map, read_fields_map, read_map, read_named, read_named_map,
+    read_no_fields, values, variant, variants,
 };

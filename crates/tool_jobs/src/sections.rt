@@ -1,7 +1,9 @@
 //! Sections of a message as a receiver reads them.
 
 use serde_amqp::Value;
-use serde_amqp::de::{Deserialize, Deserializer, FieldValues, ListSeed, Record, named, read_described, values};
+use serde_amqp::de::{
+    Deserialize, Deserializer, FieldValues, ListSeed, Record, named, read_described, values,
+};
 use serde_amqp::primitives::{ByteBuf, Symbol, Timestamp};
 use std::alloc::Global;
 
@@ -18,7 +20,13 @@ pub struct Header {
 impl Record for Header {
     ghost use Rattle.amqp_de.specs.Parts.{◌▸◌};
 
-    type Values = FieldValues<Option<bool>, FieldValues<Option<u8>, FieldValues<Option<u32>, FieldValues<Option<bool>, FieldValues<Option<u32>, ()>>>>>;
+    type Values = FieldValues<
+        Option<bool>,
+        FieldValues<
+            Option<u8>,
+            FieldValues<Option<u32>, FieldValues<Option<bool>, FieldValues<Option<u32>, ()>>>,
+        >,
+    >;
 
     ghost parts = { λ h. h.durable ▸ h.priority ▸ h.ttl ▸ h.first_acquirer ▸ h.delivery_count ▸ tt };
 }
@@ -88,7 +96,43 @@ pub struct Properties {
 impl Record for Properties {
     ghost use Rattle.amqp_de.specs.Parts.{◌▸◌};
 
-    type Values = FieldValues<Option<Value>, FieldValues<Option<ByteBuf>, FieldValues<Option<String>, FieldValues<Option<String>, FieldValues<Option<String>, FieldValues<Option<Value>, FieldValues<Option<Symbol>, FieldValues<Option<Symbol>, FieldValues<Option<Timestamp>, FieldValues<Option<Timestamp>, FieldValues<Option<String>, FieldValues<Option<u32>, FieldValues<Option<String>, ()>>>>>>>>>>>>>;
+    type Values = FieldValues<
+        Option<Value>,
+        FieldValues<
+            Option<ByteBuf>,
+            FieldValues<
+                Option<String>,
+                FieldValues<
+                    Option<String>,
+                    FieldValues<
+                        Option<String>,
+                        FieldValues<
+                            Option<Value>,
+                            FieldValues<
+                                Option<Symbol>,
+                                FieldValues<
+                                    Option<Symbol>,
+                                    FieldValues<
+                                        Option<Timestamp>,
+                                        FieldValues<
+                                            Option<Timestamp>,
+                                            FieldValues<
+                                                Option<String>,
+                                                FieldValues<
+                                                    Option<u32>,
+                                                    FieldValues<Option<String>, ()>,
+                                                >,
+                                            >,
+                                        >,
+                                    >,
+                                >,
+                            >,
+                        >,
+                    >,
+                >,
+            >,
+        >,
+    >;
 
     ghost parts = { λ p. p.message_id ▸ p.user_id ▸ p.to ▸ p.subject ▸ p.reply_to ▸ p.correlation_id ▸ p.content_type ▸ p.content_encoding ▸ p.absolute_expiry_time ▸ p.creation_time ▸ p.group_id ▸ p.group_sequence ▸ p.reply_to_group_id ▸ tt };
 }

@@ -111,7 +111,12 @@ fn seeds_read_parts_of_types(rt: &HostRuntime) -> bool {
             seeded(a, de::ListSeed(required())),
             "Ok(FieldValues { value: 1, rest: () })",
         )
-        && is(rt, "an optional field", by_name, "Ok(FieldValues { value: Some(1), rest: () })")
+        && is(
+            rt,
+            "an optional field",
+            by_name,
+            "Ok(FieldValues { value: Some(1), rest: () })",
+        )
         && holds(rt, "the second variant", second)
 }
 
@@ -231,7 +236,12 @@ fn records_are_read(rt: &HostRuntime) -> Result<bool, Error> {
             && is(rt, "read_described", after, "1")
             && is(rt, "read_composite", composite, "1")
             && is(rt, "read_map", mapped, "FieldValues { value: 1, rest: () }")
-            && is(rt, "read_described_map", both, "FieldValues { value: 1, rest: () }"),
+            && is(
+                rt,
+                "read_described_map",
+                both,
+                "FieldValues { value: 1, rest: () }",
+            ),
     )
 }
 
