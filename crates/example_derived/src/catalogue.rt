@@ -12,6 +12,8 @@ pub struct Product {
     // amqp: name = "number"
     pub count: u32,
     pub notes: Option<OrderedMap<Symbol, u32>>,
+    // amqp: default
+    pub stock: u16,
     // amqp: default = 1
     pub size: Option<u64>,
 }
@@ -24,18 +26,26 @@ pub struct Contact {
     pub telephone: Option<String>,
 }
 
+/// A shop: a map described by a symbol.
+// amqp: encoding = "map", name = "shop:shop"
+#[derive(Debug, PartialEq, Drop)]
+pub struct Shop {
+    pub number: u32,
+    pub motto: Option<String>,
+}
+
 // amqp: the impls below are written by tools/derive from the annotations above
 use serde_amqp::derive::{
-    Deserialize, Deserializer, FieldSeeds, FieldValues, Global, MapOf, NamedRecord, Optional,
-    Record, Required, RoundTrip, Serialize, SerializeCompounds, Serializer, fields, laws, named,
-    read_composite_map, read_fields_map,
+    Defaulted, Deserialize, Deserializer, FieldSeeds, FieldValues, Global, MapOf, Name,
+    NamedRecord, Optional, Record, Required, RoundTrip, Serialize, SerializeCompounds, Serializer,
+    fields, laws, named, read_composite_map, read_fields_map, read_named_map,
 };
 
 impl Serialize for Product {
     ghost use Rattle.std.specs.Prelude.{Some, [], ◌∷◌, codes};
     ghost use Rattle.amqp_ser.specs.Composites.{as_described};
     ghost use Rattle.amqp_ser.specs.Tree.{code};
-    ghost use Rattle.amqp_ser.specs.Words.{short_map_of, required_value, optional_value, of_string, of_symbol, of_u32, of_u64};
+    ghost use Rattle.amqp_ser.specs.Words.{short_map_of, required_value, optional_value, of_string, of_symbol, of_u16, of_u32, of_u64};
 
     ghost tree = { λ x. as_described (Some (code 0x15)) (short_map_of (
         (codes "product-name", required_value (of_string x.product_name))
@@ -43,6 +53,7 @@ impl Serialize for Product {
         ∷ (codes "platform", optional_value of_symbol x.platform)
         ∷ (codes "number", required_value (of_u32 x.count))
         ∷ (codes "notes", optional_value ⟦<OrderedMap<Symbol, u32> as Serialize>⟧.tree x.notes)
+        ∷ (codes "stock", required_value (of_u16 x.stock))
         ∷ (codes "size", optional_value of_u64 x.size)
         ∷ [])) };
 
@@ -55,6 +66,7 @@ impl Serialize for Product {
                 "platform"?: &self.platform,
                 "number": &self.count,
                 "notes"?: &self.notes,
+                "stock": &self.stock,
                 "size"?: &self.size,
             }),
         )
@@ -66,7 +78,10 @@ type ProductFields = Required<
     String,
     Optional<
         String,
-        Optional<Symbol, Required<u32, Optional<OrderedMap<Symbol, u32>, Optional<u64, ()>>>>,
+        Optional<
+            Symbol,
+            Required<u32, Optional<OrderedMap<Symbol, u32>, Defaulted<u16, Optional<u64, ()>>>>,
+        >,
     >,
 >;
 
@@ -75,13 +90,13 @@ impl Record for Product {
 
     type Values = <ProductFields as FieldSeeds>::Values;
 
-    ghost parts = { λ x. x.product_name ▸ x.version ▸ x.platform ▸ x.count ▸ x.notes ▸ x.size ▸ tt };
+    ghost parts = { λ x. x.product_name ▸ x.version ▸ x.platform ▸ x.count ▸ x.notes ▸ x.stock ▸ x.size ▸ tt };
 }
 
 impl NamedRecord for Product {
     ghost use Rattle.std.specs.Prelude.{[], ◌∷◌, codes};
 
-    ghost names = { codes "product-name" ∷ codes "version" ∷ codes "platform" ∷ codes "number" ∷ codes "notes" ∷ codes "size" ∷ [] };
+    ghost names = { codes "product-name" ∷ codes "version" ∷ codes "platform" ∷ codes "number" ∷ codes "notes" ∷ codes "stock" ∷ codes "size" ∷ [] };
 
     fn names_are_distinct() {}
 }
@@ -90,6 +105,7 @@ impl Deserialize for Product {
     ghost use Rattle.std.specs.Prelude.{codes};
     ghost use Rattle.amqp_ser.specs.Tree.{code, described};
     ghost use Rattle.amqp_de.specs.Fields.{OnDescribed, OnNamed, ReadsRequired, ReadsOptional, NoMoreFields};
+    ghost use Rattle.amqp_de.specs.Defaults.{ReadsDefaulted};
     ghost use Rattle.amqp_de.specs.Present.{short_map};
 
     ghost reads = { λ t x. OnDescribed (code 0x15) (OnNamed (
@@ -98,8 +114,9 @@ impl Deserialize for Product {
         ReadsOptional (codes "platform") ⟦<Symbol as Deserialize>⟧.reads x.platform (
         ReadsRequired (codes "number") ⟦<u32 as Deserialize>⟧.reads x.count (
         ReadsOptional (codes "notes") ⟦<OrderedMap<Symbol, u32> as Deserialize>⟧.reads x.notes (
+        ReadsDefaulted (codes "stock") 0 ⟦<u16 as Deserialize>⟧.reads x.stock (
         ReadsOptional (codes "size") ⟦<u64 as Deserialize>⟧.reads x.size
-        NoMoreFields))))))) t };
+        NoMoreFields)))))))) t };
 
     ghost image = { λ x. described (code 0x15) (short_map ⟦<Product as NamedRecord>⟧.names (⟦<ProductFields as FieldSeeds>⟧.images (⟦<Product as Record>⟧.parts x))) };
 
@@ -115,7 +132,7 @@ impl Deserialize for Product {
             alloc,
             deserializer,
             0x15u64,
-            named! { "product-name", "version"?, "platform"?, "number", "notes"?, "size"? },
+            named! { "product-name", "version"?, "platform"?, "number", "notes"?, "stock" = 0u16, "size"? },
         )?;
         let FieldValues {
             value: version,
@@ -127,6 +144,7 @@ impl Deserialize for Product {
         } = rest;
         let FieldValues { value: count, rest } = rest;
         let FieldValues { value: notes, rest } = rest;
+        let FieldValues { value: stock, rest } = rest;
         let FieldValues {
             value: size,
             rest: (),
@@ -137,6 +155,7 @@ impl Deserialize for Product {
             platform,
             count,
             notes,
+            stock,
             size,
         })
     }
@@ -234,6 +253,89 @@ impl Deserialize for Contact {
 impl RoundTrip for Contact {
     fn law() {
         laws::named_fields_return::<Contact, ContactFields>();
+    }
+}
+
+impl Serialize for Shop {
+    ghost use Rattle.std.specs.Prelude.{Some, [], ◌∷◌, codes};
+    ghost use Rattle.amqp_ser.specs.Composites.{as_described};
+    ghost use Rattle.amqp_ser.specs.Tree.{name};
+    ghost use Rattle.amqp_ser.specs.Words.{short_map_of, required_value, optional_value, of_string, of_u32};
+
+    ghost tree = { λ x. as_described (Some (name (codes "shop:shop"))) (short_map_of (
+        (codes "number", required_value (of_u32 x.number))
+        ∷ (codes "motto", optional_value of_string x.motto)
+        ∷ [])) };
+
+    fn serialize<S: Serializer>(&self, serializer: &mut S) -> Result<S::Ok, S::Error> {
+        serializer.serialize_described(
+            &Name("shop:shop"),
+            &MapOf(fields! {
+                "number": &self.number,
+                "motto"?: &self.motto,
+            }),
+        )
+    }
+}
+
+/// The fields of [`Shop`], as they are read.
+type ShopFields = Required<u32, Optional<String, ()>>;
+
+impl Record for Shop {
+    ghost use Rattle.amqp_de.specs.Parts.{◌▸◌};
+
+    type Values = <ShopFields as FieldSeeds>::Values;
+
+    ghost parts = { λ x. x.number ▸ x.motto ▸ tt };
+}
+
+impl NamedRecord for Shop {
+    ghost use Rattle.std.specs.Prelude.{[], ◌∷◌, codes};
+
+    ghost names = { codes "number" ∷ codes "motto" ∷ [] };
+
+    fn names_are_distinct() {}
+}
+
+impl Deserialize for Shop {
+    ghost use Rattle.std.specs.Prelude.{codes};
+    ghost use Rattle.amqp_ser.specs.Tree.{name, described};
+    ghost use Rattle.amqp_de.specs.Fields.{OnDescribed, OnNamed, ReadsRequired, ReadsOptional, NoMoreFields};
+    ghost use Rattle.amqp_de.specs.Present.{short_map};
+
+    ghost reads = { λ t x. OnDescribed (name (codes "shop:shop")) (OnNamed (
+        ReadsRequired (codes "number") ⟦<u32 as Deserialize>⟧.reads x.number (
+        ReadsOptional (codes "motto") ⟦<String as Deserialize>⟧.reads x.motto
+        NoMoreFields))) t };
+
+    ghost image = { λ x. described (name (codes "shop:shop")) (short_map ⟦<Shop as NamedRecord>⟧.names (⟦<ShopFields as FieldSeeds>⟧.images (⟦<Shop as Record>⟧.parts x))) };
+
+    ghost restorable = { λ x. ⟦<ShopFields as FieldSeeds>⟧.restorable (⟦<Shop as Record>⟧.parts x) };
+
+    ghost same = { λ x y. ⟦<ShopFields as FieldSeeds>⟧.same (⟦<Shop as Record>⟧.parts x) (⟦<Shop as Record>⟧.parts y) };
+
+    fn deserialize<D: Deserializer>(alloc: Global, deserializer: D) -> Result<Shop, D::Error> {
+        let FieldValues {
+            value: number,
+            rest,
+        } = read_named_map::<Shop, D, _>(
+            alloc,
+            deserializer,
+            "shop:shop",
+            named! { "number", "motto"? },
+        )?;
+        let FieldValues {
+            value: motto,
+            rest: (),
+        } = rest;
+        Ok(Shop { number, motto })
+    }
+}
+
+impl RoundTrip for Shop {
+    fn law() {
+        laws::named_fields_return::<Shop, ShopFields>();
+        laws::described_return();
     }
 }
 // amqp: end of the impls

@@ -10,7 +10,7 @@ mod item;
 mod outcome;
 mod report;
 
-pub use catalogue::{Contact, Product};
+pub use catalogue::{Contact, Product, Shop};
 pub use choices::{Address, Durability, Expiry, Role, Shape};
 pub use item::Item;
 pub use outcome::{Accepted, Failure, Modified, Outcome, Rejected};
