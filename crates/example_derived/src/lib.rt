@@ -7,11 +7,15 @@
 mod catalogue;
 mod choices;
 mod item;
+mod limits;
 mod outcome;
 mod report;
+#[cfg(test)]
+mod tests;
 
 pub use catalogue::{Contact, Product, Shop};
 pub use choices::{Address, Durability, Expiry, Role, Shape};
 pub use item::Item;
+pub use limits::Limits;
 pub use outcome::{Accepted, Failure, Modified, Outcome, Rejected};
 pub use report::{Position, Report};
