@@ -44,7 +44,7 @@ fn read_or<V: Deserialize + Copy, D: Deserializer>(
     }
 }
 
-#[tactic(auto, using(crate::proofs::LeftOut::rest_there, crate::proofs::LeftOut::others_distinct, crate::proofs::LeftOut::present_value), unfolding(crate::specs::Defaults::ReadsDefaulted))]
+#[tactic(auto, unfolding(crate::specs::Defaults::ReadsDefaulted))]
 impl<V: Deserialize + Copy, R: FieldSeeds> FieldSeeds for Defaulted<V, R> {
     type Values = FieldValues<V, R::Values>;
 

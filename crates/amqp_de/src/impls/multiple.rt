@@ -1,8 +1,6 @@
 //! Fields that allow several values, which are read from one value or from an array.
 
-ghost use Rattle.std.specs.Prelude.{◌≡◌, true, false};
-ghost use Rattle.amqp_data.specs.Items.{array_items};
-ghost use Rattle.amqp_de.specs.Multiple.{is_array_tree, ReadsMultiple, multiple_image, RestorableMultiple, SameMultiple};
+ghost use Rattle.amqp_de.specs.Multiple.{ReadsMultiple, multiple_image, RestorableMultiple, SameMultiple};
 
 use crate::deserialize::Deserialize;
 use crate::deserializer::Deserializer;
@@ -11,13 +9,13 @@ use std::alloc::Global;
 
 #[tactic(auto, using(crate::proofs::MultipleRefused::many_refused, crate::proofs::MultipleRefused::one_refused))]
 impl<T: Deserialize> Deserialize for Multiple<T> {
-    ghost reads = { ReadsMultiple T.reads ⟦<Array<T> as Deserialize>⟧.reads };
+    ghost reads = { ReadsMultiple T.reads };
 
-    ghost image = { multiple_image T.image ⟦<Array<T> as Deserialize>⟧.image };
+    ghost image = { multiple_image T.image };
 
-    ghost restorable = { RestorableMultiple T.image T.restorable ⟦<Array<T> as Deserialize>⟧.restorable };
+    ghost restorable = { RestorableMultiple T.image T.restorable };
 
-    ghost same = { SameMultiple T.same ⟦<Array<T> as Deserialize>⟧.same };
+    ghost same = { SameMultiple T.same };
 
     fn deserialize<D: Deserializer>(
         alloc: Global,
