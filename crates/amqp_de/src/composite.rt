@@ -1,5 +1,5 @@
-//! The functions that read the fields of a type after one descriptor, a code or a name. Their laws
-//! have the descriptor itself, so they are found for any number of fields.
+//! Functions that read the parts of a type after one descriptor, a code or a name. Their laws state
+//! the descriptor itself, so the prover applies them to any number of fields.
 
 ghost use Rattle.amqp_ser.specs.Tree.{code, name, described};
 ghost use Rattle.amqp_de.specs.Answers.{PartsOf, RestoresValues};
@@ -55,11 +55,15 @@ pub fn read_composite<T: Record, D: Deserializer, S: DeserializeSeed<Value = T::
     }
 }
 
-/// Reads the parts of a value whose descriptor is a symbol.
+/// Reads the parts of a value whose descriptor is a symbol. Like [`read_composite`], with the text of
+/// the symbol in place of the code.
 ///
 /// # Errors
-/// Returns `DeserializeError::invalid_value` if the value has another descriptor, or none;
-/// otherwise the seed's error.
+/// Those of [`read_composite`].
+///
+/// # Example
+/// For the list of the ubyte 1 described by the symbol `a:b`, with `"a:b"` and `ListSeed(named! { "x"
+/// })`, returns the part 1. With `"a:c"`, the value is invalid.
 #[tactic(auto, unfolding(crate::specs::Fields::OnDescribed))]
 pub fn read_named<T: Record, D: Deserializer, S: DeserializeSeed<Value = T::Values>>(
     alloc: Global,

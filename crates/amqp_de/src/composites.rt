@@ -17,7 +17,8 @@ use crate::record::Record;
 use amqp_data::Descriptor;
 use std::alloc::Global;
 
-/// A type that is read after its descriptor, which is a code or a name.
+/// A type that is read after its descriptor, which is a code or a name (AMQP 1.0 part 1, section 1.4).
+/// It is written after its code.
 ///
 /// # Implementer notes
 /// Required methods: `code`, `name` and `read_body`, which reads what follows the descriptor.
@@ -42,10 +43,16 @@ pub trait Composite: Sized + Drop {
     ghost same: { Self → Self → Type 0 };
 
     /// Returns the code of the descriptor.
+    ///
+    /// # Example
+    /// `0x10` for the standard's open.
     fn code() -> u64
         ensures { result ≡ descriptor_code };
 
     /// Returns the name of the descriptor.
+    ///
+    /// # Example
+    /// `amqp:open:list` for the standard's open.
     fn name() -> &'static str
         ensures { result.now ≡ descriptor_name };
 
@@ -53,6 +60,10 @@ pub trait Composite: Sized + Drop {
     ///
     /// # Errors
     /// Returns an error other than out of memory only if the tree is read as no value.
+    ///
+    /// # Example
+    /// For a type of one field, a `u32`, the list of the uint 1 is read, and the list of the ulong 1
+    /// is invalid.
     fn read_body<D: Deserializer>(alloc: Global, deserializer: D) -> Result<Self, D::Error>
         ensures read { Answers D.Error.is_out_of_memory (reads (D.value deserializer)) result }
         ensures law { Restores image restorable same
@@ -70,11 +81,15 @@ fn is_descriptor_of<T: Composite>(descriptor: &Descriptor) -> bool
     }
 }
 
-/// Reads a composite.
+/// Reads a composite, after its code or its name.
 ///
 /// # Errors
 /// Returns `DeserializeError::invalid_value` if the value has another descriptor, or none;
 /// otherwise the error of `read_body`.
+///
+/// # Example
+/// For a type with the code 0x10 and the name `amqp:open:list`, reads the list described by the ulong
+/// 0x10, or by the symbol `amqp:open:list`.
 #[tactic(auto, unfolding(crate::specs::Composites::OnComposite, crate::specs::Composites::IsCodeOrName))]
 pub fn read_composite_type<T: Composite, D: Deserializer>(
     alloc: Global,
@@ -190,6 +205,10 @@ impl<T: Composite, R: Alternatives> Alternatives for Either<T, R> {
 /// # Errors
 /// Returns `DeserializeError::invalid_value` if the value has another descriptor, or none;
 /// otherwise the error of `read_body`.
+///
+/// # Example
+/// For `Either<Accepted, Either<Rejected, Never>>` with the codes 0x24 and 0x25, the list described by
+/// 0x25 is `Either::Other(Either::This(..))`. A list described by 0x26 is invalid.
 #[tactic(auto, unfolding(crate::specs::Composites::OnAlternatives))]
 pub fn read_alternatives<T: Record, D: Deserializer>(
     alloc: Global,
@@ -216,6 +235,9 @@ where
 ///
 /// # Errors
 /// Returns `DeserializeError::invalid_value` if the value is no list.
+///
+/// # Example
+/// Succeeds for the list of no elements and for the list of the ubyte 1. The uint 0 is invalid.
 #[tactic(auto, unfolding(crate::specs::Fields::OnFields, crate::specs::Fields::NoMoreFields, crate::specs::Present::short_list))]
 pub fn read_no_fields<D: Deserializer>(deserializer: D) -> Result<(), D::Error>
     ensures read { MatchResult result (λ _. OnFields NoMoreFields (D.value deserializer))

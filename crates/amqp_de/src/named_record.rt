@@ -30,8 +30,13 @@ pub trait NamedRecord: Record {
 
 /// Reads the parts of a value from a map of its fields, or from a list or an array of them.
 ///
+/// Like [`read_map`], for a type whose names are a member.
+///
 /// # Errors
 /// Those of [`read_map`].
+///
+/// # Example
+/// For the map from the string `x` to the ubyte 1, with `named! { "x" }`, returns the part 1.
 pub fn read_fields_map<T: NamedRecord, D: Deserializer, F: FieldSeeds<Values = T::Values>>(
     alloc: Global,
     deserializer: D,
@@ -47,11 +52,15 @@ pub fn read_fields_map<T: NamedRecord, D: Deserializer, F: FieldSeeds<Values = T
     read_map::<T, D, F>(alloc, deserializer, fields)
 }
 
-/// As [`read_fields_map`], after a descriptor that is a code.
+/// Like [`read_fields_map`], after a descriptor that is a code.
 ///
 /// # Errors
 /// Returns `DeserializeError::invalid_value` if the value has another descriptor, or none;
 /// otherwise the errors of [`read_map`].
+///
+/// # Example
+/// For the map from the string `x` to the ubyte 1, described by the code 1, with `1` and
+/// `named! { "x" }`, returns the part 1. With `2`, the value is invalid.
 #[tactic(auto, unfolding(crate::specs::Fields::OnDescribed))]
 pub fn read_composite_map<T: NamedRecord, D: Deserializer, F: FieldSeeds<Values = T::Values>>(
     alloc: Global,
@@ -77,10 +86,14 @@ pub fn read_composite_map<T: NamedRecord, D: Deserializer, F: FieldSeeds<Values 
     }
 }
 
-/// As [`read_fields_map`], after a descriptor that is a symbol.
+/// Like [`read_fields_map`], after a descriptor that is a symbol.
 ///
 /// # Errors
 /// Those of [`read_composite_map`].
+///
+/// # Example
+/// For the map from the string `x` to the ubyte 1, described by the symbol `a:b`, with `"a:b"` and
+/// `named! { "x" }`, returns the part 1. With `"a:c"`, the value is invalid.
 #[tactic(auto, unfolding(crate::specs::Fields::OnDescribed))]
 pub fn read_named_map<T: NamedRecord, D: Deserializer, F: FieldSeeds<Values = T::Values>>(
     alloc: Global,
