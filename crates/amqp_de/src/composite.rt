@@ -26,7 +26,7 @@ use std::alloc::Global;
 ///
 /// # Example
 /// For the list of the ubyte 1 described by the code 1, with `1` and `ListSeed(named! { "x" })`,
-/// returns the parts `(1, ())`. With `2`, the value is invalid.
+/// returns the part 1. With `2`, the value is invalid.
 #[tactic(auto, unfolding(crate::specs::Fields::OnDescribed))]
 pub fn read_composite<T: Record, D: Deserializer, S: DeserializeSeed<Value = T::Values>>(
     alloc: Global,
@@ -55,15 +55,16 @@ pub fn read_composite<T: Record, D: Deserializer, S: DeserializeSeed<Value = T::
     }
 }
 
-/// Reads the parts of a value whose descriptor is a symbol. Like [`read_composite`], with the text of
-/// the symbol in place of the code.
+/// Reads the parts of a value whose descriptor is a symbol.
+///
+/// Like [`read_composite`], with the text of the symbol in place of the code.
 ///
 /// # Errors
 /// Those of [`read_composite`].
 ///
 /// # Example
-/// For the list of the ubyte 1 described by the symbol `a:b`, with `"a:b"` and `ListSeed(named! { "x"
-/// })`, returns the part 1. With `"a:c"`, the value is invalid.
+/// For the list of the ubyte 1 described by the symbol `a:b`, with `"a:b"` and
+/// `ListSeed(named! { "x" })`, returns the part 1. With `"a:c"`, the value is invalid.
 #[tactic(auto, unfolding(crate::specs::Fields::OnDescribed))]
 pub fn read_named<T: Record, D: Deserializer, S: DeserializeSeed<Value = T::Values>>(
     alloc: Global,
