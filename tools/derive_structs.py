@@ -160,7 +160,33 @@ def defaults(t):
     return [f"impl {t.name} {{\n{uses(' '.join(said_by))}\n" + "\n".join(out) + "}\n"] if out else []
 
 
+def newtype(t):
+    """The impls of a struct that is written and read as its only field."""
+    f, n = t.fields[0], t.name
+    x, y = f.of("x"), f.of("y")
+    tree = f"optional {tree_of(f)} {x}" if f.optional else f"{tree_of(f)} {x}"
+    out = [f"impl Serialize for {n} {{\n" + ghosts({"tree": f"λ x. {tree}"}) +
+           "    fn serialize<S: Serializer>(&self, serializer: &mut S) -> Result<S::Ok, S::Error> {\n"
+           f"        self.{f.member}.serialize(serializer)\n    }}\n}}\n"] if t.writes else []
+    of = lambda name: member(f.type, "Deserialize", name)
+    made = f"{n}(value)" if t.is_tuple else f"{n} {{ {f.member}: value }}" if f.member != "value" else f"{n} {{ value }}"
+    if t.reads:
+        out.append(f"impl Deserialize for {n} {{\n" + ghosts({
+            "reads": f'λ t x. {of("reads")} t {x}', "image": f'λ x. {of("image")} {x}',
+            "restorable": f'λ x. {of("restorable")} {x}', "same": f'λ x y. {of("same")} {x} {y}'}) +
+            f"    fn deserialize<D: Deserializer>(alloc: Global, deserializer: D) -> Result<{n}, D::Error> {{\n"
+            f"        match <{f.type} as Deserialize>::deserialize(alloc, deserializer) {{\n"
+            f"            Ok(value) => Ok({made}),\n            Err(error) => Err(error),\n        }}\n    }}\n}}\n")
+    if t.round_trips:
+        out.append(f"impl RoundTrip for {n} {{\n    fn law() {{\n        <{f.type} as RoundTrip>::law();\n    }}\n}}\n")
+    if "map_key" in t.flags:
+        out.append(f"impl MapKey for {n} {{\n    fn image_is_injective() {{\n        <{f.type} as MapKey>::image_is_injective();\n    }}\n}}\n")
+    return out
+
+
 def struct_impls(t):
+    if t.transparent:
+        return newtype(t) + defaults(t)
     out = [serialize(t)] if t.writes else []
     if t.reads:
         out += [record(t), composite(t) if t.composite else deserialize(t)]

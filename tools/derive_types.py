@@ -66,6 +66,8 @@ class Type:
         self.short = self.encoding in ("list", "map") and "full" not in flags
         # read after its code or its name: the trait Composite
         self.composite = bool(self.code and self.symbol) and self.encoding in ("list", "basic")
+        # written and read as its only field
+        self.transparent = self.encoding == "basic" and not (self.code or self.symbol)
 
     def descriptor(self):
         """The descriptor that is written, as a term."""
@@ -144,8 +146,6 @@ def annotation(line, text):
         said["code"] = code_of(line, said["code"])
     if encoding in ENUM_ENCODINGS and ("code" in said or "name" in said):
         raise Wrong(line, f'encoding = "{encoding}" has no descriptor of its own')
-    if encoding == "basic" and not ("code" in said or "name" in said):
-        raise Wrong(line, 'encoding = "basic" needs code = .. or name = ..')
     if said.get("rename_all", "snake_case") not in RENAMES:
         raise Wrong(line, f'rename_all = "{said["rename_all"]}" is not one of {", ".join(RENAMES)}')
     if (encoding == "restricted") != ("source" in said and "values" in said):
@@ -239,8 +239,8 @@ def check(t):
         raise Wrong(line, f"{n} has no variants")
     if t.encoding == "scalar" and len({v.type for v in t.variants}) != len(t.variants):
         raise Wrong(line, f"{n} has two variants of one type")
-    if "map_key" in t.flags and t.encoding != "scalar":
-        raise Wrong(line, 'map_key is for encoding = "scalar"')
+    if "map_key" in t.flags and t.encoding != "scalar" and not t.transparent:
+        raise Wrong(line, 'map_key is for encoding = "scalar", and for "basic" without a descriptor')
     for f in t.fields + [f for v in t.variants for f in v.fields]:
         if t.round_trips and any(re.search(rf"\b{name}\b", f.type) for name in NO_ROUND_TRIP):
             raise Wrong(line, f"{n}: {f.type} does not round-trip: add no_round_trip")

@@ -1,6 +1,7 @@
-//! Enums: fixed values, one scalar of several types, and variants by their index.
+//! Enums: fixed values, one scalar of several types, and variants by their index; and structs with
+//! one field.
 
-use serde_amqp::primitives::{Symbol, Uuid};
+use serde_amqp::primitives::{ByteBuf, Symbol, Uuid};
 
 /// The role of an end of a link: a boolean.
 // amqp: encoding = "restricted", source = "bool", values = [false, true]
@@ -50,12 +51,23 @@ pub enum Shape {
     },
 }
 
+/// The number of a delivery: a uint. It can be the key of a map.
+// amqp: encoding = "basic", map_key
+#[derive(Debug, PartialEq, Drop)]
+pub struct DeliveryNumber(pub u32);
+
+/// A tag: a binary described by a code, or by its name.
+// amqp: encoding = "basic", code = 0x1a, name = "shop:tag"
+#[derive(Debug, PartialEq, Drop)]
+pub struct Tag(pub ByteBuf);
+
 // amqp: the impls below are written by tools/derive from the annotations above
 use serde_amqp::derive::{
-    Content, DataVariant, Deserialize, DeserializeError, DeserializeSeed, Deserializer, Either,
-    EnumSeed, FieldValues, FixedContent, Global, ListSeed, MapKey, Name, Optional, Record,
-    Required, RoundTrip, Serialize, SerializeCompounds, SerializeScalars, Serializer, TypeSeed,
-    UnitVariant, VariantOf, fields, laws, named, read, variants,
+    Composite, Content, DataVariant, Deserialize, DeserializeError, DeserializeSeed, Deserializer,
+    Either, EnumSeed, FieldValues, FixedContent, Global, ListSeed, MapKey, Name, Optional,
+    PhantomData, Record, Required, RoundTrip, RoundTripComposite, Serialize, SerializeCompounds,
+    SerializeScalars, Serializer, TypeSeed, UnitVariant, VariantOf, fields, laws, named, read,
+    read_composite_type, variants,
 };
 
 impl Serialize for Role {
@@ -398,6 +410,125 @@ impl RoundTrip for Shape {
     fn law() {
         laws::variants_return();
         <Option<Symbol> as RoundTrip>::law();
+    }
+}
+
+impl Serialize for DeliveryNumber {
+    ghost use Rattle.amqp_ser.specs.Words.{of_u32};
+
+    ghost tree = { λ x. of_u32 x.0 };
+
+    fn serialize<S: Serializer>(&self, serializer: &mut S) -> Result<S::Ok, S::Error> {
+        self.0.serialize(serializer)
+    }
+}
+
+impl Deserialize for DeliveryNumber {
+    ghost reads = { λ t x. ⟦<u32 as Deserialize>⟧.reads t x.0 };
+
+    ghost image = { λ x. ⟦<u32 as Deserialize>⟧.image x.0 };
+
+    ghost restorable = { λ x. ⟦<u32 as Deserialize>⟧.restorable x.0 };
+
+    ghost same = { λ x y. ⟦<u32 as Deserialize>⟧.same x.0 y.0 };
+
+    fn deserialize<D: Deserializer>(
+        alloc: Global,
+        deserializer: D,
+    ) -> Result<DeliveryNumber, D::Error> {
+        match <u32 as Deserialize>::deserialize(alloc, deserializer) {
+            Ok(value) => Ok(DeliveryNumber(value)),
+            Err(error) => Err(error),
+        }
+    }
+}
+
+impl RoundTrip for DeliveryNumber {
+    fn law() {
+        <u32 as RoundTrip>::law();
+    }
+}
+
+impl MapKey for DeliveryNumber {
+    fn image_is_injective() {
+        <u32 as MapKey>::image_is_injective();
+    }
+}
+
+impl Serialize for Tag {
+    ghost use Rattle.amqp_ser.specs.Tree.{code};
+    ghost use Rattle.amqp_ser.specs.Words.{basic_composite, of_binary};
+
+    ghost tree = { λ x. basic_composite (code 0x1a) (of_binary x.0) };
+
+    fn serialize<S: Serializer>(&self, serializer: &mut S) -> Result<S::Ok, S::Error> {
+        serializer.serialize_described(&0x1au64, &self.0)
+    }
+}
+
+impl Record for Tag {
+    type Values = ByteBuf;
+
+    ghost parts = { λ x. x.0 };
+}
+
+impl Composite for Tag {
+    ghost use Rattle.std.specs.Prelude.{codes};
+
+    ghost descriptor_code = { 0x1a };
+
+    ghost descriptor_name = { codes "shop:tag" };
+
+    ghost reads = { λ t x. (λ u. ⟦<ByteBuf as Deserialize>⟧.reads u x.0) t };
+
+    ghost image = { λ x. ⟦<TypeSeed<ByteBuf> as DeserializeSeed>⟧.image (⟦<Tag as Record>⟧.parts x) };
+
+    ghost restorable = { λ x. ⟦<TypeSeed<ByteBuf> as DeserializeSeed>⟧.restorable (⟦<Tag as Record>⟧.parts x) };
+
+    ghost same = { λ x y. ⟦<TypeSeed<ByteBuf> as DeserializeSeed>⟧.same (⟦<Tag as Record>⟧.parts x) (⟦<Tag as Record>⟧.parts y) };
+
+    fn code() -> u64 {
+        0x1a
+    }
+
+    fn name() -> &'static str {
+        "shop:tag"
+    }
+
+    fn read_body<D: Deserializer>(alloc: Global, deserializer: D) -> Result<Tag, D::Error> {
+        let part0 = read::<Tag, D, _>(alloc, deserializer, TypeSeed(PhantomData::<ByteBuf>))?;
+        Ok(Tag(part0))
+    }
+}
+
+impl Deserialize for Tag {
+    ghost use Rattle.std.specs.Prelude.{codes};
+    ghost use Rattle.amqp_ser.specs.Tree.{code, described};
+    ghost use Rattle.amqp_de.specs.Composites.{OnComposite};
+
+    ghost reads = { λ t x. OnComposite 0x1a (codes "shop:tag") (λ u. ⟦<Tag as Composite>⟧.reads u x) t };
+
+    ghost image = { λ x. described (code 0x1a) (⟦<Tag as Composite>⟧.image x) };
+
+    ghost restorable = { ⟦<Tag as Composite>⟧.restorable };
+
+    ghost same = { ⟦<Tag as Composite>⟧.same };
+
+    fn deserialize<D: Deserializer>(alloc: Global, deserializer: D) -> Result<Tag, D::Error> {
+        read_composite_type::<Tag, D>(alloc, deserializer)
+    }
+}
+
+impl RoundTripComposite for Tag {
+    fn composite_law() {
+        <ByteBuf as RoundTrip>::law();
+        laws::described_return();
+    }
+}
+
+impl RoundTrip for Tag {
+    fn law() {
+        <Tag as RoundTripComposite>::composite_law();
     }
 }
 // amqp: end of the impls

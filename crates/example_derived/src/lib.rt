@@ -14,7 +14,7 @@ mod report;
 mod tests;
 
 pub use catalogue::{Contact, Product, Shop};
-pub use choices::{Address, Durability, Expiry, Role, Shape};
+pub use choices::{Address, DeliveryNumber, Durability, Expiry, Role, Shape, Tag};
 pub use item::Item;
 pub use limits::Limits;
 pub use outcome::{Accepted, Failure, Modified, Outcome, Rejected};

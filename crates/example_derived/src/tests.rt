@@ -1,7 +1,7 @@
 //! Encodings that are read as a type and written again, and encodings that are refused
 //! (AMQP 1.0 part 1, section 1.6).
 
-use crate::choices::{Address, Durability, Expiry, Role, Shape};
+use crate::choices::{Address, DeliveryNumber, Durability, Expiry, Role, Shape, Tag};
 use crate::{Contact, Failure, Limits, Outcome, Position};
 use serde_amqp::de::Deserialize;
 use serde_amqp::decode::decode_value;
@@ -85,6 +85,20 @@ fn other_values_than_the_choices_are_refused(rt: HostRuntime) -> Result<(), Fail
     assert!(rt; refuses::<Expiry>(a, b"\xa3\x05nevar") && refuses::<Expiry>(a, b"\xa1\x05never"));
     assert!(rt; comes_back::<Address>(a, b"\x53\x07")? && comes_back::<Address>(a, b"\xa1\x01x")?);
     assert!(rt; refuses::<Address>(a, b"\x50\x07"));
+    Ok(())
+}
+
+#[test]
+fn structs_of_one_field_are_that_field(rt: HostRuntime) -> Result<(), Fail> {
+    let a = rt.alloc();
+    assert!(rt;
+        comes_back::<DeliveryNumber>(a, b"\x52\x07")? && refuses::<DeliveryNumber>(a, b"\x53\x07")
+    );
+    let tag = b"\x00\x53\x1a\xa0\x01t";
+    assert!(rt;
+        comes_back::<Tag>(a, tag)? && gives::<Tag>(a, b"\x00\xa3\x08shop:tag\xa0\x01t", tag)?
+    );
+    assert!(rt; refuses::<Tag>(a, b"\x00\x53\x1a\xa1\x01t") && refuses::<Tag>(a, b"\xa0\x01t"));
     Ok(())
 }
 
