@@ -57,13 +57,15 @@ def record(t):
     return f"{alias}impl Record for {t.name} {{\n{head}    type Values = {values};\n\n    ghost parts = {{ {term} }};\n}}\n"
 
 
-def reads_body(t):
-    """Which trees after the descriptor, if there is one, are read as `x`: a relation on the tree."""
+def reads_after(t, tree=None):
+    """That the tree after the descriptor, if there is one, is read as `x`; without a tree, the relation on trees."""
     if t.encoding == "basic":
         f = t.fields[0]
-        return f'(λ u. {member(f.type, "Deserialize", "reads")} u {f.of("x")})'
+        said = f'{member(f.type, "Deserialize", "reads")} {tree or "u"} {f.of("x")}'
+        return said if tree else f"(λ u. {said})"
     on = "OnNamed" if t.encoding == "map" or "by_name" in t.flags else "OnFields"
-    return f"({reads_fields(t.fields, [f.of('x') for f in t.fields], on)})"
+    said = reads_fields(t.fields, [f.of("x") for f in t.fields], on)
+    return f"{said} {tree}" if tree else f"({said})"
 
 
 def parts(t, x):
@@ -99,7 +101,7 @@ def composite(t):
     x = "x" if t.fields else "_"
     out = f"impl Composite for {t.name} {{\n" + ghosts({
         "descriptor_code": t.code, "descriptor_name": f'codes "{t.symbol}"',
-        "reads": f"λ t {x}. {reads_body(t)} t", "image": f"λ x. {image}", **others})
+        "reads": f"λ t {x}. {reads_after(t, 't')}", "image": f"λ x. {image}", **others})
     out += f"    fn code() -> u64 {{\n        {t.code}\n    }}\n\n    fn name() -> &'static str {{\n        \"{t.symbol}\"\n    }}\n\n"
     call = f"read::<{t.name}, D, _>(alloc, deserializer, {seed(t)})?" if t.fields else "read_no_fields::<D>(deserializer)?"
     out += f'    fn read_body<D: Deserializer>({"" if t.fields else "_"}alloc: Global, deserializer: D) -> Result<{t.name}, D::Error> {{\n'
@@ -121,7 +123,7 @@ def deserialize(t):
     if t.encoding == "map":
         out = f"impl NamedRecord for {t.name} {{\n" + ghosts({"names": " ∷ ".join([*(f'codes "{f.name}"' for f in t.fields), "[]"])})
         out += "    fn names_are_distinct() {}\n}\n\n"
-    reads = f"OnDescribed {described} {reads_body(t)} t" if described else f"{reads_body(t)} t"
+    reads = f"OnDescribed {described} {reads_after(t)} t" if described else reads_after(t, "t")
     out += f"impl Deserialize for {t.name} {{\n" + ghosts({
         "reads": f"λ t {x}. {reads}", "image": f"λ x. described {described} ({image})" if described else f"λ x. {image}", **others})
     call = "read" + ("" if not described else "_composite" if t.code else "_named") + ("_map" if t.encoding == "map" else "")

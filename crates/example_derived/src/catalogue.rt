@@ -225,10 +225,10 @@ impl Deserialize for Contact {
     ghost use Rattle.amqp_de.specs.Fields.{OnNamed, ReadsRequired, ReadsOptional, NoMoreFields};
     ghost use Rattle.amqp_de.specs.Present.{short_map};
 
-    ghost reads = { λ t x. (OnNamed (
+    ghost reads = { λ t x. OnNamed (
         ReadsRequired (codes "name") ⟦<String as Deserialize>⟧.reads x.name (
         ReadsOptional (codes "telephone") ⟦<String as Deserialize>⟧.reads x.telephone
-        NoMoreFields))) t };
+        NoMoreFields)) t };
 
     ghost image = { λ x. short_map ⟦<Contact as NamedRecord>⟧.names (⟦<ContactFields as FieldSeeds>⟧.images (⟦<Contact as Record>⟧.parts x)) };
 

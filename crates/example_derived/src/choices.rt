@@ -479,7 +479,7 @@ impl Composite for Tag {
 
     ghost descriptor_name = { codes "shop:tag" };
 
-    ghost reads = { λ t x. (λ u. ⟦<ByteBuf as Deserialize>⟧.reads u x.0) t };
+    ghost reads = { λ t x. ⟦<ByteBuf as Deserialize>⟧.reads t x.0 };
 
     ghost image = { λ x. ⟦<TypeSeed<ByteBuf> as DeserializeSeed>⟧.image (⟦<Tag as Record>⟧.parts x) };
 

@@ -79,7 +79,7 @@ impl Composite for Accepted {
 
     ghost descriptor_name = { codes "amqp:accepted:list" };
 
-    ghost reads = { λ t _. (OnFields NoMoreFields) t };
+    ghost reads = { λ t _. OnFields NoMoreFields t };
 
     ghost image = { λ x. ⟦<ListSeed<AcceptedFields> as DeserializeSeed>⟧.short (⟦<Accepted as Record>⟧.parts x) };
 
@@ -174,11 +174,11 @@ impl Composite for Failure {
 
     ghost descriptor_name = { codes "amqp:error:list" };
 
-    ghost reads = { λ t x. (OnFields (
+    ghost reads = { λ t x. OnFields (
         ReadsRequired (codes "condition") ⟦<Symbol as Deserialize>⟧.reads x.condition (
         ReadsOptional (codes "description") ⟦<String as Deserialize>⟧.reads x.description (
         ReadsOptional (codes "info") ⟦<OrderedMap<Symbol, Value> as Deserialize>⟧.reads x.info
-        NoMoreFields)))) t };
+        NoMoreFields))) t };
 
     ghost image = { λ x. ⟦<ListSeed<FailureFields> as DeserializeSeed>⟧.short (⟦<Failure as Record>⟧.parts x) };
 
@@ -288,9 +288,9 @@ impl Composite for Rejected {
 
     ghost descriptor_name = { codes "amqp:rejected:list" };
 
-    ghost reads = { λ t x. (OnFields (
+    ghost reads = { λ t x. OnFields (
         ReadsOptional (codes "error") ⟦<Failure as Deserialize>⟧.reads x.error
-        NoMoreFields)) t };
+        NoMoreFields) t };
 
     ghost image = { λ x. ⟦<ListSeed<RejectedFields> as DeserializeSeed>⟧.short (⟦<Rejected as Record>⟧.parts x) };
 
@@ -388,11 +388,11 @@ impl Composite for Modified {
 
     ghost descriptor_name = { codes "amqp:modified:list" };
 
-    ghost reads = { λ t x. (OnFields (
+    ghost reads = { λ t x. OnFields (
         ReadsOptional (codes "delivery-failed") ⟦<bool as Deserialize>⟧.reads x.delivery_failed (
         ReadsOptional (codes "undeliverable-here") ⟦<bool as Deserialize>⟧.reads x.undeliverable_here (
         ReadsOptional (codes "message-annotations") ⟦<OrderedMap<Symbol, Value> as Deserialize>⟧.reads x.message_annotations
-        NoMoreFields)))) t };
+        NoMoreFields))) t };
 
     ghost image = { λ x. ⟦<ListSeed<ModifiedFields> as DeserializeSeed>⟧.short (⟦<Modified as Record>⟧.parts x) };
 

@@ -71,11 +71,11 @@ impl Deserialize for Position {
     ghost use Rattle.std.specs.Prelude.{codes};
     ghost use Rattle.amqp_de.specs.Fields.{OnFields, ReadsRequired, ReadsOptional, NoMoreFields};
 
-    ghost reads = { λ t x. (OnFields (
+    ghost reads = { λ t x. OnFields (
         ReadsRequired (codes "latitude") ⟦<i32 as Deserialize>⟧.reads x.latitude (
         ReadsRequired (codes "longitude") ⟦<i32 as Deserialize>⟧.reads x.longitude (
         ReadsOptional (codes "height") ⟦<u32 as Deserialize>⟧.reads x.height
-        NoMoreFields)))) t };
+        NoMoreFields))) t };
 
     ghost image = { λ x. ⟦<ListSeed<PositionFields> as DeserializeSeed>⟧.short (⟦<Position as Record>⟧.parts x) };
 
@@ -183,7 +183,7 @@ impl Composite for Report {
 
     ghost descriptor_name = { codes "weather:report:list" };
 
-    ghost reads = { λ t x. (OnFields (
+    ghost reads = { λ t x. OnFields (
         ReadsRequired (codes "number") ⟦<u32 as Deserialize>⟧.reads x.number (
         ReadsOptional (codes "remark") ⟦<String as Deserialize>⟧.reads x.remark (
         ReadsRequired (codes "station") ⟦<Symbol as Deserialize>⟧.reads x.station (
@@ -193,7 +193,7 @@ impl Composite for Report {
         ReadsRequired (codes "time") ⟦<Timestamp as Deserialize>⟧.reads x.time (
         ReadsOptional (codes "is-checked") ⟦<bool as Deserialize>⟧.reads x.is_checked (
         ReadsRequired (codes "photograph") ⟦<ByteBuf as Deserialize>⟧.reads x.photograph
-        NoMoreFields)))))))))) t };
+        NoMoreFields))))))))) t };
 
     ghost image = { λ x. ⟦<ListSeed<ReportFields> as DeserializeSeed>⟧.short (⟦<Report as Record>⟧.parts x) };
 
