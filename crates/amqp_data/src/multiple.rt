@@ -6,12 +6,12 @@ use crate::array::Array;
 /// is the `None` of an `Option<Multiple<T>>`.
 ///
 /// # Encoding
-/// That of the value, or that of the array. An empty array is encoded as null, which means the same:
-/// Qpid Proton does not read an empty array without the constructor of its elements.
+/// That of the value, or that of the array. Use `None` and no empty array, which means the same but
+/// has no constructor, so that Qpid Proton does not read it.
 ///
 /// # Example
 /// One symbol is encoded as `a30161`, an array of two as `e00602a301610162`.
-#[derive(Debug, PartialEq, Eq, PartialOrd, Ord, Hash, Drop)]
+#[derive(Debug, PartialEq, Drop)]
 pub enum Multiple<T> {
     /// One value, without an array.
     One(T),

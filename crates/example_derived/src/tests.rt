@@ -148,7 +148,6 @@ fn several_values_and_defaults(rt: HostRuntime) -> Result<(), Fail> {
     assert!(rt;
         gives::<Limits>(
             a,
-            b"\x00\x53\x19\xc0\x07\x02\xe0\x01\x00\x60\xff\xff",
             absent
         )?
     );
