@@ -145,12 +145,6 @@ fn several_values_and_defaults(rt: HostRuntime) -> Result<(), Fail> {
     );
     assert!(rt; gives::<Limits>(a, b"\x00\x53\x19\x45", absent)?);
     assert!(rt; gives::<Limits>(a, b"\x00\x53\x19\xc0\x03\x02\x40\x40", absent)?);
-    assert!(rt;
-        gives::<Limits>(
-            a,
-            absent
-        )?
-    );
     assert!(rt; comes_back::<Limits>(a, b"\x00\x53\x19\xc0\x05\x02\x40\x60\x00\x07")?);
     assert!(rt; refuses::<Limits>(a, b"\x00\x53\x19\xc0\x04\x02\x40\x50\x07"));
     Ok(())
