@@ -5,7 +5,7 @@ use Rattle.amqp_ser.specs.Tree.{Tree, scalar, null}
 use Rattle.amqp_de.specs.Fields.{FieldSource, by_position, by_name, value_at, without}
 
 -- Null is read as the default, and any other tree as a value.
-abbrev pub ReadsOr : {T : Type 0} → T → (Tree → T → Type 0) → Tree → T → Type 0
+unfoldable pub ReadsOr : {T : Type 0} → T → (Tree → T → Type 0) → Tree → T → Type 0
 ReadsOr d R t x = ((t ≡ scalar null) × (x ≡ d)) ⊎ ((¬ (t ≡ scalar null)) × R t x)
 
 -- An absent value is read as the default.

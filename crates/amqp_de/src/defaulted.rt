@@ -25,6 +25,7 @@ pub struct Defaulted<V, R> {
 }
 
 // Reads a value, or the default from null.
+#[tactic(auto, unfolding(crate::specs::Defaults::ReadsOr))]
 fn read_or<V: Deserialize + Copy, D: Deserializer>(
     alloc: Global,
     default: V,
