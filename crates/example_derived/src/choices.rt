@@ -64,10 +64,10 @@ pub struct Tag(pub ByteBuf);
 // amqp: the impls below are written by tools/derive from the annotations above
 use serde_amqp::derive::{
     Composite, Content, DataVariant, Deserialize, DeserializeError, DeserializeSeed, Deserializer,
-    Either, EnumSeed, FieldValues, FixedContent, Global, ListSeed, MapKey, Name, Optional,
-    PhantomData, Record, Required, RoundTrip, RoundTripComposite, Serialize, SerializeCompounds,
-    SerializeScalars, Serializer, TypeSeed, UnitVariant, VariantOf, fields, laws, named, read,
-    read_composite_type, variants,
+    Either, EnumSeed, FieldSeeds, FieldValues, FixedContent, Global, ListSeed, MapKey, Name, Never,
+    Optional, PhantomData, Record, Required, RoundTrip, RoundTripComposite, Serialize,
+    SerializeCompounds, SerializeScalars, Serializer, TypeSeed, UnitVariant, VariantOf, fields,
+    laws, named, read, read_composite_type, variants,
 };
 
 impl Serialize for Role {
