@@ -7,7 +7,7 @@ use crate::deserializer::Deserializer;
 use amqp_data::{Array, Multiple};
 use std::alloc::Global;
 
-#[tactic(auto, using(crate::proofs::MultipleRefused::many_refused, crate::proofs::MultipleRefused::one_refused))]
+#[tactic(auto, using(crate::proofs::MultipleRefused::one_refused))]
 impl<T: Deserialize> Deserialize for Multiple<T> {
     ghost reads = { ReadsMultiple T.reads };
 
