@@ -5,6 +5,8 @@ use Rattle.amqp_ser.specs.Tree as tree
 use Rattle.amqp_ser.specs.Tree.{Tree, Descriptor, trees_of, described}
 use Rattle.amqp_decode.specs.Parsed.{FrameReader, parse, parse_content, gather}
 use Rattle.amqp_de.specs.Fields.{FieldSource, by_position, ReadsRequired, ReadsOptional, NoMoreFields, OnFields, OnNamed, OnDescribed}
+use Rattle.amqp_de.specs.Parts.{◌▸◌}
+use Rattle.amqp_de.specs.declared.fields.FieldValues.{FieldValues}
 use Rattle.amqp_de.specs.Present.{required, optional, any_there, all_images, short_list, up_to_last, EndsEarly}
 use Rattle.amqp_de.specs.Reads.{ReadsOption, image_option, RestorableOption, SameOption}
 use Rattle.amqp_de.proofs.Lists.{list_of_trees}
@@ -25,27 +27,27 @@ module _ {V W : Type 0} (n : List ℕ) (R : Tree → V → Type 0) (image : V �
   Rest m s w = FieldsFill Q images PW SW f m s w
 
   pub required_fill : (rest : List ℕ) (t : Tree) (x : V) (w : W) → (count ≡ 0 → ⊥) → f body ≡ Some (t, rest) → Reading R image P S t x → Rest (count - 1) rest w
-      → FieldsFill {V = V × W} (λ y. ReadsRequired n R y.0 (Q y.1)) (λ y. required (image y.0) ∷ images y.1) (λ y. P y.0 × PW y.1) (λ y z. S y.0 z.0 × SW y.1 z.1)
-      f count body (x, w)
+      → FieldsFill {V = FieldValues V W} (λ y. ReadsRequired n R y.value (Q y.rest)) (λ y. required (image y.value) ∷ images y.rest) (λ y. P y.value × PW y.rest) (λ y z. S y.value z.value × SW y.rest z.rest)
+      f count body (x ▸ w)
   unfolding ReadsRequired
   required_fill rest t x w some e r (ts, all, reads, law) =
-      (t ∷ ts, first_gathered f count body rest t ts some e all, (r.0, reads), λ y p k. (r.1 y.0 p.0 k.0, law y.1 p.1 k.1))
+      (t ∷ ts, first_gathered f count body rest t ts some e all, (r.0, reads), λ y p k. (r.1 y.value p.0 k.0, law y.rest p.1 k.1))
 
   pub optional_fill : (rest : List ℕ) (t : Tree) (x : Option V) (w : W) → (count ≡ 0 → ⊥) → f body ≡ Some (t, rest)
       → Reading (ReadsOption R) (image_option image) (RestorableOption image P) (SameOption S) t x → Rest (count - 1) rest w
-      → FieldsFill {V = Option V × W} (λ y. ReadsOptional n R y.0 (Q y.1)) (λ y. optional image y.0 ∷ images y.1) (λ y. RestorableOption image P y.0 × PW y.1)
-      (λ y z. SameOption S y.0 z.0 × SW y.1 z.1) f count body (x, w)
+      → FieldsFill {V = FieldValues (Option V) W} (λ y. ReadsOptional n R y.value (Q y.rest)) (λ y. optional image y.value ∷ images y.rest) (λ y. RestorableOption image P y.value × PW y.rest)
+      (λ y z. SameOption S y.value z.value × SW y.rest z.rest) f count body (x ▸ w)
   unfolding ReadsOptional
   optional_fill rest t x w some e r (ts, all, reads, law) =
-      (t ∷ ts, first_gathered f count body rest t ts some e all, (r.0, reads), λ y p k. (r.1 y.0 p.0 k.0, law y.1 p.1 k.1))
+      (t ∷ ts, first_gathered f count body rest t ts some e all, (r.0, reads), λ y p k. (r.1 y.value p.0 k.0, law y.rest p.1 k.1))
 
   abbrev trees_in : Option (List Tree × List ℕ) → List Tree
   trees_in None = []
   trees_in (Some p) = p.0
 
   pub optional_none : (w : W) → count ≡ 0 → Rest 0 body w
-      → FieldsFill {V = Option V × W} (λ y. ReadsOptional n R y.0 (Q y.1)) (λ y. optional image y.0 ∷ images y.1) (λ y. RestorableOption image P y.0 × PW y.1)
-      (λ y z. SameOption S y.0 z.0 × SW y.1 z.1) f count body (None, w)
+      → FieldsFill {V = FieldValues (Option V) W} (λ y. ReadsOptional n R y.value (Q y.rest)) (λ y. optional image y.value ∷ images y.rest) (λ y. RestorableOption image P y.value × PW y.rest)
+      (λ y z. SameOption S y.value z.value × SW y.rest z.rest) f count body (None ▸ w)
   unfolding ReadsOptional
   optional_none w none (ts, all, reads, law) =
       let empty : ts ≡ [] = sym (ap trees_in all) in
@@ -56,8 +58,8 @@ module _ {V W : Type 0} (n : List ℕ) (R : Tree → V → Type 0) (image : V �
         same,
         (refl, there),
         λ y p k.
-            let b = or_false (is_some y.0) (any_there (images y.1)) k in
-            (no_option S y.0 b.0, kept y.1 p.1 (ends (images y.1) b.1)),
+            let b = or_false (is_some y.value) (any_there (images y.rest)) k in
+            (no_option S y.value b.0, kept y.rest p.1 (ends (images y.rest) b.1)),
       )
     where
       ends : (fs : List (Bool × Tree)) → any_there fs ≡ false → EndsEarly fs []

@@ -9,3 +9,5 @@ pub mod Fillings
 pub mod Readings
 pub mod Chunks
 pub mod FieldLemmas
+pub mod OtherCodes
+pub mod MultipleRefused

@@ -18,8 +18,7 @@ use std::alloc::Global;
 /// Returns `GaveUp` as the seed does.
 ///
 /// # Example
-/// For `ListSeed(named! { "x" })`, the code `c0` and the bytes `03015001`, returns the parts
-/// `(1, ())`.
+/// For `ListSeed(named! { "x" })`, the code `c0` and the bytes `03015001`, returns the part 1.
 #[inline(always)]
 pub fn read_parts_encoded<T: Record, S: DeserializeSeed<Value = T::Values>>(
     alloc: Global,
@@ -47,7 +46,7 @@ pub fn read_parts_encoded<T: Record, S: DeserializeSeed<Value = T::Values>>(
 ///
 /// # Example
 /// For `1`, `ListSeed(named! { "x" })`, the code `00` and the bytes `5301c003015001`, returns the
-/// parts `(1, ())`. With `2`, gives up.
+/// part 1. With `2`, gives up.
 #[inline(always)]
 pub fn read_composite_encoded<T: Record, S: DeserializeSeed<Value = T::Values>>(
     alloc: Global,
@@ -84,7 +83,7 @@ pub fn read_composite_encoded<T: Record, S: DeserializeSeed<Value = T::Values>>(
 ///
 /// # Example
 /// For `&"a:b"`, `ListSeed(named! { "x" })`, the code `00` and the bytes `a303613a62c003015001`,
-/// returns the parts `(1, ())`.
+/// returns the part 1.
 pub fn read_described_encoded<T: Record, K: Describes, S: DeserializeSeed<Value = T::Values>>(
     alloc: Global,
     code: u8,

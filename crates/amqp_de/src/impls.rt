@@ -8,6 +8,7 @@ mod integers;
 mod lazy;
 mod lists;
 mod maps;
+mod multiple;
 mod numbers;
 mod primitives;
 mod texts;

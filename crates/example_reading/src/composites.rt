@@ -5,7 +5,7 @@
 
 use amqp_data::Symbol;
 use amqp_de::de::{Deserialize, Deserializer};
-use amqp_de::{ListSeed, NamedSeed, Record, TypeSeed, named, read_described, values};
+use amqp_de::{FieldValues, ListSeed, NamedSeed, Record, TypeSeed, named, read_described, values};
 use amqp_ser::{ListOf, Serialize, SerializeCompounds, Serializer, fields};
 use std::alloc::Global;
 use std::marker::PhantomData;
@@ -29,9 +29,11 @@ impl Serialize for Span {
 }
 
 impl Record for Span {
-    type Values = (u64, (u64, ()));
+    ghost use Rattle.amqp_de.specs.Parts.{◌▸◌};
 
-    ghost parts = { λ s. (s.0, (s.1, tt)) };
+    type Values = FieldValues<u64, FieldValues<u64, ()>>;
+
+    ghost parts = { λ s. s.0 ▸ s.1 ▸ tt };
 }
 
 impl Deserialize for Span {
@@ -139,9 +141,11 @@ impl Serialize for Limits {
 }
 
 impl Record for Limits {
-    type Values = (i32, (i32, (Option<Symbol>, ())));
+    ghost use Rattle.amqp_de.specs.Parts.{◌▸◌};
 
-    ghost parts = { λ l. (l.lowest, (l.highest, (l.unit, tt))) };
+    type Values = FieldValues<i32, FieldValues<i32, FieldValues<Option<Symbol>, ()>>>;
+
+    ghost parts = { λ l. l.lowest ▸ l.highest ▸ l.unit ▸ tt };
 }
 
 impl Deserialize for Limits {

@@ -6,7 +6,7 @@
 
 use amqp_data::{Symbol, SymbolRef};
 use amqp_de::de::{Deserialize, Deserializer};
-use amqp_de::{ListSeed, Record, named, read, read_described, values};
+use amqp_de::{FieldValues, ListSeed, Record, named, read, read_described, values};
 use amqp_ser::{ListOf, Serialize, SerializeCompounds, Serializer, fields};
 use std::alloc::Global;
 use std::collections::BTreeMap;
@@ -40,9 +40,11 @@ impl Serialize for Day {
 }
 
 impl Record for Day {
-    type Values = ([u32; 2], (Symbol, (BTreeMap<u32, i32>, ())));
+    ghost use Rattle.amqp_de.specs.Parts.{◌▸◌};
 
-    ghost parts = { λ d. (d.light, (d.station, (d.hours, tt))) };
+    type Values = FieldValues<[u32; 2], FieldValues<Symbol, FieldValues<BTreeMap<u32, i32>, ()>>>;
+
+    ghost parts = { λ d. d.light ▸ d.station ▸ d.hours ▸ tt };
 }
 
 impl Deserialize for Day {
@@ -107,9 +109,11 @@ impl Serialize for Rain {
 }
 
 impl Record for Rain {
-    type Values = (u32, (u16, ()));
+    ghost use Rattle.amqp_de.specs.Parts.{◌▸◌};
 
-    ghost parts = { λ r. (r.amount, (r.time, tt)) };
+    type Values = FieldValues<u32, FieldValues<u16, ()>>;
+
+    ghost parts = { λ r. r.amount ▸ r.time ▸ tt };
 }
 
 impl Deserialize for Rain {

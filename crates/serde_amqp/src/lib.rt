@@ -16,6 +16,7 @@
 mod cut;
 pub mod de;
 pub mod decode;
+pub mod derive;
 pub mod described;
 pub mod descriptor;
 pub mod extensions;

@@ -32,7 +32,9 @@
 //! | rows of decode and read | `MapBuilder::new`, `MapBuilder::with_capacity`, `MapBuilder::into_value` |
 //! | rows of read | `from_value`, `from_slice`, `from_reader`, `ReadLazy::read`, `Deserializer::new` |
 //! | types of one's own | `round_trip`, `round_trip_bytes`, `read`, `read_composite`, `read_described`, `TypeSeed::deserialize`, `ListSeed::deserialize`, `NamedSeed::deserialize` |
-//! | the same | `read_map`, `read_described_map` |
+//! | the same | `read_map`, `read_described_map`, `read_named`, `read_fields_map`, `read_composite_map`, `read_named_map` |
+//! | the same | `read_composite_type`, `Composite::read_body`, `Name::serialize`, `Defaulted::read_elements`, `Defaulted::read_entries` |
+//! | the same | `read_alternatives`, `Alternatives::read_after`, `Either::read_after`, `Never::read_after` |
 //! | the same | `FieldSeeds::read_elements`, `Required::read_elements`, `Optional::read_elements`, `Elements::new` |
 //! | the same | `FieldSeeds::read_entries`, `Required::read_entries`, `Optional::read_entries`, `Entries::new`, `DeserializeSeed::deserialize` |
 //! | the same | `Variants::deserialize`, `EnumSeed::deserialize`, `UnitVariant::deserialize`, `DataVariant::deserialize` |
@@ -61,6 +63,7 @@ mod accessors;
 mod again;
 mod calls;
 mod conversions;
+mod derived_types;
 mod inserted;
 mod large;
 mod lengths;

@@ -3,10 +3,12 @@
 ghost use Rattle.std.specs.Prelude.{[], ◌∷◌};
 ghost use Rattle.amqp_ser.specs.Tree.{list, trees_of};
 ghost use Rattle.amqp_de.specs.Fields.{OnFields, ReadsRequired, NoMoreFields};
+ghost use Rattle.amqp_de.specs.Parts.{◌▸◌};
 
 use crate::deserialize::Deserialize;
 use crate::deserializer::Deserializer;
 use crate::encoded::read_parts_encoded;
+use crate::fields::FieldValues;
 use crate::record::{Record, read};
 use crate::seed::ListSeed;
 use crate::{named, values};
@@ -14,9 +16,9 @@ use amqp_decode::prefix::GaveUp;
 use std::alloc::Global;
 
 impl<A: Deserialize> Record for (A,) {
-    type Values = (A, ());
+    type Values = FieldValues<A, ()>;
 
-    ghost parts = { λ x. (x.0, tt) };
+    ghost parts = { λ x. x.0 ▸ tt };
 }
 
 impl<A: Deserialize> Deserialize for (A,) {
@@ -51,9 +53,9 @@ impl<A: Deserialize> Deserialize for (A,) {
 }
 
 impl<A: Deserialize, B: Deserialize> Record for (A, B) {
-    type Values = (A, (B, ()));
+    type Values = FieldValues<A, FieldValues<B, ()>>;
 
-    ghost parts = { λ x. (x.0, (x.1, tt)) };
+    ghost parts = { λ x. x.0 ▸ x.1 ▸ tt };
 }
 
 impl<A: Deserialize, B: Deserialize> Deserialize for (A, B) {
@@ -92,9 +94,9 @@ impl<A: Deserialize, B: Deserialize> Deserialize for (A, B) {
 }
 
 impl<A: Deserialize, B: Deserialize, C: Deserialize> Record for (A, B, C) {
-    type Values = (A, (B, (C, ())));
+    type Values = FieldValues<A, FieldValues<B, FieldValues<C, ()>>>;
 
-    ghost parts = { λ x. (x.0, (x.1, (x.2, tt))) };
+    ghost parts = { λ x. x.0 ▸ x.1 ▸ x.2 ▸ tt };
 }
 
 impl<A: Deserialize, B: Deserialize, C: Deserialize> Deserialize for (A, B, C) {
@@ -137,9 +139,9 @@ impl<A: Deserialize, B: Deserialize, C: Deserialize> Deserialize for (A, B, C) {
 }
 
 impl<A: Deserialize, B: Deserialize, C: Deserialize, D: Deserialize> Record for (A, B, C, D) {
-    type Values = (A, (B, (C, (D, ()))));
+    type Values = FieldValues<A, FieldValues<B, FieldValues<C, FieldValues<D, ()>>>>;
 
-    ghost parts = { λ x. (x.0, (x.1, (x.2, (x.3, tt)))) };
+    ghost parts = { λ x. x.0 ▸ x.1 ▸ x.2 ▸ x.3 ▸ tt };
 }
 
 impl<A: Deserialize, B: Deserialize, C: Deserialize, D: Deserialize> Deserialize for (A, B, C, D) {
