@@ -28,7 +28,8 @@ pub fn read_value_after_code(
         parse (suc depth) (code ∷ bytes.old.now) ≡ Some (tree_of v, bytes.new.now)) }
 {
     let spare = bytes.len();
-    match read_after_code(alloc, code, bytes, depth, 0, spare) {
+    let mut limit = Some(0);
+    match read_after_code(alloc, code, bytes, depth, &mut limit, spare) {
         Ok(value) => Ok(value),
         Err(_) => Err(GaveUp),
     }
