@@ -229,7 +229,10 @@ impl<V: Deserialize, R: FieldSeeds> FieldSeeds for Required<V, R> {
         let mut rest = after;
         let value = V::read_encoded(alloc, code, &mut rest, depth)?;
         let others = self.rest.read_fields(alloc, count - 1, rest, depth)?;
-        Ok(FieldValues { value, rest: others })
+        Ok(FieldValues {
+            value,
+            rest: others,
+        })
     }
 }
 
@@ -299,12 +302,18 @@ impl<V: Deserialize, R: FieldSeeds> FieldSeeds for Optional<V, R> {
     ) -> Result<FieldValues<Option<V>, R::Values>, GaveUp> {
         if count == 0 {
             let others = self.rest.read_fields(alloc, 0, body, depth)?;
-            return Ok(FieldValues { value: None, rest: others });
+            return Ok(FieldValues {
+                value: None,
+                rest: others,
+            });
         }
         let (code, after) = split_byte(body)?;
         let mut rest = after;
         let value = Option::<V>::read_encoded(alloc, code, &mut rest, depth)?;
         let others = self.rest.read_fields(alloc, count - 1, rest, depth)?;
-        Ok(FieldValues { value, rest: others })
+        Ok(FieldValues {
+            value,
+            rest: others,
+        })
     }
 }

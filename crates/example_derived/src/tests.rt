@@ -137,10 +137,13 @@ fn several_values_and_defaults(rt: HostRuntime) -> Result<(), Fail> {
     let a = rt.alloc();
     let absent = b"\x00\x53\x19\xc0\x05\x02\x40\x60\xff\xff";
     assert!(rt; comes_back::<Limits>(a, b"\x00\x53\x19\xc0\x07\x02\xa3\x01a\x60\xff\xff")?);
+    let both = b"\x00\x53\x19\xc0\x12\x02\xe0\x0c\x02\xb3\0\0\0\x01a\0\0\0\x01b\x60\xff\xff";
+    assert!(rt; comes_back::<Limits>(a, both)?);
     assert!(rt;
-        comes_back::<Limits>(
+        gives::<Limits>(
             a,
-            b"\x00\x53\x19\xc0\x0c\x02\xe0\x06\x02\xa3\x01a\x01b\x60\xff\xff"
+            b"\x00\x53\x19\xc0\x0c\x02\xe0\x06\x02\xa3\x01a\x01b\x60\xff\xff",
+            both
         )?
     );
     assert!(rt; gives::<Limits>(a, b"\x00\x53\x19\x45", absent)?);

@@ -4,8 +4,11 @@
 //! a list that is also read from a map of field names.
 
 use amqp_data::Symbol;
-use amqp_de::de::{Deserialize, Deserializer};
-use amqp_de::{FieldValues, ListSeed, NamedSeed, Record, TypeSeed, named, read_described, values};
+use amqp_de::de::{Deserialize, Deserializer, GaveUp};
+use amqp_de::{
+    FieldValues, ListSeed, NamedSeed, Record, TypeSeed, named, read_composite_encoded,
+    read_described, values,
+};
 use amqp_ser::{ListOf, Serialize, SerializeCompounds, Serializer, fields};
 use std::alloc::Global;
 use std::marker::PhantomData;
@@ -108,6 +111,22 @@ impl Deserialize for Title {
             TypeSeed(PhantomData::<String>),
         )?))
     }
+
+    fn read_encoded(
+        alloc: Global,
+        code: u8,
+        input: &mut &[u8],
+        depth: u16,
+    ) -> Result<Title, GaveUp> {
+        Ok(Title(read_composite_encoded::<Title, _>(
+            alloc,
+            code,
+            input,
+            depth,
+            0x13,
+            TypeSeed(PhantomData::<String>),
+        )?))
+    }
 }
 
 /// The temperatures between which a thermometer works, in hundredths of a degree: a list described
@@ -172,6 +191,27 @@ impl Deserialize for Limits {
             alloc,
             deserializer,
             &0x14u64,
+            NamedSeed(named! { "lowest", "highest", "unit"? }),
+        )?;
+        Ok(Limits {
+            lowest,
+            highest,
+            unit,
+        })
+    }
+
+    fn read_encoded(
+        alloc: Global,
+        code: u8,
+        input: &mut &[u8],
+        depth: u16,
+    ) -> Result<Limits, GaveUp> {
+        let values! { lowest, highest, unit } = read_composite_encoded::<Limits, _>(
+            alloc,
+            code,
+            input,
+            depth,
+            0x14,
             NamedSeed(named! { "lowest", "highest", "unit"? }),
         )?;
         Ok(Limits {

@@ -31,7 +31,11 @@
 //! | rows of read_within | `from_slice_limited` |
 //! | rows of decode and read | `MapBuilder::new`, `MapBuilder::with_capacity`, `MapBuilder::into_value` |
 //! | rows of read | `from_value`, `from_slice`, `from_reader`, `ReadLazy::read`, `Deserializer::new` |
+//! | the same | `Deserialize::read_encoded`, `Deserialize::read_list`, `Deserialize::read_array`, `read_string`, `read_symbol`, `read_binary` |
+//! | the same | `read_value_after_code`, `split_descriptor`, `read_parts_encoded`, `DeserializeSeed::read_encoded`, `ListSeed::read_encoded` |
+//! | the same | `FieldSeeds::read_fields`, `Required::read_fields` |
 //! | types of one's own | `round_trip`, `round_trip_bytes`, `read`, `read_composite`, `read_described`, `TypeSeed::deserialize`, `ListSeed::deserialize`, `NamedSeed::deserialize` |
+//! | the same | `read_composite_encoded`, `read_described_encoded`, `TypeSeed::read_encoded`, `NamedSeed::read_encoded`, `Optional::read_fields` |
 //! | the same | `read_map`, `read_described_map`, `read_named`, `read_fields_map`, `read_composite_map`, `read_named_map` |
 //! | the same | `read_composite_type`, `Composite::read_body`, `Name::serialize`, `Defaulted::read_elements`, `Defaulted::read_entries` |
 //! | the same | `read_alternatives`, `Alternatives::read_after`, `Either::read_after`, `Never::read_after` |
