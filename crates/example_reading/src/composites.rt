@@ -206,13 +206,9 @@ impl Deserialize for Limits {
         input: &mut &[u8],
         depth: u16,
     ) -> Result<Limits, GaveUp> {
+        let seed = NamedSeed(named! { "lowest", "highest", "unit"? });
         let values! { lowest, highest, unit } = read_composite_encoded::<Limits, _>(
-            alloc,
-            code,
-            input,
-            depth,
-            0x14,
-            NamedSeed(named! { "lowest", "highest", "unit"? }),
+            alloc, code, input, depth, 0x14, seed,
         )?;
         Ok(Limits {
             lowest,

@@ -151,12 +151,13 @@ impl Deserialize for Rain {
         input: &mut &[u8],
         depth: u16,
     ) -> Result<Rain, GaveUp> {
+        let descriptor = "station:rain:list";
         let values! { amount, time } = read_described_encoded::<Rain, _, _>(
             alloc,
             code,
             input,
             depth,
-            &"station:rain:list",
+            &descriptor,
             ListSeed(named! { "amount", "time" }),
         )?;
         Ok(Rain { amount, time })
