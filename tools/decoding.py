@@ -25,14 +25,15 @@ A list, a map or an array.
 2. Invalid value if the count of a map is odd, before the first key is read. A count is not compared with the size.
 3. The constructor of an array: unexpected end if there is none, unless the count is 0; invalid value if it is 00;
    invalid format code if it is none. With a count of 0 it is tested too, if there is one.
-4. Out of memory if an array has more elements than the limit, and these have no bytes. `decode_value` has no limit.
+4. Too long if an array has more elements than the arrays before it leave of the limit, and these have no bytes.
+   `decode_value` has no limit.
 5. The elements in their order, a key before its value. An element of an array has the tests 1, 4 and 5 of a value.
 6. Invalid value if bytes of the payload are left.
 
 The whole: invalid value if bytes are left after the first value.
 """
 
-from definitions import CODE, COMPOUNDS, EOF, FIXED, INVALID, MEMORY, RAW, SHORT, SIGNED, TEXTS, Refused
+from definitions import CODE, COMPOUNDS, EOF, FIXED, INVALID, LONG, RAW, SHORT, SIGNED, TEXTS, Refused
 
 # Code: kind, bytes of the payload, and the content if it has none.
 SCALARS = {**{code: (kind, width, None) for kind, (code, width) in FIXED.items()}, **SHORT}
@@ -41,7 +42,7 @@ SIZED = {
     code | long: (kind, width)
     for kind, code in {**TEXTS, **COMPOUNDS}.items() for long, width in ((0, 1), (0x10, 4))
 }
-LEVELS, NO_LIMIT = 256, 2 ** 32 - 1
+LEVELS = 256
 
 
 def frozen(tree):
@@ -81,9 +82,10 @@ def frame_len(data):
     return at
 
 
-def decoded(data, limit=NO_LIMIT):
-    """The value that the bytes stand for, in which no array has more than `limit` elements without bytes."""
-    tree, at = value(data, 0, LEVELS, limit)
+def decoded(data, limit=None):
+    """The value that the bytes stand for, in whose arrays are at most `limit` elements without bytes."""
+    left = None if limit is None else [limit]
+    tree, at = value(data, 0, LEVELS, left)
     if at != len(data):
         raise Refused(INVALID)
     return tree
@@ -103,16 +105,16 @@ def primitive(code):
         raise Refused(CODE)
 
 
-def value(data, at, depth, limit):
+def value(data, at, depth, left):
     """The value at this place, which may have so many levels, and the place after it."""
     if depth == 0:
         raise Refused(INVALID)
     (code,), at = take(data, at, 1)
     if code:
         primitive(code)
-        return contents(code, data, at, depth, limit)
+        return contents(code, data, at, depth, left)
     descriptor, at = descriptor_at(data, at)
-    tree, at = value(data, at, depth - 1, limit)
+    tree, at = value(data, at, depth - 1, left)
     return ("described", [descriptor, tree]), at
 
 
@@ -134,11 +136,11 @@ def payload(code, data, at):
     return take(data, at, int.from_bytes(size, "big"))
 
 
-def contents(code, data, at, depth, limit):
+def contents(code, data, at, depth, left):
     """The value of this code whose payload is at this place, and the place after it."""
     inner, at = payload(code, data, at)
     if code in SIZED and SIZED[code][0] in COMPOUNDS:
-        return compound(*SIZED[code], inner, depth, limit), at
+        return compound(*SIZED[code], inner, depth, left), at
     return scalar(code, inner), at
 
 
@@ -164,7 +166,7 @@ def utf8(data):
         raise Refused(INVALID) from None
 
 
-def compound(kind, width, inner, depth, limit):
+def compound(kind, width, inner, depth, left):
     """The list, map or array of this payload, whose elements may have `depth - 1` levels."""
     count, at = take(inner, 0, width)
     count = int.from_bytes(count, "big")
@@ -174,21 +176,23 @@ def compound(kind, width, inner, depth, limit):
     if kind == "array" and (count or at < len(inner)):
         (code,), at = take(inner, at, 1)
         primitive(code)
-        if count > limit and code in SCALARS and SCALARS[code][1] == 0:
-            raise Refused(MEMORY)
+        if left is not None and code in SCALARS and SCALARS[code][1] == 0:
+            if count > left[0]:
+                raise Refused(LONG)
+            left[0] -= count
     parts = []
     for _ in range(count):
-        part, at = element(code, inner, at, depth - 1, limit)
+        part, at = element(code, inner, at, depth - 1, left)
         parts.append(part)
     if at != len(inner):
         raise Refused(INVALID)
     return gathered(parts) if kind == "map" else (kind, parts)
 
 
-def element(code, data, at, depth, limit):
+def element(code, data, at, depth, left):
     """The element at this place, and the place after it. An element of an array has the code of the constructor."""
     if code is None:
-        return value(data, at, depth, limit)
+        return value(data, at, depth, left)
     if depth == 0:
         raise Refused(INVALID)
-    return contents(code, data, at, depth, limit)
+    return contents(code, data, at, depth, left)

@@ -5,7 +5,7 @@ A tree is a tuple of its kind and its content; None has no tree.
 
 INVALID, EOF, CODE = "<invalid value>", "<unexpected end of input>", "<invalid format code>"
 FAULTS = (INVALID, EOF, CODE)
-MEMORY = "<out of memory>"
+LONG = "<too long>"
 
 # Kind: code in an array, and the bytes of its payload there; texts and compounds stand apart.
 FIXED = {

@@ -18,7 +18,7 @@ from random import Random
 from resource import RLIMIT_AS, setrlimit
 
 from decoding import decoded, frame_len, frozen
-from definitions import FAULTS, INVALID, MEMORY, Refused, written
+from definitions import FAULTS, INVALID, LONG, Refused, written
 from grow import Grower, rows
 from malformed import malformed
 from nodes import image, tree_of
@@ -126,7 +126,7 @@ def compare_row(row, line, fields):
         for ours, other in zip_longest(found, wanted, fillvalue=""):
             print("  " + ours if holds(ours, other) else f"! {ours}\n  {other}")
         sys.exit(1)
-    return fields[0] in (*FAULTS, MEMORY)
+    return fields[0] in (*FAULTS, LONG)
 
 
 # Rows that are given.

@@ -6,7 +6,7 @@ may be cut, or bytes may be left over.
 """
 
 from decoding import LEVELS, SCALARS, SIZED, decoded
-from definitions import COMPOUNDS, FIXED, MEMORY, SHORT, SIGNED, TEXTS, Refused, number, raw, written
+from definitions import COMPOUNDS, FIXED, LONG, SHORT, SIGNED, TEXTS, Refused, number, raw, written
 from nodes import LIMIT
 
 CODES = [0, *SCALARS, *SIZED]
@@ -197,7 +197,7 @@ class Encoder:
         data = self.data(self.made_of(tree, other))
         token = self.one(("", "limited:", "limited:", "lazy:"))
         # Without a limit, a false count could take gigabytes. An empty row is no row.
-        if not data or refusal(lambda: decoded(data, LIMIT)) == MEMORY:
+        if not data or refusal(lambda: decoded(data, LIMIT)) == LONG:
             token = "limited:"
         return token + data.hex()
 

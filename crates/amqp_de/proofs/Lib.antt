@@ -4,3 +4,10 @@ pub mod Inserted
 pub mod Keys
 pub mod Lists
 pub mod LeftOut
+pub mod Leaves
+pub mod Fillings
+pub mod Readings
+pub mod Chunks
+pub mod FieldLemmas
+pub mod OtherCodes
+pub mod MultipleRefused

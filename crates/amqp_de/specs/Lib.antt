@@ -8,5 +8,10 @@ pub mod Answers
 pub mod ContentTree
 pub mod Kinds
 pub mod Enums
+pub mod Parts
+pub mod Defaults
+pub mod Multiple
+pub mod Composites
 pub mod Access
 pub mod Events
+pub mod Encoded

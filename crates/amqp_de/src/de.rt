@@ -10,3 +10,4 @@ pub use crate::deserializer::Deserializer;
 pub use crate::fixed_content::FixedContent;
 pub use crate::shown::{Plain, Visit};
 pub use crate::visitor::Visitor;
+pub use amqp_decode::prefix::GaveUp;

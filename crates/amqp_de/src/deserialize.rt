@@ -1,10 +1,16 @@
 //! Types that can be read from a deserializer.
 
+ghost use Rattle.std.specs.Prelude.{◌∷◌, suc, IfOk};
 ghost use Rattle.amqp_ser.specs.Tree.{Tree};
+ghost use Rattle.amqp_decode.specs.Parsed.{parse};
+ghost use Rattle.amqp_decode.specs.Prefix.{item_of};
+ghost use Rattle.amqp_de.specs.Encoded.{Reading, ReadsPrefix, Fills};
 ghost use Rattle.amqp_de.specs.Answers.{Answers, Restores};
 
 use crate::deserialize_error::DeserializeError;
 use crate::deserializer::Deserializer;
+use crate::room::push_item;
+use amqp_decode::prefix::{GaveUp, split_byte};
 use std::alloc::Global;
 
 /// A type that can be read from any deserializer.
@@ -38,4 +44,79 @@ pub trait Deserialize: Sized + Drop {
         ensures read { Answers D.Error.is_out_of_memory (reads (D.value deserializer)) result }
         ensures law { Restores image restorable same
             D.Error.is_out_of_memory (D.value deserializer) result };
+
+    /// Reads the payload after its format code without an untyped value, and leaves the bytes after
+    /// it. There are at most `depth` levels inside.
+    ///
+    /// The provided method gives up.
+    ///
+    /// # Errors
+    /// Returns `GaveUp` if this way of reading does not support the type or the bytes, if no value
+    /// of the type is read from them, or if an allocation fails. The bytes that are left are then
+    /// unspecified.
+    fn read_encoded(alloc: Global, code: u8, input: &mut &[u8], depth: u16) -> Result<Self, GaveUp>
+        ensures { IfOk result (λ x. ReadsPrefix (Reading reads image restorable same)
+            depth (code ∷ input.old.now) input.new.now x) }
+    {
+        Err(GaveUp)
+    }
+
+    /// Reads `count` encoded values that fill the body of a list.
+    ///
+    /// # Errors
+    /// Returns `GaveUp` as `read_encoded` does, and if bytes are left over.
+    ///
+    /// # Memory
+    /// Reserves memory for at most `count` values, as many as there are bytes, and as many as 4,096
+    /// bytes hold, but at least for four. The capacity grows as more are read.
+    #[inline(never)]
+    fn read_list(alloc: Global, count: u32, body: &[u8], depth: u16) -> Result<Vec<Self>, GaveUp>
+        ensures { IfOk result (λ v. Fills (Reading reads image restorable same)
+            (parse (suc depth)) count body.now v.items) }
+    {
+        let mut items = Vec::new(alloc);
+        let mut rest = body;
+        for read in 0..count {
+            let (code, after) = split_byte(rest)?;
+            rest = after;
+            let item = Self::read_encoded(alloc, code, &mut rest, depth)?;
+            push_item(&mut items, item, count, body)?;
+        }
+        if rest.is_empty() {
+            Ok(items)
+        } else {
+            Err(GaveUp)
+        }
+    }
+
+    /// Reads `count` payloads of this code that fill the content of an array.
+    ///
+    /// # Errors
+    /// Returns `GaveUp` as `read_list` does.
+    ///
+    /// # Memory
+    /// Reserves memory as `read_list` does.
+    #[inline(never)]
+    fn read_array(
+        alloc: Global,
+        code: u8,
+        count: u32,
+        content: &[u8],
+        depth: u16,
+    ) -> Result<Vec<Self>, GaveUp>
+        ensures { IfOk result (λ v. Fills (Reading reads image restorable same)
+            (item_of depth code) count content.now v.items) }
+    {
+        let mut items = Vec::new(alloc);
+        let mut rest = content;
+        for read in 0..count {
+            let item = Self::read_encoded(alloc, code, &mut rest, depth)?;
+            push_item(&mut items, item, count, content)?;
+        }
+        if rest.is_empty() {
+            Ok(items)
+        } else {
+            Err(GaveUp)
+        }
+    }
 }

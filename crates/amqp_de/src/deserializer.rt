@@ -7,6 +7,7 @@ ghost use Rattle.amqp_de.specs.Answers.{TakesNext, TakesPair, TakesNamed};
 ghost use Rattle.amqp_de.specs.ContentTree.{content_tree};
 ghost use Rattle.amqp_de.specs.Events.{is_index};
 ghost use Rattle.amqp_de.specs.Kinds.{HoldsFixed, HoldsText, HoldsElements};
+ghost use Rattle.amqp_de.specs.Multiple.{is_array_tree};
 
 use crate::content::Content;
 use crate::deserialize_error::DeserializeError;
@@ -60,7 +61,7 @@ use std::alloc::Global;
 /// visitor's.
 ///
 /// # Implementer notes
-/// Required methods: `alloc`, `is_null`, `is_index`, `open`, `into_value`, `next_element`,
+/// Required methods: `alloc`, `is_null`, `is_index`, `is_array`, `open`, `into_value`, `next_element`,
 /// `next_pair` and `take_named`. `open` and `into_value` return a level and a `Value` whose tree is
 /// `value`. `next_element` and `next_pair` remove the first of `items` and `pairs`; `take_named`
 /// removes the first entry with the given name.
@@ -104,6 +105,13 @@ pub trait Deserializer: Sized + Drop {
     /// `true` for the uint 1 and for the symbol `a`, `false` for the ulong 1.
     fn is_index(&self) -> bool
         ensures { result ≡ is_index (value self.now) };
+
+    /// Returns `true` if and only if the value is an array.
+    ///
+    /// # Example
+    /// `true` for an array of ubytes, `false` for a list of them.
+    fn is_array(&self) -> bool
+        ensures { result ≡ is_array_tree (value self.now) };
 
     /// Opens the first level of the value.
     ///

@@ -1,6 +1,8 @@
 //! The fields of a struct that are read in one call.
 
-ghost use Rattle.std.specs.Prelude.{◌≡◌, ℕ, List, [], ◌∷◌, Bool, true, MatchResult};
+ghost use Rattle.std.specs.Prelude.{◌≡◌, ℕ, List, [], ◌∷◌, Bool, true, MatchResult, IfOk, suc};
+ghost use Rattle.amqp_decode.specs.Parsed.{parse};
+ghost use Rattle.amqp_de.specs.Encoded.{FieldsFill};
 ghost use Rattle.amqp_ser.specs.Tree.{Tree};
 ghost use Rattle.amqp_de.specs.Answers.{Answers};
 ghost use Rattle.amqp_de.specs.Fields.{FieldSource, by_position, by_name, ReadsRequired, ReadsOptional, NoMoreFields};
@@ -10,6 +12,7 @@ ghost use Rattle.amqp_de.specs.Reads.{Always, RestorableOption, SameOption};
 use crate::deserialize::Deserialize;
 use crate::deserialize_error::DeserializeError;
 use crate::deserializer::Deserializer;
+use amqp_decode::prefix::{GaveUp, split_byte};
 use std::alloc::Global;
 use std::marker::PhantomData;
 
@@ -22,7 +25,7 @@ use std::marker::PhantomData;
 /// contents, or run out of memory. In a list, absent fields at the end may be left out. In a map,
 /// all absent fields are left out, and the law applies if the names are distinct.
 pub trait FieldSeeds: Sized + Drop {
-    /// The values of the fields, as nested pairs.
+    /// The values of the fields: [`FieldValues`] of each and the others, and `()` after the last.
     type Values: Drop;
 
     /// Which elements or entries are read as which values.
@@ -78,6 +81,26 @@ pub trait FieldSeeds: Sized + Drop {
             distinct_names (names self.now) ≡ true →
             D.pairs entries.old ≡ present_fields (names self.now) (images x) →
             MatchResult result (λ y. same y x) D.Error.is_out_of_memory };
+
+    /// Reads the fields from `count` encoded values that fill the body of a list. Gives up if there
+    /// are more values than fields.
+    ///
+    /// The provided method gives up.
+    ///
+    /// # Errors
+    /// Returns `GaveUp` as `Deserialize::read_encoded` does.
+    fn read_fields(
+        &self,
+        alloc: Global,
+        count: u32,
+        body: &[u8],
+        depth: u16,
+    ) -> Result<Self::Values, GaveUp>
+        ensures { IfOk result (λ v. FieldsFill (reads self.now) images restorable
+            same (parse (suc depth)) count body.now v) }
+    {
+        Err(GaveUp)
+    }
 }
 
 #[tactic(auto, unfolding(crate::specs::Fields::NoMoreFields))]
@@ -109,6 +132,31 @@ impl FieldSeeds for () {
     ) -> Result<(), D::Error> {
         Ok(())
     }
+
+    #[inline(always)]
+    fn read_fields(
+        &self,
+        _alloc: Global,
+        count: u32,
+        body: &[u8],
+        _depth: u16,
+    ) -> Result<(), GaveUp> {
+        if count == 0 && body.is_empty() {
+            Ok(())
+        } else {
+            Err(GaveUp)
+        }
+    }
+}
+
+/// The value of a field, and the values of the fields after it. The pattern [`values!`] destructures
+/// them.
+#[derive(Debug, PartialEq, Drop)]
+pub struct FieldValues<V, R> {
+    /// The value of the field.
+    pub value: V,
+    /// The values of the fields after it; `()` if there are none.
+    pub rest: R,
 }
 
 /// A required field, and the fields after it.
@@ -124,28 +172,28 @@ pub struct Required<V, R> {
 
 #[tactic(auto, unfolding(crate::specs::Fields::ReadsRequired))]
 impl<V: Deserialize, R: FieldSeeds> FieldSeeds for Required<V, R> {
-    type Values = (V, R::Values);
+    type Values = FieldValues<V, R::Values>;
 
-    ghost reads = { λ f x. ReadsRequired f.name.now V.reads x.0 (R.reads f.rest x.1) };
+    ghost reads = { λ f x. ReadsRequired f.name.now V.reads x.value (R.reads f.rest x.rest) };
 
     ghost names = { λ f. f.name.now ∷ R.names f.rest };
 
-    ghost images = { λ x. required (V.image x.0) ∷ R.images x.1 };
+    ghost images = { λ x. required (V.image x.value) ∷ R.images x.rest };
 
-    ghost restorable = { λ x. V.restorable x.0 × R.restorable x.1 };
+    ghost restorable = { λ x. V.restorable x.value × R.restorable x.rest };
 
-    ghost same = { λ x y. V.same x.0 y.0 × R.same x.1 y.1 };
+    ghost same = { λ x y. V.same x.value y.value × R.same x.rest y.rest };
 
     fn read_elements<D: Deserializer>(
         &self,
         alloc: Global,
         elements: &mut D::Elements,
-    ) -> Result<(V, R::Values), D::Error> {
+    ) -> Result<FieldValues<V, R::Values>, D::Error> {
         match D::next_element(&mut *elements) {
             Some(element) => {
                 let value = V::deserialize(alloc, element)?;
                 let rest = self.rest.read_elements::<D>(alloc, elements)?;
-                Ok((value, rest))
+                Ok(FieldValues { value, rest })
             }
             None => Err(D::Error::invalid_value()),
         }
@@ -155,15 +203,36 @@ impl<V: Deserialize, R: FieldSeeds> FieldSeeds for Required<V, R> {
         &self,
         alloc: Global,
         entries: &mut D::Entries,
-    ) -> Result<(V, R::Values), D::Error> {
+    ) -> Result<FieldValues<V, R::Values>, D::Error> {
         match D::take_named(&mut *entries, self.name) {
             Some(entry) => {
                 let value = V::deserialize(alloc, entry)?;
                 let rest = self.rest.read_entries::<D>(alloc, entries)?;
-                Ok((value, rest))
+                Ok(FieldValues { value, rest })
             }
             None => Err(D::Error::invalid_value()),
         }
+    }
+
+    #[inline(always)]
+    fn read_fields(
+        &self,
+        alloc: Global,
+        count: u32,
+        body: &[u8],
+        depth: u16,
+    ) -> Result<FieldValues<V, R::Values>, GaveUp> {
+        if count == 0 {
+            return Err(GaveUp);
+        }
+        let (code, after) = split_byte(body)?;
+        let mut rest = after;
+        let value = V::read_encoded(alloc, code, &mut rest, depth)?;
+        let others = self.rest.read_fields(alloc, count - 1, rest, depth)?;
+        Ok(FieldValues {
+            value,
+            rest: others,
+        })
     }
 }
 
@@ -180,46 +249,71 @@ pub struct Optional<V, R> {
 
 #[tactic(auto, using(crate::proofs::LeftOut::present_value, crate::proofs::LeftOut::absent_same, crate::proofs::LeftOut::rest_there, crate::proofs::LeftOut::others_distinct), unfolding(crate::specs::Fields::ReadsOptional))]
 impl<V: Deserialize, R: FieldSeeds> FieldSeeds for Optional<V, R> {
-    type Values = (Option<V>, R::Values);
+    type Values = FieldValues<Option<V>, R::Values>;
 
-    ghost reads = { λ f x. ReadsOptional f.name.now V.reads x.0 (R.reads f.rest x.1) };
+    ghost reads = { λ f x. ReadsOptional f.name.now V.reads x.value (R.reads f.rest x.rest) };
 
     ghost names = { λ f. f.name.now ∷ R.names f.rest };
 
-    ghost images = { λ x. optional V.image x.0 ∷ R.images x.1 };
+    ghost images = { λ x. optional V.image x.value ∷ R.images x.rest };
 
-    ghost restorable = { λ x. RestorableOption V.image V.restorable x.0 × R.restorable x.1 };
+    ghost restorable = { λ x. RestorableOption V.image V.restorable x.value × R.restorable x.rest };
 
-    ghost same = { λ x y. SameOption V.same x.0 y.0 × R.same x.1 y.1 };
+    ghost same = { λ x y. SameOption V.same x.value y.value × R.same x.rest y.rest };
 
     fn read_elements<D: Deserializer>(
         &self,
         alloc: Global,
         elements: &mut D::Elements,
-    ) -> Result<(Option<V>, R::Values), D::Error> {
+    ) -> Result<FieldValues<Option<V>, R::Values>, D::Error> {
         let value = match D::next_element(&mut *elements) {
             Some(element) => Option::<V>::deserialize(alloc, element)?,
             None => None,
         };
         let rest = self.rest.read_elements::<D>(alloc, elements)?;
-        Ok((value, rest))
+        Ok(FieldValues { value, rest })
     }
 
     fn read_entries<D: Deserializer>(
         &self,
         alloc: Global,
         entries: &mut D::Entries,
-    ) -> Result<(Option<V>, R::Values), D::Error> {
+    ) -> Result<FieldValues<Option<V>, R::Values>, D::Error> {
         match D::take_named(&mut *entries, self.name) {
             Some(entry) => {
                 let value = Option::<V>::deserialize(alloc, entry)?;
                 let rest = self.rest.read_entries::<D>(alloc, entries)?;
-                Ok((value, rest))
+                Ok(FieldValues { value, rest })
             }
             None => {
                 let rest = self.rest.read_entries::<D>(alloc, entries)?;
-                Ok((None, rest))
+                Ok(FieldValues { value: None, rest })
             }
         }
+    }
+
+    #[inline(always)]
+    fn read_fields(
+        &self,
+        alloc: Global,
+        count: u32,
+        body: &[u8],
+        depth: u16,
+    ) -> Result<FieldValues<Option<V>, R::Values>, GaveUp> {
+        if count == 0 {
+            let others = self.rest.read_fields(alloc, 0, body, depth)?;
+            return Ok(FieldValues {
+                value: None,
+                rest: others,
+            });
+        }
+        let (code, after) = split_byte(body)?;
+        let mut rest = after;
+        let value = Option::<V>::read_encoded(alloc, code, &mut rest, depth)?;
+        let others = self.rest.read_fields(alloc, count - 1, rest, depth)?;
+        Ok(FieldValues {
+            value,
+            rest: others,
+        })
     }
 }

@@ -4,19 +4,24 @@
 mod access;
 mod calls;
 mod composite;
+mod composites;
 mod content;
 pub mod de;
+mod defaulted;
 mod deserialize;
 mod deserialize_error;
 mod deserializer;
+mod encoded;
 mod enums;
 mod fields;
 mod fixed_content;
 mod impls;
 pub mod laws;
+mod named_record;
 mod names;
 mod record;
 mod record_map;
+mod room;
 mod seed;
 mod shown;
 mod untyped;
@@ -24,16 +29,23 @@ mod unwritable;
 mod visitor;
 
 pub use access::{ContentOf, ElementsOf, EntriesOf, EnumAccessOf};
-pub use composite::read_composite;
+pub use composite::{read_composite, read_named};
+pub use composites::{
+    Alternatives, Composite, read_alternatives, read_composite_type, read_no_fields,
+};
+pub use defaulted::Defaulted;
+pub use encoded::{read_composite_encoded, read_described_encoded, read_parts_encoded};
 pub use enums::{DataVariant, Either, EnumSeed, Never, UnitVariant, Variants};
-pub use fields::{FieldSeeds, Optional, Required};
+pub use fields::{FieldSeeds, FieldValues, Optional, Required};
+pub use named_record::{NamedRecord, read_composite_map, read_fields_map, read_named_map};
 pub use record::{Describes, Record, read, read_described};
 pub use record_map::{read_described_map, read_map};
 pub use seed::{DeserializeSeed, ListSeed, NamedSeed, TypeSeed};
 
-/// The fields of a struct, in order: `named! { "name", "other"?, .. }`.
+/// The fields of a struct, in order: `named! { "name", "other"?, "third" = 1u32, .. }`.
 ///
-/// A `?` marks an optional field, which may be absent or null. Inside [`ListSeed`] or [`NamedSeed`]
+/// A `?` marks an optional field, which may be absent or null. A field with `= value` is read as
+/// this value if it is absent or null. Inside [`ListSeed`] or [`NamedSeed`]
 /// it reads the values of the fields, which the pattern [`values!`] destructures.
 #[macro_export]
 macro_rules! named {
@@ -52,6 +64,13 @@ macro_rules! named {
             rest: $crate::named!($($($rest)*)?)
         }
     };
+    ($name:literal = $default:expr $(, $($rest:tt)*)?) => {
+        $crate::Defaulted {
+            name: $name,
+            default: $default,
+            rest: $crate::named!($($($rest)*)?)
+        }
+    };
 }
 
 /// The pattern of the values of fields, in order: `let values! { name, other } = read(..)?;`.
@@ -59,7 +78,7 @@ macro_rules! named {
 macro_rules! values {
     () => { () };
     ($value:ident $(, $($rest:tt)*)?) => {
-        ($value, $crate::values!($($($rest)*)?))
+        $crate::FieldValues { value: $value, rest: $crate::values!($($($rest)*)?) }
     };
 }
 

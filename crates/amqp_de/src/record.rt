@@ -79,7 +79,7 @@ impl Describes for &str {
 /// Returns the seed's error, which is out of memory or means that no value of type `T` can be read.
 ///
 /// # Example
-/// For the list of the ubyte 1 and `ListSeed(named! { "x" })`, returns the parts `(1, ())`.
+/// For the list of the ubyte 1 and `ListSeed(named! { "x" })`, returns the part 1.
 pub fn read<T: Record, D: Deserializer, S: DeserializeSeed<Value = T::Values>>(
     alloc: Global,
     deserializer: D,
@@ -108,7 +108,7 @@ pub fn read<T: Record, D: Deserializer, S: DeserializeSeed<Value = T::Values>>(
 ///
 /// # Example
 /// For the list of the ubyte 1 described by the code 1, with `&1u64` and `ListSeed(named! { "x"
-/// })`, returns the parts `(1, ())`. With `&2u64`, the value is invalid.
+/// })`, returns the part 1. With `&2u64`, the value is invalid.
 #[tactic(auto, unfolding(crate::specs::Fields::OnDescribed))]
 pub fn read_described<
     T: Record,

@@ -24,8 +24,7 @@ use std::alloc::Global;
 /// other than out of memory is returned only if no value of type `T` is read.
 ///
 /// # Example
-/// For the map from the string `x` to the ubyte 1 and `named! { "x" }`, returns the parts
-/// `(1, ())`.
+/// For the map from the string `x` to the ubyte 1 and `named! { "x" }`, returns the part 1.
 pub fn read_map<T: Record, D: Deserializer, F: FieldSeeds<Values = T::Values>>(
     alloc: Global,
     deserializer: D,
@@ -54,7 +53,7 @@ pub fn read_map<T: Record, D: Deserializer, F: FieldSeeds<Values = T::Values>>(
 ///
 /// # Example
 /// For the map from the string `x` to the ubyte 1, described by the code 1, with `&1u64` and
-/// `named! { "x" }`, returns the parts `(1, ())`. With `&2u64`, the value is invalid.
+/// `named! { "x" }`, returns the part 1. With `&2u64`, the value is invalid.
 #[tactic(auto, unfolding(crate::specs::Fields::OnDescribed))]
 pub fn read_described_map<
     T: Record,

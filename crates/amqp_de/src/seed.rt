@@ -1,6 +1,7 @@
 //! Seeds, which read one value as a type, as a list of fields or as named fields.
 
-ghost use Rattle.std.specs.Prelude.{◌≡◌, true};
+ghost use Rattle.std.specs.Prelude.{◌≡◌, ◌∷◌, true, IfOk};
+ghost use Rattle.amqp_de.specs.Encoded.{ReadsPrefix, SeedReading};
 ghost use Rattle.amqp_ser.specs.Tree.{Tree, list, trees_of};
 ghost use Rattle.amqp_de.specs.Answers.{Answers, Restores};
 ghost use Rattle.amqp_de.specs.Fields.{OnFields, OnNamed};
@@ -11,6 +12,7 @@ use crate::deserialize::Deserialize;
 use crate::deserialize_error::DeserializeError;
 use crate::deserializer::Deserializer;
 use crate::fields::FieldSeeds;
+use amqp_decode::prefix::{GaveUp, below, split_list};
 use std::alloc::Global;
 use std::marker::PhantomData;
 
@@ -66,6 +68,28 @@ pub trait DeserializeSeed: Sized + Drop {
             D.Error.is_out_of_memory (D.value deserializer) result }
         ensures named { is_named self → Restores (by_name self) restorable same
             D.Error.is_out_of_memory (D.value deserializer) result };
+
+    /// Reads the payload after its format code without an untyped value, and leaves the bytes after
+    /// it. There are at most `depth` levels inside.
+    ///
+    /// The provided method gives up. A seed of one's own need not implement it.
+    ///
+    /// # Errors
+    /// Returns `GaveUp` as `Deserialize::read_encoded` does.
+    fn read_encoded(
+        self,
+        alloc: Global,
+        code: u8,
+        input: &mut &[u8],
+        depth: u16,
+    ) -> Result<Self::Value, GaveUp>
+        ensures { IfOk result (λ v. ReadsPrefix
+            (SeedReading (reads self) image short restorable same)
+            depth (code ∷ input.old.now) input.new.now v) }
+    {
+        drop(self);
+        Err(GaveUp)
+    }
 }
 
 /// A seed that reads a value of the type `T`.
@@ -91,6 +115,17 @@ impl<T: Deserialize> DeserializeSeed for TypeSeed<T> {
 
     fn deserialize<D: Deserializer>(self, alloc: Global, deserializer: D) -> Result<T, D::Error> {
         T::deserialize(alloc, deserializer)
+    }
+
+    #[inline(always)]
+    fn read_encoded(
+        self,
+        alloc: Global,
+        code: u8,
+        input: &mut &[u8],
+        depth: u16,
+    ) -> Result<T, GaveUp> {
+        T::read_encoded(alloc, code, input, depth)
     }
 }
 
@@ -129,6 +164,23 @@ impl<F: FieldSeeds> DeserializeSeed for ListSeed<F> {
                 }
             }
             None => Err(D::Error::invalid_value()),
+        }
+    }
+
+    #[inline(always)]
+    fn read_encoded(
+        self,
+        alloc: Global,
+        code: u8,
+        input: &mut &[u8],
+        depth: u16,
+    ) -> Result<F::Values, GaveUp> {
+        let (count, body, rest) = split_list(code, *input)?;
+        *input = rest;
+        let inside = below(depth)?;
+        match self.0.read_fields(alloc, count, body, inside) {
+            Ok(values) => Ok(values),
+            Err(error) => Err(error),
         }
     }
 }
@@ -178,6 +230,24 @@ impl<F: FieldSeeds> DeserializeSeed for NamedSeed<F> {
                 Err(error) => Err(error),
             },
             _ => Err(D::Error::invalid_value()),
+        }
+    }
+
+    /// Supports lists.
+    #[inline(always)]
+    fn read_encoded(
+        self,
+        alloc: Global,
+        code: u8,
+        input: &mut &[u8],
+        depth: u16,
+    ) -> Result<F::Values, GaveUp> {
+        let (count, body, rest) = split_list(code, *input)?;
+        *input = rest;
+        let inside = below(depth)?;
+        match self.0.read_fields(alloc, count, body, inside) {
+            Ok(values) => Ok(values),
+            Err(error) => Err(error),
         }
     }
 }

@@ -4,7 +4,7 @@ use Rattle.std.proofs.lemmas.Grind.{common_steps}
 use Rattle.std.specs.Prelude.{IfOk, IfErr}
 use Rattle.amqp_data.specs.FormatCode.{code_of}
 use Rattle.amqp_data.specs.declared.error.Error.{Error}
-use Rattle.amqp_data.specs.declared.error.Error.TheVariants.{OutOfMemory}
+use Rattle.amqp_data.specs.declared.error.Error.TheVariants.{OutOfMemory, TooLong}
 use Rattle.amqp_data.specs.declared.format_code.EncodingCodes.{EncodingCodes}
 use Rattle.amqp_frame.specs.Code.{category}
 use Rattle.amqp_ser.specs.Tree as tree
@@ -67,13 +67,13 @@ module _ (d : ℕ) (c : EncodingCodes) (s content rest : List ℕ) where
   item-none lt e h = rw (e, parse_content-at d c content lt, h) refl
 
   pub item-err : (r : Result Value Error) → 0 < d → content_at (category (code_of c)) s ≡ Some (content, rest)
-      → IfErr r (λ e. (e ≡ OutOfMemory → ⊥) → content_of (parse (d - 1)) (parse_content (d - 1)) c content ≡ None)
-      → IfErr r (λ e. (e ≡ OutOfMemory → ⊥) → payload_in (parse_content d) c s ≡ None)
+      → IfErr r (λ e. (e ≡ OutOfMemory → ⊥) → (e ≡ TooLong → ⊥) → content_of (parse (d - 1)) (parse_content (d - 1)) c content ≡ None)
+      → IfErr r (λ e. (e ≡ OutOfMemory → ⊥) → (e ≡ TooLong → ⊥) → payload_in (parse_content d) c s ≡ None)
   item-err (Ok v) lt e h = tt
-  item-err (Err f) lt e h = λ other. item-none lt e (h other)
+  item-err (Err f) lt e h = λ other short. item-none lt e (h other short)
 
 -- A scalar that `read_fixed` found is the value of the payload.
-not-zero : (n : ℕ) → (n ≡ 0 → ⊥) → (n == 0) ≡ false
+pub not-zero : (n : ℕ) → (n ≡ 0 → ⊥) → (n == 0) ≡ false
 not-zero zero some = absurd (some refl)
 not-zero (suc n) some = grind (arith, common_steps)
 
@@ -103,9 +103,10 @@ module _ (f : FrameReader) (h : ContentReader) (b : ℕ) (c : EncodingCodes) (s 
   byte-ok (Err g) rest is ok e = tt
 
   pub byte-err : (r : Result Value Error) → b ≡ code_of c → IsTrue (is_primitive c)
-      → IfErr r (λ e. (e ≡ OutOfMemory → ⊥) → payload_in (content_of f h) c s ≡ None) → IfErr r (λ e. (e ≡ OutOfMemory → ⊥) → frame_in f h (b ∷ s) ≡ None)
+      → IfErr r (λ e. (e ≡ OutOfMemory → ⊥) → (e ≡ TooLong → ⊥) → payload_in (content_of f h) c s ≡ None)
+      → IfErr r (λ e. (e ≡ OutOfMemory → ⊥) → (e ≡ TooLong → ⊥) → frame_in f h (b ∷ s) ≡ None)
   byte-err (Ok v) is ok e = tt
-  byte-err (Err g) is ok e = λ other. after-byte is ok ∙ e other
+  byte-err (Err g) is ok e = λ other short. after-byte is ok ∙ e other short
 
 pub trees-push : (vs : List Value) (v : Value) → map tree_of (vs ++ v ∷ []) ≡ map tree_of vs ++ tree_of v ∷ []
 trees-push [] v = refl
@@ -118,7 +119,7 @@ module _ (f : FrameReader) where
   none-more : (m : ℕ) (s : List ℕ) (done : List Tree) → f s ≡ None → gather f (suc m) s done ≡ None
   none-more m s done e = rw e refl
 
-  gather-and_then : (n i : ℕ) (s rest : List ℕ) (t : Tree) (done : List Tree) → i < n → f s ≡ Some (t, rest) → gather f (n - (i + 1)) rest (done ++ t ∷ []) ≡ gather f (n - i) s done
+  pub gather-and_then : (n i : ℕ) (s rest : List ℕ) (t : Tree) (done : List Tree) → i < n → f s ≡ Some (t, rest) → gather f (n - (i + 1)) rest (done ++ t ∷ []) ≡ gather f (n - i) s done
   gather-and_then n i s rest t done lt e =
       let same : n - i ≡ suc (n - (i + 1)) = omega arith in
       sym (ap (λ m. gather f m s done) same ∙ one-more (n - (i + 1)) s rest t done e)

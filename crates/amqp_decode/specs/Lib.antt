@@ -1,8 +1,12 @@
 -- Definitions that contracts of public items use, except `primitive_codes`, `code_among` and
--- `primitive_of` in Codes and `scalar_tree` in Scalars.
+-- `primitive_of` in Codes, `scalar_tree` in Scalars, and `Leaves`, `Spends`, `frame_around` and
+-- `content_around` in WithoutBytes.
 pub mod Codes
 pub mod Scalars
 pub mod Spells
 pub mod Depth
--- Definitions that only contracts of private functions use, with those four.
+pub mod WithoutBytes
+-- Definitions that contracts of reading without an untyped value use, and contracts of private
+-- functions, with those eight, and that WithoutBytes rests on.
 pub mod Parsed
+pub mod Prefix

@@ -1,10 +1,11 @@
 //! Decodes one encoded value.
 
-ghost use Rattle.std.specs.Prelude.{◌≡◌, IfOk, IfErr};
-ghost use Rattle.amqp_data.specs.declared.error.Error.TheVariants.{OutOfMemory};
+ghost use Rattle.std.specs.Prelude.{◌≡◌, ◌≤◌, ◌<◌, IfOk, IfErr};
+ghost use Rattle.amqp_data.specs.declared.error.Error.TheVariants.{OutOfMemory, TooLong};
 ghost use Rattle.amqp_ser.specs.Tree.{Tree};
 ghost use Rattle.amqp_value.specs.TreeOf.{tree_of};
 ghost use Rattle.amqp_decode.specs.Spells.{Spells};
+ghost use Rattle.amqp_decode.specs.WithoutBytes.{IsExceeded, IsWithin, elements_without_bytes};
 
 use crate::read::read_encoded_value;
 use amqp_data::Error;
@@ -43,29 +44,65 @@ pub fn decode_value(alloc: Global, bytes: &[u8]) -> Result<Value, Error>
     ensures ok { IfOk result (λ v. Spells 256 bytes.now (tree_of v)) }
     ensures err { IfErr result (λ e. ¬ (e ≡ OutOfMemory) → (t : Tree) → ¬ Spells 256 bytes.now t) }
 {
-    decode_value_limited(alloc, bytes, u32::MAX)
+    decode_value_to_depth(alloc, bytes, None, 256)
 }
 
-/// Decodes one encoded value in which no array has more than `elements` elements without bytes.
+/// Decodes one encoded value that contains at most `elements` array elements without bytes.
+///
+/// These are nulls, and elements with the constructors of `true`, `false`, the zeros and the empty
+/// list (`40` to `45`). All arrays of the input are counted together, each by its count.
 ///
 /// # Errors
-/// Returns the errors of `decode_value`. Returns `OutOfMemory` also for an array of more than
-/// `elements` elements that have no bytes: nulls, and elements with the constructors of `true`,
-/// `false`, the zeros and the empty list (`40` to `45`).
+/// Returns `TooLong` if and only if an array has more such elements than the earlier ones leave of
+/// the limit, and otherwise the errors of `decode_value`.
 ///
 /// # Memory
 /// Allocates from `alloc` as `decode_value` does. An element without bytes takes 32 bytes of
-/// memory. The limit is for each array.
+/// memory. Those of an array are not reserved before they are counted.
 ///
 /// # Example
 /// `e0020340`, an array of three nulls, fails with a limit of two elements and is accepted with a
-/// limit of three.
+/// limit of three. A list of two such arrays requires a limit of six.
 pub fn decode_value_limited(alloc: Global, bytes: &[u8], elements: u32) -> Result<Value, Error>
     ensures ok { IfOk result (λ v. Spells 256 bytes.now (tree_of v)) }
-    ensures err { IfErr result (λ e. ¬ (e ≡ OutOfMemory) → (t : Tree) → ¬ Spells 256 bytes.now t) }
+    ensures within { IfOk result (λ v. elements_without_bytes 256 bytes.now ≤ elements) }
+    ensures too_long { IfErr result (λ e. e ≡ TooLong →
+        elements < elements_without_bytes 256 bytes.now) }
+    ensures err { IfErr result (λ e. ¬ (e ≡ OutOfMemory) → ¬ (e ≡ TooLong) →
+        (t : Tree) → ¬ Spells 256 bytes.now t) }
+{
+    decode_value_to_depth(alloc, bytes, Some(elements), 256)
+}
+
+/// Decodes one encoded value with at most `depth` levels, like `decode_value_limited` if there is a
+/// limit on elements without bytes, and like `decode_value` if there is none.
+///
+/// # Errors
+/// Returns the errors of `decode_value_limited`, and `InvalidValue` for a value with more levels.
+///
+/// # Memory
+/// Allocates from `alloc` as `decode_value` does.
+///
+/// # Example
+/// `c0020140`, a list of null, has two levels. It fails with a `depth` of one.
+#[inline(always)]
+pub fn decode_value_to_depth(
+    alloc: Global,
+    bytes: &[u8],
+    elements: Option<u32>,
+    depth: u16,
+) -> Result<Value, Error>
+    requires { depth ≤ 256 }
+    ensures ok { IfOk result (λ v. Spells depth bytes.now (tree_of v)) }
+    ensures within { IfOk result (λ v. IsWithin elements (elements_without_bytes depth bytes.now)) }
+    ensures too_long { IfErr result (λ e. e ≡ TooLong →
+        IsExceeded elements (elements_without_bytes depth bytes.now)) }
+    ensures err { IfErr result (λ e. ¬ (e ≡ OutOfMemory) → ¬ (e ≡ TooLong) →
+        (t : Tree) → ¬ Spells depth bytes.now t) }
 {
     let mut rest = bytes;
-    let value = read_encoded_value(alloc, &mut rest, 256, elements, bytes.len())?;
+    let mut limit = elements;
+    let value = read_encoded_value(alloc, &mut rest, depth, &mut limit, bytes.len())?;
     if rest.is_empty() {
         Ok(value)
     } else {

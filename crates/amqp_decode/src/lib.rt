@@ -9,12 +9,14 @@
 mod decode;
 mod fixed;
 pub mod laws;
+mod limit;
 mod payload;
 mod payload_shape;
+pub mod prefix;
 mod push;
 mod read;
 mod reserve;
 mod run;
 mod scalar;
 
-pub use decode::{decode_value, decode_value_limited};
+pub use decode::{decode_value, decode_value_limited, decode_value_to_depth};

@@ -2,6 +2,7 @@
 
 ghost use Rattle.std.specs.Prelude.{◌≡◌, ◌≢◌, IfOk, IfErr, Some, None};
 ghost use Rattle.amqp_decode.specs.Codes.{primitive_of, shape_of_code};
+ghost use Rattle.amqp_decode.specs.WithoutBytes.{has_no_payload};
 
 use amqp_data::{EncodingCodes, Error};
 
@@ -50,7 +51,9 @@ pub fn payload_shape(code: EncodingCodes) -> PayloadShape
 }
 
 /// Returns whether the values of this code have no payload. As array elements they have no bytes.
-pub fn has_no_payload(code: EncodingCodes) -> bool {
+pub fn has_no_payload(code: EncodingCodes) -> bool
+    ensures { result ≡ has_no_payload code }
+{
     matches!(
         code,
         EncodingCodes::Null
@@ -72,6 +75,7 @@ pub fn primitive_code(byte: u8) -> Result<EncodingCodes, Error>
     ensures ok { IfOk result (λ code. primitive_of byte ≡ Some code) }
     ensures err { IfErr result (λ e. primitive_of byte ≡ None) }
     ensures described { IfErr result (λ e. byte ≡ 0 → e ≡ Error.InvalidValue) }
+    ensures kind { IfErr result (λ e. ¬ (e ≡ Error.TooLong)) }
     ensures unnamed { IfErr result (λ e. byte ≢ 0 → e ≡ Error.InvalidFormatCode) }
 {
     if byte == 0 {

@@ -1,15 +1,17 @@
 //! Reads an encoded value, recursively, from its first byte on.
 
 ghost use Rattle.std.specs.Prelude.{◌≡◌, [], ◌∷◌, ◌++◌, ◌<◌, ℕ, IfOk, OnOk, IfErr, Some, None, map, vec_len, vec_capacity};
-ghost use Rattle.amqp_data.specs.declared.error.Error.TheVariants.{OutOfMemory};
+ghost use Rattle.amqp_data.specs.declared.error.Error.TheVariants.{OutOfMemory, TooLong};
 ghost use Rattle.amqp_value.specs.TreeOf.{tree_of};
 ghost use Rattle.amqp_value.specs.declared.value.Value.{Value};
 ghost use Rattle.amqp_decode.specs.Scalars.{and_then};
+ghost use Rattle.amqp_decode.specs.WithoutBytes.{Spends, content_around, content_without_bytes, elements_without_bytes, frame_around, in_array, in_payload, sum_of};
 ghost use Rattle.amqp_decode.specs.Parsed.{all, gather, parse, parse_content, payload_in, content_of, frame_in, parse_list, parse_map, parse_array};
 
 use crate::fixed::read_fixed;
+use crate::limit::spend_items;
 use crate::payload::{read_count, read_payload};
-use crate::payload_shape::{PayloadShape, has_no_payload, payload_shape, primitive_code};
+use crate::payload_shape::{PayloadShape, payload_shape, primitive_code};
 use crate::push::push_fixed;
 use crate::reserve::{make_room, reserved, reserved_of_a_map};
 use crate::run::read_run;
@@ -31,20 +33,22 @@ const LONG_STRING: u8 = EncodingCodes::Str32 as u8;
 
 const LONG_LIST: u8 = EncodingCodes::List32 as u8;
 
-// Reads the first encoded value of `bytes`, and leaves the bytes after it. An array of more than
-// `elements` elements without bytes fails with `OutOfMemory`. The counts of lists and maps reserve
-// memory for at most `spare` elements, keys and values.
+// Reads the first encoded value of `bytes`, and leaves the bytes after it. Its array elements without
+// bytes are taken from `limit`, and more than that fail with `TooLong`. The counts of lists and maps
+// reserve memory for at most `spare` elements, keys and values.
 pub fn read_encoded_value(
     alloc: Global,
     bytes: &mut &[u8],
     depth: u16,
-    elements: u32,
+    limit: &mut Option<u32>,
     spare: usize,
 ) -> Result<Value, Error>
     ensures ok { IfOk result (λ v. parse depth bytes.old.now ≡ Some (tree_of v, bytes.new.now)) }
-    ensures err { IfErr result (λ e. ¬ (e ≡ OutOfMemory) → parse depth bytes.old.now ≡ None) }
+    ensures err { IfErr result (λ e. ¬ (e ≡ OutOfMemory) → ¬ (e ≡ TooLong) →
+        parse depth bytes.old.now ≡ None) }
+    ensures limit { Spends result limit.old limit.new (elements_without_bytes depth bytes.old.now) }
 {
-    read_value(alloc, bytes, depth, elements, spare)
+    read_value(alloc, bytes, depth, limit, spare)
 }
 
 // Like `read_encoded_value`, inlined.
@@ -54,11 +58,13 @@ fn read_value(
     alloc: Global,
     bytes: &mut &[u8],
     depth: u16,
-    elements: u32,
+    limit: &mut Option<u32>,
     spare: usize,
 ) -> Result<Value, Error>
     ensures ok { IfOk result (λ v. parse depth bytes.old.now ≡ Some (tree_of v, bytes.new.now)) }
-    ensures err { IfErr result (λ e. ¬ (e ≡ OutOfMemory) → parse depth bytes.old.now ≡ None) }
+    ensures err { IfErr result (λ e. ¬ (e ≡ OutOfMemory) → ¬ (e ≡ TooLong) →
+        parse depth bytes.old.now ≡ None) }
+    ensures limit { Spends result limit.old limit.new (elements_without_bytes depth bytes.old.now) }
 {
     if depth == 0 {
         return Err(Error::InvalidValue);
@@ -71,39 +77,40 @@ fn read_value(
                 return Ok(value);
             }
             *bytes = rest;
-            read_after_code(alloc, *code, bytes, depth - 1, elements, spare)
+            read_after_code(alloc, *code, bytes, depth - 1, limit, spare)
         }
     }
 }
 
-// Like `read_value`, after the format code has been read. `depth` limits the values inside.
+/// Like `read_value`, after the format code has been read. `depth` limits the values inside.
 #[cycle(read)]
 #[inline(never)]
-fn read_after_code(
+pub fn read_after_code(
     alloc: Global,
     code: u8,
     bytes: &mut &[u8],
     depth: u16,
-    elements: u32,
+    limit: &mut Option<u32>,
     spare: usize,
 ) -> Result<Value, Error>
     ensures ok { IfOk result (λ v.
         frame_in (parse depth) (parse_content depth) (code ∷ bytes.old.now)
         ≡ Some (tree_of v, bytes.new.now)) }
-    ensures err { IfErr result (λ e. ¬ (e ≡ OutOfMemory) →
+    ensures err { IfErr result (λ e. ¬ (e ≡ OutOfMemory) → ¬ (e ≡ TooLong) →
         frame_in (parse depth) (parse_content depth) (code ∷ bytes.old.now) ≡ None) }
+    ensures limit { Spends result limit.old limit.new (frame_around depth (code ∷ bytes.old.now)) }
 {
     if code == 0 {
-        return read_described(alloc, bytes, depth, elements, spare);
+        return read_described(alloc, bytes, depth, limit, spare);
     }
     match code {
-        BINARY => read_named(alloc, EncodingCodes::Vbin8, bytes, depth, elements, spare),
-        STRING => read_named(alloc, EncodingCodes::Str8, bytes, depth, elements, spare),
-        SYMBOL => read_named(alloc, EncodingCodes::Sym8, bytes, depth, elements, spare),
-        LIST => read_named(alloc, EncodingCodes::List8, bytes, depth, elements, spare),
-        LONG_STRING => read_named(alloc, EncodingCodes::Str32, bytes, depth, elements, spare),
-        LONG_LIST => read_named(alloc, EncodingCodes::List32, bytes, depth, elements, spare),
-        _ => read_named(alloc, primitive_code(code)?, bytes, depth, elements, spare),
+        BINARY => read_named(alloc, EncodingCodes::Vbin8, bytes, depth, limit, spare),
+        STRING => read_named(alloc, EncodingCodes::Str8, bytes, depth, limit, spare),
+        SYMBOL => read_named(alloc, EncodingCodes::Sym8, bytes, depth, limit, spare),
+        LIST => read_named(alloc, EncodingCodes::List8, bytes, depth, limit, spare),
+        LONG_STRING => read_named(alloc, EncodingCodes::Str32, bytes, depth, limit, spare),
+        LONG_LIST => read_named(alloc, EncodingCodes::List32, bytes, depth, limit, spare),
+        _ => read_named(alloc, primitive_code(code)?, bytes, depth, limit, spare),
     }
 }
 
@@ -115,18 +122,19 @@ fn read_described(
     alloc: Global,
     bytes: &mut &[u8],
     depth: u16,
-    elements: u32,
+    limit: &mut Option<u32>,
     spare: usize,
 ) -> Result<Value, Error>
     ensures ok { IfOk result (λ v.
         frame_in (parse depth) (parse_content depth) (0 ∷ bytes.old.now)
         ≡ Some (tree_of v, bytes.new.now)) }
-    ensures err { IfErr result (λ e. ¬ (e ≡ OutOfMemory) →
+    ensures err { IfErr result (λ e. ¬ (e ≡ OutOfMemory) → ¬ (e ≡ TooLong) →
         frame_in (parse depth) (parse_content depth) (0 ∷ bytes.old.now) ≡ None) }
+    ensures limit { Spends result limit.old limit.new (frame_around depth (0 ∷ bytes.old.now)) }
 {
     let (descriptor, rest) = read_descriptor(alloc, bytes)?;
     *bytes = rest;
-    let value = read_value(alloc, bytes, depth, elements, spare)?;
+    let value = read_value(alloc, bytes, depth, limit, spare)?;
     let described = Box::new(alloc, Described { descriptor, value })?;
     Ok(Value::Described(described))
 }
@@ -140,18 +148,20 @@ fn read_named(
     code: EncodingCodes,
     bytes: &mut &[u8],
     depth: u16,
-    elements: u32,
+    limit: &mut Option<u32>,
     spare: usize,
 ) -> Result<Value, Error>
     ensures ok { IfOk result (λ v.
         payload_in (content_of (parse depth) (parse_content depth)) code bytes.old.now
         ≡ Some (tree_of v, bytes.new.now)) }
-    ensures err { IfErr result (λ e. ¬ (e ≡ OutOfMemory) →
+    ensures err { IfErr result (λ e. ¬ (e ≡ OutOfMemory) → ¬ (e ≡ TooLong) →
         payload_in (content_of (parse depth) (parse_content depth)) code bytes.old.now ≡ None) }
+    ensures limit { Spends result limit.old limit.new
+        (in_payload (content_around depth) code bytes.old.now) }
 {
     let (content, rest) = read_payload(code, bytes)?;
     *bytes = rest;
-    read_content(alloc, code, content, depth, elements, spare)
+    read_content(alloc, code, content, depth, limit, spare)
 }
 
 // Reads a value from the content of a payload of this code. `depth` limits the values inside.
@@ -162,28 +172,29 @@ fn read_content(
     code: EncodingCodes,
     content: &[u8],
     depth: u16,
-    elements: u32,
+    limit: &mut Option<u32>,
     spare: usize,
 ) -> Result<Value, Error>
     ensures ok { IfOk result (λ v.
         content_of (parse depth) (parse_content depth) code content.now ≡ Some (tree_of v)) }
-    ensures err { IfErr result (λ e. ¬ (e ≡ OutOfMemory) →
+    ensures err { IfErr result (λ e. ¬ (e ≡ OutOfMemory) → ¬ (e ≡ TooLong) →
         content_of (parse depth) (parse_content depth) code content.now ≡ None) }
+    ensures limit { Spends result limit.old limit.new (content_around depth code content.now) }
 {
     match payload_shape(code) {
         PayloadShape::Described => Err(Error::InvalidValue),
         PayloadShape::Scalar => read_scalar(alloc, code, content),
         PayloadShape::List(count) => {
             let (count, body) = read_count(count, content)?;
-            read_list(alloc, count, body, depth, elements, spare)
+            read_list(alloc, count, body, depth, limit, spare)
         }
         PayloadShape::Map(count) => {
             let (count, body) = read_count(count, content)?;
-            read_entries(alloc, count, body, depth, elements, spare)
+            read_entries(alloc, count, body, depth, limit, spare)
         }
         PayloadShape::Array(count) => {
             let (count, body) = read_count(count, content)?;
-            read_array(alloc, count, body, depth, elements, spare)
+            read_array(alloc, count, body, depth, limit, spare)
         }
     }
 }
@@ -196,20 +207,22 @@ fn read_item(
     code: EncodingCodes,
     bytes: &mut &[u8],
     depth: u16,
-    elements: u32,
+    limit: &mut Option<u32>,
     spare: usize,
 ) -> Result<Value, Error>
     ensures ok { IfOk result (λ v.
         payload_in (parse_content depth) code bytes.old.now ≡ Some (tree_of v, bytes.new.now)) }
-    ensures err { IfErr result (λ e. ¬ (e ≡ OutOfMemory) →
+    ensures err { IfErr result (λ e. ¬ (e ≡ OutOfMemory) → ¬ (e ≡ TooLong) →
         payload_in (parse_content depth) code bytes.old.now ≡ None) }
+    ensures limit { Spends result limit.old limit.new
+        (in_payload (content_without_bytes depth) code bytes.old.now) }
 {
     if depth == 0 {
         return Err(Error::InvalidValue);
     }
     let (content, rest) = read_payload(code, bytes)?;
     *bytes = rest;
-    read_content(alloc, code, content, depth - 1, elements, spare)
+    read_content(alloc, code, content, depth - 1, limit, spare)
 }
 
 // Reads `count` elements that must fill `body`.
@@ -220,12 +233,14 @@ fn read_list(
     count: u32,
     body: &[u8],
     depth: u16,
-    elements: u32,
+    limit: &mut Option<u32>,
     spare: usize,
 ) -> Result<Value, Error>
     ensures ok { IfOk result (λ v. parse_list (parse depth) (count, body.now) ≡ Some (tree_of v)) }
-    ensures err { IfErr result (λ e. ¬ (e ≡ OutOfMemory) →
+    ensures err { IfErr result (λ e. ¬ (e ≡ OutOfMemory) → ¬ (e ≡ TooLong) →
         parse_list (parse depth) (count, body.now) ≡ None) }
+    ensures limit { Spends result limit.old limit.new
+        (sum_of (elements_without_bytes depth) (parse depth) count body.now) }
 {
     if count == 0 && body.is_empty() {
         return Ok(Value::List(Vec::new(alloc)));
@@ -235,7 +250,7 @@ fn read_list(
     let mut rest = body;
     for read in 0..count {
         make_room(&mut list, ((count - read) as usize).min(rest.len().max(1)))?;
-        push_value(alloc, &mut rest, depth, elements, spare - room, &mut list)?;
+        push_value(alloc, &mut rest, depth, limit, spare - room, &mut list)?;
     }
     if rest.is_empty() {
         Ok(Value::List(list))
@@ -251,14 +266,16 @@ fn push_value(
     alloc: Global,
     bytes: &mut &[u8],
     depth: u16,
-    elements: u32,
+    limit: &mut Option<u32>,
     spare: usize,
     list: &mut Vec<Value>,
 ) -> Result<(), Error>
     requires { vec_len list.old < vec_capacity list.old }
     ensures ok { OnOk result ((v : Value) × (list.new.items ≡ list.old.items ++ v ∷ [])
         × (parse depth bytes.old.now ≡ Some (tree_of v, bytes.new.now))) }
-    ensures err { IfErr result (λ e. ¬ (e ≡ OutOfMemory) → parse depth bytes.old.now ≡ None) }
+    ensures err { IfErr result (λ e. ¬ (e ≡ OutOfMemory) → ¬ (e ≡ TooLong) →
+        parse depth bytes.old.now ≡ None) }
+    ensures limit { Spends result limit.old limit.new (elements_without_bytes depth bytes.old.now) }
 {
     if depth == 0 {
         return Err(Error::InvalidValue);
@@ -271,7 +288,7 @@ fn push_value(
                 return Ok(());
             }
             *bytes = rest;
-            let value = read_after_code(alloc, *code, bytes, depth - 1, elements, spare)?;
+            let value = read_after_code(alloc, *code, bytes, depth - 1, limit, spare)?;
             list.push_reserved(value);
             Ok(())
         }
@@ -286,12 +303,14 @@ fn read_entries(
     count: u32,
     body: &[u8],
     depth: u16,
-    elements: u32,
+    limit: &mut Option<u32>,
     spare: usize,
 ) -> Result<Value, Error>
     ensures ok { IfOk result (λ v. parse_map (parse depth) (count, body.now) ≡ Some (tree_of v)) }
-    ensures err { IfErr result (λ e. ¬ (e ≡ OutOfMemory) →
+    ensures err { IfErr result (λ e. ¬ (e ≡ OutOfMemory) → ¬ (e ≡ TooLong) →
         parse_map (parse depth) (count, body.now) ≡ None) }
+    ensures limit { Spends result limit.old limit.new
+        (sum_of (elements_without_bytes depth) (parse depth) count body.now) }
 {
     if count % 2 != 0 {
         return Err(Error::InvalidValue);
@@ -300,8 +319,8 @@ fn read_entries(
     let mut pairs = MapBuilder::with_capacity(alloc, room / 2)?;
     let mut rest = body;
     for _ in 0..count / 2 {
-        let key = read_value(alloc, &mut rest, depth, elements, spare - room)?;
-        let value = read_value(alloc, &mut rest, depth, elements, spare - room)?;
+        let key = read_value(alloc, &mut rest, depth, limit, spare - room)?;
+        let value = read_value(alloc, &mut rest, depth, limit, spare - room)?;
         pairs.insert(key, value)?;
     }
     if rest.is_empty() {
@@ -319,23 +338,23 @@ fn read_array(
     count: u32,
     body: &[u8],
     depth: u16,
-    elements: u32,
+    limit: &mut Option<u32>,
     spare: usize,
 ) -> Result<Value, Error>
     ensures ok { IfOk result (λ v.
         parse_array (parse_content depth) (count, body.now) ≡ Some (tree_of v)) }
-    ensures err { IfErr result (λ e. ¬ (e ≡ OutOfMemory) →
+    ensures err { IfErr result (λ e. ¬ (e ≡ OutOfMemory) → ¬ (e ≡ TooLong) →
         parse_array (parse_content depth) (count, body.now) ≡ None) }
+    ensures limit { Spends result limit.old limit.new
+        (in_array (content_without_bytes depth) (parse_content depth) (count, body.now)) }
 {
     match body.split_first() {
         None if count == 0 => Ok(Value::Array(Array::from(Vec::new(alloc)))),
         None => Err(Error::UnexpectedEof),
         Some((constructor, payloads)) => {
             let code = primitive_code(*constructor)?;
-            if count > elements && has_no_payload(code) {
-                return Err(Error::OutOfMemory);
-            }
-            let items = read_items(alloc, code, count, payloads, depth, elements, spare)?;
+            spend_items(limit, code, count)?;
+            let items = read_items(alloc, code, count, payloads, depth, limit, spare)?;
             Ok(Value::Array(Array::from(items)))
         }
     }
@@ -350,20 +369,23 @@ fn read_items(
     count: u32,
     payloads: &[u8],
     depth: u16,
-    elements: u32,
+    limit: &mut Option<u32>,
     spare: usize,
 ) -> Result<Vec<Value>, Error>
     ensures ok { IfOk result (λ v.
         and_then (gather (payload_in (parse_content depth) code) count payloads.now []) all
         ≡ Some (map tree_of v.items)) }
-    ensures err { IfErr result (λ e. ¬ (e ≡ OutOfMemory) →
+    ensures err { IfErr result (λ e. ¬ (e ≡ OutOfMemory) → ¬ (e ≡ TooLong) →
         and_then (gather (payload_in (parse_content depth) code) count payloads.now []) all ≡ None) }
+    ensures limit { Spends result limit.old limit.new
+        (sum_of (in_payload (content_without_bytes depth) code)
+        (payload_in (parse_content depth) code) count payloads.now) }
 {
     let mut items = Vec::new(alloc);
     let mut rest = payloads;
     let left = read_run(code, depth, count, &mut rest, &mut items)?;
     for _ in 0..left {
-        let item = read_item(alloc, code, &mut rest, depth, elements, spare)?;
+        let item = read_item(alloc, code, &mut rest, depth, limit, spare)?;
         items.push(item)?;
     }
     if !rest.is_empty() {

@@ -2,6 +2,7 @@
 
 ghost use Rattle.std.specs.Prelude.{◌≡◌, ◌<◌, IfOk, map};
 ghost use Rattle.amqp_value.specs.TreeOf.{tree_of};
+ghost use Rattle.amqp_decode.specs.WithoutBytes.{content_without_bytes, in_payload, sum_of};
 ghost use Rattle.amqp_decode.specs.Parsed.{gather, payload_in, parse_content};
 
 use crate::fixed::read_fixed;
@@ -27,9 +28,14 @@ pub fn read_run(
     bytes: &mut &[u8],
     items: &mut Vec<Value>,
 ) -> Result<u32, AllocError>
-    ensures { IfOk result (λ left.
+    ensures ok { IfOk result (λ left.
         gather (payload_in (parse_content depth) code) left bytes.new.now (map tree_of items.new.items)
         ≡ gather (payload_in (parse_content depth) code) count bytes.old.now (map tree_of items.old.items)) }
+    ensures none { IfOk result (λ left.
+        sum_of (in_payload (content_without_bytes depth) code)
+        (payload_in (parse_content depth) code) left bytes.new.now
+        ≡ sum_of (in_payload (content_without_bytes depth) code)
+        (payload_in (parse_content depth) code) count bytes.old.now) }
 {
     if depth == 0 {
         return Ok(count);
@@ -90,9 +96,14 @@ fn read_fixed_run(
     items: &mut Vec<Value>,
 ) -> Result<u32, AllocError>
     requires { 0 < depth }
-    ensures { IfOk result (λ left.
+    ensures ok { IfOk result (λ left.
         gather (payload_in (parse_content depth) code) left bytes.new.now (map tree_of items.new.items)
         ≡ gather (payload_in (parse_content depth) code) count bytes.old.now (map tree_of items.old.items)) }
+    ensures none { IfOk result (λ left.
+        sum_of (in_payload (content_without_bytes depth) code)
+        (payload_in (parse_content depth) code) left bytes.new.now
+        ≡ sum_of (in_payload (content_without_bytes depth) code)
+        (payload_in (parse_content depth) code) count bytes.old.now) }
 {
     let byte = u8::from(code);
     let mut rest = *bytes;

@@ -2,7 +2,7 @@
 
 ghost use Rattle.std.specs.Prelude.{◌≡◌, IfOk, IfErr, Some, None, true, false, string_bytes};
 ghost use Rattle.std.specs.Str.{is_utf8};
-ghost use Rattle.amqp_data.specs.declared.error.Error.TheVariants.{OutOfMemory};
+ghost use Rattle.amqp_data.specs.declared.error.Error.TheVariants.{OutOfMemory, TooLong};
 ghost use Rattle.amqp_ser.specs.Carried.{descriptor_content};
 ghost use Rattle.amqp_ser.specs.Tree.{scalar};
 ghost use Rattle.amqp_value.specs.TreeOf.{tree_of};
@@ -23,6 +23,7 @@ use std::alloc::Global;
 fn byte_of(content: &[u8]) -> Result<u8, Error>
     ensures ok { IfOk result (λ b. single content.now ≡ Some b) }
     ensures err { IfErr result (λ e. single content.now ≡ None) }
+    ensures kind { IfErr result (λ e. ¬ (e ≡ TooLong)) }
 {
     match content {
         [byte] => Ok(*byte),
@@ -35,6 +36,7 @@ fn byte_of(content: &[u8]) -> Result<u8, Error>
 fn bytes_of<const N: usize>(content: &[u8]) -> Result<[u8; N], Error>
     ensures ok { IfOk result (λ b. exact N content.now ≡ Some b) }
     ensures err { IfErr result (λ e. exact N content.now ≡ None) }
+    ensures kind { IfErr result (λ e. ¬ (e ≡ TooLong)) }
 {
     match <[u8; N]>::try_from(content) {
         Ok(bytes) => Ok(bytes),
@@ -47,6 +49,7 @@ fn text_of(alloc: Global, content: &[u8]) -> Result<String, Error>
     ensures ok { IfOk result (λ s. string_bytes s ≡ content.now) }
     ensures valid { IfOk result (λ s. is_utf8 content.now ≡ true) }
     ensures err { IfErr result (λ e. ¬ (e ≡ OutOfMemory) → is_utf8 content.now ≡ false) }
+    ensures kind { IfErr result (λ e. ¬ (e ≡ TooLong)) }
 {
     match std::str::from_utf8(content) {
         Ok(text) => Ok(String::from_str(alloc, text)?),
@@ -69,6 +72,7 @@ fn binary_of(alloc: Global, content: &[u8]) -> Result<Vec<u8>, Error>
 fn truth_of(byte: u8) -> Result<Value, Error>
     ensures ok { IfOk result (λ v. and_then (truth byte) scalar_tree ≡ Some (tree_of v)) }
     ensures err { IfErr result (λ e. truth byte ≡ None) }
+    ensures kind { IfErr result (λ e. ¬ (e ≡ TooLong)) }
 {
     match byte {
         0 => Ok(Value::Bool(false)),
@@ -82,6 +86,7 @@ fn truth_of(byte: u8) -> Result<Value, Error>
 fn character_of(number: u32) -> Result<Value, Error>
     ensures ok { IfOk result (λ v. and_then (character number) scalar_tree ≡ Some (tree_of v)) }
     ensures err { IfErr result (λ e. character number ≡ None) }
+    ensures kind { IfErr result (λ e. ¬ (e ≡ TooLong)) }
 {
     match char::from_u32(number) {
         Some(character) => Ok(Value::Char(character)),
@@ -101,6 +106,7 @@ pub fn read_scalar(alloc: Global, code: EncodingCodes, content: &[u8]) -> Result
     ensures ok { IfOk result (λ v.
         and_then (scalar_in code content.now) scalar_tree ≡ Some (tree_of v)) }
     ensures err { IfErr result (λ e. ¬ (e ≡ OutOfMemory) → scalar_in code content.now ≡ None) }
+    ensures kind { IfErr result (λ e. ¬ (e ≡ TooLong)) }
 {
     match code {
         EncodingCodes::Null => Ok(Value::Null),
@@ -162,6 +168,7 @@ pub fn read_scalar(alloc: Global, code: EncodingCodes, content: &[u8]) -> Result
 fn into_descriptor(value: Value) -> Result<Descriptor, Error>
     ensures ok { IfOk result (λ d. tree_descriptor (tree_of value) ≡ Some (descriptor_content d)) }
     ensures err { IfErr result (λ e. tree_descriptor (tree_of value) ≡ None) }
+    ensures kind { IfErr result (λ e. ¬ (e ≡ TooLong)) }
 {
     match value {
         Value::Ulong(number) => Ok(Descriptor::Code(number)),
@@ -180,6 +187,7 @@ pub fn read_descriptor(alloc: Global, bytes: &[u8]) -> Result<(Descriptor, &[u8]
     ensures ok { IfOk result (λ r.
         descriptor_at bytes.now ≡ Some (descriptor_content r.0, r.1.now)) }
     ensures err { IfErr result (λ e. ¬ (e ≡ OutOfMemory) → descriptor_at bytes.now ≡ None) }
+    ensures kind { IfErr result (λ e. ¬ (e ≡ TooLong)) }
 {
     let Some((byte, bytes)) = bytes.split_first() else {
         return Err(Error::UnexpectedEof);

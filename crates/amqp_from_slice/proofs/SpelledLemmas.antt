@@ -10,7 +10,7 @@ use Rattle.amqp_decode.proofs.Whole.{one-tree}
 use Rattle.amqp_de.specs.Answers.{Refuses}
 use Rattle.amqp_from_slice.specs.ReadsSpelled.{ReadsSpelled, RefusesNext}
 
-abbrev IsMemory : Error → Type 0
+abbrev pub IsMemory : Error → Type 0
 IsMemory e = e ≡ error.OutOfMemory
 
 -- bytes of a tree that is not read are not read

@@ -1,2 +1,3 @@
--- Contracts of public items rest on it.
+-- Contracts of public items rest on them.
 pub mod ReadsSpelled
+pub mod Limited

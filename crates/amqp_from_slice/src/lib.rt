@@ -2,16 +2,19 @@
 //!
 //! `from_slice` reads any `amqp_de::de::Deserialize` type from the bytes of one encoded value,
 //! `from_reader` from the next encoded value of a reader, and `ReadLazy` from a lazy value. Each
-//! decodes the bytes to an untyped value, at most 256 deep, and reads the type from it.
+//! reads the type from the bytes in one pass if the type supports it. If that fails, it decodes the
+//! bytes to an untyped value, at most 256 deep, and reads the type from it.
 #![tactic(auto)]
 
 pub mod laws;
 mod lazy;
+mod limited;
 mod read;
 mod reader;
 mod round_trip;
 
 pub use lazy::ReadLazy;
+pub use limited::{Limits, from_slice_limited};
 pub use read::from_slice;
 pub use reader::from_reader;
 pub use round_trip::round_trip_bytes;

@@ -1,9 +1,10 @@
 //! Reading a type from the bytes of one encoded value.
 
-ghost use Rattle.std.specs.Prelude.{◌≡◌, MatchResult};
+ghost use Rattle.std.specs.Prelude.{◌≡◌, IfSome, MatchResult};
 ghost use Rattle.amqp_data.specs.declared.error.Error.TheVariants.{OutOfMemory};
 ghost use Rattle.amqp_decode.specs.Spells.{Spells};
 ghost use Rattle.amqp_de.specs.Answers.{Answers};
+ghost use Rattle.amqp_de.specs.Encoded.{Reading};
 ghost use Rattle.amqp_from_slice.specs.ReadsSpelled.{ReadsSpelled};
 
 use amqp_data::Error;
@@ -11,6 +12,9 @@ use amqp_de::de::Deserialize;
 use amqp_decode::decode_value;
 use amqp_from_value::from_value;
 use std::alloc::Global;
+
+/// The maximum number of levels inside the value.
+const DEPTH: u16 = 255;
 
 /// Reads a `T` from the bytes of exactly one encoded value.
 ///
@@ -24,11 +28,42 @@ use std::alloc::Global;
 /// only if the bytes encode no value of which a `T` can be read.
 ///
 /// # Memory
-/// Allocates the untyped value and the `T` from `alloc`; the untyped value is freed.
+/// Allocates the `T` from `alloc`. The bytes are read as a `T` without an untyped value if the type
+/// supports it (see `Deserialize::read_encoded`). Otherwise, and if that fails, what it allocated is
+/// freed, and the bytes are decoded to an untyped value, which is freed too.
 ///
 /// # Example
 /// `5205` is read as the `u32` 5. `520540` and `5105` are not.
 pub fn from_slice<T: Deserialize>(alloc: Global, bytes: &[u8]) -> Result<T, Error>
+    ensures read { Answers (λ e. e ≡ OutOfMemory) (ReadsSpelled T.reads bytes.now) result }
+    ensures law { (x : T) → T.restorable x → Spells 256 bytes.now (T.image x) →
+        MatchResult result (λ y. T.same y x) (λ e. e ≡ OutOfMemory) }
+{
+    match read_at_once::<T>(alloc, bytes) {
+        Some(read) => Ok(read),
+        None => read_by_value::<T>(alloc, bytes),
+    }
+}
+
+// Reads a `T` without an untyped value; returns `None` if that fails.
+#[inline(always)]
+fn read_at_once<T: Deserialize>(alloc: Global, bytes: &[u8]) -> Option<T>
+    ensures { IfSome result (λ x. ReadsSpelled
+        (Reading T.reads T.image T.restorable T.same) bytes.now x) }
+{
+    let Some((code, payload)) = bytes.split_first() else {
+        return None;
+    };
+    let mut rest = payload;
+    match T::read_encoded(alloc, *code, &mut rest, DEPTH) {
+        Ok(read) => { if rest.is_empty() { Some(read) } else { None } }
+        Err(_) => None,
+    }
+}
+
+// Reads a `T` from the untyped value that the bytes encode.
+#[inline(never)]
+fn read_by_value<T: Deserialize>(alloc: Global, bytes: &[u8]) -> Result<T, Error>
     ensures read { Answers (λ e. e ≡ OutOfMemory) (ReadsSpelled T.reads bytes.now) result }
     ensures law { (x : T) → T.restorable x → Spells 256 bytes.now (T.image x) →
         MatchResult result (λ y. T.same y x) (λ e. e ≡ OutOfMemory) }

@@ -115,6 +115,10 @@ impl de::Deserializer for Deserializer {
         matches!(&self.value, Value::Uint(_) | Value::Symbol(_))
     }
 
+    fn is_array(&self) -> bool {
+        matches!(&self.value, Value::Array(_))
+    }
+
     fn open(self) -> Content<Deserializer, Elements, Entries> {
         let Deserializer { alloc, value } = self;
         match value {

@@ -36,7 +36,7 @@ pub must_stands : (n : List ℕ) (p : Option Tree) (ps : List (Option Tree)) (t 
 unfolding FieldsHaveImages
 must_stands n p ps t ns fs h k = (refl, h, k)
 
-may_by : (b : Bool) (n : List ℕ) (p : Option Tree) (ps : List (Option Tree)) (t : Tree) (es : List (Tree × Tree)) →
+pub may_by : (b : Bool) (n : List ℕ) (p : Option Tree) (ps : List (Option Tree)) (t : Tree) (es : List (Tree × Tree)) →
     HasImage p t → EntriesHaveImages ps es →
     EntriesHaveImages (if b then string_key n ∷ p ∷ ps else ps) (if b then (scalar (string n), t) ∷ es else es)
 may_by true n p ps t es h k = (refl, h, k)

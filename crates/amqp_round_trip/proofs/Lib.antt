@@ -3,3 +3,5 @@ pub mod ImageLemmas
 pub mod KeyLemmas
 pub mod MapLemmas
 pub mod FieldLemmas
+pub mod FieldTreeLemmas
+pub mod AlternativeLemmas

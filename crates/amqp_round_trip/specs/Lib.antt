@@ -1,2 +1,3 @@
 -- Contracts of public items depend on these.
 pub mod HasImage
+pub mod FieldTrees

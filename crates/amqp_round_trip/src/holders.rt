@@ -2,7 +2,7 @@
 
 use crate::laws;
 use crate::round_trips::RoundTrip;
-use amqp_data::{Array, Described, TransparentVec};
+use amqp_data::{Array, Described, Multiple, TransparentVec};
 use amqp_value::Value;
 use amqp_value::laws::sound_values_are_their_own_images;
 
@@ -48,6 +48,13 @@ impl<T: RoundTrip> RoundTrip for TransparentVec<T> {
     fn law() {
         laws::transparent_vectors_return();
         T::law();
+    }
+}
+
+impl<T: RoundTrip> RoundTrip for Multiple<T> {
+    fn law() {
+        T::law();
+        <Array<T> as RoundTrip>::law();
     }
 }
 

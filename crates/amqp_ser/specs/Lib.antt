@@ -20,6 +20,7 @@ pub mod Feeding
 pub mod OpenCompounds
 pub mod StructFeeding
 pub mod OpenStructs
+pub mod Multiple
 pub mod Named
 pub mod Words
 pub mod Ends

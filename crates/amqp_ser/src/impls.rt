@@ -4,6 +4,7 @@ mod data;
 mod holders;
 mod lazy_value;
 mod maps;
+mod multiple;
 mod scalars;
 mod text;
 mod tuples;

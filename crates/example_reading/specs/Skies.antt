@@ -7,6 +7,8 @@ use Rattle.std.specs.declared.alloc.Global.{Global}
 use Rattle.amqp_de.specs.declared.enums.variants.Never.{Never}
 use Rattle.amqp_de.specs.declared.enums.variants.Either.{Either}
 use Rattle.amqp_de.specs.declared.enums.variants.Either.TheVariants.{This, Other}
+use Rattle.amqp_de.specs.declared.fields.FieldValues.{FieldValues}
+use Rattle.amqp_de.specs.Parts.{◌▸◌}
 use Rattle.amqp_ser.specs.Carried.{optional}
 use Rattle.amqp_ser.specs.Compounds.{tree_of_parts}
 use Rattle.amqp_ser.specs.Tree.{Tree}
@@ -24,8 +26,9 @@ of_sky (sky.Storm name until) = variant_of 3 (of_string name ∷ optional of_u32
 
 -- the fields of each variant, as they are read
 abbrev pub sky_parts : Sky →
-    Either (Unit {0}) (Either ℕ (Either (ℕ × (ℕ × Unit {0})) (Either (String Global × (Option ℕ × Unit {0})) Never)))
+    Either (Unit {0}) (Either ℕ (Either (FieldValues ℕ (FieldValues ℕ (Unit {0})))
+    (Either (FieldValues (String Global) (FieldValues (Option ℕ) (Unit {0}))) Never)))
 sky_parts sky.Clear = This tt
 sky_parts (sky.Cloudy eighths) = Other (This eighths)
-sky_parts (sky.Windy speed from) = Other (Other (This (speed, (from, tt))))
-sky_parts (sky.Storm name until) = Other (Other (Other (This (name, (until, tt)))))
+sky_parts (sky.Windy speed from) = Other (Other (This (speed ▸ from ▸ tt)))
+sky_parts (sky.Storm name until) = Other (Other (Other (This (name ▸ until ▸ tt))))

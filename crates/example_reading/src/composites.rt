@@ -4,8 +4,11 @@
 //! a list that is also read from a map of field names.
 
 use amqp_data::Symbol;
-use amqp_de::de::{Deserialize, Deserializer};
-use amqp_de::{ListSeed, NamedSeed, Record, TypeSeed, named, read_described, values};
+use amqp_de::de::{Deserialize, Deserializer, GaveUp};
+use amqp_de::{
+    FieldValues, ListSeed, NamedSeed, Record, TypeSeed, named, read_composite_encoded,
+    read_described, values,
+};
 use amqp_ser::{ListOf, Serialize, SerializeCompounds, Serializer, fields};
 use std::alloc::Global;
 use std::marker::PhantomData;
@@ -29,9 +32,11 @@ impl Serialize for Span {
 }
 
 impl Record for Span {
-    type Values = (u64, (u64, ()));
+    ghost use Rattle.amqp_de.specs.Parts.{◌▸◌};
 
-    ghost parts = { λ s. (s.0, (s.1, tt)) };
+    type Values = FieldValues<u64, FieldValues<u64, ()>>;
+
+    ghost parts = { λ s. s.0 ▸ s.1 ▸ tt };
 }
 
 impl Deserialize for Span {
@@ -106,6 +111,22 @@ impl Deserialize for Title {
             TypeSeed(PhantomData::<String>),
         )?))
     }
+
+    fn read_encoded(
+        alloc: Global,
+        code: u8,
+        input: &mut &[u8],
+        depth: u16,
+    ) -> Result<Title, GaveUp> {
+        Ok(Title(read_composite_encoded::<Title, _>(
+            alloc,
+            code,
+            input,
+            depth,
+            0x13,
+            TypeSeed(PhantomData::<String>),
+        )?))
+    }
 }
 
 /// The temperatures between which a thermometer works, in hundredths of a degree: a list described
@@ -139,9 +160,11 @@ impl Serialize for Limits {
 }
 
 impl Record for Limits {
-    type Values = (i32, (i32, (Option<Symbol>, ())));
+    ghost use Rattle.amqp_de.specs.Parts.{◌▸◌};
 
-    ghost parts = { λ l. (l.lowest, (l.highest, (l.unit, tt))) };
+    type Values = FieldValues<i32, FieldValues<i32, FieldValues<Option<Symbol>, ()>>>;
+
+    ghost parts = { λ l. l.lowest ▸ l.highest ▸ l.unit ▸ tt };
 }
 
 impl Deserialize for Limits {
@@ -169,6 +192,23 @@ impl Deserialize for Limits {
             deserializer,
             &0x14u64,
             NamedSeed(named! { "lowest", "highest", "unit"? }),
+        )?;
+        Ok(Limits {
+            lowest,
+            highest,
+            unit,
+        })
+    }
+
+    fn read_encoded(
+        alloc: Global,
+        code: u8,
+        input: &mut &[u8],
+        depth: u16,
+    ) -> Result<Limits, GaveUp> {
+        let seed = NamedSeed(named! { "lowest", "highest", "unit"? });
+        let values! { lowest, highest, unit } = read_composite_encoded::<Limits, _>(
+            alloc, code, input, depth, 0x14, seed,
         )?;
         Ok(Limits {
             lowest,

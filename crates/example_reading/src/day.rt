@@ -5,8 +5,10 @@
 //! after two moved ones.
 
 use amqp_data::{Symbol, SymbolRef};
-use amqp_de::de::{Deserialize, Deserializer};
-use amqp_de::{ListSeed, Record, named, read, read_described, values};
+use amqp_de::de::{Deserialize, Deserializer, GaveUp};
+use amqp_de::{
+    FieldValues, ListSeed, Record, named, read, read_described, read_described_encoded, values,
+};
 use amqp_ser::{ListOf, Serialize, SerializeCompounds, Serializer, fields};
 use std::alloc::Global;
 use std::collections::BTreeMap;
@@ -40,9 +42,11 @@ impl Serialize for Day {
 }
 
 impl Record for Day {
-    type Values = ([u32; 2], (Symbol, (BTreeMap<u32, i32>, ())));
+    ghost use Rattle.amqp_de.specs.Parts.{◌▸◌};
 
-    ghost parts = { λ d. (d.light, (d.station, (d.hours, tt))) };
+    type Values = FieldValues<[u32; 2], FieldValues<Symbol, FieldValues<BTreeMap<u32, i32>, ()>>>;
+
+    ghost parts = { λ d. d.light ▸ d.station ▸ d.hours ▸ tt };
 }
 
 impl Deserialize for Day {
@@ -107,9 +111,11 @@ impl Serialize for Rain {
 }
 
 impl Record for Rain {
-    type Values = (u32, (u16, ()));
+    ghost use Rattle.amqp_de.specs.Parts.{◌▸◌};
 
-    ghost parts = { λ r. (r.amount, (r.time, tt)) };
+    type Values = FieldValues<u32, FieldValues<u16, ()>>;
+
+    ghost parts = { λ r. r.amount ▸ r.time ▸ tt };
 }
 
 impl Deserialize for Rain {
@@ -134,6 +140,24 @@ impl Deserialize for Rain {
             alloc,
             deserializer,
             &"station:rain:list",
+            ListSeed(named! { "amount", "time" }),
+        )?;
+        Ok(Rain { amount, time })
+    }
+
+    fn read_encoded(
+        alloc: Global,
+        code: u8,
+        input: &mut &[u8],
+        depth: u16,
+    ) -> Result<Rain, GaveUp> {
+        let descriptor = "station:rain:list";
+        let values! { amount, time } = read_described_encoded::<Rain, _, _>(
+            alloc,
+            code,
+            input,
+            depth,
+            &descriptor,
             ListSeed(named! { "amount", "time" }),
         )?;
         Ok(Rain { amount, time })

@@ -4,7 +4,7 @@
 //! without a descriptor. Absent fields are omitted.
 
 use amqp_de::de::{Deserialize, Deserializer};
-use amqp_de::{Record, named, read_described_map, read_map, values};
+use amqp_de::{FieldValues, Record, named, read_described_map, read_map, values};
 use amqp_ser::{MapOf, Serialize, SerializeCompounds, Serializer, fields};
 use std::alloc::Global;
 
@@ -39,9 +39,11 @@ impl Serialize for Calibration {
 }
 
 impl Record for Calibration {
-    type Values = (i32, (Option<u32>, (Option<String>, ())));
+    ghost use Rattle.amqp_de.specs.Parts.{◌▸◌};
 
-    ghost parts = { λ c. (c.offset, (c.divisor, (c.remark, tt))) };
+    type Values = FieldValues<i32, FieldValues<Option<u32>, FieldValues<Option<String>, ()>>>;
+
+    ghost parts = { λ c. c.offset ▸ c.divisor ▸ c.remark ▸ tt };
 }
 
 impl Deserialize for Calibration {
@@ -105,9 +107,11 @@ impl Serialize for Contact {
 }
 
 impl Record for Contact {
-    type Values = (String, (Option<String>, ()));
+    ghost use Rattle.amqp_de.specs.Parts.{◌▸◌};
 
-    ghost parts = { λ c. (c.name, (c.telephone, tt)) };
+    type Values = FieldValues<String, FieldValues<Option<String>, ()>>;
+
+    ghost parts = { λ c. c.name ▸ c.telephone ▸ tt };
 }
 
 impl Deserialize for Contact {

@@ -4,7 +4,7 @@
 //! last field.
 
 use amqp_de::de::{Deserialize, Deserializer};
-use amqp_de::{ListSeed, Record, named, read, values};
+use amqp_de::{FieldValues, ListSeed, Record, named, read, values};
 use amqp_ser::{ListOf, Serialize, Serializer, fields};
 use std::alloc::Global;
 
@@ -38,9 +38,11 @@ impl Serialize for Position {
 }
 
 impl Record for Position {
-    type Values = (i32, (i32, (Option<u32>, ())));
+    ghost use Rattle.amqp_de.specs.Parts.{◌▸◌};
 
-    ghost parts = { λ p. (p.latitude, (p.longitude, (p.height, tt))) };
+    type Values = FieldValues<i32, FieldValues<i32, FieldValues<Option<u32>, ()>>>;
+
+    ghost parts = { λ p. p.latitude ▸ p.longitude ▸ p.height ▸ tt };
 }
 
 impl Deserialize for Position {

@@ -11,7 +11,7 @@ ghost use Rattle.amqp_de.specs.Answers.{Answers, Restores};
 
 use amqp_data::Error;
 use amqp_de::de::{Deserialize, Deserializer};
-use amqp_de::{ListSeed, Record, named, read, values};
+use amqp_de::{FieldValues, ListSeed, Record, named, read, values};
 use amqp_from_value::from_value;
 use amqp_ser::{ListOf, Serialize, Serializer, fields};
 use amqp_value::Value;
@@ -61,9 +61,11 @@ impl Serialize for Region {
 }
 
 impl Record for Region {
-    type Values = (u32, (Vec<Value>, ()));
+    ghost use Rattle.amqp_de.specs.Parts.{◌▸◌};
 
-    ghost parts = { λ r. (r.number, (r.inner, tt)) };
+    type Values = FieldValues<u32, FieldValues<Vec<Value>, ()>>;
+
+    ghost parts = { λ r. r.number ▸ r.inner ▸ tt };
 }
 
 impl Deserialize for Region {

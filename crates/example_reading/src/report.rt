@@ -6,7 +6,9 @@
 use crate::position::Position;
 use amqp_data::{ByteBuf, OrderedMap, Symbol, Timestamp};
 use amqp_de::de::{Deserialize, Deserializer};
-use amqp_de::{DeserializeSeed, ListSeed, Optional, Record, Required, named, read_composite};
+use amqp_de::{
+    DeserializeSeed, FieldValues, ListSeed, Optional, Record, Required, named, read_composite,
+};
 use amqp_ser::{ListOf, Serialize, SerializeCompounds, Serializer, fields};
 use amqp_value::Value;
 use std::alloc::Global;
@@ -78,24 +80,11 @@ type LastFields = Required<
 >;
 
 impl Record for Report {
+    ghost use Rattle.amqp_de.specs.Parts.{◌▸◌};
+
     type Values = <Fields as DeserializeSeed>::Value;
 
-    ghost parts = { λ r. (
-      r.number,
-      (
-        r.remark,
-        (
-          r.station,
-          (
-            r.observers,
-            (
-              r.readings,
-              (r.position, (r.time, (r.is_checked, (r.photograph, tt)))),
-            ),
-          ),
-        ),
-      ),
-    ) };
+    ghost parts = { λ r. r.number ▸ r.remark ▸ r.station ▸ r.observers ▸ r.readings ▸ r.position ▸ r.time ▸ r.is_checked ▸ r.photograph ▸ tt };
 }
 
 impl Deserialize for Report {
@@ -124,7 +113,10 @@ impl Deserialize for Report {
         (⟦<Report as Record>⟧.parts r) (⟦<Report as Record>⟧.parts s) };
 
     fn deserialize<D: Deserializer>(alloc: Global, deserializer: D) -> Result<Report, D::Error> {
-        let (number, rest) = read_composite::<Report, D, _>(
+        let FieldValues {
+            value: number,
+            rest,
+        } = read_composite::<Report, D, _>(
             alloc,
             deserializer,
             0x18,
@@ -133,14 +125,35 @@ impl Deserialize for Report {
                 "is-checked", "photograph"
             }),
         )?;
-        let (remark, rest) = rest;
-        let (station, rest) = rest;
-        let (observers, rest) = rest;
-        let (readings, rest) = rest;
-        let (position, rest) = rest;
-        let (time, rest) = rest;
-        let (is_checked, rest) = rest;
-        let (photograph, ()) = rest;
+        let FieldValues {
+            value: remark,
+            rest,
+        } = rest;
+        let FieldValues {
+            value: station,
+            rest,
+        } = rest;
+        let FieldValues {
+            value: observers,
+            rest,
+        } = rest;
+        let FieldValues {
+            value: readings,
+            rest,
+        } = rest;
+        let FieldValues {
+            value: position,
+            rest,
+        } = rest;
+        let FieldValues { value: time, rest } = rest;
+        let FieldValues {
+            value: is_checked,
+            rest,
+        } = rest;
+        let FieldValues {
+            value: photograph,
+            rest: (),
+        } = rest;
         Ok(Report {
             number,
             remark,

@@ -5,8 +5,8 @@
 
 use amqp_de::de::{Deserialize, Deserializer};
 use amqp_de::{
-    DataVariant, DeserializeSeed, Either, EnumSeed, ListSeed, Never, Optional, Record, Required,
-    TypeSeed, UnitVariant, named, read, values, variant, variants,
+    DataVariant, DeserializeSeed, Either, EnumSeed, FieldValues, ListSeed, Never, Optional, Record,
+    Required, TypeSeed, UnitVariant, named, read, values, variant, variants,
 };
 use amqp_ser::{Serialize, SerializeCompounds, SerializeScalars, Serializer, VariantOf, fields};
 use std::alloc::Global;
@@ -63,7 +63,13 @@ impl Record for Sky {
 
     type Values = Either<
         (),
-        Either<u8, Either<(u16, (u16, ())), Either<(String, (Option<u32>, ())), Never>>>,
+        Either<
+            u8,
+            Either<
+                FieldValues<u16, FieldValues<u16, ()>>,
+                Either<FieldValues<String, FieldValues<Option<u32>, ()>>, Never>,
+            >,
+        >,
     >;
 
     ghost parts = { sky_parts };
@@ -79,11 +85,11 @@ impl Deserialize for Sky {
         IsUnitVariant (
         IsDataVariant ⟦<u8 as Deserialize>⟧.reads (
         IsDataVariant (λ u x. OnFields (
-        ReadsRequired (codes "0") ⟦<u16 as Deserialize>⟧.reads x.0 (
-        ReadsRequired (codes "1") ⟦<u16 as Deserialize>⟧.reads x.1.0 NoMoreFields)) u) (
+        ReadsRequired (codes "0") ⟦<u16 as Deserialize>⟧.reads x.value (
+        ReadsRequired (codes "1") ⟦<u16 as Deserialize>⟧.reads x.rest.value NoMoreFields)) u) (
         IsDataVariant (λ u x. OnFields (
-        ReadsRequired (codes "name") ⟦<String as Deserialize>⟧.reads x.0 (
-        ReadsOptional (codes "until") ⟦<u32 as Deserialize>⟧.reads x.1.0 NoMoreFields)) u)
+        ReadsRequired (codes "name") ⟦<String as Deserialize>⟧.reads x.value (
+        ReadsOptional (codes "until") ⟦<u32 as Deserialize>⟧.reads x.rest.value NoMoreFields)) u)
         IsNoVariant)))) t (sky_parts s) };
 
     ghost image = { λ s. ⟦<EnumSeed<Variants> as DeserializeSeed>⟧.image (sky_parts s) };

@@ -1,17 +1,10 @@
 //! A described list that omits the absent fields at its end.
 //!
-//! For readers who need composites as the AMQP standard writes them: shows the optional fields
-//! `"from"?` and `"at"?`. An absent field before a present one is null.
-
-use serde_amqp::de::{
-    Deserialize, DeserializeSeed, Deserializer, ListSeed, Optional, Record, Required, named,
-    read_composite, values,
-};
-use serde_amqp::ser::{ListOf, Serialize, SerializeCompounds, Serializer, fields};
-use serde_amqp::value::{RoundTrip, laws};
-use std::alloc::Global;
+//! For readers who need composites as the AMQP standard writes them. `tools/derive` writes the impls
+//! from the annotation above the struct.
 
 /// A gust of wind: a list described by the code 0x17.
+// amqp: encoding = "list", code = 0x17
 #[derive(Debug, PartialEq, Drop)]
 pub struct Gust {
     /// The speed, in metres per hour.
@@ -22,13 +15,23 @@ pub struct Gust {
     pub at: Option<u16>,
 }
 
+// amqp: the impls below are written by tools/derive from the annotations above
+use serde_amqp::derive::{
+    Deserialize, DeserializeSeed, Deserializer, FieldSeeds, FieldValues, Global, ListOf, ListSeed,
+    Optional, Record, Required, RoundTrip, Serialize, SerializeCompounds, Serializer, fields, laws,
+    named, read_composite,
+};
+
 impl Serialize for Gust {
     ghost use Rattle.std.specs.Prelude.{[], ◌∷◌};
     ghost use Rattle.amqp_ser.specs.Tree.{code};
-    ghost use Rattle.amqp_ser.specs.Words.{optional_value, required_value, of_u16, of_u32, short_composite};
+    ghost use Rattle.amqp_ser.specs.Words.{short_composite, required_value, optional_value, of_u16, of_u32};
 
-    ghost tree = { λ g. short_composite (code 0x17) (
-        required_value (of_u32 g.speed) ∷ optional_value of_u16 g.from ∷ optional_value of_u16 g.at ∷ []) };
+    ghost tree = { λ x. short_composite (code 0x17) (
+        required_value (of_u32 x.speed)
+        ∷ optional_value of_u16 x.from
+        ∷ optional_value of_u16 x.at
+        ∷ []) };
 
     fn serialize<S: Serializer>(&self, serializer: &mut S) -> Result<S::Ok, S::Error> {
         serializer.serialize_described(
@@ -42,13 +45,15 @@ impl Serialize for Gust {
     }
 }
 
-/// The types of the fields, in order: required, or optional.
-type Fields = ListSeed<Required<u32, Optional<u16, Optional<u16, ()>>>>;
+/// The fields of [`Gust`], as they are read.
+type GustFields = Required<u32, Optional<u16, Optional<u16, ()>>>;
 
 impl Record for Gust {
-    type Values = <Fields as DeserializeSeed>::Value;
+    ghost use Rattle.amqp_de.specs.Parts.{◌▸◌};
 
-    ghost parts = { λ g. (g.speed, (g.from, (g.at, tt))) };
+    type Values = <GustFields as FieldSeeds>::Values;
+
+    ghost parts = { λ x. x.speed ▸ x.from ▸ x.at ▸ tt };
 }
 
 impl Deserialize for Gust {
@@ -56,34 +61,38 @@ impl Deserialize for Gust {
     ghost use Rattle.amqp_ser.specs.Tree.{code, described};
     ghost use Rattle.amqp_de.specs.Fields.{OnDescribed, OnFields, ReadsRequired, ReadsOptional, NoMoreFields};
 
-    ghost reads = { λ t g. OnDescribed (code 0x17) (OnFields (
-        ReadsRequired (codes "speed") ⟦<u32 as Deserialize>⟧.reads g.speed (
-        ReadsOptional (codes "from") ⟦<u16 as Deserialize>⟧.reads g.from (
-        ReadsOptional (codes "at") ⟦<u16 as Deserialize>⟧.reads g.at
+    ghost reads = { λ t x. OnDescribed (code 0x17) (OnFields (
+        ReadsRequired (codes "speed") ⟦<u32 as Deserialize>⟧.reads x.speed (
+        ReadsOptional (codes "from") ⟦<u16 as Deserialize>⟧.reads x.from (
+        ReadsOptional (codes "at") ⟦<u16 as Deserialize>⟧.reads x.at
         NoMoreFields)))) t };
 
-    ghost image = { λ g. described (code 0x17)
-        (⟦<Fields as DeserializeSeed>⟧.short (⟦<Gust as Record>⟧.parts g)) };
+    ghost image = { λ x. described (code 0x17) (⟦<ListSeed<GustFields> as DeserializeSeed>⟧.short (⟦<Gust as Record>⟧.parts x)) };
 
-    ghost restorable = { λ g. ⟦<Fields as DeserializeSeed>⟧.restorable (⟦<Gust as Record>⟧.parts g) };
+    ghost restorable = { λ x. ⟦<ListSeed<GustFields> as DeserializeSeed>⟧.restorable (⟦<Gust as Record>⟧.parts x) };
 
-    ghost same = { λ g h. ⟦<Fields as DeserializeSeed>⟧.same
-        (⟦<Gust as Record>⟧.parts g) (⟦<Gust as Record>⟧.parts h) };
+    ghost same = { λ x y. ⟦<ListSeed<GustFields> as DeserializeSeed>⟧.same (⟦<Gust as Record>⟧.parts x) (⟦<Gust as Record>⟧.parts y) };
 
     fn deserialize<D: Deserializer>(alloc: Global, deserializer: D) -> Result<Gust, D::Error> {
-        let values! { speed, from, at } = read_composite::<Gust, D, _>(
+        let FieldValues { value: speed, rest } = read_composite::<Gust, D, _>(
             alloc,
             deserializer,
-            0x17,
+            0x17u64,
             ListSeed(named! { "speed", "from"?, "at"? }),
         )?;
+        let FieldValues { value: from, rest } = rest;
+        let FieldValues {
+            value: at,
+            rest: (),
+        } = rest;
         Ok(Gust { speed, from, at })
     }
 }
 
 impl RoundTrip for Gust {
     fn law() {
-        laws::short_lists_return();
+        laws::short_fields_return::<Gust, GustFields>();
         laws::described_return();
     }
 }
+// amqp: end of the impls

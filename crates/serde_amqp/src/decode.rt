@@ -1,3 +1,3 @@
 //! Decoding of one encoded value, in any of its encodings, into an untyped value.
 
-pub use amqp_decode::{decode_value, decode_value_limited, laws};
+pub use amqp_decode::{decode_value, decode_value_limited, decode_value_to_depth, laws};

@@ -2,8 +2,8 @@
 
 pub use amqp_data::markers;
 pub use amqp_ser::{
-    CompoundKind, Field, Fields, Fixed, Keys, ListOf, MapOf, Marker, OptionalField, Serialize,
-    SerializeCompounds, SerializeMap, SerializeScalars, SerializeSeq, SerializeStruct,
+    CompoundKind, Field, Fields, Fixed, Keys, ListOf, MapOf, Marker, Name, OptionalField,
+    Serialize, SerializeCompounds, SerializeMap, SerializeScalars, SerializeSeq, SerializeStruct,
     SerializeStructVariant, SerializeTuple, SerializeTupleStruct, SerializeTupleVariant,
     Serializer, SymbolMapOf, VariantOf, fields, marker_named,
 };

@@ -3,6 +3,8 @@
 pub mod de;
 pub mod ser;
 
-pub use amqp_round_trip::{MapKey, RoundTrip, laws, round_trip};
+pub use amqp_round_trip::{
+    MapKey, RoundTrip, RoundTripAlternatives, RoundTripComposite, RoundTripFields, laws, round_trip,
+};
 pub use amqp_to_value::{TryFromSerializable, to_value};
 pub use amqp_value::{ConvertFault, Value};

@@ -2,7 +2,7 @@
 //! from a map of the fields' names.
 
 use amqp_de::de::{Deserialize, Deserializer};
-use amqp_de::{ListSeed, NamedSeed, Record, named, read_described, values};
+use amqp_de::{FieldValues, ListSeed, NamedSeed, Record, named, read_described, values};
 use amqp_ser::{ListOf, Serialize, SerializeCompounds, Serializer, fields};
 use std::alloc::Global;
 
@@ -31,9 +31,11 @@ impl Serialize for Flow {
 }
 
 impl Record for Flow {
-    type Values = (u32, (Option<u32>, ()));
+    ghost use Rattle.amqp_de.specs.Parts.{◌▸◌};
 
-    ghost parts = { λ f. (f.handle, (f.credit, tt)) };
+    type Values = FieldValues<u32, FieldValues<Option<u32>, ()>>;
+
+    ghost parts = { λ f. f.handle ▸ f.credit ▸ tt };
 }
 
 impl Deserialize for Flow {
@@ -93,9 +95,11 @@ impl Serialize for Limits {
 }
 
 impl Record for Limits {
-    type Values = (i32, (Option<u32>, ()));
+    ghost use Rattle.amqp_de.specs.Parts.{◌▸◌};
 
-    ghost parts = { λ l. (l.low, (l.high, tt)) };
+    type Values = FieldValues<i32, FieldValues<Option<u32>, ()>>;
+
+    ghost parts = { λ l. l.low ▸ l.high ▸ tt };
 }
 
 impl Deserialize for Limits {

@@ -10,12 +10,14 @@
 //! | `whole BYTES` | the length and the bytes by which the value encodes itself: `whole_len`, `whole_bytes` |
 //! | `code BYTES` | the format code of the value |
 //! | `count BYTES` | the number of elements or pairs of the compound |
+//! | `count_lazy BYTES` | the same of the image of the lazy value |
 //! | `depth BYTES` | the number of lists around the empty one |
 //! | `compare BYTES BYTES` | `cmp` of the two values, and which of `<`, `=` and `>` are true |
 //! | `frame BYTES` | `frame_len` and `is_frame` |
 //! | `cut BYTES` | the result of each call of `LazyValue::from_reader` until no byte is left |
 //! | `prefixes BYTES` | the number of proper prefixes, and of incomplete ones |
 //! | `read TYPE BYTES` | the value as this type: its results |
+//! | `read_within LENGTH/ELEMENTS/LEVELS BYTES` | the `Value` by `from_slice_limited`: its results |
 //! | `readers BYTES` | the scalar types that read the value; for all others it is invalid |
 //! | `parts READER BYTES` | the value by this reader (`parts`, `visitors`): its `Debug` text |
 //! | `visit CALL BYTES` | the visit that this call of a deserializer makes (`visits`) |
@@ -37,6 +39,7 @@
 mod composites;
 mod compounds;
 mod cuts;
+mod limited;
 mod marked;
 mod notation;
 mod parts;

@@ -39,10 +39,16 @@ pub fn parts(alloc: Global, arguments: &str) -> Result<String, Error> {
 fn four(alloc: Global, value: Value) -> Result<Variant, Error> {
     let variants = EnumSeed(variants! { named! { "a", "b" }, newtype, unit, named! { "0", "1" } });
     match variants.deserialize(alloc, Deserializer::new(alloc, value))? {
-        variant!(0, (a, (b, ()))) => Ok(Variant::Struct(a, b)),
+        variant!(0, parts) => {
+            let values! { a, b } = parts;
+            Ok(Variant::Struct(a, b))
+        }
         variant!(1, number) => Ok(Variant::Newtype(number)),
         variant!(2, ()) => Ok(Variant::Unit(2)),
-        variant!(3, (number, (text, ()))) => Ok(Variant::Tuple(number, text)),
+        variant!(3, parts) => {
+            let values! { number, text } = parts;
+            Ok(Variant::Tuple(number, text))
+        }
         variant!(none 4, never) => match never {},
     }
 }
@@ -63,7 +69,10 @@ fn two(alloc: Global, value: Value) -> Result<Variant, Error> {
         Deserializer::new(alloc, value),
     )? {
         variant!(0, ()) => Ok(Variant::Unit(0)),
-        variant!(1, (number, (text, ()))) => Ok(Variant::Tuple(number, text)),
+        variant!(1, parts) => {
+            let values! { number, text } = parts;
+            Ok(Variant::Tuple(number, text))
+        }
         variant!(none 2, never) => match never {},
     }
 }

@@ -1,6 +1,6 @@
 //! The call of a row.
 
-use crate::{cuts, marked, notation, parts, results, samples, types, values, visits};
+use crate::{cuts, limited, marked, notation, parts, results, samples, types, values, visits};
 use amqp_data::Error;
 use std::alloc::Global;
 
@@ -11,6 +11,7 @@ pub fn answer(alloc: Global, line: &str) -> Result<String, Error> {
     };
     match call {
         "decode_within" => values::decode_within(alloc, arguments),
+        "read_within" => limited::read_within(alloc, arguments),
         "compare" => values::compare(alloc, arguments),
         "read" => types::read(alloc, arguments),
         "parts" => parts::parts(alloc, arguments),
@@ -29,6 +30,7 @@ fn of_bytes(alloc: Global, call: &str, bytes: &[u8]) -> Result<String, Error> {
         "whole" => values::whole(alloc, bytes),
         "code" => values::code(alloc, bytes),
         "count" => values::count(alloc, bytes),
+        "count_lazy" => values::count_lazy(alloc, bytes),
         "depth" => values::depth(alloc, bytes),
         "frame" => cuts::frame(alloc, bytes),
         "cut" => cuts::cut(alloc, bytes),

@@ -4,7 +4,9 @@ use crate::notation::{bytes_of, number_of, word_of};
 use crate::row::refusal;
 use amqp_data::Error;
 use amqp_decode::{decode_value, decode_value_limited};
+use amqp_frame::{LazyValue, SliceReader};
 use amqp_ser::Whole as _;
+use amqp_to_value::to_value;
 use amqp_value::Value;
 use amqp_wire::to_vec;
 use std::alloc::Global;
@@ -51,7 +53,17 @@ pub fn code(alloc: Global, bytes: &[u8]) -> Result<String, Error> {
 
 /// Returns the number of elements of the list or array, or of pairs of the map.
 pub fn count(alloc: Global, bytes: &[u8]) -> Result<String, Error> {
-    let count = match &decode_value(alloc, bytes)? {
+    count_of(alloc, &decode_value(alloc, bytes)?)
+}
+
+/// The same of the image of the lazy value of these bytes.
+pub fn count_lazy(alloc: Global, bytes: &[u8]) -> Result<String, Error> {
+    let lazy = LazyValue::from_reader(alloc, &mut SliceReader::new(bytes))?;
+    count_of(alloc, &to_value(alloc, &lazy)?)
+}
+
+fn count_of(alloc: Global, value: &Value) -> Result<String, Error> {
+    let count = match value {
         Value::List(items) => items.len(),
         Value::Map(map) => map.len(),
         Value::Array(array) => array.as_inner().len(),

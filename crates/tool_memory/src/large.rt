@@ -137,7 +137,7 @@ fn are_limited(alloc: Global) -> Result<bool, Error> {
     let granted = decode_value_limited(alloc, nulls, 32_768)?;
     let all = matches!(&granted, Value::Array(items) if items.as_inner().len() == 32_768);
     let refused = decode_value_limited(alloc, nulls, 32_767);
-    Ok(all && matches!(&refused, Err(Error::OutOfMemory)))
+    Ok(all && matches!(&refused, Err(Error::TooLong)))
 }
 
 // Decodes an array of numbers of a mebibyte, and reads numbers as each type of list.

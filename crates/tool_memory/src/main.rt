@@ -27,11 +27,18 @@
 //! | the same | `Value::try_from_btree_map`, `Value::try_from_ordered_map`, `Vec::try_from`, `Array::try_from` |
 //! | the same | `OrderedMap::try_from`, `BTreeMap::try_from`, `HashMap::try_from`, `IndexMap::try_from` |
 //! | the same | `TryFromSerializable::try_from_serializable` |
-//! | rows of decode and decode_within | `decode_value`, `decode_value_limited` |
+//! | rows of decode and decode_within | `decode_value`, `decode_value_limited`, `decode_value_to_depth` |
+//! | rows of read_within | `from_slice_limited` |
 //! | rows of decode and read | `MapBuilder::new`, `MapBuilder::with_capacity`, `MapBuilder::into_value` |
 //! | rows of read | `from_value`, `from_slice`, `from_reader`, `ReadLazy::read`, `Deserializer::new` |
+//! | the same | `Deserialize::read_encoded`, `Deserialize::read_list`, `Deserialize::read_array`, `read_string`, `read_symbol`, `read_binary` |
+//! | the same | `read_value_after_code`, `split_descriptor`, `read_parts_encoded`, `DeserializeSeed::read_encoded`, `ListSeed::read_encoded` |
+//! | the same | `FieldSeeds::read_fields`, `Required::read_fields` |
 //! | types of one's own | `round_trip`, `round_trip_bytes`, `read`, `read_composite`, `read_described`, `TypeSeed::deserialize`, `ListSeed::deserialize`, `NamedSeed::deserialize` |
-//! | the same | `read_map`, `read_described_map` |
+//! | the same | `read_composite_encoded`, `read_described_encoded`, `TypeSeed::read_encoded`, `NamedSeed::read_encoded`, `Optional::read_fields` |
+//! | the same | `read_map`, `read_described_map`, `read_named`, `read_fields_map`, `read_composite_map`, `read_named_map` |
+//! | the same | `read_composite_type`, `Composite::read_body`, `Name::serialize`, `Defaulted::read_elements`, `Defaulted::read_entries` |
+//! | the same | `read_alternatives`, `Alternatives::read_after`, `Either::read_after`, `Never::read_after` |
 //! | the same | `FieldSeeds::read_elements`, `Required::read_elements`, `Optional::read_elements`, `Elements::new` |
 //! | the same | `FieldSeeds::read_entries`, `Required::read_entries`, `Optional::read_entries`, `Entries::new`, `DeserializeSeed::deserialize` |
 //! | the same | `Variants::deserialize`, `EnumSeed::deserialize`, `UnitVariant::deserialize`, `DataVariant::deserialize` |
@@ -60,6 +67,7 @@ mod accessors;
 mod again;
 mod calls;
 mod conversions;
+mod derived_types;
 mod inserted;
 mod large;
 mod lengths;

@@ -66,8 +66,11 @@ fn maps(alloc: Global) -> Result<bool, Error> {
     Ok(calibrations && is_read(alloc, &rain)? && comes_back(alloc, &day)?)
 }
 
-// Returns whether the value round-trips through its untyped value and through its bytes.
-fn comes_back<T: RoundTrip + PartialEq>(alloc: Global, value: &T) -> Result<bool, Error> {
+/// Returns whether the value round-trips through its untyped value and through its bytes.
+///
+/// # Errors
+/// Returns `OutOfMemory` if an allocation fails; any other error is a wrong result.
+pub fn comes_back<T: RoundTrip + PartialEq>(alloc: Global, value: &T) -> Result<bool, Error> {
     Ok(round_trip(alloc, value)? == *value && round_trip_bytes(alloc, value)? == *value)
 }
 

@@ -7,7 +7,7 @@
 //! | Token | Pops | Pushes |
 //! |---|---|---|
 //! | `HEX` | none | the untyped value that the bytes encode |
-//! | `limited:HEX` | none | the same, if no array has more than 1,000 elements without bytes |
+//! | `limited:HEX` | none | the same, if its arrays have at most 1,000 elements without bytes |
 //! | `lazy:HEX` | none | the lazy value of the bytes, which are one encoded value |
 //! | `list:N`, `array:N` | N nodes | the list, the array |
 //! | `transparent:N` | N nodes | the transparent vector |

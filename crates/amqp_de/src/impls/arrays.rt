@@ -10,6 +10,7 @@ use crate::deserialize::Deserialize;
 use crate::deserialize_error::DeserializeError;
 use crate::deserializer::Deserializer;
 use crate::impls::lists::reserve;
+use amqp_decode::prefix::{GaveUp, below, split_list};
 use std::alloc::Global;
 
 /// Reads `count` elements, in order. Further elements are ignored.
@@ -66,6 +67,25 @@ impl<T: Deserialize, const N: usize> Deserialize for [T; N] {
                 Err(error) => Err(error),
             },
             None => Err(D::Error::invalid_value()),
+        }
+    }
+
+    #[inline(always)]
+    fn read_encoded(
+        alloc: Global,
+        code: u8,
+        input: &mut &[u8],
+        depth: u16,
+    ) -> Result<[T; N], GaveUp> {
+        let (count, body, rest) = split_list(code, *input)?;
+        *input = rest;
+        let inside = below(depth)?;
+        match T::read_list(alloc, count, body, inside) {
+            Ok(values) => match <[T; N]>::try_from(values) {
+                Ok(items) => Ok(items),
+                Err(_) => Err(GaveUp),
+            },
+            Err(error) => Err(error),
         }
     }
 }

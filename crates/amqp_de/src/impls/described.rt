@@ -11,6 +11,7 @@ use crate::deserialize::Deserialize;
 use crate::deserialize_error::DeserializeError;
 use crate::deserializer::Deserializer;
 use amqp_data::{Described, Descriptor};
+use amqp_decode::prefix::{GaveUp, below, split_byte, split_descriptor};
 use std::alloc::Global;
 
 impl Deserialize for Descriptor {
@@ -56,6 +57,28 @@ impl<T: Deserialize> Deserialize for Described<T> {
                 Err(error) => Err(error),
             },
             _ => Err(D::Error::invalid_value()),
+        }
+    }
+
+    fn read_encoded(
+        alloc: Global,
+        code: u8,
+        input: &mut &[u8],
+        depth: u16,
+    ) -> Result<Described<T>, GaveUp> {
+        if code != 0 {
+            return Err(GaveUp);
+        }
+        let (descriptor, after) = split_descriptor(alloc, *input)?;
+        let (inner, payload) = split_byte(after)?;
+        *input = payload;
+        let inside = below(depth)?;
+        match T::read_encoded(alloc, inner, input, inside) {
+            Ok(read) => Ok(Described {
+                descriptor,
+                value: read,
+            }),
+            Err(error) => Err(error),
         }
     }
 }

@@ -10,7 +10,12 @@ use crate::deserialize::Deserialize;
 use crate::deserialize_error::DeserializeError;
 use crate::deserializer::Deserializer;
 use crate::fixed_content::FixedContent;
+use crate::impls::numbers::read_numbers;
 use amqp_data::{Dec32, Dec64, Dec128, F32Bits, F64Bits, Timestamp, Uuid};
+use amqp_decode::prefix::{
+    GaveUp, read_decimal32, read_decimal64, read_decimal128, read_double, read_float,
+    read_timestamp, read_uuid,
+};
 use std::alloc::Global;
 
 impl Deserialize for F32Bits {
@@ -28,6 +33,33 @@ impl Deserialize for F32Bits {
             FixedContent::Float(value) => Ok(value),
             _ => Err(D::Error::invalid_value()),
         }
+    }
+
+    #[inline(always)]
+    fn read_encoded(
+        _alloc: Global,
+        code: u8,
+        input: &mut &[u8],
+        _depth: u16,
+    ) -> Result<F32Bits, GaveUp> {
+        let (value, rest) = read_float(code, *input)?;
+        *input = rest;
+        Ok(value)
+    }
+
+    #[inline(never)]
+    fn read_array(
+        alloc: Global,
+        code: u8,
+        count: u32,
+        content: &[u8],
+        _depth: u16,
+    ) -> Result<Vec<F32Bits>, GaveUp> {
+        if code != 0x72 {
+            return Err(GaveUp);
+        }
+        let items = read_numbers::<F32Bits, 4>(alloc, count, content)?;
+        Ok(items)
     }
 }
 
@@ -47,6 +79,33 @@ impl Deserialize for F64Bits {
             _ => Err(D::Error::invalid_value()),
         }
     }
+
+    #[inline(always)]
+    fn read_encoded(
+        _alloc: Global,
+        code: u8,
+        input: &mut &[u8],
+        _depth: u16,
+    ) -> Result<F64Bits, GaveUp> {
+        let (value, rest) = read_double(code, *input)?;
+        *input = rest;
+        Ok(value)
+    }
+
+    #[inline(never)]
+    fn read_array(
+        alloc: Global,
+        code: u8,
+        count: u32,
+        content: &[u8],
+        _depth: u16,
+    ) -> Result<Vec<F64Bits>, GaveUp> {
+        if code != 0x82 {
+            return Err(GaveUp);
+        }
+        let items = read_numbers::<F64Bits, 8>(alloc, count, content)?;
+        Ok(items)
+    }
 }
 
 impl Deserialize for Dec32 {
@@ -63,6 +122,18 @@ impl Deserialize for Dec32 {
             Content::Decimal32(value) => Ok(value),
             _ => Err(D::Error::invalid_value()),
         }
+    }
+
+    #[inline(always)]
+    fn read_encoded(
+        _alloc: Global,
+        code: u8,
+        input: &mut &[u8],
+        _depth: u16,
+    ) -> Result<Dec32, GaveUp> {
+        let (value, rest) = read_decimal32(code, *input)?;
+        *input = rest;
+        Ok(value)
     }
 }
 
@@ -81,6 +152,18 @@ impl Deserialize for Dec64 {
             _ => Err(D::Error::invalid_value()),
         }
     }
+
+    #[inline(always)]
+    fn read_encoded(
+        _alloc: Global,
+        code: u8,
+        input: &mut &[u8],
+        _depth: u16,
+    ) -> Result<Dec64, GaveUp> {
+        let (value, rest) = read_decimal64(code, *input)?;
+        *input = rest;
+        Ok(value)
+    }
 }
 
 impl Deserialize for Dec128 {
@@ -97,6 +180,18 @@ impl Deserialize for Dec128 {
             Content::Decimal128(value) => Ok(value),
             _ => Err(D::Error::invalid_value()),
         }
+    }
+
+    #[inline(always)]
+    fn read_encoded(
+        _alloc: Global,
+        code: u8,
+        input: &mut &[u8],
+        _depth: u16,
+    ) -> Result<Dec128, GaveUp> {
+        let (value, rest) = read_decimal128(code, *input)?;
+        *input = rest;
+        Ok(value)
     }
 }
 
@@ -119,6 +214,33 @@ impl Deserialize for Timestamp {
             _ => Err(D::Error::invalid_value()),
         }
     }
+
+    #[inline(always)]
+    fn read_encoded(
+        _alloc: Global,
+        code: u8,
+        input: &mut &[u8],
+        _depth: u16,
+    ) -> Result<Timestamp, GaveUp> {
+        let (value, rest) = read_timestamp(code, *input)?;
+        *input = rest;
+        Ok(value)
+    }
+
+    #[inline(never)]
+    fn read_array(
+        alloc: Global,
+        code: u8,
+        count: u32,
+        content: &[u8],
+        _depth: u16,
+    ) -> Result<Vec<Timestamp>, GaveUp> {
+        if code != 0x83 {
+            return Err(GaveUp);
+        }
+        let items = read_numbers::<Timestamp, 8>(alloc, count, content)?;
+        Ok(items)
+    }
 }
 
 impl Deserialize for Uuid {
@@ -135,5 +257,17 @@ impl Deserialize for Uuid {
             Content::Uuid(value) => Ok(value),
             _ => Err(D::Error::invalid_value()),
         }
+    }
+
+    #[inline(always)]
+    fn read_encoded(
+        _alloc: Global,
+        code: u8,
+        input: &mut &[u8],
+        _depth: u16,
+    ) -> Result<Uuid, GaveUp> {
+        let (value, rest) = read_uuid(code, *input)?;
+        *input = rest;
+        Ok(value)
     }
 }

@@ -8,6 +8,7 @@ ghost use Rattle.amqp_de.specs.Reads.{ReadsOption, image_option, RestorableOptio
 use crate::deserialize::Deserialize;
 use crate::deserialize_error::DeserializeError;
 use crate::deserializer::Deserializer;
+use amqp_decode::prefix::{GaveUp, read_value_after_code};
 use amqp_value::Value;
 use std::alloc::Global;
 
@@ -27,6 +28,22 @@ impl<T: Deserialize> Deserialize for Option<T> {
         }
         Ok(Some(T::deserialize(alloc, deserializer)?))
     }
+
+    #[inline(always)]
+    fn read_encoded(
+        alloc: Global,
+        code: u8,
+        input: &mut &[u8],
+        depth: u16,
+    ) -> Result<Option<T>, GaveUp> {
+        if code == 0x40 {
+            return Ok(None);
+        }
+        match T::read_encoded(alloc, code, input, depth) {
+            Ok(value) => Ok(Some(value)),
+            Err(error) => Err(error),
+        }
+    }
 }
 
 impl<T: Deserialize> Deserialize for Box<T> {
@@ -44,6 +61,18 @@ impl<T: Deserialize> Deserialize for Box<T> {
             Err(_) => Err(D::Error::out_of_memory()),
         }
     }
+
+    #[inline(always)]
+    fn read_encoded(
+        alloc: Global,
+        code: u8,
+        input: &mut &[u8],
+        depth: u16,
+    ) -> Result<Box<T>, GaveUp> {
+        let value = T::read_encoded(alloc, code, input, depth)?;
+        let boxed = Box::new(alloc, value)?;
+        Ok(boxed)
+    }
 }
 
 impl Deserialize for Value {
@@ -57,5 +86,18 @@ impl Deserialize for Value {
 
     fn deserialize<D: Deserializer>(_alloc: Global, deserializer: D) -> Result<Value, D::Error> {
         Ok(deserializer.into_value())
+    }
+
+    #[inline(always)]
+    fn read_encoded(
+        alloc: Global,
+        code: u8,
+        input: &mut &[u8],
+        depth: u16,
+    ) -> Result<Value, GaveUp> {
+        match read_value_after_code(alloc, code, input, depth) {
+            Ok(value) => Ok(value),
+            Err(error) => Err(error),
+        }
     }
 }

@@ -11,29 +11,11 @@ use crate::content::Content;
 use crate::deserialize::Deserialize;
 use crate::deserialize_error::DeserializeError;
 use crate::deserializer::Deserializer;
+use crate::room::{MOST_RESERVED, most_reserved};
 use amqp_data::{Array, TransparentVec};
+use amqp_decode::prefix::{GaveUp, below, split_array, split_list};
 use std::alloc::Global;
 use std::mem::size_of_val;
-
-// The maximum number of values for which room is reserved before they are read. A value may be larger
-// than the element that it is read from, and an element may be refused.
-const MOST_RESERVED: usize = 256;
-
-// Returns the maximum number of values of this size for which room is reserved after the first one:
-// as many as 4,096 bytes hold, but at least 4 and at most `MOST_RESERVED`. It is a power of two, so
-// that a longer vector grows to the same capacity as one that begins with 4.
-#[inline(always)]
-fn most_reserved(size: usize) -> usize {
-    match size {
-        0..=16 => MOST_RESERVED,
-        17..=32 => 128,
-        33..=64 => 64,
-        65..=128 => 32,
-        129..=256 => 16,
-        257..=512 => 8,
-        _ => 4,
-    }
-}
 
 /// Returns an empty vector with room for the elements that are certainly left, but for no more than
 /// `most` and `MOST_RESERVED`.
@@ -142,6 +124,22 @@ impl<T: Deserialize> Deserialize for Vec<T> {
             None => Err(D::Error::invalid_value()),
         }
     }
+
+    #[inline(always)]
+    fn read_encoded(
+        alloc: Global,
+        code: u8,
+        input: &mut &[u8],
+        depth: u16,
+    ) -> Result<Vec<T>, GaveUp> {
+        let (count, body, rest) = split_list(code, *input)?;
+        *input = rest;
+        let inside = below(depth)?;
+        match T::read_list(alloc, count, body, inside) {
+            Ok(values) => Ok(values),
+            Err(error) => Err(error),
+        }
+    }
 }
 
 #[tactic(auto, using(crate::proofs::Lists::list_of_trees, crate::proofs::Lists::same_trees), unfolding(crate::specs::Reads::OnArray))]
@@ -161,6 +159,22 @@ impl<T: Deserialize> Deserialize for Array<T> {
                 Err(error) => Err(error),
             },
             _ => Err(D::Error::invalid_value()),
+        }
+    }
+
+    #[inline(always)]
+    fn read_encoded(
+        alloc: Global,
+        code: u8,
+        input: &mut &[u8],
+        depth: u16,
+    ) -> Result<Array<T>, GaveUp> {
+        let (count, constructor, payloads, rest) = split_array(code, *input)?;
+        *input = rest;
+        let inside = below(depth)?;
+        match T::read_array(alloc, constructor, count, payloads, inside) {
+            Ok(values) => Ok(Array::from(values)),
+            Err(error) => Err(error),
         }
     }
 }
@@ -185,6 +199,22 @@ impl<T: Deserialize> Deserialize for TransparentVec<T> {
                 Err(error) => Err(error),
             },
             _ => Err(D::Error::invalid_value()),
+        }
+    }
+
+    #[inline(always)]
+    fn read_encoded(
+        alloc: Global,
+        code: u8,
+        input: &mut &[u8],
+        depth: u16,
+    ) -> Result<TransparentVec<T>, GaveUp> {
+        let (count, body, rest) = split_list(code, *input)?;
+        *input = rest;
+        let inside = below(depth)?;
+        match T::read_list(alloc, count, body, inside) {
+            Ok(items) => Ok(TransparentVec::new(items)),
+            Err(error) => Err(error),
         }
     }
 }

@@ -1,13 +1,14 @@
-//! Null, booleans, integers and characters. Each type is read only from a value of its own kind.
+//! Null, booleans and characters. Each type is read only from a value of its own kind.
 
 ghost use Rattle.std.specs.Prelude.{◌≡◌};
-ghost use Rattle.amqp_ser.specs.Tree.{scalar, null, bool, ubyte, ushort, uint, ulong, byte, short, int, long, char};
+ghost use Rattle.amqp_ser.specs.Tree.{scalar, null, bool, char};
 ghost use Rattle.amqp_de.specs.Reads.{Always};
 
 use crate::deserialize::Deserialize;
 use crate::deserialize_error::DeserializeError;
 use crate::deserializer::Deserializer;
 use crate::fixed_content::FixedContent;
+use amqp_decode::prefix::{GaveUp, read_bool, read_char, read_null};
 use std::alloc::Global;
 
 impl Deserialize for () {
@@ -25,6 +26,18 @@ impl Deserialize for () {
         } else {
             Err(D::Error::invalid_value())
         }
+    }
+
+    #[inline(always)]
+    fn read_encoded(
+        _alloc: Global,
+        code: u8,
+        input: &mut &[u8],
+        _depth: u16,
+    ) -> Result<(), GaveUp> {
+        let rest = read_null(code, *input)?;
+        *input = rest;
+        Ok(())
     }
 }
 
@@ -44,149 +57,17 @@ impl Deserialize for bool {
             _ => Err(D::Error::invalid_value()),
         }
     }
-}
-
-impl Deserialize for u8 {
-    ghost reads = { λ t x. t ≡ scalar (ubyte x) };
-
-    ghost image = { λ x. scalar (ubyte x) };
-
-    ghost restorable = { Always };
-
-    ghost same = { λ x y. x ≡ y };
 
     #[inline(always)]
-    fn deserialize<D: Deserializer>(_alloc: Global, deserializer: D) -> Result<u8, D::Error> {
-        match deserializer.into_fixed() {
-            FixedContent::Ubyte(value) => Ok(value),
-            _ => Err(D::Error::invalid_value()),
-        }
-    }
-}
-
-impl Deserialize for u16 {
-    ghost reads = { λ t x. t ≡ scalar (ushort x) };
-
-    ghost image = { λ x. scalar (ushort x) };
-
-    ghost restorable = { Always };
-
-    ghost same = { λ x y. x ≡ y };
-
-    #[inline(always)]
-    fn deserialize<D: Deserializer>(_alloc: Global, deserializer: D) -> Result<u16, D::Error> {
-        match deserializer.into_fixed() {
-            FixedContent::Ushort(value) => Ok(value),
-            _ => Err(D::Error::invalid_value()),
-        }
-    }
-}
-
-impl Deserialize for u32 {
-    ghost reads = { λ t x. t ≡ scalar (uint x) };
-
-    ghost image = { λ x. scalar (uint x) };
-
-    ghost restorable = { Always };
-
-    ghost same = { λ x y. x ≡ y };
-
-    #[inline(always)]
-    fn deserialize<D: Deserializer>(_alloc: Global, deserializer: D) -> Result<u32, D::Error> {
-        match deserializer.into_fixed() {
-            FixedContent::Uint(value) => Ok(value),
-            _ => Err(D::Error::invalid_value()),
-        }
-    }
-}
-
-impl Deserialize for u64 {
-    ghost reads = { λ t x. t ≡ scalar (ulong x) };
-
-    ghost image = { λ x. scalar (ulong x) };
-
-    ghost restorable = { Always };
-
-    ghost same = { λ x y. x ≡ y };
-
-    #[inline(always)]
-    fn deserialize<D: Deserializer>(_alloc: Global, deserializer: D) -> Result<u64, D::Error> {
-        match deserializer.into_fixed() {
-            FixedContent::Ulong(value) => Ok(value),
-            _ => Err(D::Error::invalid_value()),
-        }
-    }
-}
-
-impl Deserialize for i8 {
-    ghost reads = { λ t x. t ≡ scalar (byte x) };
-
-    ghost image = { λ x. scalar (byte x) };
-
-    ghost restorable = { Always };
-
-    ghost same = { λ x y. x ≡ y };
-
-    #[inline(always)]
-    fn deserialize<D: Deserializer>(_alloc: Global, deserializer: D) -> Result<i8, D::Error> {
-        match deserializer.into_fixed() {
-            FixedContent::Byte(value) => Ok(value),
-            _ => Err(D::Error::invalid_value()),
-        }
-    }
-}
-
-impl Deserialize for i16 {
-    ghost reads = { λ t x. t ≡ scalar (short x) };
-
-    ghost image = { λ x. scalar (short x) };
-
-    ghost restorable = { Always };
-
-    ghost same = { λ x y. x ≡ y };
-
-    #[inline(always)]
-    fn deserialize<D: Deserializer>(_alloc: Global, deserializer: D) -> Result<i16, D::Error> {
-        match deserializer.into_fixed() {
-            FixedContent::Short(value) => Ok(value),
-            _ => Err(D::Error::invalid_value()),
-        }
-    }
-}
-
-impl Deserialize for i32 {
-    ghost reads = { λ t x. t ≡ scalar (int x) };
-
-    ghost image = { λ x. scalar (int x) };
-
-    ghost restorable = { Always };
-
-    ghost same = { λ x y. x ≡ y };
-
-    #[inline(always)]
-    fn deserialize<D: Deserializer>(_alloc: Global, deserializer: D) -> Result<i32, D::Error> {
-        match deserializer.into_fixed() {
-            FixedContent::Int(value) => Ok(value),
-            _ => Err(D::Error::invalid_value()),
-        }
-    }
-}
-
-impl Deserialize for i64 {
-    ghost reads = { λ t x. t ≡ scalar (long x) };
-
-    ghost image = { λ x. scalar (long x) };
-
-    ghost restorable = { Always };
-
-    ghost same = { λ x y. x ≡ y };
-
-    #[inline(always)]
-    fn deserialize<D: Deserializer>(_alloc: Global, deserializer: D) -> Result<i64, D::Error> {
-        match deserializer.into_fixed() {
-            FixedContent::Long(value) => Ok(value),
-            _ => Err(D::Error::invalid_value()),
-        }
+    fn read_encoded(
+        _alloc: Global,
+        code: u8,
+        input: &mut &[u8],
+        _depth: u16,
+    ) -> Result<bool, GaveUp> {
+        let (value, rest) = read_bool(code, *input)?;
+        *input = rest;
+        Ok(value)
     }
 }
 
@@ -205,5 +86,17 @@ impl Deserialize for char {
             FixedContent::Char(value) => Ok(value),
             _ => Err(D::Error::invalid_value()),
         }
+    }
+
+    #[inline(always)]
+    fn read_encoded(
+        _alloc: Global,
+        code: u8,
+        input: &mut &[u8],
+        _depth: u16,
+    ) -> Result<char, GaveUp> {
+        let (value, rest) = read_char(code, *input)?;
+        *input = rest;
+        Ok(value)
     }
 }

@@ -11,6 +11,7 @@ use crate::deserialize::Deserialize;
 use crate::deserialize_error::DeserializeError;
 use crate::deserializer::Deserializer;
 use amqp_data::{ByteBuf, Symbol};
+use amqp_decode::prefix::{GaveUp, read_binary, read_string, read_symbol};
 use std::alloc::Global;
 
 impl Deserialize for ByteBuf {
@@ -27,6 +28,18 @@ impl Deserialize for ByteBuf {
             Content::Binary(value) => Ok(value),
             _ => Err(D::Error::invalid_value()),
         }
+    }
+
+    #[inline(always)]
+    fn read_encoded(
+        alloc: Global,
+        code: u8,
+        input: &mut &[u8],
+        _depth: u16,
+    ) -> Result<ByteBuf, GaveUp> {
+        let (value, rest) = read_binary(alloc, code, *input)?;
+        *input = rest;
+        Ok(value)
     }
 }
 
@@ -46,6 +59,18 @@ impl Deserialize for String {
             None => Err(D::Error::invalid_value()),
         }
     }
+
+    #[inline(always)]
+    fn read_encoded(
+        alloc: Global,
+        code: u8,
+        input: &mut &[u8],
+        _depth: u16,
+    ) -> Result<String, GaveUp> {
+        let (value, rest) = read_string(alloc, code, *input)?;
+        *input = rest;
+        Ok(value)
+    }
 }
 
 impl Deserialize for Symbol {
@@ -62,5 +87,17 @@ impl Deserialize for Symbol {
             Content::Symbol(value) => Ok(value),
             _ => Err(D::Error::invalid_value()),
         }
+    }
+
+    #[inline(always)]
+    fn read_encoded(
+        alloc: Global,
+        code: u8,
+        input: &mut &[u8],
+        _depth: u16,
+    ) -> Result<Symbol, GaveUp> {
+        let (value, rest) = read_symbol(alloc, code, *input)?;
+        *input = rest;
+        Ok(value)
     }
 }

@@ -3,18 +3,22 @@
 ghost use Rattle.std.specs.Prelude.{[], ◌∷◌};
 ghost use Rattle.amqp_ser.specs.Tree.{list, trees_of};
 ghost use Rattle.amqp_de.specs.Fields.{OnFields, ReadsRequired, NoMoreFields};
+ghost use Rattle.amqp_de.specs.Parts.{◌▸◌};
 
 use crate::deserialize::Deserialize;
 use crate::deserializer::Deserializer;
+use crate::encoded::read_parts_encoded;
+use crate::fields::FieldValues;
 use crate::record::{Record, read};
 use crate::seed::ListSeed;
 use crate::{named, values};
+use amqp_decode::prefix::GaveUp;
 use std::alloc::Global;
 
 impl<A: Deserialize> Record for (A,) {
-    type Values = (A, ());
+    type Values = FieldValues<A, ()>;
 
-    ghost parts = { λ x. (x.0, tt) };
+    ghost parts = { λ x. x.0 ▸ tt };
 }
 
 impl<A: Deserialize> Deserialize for (A,) {
@@ -30,12 +34,28 @@ impl<A: Deserialize> Deserialize for (A,) {
         let values! { a } = read::<(A,), De, _>(alloc, deserializer, ListSeed(named! { "" }))?;
         Ok((a,))
     }
+
+    fn read_encoded(
+        alloc: Global,
+        code: u8,
+        input: &mut &[u8],
+        depth: u16,
+    ) -> Result<(A,), GaveUp> {
+        let values! { a } = read_parts_encoded::<(A,), _>(
+            alloc,
+            code,
+            input,
+            depth,
+            ListSeed(named! { "" }),
+        )?;
+        Ok((a,))
+    }
 }
 
 impl<A: Deserialize, B: Deserialize> Record for (A, B) {
-    type Values = (A, (B, ()));
+    type Values = FieldValues<A, FieldValues<B, ()>>;
 
-    ghost parts = { λ x. (x.0, (x.1, tt)) };
+    ghost parts = { λ x. x.0 ▸ x.1 ▸ tt };
 }
 
 impl<A: Deserialize, B: Deserialize> Deserialize for (A, B) {
@@ -55,12 +75,28 @@ impl<A: Deserialize, B: Deserialize> Deserialize for (A, B) {
         )?;
         Ok((a, b))
     }
+
+    fn read_encoded(
+        alloc: Global,
+        code: u8,
+        input: &mut &[u8],
+        depth: u16,
+    ) -> Result<(A, B), GaveUp> {
+        let values! { a, b } = read_parts_encoded::<(A, B), _>(
+            alloc,
+            code,
+            input,
+            depth,
+            ListSeed(named! { "", "" }),
+        )?;
+        Ok((a, b))
+    }
 }
 
 impl<A: Deserialize, B: Deserialize, C: Deserialize> Record for (A, B, C) {
-    type Values = (A, (B, (C, ())));
+    type Values = FieldValues<A, FieldValues<B, FieldValues<C, ()>>>;
 
-    ghost parts = { λ x. (x.0, (x.1, (x.2, tt))) };
+    ghost parts = { λ x. x.0 ▸ x.1 ▸ x.2 ▸ tt };
 }
 
 impl<A: Deserialize, B: Deserialize, C: Deserialize> Deserialize for (A, B, C) {
@@ -84,12 +120,28 @@ impl<A: Deserialize, B: Deserialize, C: Deserialize> Deserialize for (A, B, C) {
         )?;
         Ok((a, b, c))
     }
+
+    fn read_encoded(
+        alloc: Global,
+        code: u8,
+        input: &mut &[u8],
+        depth: u16,
+    ) -> Result<(A, B, C), GaveUp> {
+        let values! { a, b, c } = read_parts_encoded::<(A, B, C), _>(
+            alloc,
+            code,
+            input,
+            depth,
+            ListSeed(named! { "", "", "" }),
+        )?;
+        Ok((a, b, c))
+    }
 }
 
 impl<A: Deserialize, B: Deserialize, C: Deserialize, D: Deserialize> Record for (A, B, C, D) {
-    type Values = (A, (B, (C, (D, ()))));
+    type Values = FieldValues<A, FieldValues<B, FieldValues<C, FieldValues<D, ()>>>>;
 
-    ghost parts = { λ x. (x.0, (x.1, (x.2, (x.3, tt)))) };
+    ghost parts = { λ x. x.0 ▸ x.1 ▸ x.2 ▸ x.3 ▸ tt };
 }
 
 impl<A: Deserialize, B: Deserialize, C: Deserialize, D: Deserialize> Deserialize for (A, B, C, D) {
@@ -111,6 +163,22 @@ impl<A: Deserialize, B: Deserialize, C: Deserialize, D: Deserialize> Deserialize
         let values! { a, b, c, d } = read::<(A, B, C, D), De, _>(
             alloc,
             deserializer,
+            ListSeed(named! { "", "", "", "" }),
+        )?;
+        Ok((a, b, c, d))
+    }
+
+    fn read_encoded(
+        alloc: Global,
+        code: u8,
+        input: &mut &[u8],
+        depth: u16,
+    ) -> Result<(A, B, C, D), GaveUp> {
+        let values! { a, b, c, d } = read_parts_encoded::<(A, B, C, D), _>(
+            alloc,
+            code,
+            input,
+            depth,
             ListSeed(named! { "", "", "", "" }),
         )?;
         Ok((a, b, c, d))

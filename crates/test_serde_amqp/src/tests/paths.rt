@@ -13,8 +13,9 @@ use super::rows::{hold, holds, is, is_encoded};
 use serde_amqp::ser::{Serialize, SerializeCompounds as _, SerializeScalars, Serializer as _};
 use serde_amqp::size_ser::{SizeSerializer, width};
 use serde_amqp::{
-    Error, Value, decode, described, descriptor, extensions, format_code, laws, lazy, primitives,
-    read, ser, serialized_size, size_ser, to_value, to_vec, value,
+    Error, Limits, Value, decode, described, descriptor, extensions, format_code,
+    from_slice_limited, laws, lazy, primitives, read, ser, serialized_size, size_ser, to_value,
+    to_vec, value,
 };
 use std::alloc::Global;
 
@@ -120,10 +121,19 @@ fn lazy_values(rt: &HostRuntime) -> Result<bool, Error> {
 
 fn readers_and_codes(rt: &HostRuntime) -> bool {
     let limited = decode::decode_value_limited(rt.alloc(), NULLS, 2);
+    let deep = decode::decode_value_to_depth(rt.alloc(), NULLS, None, 1);
+    let limits = Limits {
+        bytes: 4,
+        elements: 2,
+        depth: 2,
+    };
+    let read: Result<Value, Error> = from_slice_limited(rt.alloc(), NULLS, limits);
     let next = read::Read::next(&mut read::IoReader::new(TWO));
     let code = format_code::EncodingCodes::try_from(0x40);
     is(rt, "the first length", lazy::frame_len(TWO), "Some(1)")
-        && is(rt, "three nulls", limited, "Err(OutOfMemory)")
+        && is(rt, "three nulls", limited, "Err(TooLong)")
+        && is(rt, "two levels", deep, "Err(InvalidValue)")
+        && is(rt, "three nulls of a slice", read, "Err(TooLong)")
         && is(rt, "the first byte", next, "Ok(Some(64))")
         && is(rt, "a code", code, "Ok(Null)")
 }

@@ -3,7 +3,8 @@
 use super::rows::{hold, holds, is};
 use serde_amqp::de::{
     Deserialize as _, DeserializeCompounds, DeserializeSeed as _, Deserializer as _,
-    EnumAccess as _, MapAccess as _, SeqAccess as _, VariantAccess as _, variant, variants,
+    EnumAccess as _, FieldValues, MapAccess as _, SeqAccess as _, VariantAccess as _, variant,
+    variants,
 };
 use serde_amqp::described::Described;
 use serde_amqp::descriptor::Descriptor;
@@ -108,9 +109,14 @@ fn seeds_read_parts_of_types(rt: &HostRuntime) -> bool {
             rt,
             "a required field",
             seeded(a, de::ListSeed(required())),
-            "Ok((1, ()))",
+            "Ok(FieldValues { value: 1, rest: () })",
         )
-        && is(rt, "an optional field", by_name, "Ok((Some(1), ()))")
+        && is(
+            rt,
+            "an optional field",
+            by_name,
+            "Ok(FieldValues { value: Some(1), rest: () })",
+        )
         && holds(rt, "the second variant", second)
 }
 
@@ -183,9 +189,11 @@ impl de::Visitor for Shown {
 struct Count(u32);
 
 impl de::Record for Count {
-    type Values = (u32, ());
+    ghost use Rattle.amqp_de.specs.Parts.{◌▸◌};
 
-    ghost parts = { λ c. (c.0, tt) };
+    type Values = FieldValues<u32, ()>;
+
+    ghost parts = { λ c. c.0 ▸ tt };
 }
 
 /// A count, read without a compound.
@@ -204,10 +212,10 @@ fn map(alloc: Global) -> Result<Value, Error> {
     Ok(Value::Map(map))
 }
 
-fn fields_of_a_map<F: de::FieldSeeds<Values = (u32, ())>>(
+fn fields_of_a_map<F: de::FieldSeeds<Values = FieldValues<u32, ()>>>(
     alloc: Global,
     fields: F,
-) -> Result<(u32, ()), Error> {
+) -> Result<FieldValues<u32, ()>, Error> {
     de::read_map::<Count, _, F>(alloc, source(alloc, map(alloc)?), fields)
 }
 
@@ -224,11 +232,16 @@ fn records_are_read(rt: &HostRuntime) -> Result<bool, Error> {
     let value = described(a, map(a)?)?;
     let both = de::read_described_map::<Count, _, _, _>(a, value, &1u64, required())?;
     Ok(
-        is(rt, "read", listed, "(1, ())")
+        is(rt, "read", listed, "FieldValues { value: 1, rest: () }")
             && is(rt, "read_described", after, "1")
             && is(rt, "read_composite", composite, "1")
-            && is(rt, "read_map", mapped, "(1, ())")
-            && is(rt, "read_described_map", both, "(1, ())"),
+            && is(rt, "read_map", mapped, "FieldValues { value: 1, rest: () }")
+            && is(
+                rt,
+                "read_described_map",
+                both,
+                "FieldValues { value: 1, rest: () }",
+            ),
     )
 }
 

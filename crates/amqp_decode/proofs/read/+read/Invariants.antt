@@ -3,6 +3,8 @@ use Rattle.amqp_ser.specs.Tree.{no_pairs}
 use Rattle.amqp_value.specs.TreeOf.{tree_of}
 use Rattle.amqp_value.specs.MapBuilder.{collected_pairs}
 use Rattle.amqp_decode.specs.Parsed.{parse, parse_content, payload_in, gather, insert}
+use Rattle.amqp_decode.specs.WithoutBytes.{content_without_bytes, elements_without_bytes, in_payload, sum_of}
+use Rattle.amqp_decode.proofs.Counts.{Remains}
 use Rattle.amqp_decode.proofs.read.+read.Given as goal
 
 -- The values in a compound have a smaller depth. They are read by calls for encoded values and for
@@ -40,15 +42,25 @@ decreases-read_described l = 9 * l.depth + 4
 abbrev pub decreases-read_after_code : goal.decreases-read_after_code
 decreases-read_after_code l = 9 * l.depth + 5
 
--- The remaining bytes, after the elements so far, give the complete list.
+-- The remaining bytes, after the elements so far, give the complete list, and contain the elements
+-- without bytes that remain to be taken from the limit.
 abbrev pub invariant-read_list-loop-read : goal.invariant-read_list-loop-read
-invariant-read_list-loop-read l =
-    gather (parse l.depth) (l.count - l.read) l.rest (map tree_of l.list.items) ≡ gather (parse l.depth) l.count l.body []
+invariant-read_list-loop-read l = record {
+  values : gather (parse l.depth) (l.count - l.read) l.rest (map tree_of l.list.items) ≡ gather (parse l.depth) l.count l.body [];
+  limit : Remains l.initial.limit l.limit (sum_of (elements_without_bytes l.depth) (parse l.depth) l.count l.body)
+      (sum_of (elements_without_bytes l.depth) (parse l.depth) (l.count - l.read) l.rest);
+}
 
 abbrev pub invariant-read_entries-loop : goal.invariant-read_entries-loop
-invariant-read_entries-loop l =
-    insert (parse l.depth) (l.end - l.counter) l.rest (collected_pairs l.pairs) ≡ insert (parse l.depth) (l.count / 2) l.body no_pairs
+invariant-read_entries-loop l = record {
+  values : insert (parse l.depth) (l.end - l.counter) l.rest (collected_pairs l.pairs) ≡ insert (parse l.depth) (l.count / 2) l.body no_pairs;
+  limit : Remains l.initial.limit l.limit (sum_of (elements_without_bytes l.depth) (parse l.depth) l.count l.body)
+      (sum_of (elements_without_bytes l.depth) (parse l.depth) (2 * (l.end - l.counter)) l.rest);
+}
 
 abbrev pub invariant-read_items-loop : goal.invariant-read_items-loop
-invariant-read_items-loop l =
-    gather (payload_in (parse_content l.depth) l.code) (l.left - l.counter) l.rest (map tree_of l.items.items) ≡ gather (payload_in (parse_content l.depth) l.code) l.count l.payloads []
+invariant-read_items-loop l = record {
+  values : gather (payload_in (parse_content l.depth) l.code) (l.left - l.counter) l.rest (map tree_of l.items.items) ≡ gather (payload_in (parse_content l.depth) l.code) l.count l.payloads [];
+  limit : Remains l.initial.limit l.limit (sum_of (in_payload (content_without_bytes l.depth) l.code) (payload_in (parse_content l.depth) l.code) l.count l.payloads)
+      (sum_of (in_payload (content_without_bytes l.depth) l.code) (payload_in (parse_content l.depth) l.code) (l.left - l.counter) l.rest);
+}

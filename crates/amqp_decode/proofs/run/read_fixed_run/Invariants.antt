@@ -1,9 +1,15 @@
 use Rattle.std.proofs.Common.{◌≡◌, map, ◌-◌}
 use Rattle.amqp_value.specs.TreeOf.{tree_of}
 use Rattle.amqp_decode.specs.Parsed.{parse_content, payload_in, gather}
+use Rattle.amqp_decode.specs.WithoutBytes.{content_without_bytes, in_payload, sum_of}
 use Rattle.amqp_decode.proofs.run.read_fixed_run.Given as goal
 
--- The remaining payloads, after the elements so far, give all elements.
+-- The remaining payloads, after the elements so far, give all elements, and have as many elements
+-- without bytes inside as all.
 abbrev pub invariant-loop-read : goal.invariant-loop-read
-invariant-loop-read l =
-    gather (payload_in (parse_content l.depth) l.fn.code) (l.count - l.read) l.rest (map tree_of l.items.items) ≡ gather (payload_in (parse_content l.depth) l.fn.code) l.count l.initial.rest (map tree_of l.initial.items.items)
+invariant-loop-read l = record {
+  values : gather (payload_in (parse_content l.depth) l.fn.code) (l.count - l.read) l.rest (map tree_of l.items.items)
+      ≡ gather (payload_in (parse_content l.depth) l.fn.code) l.count l.initial.rest (map tree_of l.initial.items.items);
+  none : sum_of (in_payload (content_without_bytes l.depth) l.fn.code) (payload_in (parse_content l.depth) l.fn.code) (l.count - l.read) l.rest
+      ≡ sum_of (in_payload (content_without_bytes l.depth) l.fn.code) (payload_in (parse_content l.depth) l.fn.code) l.count l.initial.rest;
+}

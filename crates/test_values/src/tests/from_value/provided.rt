@@ -44,6 +44,10 @@ impl de::Deserializer for Plain {
         self.inner.is_index()
     }
 
+    fn is_array(&self) -> bool {
+        self.inner.is_array()
+    }
+
     fn open(self) -> Content<Plain, Elements, Entries> {
         let Plain { inner } = self;
         match inner.open() {

@@ -1,0 +1,95 @@
+//! Fields that have a default.
+
+ghost use Rattle.std.specs.Prelude.{◌≡◌, ◌∷◌, MatchResult};
+ghost use Rattle.amqp_ser.specs.Tree.{scalar, null};
+ghost use Rattle.amqp_de.specs.Answers.{Answers};
+ghost use Rattle.amqp_de.specs.Defaults.{ReadsOr, ReadsDefaulted, RestorableDefaulted};
+ghost use Rattle.amqp_de.specs.Present.{required};
+
+use crate::deserialize::Deserialize;
+use crate::deserialize_error::DeserializeError;
+use crate::deserializer::Deserializer;
+use crate::fields::{FieldSeeds, FieldValues};
+use std::alloc::Global;
+
+/// A field that is read as its default if it is absent or null, and the fields after it. Such a field
+/// is always written.
+#[derive(Drop)]
+pub struct Defaulted<V, R> {
+    /// The name of the field.
+    pub name: &'static str,
+    /// The value if the field is absent or null.
+    pub default: V,
+    /// The fields after it; `()` if there are none.
+    pub rest: R,
+}
+
+// Reads a value, or the default from null.
+#[tactic(auto, unfolding(crate::specs::Defaults::ReadsOr))]
+fn read_or<V: Deserialize + Copy, D: Deserializer>(
+    alloc: Global,
+    default: V,
+    deserializer: D,
+) -> Result<V, D::Error>
+    ensures read { Answers D.Error.is_out_of_memory (ReadsOr default V.reads (D.value deserializer)) result }
+    ensures law { (x : V) → RestorableDefaulted V.image V.restorable x →
+        D.value deserializer ≡ V.image x →
+        MatchResult result (λ y. V.same y x) D.Error.is_out_of_memory }
+{
+    if deserializer.is_null() {
+        return Ok(default);
+    }
+    match V::deserialize(alloc, deserializer) {
+        Ok(value) => Ok(value),
+        Err(error) => Err(error),
+    }
+}
+
+#[tactic(auto, unfolding(crate::specs::Defaults::ReadsDefaulted))]
+impl<V: Deserialize + Copy, R: FieldSeeds> FieldSeeds for Defaulted<V, R> {
+    type Values = FieldValues<V, R::Values>;
+
+    ghost reads = { λ f x. ReadsDefaulted f.name.now f.default V.reads x.value (R.reads f.rest x.rest) };
+
+    ghost names = { λ f. f.name.now ∷ R.names f.rest };
+
+    ghost images = { λ x. required (V.image x.value) ∷ R.images x.rest };
+
+    ghost restorable = { λ x. RestorableDefaulted V.image V.restorable x.value × R.restorable x.rest };
+
+    ghost same = { λ x y. V.same x.value y.value × R.same x.rest y.rest };
+
+    fn read_elements<D: Deserializer>(
+        &self,
+        alloc: Global,
+        elements: &mut D::Elements,
+    ) -> Result<FieldValues<V, R::Values>, D::Error> {
+        let value = match D::next_element(&mut *elements) {
+            Some(element) => read_or::<V, D>(alloc, self.default, element)?,
+            None => self.default,
+        };
+        let rest = self.rest.read_elements::<D>(alloc, elements)?;
+        Ok(FieldValues { value, rest })
+    }
+
+    fn read_entries<D: Deserializer>(
+        &self,
+        alloc: Global,
+        entries: &mut D::Entries,
+    ) -> Result<FieldValues<V, R::Values>, D::Error> {
+        match D::take_named(&mut *entries, self.name) {
+            Some(entry) => {
+                let value = read_or::<V, D>(alloc, self.default, entry)?;
+                let rest = self.rest.read_entries::<D>(alloc, entries)?;
+                Ok(FieldValues { value, rest })
+            }
+            None => {
+                let rest = self.rest.read_entries::<D>(alloc, entries)?;
+                Ok(FieldValues {
+                    value: self.default,
+                    rest,
+                })
+            }
+        }
+    }
+}

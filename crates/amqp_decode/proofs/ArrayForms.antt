@@ -1,0 +1,63 @@
+-- Arrays with their format codes.
+use Rattle.std.proofs.Common.{◌≡◌, ℕ, zero, suc, ◌-◌, Bool, true, false, IsTrue, List, [], ◌∷◌, ◌++◌, Option, Some, None, refl, sym, ap, ◌∙◌, subst, arith}
+use Rattle.std.specs.Int.{w64, from_be_bytes}
+use Rattle.amqp_data.specs.FormatCode.{code_of}
+use Rattle.amqp_data.specs.declared.format_code.EncodingCodes.{EncodingCodes}
+use Rattle.amqp_data.specs.declared.format_code.EncodingCodes.TheVariants as code
+use Rattle.amqp_frame.specs.Code.{category}
+use Rattle.amqp_ser.specs.Tree as tree
+use Rattle.amqp_ser.specs.Tree.{Tree, Scalar, Descriptor, trees_of, scalar}
+use Rattle.amqp_decode.specs.Codes.{is_primitive, primitive_of, shape_of_code}
+use Rattle.amqp_decode.specs.Scalars.{and_then, exact, scalar_in, scalar_tree}
+use Rattle.amqp_decode.specs.Spells.{IsPayload}
+use Rattle.amqp_decode.specs.Parsed.{FrameReader, ContentReader, cut, content_at, sized_at, number_at, counted_in, gather, all, items_in, parse_array, payload_in, content_of, frame_in, descriptor_at, parse_described, parsed_descriptor, tree_descriptor, parse, parse_content}
+use Rattle.amqp_decode.specs.declared.payload_shape.Count.{Count}
+use Rattle.amqp_decode.specs.declared.payload_shape.Count.TheVariants.{Absent, OneByte, FourBytes}
+use Rattle.amqp_decode.specs.declared.payload_shape.PayloadShape.TheVariants as shape
+use Rattle.amqp_decode.proofs.CodeLemmas.{primitive-found, primitive-nonzero}
+use Rattle.amqp_decode.proofs.Finds.{payload-found}
+use Rattle.amqp_decode.specs.Prefix.{IsArrayOf, IsDescribedBy, item_of}
+use Rattle.amqp_decode.proofs.Levels.{parse_frame, both, level_in}
+use Rattle.amqp_decode.proofs.Gathers.{gather_same}
+use Rattle.amqp_decode.proofs.Steps.{not-zero}
+
+-- A payload of a primitive code is read as an encoded value is.
+item_payload : (d c : ℕ) (k : EncodingCodes) (s : List ℕ) → (c ≡ 0 → ⊥) → primitive_of c ≡ Some k → item_of d c s ≡ payload_in (parse_content (suc d)) k s
+unfolding parse
+item_payload d c k s some is = rw (not-zero c some, is) refl
+
+first_code : (d c n : ℕ) (s : List ℕ) (ts : List Tree) → (c ≡ 0 → ⊥) → (n ≡ 0 → ⊥) → gather (item_of d c) n s [] ≡ Some (ts, []) → (k : EncodingCodes) × (primitive_of c ≡ Some k)
+first_code d c zero s ts some many e = absurd (many refl)
+first_code d c (suc n) s ts some many e =
+    let a = both (item_of d c s) (λ r. gather (item_of d c) n r.1 ([] ++ r.0 ∷ [])) (ts, []) e in
+    let l = level_in (parse d) (parse_content d) c s a.0.0 a.0.1 some (sym (parse_frame d (c ∷ s)) ∙ a.1) in
+    (l.0, l.1)
+
+items_found : (h : ContentReader) (n c : ℕ) (k : EncodingCodes) (s : List ℕ) (ts : List Tree) → primitive_of c ≡ Some k → gather (payload_in h k) n s [] ≡ Some (ts, [])
+    → items_in h n (c ∷ s) ≡ Some ts
+items_found h zero c k s ts is e = ap (λ o. and_then o (λ code. and_then (gather (payload_in h code) zero s []) all)) is ∙ ap (λ o. and_then o all) e
+items_found h (suc n) c k s ts is e = ap (λ o. and_then o (λ code. and_then (gather (payload_in h code) (suc n) s []) all)) is ∙ ap (λ o. and_then o all) e
+
+array_framed : (code : EncodingCodes) (k : Count) (s content rest : List ℕ) (n c : ℕ) (payloads : List ℕ) → IsTrue (is_primitive code)
+    → shape_of_code code ≡ shape.Array k → content_at (category (code_of code)) s ≡ Some (content, rest) → counted_in k content ≡ Some (n, c ∷ payloads)
+    → (n ≡ 0 → ⊥) → (c ≡ 0 → ⊥) → IsArrayOf (code_of code ∷ s) rest n c payloads
+array_framed code k s content rest n c payloads ok is found counted many some depth ts e =
+    let at = first_code depth c n payloads ts some many e in
+    let inner : gather (payload_in (parse_content (suc depth)) at.0) n payloads [] ≡ Some (ts, []) =
+    sym (gather_same (item_of depth c) (payload_in (parse_content (suc depth)) at.0) (λ z. item_payload depth c at.0 z some at.1) n payloads []) ∙ e in
+    let items : items_in (parse_content (suc depth)) n (c ∷ payloads) ≡ Some ts = items_found (parse_content (suc depth)) n c at.0 payloads ts at.1 inner in
+    let whole : frame_in (parse (suc depth)) (parse_content (suc depth)) (code_of code ∷ s) ≡ Some (tree.array (trees_of ts), rest) =
+    rw (primitive-nonzero code ok, primitive-found code ok, found, is, counted, items) refl in
+    parse_frame (suc depth) (code_of code ∷ s) ∙ whole
+
+pub array_short : (s content rest : List ℕ) (n c : ℕ) (body payloads : List ℕ) → sized_at false s ≡ Some (content, rest) → number_at false content ≡ Some (n, body)
+    → body ≡ c ∷ payloads → (n ≡ 0 → ⊥) → (c ≡ 0 → ⊥) → IsArrayOf (224 ∷ s) rest n c payloads
+unfolding category counted_in
+array_short s content rest n c body payloads found counted is many some =
+    array_framed code.Array8 OneByte s content rest n c payloads refl refl found (counted ∙ ap (λ z. Some (n, z)) is) many some
+
+pub array_long : (s content rest : List ℕ) (n c : ℕ) (body payloads : List ℕ) → sized_at true s ≡ Some (content, rest) → number_at true content ≡ Some (n, body)
+    → body ≡ c ∷ payloads → (n ≡ 0 → ⊥) → (c ≡ 0 → ⊥) → IsArrayOf (240 ∷ s) rest n c payloads
+unfolding category counted_in
+array_long s content rest n c body payloads found counted is many some =
+    array_framed code.Array32 FourBytes s content rest n c payloads refl refl found (counted ∙ ap (λ z. Some (n, z)) is) many some

@@ -1,0 +1,35 @@
+-- Maps with their format codes.
+use Rattle.std.proofs.Common.{◌≡◌, ◌==◌, ◌/◌, ◌%◌, ℕ, true, false, IsTrue, List, ◌∷◌, Some, refl, arith}
+use Rattle.std.proofs.lemmas.Grind.{common_steps}
+use Rattle.amqp_data.specs.FormatCode.{code_of}
+use Rattle.amqp_data.specs.declared.format_code.EncodingCodes.{EncodingCodes}
+use Rattle.amqp_data.specs.declared.format_code.EncodingCodes.TheVariants as code
+use Rattle.amqp_frame.specs.Code.{category}
+use Rattle.amqp_ser.specs.Tree.{Pairs, no_pairs}
+use Rattle.amqp_value.proofs.SameLemmas.{numbers}
+use Rattle.amqp_decode.specs.Codes.{is_primitive, shape_of_code}
+use Rattle.amqp_decode.specs.Parsed.{FrameReader, ContentReader, content_at, sized_at, number_at, counted_in, insert, frame_in}
+use Rattle.amqp_decode.specs.Prefix.{IsMapOf}
+use Rattle.amqp_decode.specs.declared.payload_shape.Count.{Count}
+use Rattle.amqp_decode.specs.declared.payload_shape.Count.TheVariants.{OneByte, FourBytes}
+use Rattle.amqp_decode.specs.declared.payload_shape.PayloadShape.TheVariants as shape
+use Rattle.amqp_decode.proofs.CodeLemmas.{primitive-found, primitive-nonzero}
+
+even_test : (n : ℕ) → n ≡ 0 → (n == 0) ≡ true
+even_test n e = rw e refl
+
+map_framed : (c : EncodingCodes) (k : Count) (s content rest : List ℕ) (n : ℕ) (body : List ℕ) → IsTrue (is_primitive c)
+    → shape_of_code c ≡ shape.Map k → content_at (category (code_of c)) s ≡ Some (content, rest) → counted_in k content ≡ Some (n, body)
+    → n % 2 ≡ 0 → IsMapOf (code_of c ∷ s) rest (n / 2) body
+map_framed c k s content rest n body ok is found counted even f h ps all =
+    rw (primitive-nonzero c ok, primitive-found c ok, found, is, counted, even_test (n % 2) even, all) refl
+
+pub map_short : (s content rest : List ℕ) (n : ℕ) (body : List ℕ) → sized_at false s ≡ Some (content, rest) → number_at false content ≡ Some (n, body)
+    → n % 2 ≡ 0 → IsMapOf (193 ∷ s) rest (n / 2) body
+unfolding category counted_in
+map_short s content rest n body found counted even = map_framed code.Map8 OneByte s content rest n body refl refl found counted even
+
+pub map_long : (s content rest : List ℕ) (n : ℕ) (body : List ℕ) → sized_at true s ≡ Some (content, rest) → number_at true content ≡ Some (n, body)
+    → n % 2 ≡ 0 → IsMapOf (209 ∷ s) rest (n / 2) body
+unfolding category counted_in
+map_long s content rest n body found counted even = map_framed code.Map32 FourBytes s content rest n body refl refl found counted even

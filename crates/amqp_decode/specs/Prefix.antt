@@ -1,0 +1,33 @@
+-- What the first encoded value of bytes is, at any depth (AMQP 1.0 part 1, sections 1.2 and 1.6).
+use Rattle.std.specs.Prelude.{◌≡◌, ℕ, suc, List, [], ◌∷◌, Some}
+use Rattle.amqp_ser.specs.Tree.{Scalar, Descriptor, Tree, Pairs, trees_of, no_pairs, scalar, list, map, array, described}
+use Rattle.amqp_decode.specs.Parsed.{FrameReader, ContentReader, gather, insert, frame_in, parse}
+
+-- The bytes start with this scalar.
+abbrev pub IsScalar : List ℕ → List ℕ → Scalar → Type 0
+IsScalar bytes rest s = (f : FrameReader) (h : ContentReader) → frame_in f h bytes ≡ Some (scalar s, rest)
+
+-- The bytes start with the list of the `count` values in the body, if they fill it.
+abbrev pub IsListOf : List ℕ → List ℕ → ℕ → List ℕ → Type 0
+IsListOf bytes rest count body = (f : FrameReader) (h : ContentReader) (ts : List Tree)
+    → gather f count body [] ≡ Some (ts, []) → frame_in f h bytes ≡ Some (list (trees_of ts), rest)
+
+-- The bytes start with the map that results from the `count` keys and values in the body, if they
+-- fill it.
+abbrev pub IsMapOf : List ℕ → List ℕ → ℕ → List ℕ → Type 0
+IsMapOf bytes rest count body = (f : FrameReader) (h : ContentReader) (ps : Pairs)
+    → insert f count body no_pairs ≡ Some (ps, []) → frame_in f h bytes ≡ Some (map ps, rest)
+
+-- A payload of this code, with at most `depth` levels inside, read as an encoded value.
+abbrev pub item_of : ℕ → ℕ → FrameReader
+item_of depth code s = parse (suc depth) (code ∷ s)
+
+-- The bytes start with the array of the `count` payloads of this code, if they fill the content.
+abbrev pub IsArrayOf : List ℕ → List ℕ → ℕ → ℕ → List ℕ → Type 0
+IsArrayOf bytes rest count code payloads = (depth : ℕ) (ts : List Tree)
+    → gather (item_of depth code) count payloads [] ≡ Some (ts, []) → parse (suc (suc depth)) bytes ≡ Some (array (trees_of ts), rest)
+
+-- The bytes start with a value described by `d`, and the value inside starts the bytes `after`.
+abbrev pub IsDescribedBy : Descriptor → List ℕ → List ℕ → Type 0
+IsDescribedBy d bytes after = (f : FrameReader) (h : ContentReader) (t : Tree) (rest : List ℕ)
+    → f after ≡ Some (t, rest) → frame_in f h bytes ≡ Some (described d t, rest)

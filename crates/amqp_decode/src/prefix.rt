@@ -1,0 +1,26 @@
+//! Reads scalars, and the headers of lists, maps, arrays and described values, from the start of bytes.
+//!
+//! Each function takes a format code that has been read and the bytes after it, and returns what it
+//! read with the bytes that are left. It accepts every form of a value, and fails with `GaveUp`
+//! otherwise. A caller that gives up calls `decode_value`, which returns an error that has a meaning.
+
+mod bytes;
+mod compounds;
+mod gave_up;
+mod integers;
+mod scalars;
+mod texts;
+mod values;
+
+pub use bytes::{split_byte, split_bytes};
+pub use compounds::{below, split_array, split_described, split_list, split_map};
+pub use gave_up::GaveUp;
+pub use integers::{
+    read_byte, read_int, read_long, read_short, read_ubyte, read_uint, read_ulong, read_ushort,
+};
+pub use scalars::{
+    read_bool, read_char, read_decimal32, read_decimal64, read_decimal128, read_double, read_float,
+    read_null, read_timestamp, read_uuid,
+};
+pub use texts::{read_binary, read_string, read_symbol};
+pub use values::{read_value_after_code, split_descriptor};

@@ -1,0 +1,127 @@
+//! The headers of lists, maps, arrays and described values.
+
+ghost use Rattle.std.specs.Prelude.{◌≡◌, ◌∷◌, IfOk, Some, suc};
+ghost use Rattle.amqp_ser.specs.Tree.{code as numbered};
+ghost use Rattle.amqp_decode.specs.Parsed.{descriptor_at};
+ghost use Rattle.amqp_decode.specs.Prefix.{IsListOf, IsMapOf, IsArrayOf, IsDescribedBy};
+
+use crate::prefix::bytes::{split_byte, split_bytes, split_number, split_sized};
+use crate::prefix::gave_up::GaveUp;
+
+/// Returns the depth that is left for the values inside a value.
+#[inline(always)]
+pub fn below(depth: u16) -> Result<u16, GaveUp>
+    ensures { IfOk result (λ d. depth ≡ suc d) }
+{
+    if depth == 0 {
+        Err(GaveUp)
+    } else {
+        Ok(depth - 1)
+    }
+}
+
+/// Opens a list: returns the number of its elements, the bytes of the elements, and the bytes after
+/// the list.
+///
+/// # Encoding
+/// The codes `45`, `c0` and `d0` (AMQP 1.0 part 1, section 1.6.22).
+#[inline(always)]
+pub fn split_list(code: u8, bytes: &[u8]) -> Result<(u32, &[u8], &[u8]), GaveUp>
+    ensures { IfOk result (λ r. IsListOf (code ∷ bytes.now) r.2.now r.0 r.1.now) }
+{
+    match code {
+        0xc0 => {
+            let (content, rest) = split_sized(false, bytes)?;
+            let (count, body) = split_number(false, content)?;
+            Ok((count, body, rest))
+        }
+        0xd0 => {
+            let (content, rest) = split_sized(true, bytes)?;
+            let (count, body) = split_number(true, content)?;
+            Ok((count, body, rest))
+        }
+        0x45 => Ok((0, &[], bytes)),
+        _ => Err(GaveUp),
+    }
+}
+
+/// Opens a map: returns the number of its entries, the bytes of the keys and values, and the bytes
+/// after the map.
+///
+/// # Encoding
+/// The codes `c1` and `d1` (AMQP 1.0 part 1, section 1.6.23). Gives up on an odd count.
+#[inline(always)]
+pub fn split_map(code: u8, bytes: &[u8]) -> Result<(u32, &[u8], &[u8]), GaveUp>
+    ensures { IfOk result (λ r. IsMapOf (code ∷ bytes.now) r.2.now r.0 r.1.now) }
+{
+    let wide = match code {
+        0xc1 => false,
+        0xd1 => true,
+        _ => return Err(GaveUp),
+    };
+    let (content, rest) = split_sized(wide, bytes)?;
+    let (count, body) = split_number(wide, content)?;
+    if count % 2 != 0 {
+        return Err(GaveUp);
+    }
+    Ok((count / 2, body, rest))
+}
+
+/// Opens an array that has elements with bytes: returns their number, their format code, their
+/// payloads, and the bytes after the array.
+///
+/// # Encoding
+/// The codes `e0` and `f0` (AMQP 1.0 part 1, section 1.6.24). Gives up on an array without elements,
+/// and on elements without bytes (`40` to `45`), of which the bytes do not limit the number.
+#[inline(always)]
+pub fn split_array(code: u8, bytes: &[u8]) -> Result<(u32, u8, &[u8], &[u8]), GaveUp>
+    ensures { IfOk result (λ r. IsArrayOf (code ∷ bytes.now) r.3.now r.0 r.1 r.2.now) }
+{
+    let wide = match code {
+        0xe0 => false,
+        0xf0 => true,
+        _ => return Err(GaveUp),
+    };
+    let (content, rest) = split_sized(wide, bytes)?;
+    let (count, body) = split_number(wide, content)?;
+    let (constructor, payloads) = split_byte(body)?;
+    if count == 0 || constructor == 0 || constructor / 16 == 4 {
+        return Err(GaveUp);
+    }
+    Ok((count, constructor, payloads, rest))
+}
+
+/// Opens a described value with this numeric descriptor: returns the format code of the value inside
+/// and the bytes after it.
+#[inline(always)]
+pub fn split_described(wanted: u64, code: u8, bytes: &[u8]) -> Result<(u8, &[u8]), GaveUp>
+    ensures { IfOk result (λ r. IsDescribedBy (numbered wanted) (code ∷ bytes.now) (r.0 ∷ r.1.now)) }
+{
+    if code != 0 {
+        return Err(GaveUp);
+    }
+    let (of_descriptor, after) = split_byte(bytes)?;
+    let (found, rest) = numeric(of_descriptor, after)?;
+    if found != wanted {
+        return Err(GaveUp);
+    }
+    split_byte(rest)
+}
+
+// Reads a ulong as a descriptor.
+#[inline(always)]
+fn numeric(code: u8, bytes: &[u8]) -> Result<(u64, &[u8]), GaveUp>
+    ensures { IfOk result (λ r. descriptor_at (code ∷ bytes.now) ≡ Some (numbered r.0, r.1.now)) }
+{
+    match code {
+        0x53 => {
+            let (value, rest) = split_byte(bytes)?;
+            Ok((u64::from(value), rest))
+        }
+        0x80 => {
+            let (value, rest) = split_bytes::<8>(bytes)?;
+            Ok((u64::from_be_bytes(value), rest))
+        }
+        _ => Err(GaveUp),
+    }
+}

@@ -1,0 +1,111 @@
+//! Binaries, strings and symbols, after their format codes.
+
+ghost use Rattle.std.specs.Prelude.{◌≡◌, ◌∷◌, IfOk, true, string_bytes};
+ghost use Rattle.std.specs.Str.{is_utf8};
+ghost use Rattle.amqp_data.specs.Items.{byte_buf_bytes};
+ghost use Rattle.amqp_data.specs.Text.{symbol_text};
+ghost use Rattle.amqp_ser.specs.Tree.{binary, string, symbol};
+ghost use Rattle.amqp_decode.specs.Prefix.{IsScalar};
+
+use crate::prefix::bytes::split_sized;
+use crate::prefix::gave_up::GaveUp;
+use amqp_data::{ByteBuf, Symbol};
+use std::alloc::Global;
+
+// Copies a text, which must be UTF-8.
+fn text_of(alloc: Global, content: &[u8]) -> Result<String, GaveUp>
+    ensures text { IfOk result (λ s. string_bytes s ≡ content.now) }
+    ensures valid { IfOk result (λ s. is_utf8 content.now ≡ true) }
+{
+    match std::str::from_utf8(content) {
+        Ok(text) => Ok(String::from_str(alloc, text)?),
+        Err(_) => Err(GaveUp),
+    }
+}
+
+// Copies a binary.
+#[inline(always)]
+fn binary_of(alloc: Global, content: &[u8]) -> Result<ByteBuf, GaveUp>
+    ensures { IfOk result (λ b. byte_buf_bytes b ≡ content.now) }
+{
+    let mut bytes = Vec::new(alloc);
+    bytes.extend_from_slice(content)?;
+    Ok(ByteBuf::from(bytes))
+}
+
+/// Reads a binary.
+///
+/// # Encoding
+/// The codes `a0` and `b0` (AMQP 1.0 part 1, section 1.6.19).
+///
+/// # Memory
+/// Allocates the bytes of the content from `alloc`.
+pub fn read_binary(alloc: Global, code: u8, bytes: &[u8]) -> Result<(ByteBuf, &[u8]), GaveUp>
+    ensures { IfOk result (λ r. IsScalar (code ∷ bytes.now) r.1.now (binary (byte_buf_bytes r.0))) }
+{
+    match code {
+        0xa0 => {
+            let (content, rest) = split_sized(false, bytes)?;
+            let value = binary_of(alloc, content)?;
+            Ok((value, rest))
+        }
+        0xb0 => {
+            let (content, rest) = split_sized(true, bytes)?;
+            let value = binary_of(alloc, content)?;
+            Ok((value, rest))
+        }
+        _ => Err(GaveUp),
+    }
+}
+
+/// Reads a string, which is UTF-8.
+///
+/// # Encoding
+/// The codes `a1` and `b1` (AMQP 1.0 part 1, section 1.6.20).
+///
+/// # Memory
+/// Allocates the bytes of the content from `alloc`.
+pub fn read_string(alloc: Global, code: u8, bytes: &[u8]) -> Result<(String, &[u8]), GaveUp>
+    ensures { IfOk result (λ r. IsScalar (code ∷ bytes.now) r.1.now (string (string_bytes r.0))) }
+{
+    match code {
+        0xa1 => {
+            let (content, rest) = split_sized(false, bytes)?;
+            let value = text_of(alloc, content)?;
+            Ok((value, rest))
+        }
+        0xb1 => {
+            let (content, rest) = split_sized(true, bytes)?;
+            let value = text_of(alloc, content)?;
+            Ok((value, rest))
+        }
+        _ => Err(GaveUp),
+    }
+}
+
+/// Reads a symbol, which is read as UTF-8.
+///
+/// # Encoding
+/// The codes `a3` and `b3` (AMQP 1.0 part 1, section 1.6.21).
+///
+/// # Memory
+/// Allocates the bytes of the content from `alloc`.
+pub fn read_symbol(alloc: Global, code: u8, bytes: &[u8]) -> Result<(Symbol, &[u8]), GaveUp>
+    ensures { IfOk result (λ r. IsScalar (code ∷ bytes.now) r.1.now (symbol (symbol_text r.0))) }
+{
+    match code {
+        0xa3 => {
+            let (content, rest) = split_sized(false, bytes)?;
+            let text = text_of(alloc, content)?;
+            let value = Symbol::from(text);
+            Ok((value, rest))
+        }
+        0xb3 => {
+            let (content, rest) = split_sized(true, bytes)?;
+            let text = text_of(alloc, content)?;
+            let value = Symbol::from(text);
+            Ok((value, rest))
+        }
+        _ => Err(GaveUp),
+    }
+}

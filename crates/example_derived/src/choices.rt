@@ -1,0 +1,534 @@
+//! Enums: fixed values, one scalar of several types, and variants by their index; and structs with
+//! one field.
+
+use serde_amqp::primitives::{ByteBuf, Symbol, Uuid};
+
+/// The role of an end of a link: a boolean.
+// amqp: encoding = "restricted", source = "bool", values = [false, true]
+#[derive(Debug, PartialEq, Drop)]
+pub enum Role {
+    Sender,
+    Receiver,
+}
+
+/// How durable a terminus is: a uint. Other values than 0, 1 and 2 are invalid.
+// amqp: encoding = "restricted", source = "u32", values = [0, 1, 2]
+#[derive(Debug, PartialEq, Drop)]
+pub enum Durability {
+    None,
+    Configuration,
+    UnsettledState,
+}
+
+/// When a terminus expires: a symbol.
+// amqp: encoding = "restricted", source = "Symbol", values = ["link-detach", "session-end", "never"]
+#[derive(Debug, PartialEq, Drop)]
+pub enum Expiry {
+    LinkDetach,
+    SessionEnd,
+    Never,
+}
+
+/// The address of a message: a number, a text or a UUID. It can be the key of a map.
+// amqp: encoding = "scalar", map_key
+#[derive(Debug, PartialEq, Drop)]
+pub enum Address {
+    Number(u64),
+    Text(String),
+    Id(Uuid),
+}
+
+/// A shape: a variant is read and written by its index.
+// amqp: encoding = "index"
+#[derive(Debug, PartialEq, Drop)]
+pub enum Shape {
+    Point,
+    Circle(u32),
+    Box(u16, u16),
+    Label {
+        text: String,
+        colour: Option<Symbol>,
+    },
+}
+
+/// The number of a delivery: a uint. It can be the key of a map.
+// amqp: encoding = "basic", map_key
+#[derive(Debug, PartialEq, Drop)]
+pub struct DeliveryNumber(pub u32);
+
+/// A tag: a binary described by a code, or by its name.
+// amqp: encoding = "basic", code = 0x1a, name = "shop:tag"
+#[derive(Debug, PartialEq, Drop)]
+pub struct Tag(pub ByteBuf);
+
+// amqp: the impls below are written by tools/derive from the annotations above
+use serde_amqp::derive::{
+    Composite, Content, DataVariant, Deserialize, DeserializeError, DeserializeSeed, Deserializer,
+    Either, EnumSeed, FieldSeeds, FieldValues, FixedContent, Global, ListSeed, MapKey, Name, Never,
+    Optional, PhantomData, Record, Required, RoundTrip, RoundTripComposite, Serialize,
+    SerializeCompounds, SerializeScalars, Serializer, TypeSeed, UnitVariant, VariantOf, fields,
+    laws, named, read, read_composite_type, variants,
+};
+
+impl Serialize for Role {
+    ghost use Rattle.std.specs.Prelude.{Some, Bool, true, false};
+    ghost use Rattle.amqp_ser.specs.Tree.{scalar, bool};
+    ghost use Rattle.example_derived.specs.declared.choices.Role.TheVariants as variant;
+
+    ghost tree = { λ x. Some (scalar (bool (elim x as (λ _. Bool) [ variant.Sender ↦ false | variant.Receiver ↦ true ]))) };
+
+    fn serialize<S: Serializer>(&self, serializer: &mut S) -> Result<S::Ok, S::Error> {
+        match self {
+            Role::Sender => false.serialize(serializer),
+            Role::Receiver => true.serialize(serializer),
+        }
+    }
+}
+
+impl Deserialize for Role {
+    ghost use Rattle.std.specs.Prelude.{◌≡◌, Bool, true, false};
+    ghost use Rattle.amqp_ser.specs.Tree.{scalar, bool};
+    ghost use Rattle.amqp_de.specs.Reads.{Always};
+    ghost use Rattle.example_derived.specs.declared.choices.Role.TheVariants as variant;
+
+    ghost reads = { λ t x. t ≡ scalar (bool (elim x as (λ _. Bool) [ variant.Sender ↦ false | variant.Receiver ↦ true ])) };
+
+    ghost image = { λ x. scalar (bool (elim x as (λ _. Bool) [ variant.Sender ↦ false | variant.Receiver ↦ true ])) };
+
+    ghost restorable = { Always };
+
+    ghost same = { λ x y. x ≡ y };
+
+    fn deserialize<D: Deserializer>(_alloc: Global, deserializer: D) -> Result<Role, D::Error> {
+        match deserializer.into_fixed() {
+            FixedContent::Bool(false) => Ok(Role::Sender),
+            FixedContent::Bool(true) => Ok(Role::Receiver),
+            _ => Err(D::Error::invalid_value()),
+        }
+    }
+}
+
+impl RoundTrip for Role {
+    fn law() {}
+}
+
+impl Serialize for Durability {
+    ghost use Rattle.std.specs.Prelude.{Some, ℕ};
+    ghost use Rattle.amqp_ser.specs.Tree.{scalar, uint};
+    ghost use Rattle.example_derived.specs.declared.choices.Durability.TheVariants as variant;
+
+    ghost tree = { λ x. Some (scalar (uint (elim x as (λ _. ℕ) [ variant.None ↦ 0 | variant.Configuration ↦ 1 | variant.UnsettledState ↦ 2 ]))) };
+
+    fn serialize<S: Serializer>(&self, serializer: &mut S) -> Result<S::Ok, S::Error> {
+        match self {
+            Durability::None => 0u32.serialize(serializer),
+            Durability::Configuration => 1u32.serialize(serializer),
+            Durability::UnsettledState => 2u32.serialize(serializer),
+        }
+    }
+}
+
+impl Deserialize for Durability {
+    ghost use Rattle.std.specs.Prelude.{◌≡◌, ℕ};
+    ghost use Rattle.amqp_ser.specs.Tree.{scalar, uint};
+    ghost use Rattle.amqp_de.specs.Reads.{Always};
+    ghost use Rattle.example_derived.specs.declared.choices.Durability.TheVariants as variant;
+
+    ghost reads = { λ t x. t ≡ scalar (uint (elim x as (λ _. ℕ) [ variant.None ↦ 0 | variant.Configuration ↦ 1 | variant.UnsettledState ↦ 2 ])) };
+
+    ghost image = { λ x. scalar (uint (elim x as (λ _. ℕ) [ variant.None ↦ 0 | variant.Configuration ↦ 1 | variant.UnsettledState ↦ 2 ])) };
+
+    ghost restorable = { Always };
+
+    ghost same = { λ x y. x ≡ y };
+
+    fn deserialize<D: Deserializer>(
+        _alloc: Global,
+        deserializer: D,
+    ) -> Result<Durability, D::Error> {
+        match deserializer.into_fixed() {
+            FixedContent::Uint(0) => Ok(Durability::None),
+            FixedContent::Uint(1) => Ok(Durability::Configuration),
+            FixedContent::Uint(2) => Ok(Durability::UnsettledState),
+            _ => Err(D::Error::invalid_value()),
+        }
+    }
+}
+
+impl RoundTrip for Durability {
+    fn law() {}
+}
+
+impl Expiry {
+    ghost use Rattle.std.specs.Prelude.{◌≡◌, List, ℕ, codes};
+    ghost use Rattle.example_derived.specs.declared.choices.Expiry.TheVariants as variant;
+
+    /// Returns the text of the value.
+    pub fn as_str(&self) -> &'static str
+        ensures { result.now ≡ (elim self.now as (λ _. List ℕ) [ variant.LinkDetach ↦ codes "link-detach" | variant.SessionEnd ↦ codes "session-end" | variant.Never ↦ codes "never" ]) }
+    {
+        match self {
+            Expiry::LinkDetach => "link-detach",
+            Expiry::SessionEnd => "session-end",
+            Expiry::Never => "never",
+        }
+    }
+}
+
+impl Serialize for Expiry {
+    ghost use Rattle.std.specs.Prelude.{Some, List, ℕ, codes};
+    ghost use Rattle.amqp_ser.specs.Tree.{scalar, symbol};
+    ghost use Rattle.example_derived.specs.declared.choices.Expiry.TheVariants as variant;
+
+    ghost tree = { λ x. Some (scalar (symbol (elim x as (λ _. List ℕ) [ variant.LinkDetach ↦ codes "link-detach" | variant.SessionEnd ↦ codes "session-end" | variant.Never ↦ codes "never" ]))) };
+
+    fn serialize<S: Serializer>(&self, serializer: &mut S) -> Result<S::Ok, S::Error> {
+        Name(self.as_str()).serialize(serializer)
+    }
+}
+
+impl Deserialize for Expiry {
+    ghost use Rattle.std.specs.Prelude.{◌≡◌, List, ℕ, codes};
+    ghost use Rattle.amqp_ser.specs.Tree.{scalar, symbol};
+    ghost use Rattle.amqp_de.specs.Reads.{Always};
+    ghost use Rattle.example_derived.specs.declared.choices.Expiry.TheVariants as variant;
+
+    ghost reads = { λ t x. t ≡ scalar (symbol (elim x as (λ _. List ℕ) [ variant.LinkDetach ↦ codes "link-detach" | variant.SessionEnd ↦ codes "session-end" | variant.Never ↦ codes "never" ])) };
+
+    ghost image = { λ x. scalar (symbol (elim x as (λ _. List ℕ) [ variant.LinkDetach ↦ codes "link-detach" | variant.SessionEnd ↦ codes "session-end" | variant.Never ↦ codes "never" ])) };
+
+    ghost restorable = { Always };
+
+    ghost same = { λ x y. x ≡ y };
+
+    fn deserialize<D: Deserializer>(_alloc: Global, deserializer: D) -> Result<Expiry, D::Error> {
+        match deserializer.open() {
+            Content::Symbol(text) => {
+                let text = text.as_inner().as_str();
+                if text == "link-detach" {
+                    return Ok(Expiry::LinkDetach);
+                }
+                if text == "session-end" {
+                    return Ok(Expiry::SessionEnd);
+                }
+                if text == "never" {
+                    return Ok(Expiry::Never);
+                }
+                Err(D::Error::invalid_value())
+            }
+            _ => Err(D::Error::invalid_value()),
+        }
+    }
+}
+
+impl RoundTrip for Expiry {
+    fn law() {}
+}
+
+impl Serialize for Address {
+    ghost use Rattle.std.specs.Prelude.{Some, string_bytes};
+    ghost use Rattle.amqp_data.specs.Fixed.{uuid_bytes};
+    ghost use Rattle.amqp_ser.specs.Tree.{Scalar, scalar, ulong, uuid, string};
+    ghost use Rattle.example_derived.specs.declared.choices.Address.TheVariants as variant;
+
+    ghost tree = { λ x. Some (scalar (elim x as (λ _. Scalar) [ variant.Number v ↦ ulong v | variant.Text v ↦ string (string_bytes v) | variant.Id v ↦ uuid (uuid_bytes v) ])) };
+
+    fn serialize<S: Serializer>(&self, serializer: &mut S) -> Result<S::Ok, S::Error> {
+        match self {
+            Address::Number(value) => value.serialize(serializer),
+            Address::Text(value) => value.serialize(serializer),
+            Address::Id(value) => value.serialize(serializer),
+        }
+    }
+}
+
+impl Deserialize for Address {
+    ghost use Rattle.std.specs.Prelude.{◌≡◌, string_bytes};
+    ghost use Rattle.amqp_data.specs.Fixed.{uuid_bytes};
+    ghost use Rattle.amqp_ser.specs.Tree.{Scalar, scalar, ulong, uuid, string};
+    ghost use Rattle.amqp_de.specs.Reads.{Always};
+    ghost use Rattle.example_derived.specs.declared.choices.Address.TheVariants as variant;
+
+    ghost reads = { λ t x. t ≡ scalar (elim x as (λ _. Scalar) [ variant.Number v ↦ ulong v | variant.Text v ↦ string (string_bytes v) | variant.Id v ↦ uuid (uuid_bytes v) ]) };
+
+    ghost image = { λ x. scalar (elim x as (λ _. Scalar) [ variant.Number v ↦ ulong v | variant.Text v ↦ string (string_bytes v) | variant.Id v ↦ uuid (uuid_bytes v) ]) };
+
+    ghost restorable = { Always };
+
+    ghost same = { λ x y. scalar (elim x as (λ _. Scalar) [ variant.Number v ↦ ulong v | variant.Text v ↦ string (string_bytes v) | variant.Id v ↦ uuid (uuid_bytes v) ]) ≡ scalar (elim y as (λ _. Scalar) [ variant.Number v ↦ ulong v | variant.Text v ↦ string (string_bytes v) | variant.Id v ↦ uuid (uuid_bytes v) ]) };
+
+    fn deserialize<D: Deserializer>(_alloc: Global, deserializer: D) -> Result<Address, D::Error> {
+        match deserializer.open() {
+            Content::Ulong(value) => Ok(Address::Number(value)),
+            Content::String(value) => Ok(Address::Text(value)),
+            Content::Uuid(value) => Ok(Address::Id(value)),
+            _ => Err(D::Error::invalid_value()),
+        }
+    }
+}
+
+impl RoundTrip for Address {
+    fn law() {}
+}
+
+impl MapKey for Address {
+    fn image_is_injective() {}
+}
+
+impl Serialize for Shape {
+    ghost use Rattle.std.specs.Prelude.{[], ◌∷◌, Option};
+    ghost use Rattle.amqp_ser.specs.Carried.{optional};
+    ghost use Rattle.amqp_ser.specs.Compounds.{tree_of_parts};
+    ghost use Rattle.amqp_ser.specs.Tree.{Tree};
+    ghost use Rattle.amqp_ser.specs.Words.{variant_of, of_string, of_symbol, of_u16, of_u32};
+    ghost use Rattle.amqp_ser.specs.declared.kind.CompoundKind.TheVariants as kind;
+    ghost use Rattle.example_derived.specs.declared.choices.Shape.TheVariants as variant;
+
+    ghost tree = { λ x. elim x as (λ _. Option Tree) [
+      | variant.Point ↦ of_u32 0
+      | variant.Circle v0 ↦ tree_of_parts (kind.NewtypeVariant 1) (of_u32 v0 ∷ [])
+      | variant.Box v0 v1 ↦ variant_of 2 (of_u16 v0
+          ∷ of_u16 v1
+          ∷ [])
+      | variant.Label v0 v1 ↦ variant_of 3 (of_string v0
+          ∷ optional of_symbol v1
+          ∷ [])
+    ] };
+
+    fn serialize<S: Serializer>(&self, serializer: &mut S) -> Result<S::Ok, S::Error> {
+        match self {
+            Shape::Point => serializer.serialize_unit_variant("Shape", 0, "Point"),
+            Shape::Circle(part0) => serializer.serialize_newtype_variant(
+                "Shape", 1, "Circle", part0,
+            ),
+            Shape::Box(part0, part1) => VariantOf(
+                2,
+                fields! {
+                    "0": part0,
+                    "1": part1,
+                },
+            )
+            .serialize(serializer),
+            Shape::Label { text, colour } => VariantOf(
+                3,
+                fields! {
+                    "text": text,
+                    "colour": colour,
+                },
+            )
+            .serialize(serializer),
+        }
+    }
+}
+
+/// The variants of [`Shape`], as they are read.
+type ShapeVariants = UnitVariant<
+    DataVariant<
+        TypeSeed<u32>,
+        DataVariant<
+            ListSeed<Required<u16, Required<u16, ()>>>,
+            DataVariant<ListSeed<Required<String, Optional<Symbol, ()>>>, ()>,
+        >,
+    >,
+>;
+
+impl Record for Shape {
+    ghost use Rattle.amqp_de.specs.Parts.{◌▸◌};
+    ghost use Rattle.amqp_de.specs.declared.enums.variants.Either.TheVariants.{This, Other};
+    ghost use Rattle.example_derived.specs.declared.choices.Shape.TheVariants as variant;
+
+    type Values = Either<
+        (),
+        Either<
+            u32,
+            Either<
+                <Required<u16, Required<u16, ()>> as FieldSeeds>::Values,
+                Either<<Required<String, Optional<Symbol, ()>> as FieldSeeds>::Values, Never>,
+            >,
+        >,
+    >;
+
+    ghost parts = { λ x. elim x as (λ _. _) [ variant.Point ↦ This tt | variant.Circle v0 ↦ Other (This v0) | variant.Box v0 v1 ↦ Other (Other (This (v0 ▸ v1 ▸ tt))) | variant.Label v0 v1 ↦ Other (Other (Other (This (v0 ▸ v1 ▸ tt)))) ] };
+}
+
+impl Deserialize for Shape {
+    ghost use Rattle.std.specs.Prelude.{codes};
+    ghost use Rattle.amqp_de.specs.Fields.{OnFields, ReadsRequired, ReadsOptional, NoMoreFields};
+    ghost use Rattle.amqp_de.specs.Enums.{OnEnum, IsUnitVariant, IsDataVariant, IsNoVariant};
+
+    ghost reads = { λ t x. OnEnum (
+        IsUnitVariant (
+        IsDataVariant ⟦<u32 as Deserialize>⟧.reads (
+        IsDataVariant (λ u y. OnFields (
+        ReadsRequired (codes "0") ⟦<u16 as Deserialize>⟧.reads y.value (
+        ReadsRequired (codes "1") ⟦<u16 as Deserialize>⟧.reads y.rest.value
+        NoMoreFields)) u) (
+        IsDataVariant (λ u y. OnFields (
+        ReadsRequired (codes "text") ⟦<String as Deserialize>⟧.reads y.value (
+        ReadsOptional (codes "colour") ⟦<Symbol as Deserialize>⟧.reads y.rest.value
+        NoMoreFields)) u) (
+        IsNoVariant))))) t (⟦<Shape as Record>⟧.parts x) };
+
+    ghost image = { λ x. ⟦<EnumSeed<ShapeVariants> as DeserializeSeed>⟧.image (⟦<Shape as Record>⟧.parts x) };
+
+    ghost restorable = { λ x. ⟦<EnumSeed<ShapeVariants> as DeserializeSeed>⟧.restorable (⟦<Shape as Record>⟧.parts x) };
+
+    ghost same = { λ x y. ⟦<EnumSeed<ShapeVariants> as DeserializeSeed>⟧.same (⟦<Shape as Record>⟧.parts x) (⟦<Shape as Record>⟧.parts y) };
+
+    fn deserialize<D: Deserializer>(alloc: Global, deserializer: D) -> Result<Shape, D::Error> {
+        match read::<Shape, D, _>(
+            alloc,
+            deserializer,
+            EnumSeed(
+                variants! { unit, newtype, named! { "0", "1" }, named! { "text", "colour"? } },
+            ),
+        )? {
+            Either::This(()) => Ok(Shape::Point),
+            Either::Other(Either::This(value)) => Ok(Shape::Circle(value)),
+            Either::Other(Either::Other(Either::This(values))) => {
+                let FieldValues { value: part0, rest } = values;
+                let FieldValues {
+                    value: part1,
+                    rest: (),
+                } = rest;
+                Ok(Shape::Box(part0, part1))
+            }
+            Either::Other(Either::Other(Either::Other(Either::This(values)))) => {
+                let FieldValues { value: text, rest } = values;
+                let FieldValues {
+                    value: colour,
+                    rest: (),
+                } = rest;
+                Ok(Shape::Label { text, colour })
+            }
+            Either::Other(Either::Other(Either::Other(Either::Other(never)))) => match never {},
+        }
+    }
+}
+
+impl RoundTrip for Shape {
+    fn law() {
+        laws::variants_return();
+        <Option<Symbol> as RoundTrip>::law();
+    }
+}
+
+impl Serialize for DeliveryNumber {
+    ghost use Rattle.amqp_ser.specs.Words.{of_u32};
+
+    ghost tree = { λ x. of_u32 x.0 };
+
+    fn serialize<S: Serializer>(&self, serializer: &mut S) -> Result<S::Ok, S::Error> {
+        self.0.serialize(serializer)
+    }
+}
+
+impl Deserialize for DeliveryNumber {
+    ghost reads = { λ t x. ⟦<u32 as Deserialize>⟧.reads t x.0 };
+
+    ghost image = { λ x. ⟦<u32 as Deserialize>⟧.image x.0 };
+
+    ghost restorable = { λ x. ⟦<u32 as Deserialize>⟧.restorable x.0 };
+
+    ghost same = { λ x y. ⟦<u32 as Deserialize>⟧.same x.0 y.0 };
+
+    fn deserialize<D: Deserializer>(
+        alloc: Global,
+        deserializer: D,
+    ) -> Result<DeliveryNumber, D::Error> {
+        match <u32 as Deserialize>::deserialize(alloc, deserializer) {
+            Ok(value) => Ok(DeliveryNumber(value)),
+            Err(error) => Err(error),
+        }
+    }
+}
+
+impl RoundTrip for DeliveryNumber {
+    fn law() {
+        <u32 as RoundTrip>::law();
+    }
+}
+
+impl MapKey for DeliveryNumber {
+    fn image_is_injective() {
+        <u32 as MapKey>::image_is_injective();
+    }
+}
+
+impl Serialize for Tag {
+    ghost use Rattle.amqp_ser.specs.Tree.{code};
+    ghost use Rattle.amqp_ser.specs.Words.{basic_composite, of_binary};
+
+    ghost tree = { λ x. basic_composite (code 0x1a) (of_binary x.0) };
+
+    fn serialize<S: Serializer>(&self, serializer: &mut S) -> Result<S::Ok, S::Error> {
+        serializer.serialize_described(&0x1au64, &self.0)
+    }
+}
+
+impl Record for Tag {
+    type Values = ByteBuf;
+
+    ghost parts = { λ x. x.0 };
+}
+
+impl Composite for Tag {
+    ghost use Rattle.std.specs.Prelude.{codes};
+
+    ghost descriptor_code = { 0x1a };
+
+    ghost descriptor_name = { codes "shop:tag" };
+
+    ghost reads = { λ t x. ⟦<ByteBuf as Deserialize>⟧.reads t x.0 };
+
+    ghost image = { λ x. ⟦<TypeSeed<ByteBuf> as DeserializeSeed>⟧.image (⟦<Tag as Record>⟧.parts x) };
+
+    ghost restorable = { λ x. ⟦<TypeSeed<ByteBuf> as DeserializeSeed>⟧.restorable (⟦<Tag as Record>⟧.parts x) };
+
+    ghost same = { λ x y. ⟦<TypeSeed<ByteBuf> as DeserializeSeed>⟧.same (⟦<Tag as Record>⟧.parts x) (⟦<Tag as Record>⟧.parts y) };
+
+    fn code() -> u64 {
+        0x1a
+    }
+
+    fn name() -> &'static str {
+        "shop:tag"
+    }
+
+    fn read_body<D: Deserializer>(alloc: Global, deserializer: D) -> Result<Tag, D::Error> {
+        let part0 = read::<Tag, D, _>(alloc, deserializer, TypeSeed(PhantomData::<ByteBuf>))?;
+        Ok(Tag(part0))
+    }
+}
+
+impl Deserialize for Tag {
+    ghost use Rattle.std.specs.Prelude.{codes};
+    ghost use Rattle.amqp_ser.specs.Tree.{code, described};
+    ghost use Rattle.amqp_de.specs.Composites.{OnComposite};
+
+    ghost reads = { λ t x. OnComposite 0x1a (codes "shop:tag") (λ u. ⟦<Tag as Composite>⟧.reads u x) t };
+
+    ghost image = { λ x. described (code 0x1a) (⟦<Tag as Composite>⟧.image x) };
+
+    ghost restorable = { ⟦<Tag as Composite>⟧.restorable };
+
+    ghost same = { ⟦<Tag as Composite>⟧.same };
+
+    fn deserialize<D: Deserializer>(alloc: Global, deserializer: D) -> Result<Tag, D::Error> {
+        read_composite_type::<Tag, D>(alloc, deserializer)
+    }
+}
+
+impl RoundTripComposite for Tag {
+    fn composite_law() {
+        <ByteBuf as RoundTrip>::law();
+        laws::described_return();
+    }
+}
+
+impl RoundTrip for Tag {
+    fn law() {
+        <Tag as RoundTripComposite>::composite_law();
+    }
+}
+// amqp: end of the impls

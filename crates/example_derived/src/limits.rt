@@ -1,0 +1,98 @@
+//! A field that allows several values, and a field with a default.
+
+use serde_amqp::primitives::{Multiple, Symbol};
+
+/// What one end of a connection offers, and how many channels it allows.
+// amqp: encoding = "list", code = 0x19, rename_all = "kebab-case"
+#[derive(Debug, PartialEq, Drop)]
+pub struct Limits {
+    /// None, one or several.
+    pub mechanisms: Option<Multiple<Symbol>>,
+    // amqp: default = 65535
+    pub channel_max: u16,
+}
+
+// amqp: the impls below are written by tools/derive from the annotations above
+use serde_amqp::derive::{
+    Defaulted, Deserialize, DeserializeSeed, Deserializer, FieldSeeds, FieldValues, Global, ListOf,
+    ListSeed, Optional, Record, RoundTrip, Serialize, SerializeCompounds, Serializer, fields, laws,
+    named, read_composite,
+};
+
+impl Serialize for Limits {
+    ghost use Rattle.std.specs.Prelude.{[], ◌∷◌};
+    ghost use Rattle.amqp_ser.specs.Tree.{code};
+    ghost use Rattle.amqp_ser.specs.Words.{short_composite, required_value, optional_value, of_u16};
+
+    ghost tree = { λ x. short_composite (code 0x19) (
+        optional_value ⟦<Multiple<Symbol> as Serialize>⟧.tree x.mechanisms
+        ∷ required_value (of_u16 x.channel_max)
+        ∷ []) };
+
+    fn serialize<S: Serializer>(&self, serializer: &mut S) -> Result<S::Ok, S::Error> {
+        serializer.serialize_described(
+            &0x19u64,
+            &ListOf(fields! {
+                "mechanisms"?: &self.mechanisms,
+                "channel-max": &self.channel_max,
+            }),
+        )
+    }
+}
+
+/// The fields of [`Limits`], as they are read.
+type LimitsFields = Optional<Multiple<Symbol>, Defaulted<u16, ()>>;
+
+impl Record for Limits {
+    ghost use Rattle.amqp_de.specs.Parts.{◌▸◌};
+
+    type Values = <LimitsFields as FieldSeeds>::Values;
+
+    ghost parts = { λ x. x.mechanisms ▸ x.channel_max ▸ tt };
+}
+
+impl Deserialize for Limits {
+    ghost use Rattle.std.specs.Prelude.{codes};
+    ghost use Rattle.amqp_ser.specs.Tree.{code, described};
+    ghost use Rattle.amqp_de.specs.Fields.{OnDescribed, OnFields, ReadsOptional, NoMoreFields};
+    ghost use Rattle.amqp_de.specs.Defaults.{ReadsDefaulted};
+
+    ghost reads = { λ t x. OnDescribed (code 0x19) (OnFields (
+        ReadsOptional (codes "mechanisms") ⟦<Multiple<Symbol> as Deserialize>⟧.reads x.mechanisms (
+        ReadsDefaulted (codes "channel-max") 65535 ⟦<u16 as Deserialize>⟧.reads x.channel_max
+        NoMoreFields))) t };
+
+    ghost image = { λ x. described (code 0x19) (⟦<ListSeed<LimitsFields> as DeserializeSeed>⟧.short (⟦<Limits as Record>⟧.parts x)) };
+
+    ghost restorable = { λ x. ⟦<ListSeed<LimitsFields> as DeserializeSeed>⟧.restorable (⟦<Limits as Record>⟧.parts x) };
+
+    ghost same = { λ x y. ⟦<ListSeed<LimitsFields> as DeserializeSeed>⟧.same (⟦<Limits as Record>⟧.parts x) (⟦<Limits as Record>⟧.parts y) };
+
+    fn deserialize<D: Deserializer>(alloc: Global, deserializer: D) -> Result<Limits, D::Error> {
+        let FieldValues {
+            value: mechanisms,
+            rest,
+        } = read_composite::<Limits, D, _>(
+            alloc,
+            deserializer,
+            0x19u64,
+            ListSeed(named! { "mechanisms"?, "channel-max" = 65535u16 }),
+        )?;
+        let FieldValues {
+            value: channel_max,
+            rest: (),
+        } = rest;
+        Ok(Limits {
+            mechanisms,
+            channel_max,
+        })
+    }
+}
+
+impl RoundTrip for Limits {
+    fn law() {
+        laws::short_fields_return::<Limits, LimitsFields>();
+        laws::described_return();
+    }
+}
+// amqp: end of the impls

@@ -1,0 +1,154 @@
+//! Encodings that are read as a type and written again, and encodings that are refused
+//! (AMQP 1.0 part 1, section 1.6).
+
+use crate::choices::{Address, DeliveryNumber, Durability, Expiry, Role, Shape, Tag};
+use crate::{Contact, Failure, Limits, Outcome, Position};
+use serde_amqp::de::Deserialize;
+use serde_amqp::decode::decode_value;
+use serde_amqp::ser::Serialize;
+use serde_amqp::{Error, from_value, to_vec};
+use std::alloc::Global;
+use std::test::Fail;
+
+fn read<T: Deserialize>(alloc: Global, bytes: &[u8]) -> Result<T, Error> {
+    from_value::<T>(alloc, decode_value(alloc, bytes)?)
+}
+
+// Returns whether a value is read from `bytes` and written as `written`.
+fn gives<T: Deserialize + Serialize>(
+    alloc: Global,
+    bytes: &[u8],
+    written: &[u8],
+) -> Result<bool, Error> {
+    Ok(to_vec(alloc, &read::<T>(alloc, bytes)?)?.as_slice() == written)
+}
+
+// Returns whether a value is read from the bytes and written as the same bytes.
+fn comes_back<T: Deserialize + Serialize>(alloc: Global, bytes: &[u8]) -> Result<bool, Error> {
+    gives::<T>(alloc, bytes, bytes)
+}
+
+fn refuses<T: Deserialize>(alloc: Global, bytes: &[u8]) -> bool {
+    matches!(read::<T>(alloc, bytes), Err(Error::InvalidValue))
+}
+
+#[test]
+fn lists_are_read_after_their_code(rt: HostRuntime) -> Result<(), Fail> {
+    let a = rt.alloc();
+    assert!(rt; comes_back::<Position>(a, b"\xc0\x05\x02\x54\x01\x54\xfe")?);
+    let failure = b"\x00\x53\x1d\xc0\x05\x01\xa3\x02no";
+    assert!(rt; comes_back::<Failure>(a, failure)?);
+    assert!(rt;
+        gives::<Failure>(
+            a,
+            b"\x00\xa3\x0famqp:error:list\xc0\x05\x01\xa3\x02no",
+            failure
+        )?
+    );
+    assert!(rt;
+        gives::<Failure>(
+            a,
+            b"\x00\x53\x1d\xc0\x08\x04\xa3\x02no\x40\x40\x41",
+            failure
+        )?
+    );
+    assert!(rt; refuses::<Failure>(a, b"\x00\x53\x1e\xc0\x05\x01\xa3\x02no"));
+    assert!(rt; refuses::<Failure>(a, b"\x00\x53\x1d\x45"));
+    assert!(rt; refuses::<Failure>(a, b"\x00\x53\x1d\xc0\x02\x01\x40"));
+    Ok(())
+}
+
+#[test]
+fn descriptors_select_composites(rt: HostRuntime) -> Result<(), Fail> {
+    let a = rt.alloc();
+    assert!(rt; comes_back::<Outcome>(a, b"\x00\x53\x24\x45")?);
+    assert!(rt; comes_back::<Outcome>(a, b"\x00\x53\x25\x45")?);
+    assert!(rt;
+        gives::<Outcome>(
+            a,
+            b"\x00\xa3\x12amqp:modified:list\x45",
+            b"\x00\x53\x27\x45"
+        )?
+    );
+    assert!(rt; refuses::<Outcome>(a, b"\x00\x53\x26\x45"));
+    assert!(rt; refuses::<Outcome>(a, b"\x00\xa3\x12amqp:released:list\x45"));
+    Ok(())
+}
+
+#[test]
+fn other_values_than_the_choices_are_refused(rt: HostRuntime) -> Result<(), Fail> {
+    let a = rt.alloc();
+    assert!(rt; comes_back::<Role>(a, b"\x42")? && refuses::<Role>(a, b"\x43"));
+    assert!(rt; comes_back::<Durability>(a, b"\x52\x02")?);
+    assert!(rt; refuses::<Durability>(a, b"\x52\x03") && refuses::<Durability>(a, b"\x50\x01"));
+    assert!(rt; comes_back::<Expiry>(a, b"\xa3\x05never")?);
+    assert!(rt; refuses::<Expiry>(a, b"\xa3\x05nevar") && refuses::<Expiry>(a, b"\xa1\x05never"));
+    assert!(rt; comes_back::<Address>(a, b"\x53\x07")? && comes_back::<Address>(a, b"\xa1\x01x")?);
+    assert!(rt; refuses::<Address>(a, b"\x50\x07"));
+    Ok(())
+}
+
+#[test]
+fn structs_of_one_field_are_that_field(rt: HostRuntime) -> Result<(), Fail> {
+    let a = rt.alloc();
+    assert!(rt;
+        comes_back::<DeliveryNumber>(a, b"\x52\x07")? && refuses::<DeliveryNumber>(a, b"\x53\x07")
+    );
+    let tag = b"\x00\x53\x1a\xa0\x01t";
+    assert!(rt;
+        comes_back::<Tag>(a, tag)? && gives::<Tag>(a, b"\x00\xa3\x08shop:tag\xa0\x01t", tag)?
+    );
+    assert!(rt; refuses::<Tag>(a, b"\x00\x53\x1a\xa1\x01t") && refuses::<Tag>(a, b"\xa0\x01t"));
+    Ok(())
+}
+
+#[test]
+fn variants_are_read_by_their_index(rt: HostRuntime) -> Result<(), Fail> {
+    let a = rt.alloc();
+    assert!(rt; comes_back::<Shape>(a, b"\x43")? && refuses::<Shape>(a, b"\x52\x04"));
+    assert!(rt; comes_back::<Shape>(a, b"\xc1\x05\x02\x52\x01\x52\x05")?);
+    assert!(rt;
+        comes_back::<Shape>(
+            a,
+            b"\xc1\x0c\x02\x52\x02\xc0\x07\x02\x60\x00\x01\x60\x00\x02"
+        )?
+    );
+    Ok(())
+}
+
+#[test]
+fn maps_are_read_by_the_names(rt: HostRuntime) -> Result<(), Fail> {
+    let a = rt.alloc();
+    let contact = b"\xc1\x0a\x02\xa1\x04name\xa1\x01A";
+    assert!(rt; comes_back::<Contact>(a, contact)?);
+    assert!(rt;
+        gives::<Contact>(
+            a,
+            b"\xc1\x0e\x04\xa1\x01x\x41\xa1\x04name\xa1\x01A",
+            contact
+        )?
+    );
+    assert!(rt; refuses::<Contact>(a, b"\xc1\x01\x00"));
+    Ok(())
+}
+
+#[test]
+fn several_values_and_defaults(rt: HostRuntime) -> Result<(), Fail> {
+    let a = rt.alloc();
+    let absent = b"\x00\x53\x19\xc0\x05\x02\x40\x60\xff\xff";
+    assert!(rt; comes_back::<Limits>(a, b"\x00\x53\x19\xc0\x07\x02\xa3\x01a\x60\xff\xff")?);
+    let both = b"\x00\x53\x19\xc0\x12\x02\xe0\x0c\x02\xb3\0\0\0\x01a\0\0\0\x01b\x60\xff\xff";
+    assert!(rt; comes_back::<Limits>(a, both)?);
+    assert!(rt;
+        gives::<Limits>(
+            a,
+            b"\x00\x53\x19\xc0\x0c\x02\xe0\x06\x02\xa3\x01a\x01b\x60\xff\xff",
+            both
+        )?
+    );
+    assert!(rt; gives::<Limits>(a, b"\x00\x53\x19\x45", absent)?);
+    assert!(rt; gives::<Limits>(a, b"\x00\x53\x19\xc0\x03\x02\x40\x40", absent)?);
+    assert!(rt; comes_back::<Limits>(a, b"\x00\x53\x19\xc0\x05\x02\x40\x60\x00\x07")?);
+    assert!(rt; refuses::<Limits>(a, b"\x00\x53\x19\xc0\x04\x02\x40\x50\x07"));
+    Ok(())
+}

@@ -1,0 +1,17 @@
+//! What the impls that `tools/derive` writes use: traits, types, functions and macros of the other
+//! modules, under one path.
+
+pub use crate::de::{
+    Alternatives, Composite, Content, DataVariant, Defaulted, Deserialize, DeserializeError,
+    DeserializeSeed, Deserializer, Either, EnumSeed, FieldSeeds, FieldValues, FixedContent,
+    ListSeed, NamedRecord, NamedSeed, Never, Optional, Record, Required, TypeSeed, UnitVariant,
+    named, read, read_alternatives, read_composite, read_composite_map, read_composite_type,
+    read_fields_map, read_named, read_named_map, read_no_fields, variants,
+};
+pub use crate::ser::{
+    ListOf, MapOf, Name, Serialize, SerializeCompounds, SerializeScalars, Serializer, VariantOf,
+    fields,
+};
+pub use crate::value::{MapKey, RoundTrip, RoundTripAlternatives, RoundTripComposite, laws};
+pub use std::alloc::Global;
+pub use std::marker::PhantomData;
