@@ -1,0 +1,65 @@
+//! AMQP 1.0's own types: the frames of a connection, terminus and delivery types, transactions, the
+//! sections of a message and the frames of SASL (AMQP 1.0 parts 2 to 5).
+//!
+//! Each type is written and read, after the code of its descriptor or after its name.
+//! `tools/types_table.txt` lists them as the standard does, with their fields; `tools/types` writes
+//! the types, and `tools/derive` their impls. [`names`] has the names of the standard for programs
+//! that show what is in encoded values.
+#![tactic(auto)]
+
+mod body;
+mod conditions;
+mod connection;
+mod coordinator;
+mod delivery;
+mod disposition;
+mod endings;
+mod error;
+mod flow;
+mod header;
+mod identifiers;
+mod lifetime;
+mod link;
+mod modes;
+pub mod names;
+mod properties;
+mod sasl;
+mod sasl_outcome;
+mod sections;
+mod session;
+mod source;
+mod states;
+mod target;
+mod terminus;
+#[cfg(test)]
+mod tests;
+mod transactions;
+mod transfer;
+
+pub use body::{AmqpSequence, AmqpValue, Data};
+pub use conditions::{
+    AmqpCondition, ConnectionCondition, LinkCondition, SessionCondition, TransactionCondition,
+};
+pub use connection::Open;
+pub use coordinator::{AnyTarget, Coordinator, TxnCapability};
+pub use delivery::{Accepted, Modified, Received, Rejected, Released};
+pub use disposition::Disposition;
+pub use endings::{Close, Detach, End};
+pub use error::AmqpError;
+pub use flow::Flow;
+pub use header::Header;
+pub use identifiers::{Address, AnnotationKey, MessageId};
+pub use lifetime::{DeleteOnClose, DeleteOnNoLinks, DeleteOnNoLinksOrMessages, DeleteOnNoMessages};
+pub use link::Attach;
+pub use modes::{ReceiverSettleMode, Role, SenderSettleMode};
+pub use properties::Properties;
+pub use sasl::{SaslChallenge, SaslInit, SaslMechanisms, SaslResponse};
+pub use sasl_outcome::{SaslCode, SaslOutcome};
+pub use sections::{ApplicationProperties, DeliveryAnnotations, Footer, MessageAnnotations};
+pub use session::Begin;
+pub use source::Source;
+pub use states::{DeliveryState, Outcome};
+pub use target::Target;
+pub use terminus::{DistributionMode, TerminusDurability, TerminusExpiryPolicy};
+pub use transactions::{Declare, Declared, Discharge, TransactionalState};
+pub use transfer::Transfer;
