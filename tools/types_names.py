@@ -85,4 +85,4 @@ def fields(table, t):
 def values(table, t):
     if t.kind == "choice":
         return f"{t.source}: " + ", ".join(f"{f.name} {f.type}" if f.type != f.name else f.name for f in t.fields)
-    return "one of " + ", ".join(f"`{table.rust(f.type)}`" for f in t.fields)
+    return "one of " + ", ".join(f"`{table.rust(f.type)}`" for f in t.fields) + (", or `Unknown`" if t.others else "")

@@ -69,11 +69,13 @@ def variant(f):
 
 
 def enum(table, t):
-    flags = ", map_key" if t.key else ""
+    flags = ", map_key" if t.key else ", others" if t.others else ""
     rows = ""
     for f in t.fields:
         comment = f.comment or table.types[f.type].comment
         rows += doc(comment, "    ") + f"    {variant(f)}({table.rust(f.type)}),\n"
+    if t.others:
+        rows += doc("A described value of another type, which is kept.", "    ") + "    Other(Unknown),\n"
     return f'// amqp: encoding = "{t.kind}"{flags}\n{derive(t)}pub enum {t.rust} {{\n{rows}}}\n'
 
 
@@ -114,6 +116,7 @@ def module_file(table, module):
     body = "\n".join(said(t) + print_[t.kind](table, t) + defaults(table, t) for t in module.types)
     used = set(re.findall(r"\w+", re.sub(r"//[^\n]*", "", body)))
     uses = [import_of(f"crate::{m.name}", [t.rust for t in m.types if t.rust in used]) for m in table.modules if m is not module]
+    uses += ["use crate::unknown::Unknown;\n"] if "Unknown" in used else []
     uses += ["use serde_amqp::Value;\n"] if "Value" in used else []
     uses.append(import_of("serde_amqp::primitives", [name for name in PRIMITIVES if name in used]))
     uses = "".join(sorted(uses))

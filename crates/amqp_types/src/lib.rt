@@ -22,9 +22,11 @@ mod lifetime;
 mod link;
 mod modes;
 pub mod names;
+mod performative;
 mod properties;
 mod sasl;
 mod sasl_outcome;
+mod section;
 mod sections;
 mod session;
 mod source;
@@ -35,6 +37,7 @@ mod terminus;
 mod tests;
 mod transactions;
 mod transfer;
+mod unknown;
 
 pub use body::{AmqpSequence, AmqpValue, Data};
 pub use conditions::{
@@ -49,12 +52,16 @@ pub use error::AmqpError;
 pub use flow::Flow;
 pub use header::Header;
 pub use identifiers::{Address, AnnotationKey, MessageId};
-pub use lifetime::{DeleteOnClose, DeleteOnNoLinks, DeleteOnNoLinksOrMessages, DeleteOnNoMessages};
+pub use lifetime::{
+    DeleteOnClose, DeleteOnNoLinks, DeleteOnNoLinksOrMessages, DeleteOnNoMessages, LifetimePolicy,
+};
 pub use link::Attach;
 pub use modes::{ReceiverSettleMode, Role, SenderSettleMode};
+pub use performative::{Performative, SaslFrame};
 pub use properties::Properties;
 pub use sasl::{SaslChallenge, SaslInit, SaslMechanisms, SaslResponse};
 pub use sasl_outcome::{SaslCode, SaslOutcome};
+pub use section::Section;
 pub use sections::{ApplicationProperties, DeliveryAnnotations, Footer, MessageAnnotations};
 pub use session::Begin;
 pub use source::Source;
@@ -63,3 +70,4 @@ pub use target::Target;
 pub use terminus::{DistributionMode, TerminusDurability, TerminusExpiryPolicy};
 pub use transactions::{Declare, Declared, Discharge, TransactionalState};
 pub use transfer::Transfer;
+pub use unknown::Unknown;

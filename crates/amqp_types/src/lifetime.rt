@@ -32,10 +32,29 @@ pub struct DeleteOnNoMessages;
 #[derive(Debug, PartialEq, Drop)]
 pub struct DeleteOnNoLinksOrMessages;
 
+/// When a created node is deleted: the node property `lifetime-policy` (AMQP 1.0 part 3, section
+/// 3.5.9).
+///
+/// # Encoding
+/// The composite of the variant.
+// amqp: encoding = "described"
+#[derive(Debug, PartialEq, Drop)]
+pub enum LifetimePolicy {
+    /// When its link is closed.
+    DeleteOnClose(DeleteOnClose),
+    /// When it has no links.
+    DeleteOnNoLinks(DeleteOnNoLinks),
+    /// When it has no messages.
+    DeleteOnNoMessages(DeleteOnNoMessages),
+    /// When it has neither.
+    DeleteOnNoLinksOrMessages(DeleteOnNoLinksOrMessages),
+}
+
 // amqp: the impls below are written by tools/derive from the annotations above
 use serde_amqp::derive::{
-    Composite, Deserialize, DeserializeSeed, Deserializer, FieldSeeds, Global, ListOf, ListSeed,
-    Record, RoundTrip, RoundTripComposite, Serialize, SerializeCompounds, Serializer, fields, laws,
+    Alternatives, Composite, Deserialize, DeserializeSeed, Deserializer, Either, FieldSeeds,
+    Global, ListOf, ListSeed, Never, Record, RoundTrip, RoundTripAlternatives, RoundTripComposite,
+    Serialize, SerializeCompounds, Serializer, fields, laws, read_alternatives,
     read_composite_type, read_no_fields,
 };
 
@@ -388,6 +407,70 @@ impl RoundTripComposite for DeleteOnNoLinksOrMessages {
 impl RoundTrip for DeleteOnNoLinksOrMessages {
     fn law() {
         <DeleteOnNoLinksOrMessages as RoundTripComposite>::composite_law();
+    }
+}
+
+impl Record for LifetimePolicy {
+    ghost use Rattle.amqp_de.specs.declared.enums.variants.Either.TheVariants.{This, Other};
+    ghost use Rattle.amqp_types.specs.declared.lifetime.LifetimePolicy.TheVariants as variant;
+
+    type Values = Either<
+        DeleteOnClose,
+        Either<
+            DeleteOnNoLinks,
+            Either<DeleteOnNoMessages, Either<DeleteOnNoLinksOrMessages, Never>>,
+        >,
+    >;
+
+    ghost parts = { λ x. elim x as (λ _. _) [ variant.DeleteOnClose v ↦ This v | variant.DeleteOnNoLinks v ↦ Other (This v) | variant.DeleteOnNoMessages v ↦ Other (Other (This v)) | variant.DeleteOnNoLinksOrMessages v ↦ Other (Other (Other (This v))) ] };
+}
+
+impl Serialize for LifetimePolicy {
+    ghost tree = { λ x. ⟦<Either<DeleteOnClose, Either<DeleteOnNoLinks, Either<DeleteOnNoMessages, Either<DeleteOnNoLinksOrMessages, Never>>>> as RoundTripAlternatives>⟧.trees (⟦<LifetimePolicy as Record>⟧.parts x) };
+
+    fn serialize<S: Serializer>(&self, serializer: &mut S) -> Result<S::Ok, S::Error> {
+        match self {
+            LifetimePolicy::DeleteOnClose(value) => value.serialize(serializer),
+            LifetimePolicy::DeleteOnNoLinks(value) => value.serialize(serializer),
+            LifetimePolicy::DeleteOnNoMessages(value) => value.serialize(serializer),
+            LifetimePolicy::DeleteOnNoLinksOrMessages(value) => value.serialize(serializer),
+        }
+    }
+}
+
+impl Deserialize for LifetimePolicy {
+    ghost use Rattle.amqp_ser.specs.Tree.{code, described};
+    ghost use Rattle.amqp_de.specs.Composites.{OnAlternatives};
+
+    ghost reads = { λ t x. OnAlternatives ⟦<Either<DeleteOnClose, Either<DeleteOnNoLinks, Either<DeleteOnNoMessages, Either<DeleteOnNoLinksOrMessages, Never>>>> as Alternatives>⟧.reads t (⟦<LifetimePolicy as Record>⟧.parts x) };
+
+    ghost image = { λ x. described (code (⟦<Either<DeleteOnClose, Either<DeleteOnNoLinks, Either<DeleteOnNoMessages, Either<DeleteOnNoLinksOrMessages, Never>>>> as Alternatives>⟧.code_of (⟦<LifetimePolicy as Record>⟧.parts x))) (⟦<Either<DeleteOnClose, Either<DeleteOnNoLinks, Either<DeleteOnNoMessages, Either<DeleteOnNoLinksOrMessages, Never>>>> as Alternatives>⟧.image (⟦<LifetimePolicy as Record>⟧.parts x)) };
+
+    ghost restorable = { λ x. ⟦<Either<DeleteOnClose, Either<DeleteOnNoLinks, Either<DeleteOnNoMessages, Either<DeleteOnNoLinksOrMessages, Never>>>> as Alternatives>⟧.restorable (⟦<LifetimePolicy as Record>⟧.parts x) };
+
+    ghost same = { λ x y. ⟦<Either<DeleteOnClose, Either<DeleteOnNoLinks, Either<DeleteOnNoMessages, Either<DeleteOnNoLinksOrMessages, Never>>>> as Alternatives>⟧.same (⟦<LifetimePolicy as Record>⟧.parts x) (⟦<LifetimePolicy as Record>⟧.parts y) };
+
+    fn deserialize<D: Deserializer>(
+        alloc: Global,
+        deserializer: D,
+    ) -> Result<LifetimePolicy, D::Error> {
+        match read_alternatives::<LifetimePolicy, D>(alloc, deserializer)? {
+            Either::This(value) => Ok(LifetimePolicy::DeleteOnClose(value)),
+            Either::Other(Either::This(value)) => Ok(LifetimePolicy::DeleteOnNoLinks(value)),
+            Either::Other(Either::Other(Either::This(value))) => Ok(
+                LifetimePolicy::DeleteOnNoMessages(value),
+            ),
+            Either::Other(Either::Other(Either::Other(Either::This(value)))) => Ok(
+                LifetimePolicy::DeleteOnNoLinksOrMessages(value),
+            ),
+            Either::Other(Either::Other(Either::Other(Either::Other(never)))) => match never {},
+        }
+    }
+}
+
+impl RoundTrip for LifetimePolicy {
+    fn law() {
+        laws::alternatives_return::<LifetimePolicy>();
     }
 }
 // amqp: end of the impls

@@ -2,12 +2,13 @@
 
 use crate::delivery::{Accepted, Modified, Received, Rejected, Released};
 use crate::transactions::{Declared, TransactionalState};
+use crate::unknown::Unknown;
 
 /// The outcome of a delivery (AMQP 1.0 part 3, section 3.4).
 ///
 /// # Encoding
 /// The composite of the variant.
-// amqp: encoding = "described"
+// amqp: encoding = "described", others
 #[derive(Debug, PartialEq, Drop)]
 pub enum Outcome {
     /// The message was processed.
@@ -20,13 +21,15 @@ pub enum Outcome {
     Modified(Modified),
     /// The coordinator has begun a transaction.
     Declared(Declared),
+    /// A described value of another type, which is kept.
+    Other(Unknown),
 }
 
 /// The state of a delivery (AMQP 1.0 part 3, section 3.4).
 ///
 /// # Encoding
 /// The composite of the variant.
-// amqp: encoding = "described"
+// amqp: encoding = "described", others
 #[derive(Debug, PartialEq, Drop)]
 pub enum DeliveryState {
     /// How much of a message has been received.
@@ -43,11 +46,13 @@ pub enum DeliveryState {
     Declared(Declared),
     /// The state of a delivery in a transaction.
     TransactionalState(TransactionalState),
+    /// A described value of another type, which is kept.
+    Other(Unknown),
 }
 
 // amqp: the impls below are written by tools/derive from the annotations above
 use serde_amqp::derive::{
-    Alternatives, Deserialize, Deserializer, Either, Global, Never, Record, RoundTrip,
+    Alternatives, Deserialize, Deserializer, Either, Global, Record, RoundTrip,
     RoundTripAlternatives, Serialize, Serializer, laws, read_alternatives,
 };
 
@@ -57,14 +62,14 @@ impl Record for Outcome {
 
     type Values = Either<
         Accepted,
-        Either<Rejected, Either<Released, Either<Modified, Either<Declared, Never>>>>,
+        Either<Rejected, Either<Released, Either<Modified, Either<Declared, Unknown>>>>,
     >;
 
-    ghost parts = { λ x. elim x as (λ _. _) [ variant.Accepted v ↦ This v | variant.Rejected v ↦ Other (This v) | variant.Released v ↦ Other (Other (This v)) | variant.Modified v ↦ Other (Other (Other (This v))) | variant.Declared v ↦ Other (Other (Other (Other (This v)))) ] };
+    ghost parts = { λ x. elim x as (λ _. _) [ variant.Accepted v ↦ This v | variant.Rejected v ↦ Other (This v) | variant.Released v ↦ Other (Other (This v)) | variant.Modified v ↦ Other (Other (Other (This v))) | variant.Declared v ↦ Other (Other (Other (Other (This v)))) | variant.Other v ↦ Other (Other (Other (Other (Other v)))) ] };
 }
 
 impl Serialize for Outcome {
-    ghost tree = { λ x. ⟦<Either<Accepted, Either<Rejected, Either<Released, Either<Modified, Either<Declared, Never>>>>> as RoundTripAlternatives>⟧.trees (⟦<Outcome as Record>⟧.parts x) };
+    ghost tree = { λ x. ⟦<Either<Accepted, Either<Rejected, Either<Released, Either<Modified, Either<Declared, Unknown>>>>> as RoundTripAlternatives>⟧.trees (⟦<Outcome as Record>⟧.parts x) };
 
     fn serialize<S: Serializer>(&self, serializer: &mut S) -> Result<S::Ok, S::Error> {
         match self {
@@ -73,6 +78,7 @@ impl Serialize for Outcome {
             Outcome::Released(value) => value.serialize(serializer),
             Outcome::Modified(value) => value.serialize(serializer),
             Outcome::Declared(value) => value.serialize(serializer),
+            Outcome::Other(value) => value.serialize(serializer),
         }
     }
 }
@@ -81,13 +87,13 @@ impl Deserialize for Outcome {
     ghost use Rattle.amqp_ser.specs.Tree.{code, described};
     ghost use Rattle.amqp_de.specs.Composites.{OnAlternatives};
 
-    ghost reads = { λ t x. OnAlternatives ⟦<Either<Accepted, Either<Rejected, Either<Released, Either<Modified, Either<Declared, Never>>>>> as Alternatives>⟧.reads t (⟦<Outcome as Record>⟧.parts x) };
+    ghost reads = { λ t x. OnAlternatives ⟦<Either<Accepted, Either<Rejected, Either<Released, Either<Modified, Either<Declared, Unknown>>>>> as Alternatives>⟧.reads t (⟦<Outcome as Record>⟧.parts x) };
 
-    ghost image = { λ x. described (code (⟦<Either<Accepted, Either<Rejected, Either<Released, Either<Modified, Either<Declared, Never>>>>> as Alternatives>⟧.code_of (⟦<Outcome as Record>⟧.parts x))) (⟦<Either<Accepted, Either<Rejected, Either<Released, Either<Modified, Either<Declared, Never>>>>> as Alternatives>⟧.image (⟦<Outcome as Record>⟧.parts x)) };
+    ghost image = { λ x. described (code (⟦<Either<Accepted, Either<Rejected, Either<Released, Either<Modified, Either<Declared, Unknown>>>>> as Alternatives>⟧.code_of (⟦<Outcome as Record>⟧.parts x))) (⟦<Either<Accepted, Either<Rejected, Either<Released, Either<Modified, Either<Declared, Unknown>>>>> as Alternatives>⟧.image (⟦<Outcome as Record>⟧.parts x)) };
 
-    ghost restorable = { λ x. ⟦<Either<Accepted, Either<Rejected, Either<Released, Either<Modified, Either<Declared, Never>>>>> as Alternatives>⟧.restorable (⟦<Outcome as Record>⟧.parts x) };
+    ghost restorable = { λ x. ⟦<Either<Accepted, Either<Rejected, Either<Released, Either<Modified, Either<Declared, Unknown>>>>> as Alternatives>⟧.restorable (⟦<Outcome as Record>⟧.parts x) };
 
-    ghost same = { λ x y. ⟦<Either<Accepted, Either<Rejected, Either<Released, Either<Modified, Either<Declared, Never>>>>> as Alternatives>⟧.same (⟦<Outcome as Record>⟧.parts x) (⟦<Outcome as Record>⟧.parts y) };
+    ghost same = { λ x y. ⟦<Either<Accepted, Either<Rejected, Either<Released, Either<Modified, Either<Declared, Unknown>>>>> as Alternatives>⟧.same (⟦<Outcome as Record>⟧.parts x) (⟦<Outcome as Record>⟧.parts y) };
 
     fn deserialize<D: Deserializer>(alloc: Global, deserializer: D) -> Result<Outcome, D::Error> {
         match read_alternatives::<Outcome, D>(alloc, deserializer)? {
@@ -100,8 +106,9 @@ impl Deserialize for Outcome {
             Either::Other(Either::Other(Either::Other(Either::Other(Either::This(value))))) => Ok(
                 Outcome::Declared(value),
             ),
-            Either::Other(Either::Other(Either::Other(Either::Other(Either::Other(never))))) =>
-                match never {},
+            Either::Other(Either::Other(Either::Other(Either::Other(Either::Other(value))))) => Ok(
+                Outcome::Other(value),
+            ),
         }
     }
 }
@@ -124,17 +131,17 @@ impl Record for DeliveryState {
                 Rejected,
                 Either<
                     Released,
-                    Either<Modified, Either<Declared, Either<TransactionalState, Never>>>,
+                    Either<Modified, Either<Declared, Either<TransactionalState, Unknown>>>,
                 >,
             >,
         >,
     >;
 
-    ghost parts = { λ x. elim x as (λ _. _) [ variant.Received v ↦ This v | variant.Accepted v ↦ Other (This v) | variant.Rejected v ↦ Other (Other (This v)) | variant.Released v ↦ Other (Other (Other (This v))) | variant.Modified v ↦ Other (Other (Other (Other (This v)))) | variant.Declared v ↦ Other (Other (Other (Other (Other (This v))))) | variant.TransactionalState v ↦ Other (Other (Other (Other (Other (Other (This v)))))) ] };
+    ghost parts = { λ x. elim x as (λ _. _) [ variant.Received v ↦ This v | variant.Accepted v ↦ Other (This v) | variant.Rejected v ↦ Other (Other (This v)) | variant.Released v ↦ Other (Other (Other (This v))) | variant.Modified v ↦ Other (Other (Other (Other (This v)))) | variant.Declared v ↦ Other (Other (Other (Other (Other (This v))))) | variant.TransactionalState v ↦ Other (Other (Other (Other (Other (Other (This v)))))) | variant.Other v ↦ Other (Other (Other (Other (Other (Other (Other v)))))) ] };
 }
 
 impl Serialize for DeliveryState {
-    ghost tree = { λ x. ⟦<Either<Received, Either<Accepted, Either<Rejected, Either<Released, Either<Modified, Either<Declared, Either<TransactionalState, Never>>>>>>> as RoundTripAlternatives>⟧.trees (⟦<DeliveryState as Record>⟧.parts x) };
+    ghost tree = { λ x. ⟦<Either<Received, Either<Accepted, Either<Rejected, Either<Released, Either<Modified, Either<Declared, Either<TransactionalState, Unknown>>>>>>> as RoundTripAlternatives>⟧.trees (⟦<DeliveryState as Record>⟧.parts x) };
 
     fn serialize<S: Serializer>(&self, serializer: &mut S) -> Result<S::Ok, S::Error> {
         match self {
@@ -145,6 +152,7 @@ impl Serialize for DeliveryState {
             DeliveryState::Modified(value) => value.serialize(serializer),
             DeliveryState::Declared(value) => value.serialize(serializer),
             DeliveryState::TransactionalState(value) => value.serialize(serializer),
+            DeliveryState::Other(value) => value.serialize(serializer),
         }
     }
 }
@@ -153,13 +161,13 @@ impl Deserialize for DeliveryState {
     ghost use Rattle.amqp_ser.specs.Tree.{code, described};
     ghost use Rattle.amqp_de.specs.Composites.{OnAlternatives};
 
-    ghost reads = { λ t x. OnAlternatives ⟦<Either<Received, Either<Accepted, Either<Rejected, Either<Released, Either<Modified, Either<Declared, Either<TransactionalState, Never>>>>>>> as Alternatives>⟧.reads t (⟦<DeliveryState as Record>⟧.parts x) };
+    ghost reads = { λ t x. OnAlternatives ⟦<Either<Received, Either<Accepted, Either<Rejected, Either<Released, Either<Modified, Either<Declared, Either<TransactionalState, Unknown>>>>>>> as Alternatives>⟧.reads t (⟦<DeliveryState as Record>⟧.parts x) };
 
-    ghost image = { λ x. described (code (⟦<Either<Received, Either<Accepted, Either<Rejected, Either<Released, Either<Modified, Either<Declared, Either<TransactionalState, Never>>>>>>> as Alternatives>⟧.code_of (⟦<DeliveryState as Record>⟧.parts x))) (⟦<Either<Received, Either<Accepted, Either<Rejected, Either<Released, Either<Modified, Either<Declared, Either<TransactionalState, Never>>>>>>> as Alternatives>⟧.image (⟦<DeliveryState as Record>⟧.parts x)) };
+    ghost image = { λ x. described (code (⟦<Either<Received, Either<Accepted, Either<Rejected, Either<Released, Either<Modified, Either<Declared, Either<TransactionalState, Unknown>>>>>>> as Alternatives>⟧.code_of (⟦<DeliveryState as Record>⟧.parts x))) (⟦<Either<Received, Either<Accepted, Either<Rejected, Either<Released, Either<Modified, Either<Declared, Either<TransactionalState, Unknown>>>>>>> as Alternatives>⟧.image (⟦<DeliveryState as Record>⟧.parts x)) };
 
-    ghost restorable = { λ x. ⟦<Either<Received, Either<Accepted, Either<Rejected, Either<Released, Either<Modified, Either<Declared, Either<TransactionalState, Never>>>>>>> as Alternatives>⟧.restorable (⟦<DeliveryState as Record>⟧.parts x) };
+    ghost restorable = { λ x. ⟦<Either<Received, Either<Accepted, Either<Rejected, Either<Released, Either<Modified, Either<Declared, Either<TransactionalState, Unknown>>>>>>> as Alternatives>⟧.restorable (⟦<DeliveryState as Record>⟧.parts x) };
 
-    ghost same = { λ x y. ⟦<Either<Received, Either<Accepted, Either<Rejected, Either<Released, Either<Modified, Either<Declared, Either<TransactionalState, Never>>>>>>> as Alternatives>⟧.same (⟦<DeliveryState as Record>⟧.parts x) (⟦<DeliveryState as Record>⟧.parts y) };
+    ghost same = { λ x y. ⟦<Either<Received, Either<Accepted, Either<Rejected, Either<Released, Either<Modified, Either<Declared, Either<TransactionalState, Unknown>>>>>>> as Alternatives>⟧.same (⟦<DeliveryState as Record>⟧.parts x) (⟦<DeliveryState as Record>⟧.parts y) };
 
     fn deserialize<D: Deserializer>(
         alloc: Global,
@@ -186,10 +194,10 @@ impl Deserialize for DeliveryState {
             Either::Other(
                 Either::Other(
                     Either::Other(
-                        Either::Other(Either::Other(Either::Other(Either::Other(never)))),
+                        Either::Other(Either::Other(Either::Other(Either::Other(value)))),
                     ),
                 ),
-            ) => match never {},
+            ) => Ok(DeliveryState::Other(value)),
         }
     }
 }

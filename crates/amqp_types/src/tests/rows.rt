@@ -164,7 +164,7 @@ pub static ROWS: [Row; 55] = [
 /// A type, an encoding of a value of it in other forms, and its encoding.
 pub struct Rewritten(pub &'static str, pub &'static [u8], pub &'static [u8]);
 
-pub static REWRITTEN: [Rewritten; 36] = [
+pub static REWRITTEN: [Rewritten; 48] = [
     // the longest forms
     Rewritten(
         "Open",
@@ -276,12 +276,37 @@ pub static REWRITTEN: [Rewritten; 36] = [
         b"\x00S4\xc0\x04\x01\xa0\x01t",
         b"\x00S4\xc0\x04\x01\xa0\x01t",
     ),
+    // a type that is none of them
+    Rewritten("Outcome", b"\x00S#\xc0\x03\x02CD", b"\x00S#\xc0\x03\x02CD"),
+    Rewritten(
+        "DeliveryState",
+        b"\x00\xa3\x03x:y\xc0\x03\x01R\x01",
+        b"\x00\xa3\x03x:y\xc0\x03\x01R\x01",
+    ),
+    Rewritten("DeliveryState", b"\x00S(@", b"\x00S(@"),
+    Rewritten("Section", b"\x00Su\xa0\x01d", b"\x00Su\xa0\x01d"),
+    Rewritten("Section", b"\x00\xa3\x11amqp:amqp-value:*@", b"\x00Sw@"),
+    Rewritten("Section", b"\x00SyA", b"\x00SyA"),
+    Rewritten("Performative", b"\x00S\x17E", b"\x00S\x17E"),
+    Rewritten("Performative", b"\x00S\x19E", b"\x00S\x19E"),
+    Rewritten(
+        "Performative",
+        b"\x00\x80\x00\x00\x00\x01\x00\x00\x00\x10E",
+        b"\x00\x80\x00\x00\x00\x01\x00\x00\x00\x10E",
+    ),
+    Rewritten(
+        "SaslFrame",
+        b"\x00SD\xc0\x03\x01P\x00",
+        b"\x00SD\xc0\x03\x01P\x00",
+    ),
+    Rewritten("SaslFrame", b"\x00SEE", b"\x00SEE"),
+    Rewritten("LifetimePolicy", b"\x00S,E", b"\x00S,E"),
     Rewritten("AnyTarget", b"\x00S)E", b"\x00S)E"),
     Rewritten("AnyTarget", b"\x00S0E", b"\x00S0E"),
 ];
 
 /// Encodings of other values, which are refused.
-pub static REFUSED: [Row; 54] = [
+pub static REFUSED: [Row; 58] = [
     // a mandatory field is absent
     Row("Open", b"\x00S\x10E"),
     // or null
@@ -321,6 +346,10 @@ pub static REFUSED: [Row; 54] = [
     Row("Accepted", b"\x00S%E"),
     Row("Accepted", b"E"),
     Row("AnyTarget", b"\x00S(E"),
+    Row("LifetimePolicy", b"\x00S/E"),
+    Row("Outcome", b"E"),
+    Row("Performative", b"\x00S\x10E"),
+    Row("Section", b"\x00Sp@"),
     // a body of another kind
     Row("Open", b"\x00S\x10\xc1\x07\x02\xa1\x01x\xa1\x01c"),
     // another value than the choices
