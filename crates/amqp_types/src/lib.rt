@@ -16,6 +16,7 @@ mod disposition;
 mod endings;
 mod error;
 mod flow;
+pub mod frame;
 mod header;
 mod identifiers;
 mod lifetime;

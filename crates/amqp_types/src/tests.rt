@@ -1,5 +1,6 @@
 //! Rows of encodings: read as their types, written again, and refused.
 
+mod frames;
 mod kinds;
 mod rows;
 
