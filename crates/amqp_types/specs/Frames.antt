@@ -13,8 +13,8 @@ header_bytes size offset kind channel = to_be_bytes w32 size ++ offset ∷ kind 
 
 -- The bytes begin with a header whose size and data offset satisfy `P`.
 abbrev pub Begins : (ℕ → ℕ → Type 0) → List ℕ → Type 0
-Begins P s = (size offset kind channel : ℕ) (rest : List ℕ)
-  × (s ≡ header_bytes size offset kind channel ++ rest) × P size offset
+Begins P s = (size offset kind channel : ℕ) × (rest : List ℕ)
+    × (s ≡ header_bytes size offset kind channel ++ rest) × P size offset
 
 -- A frame of this size and data offset has an extended header and a body of these lengths.
 abbrev pub HasLengths : ℕ → ℕ → ℕ → ℕ → Type 0
@@ -37,4 +37,4 @@ RefusesFrame limit s e = Begins (λ size offset. RefusesHeader limit size offset
 abbrev pub IsFrameWith : ℕ → ℕ → ℕ → Option Tree → List ℕ → List ℕ → Type 0
 IsFrameWith limit kind channel None payload s = ⊥
 IsFrameWith limit kind channel (Some t) payload s =
-  (s ≡ header_bytes (length s) 2 kind channel ++ encoding t ++ payload) × (length s ≤ limit)
+    (s ≡ header_bytes (length s) 2 kind channel ++ encoding t ++ payload) × (length s ≤ limit)

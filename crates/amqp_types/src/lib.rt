@@ -7,7 +7,8 @@
 //! that show what is in encoded values.
 #![tactic(auto)]
 
-mod body;
+mod annotations;
+mod bodies;
 mod conditions;
 mod connection;
 mod coordinator;
@@ -21,6 +22,7 @@ mod header;
 mod identifiers;
 mod lifetime;
 mod link;
+pub mod message;
 mod modes;
 pub mod names;
 mod performative;
@@ -28,7 +30,6 @@ mod properties;
 mod sasl;
 mod sasl_outcome;
 mod section;
-mod sections;
 mod session;
 mod source;
 mod states;
@@ -40,7 +41,8 @@ mod transactions;
 mod transfer;
 mod unknown;
 
-pub use body::{AmqpSequence, AmqpValue, Data};
+pub use annotations::{ApplicationProperties, DeliveryAnnotations, Footer, MessageAnnotations};
+pub use bodies::{AmqpSequence, AmqpValue, Data};
 pub use conditions::{
     AmqpCondition, ConnectionCondition, LinkCondition, SessionCondition, TransactionCondition,
 };
@@ -57,13 +59,13 @@ pub use lifetime::{
     DeleteOnClose, DeleteOnNoLinks, DeleteOnNoLinksOrMessages, DeleteOnNoMessages, LifetimePolicy,
 };
 pub use link::Attach;
+pub use message::{Body, LazyMessage, Message, MessageError};
 pub use modes::{ReceiverSettleMode, Role, SenderSettleMode};
 pub use performative::{Performative, SaslFrame};
 pub use properties::Properties;
 pub use sasl::{SaslChallenge, SaslInit, SaslMechanisms, SaslResponse};
 pub use sasl_outcome::{SaslCode, SaslOutcome};
 pub use section::Section;
-pub use sections::{ApplicationProperties, DeliveryAnnotations, Footer, MessageAnnotations};
 pub use session::Begin;
 pub use source::Source;
 pub use states::{DeliveryState, Outcome};

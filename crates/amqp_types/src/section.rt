@@ -1,9 +1,9 @@
 //! A section of a message, one of several types.
 
-use crate::body::{AmqpSequence, AmqpValue, Data};
+use crate::annotations::{ApplicationProperties, DeliveryAnnotations, Footer, MessageAnnotations};
+use crate::bodies::{AmqpSequence, AmqpValue, Data};
 use crate::header::Header;
 use crate::properties::Properties;
-use crate::sections::{ApplicationProperties, DeliveryAnnotations, Footer, MessageAnnotations};
 use crate::unknown::Unknown;
 
 /// A section of a message (AMQP 1.0 part 3, section 3.2).

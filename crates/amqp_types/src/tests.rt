@@ -2,6 +2,7 @@
 
 mod frames;
 mod kinds;
+mod messages;
 mod rows;
 
 use crate::{

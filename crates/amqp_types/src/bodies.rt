@@ -1,4 +1,4 @@
-//! The body of a message.
+//! The sections of the body of a message.
 
 use serde_amqp::Value;
 use serde_amqp::primitives::ByteBuf;
