@@ -32,9 +32,19 @@ abbrev pub RefusesFrame : ℕ → List ℕ → FrameError → Type 0
 RefusesFrame limit s error.Incomplete = (length s < 8) ⊎ Begins (λ size _. length s < size) s
 RefusesFrame limit s e = Begins (λ size offset. RefusesHeader limit size offset e) s
 
--- The bytes are a frame of at most `limit` bytes with this type and channel, without an extended
--- header, whose body is the encoding of the tree and then the payload.
+-- The size of a frame without an extended header, with a performative and a payload of these lengths.
+abbrev pub frame_size : ℕ → ℕ → ℕ
+frame_size performative payload = 8 + (performative + payload)
+
+-- The bytes are a frame with this header, whose body is the encoding of the tree and the payload.
+abbrev pub IsFrameOf : ℕ → ℕ → ℕ → Option Tree → List ℕ → List ℕ → Type 0
+IsFrameOf size kind channel None payload s = ⊥
+IsFrameOf size kind channel (Some t) payload s =
+    s ≡ header_bytes size 2 kind channel ++ encoding t ++ payload
+
+-- The bytes are such a frame of the right size, which is at most `limit`.
 abbrev pub IsFrameWith : ℕ → ℕ → ℕ → Option Tree → List ℕ → List ℕ → Type 0
 IsFrameWith limit kind channel None payload s = ⊥
 IsFrameWith limit kind channel (Some t) payload s =
-    (s ≡ header_bytes (length s) 2 kind channel ++ encoding t ++ payload) × (length s ≤ limit)
+    IsFrameOf (frame_size (length (encoding t)) (length payload)) kind channel (Some t) payload s
+    × (frame_size (length (encoding t)) (length payload) ≤ limit)

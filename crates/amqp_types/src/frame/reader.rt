@@ -1,9 +1,5 @@
 //! Takes frames off a reader.
 
-ghost use Rattle.std.specs.Prelude.{◌≡◌, ◌≤◌, ◌++◌, ◌+◌, IfOk, IfErr, OnOk, length};
-ghost use Rattle.std.specs.Io.KnownBytes.{Consumes};
-ghost use Rattle.amqp_frame.specs.Reader.{Takes};
-
 use crate::frame::error::FrameError;
 use crate::frame::header::FrameHeader;
 use serde_amqp::Error;
@@ -50,15 +46,22 @@ pub fn read_frame<R: Read>(
 
 // Appends the next `len` bytes.
 fn take<R: Read>(reader: &mut R, frame: &mut Vec<u8>, len: usize) -> Result<(), FrameError> {
-    let mut left = len;
     let mut piece = [0; PIECE];
-    while left > 0 {
-        let count = left.min(PIECE);
-        fill(reader, &mut piece[..count])?;
-        if frame.extend_from_slice(&piece[..count]).is_err() {
-            return Err(FrameError::Value(Error::OutOfMemory));
-        }
-        left -= count;
+    for _ in 0..len / PIECE {
+        append(reader, frame, &mut piece)?;
+    }
+    append(reader, frame, &mut piece[..len % PIECE])
+}
+
+// Appends the bytes that fill the buffer.
+fn append<R: Read>(
+    reader: &mut R,
+    frame: &mut Vec<u8>,
+    buffer: &mut [u8],
+) -> Result<(), FrameError> {
+    fill(reader, buffer)?;
+    if frame.extend_from_slice(buffer).is_err() {
+        return Err(FrameError::Value(Error::OutOfMemory));
     }
     Ok(())
 }
