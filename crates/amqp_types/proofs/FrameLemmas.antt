@@ -1,6 +1,6 @@
 -- Frames that are written: their bytes and their size (AMQP 1.0 part 2, section 2.3.1).
-use Rattle.std.specs.Prelude.{◌≡◌, ◌≤◌, ◌++◌, ℕ, List, Option, Some, None, Ok, length, subst, sym}
-use Rattle.amqp_data.specs.declared.error.Error.{Error}
+use Rattle.std.specs.Prelude.{◌≡◌, ◌≤◌, ◌++◌, ℕ, List, Option, Some, None, Ok, length}
+use Rattle.std.proofs.Common.{subst}
 use Rattle.amqp_ser.specs.SizeAndBytes.{AreBytesOf, IsSizeOf}
 use Rattle.amqp_ser.specs.Tree.{Tree}
 use Rattle.amqp_types.specs.Frames.{header_bytes, frame_size, IsFrameOf, IsFrameWith}
@@ -20,4 +20,4 @@ pub frame_of_size : (o : Option Tree) (n size kind channel limit : ℕ) (payload
 frame_of_size None n size kind channel limit payload s h e l f = h
 frame_of_size (Some t) n size kind channel limit payload s h e l f =
     subst (λ m. IsFrameOf m kind channel (Some t) payload s × (m ≤ limit))
-        (subst (λ k. size ≡ frame_size k (length payload)) h.1 e) (f , l)
+    (subst (λ k. size ≡ frame_size k (length payload)) h.1 e) (f, l)

@@ -10,7 +10,12 @@ abbrev pub TakesSection : {T : Type 0} → (Tree → T → Type 0) → List ℕ 
 TakesSection R s rest None = rest ≡ s
 TakesSection R s rest (Some x) = (taken : List ℕ) × (s ≡ taken ++ rest) × ReadsSpelled R taken x
 
--- The bytes are these with a section after them, if there is one with a tree.
+-- The bytes are these with the encoding of the tree after them.
+abbrev pub PutsTree : Option Tree → List ℕ → List ℕ → Type 0
+PutsTree None s all = ⊥
+PutsTree (Some t) s all = all ≡ s ++ encoding t
+
+-- The bytes are these with a section after them, if there is one.
 abbrev pub PutsSection : {T : Type 0} → (T → Option Tree) → List ℕ → List ℕ → Option T → Type 0
 PutsSection f s all None = all ≡ s
-PutsSection f s all (Some x) = (t : Tree) × (f x ≡ Some t) × (all ≡ s ++ encoding t)
+PutsSection f s all (Some x) = PutsTree (f x) s all

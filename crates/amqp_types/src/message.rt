@@ -9,7 +9,7 @@ mod whole;
 mod write;
 
 pub use content::Body;
-pub use encoded::{EncodedSection, SectionKind, Sections, sections};
+pub use encoded::{EncodedSection, EncodedSections, SectionKind, sections};
 pub use error::MessageError;
 pub use lazy::LazyMessage;
 pub use whole::Message;

@@ -62,7 +62,7 @@ pub struct EncodedSection<'a> {
 
 /// The encoded sections of a message, one after another.
 #[derive(Debug, Drop)]
-pub struct Sections<'a> {
+pub struct EncodedSections<'a> {
     rest: &'a [u8],
     last: Option<SectionKind>,
 }
@@ -74,14 +74,14 @@ pub struct Sections<'a> {
 ///
 /// # Example
 /// `005370450053774000` gives the header `00537045`, the value `00537740`, and `Malformed`.
-pub fn sections(bytes: &[u8]) -> Sections<'_> {
-    Sections {
+pub fn sections(bytes: &[u8]) -> EncodedSections<'_> {
+    EncodedSections {
         rest: bytes,
         last: None,
     }
 }
 
-impl<'a> Sections<'a> {
+impl<'a> EncodedSections<'a> {
     /// Returns the next section, or `None` at the end of the bytes.
     ///
     /// # Errors

@@ -8,6 +8,7 @@ use serde_amqp::{Error, to_vec};
 use std::alloc::Global;
 
 /// Appends a section, if there is one.
+#[tactic(auto, using(crate::proofs::MessageLemmas::put_tree))]
 pub(crate) fn put<T: Serialize>(
     alloc: Global,
     out: &mut Vec<u8>,
