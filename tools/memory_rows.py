@@ -26,7 +26,7 @@ from pathlib import Path
 ROOT = Path(__file__).resolve().parent.parent / "crates"
 REFUSED = "<out of memory>"
 # Of the table of headers of each `Value` that is written, also inside a typed value: one for 4 headers, and one whenever it grows.
-HEADERS = 160
+HEADERS = 165
 # For each of the three calls of a row of `read` that read in one pass: 15 of the untyped value with arrays, a map and texts, 7 of the box
 # of boxes, 3 of the two texts, 2 each of three others with two blocks, and 1 each of nine.
 ONE_PASS = 3 * (15 + 7 + 3 + 3 * 2 + 9)
