@@ -2,9 +2,10 @@
 //!
 //! `tools/memory` runs the part `calls` once for each of its allocations, with that allocation
 //! failing. The call that allocates must return `OutOfMemory`, and the program must end with status
-//! 1, unless the failed call is repeated. Any other result is visible as different output. The
-//! first argument selects one part: `calls`, `lengths`, `large`, `none`, whose calls do not
-//! allocate, or `inserted`, whose last calls do not.
+//! 1, unless the failed call is repeated or the result is reached in another way: `from_slice` reads
+//! a type from an untyped value if its one pass fails. Any other result is visible as different
+//! output. The first argument selects one part: `calls`, `lengths`, `large`, `none`, whose calls do
+//! not allocate, or `inserted`, whose last calls do not.
 //!
 //! The file `rows` has more calls that allocate: rows of the program `test_rows`, which
 //! `tools/memory` runs once for each of their allocations too. Those of `optional_rows` make calls
