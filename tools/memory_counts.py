@@ -2,16 +2,16 @@
 
     python3 tools/memory_counts.py SHIM [--write]    SHIM is tools/refuse_alloc.c, compiled
 
-A line of tools/memory_counts.txt has the number of requests for memory, the bytes that they ask for in all, and the line of the
-part `calls` of tool_memory, or the row of crates/tool_memory/rows or optional_rows, that makes them. A line or a row that makes
-more requests, or asks for more bytes, fails, as does one that the file does not have. Less passes: --write notes it, and what
-is new. A row is run alone, and what the program takes without it is subtracted.
+A line of tools/memory_counts.txt has the number of requests for memory, the bytes that they ask for in all, and what makes them:
+a line of the part `calls` or `large` of tool_memory, or a row of crates/tool_memory/rows or optional_rows. A line or a row that
+makes more requests, or asks for more bytes, fails, as does one that the file does not have. Less passes: --write notes it, and
+what is new. A row is run alone, and what the program takes without it is subtracted.
 
 Each line and each row must free what it took.
 
-The rows of `GROWTH` are run with 1,000 and with 16,000 parts. Each call of a row may then make `STEPS` requests more: a block
-that grows by doubling grows four times more. A call that keeps a block for a few parts each, as a `BTreeMap` does, may make a
-fifth of a request more for each part.
+The calls of the part `large` are those of `calls` with about a mebibyte. The rows of `GROWTH` are run with 1,000 and with 16,000
+parts. Each call of a row may then make `STEPS` requests more: a block that grows by doubling grows four times more. A call that
+keeps a block for a few parts each, as a `BTreeMap` does, may make a fifth of a request more for each part.
 """
 
 import os
@@ -97,11 +97,13 @@ def of_row(row):
 
 def taken():
     """What each line and each row takes."""
-    lines, ends = run("tool_memory", "", "calls")
-    found, before = {}, (0, 0, 0)
-    for line, end in zip(lines, ends):
-        found[line] = tuple(now - then for now, then in zip(end, before))
-        before = end
+    found = {}
+    for part in ("calls", "large"):
+        lines, ends = run("tool_memory", "", part)
+        before = (0, 0, 0)
+        for line, end in zip(lines, ends):
+            found[line] = tuple(now - then for now, then in zip(end, before))
+            before = end
     for name in ("rows", "optional_rows"):
         for row in (ROOT / "crates/tool_memory" / name).read_text().splitlines():
             found[row] = of_row(row)
