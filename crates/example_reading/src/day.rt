@@ -5,10 +5,8 @@
 //! after two moved ones.
 
 use amqp_data::{Symbol, SymbolRef};
-use amqp_de::de::{Deserialize, Deserializer, GaveUp};
-use amqp_de::{
-    FieldValues, ListSeed, Record, named, read, read_described, read_described_encoded, values,
-};
+use amqp_de::de::{Deserialize, Deserializer};
+use amqp_de::{FieldValues, ListSeed, Record, named, read, read_described, values};
 use amqp_ser::{ListOf, Serialize, SerializeCompounds, Serializer, fields};
 use std::alloc::Global;
 use std::collections::BTreeMap;
@@ -140,24 +138,6 @@ impl Deserialize for Rain {
             alloc,
             deserializer,
             &"station:rain:list",
-            ListSeed(named! { "amount", "time" }),
-        )?;
-        Ok(Rain { amount, time })
-    }
-
-    fn read_encoded(
-        alloc: Global,
-        code: u8,
-        input: &mut &[u8],
-        depth: u16,
-    ) -> Result<Rain, GaveUp> {
-        let descriptor = "station:rain:list";
-        let values! { amount, time } = read_described_encoded::<Rain, _, _>(
-            alloc,
-            code,
-            input,
-            depth,
-            &descriptor,
             ListSeed(named! { "amount", "time" }),
         )?;
         Ok(Rain { amount, time })
