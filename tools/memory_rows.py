@@ -25,7 +25,7 @@ from pathlib import Path
 ROOT = Path(__file__).resolve().parent.parent / "crates"
 REFUSED = "<out of memory>"
 # Of the table of headers of each `Value` that is written, also inside a typed value: one for 4 headers, and one whenever it grows.
-HEADERS = 158
+HEADERS = 160
 # Two for the hashes of each of two maps that are decoded. For each of the four calls of the rows of `read`: two for the hashes of each
 # of two maps, decoded or made by `to_value`; two for an index; one for each of two lists. And 14 of tables of headers.
 OPTIONAL = 50
