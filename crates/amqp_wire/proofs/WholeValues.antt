@@ -87,8 +87,8 @@ whole_listed s after t n k same h =
     let all = h.1.1.1.1 in (
       (headers_of t, all.0),
       (
-        subst (λ w. AtPosition (position_of u) (meant u (Some t)) (Ok n) w) (sym same) (whole_at u t n k (h.0, (h.1.0, (h.1.1.0, h.1.1.1.0)))),
-        subst (λ o. listed o s.table.headers.items after.table.headers.items) (sym (meant_plain u (Some t) k)) (all.0, dense_untyped t all.1 h.1.0),
+        subst (λ w. AtPosition (position_of u) (meant u (Some t)) (Ok n) w) (sym same) (whole_at u t n k (h.0, (h.1.0, (h.1.1.0, h.1.1.1.0))) all.1.1),
+        subst (λ o. listed o s.table.headers.items after.table.headers.items) (sym (meant_plain u (Some t) k)) (all.0, dense_untyped t all.1.0 h.1.0),
       ),
     )
 
