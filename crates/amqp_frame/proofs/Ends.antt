@@ -61,8 +61,7 @@ limit-in-payload (Some s) (Some x) c taken code n limit o pos room ok t (more, u
     let k = limit - (length taken + 1) in
     let all : s ≡ taken ++ (code ∷ x) = t ∙ append_assoc taken (code ∷ []) x in
     let first : take limit s ≡ taken ++ (code ∷ take k x) = ap (take limit) all ∙ take-behind taken code limit x room in
-    let short : length (take k x) < payload_len (category code) (take k x) = short-within (category code) k x (omega arith) in
-    (
+    let short : length (take k x) < payload_len (category code) (take k x) = short-within (category code) k x (omega arith) in (
       (taken ++ code ∷ []) ++ more,
       Consumes-trans (Some s) (Some x) c (taken ++ code ∷ []) more t u,
       omega (arith, length-append (taken ++ code ∷ []) more, length-append taken (code ∷ [])),

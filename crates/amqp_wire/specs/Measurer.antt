@@ -6,7 +6,6 @@ use Rattle.amqp_pass.specs.declared.size_error.SizeError.TheVariants.{OutOfMemor
 use Rattle.amqp_ser.specs.Tree.{Tree, Trees, count}
 use Rattle.amqp_ser.specs.Compounds.{all_trees, paired}
 use Rattle.amqp_ser.specs.Encoding.{encoding}
-use Rattle.amqp_ser.specs.Ranged.{IsRanged}
 use Rattle.amqp_ser.specs.Untyped.{IsUntyped}
 use Rattle.amqp_ser.specs.Writable.{within_limits, uniform_arrays, inside}
 use Rattle.amqp_ser.specs.declared.kind.CompoundKind.{CompoundKind}
@@ -95,6 +94,6 @@ answered compound part (Err e) = (e ≡ OutOfMemory) ⊎ (part ≡ Err e)
 pub no_length_of_none : (s : Measurer) (n : ℕ) (after : Measurer) → MeasurerPermits s None (Ok n) after → ⊥
 no_length_of_none s n after h = no_count_on_none s.size n after.size h.1.0
 
--- A whole tree is measured, and its headers are appended. It is in range.
+-- A whole tree is measured, and its headers are appended.
 abbrev pub AddsWhole : Tree → ℕ → List Header → List Header → Type 0
-AddsWhole t n b a = (within_limits t ≡ true) × ((uniform_arrays t ≡ true) × ((inside t ≡ true) × ((n ≡ length (encoding t)) × ((a ≡ b ++ headers_of t) × (IsUntyped t × IsRanged t)))))
+AddsWhole t n b a = (within_limits t ≡ true) × ((uniform_arrays t ≡ true) × ((inside t ≡ true) × ((n ≡ length (encoding t)) × ((a ≡ b ++ headers_of t) × IsUntyped t))))

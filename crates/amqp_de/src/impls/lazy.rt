@@ -28,7 +28,7 @@ impl Deserialize for LazyValue {
 
     ghost same = { λ x y. x ≡ y };
 
-    #[tactic(auto, using(amqp_wire::proofs::LazyRoot::refused_writable, amqp_value::proofs::SoundLemmas::never_transparent))]
+    #[tactic(auto, using(crate::proofs::LazyRefused::unreadable))]
     fn deserialize<D: Deserializer>(alloc: Global, deserializer: D) -> Result<LazyValue, D::Error> {
         match to_lazy_value(alloc, &deserializer.into_value()) {
             Ok(lazy) => Ok(lazy),
