@@ -27,14 +27,19 @@ pub(crate) fn read_scalar(value: &Value)
         Value::Float(v) => read(v.into_inner()),
         Value::Double(v) => read(v.into_inner()),
         Value::Timestamp(v) => read(v.milliseconds()),
-        Value::Decimal32(v) => read(v.into_inner()),
-        Value::Decimal64(v) => read(v.into_inner()),
-        Value::Decimal128(v) => read(v.into_inner()),
-        Value::Uuid(v) => read(v.into_inner()),
+        Value::Decimal32(v) => read_bytes(v.as_inner()),
+        Value::Decimal64(v) => read_bytes(v.as_inner()),
+        Value::Decimal128(v) => read_bytes(v.as_inner()),
+        Value::Uuid(v) => read_bytes(v.as_inner()),
         Value::Binary(v) => read_bytes(v.as_inner()),
         Value::String(v) => read_text(v),
         Value::Symbol(v) => read_text(v.as_inner()),
-        _ => {}
+        Value::Null => {}
+        Value::Bool(_) => {}
+        Value::Described(_) => {}
+        Value::List(_) => {}
+        Value::Map(_) => {}
+        Value::Array(_) => {}
     }
 }
 
