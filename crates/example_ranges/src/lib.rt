@@ -4,7 +4,6 @@
 
 ghost use Rattle.std.specs.Prelude.{◌≡◌, ◌≤◌, MatchResult, true};
 ghost use Rattle.serde_amqp.specs.Depth.{depth_of};
-ghost use Rattle.serde_amqp.specs.Error.TheVariants.{OutOfMemory};
 ghost use Rattle.serde_amqp.specs.Sound.{IsSound};
 ghost use Rattle.serde_amqp.specs.TreeOf.{tree_of};
 ghost use Rattle.serde_amqp.specs.Writable.{writable};
@@ -23,7 +22,7 @@ use std::alloc::Global;
 pub fn encode_and_decode(alloc: Global, value: &Value) -> Result<Value, Error>
     ensures { IsSound value.now → writable (tree_of value.now) ≡ true →
         depth_of (tree_of value.now) ≤ 256 →
-        MatchResult result (λ w. tree_of w ≡ tree_of value.now) (λ e. e ≡ OutOfMemory) }
+        MatchResult result (λ w. tree_of w ≡ tree_of value.now) (λ e. e ≡ Error.OutOfMemory) }
 {
     laws::sound_values_return_from_lazy_values();
     match to_lazy_value(alloc, value) {
