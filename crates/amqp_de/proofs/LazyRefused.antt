@@ -16,11 +16,11 @@ unread : (e : Error) (v : Value) (t : Tree) (bs : List ℕ) → (e ≡ OutOfMemo
 unread e v t bs other is h r =
     other (refused_writable (tree_of v) e (never_transparent v) (subst (λ u. writable u ≡ true) (sym is) r.0) h)
 
-pub unreadable : {E : Type 0} (memory : E → Type 0) (x : E) (e : Error) (v : Value) (t : Tree) → (memory x ↔ (e ≡ OutOfMemory)) → tree_of v ≡ t → IsLazyOf (Some (tree_of v)) (Err e) → memory x ⊎ ((bs : List ℕ) → ¬ ReadsLazy t bs)
-unreadable memory x OutOfMemory v t m is h = inl (m.1 refl)
-unreadable memory x TooLong v t m is h = inr (λ bs. unread TooLong v t bs (λ k. cc) is h)
-unreadable memory x InvalidValue v t m is h = inr (λ bs. unread InvalidValue v t bs (λ k. cc) is h)
-unreadable memory x InvalidFormatCode v t m is h = absurd h
-unreadable memory x UnexpectedEof v t m is h = absurd h
-unreadable memory x Io v t m is h = absurd h
-unreadable memory x (Message words) v t m is h = absurd h
+pub unreadable : {M : Type 0} (e : Error) (v : Value) (t : Tree) → (M ↔ (e ≡ OutOfMemory)) → tree_of v ≡ t → IsLazyOf (Some (tree_of v)) (Err e) → M ⊎ ((bs : List ℕ) → ¬ ReadsLazy t bs)
+unreadable OutOfMemory v t m is h = inl (m.1 refl)
+unreadable TooLong v t m is h = inr (λ bs. unread TooLong v t bs (λ k. cc) is h)
+unreadable InvalidValue v t m is h = inr (λ bs. unread InvalidValue v t bs (λ k. cc) is h)
+unreadable InvalidFormatCode v t m is h = absurd h
+unreadable UnexpectedEof v t m is h = absurd h
+unreadable Io v t m is h = absurd h
+unreadable (Message words) v t m is h = absurd h
