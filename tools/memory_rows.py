@@ -54,17 +54,17 @@ def rows_of(name):
 
 
 def results_of(line):
-    """The row of a line, and its results: more than one for a row of `read` whose calls have different ones."""
+    """The row of a line, and its results: more than one for a row of `read` or `read_within` whose calls have different ones."""
     row, _, result = line.partition(" = ")
     first, _, others = result.partition(", but ")
-    more = others.removeprefix("from_slice ").split(" and ") if others else []
+    more = others.removeprefix("from_slice ").removeprefix("from_reader_limited ").split(" and ") if others else []
     return row, [first, *more]
 
 
 def is_refused(line, full):
     """Whether the line is the full one with out of memory in place of its result or of a part of it.
 
-    Of a row of `read`, one of the calls may have such a result, and the others the full one.
+    Of a row of `read` or `read_within`, one of the calls may have such a result, and the others the full one.
     """
     (row, results), (wanted, (expected, *_)) = results_of(line), results_of(full)
     refused = 0
