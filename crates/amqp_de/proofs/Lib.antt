@@ -11,3 +11,4 @@ pub mod Chunks
 pub mod FieldLemmas
 pub mod OtherCodes
 pub mod MultipleRefused
+pub mod LazyRefused

@@ -23,13 +23,14 @@
 //! | optional rows of decode and read | `finds_distinct_keys`, `merge_repeated_keys`, `OrderedMapBuilder::new`, `OrderedMapBuilder::with_index`, `OrderedMapBuilder::insert` |
 //! | rows of whole in test_rows, no allocation of which fails | `Whole::whole_bytes`, `Value::whole_bytes` |
 //! | frames, rows of lazy and hold | `LazyValue::from_reader`, `to_lazy_value` |
+//! | rows of cut_within | `LazyValue::from_reader_limited` |
 //! | frames | `LazyValue::try_into_vec` |
 //! | conversions | `Value::try_from_str`, `Value::try_from_described`, `Value::try_from_array`, `Value::try_from_vec` |
 //! | the same | `Value::try_from_btree_map`, `Value::try_from_ordered_map`, `Vec::try_from`, `Array::try_from` |
 //! | the same | `OrderedMap::try_from`, `BTreeMap::try_from`, `HashMap::try_from`, `IndexMap::try_from` |
 //! | the same | `TryFromSerializable::try_from_serializable` |
 //! | rows of decode and decode_within | `decode_value`, `decode_value_limited`, `decode_value_to_depth` |
-//! | rows of read_within | `from_slice_limited` |
+//! | rows of read_within | `from_slice_limited`, `from_reader_limited` |
 //! | rows of decode and read | `MapBuilder::new`, `MapBuilder::with_capacity`, `MapBuilder::into_value` |
 //! | rows of read | `from_value`, `from_slice`, `from_reader`, `ReadLazy::read`, `Deserializer::new` |
 //! | the same | `Deserialize::read_encoded`, `Deserialize::read_list`, `Deserialize::read_array`, `read_string`, `read_symbol`, `read_binary` |
