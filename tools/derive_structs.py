@@ -1,7 +1,7 @@
 """The impls of annotated structs: lists, maps and single values, with or without a descriptor."""
 
 from derive_terms import (
-    chain, field_rows, field_trees, fields_type, ghosts, list_of, member, named, reads_fields, take, tree_of, uses)
+    chain, field_rows, field_trees, fields_type, ghosts, list_of, member, named, read_encoded, reads_fields, take, tree_of, uses)
 
 
 def serialize(t):
@@ -130,7 +130,19 @@ def deserialize(t):
     call = "read_fields_map" if call == "read_map" else call
     said = f'{t.code}u64, ' if t.code else f'"{t.symbol}", ' if t.symbol else ""
     out += f"    fn deserialize<D: Deserializer>(alloc: Global, deserializer: D) -> Result<{t.name}, D::Error> {{\n"
-    return out + build(t, f"{call}::<{t.name}, D, _>(alloc, deserializer, {said}{seed(t)})?") + "    }\n}\n"
+    out += build(t, f"{call}::<{t.name}, D, _>(alloc, deserializer, {said}{seed(t)})?") + "    }\n"
+    return out + ("" if t.encoding == "map" else read_bytes(t)) + "}\n"
+
+
+def read_bytes(t):
+    """The method that reads a list or a single value from its bytes."""
+    call, said = "read_parts_encoded", ""
+    if t.code:
+        call, said = "read_composite_encoded", f"{t.code}, "
+    elif t.symbol:
+        call, said = "read_described_encoded", f'&"{t.symbol}", '
+    types = f"{t.name}, _, _" if t.symbol and not t.code else f"{t.name}, _"
+    return read_encoded(t.name, f"        let seed = {seed(t)};\n" + build(t, f"{call}::<{types}>(alloc, code, input, depth, {said}seed)?"))
 
 
 def round_trip(t):
@@ -178,7 +190,9 @@ def newtype(t):
             "restorable": f'λ x. {of("restorable")} {x}', "same": f'λ x y. {of("same")} {x} {y}'}) +
             f"    fn deserialize<D: Deserializer>(alloc: Global, deserializer: D) -> Result<{n}, D::Error> {{\n"
             f"        match <{f.type} as Deserialize>::deserialize(alloc, deserializer) {{\n"
-            f"            Ok(value) => Ok({made}),\n            Err(error) => Err(error),\n        }}\n    }}\n}}\n")
+            f"            Ok(value) => Ok({made}),\n            Err(error) => Err(error),\n        }}\n    }}\n" +
+            read_encoded(n, f"        match <{f.type} as Deserialize>::read_encoded(alloc, code, input, depth) {{\n"
+                         f"            Ok(value) => Ok({made}),\n            Err(error) => Err(error),\n        }}\n") + "}\n")
     if t.round_trips:
         out.append(f"impl RoundTrip for {n} {{\n    fn law() {{\n        <{f.type} as RoundTrip>::law();\n    }}\n}}\n")
     if "map_key" in t.flags:

@@ -31,9 +31,10 @@ pub struct Report {
 
 // amqp: the impls below are written by tools/derive from the annotations above
 use serde_amqp::derive::{
-    Composite, Deserialize, DeserializeSeed, Deserializer, FieldSeeds, FieldValues, Global, ListOf,
-    ListSeed, Optional, Record, Required, RoundTrip, RoundTripComposite, Serialize,
+    Composite, Deserialize, DeserializeSeed, Deserializer, FieldSeeds, FieldValues, GaveUp, Global,
+    ListOf, ListSeed, Optional, Record, Required, RoundTrip, RoundTripComposite, Serialize,
     SerializeCompounds, Serializer, fields, laws, named, read, read_composite_type,
+    read_parts_encoded,
 };
 
 impl Serialize for Position {
@@ -92,6 +93,32 @@ impl Deserialize for Position {
             deserializer,
             ListSeed(named! { "latitude", "longitude", "height"? }),
         )?;
+        let FieldValues {
+            value: longitude,
+            rest,
+        } = rest;
+        let FieldValues {
+            value: height,
+            rest: (),
+        } = rest;
+        Ok(Position {
+            latitude,
+            longitude,
+            height,
+        })
+    }
+
+    fn read_encoded(
+        alloc: Global,
+        code: u8,
+        input: &mut &[u8],
+        depth: u16,
+    ) -> Result<Position, GaveUp> {
+        let seed = ListSeed(named! { "latitude", "longitude", "height"? });
+        let FieldValues {
+            value: latitude,
+            rest,
+        } = read_parts_encoded::<Position, _>(alloc, code, input, depth, seed)?;
         let FieldValues {
             value: longitude,
             rest,
