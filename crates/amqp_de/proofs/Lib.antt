@@ -11,3 +11,7 @@ pub mod Chunks
 pub mod FieldLemmas
 pub mod OtherCodes
 pub mod MultipleRefused
+pub mod NotArray
+pub mod MultipleReadings
+pub mod DefaultedReadings
+pub mod CompositeReadings

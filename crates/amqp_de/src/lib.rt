@@ -5,6 +5,7 @@ mod access;
 mod calls;
 mod composite;
 mod composites;
+mod composites_encoded;
 mod content;
 pub mod de;
 mod defaulted;
@@ -33,6 +34,7 @@ pub use composite::{read_composite, read_named};
 pub use composites::{
     Alternatives, Composite, read_alternatives, read_composite_type, read_no_fields,
 };
+pub use composites_encoded::{read_alternatives_encoded, read_composite_type_encoded};
 pub use defaulted::Defaulted;
 pub use encoded::{read_composite_encoded, read_described_encoded, read_parts_encoded};
 pub use enums::{DataVariant, Either, EnumSeed, Never, UnitVariant, Variants};
