@@ -143,11 +143,12 @@ def described(t):
     members = {"reads": f'λ t x. OnAlternatives {of("reads")} t {parts(t, "x")}',
                "image": f'λ x. described (code ({of("code_of")} {parts(t, "x")})) ({of("image")} {parts(t, "x")})',
                "restorable": f'λ x. {of("restorable")} {parts(t, "x")}', "same": f'λ x y. {of("same")} {parts(t, "x")} {parts(t, "y")}'}
-    body = f"        match read_alternatives::<{t.name}, D>(alloc, deserializer)? {{\n"
     nested = lambda at, value: "Either::Other(" * at + value + ")" * at
-    body += "".join(f'            {nested(at, "Either::This(value)")} => Ok({t.name}::{v.name}(value)),\n' for at, v in enumerate(t.variants))
-    body += f'            {nested(len(t.variants), "never")} => match never {{}},\n        }}\n'
-    out += [deserialize(t, members, body, True)] if t.reads else []
+    arms = "".join(f'            {nested(at, "Either::This(value)")} => Ok({t.name}::{v.name}(value)),\n' for at, v in enumerate(t.variants))
+    arms += f'            {nested(len(t.variants), "never")} => match never {{}},\n        }}\n'
+    body = f"        match read_alternatives::<{t.name}, D>(alloc, deserializer)? {{\n{arms}"
+    encoded = f"        match read_alternatives_encoded::<{t.name}>(alloc, code, input, depth)? {{\n{arms}"
+    out += [deserialize(t, members, body, True, "", encoded)] if t.reads else []
     return out + ([round_trip(t, f"laws::alternatives_return::<{t.name}>();")] if t.round_trips else [])
 
 

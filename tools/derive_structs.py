@@ -95,6 +95,19 @@ def build(t, call):
     return out + f"        Ok({t.name}{made})\n"
 
 
+def read_bytes(t):
+    """The method that reads a list or a single value from its bytes."""
+    call, types, said, method = "read_parts_encoded", f"{t.name}, _", "", "read_encoded"
+    if t.composite:
+        method = "read_body_encoded"
+    elif t.code:
+        call, said = "read_composite_encoded", f"{t.code}, "
+    elif t.symbol:
+        call, types, said = "read_described_encoded", f"{t.name}, _, _", f'&"{t.symbol}", '
+    body = f"        let seed = {seed(t)};\n" + build(t, f"{call}::<{types}>(alloc, code, input, depth, {said}seed)?")
+    return read_encoded(t.name, body, method)
+
+
 def composite(t):
     """The impls of Composite and Deserialize of a type that is read after its code or its name."""
     image, others = members(t)
@@ -105,14 +118,15 @@ def composite(t):
     out += f"    fn code() -> u64 {{\n        {t.code}\n    }}\n\n    fn name() -> &'static str {{\n        \"{t.symbol}\"\n    }}\n\n"
     call = f"read::<{t.name}, D, _>(alloc, deserializer, {seed(t)})?" if t.fields else "read_no_fields::<D>(deserializer)?"
     out += f'    fn read_body<D: Deserializer>({"" if t.fields else "_"}alloc: Global, deserializer: D) -> Result<{t.name}, D::Error> {{\n'
-    out += build(t, call) + "    }\n}\n\n"
+    out += build(t, call) + f"    }}\n{read_bytes(t)}}}\n\n"
     of = lambda name: member(t.name, "Composite", name)
     out += f"impl Deserialize for {t.name} {{\n" + ghosts({
         "reads": f'λ t x. OnComposite {t.code} (codes "{t.symbol}") (λ u. {of("reads")} u x) t',
         "image": f'λ x. described (code {t.code}) ({of("image")} x)',
         "restorable": of("restorable"), "same": of("same")})
     return out + f"    fn deserialize<D: Deserializer>(alloc: Global, deserializer: D) -> Result<{t.name}, D::Error> {{\n" \
-        f"        read_composite_type::<{t.name}, D>(alloc, deserializer)\n    }}\n}}\n"
+        f"        read_composite_type::<{t.name}, D>(alloc, deserializer)\n    }}\n" + \
+        read_encoded(t.name, f"        read_composite_type_encoded::<{t.name}>(alloc, code, input, depth)\n") + "}\n"
 
 
 def deserialize(t):
@@ -132,17 +146,6 @@ def deserialize(t):
     out += f"    fn deserialize<D: Deserializer>(alloc: Global, deserializer: D) -> Result<{t.name}, D::Error> {{\n"
     out += build(t, f"{call}::<{t.name}, D, _>(alloc, deserializer, {said}{seed(t)})?") + "    }\n"
     return out + ("" if t.encoding == "map" else read_bytes(t)) + "}\n"
-
-
-def read_bytes(t):
-    """The method that reads a list or a single value from its bytes."""
-    call, said = "read_parts_encoded", ""
-    if t.code:
-        call, said = "read_composite_encoded", f"{t.code}, "
-    elif t.symbol:
-        call, said = "read_described_encoded", f'&"{t.symbol}", '
-    types = f"{t.name}, _, _" if t.symbol and not t.code else f"{t.name}, _"
-    return read_encoded(t.name, f"        let seed = {seed(t)};\n" + build(t, f"{call}::<{types}>(alloc, code, input, depth, {said}seed)?"))
 
 
 def round_trip(t):

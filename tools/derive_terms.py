@@ -128,6 +128,6 @@ def take(fields, call, indent="        "):
     return out or f"{indent}let () = {call};\n"
 
 
-def read_encoded(name, body):
+def read_encoded(name, body, method="read_encoded"):
     """The method that reads a value from its bytes."""
-    return f"\n    fn read_encoded(alloc: Global, code: u8, input: &mut &[u8], depth: u16) -> Result<{name}, GaveUp> {{\n{body}    }}\n"
+    return f"\n    fn {method}(alloc: Global, code: u8, input: &mut &[u8], depth: u16) -> Result<{name}, GaveUp> {{\n{body}    }}\n"

@@ -67,7 +67,8 @@ use serde_amqp::derive::{
     Either, EnumSeed, FieldSeeds, FieldValues, FixedContent, GaveUp, Global, ListSeed, MapKey,
     Name, Never, Optional, PhantomData, Record, Required, RoundTrip, RoundTripComposite, Serialize,
     SerializeCompounds, SerializeScalars, Serializer, TypeSeed, UnitVariant, VariantOf, fields,
-    laws, named, read, read_composite_type, variants,
+    laws, named, read, read_composite_type, read_composite_type_encoded, read_parts_encoded,
+    variants,
 };
 
 impl Serialize for Role {
@@ -579,6 +580,17 @@ impl Composite for Tag {
         let part0 = read::<Tag, D, _>(alloc, deserializer, TypeSeed(PhantomData::<ByteBuf>))?;
         Ok(Tag(part0))
     }
+
+    fn read_body_encoded(
+        alloc: Global,
+        code: u8,
+        input: &mut &[u8],
+        depth: u16,
+    ) -> Result<Tag, GaveUp> {
+        let seed = TypeSeed(PhantomData::<ByteBuf>);
+        let part0 = read_parts_encoded::<Tag, _>(alloc, code, input, depth, seed)?;
+        Ok(Tag(part0))
+    }
 }
 
 impl Deserialize for Tag {
@@ -596,6 +608,10 @@ impl Deserialize for Tag {
 
     fn deserialize<D: Deserializer>(alloc: Global, deserializer: D) -> Result<Tag, D::Error> {
         read_composite_type::<Tag, D>(alloc, deserializer)
+    }
+
+    fn read_encoded(alloc: Global, code: u8, input: &mut &[u8], depth: u16) -> Result<Tag, GaveUp> {
+        read_composite_type_encoded::<Tag>(alloc, code, input, depth)
     }
 }
 
