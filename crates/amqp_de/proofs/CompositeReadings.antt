@@ -69,10 +69,10 @@ module _ {A B : Type 0} (c : ℕ) (n : List ℕ) (R : Tree → A → Type 0) (im
 
   pub other_after : (depth : ℕ) (bytes rest : List ℕ) (y : B) → (IsCodeOrName c n e → ⊥) → ReadsPrefix (AfterReading RB code_of image_of_other PB SB e) depth bytes rest y
       → ReadsPrefix AfterEither depth bytes rest (Other y)
+  unfolding IsCodeOrName
   other_after depth bytes rest y no (t, found, (reads, law)) = (t, found, ((no, reads), back t law))
     where
       own : (d : Descriptor) → d ≡ code c → IsCodeOrName c n d
-      unfolding IsCodeOrName
       own d q = subst (IsCodeOrName c n) (sym q) refl
 
       back : (t : Tree) → ((x : B) → PB x → e ≡ code (code_of x) → t ≡ image_of_other x → SB y x)
