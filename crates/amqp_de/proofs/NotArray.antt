@@ -1,5 +1,5 @@
 -- Only the codes of arrays give arrays.
-use Rattle.std.proofs.Common.{◌≡◌, ◌==◌, ◌/◌, ◌%◌, ℕ, zero, suc, Bool, true, false, not, List, [], ◌∷◌, Option, Some, None, if◌then◌else◌, refl, sym, ap, ◌∙◌}
+use Rattle.std.proofs.Common.{◌≡◌, ◌==◌, ◌/◌, ◌%◌, ℕ, zero, suc, Bool, true, false, true≢false, not, List, [], ◌∷◌, Option, Some, None, if◌then◌else◌, refl, sym, ap, ◌∙◌}
 use Rattle.amqp_data.specs.FormatCode.{code_of}
 use Rattle.amqp_data.specs.declared.format_code.EncodingCodes.{EncodingCodes}
 use Rattle.amqp_data.specs.declared.format_code.EncodingCodes.TheVariants as code
@@ -18,7 +18,7 @@ scalar_no_array : (t : Tree) (n : ℕ) → class_of t ≡ n → not (n == 21) �
 scalar_no_array (tree.scalar s) n e other = refl
 scalar_no_array (tree.list ts) n e other = refl
 scalar_no_array (tree.map ps) n e other = refl
-scalar_no_array (tree.array ts) n e other = absurd cc
+scalar_no_array (tree.array ts) n e other = absurd (true≢false (sym other ∙ ap (λ m. not (m == 21)) (sym e)))
 scalar_no_array (tree.described d t) n e other = refl
 scalar_no_array (tree.variant i t) n e other = refl
 scalar_no_array (tree.transparent ts) n e other = refl
