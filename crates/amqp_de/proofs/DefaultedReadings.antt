@@ -1,17 +1,16 @@
 -- Fields with a default that are read from the body of a list.
-use Rattle.std.proofs.Common.{◌≡◌, ◌-◌, ℕ, Bool, true, false, List, [], ◌∷◌, Some, refl, sym, ap, ◌∙◌, subst, inl, inr}
+use Rattle.std.proofs.Common.{◌≡◌, ◌-◌, ℕ, Bool, List, ◌∷◌, Some, refl, sym, inl, inr}
 use Rattle.amqp_ser.specs.Tree.{Tree, scalar, null}
-use Rattle.amqp_decode.specs.Parsed.{FrameReader, gather, parse}
+use Rattle.amqp_decode.specs.Parsed.{FrameReader}
 use Rattle.amqp_decode.proofs.Gathers.{first_gathered}
 use Rattle.amqp_decode.proofs.NotNull.{not_null}
 use Rattle.amqp_decode.proofs.ScalarForms.{null-is}
 use Rattle.amqp_de.specs.Defaults.{ReadsOr, ReadsDefaulted, RestorableDefaulted}
 use Rattle.amqp_de.specs.Encoded.{Reading, ReadsPrefix, FieldsFill}
-use Rattle.amqp_de.specs.Fields.{FieldSource, by_position}
+use Rattle.amqp_de.specs.Fields.{FieldSource}
 use Rattle.amqp_de.specs.Parts.{◌▸◌}
-use Rattle.amqp_de.specs.Present.{required, EndsEarly}
+use Rattle.amqp_de.specs.Present.{required}
 use Rattle.amqp_de.specs.declared.fields.FieldValues.{FieldValues}
-use Rattle.amqp_de.proofs.FieldLemmas.{trees_in}
 use Rattle.amqp_de.proofs.Leaves.{scalar_prefix}
 
 module _ {V : Type 0} (default : V) (R : Tree → V → Type 0) (image : V → Tree) (P : V → Type 0) (S : V → V → Type 0) where
@@ -46,11 +45,3 @@ module _ {V W : Type 0} (n : List ℕ) (default : V) (R : Tree → V → Type 0)
   unfolding ReadsDefaulted
   defaulted_fill rest t x w some e r (ts, all, reads, law) =
       (t ∷ ts, first_gathered f count body rest t ts some e all, (r.0, reads), λ y p k. (r.1 y.value p.0 k.0, law y.rest p.1 k.1))
-
-  pub defaulted_none : (w : W) → count ≡ 0 → Rest 0 body w → Filled default w
-  unfolding ReadsDefaulted
-  defaulted_none w none (ts, all, reads, law) =
-      let empty : ts ≡ [] = sym (ap trees_in all) in
-      let same : gather f count body [] ≡ Some ([], []) = ap (λ m. gather f m body []) none ∙ all ∙ ap (λ z. Some (z, [])) empty in
-      let there : Q w (by_position []) = subst (λ z. Q w (by_position z)) empty reads in
-      ([], same, (refl, there), λ y p k. absurd cc)

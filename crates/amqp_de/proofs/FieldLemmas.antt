@@ -20,10 +20,6 @@ no_option : {T : Type 0} (S : T → T → Type 0) (o : Option T) → is_some o �
 no_option S None e = tt
 no_option S (Some x) e = absurd cc
 
-abbrev pub trees_in : Option (List Tree × List ℕ) → List Tree
-trees_in None = []
-trees_in (Some p) = p.0
-
 module _ {V W : Type 0} (n : List ℕ) (R : Tree → V → Type 0) (image : V → Tree) (P : V → Type 0) (S : V → V → Type 0)
     (Q : W → FieldSource → Type 0) (images : W → List (Bool × Tree)) (PW : W → Type 0) (SW : W → W → Type 0)
     (f : FrameReader) (count : ℕ) (body : List ℕ) where
@@ -44,6 +40,10 @@ module _ {V W : Type 0} (n : List ℕ) (R : Tree → V → Type 0) (image : V �
   unfolding ReadsOptional
   optional_fill rest t x w some e r (ts, all, reads, law) =
       (t ∷ ts, first_gathered f count body rest t ts some e all, (r.0, reads), λ y p k. (r.1 y.value p.0 k.0, law y.rest p.1 k.1))
+
+  abbrev trees_in : Option (List Tree × List ℕ) → List Tree
+  trees_in None = []
+  trees_in (Some p) = p.0
 
   pub optional_none : (w : W) → count ≡ 0 → Rest 0 body w
       → FieldsFill {V = FieldValues (Option V) W} (λ y. ReadsOptional n R y.value (Q y.rest)) (λ y. optional image y.value ∷ images y.rest) (λ y. RestorableOption image P y.value × PW y.rest)

@@ -1,5 +1,5 @@
 -- What is read as one value or as many.
-use Rattle.std.proofs.Common.{◌≡◌, ℕ, Bool, true, false, true≢false, List, ◌∷◌, refl, sym, ap, ◌∙◌}
+use Rattle.std.proofs.Common.{◌≡◌, ℕ, true, false, true≢false, List, ◌∷◌, refl, sym, ap, ◌∙◌}
 use Rattle.std.specs.List.{AllZip, AllByRecursion}
 use Rattle.amqp_data.specs.Items.{array_items}
 use Rattle.amqp_data.specs.declared.array.Array.{Array}
@@ -7,7 +7,6 @@ use Rattle.amqp_data.specs.declared.multiple.Multiple.{Multiple}
 use Rattle.amqp_data.specs.declared.multiple.Multiple.TheVariants.{One, Many}
 use Rattle.amqp_ser.specs.Tree as tree
 use Rattle.amqp_ser.specs.Tree.{Tree}
-use Rattle.amqp_decode.specs.Parsed.{parse}
 use Rattle.amqp_de.specs.Encoded.{Reading, ReadsPrefix}
 use Rattle.amqp_de.specs.Multiple.{is_array_tree, ReadsMultiple, multiple_image, RestorableMultiple, SameMultiple}
 use Rattle.amqp_de.specs.Reads.{OnArray}
@@ -43,10 +42,10 @@ module _ {T : Type 0} (R : Tree → T → Type 0) (image : T → Tree) (P : T �
   pub one_prefix : (depth c : ℕ) (s rest : List ℕ) (y : T) → (c ≡ 224 → ⊥) → (c ≡ 240 → ⊥)
       → ReadsPrefix (Reading R image P S) depth (c ∷ s) rest y → ReadsPrefix ReadingMultiple depth (c ∷ s) rest (One y)
   one_prefix depth c s rest y short long (t, found, (reads, law)) =
-      let no : is_array_tree t ≡ false = not_array depth c s t rest short long found in
-      (t, found, ((no, reads), same no law))
+      let other : is_array_tree t ≡ false = not_array depth c s t rest short long found in
+      (t, found, ((other, reads), same other law))
     where
       same : is_array_tree t ≡ false → ((x : T) → P x → t ≡ image x → S y x)
           → (x : Multiple T) → RestorableMultiple image P x → t ≡ multiple_image image x → SameMultiple S (One y) x
-      same no law (One x) p e = law x p.1 e
-      same no law (Many x) p e = absurd (true≢false (sym (ap is_array_tree e) ∙ no))
+      same other law (One x) p e = law x p.1 e
+      same other law (Many x) p e = absurd (true≢false (sym (ap is_array_tree e) ∙ other))
