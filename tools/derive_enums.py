@@ -110,13 +110,13 @@ def scalar(t):
     return out + ([f"impl MapKey for {t.name} {{\n    fn image_is_injective() {{}}\n}}\n"] if "map_key" in t.flags else [])
 
 
-def place(at, value):
-    """The value of the variant at a position, as a term."""
-    return "Other (" * at + f"This {value}" + ")" * at
+def place(at, value, is_rest=False):
+    """The value of the variant at a position, as a term; of the variant of all others, without `This`."""
+    return "Other (" * (at - is_rest) + (f"Other {value}" if is_rest else f"This {value}") + ")" * (at - is_rest)
 
 
-def either(types):
-    of = "Never"
+def either(types, rest="Never"):
+    of = rest
     for type_ in reversed(types):
         of = f"Either<{type_}, {of}>"
     return of
@@ -132,11 +132,13 @@ def record(t, values, arms):
 
 
 def described(t):
-    """One of several composites, which the descriptor selects."""
-    values = either([v.type for v in t.variants])
+    """One of several composites, which the descriptor selects. With `others`, the last variant has all other descriptors."""
+    rest = t.variants[-1] if "others" in t.flags else None
+    known = [v for v in t.variants if v is not rest]
+    values = either([v.type for v in known], rest.type if rest else "Never")
     of = lambda name: member(values, "Alternatives", name)
     trees = f'{member(values, "RoundTripAlternatives", "trees")} {parts(t, "x")}'
-    out = [record(t, values, [(f"{v.name} v", place(at, "v")) for at, v in enumerate(t.variants)])]
+    out = [record(t, values, [(f"{v.name} v", place(at, "v", v is rest)) for at, v in enumerate(t.variants)])]
     if t.writes:
         out.append(serialize(t, trees, match_self(
             [(f"{t.name}::{v.name}(value)", "value.serialize(serializer)") for v in t.variants]), ""))
@@ -144,10 +146,10 @@ def described(t):
                "image": f'λ x. described (code ({of("code_of")} {parts(t, "x")})) ({of("image")} {parts(t, "x")})',
                "restorable": f'λ x. {of("restorable")} {parts(t, "x")}', "same": f'λ x y. {of("same")} {parts(t, "x")} {parts(t, "y")}'}
     nested = lambda at, value: "Either::Other(" * at + value + ")" * at
-    arms = "".join(f'            {nested(at, "Either::This(value)")} => Ok({t.name}::{v.name}(value)),\n' for at, v in enumerate(t.variants))
-    arms += f'            {nested(len(t.variants), "never")} => match never {{}},\n        }}\n'
-    body = f"        match read_alternatives::<{t.name}, D>(alloc, deserializer)? {{\n{arms}"
-    encoded = f"        match read_alternatives_encoded::<{t.name}>(alloc, code, input, depth)? {{\n{arms}"
+    arms = "".join(f'            {nested(at, "Either::This(value)")} => Ok({t.name}::{v.name}(value)),\n' for at, v in enumerate(known))
+    arms += f'            {nested(len(known), "value" if rest else "never")} => ' + (f"Ok({t.name}::{rest.name}(value)),\n" if rest else "match never {},\n")
+    body = f"        match read_alternatives::<{t.name}, D>(alloc, deserializer)? {{\n{arms}        }}\n"
+    encoded = f"        match read_alternatives_encoded::<{t.name}>(alloc, code, input, depth)? {{\n{arms}        }}\n"
     out += [deserialize(t, members, body, True, "", encoded)] if t.reads else []
     return out + ([round_trip(t, f"laws::alternatives_return::<{t.name}>();")] if t.round_trips else [])
 

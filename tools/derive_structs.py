@@ -97,14 +97,14 @@ def build(t, call):
 
 def read_bytes(t):
     """The method that reads a list or a single value from its bytes."""
-    call, types, said, method = "read_parts_encoded", f"{t.name}, _", "", "read_encoded"
+    call, said, method = "read_parts_encoded", "", "read_encoded"
     if t.composite:
         method = "read_body_encoded"
     elif t.code:
         call, said = "read_composite_encoded", f"{t.code}, "
     elif t.symbol:
-        call, types, said = "read_described_encoded", f"{t.name}, _, _", f'&"{t.symbol}", '
-    body = f"        let seed = {seed(t)};\n" + build(t, f"{call}::<{types}>(alloc, code, input, depth, {said}seed)?")
+        call, said = "read_named_encoded", f'"{t.symbol}", '
+    body = f"        let seed = {seed(t)};\n" + build(t, f"{call}::<{t.name}, _>(alloc, code, input, depth, {said}seed)?")
     return read_encoded(t.name, body, method)
 
 

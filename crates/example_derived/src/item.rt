@@ -33,7 +33,7 @@ pub struct Item {
 use serde_amqp::derive::{
     Defaulted, Deserialize, DeserializeSeed, Deserializer, FieldSeeds, FieldValues, GaveUp, Global,
     ListOf, ListSeed, Name, Optional, Record, Required, RoundTrip, Serialize, SerializeCompounds,
-    Serializer, fields, laws, named, read_described_encoded, read_named,
+    Serializer, fields, laws, named, read_named, read_named_encoded,
 };
 
 impl Serialize for Item {
@@ -275,12 +275,12 @@ impl Deserialize for Item {
         let seed = ListSeed(
             named! { "id", "title", "kind", "made", "size", "width", "height", "depth"?, "weight"?, "colour"?, "maker"?, "place"?, "sold", "price", "tax" = 20u16, "stock", "rating"?, "votes"?, "labels"?, "note"? },
         );
-        let FieldValues { value: id, rest } = read_described_encoded::<Item, _, _>(
+        let FieldValues { value: id, rest } = read_named_encoded::<Item, _>(
             alloc,
             code,
             input,
             depth,
-            &"shop:item",
+            "shop:item",
             seed,
         )?;
         let FieldValues { value: title, rest } = rest;

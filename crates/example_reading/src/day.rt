@@ -32,7 +32,7 @@ pub struct Rain {
 use serde_amqp::derive::{
     Deserialize, DeserializeSeed, Deserializer, FieldSeeds, FieldValues, GaveUp, Global, ListOf,
     ListSeed, Name, Record, Required, RoundTrip, Serialize, SerializeCompounds, Serializer, fields,
-    laws, named, read, read_described_encoded, read_named, read_parts_encoded,
+    laws, named, read, read_named, read_named_encoded, read_parts_encoded,
 };
 
 impl Serialize for Day {
@@ -205,14 +205,7 @@ impl Deserialize for Rain {
         let FieldValues {
             value: amount,
             rest,
-        } = read_described_encoded::<Rain, _, _>(
-            alloc,
-            code,
-            input,
-            depth,
-            &"station:rain:list",
-            seed,
-        )?;
+        } = read_named_encoded::<Rain, _>(alloc, code, input, depth, "station:rain:list", seed)?;
         let FieldValues {
             value: time,
             rest: (),

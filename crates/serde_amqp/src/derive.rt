@@ -7,7 +7,7 @@ pub use crate::de::{
     ListSeed, NamedRecord, NamedSeed, Never, Optional, Record, Required, TypeSeed, UnitVariant,
     named, read, read_alternatives, read_alternatives_encoded, read_composite,
     read_composite_encoded, read_composite_map, read_composite_type, read_composite_type_encoded,
-    read_described_encoded, read_fields_map, read_named, read_named_map, read_no_fields,
+    read_fields_map, read_named, read_named_encoded, read_named_map, read_no_fields,
     read_parts_encoded, variants,
 };
 pub use crate::ser::{

@@ -1,7 +1,8 @@
 //! Bytes in hexadecimal, with repetition.
 //!
 //! A word consists of parts joined by `+`. `HEX` denotes bytes, and `HEX*COUNT` these bytes `COUNT`
-//! times. `CODE^COUNT` denotes `COUNT` nested compounds of one element around everything that
+//! times. `HEX#COUNT` denotes these bytes `COUNT` times, each followed by its number, from 1, in four
+//! bytes. `CODE^COUNT` denotes `COUNT` nested compounds of one element around everything that
 //! follows: each has the code, a size and a count of four bytes each, and the element. `-` denotes
 //! no bytes.
 
@@ -41,6 +42,8 @@ pub fn number_of(word: &str) -> Result<u32, Error> {
 fn followed(alloc: Global, part: &str, rest: &[u8]) -> Result<Vec<u8>, Error> {
     let mut bytes = if let Some((digits, count)) = part.split_once('*') {
         repeated(alloc, &digits_of(alloc, digits)?, number_of(count)?)?
+    } else if let Some((digits, count)) = part.split_once('#') {
+        numbered(alloc, &digits_of(alloc, digits)?, number_of(count)?)?
     } else if let Some((code, depth)) = part.split_once('^') {
         opened(
             alloc,
@@ -67,6 +70,15 @@ fn repeated(alloc: Global, piece: &[u8], count: u32) -> Result<Vec<u8>, Error> {
     let mut bytes = Vec::new(alloc);
     for _ in 0..count {
         bytes.extend_from_slice(piece)?;
+    }
+    Ok(bytes)
+}
+
+fn numbered(alloc: Global, piece: &[u8], count: u32) -> Result<Vec<u8>, Error> {
+    let mut bytes = Vec::new(alloc);
+    for number in 0..count {
+        bytes.extend_from_slice(piece)?;
+        bytes.extend_from_slice(&number.wrapping_add(1).to_be_bytes())?;
     }
     Ok(bytes)
 }

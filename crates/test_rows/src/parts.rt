@@ -27,6 +27,7 @@ pub fn parts(alloc: Global, arguments: &str) -> Result<String, Error> {
     let value = decode_value(alloc, &bytes_of(alloc, bytes)?)?;
     match name {
         "four" => Ok(format!(in alloc; "{:?}", four(alloc, value)?)?),
+        "six" => Ok(format!(in alloc; "{:?}", six(alloc, value)?)?),
         "units" => Ok(format!(in alloc; "{:?}", units(alloc, value)?)?),
         "two" => Ok(format!(in alloc; "{:?}", two(alloc, value)?)?),
         "descriptor" => { Ok(format!(in alloc; "{:?}", from_value::<Descriptor>(alloc, value)?)?) }
@@ -50,6 +51,20 @@ fn four(alloc: Global, value: Value) -> Result<Variant, Error> {
             Ok(Variant::Tuple(number, text))
         }
         variant!(none 4, never) => match never {},
+    }
+}
+
+// Reads one of five unit variants, or a newtype variant.
+fn six(alloc: Global, value: Value) -> Result<Variant, Error> {
+    let variants = EnumSeed(variants! { unit, unit, unit, unit, unit, newtype });
+    match variants.deserialize(alloc, Deserializer::new(alloc, value))? {
+        variant!(0, ()) => Ok(Variant::Unit(0)),
+        variant!(1, ()) => Ok(Variant::Unit(1)),
+        variant!(2, ()) => Ok(Variant::Unit(2)),
+        variant!(3, ()) => Ok(Variant::Unit(3)),
+        variant!(4, ()) => Ok(Variant::Unit(4)),
+        variant!(5, number) => Ok(Variant::Newtype(number)),
+        variant!(none 6, never) => match never {},
     }
 }
 

@@ -1,6 +1,8 @@
 //! The call of a row.
 
-use crate::{cuts, limited, marked, notation, parts, results, samples, types, values, visits};
+use crate::{
+    cuts, limited, marked, notation, parts, results, samples, trips, types, values, visits,
+};
 use amqp_data::Error;
 use std::alloc::Global;
 
@@ -12,6 +14,8 @@ pub fn answer(alloc: Global, line: &str) -> Result<String, Error> {
     match call {
         "decode_within" => values::decode_within(alloc, arguments),
         "read_within" => limited::read_within(alloc, arguments),
+        "round_trip" => trips::round_trips(alloc, arguments),
+        "text" => values::text(alloc, arguments),
         "compare" => values::compare(alloc, arguments),
         "read" => types::read(alloc, arguments),
         "parts" => parts::parts(alloc, arguments),
@@ -28,6 +32,8 @@ fn of_bytes(alloc: Global, call: &str, bytes: &[u8]) -> Result<String, Error> {
     match call {
         "decode" => values::decode(alloc, bytes),
         "whole" => values::whole(alloc, bytes),
+        "long" => values::long(alloc, bytes),
+        "calls" => visits::calls(alloc, bytes),
         "code" => values::code(alloc, bytes),
         "count" => values::count(alloc, bytes),
         "count_lazy" => values::count_lazy(alloc, bytes),

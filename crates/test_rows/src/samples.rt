@@ -3,11 +3,13 @@
 
 mod composites;
 mod described;
+mod fed;
 mod lazy;
 mod plain;
 mod refused;
 mod variants;
 
+use crate::trips;
 use amqp_data::Error;
 use std::alloc::Global;
 
@@ -25,6 +27,8 @@ pub fn write(alloc: Global, arguments: &str) -> Result<String, Error> {
         "transparent" => described::transparent(alloc, name),
         "composite" => composites::write(alloc, name),
         "variant" => variants::write(alloc, name),
+        "fed" => fed::write(alloc, name),
+        "unrestorable" => trips::unrestorable(alloc, name),
         "lazy" => lazy::write(alloc, name),
         "held" => lazy::write_held(alloc, name),
         "refused" => refused::write(alloc, name),
@@ -32,7 +36,7 @@ pub fn write(alloc: Global, arguments: &str) -> Result<String, Error> {
     }
 }
 
-// Returns the error of a name that no sample of the family has.
-fn no_sample() -> Result<String, Error> {
+/// Returns the error of a name that no sample of the family has.
+pub fn no_sample() -> Result<String, Error> {
     Err(Error::Message("no such sample"))
 }

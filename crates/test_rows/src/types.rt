@@ -93,9 +93,9 @@ pub fn read_as<T: Serialize + Deserialize>(alloc: Global, bytes: &[u8]) -> Resul
     Ok(by_value)
 }
 
-// Returns the results of what was read, or the error in angle brackets. Out of memory is returned as
-// an error.
-fn text_of<T: Serialize + Deserialize>(
+/// Returns the results of what was read, or the error in angle brackets. Out of memory is returned
+/// as an error.
+pub fn text_of<T: Serialize + Deserialize>(
     alloc: Global,
     read: Result<T, Error>,
 ) -> Result<String, Error> {

@@ -6,6 +6,7 @@ use amqp_data::Error;
 use amqp_decode::{decode_value, decode_value_limited};
 use amqp_frame::{LazyValue, SliceReader};
 use amqp_ser::Whole as _;
+use amqp_size::serialized_size;
 use amqp_to_value::to_value;
 use amqp_value::Value;
 use amqp_wire::to_vec;
@@ -43,6 +44,27 @@ pub fn whole(alloc: Global, bytes: &[u8]) -> Result<String, Error> {
         None => text.push_str(" none")?,
     }
     Ok(text)
+}
+
+/// Returns the number of elements or pairs of the compound, the size of the value, and whether its
+/// bytes are the given ones and its image is itself.
+pub fn long(alloc: Global, bytes: &[u8]) -> Result<String, Error> {
+    let value = decode_value(alloc, bytes)?;
+    let count = count_of(alloc, &value)?;
+    let size = serialized_size(&value)?;
+    let is_written = to_vec(alloc, &value)?.as_slice() == bytes;
+    let is_image = to_value(alloc, &value)? == value;
+    Ok(format!(in alloc; "{count} {size} {is_written} {is_image}")?)
+}
+
+/// Returns whether the text of the value has these bytes; the arguments are `BYTES TEXT`.
+pub fn text(alloc: Global, arguments: &str) -> Result<String, Error> {
+    let Some((bytes, wanted)) = arguments.split_once(' ') else {
+        return Err(Error::Message("one argument"));
+    };
+    let text = decode_value(alloc, &bytes_of(alloc, bytes)?)?.to_string(alloc)?;
+    let is_wanted = text.as_bytes() == bytes_of(alloc, wanted)?.as_slice();
+    Ok(format!(in alloc; "{is_wanted}")?)
 }
 
 /// Returns the format code of the value, in hexadecimal.

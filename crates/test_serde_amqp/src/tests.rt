@@ -10,6 +10,7 @@ mod line_rows;
 mod memory;
 mod paths;
 mod reading_paths;
+mod record_paths;
 mod rows;
 mod runs;
 mod streams;

@@ -2,9 +2,10 @@
 //!
 //! `tools/memory` runs the part `calls` once for each of its allocations, with that allocation
 //! failing. The call that allocates must return `OutOfMemory`, and the program must end with status
-//! 1, unless the failed call is repeated. Any other result is visible as different output. The
-//! first argument selects one part: `calls`, `lengths`, `large`, `none`, whose calls do not
-//! allocate, or `inserted`, whose last calls do not.
+//! 1, unless the failed call is repeated or the result is reached in another way: `from_slice` reads
+//! a type from an untyped value if its one pass fails. Any other result is visible as different
+//! output. The first argument selects one part: `calls`, `lengths`, `large`, `none`, whose calls do
+//! not allocate, or `inserted`, whose last calls do not.
 //!
 //! The file `rows` has more calls that allocate: rows of the program `test_rows`, which
 //! `tools/memory` runs once for each of their allocations too. Those of `optional_rows` make calls
@@ -35,7 +36,7 @@
 //! | the same | `read_value_after_code`, `split_descriptor`, `read_parts_encoded`, `DeserializeSeed::read_encoded`, `ListSeed::read_encoded` |
 //! | the same | `FieldSeeds::read_fields`, `Required::read_fields` |
 //! | types of one's own | `round_trip`, `round_trip_bytes`, `read`, `read_composite`, `read_described`, `TypeSeed::deserialize`, `ListSeed::deserialize`, `NamedSeed::deserialize` |
-//! | the same | `read_composite_encoded`, `read_described_encoded`, `TypeSeed::read_encoded`, `NamedSeed::read_encoded`, `Optional::read_fields` |
+//! | the same | `read_composite_encoded`, `TypeSeed::read_encoded`, `NamedSeed::read_encoded`, `Optional::read_fields` |
 //! | the same | `read_map`, `read_described_map`, `read_named`, `read_fields_map`, `read_composite_map`, `read_named_map` |
 //! | the same | `read_composite_type`, `Composite::read_body`, `Name::serialize`, `Defaulted::read_elements`, `Defaulted::read_entries` |
 //! | the same | `read_alternatives`, `Alternatives::read_after`, `Either::read_after`, `Never::read_after` |
@@ -44,6 +45,7 @@
 //! | the same | `FieldSeeds::read_elements`, `Required::read_elements`, `Optional::read_elements`, `Elements::new` |
 //! | the same | `FieldSeeds::read_entries`, `Required::read_entries`, `Optional::read_entries`, `Entries::new`, `DeserializeSeed::deserialize` |
 //! | the same | `Variants::deserialize`, `EnumSeed::deserialize`, `UnitVariant::deserialize`, `DataVariant::deserialize` |
+//! | none, since it is `read_composite_encoded` with another descriptor | `read_described_encoded` |
 //! | calls of a serializer | `Serializer::serialize_str`, `Serializer::serialize_bytes`, `SerializeCompounds::serialize_some` |
 //! | the same | `SerializeCompounds::serialize_newtype_struct`, `SerializeCompounds::serialize_newtype_variant` |
 //! | the same | `SerializeCompounds::serialize_described`, `Serializer::end_part`, `Serializer::end_descriptor` |

@@ -15,13 +15,14 @@ ghost use Rattle.amqp_value.specs.Wrote.{Grows, Wrote, WrotePayload, WroteEach, 
 
 use crate::Value;
 use crate::whole::append::{
-    put, put_binary, put_descriptor, put_exact, put_few, put_int, put_long, put_string, put_symbol,
-    put_text_payload, put_timestamp, put_u16, put_u32, put_u64, put_uint, put_ulong,
+    put_binary, put_descriptor, put_few, put_int, put_long, put_string, put_symbol,
+    put_text_payload, put_uint, put_ulong,
 };
 use crate::whole::bodies::next;
 use crate::whole::constructors::constructor_of;
 use crate::whole::headers::{put_array_header, put_list_header, put_map_header, put_wide_header};
 use crate::whole::numbers::write_numbers;
+use crate::whole::rare::{write_rare, write_rare_payload};
 use amqp_data::{Described, EncodingCodes};
 use amqp_ser::Header;
 
@@ -37,22 +38,10 @@ pub(crate) fn write(value: &Value, headers: &[Header], taken: &mut usize, out: &
         Value::Null => put_few(&[EncodingCodes::Null as u8], out),
         Value::Bool(true) => put_few(&[EncodingCodes::BooleanTrue as u8], out),
         Value::Bool(false) => put_few(&[EncodingCodes::BooleanFalse as u8], out),
-        Value::Ubyte(v) => put_few(&[EncodingCodes::Ubyte as u8, *v], out),
-        Value::Byte(v) => put_few(&[EncodingCodes::Byte as u8, v.cast_unsigned()], out),
-        Value::Ushort(v) => put_u16(EncodingCodes::Ushort as u8, *v, out),
-        Value::Short(v) => put_u16(EncodingCodes::Short as u8, v.cast_unsigned(), out),
         Value::Uint(v) => put_uint(*v, out),
         Value::Ulong(v) => put_ulong(*v, out),
         Value::Int(v) => put_int(*v, out),
         Value::Long(v) => put_long(*v, out),
-        Value::Float(v) => put_u32(EncodingCodes::Float as u8, v.into_inner(), out),
-        Value::Double(v) => put_u64(EncodingCodes::Double as u8, v.into_inner(), out),
-        Value::Char(v) => put_u32(EncodingCodes::Char as u8, *v as u32, out),
-        Value::Timestamp(v) => put_timestamp(v.milliseconds(), out),
-        Value::Decimal32(v) => put_exact(EncodingCodes::Decimal32 as u8, v.as_inner(), out),
-        Value::Decimal64(v) => put_exact(EncodingCodes::Decimal64 as u8, v.as_inner(), out),
-        Value::Decimal128(v) => put_exact(EncodingCodes::Decimal128 as u8, v.as_inner(), out),
-        Value::Uuid(v) => put_exact(EncodingCodes::Uuid as u8, v.as_inner(), out),
         Value::Binary(v) => put_binary(v.as_inner(), out),
         Value::String(v) => put_string(v.as_bytes(), out),
         Value::Symbol(v) => put_symbol(v.as_inner().as_bytes(), out),
@@ -60,6 +49,7 @@ pub(crate) fn write(value: &Value, headers: &[Header], taken: &mut usize, out: &
         Value::Map(v) => write_map(v.as_slice(), headers, taken, out),
         Value::Array(v) => write_array(v.as_inner(), headers, taken, out),
         Value::Described(v) => write_described(v, headers, taken, out),
+        _ => write_rare(value, out),
     }
 }
 
@@ -265,7 +255,8 @@ fn write_payloads(
     true
 }
 
-/// Appends the payload of a value in an array, after the constructor.
+/// Appends the payload of a value in an array, after the constructor. The numbers of `write_elements`
+/// are not among them.
 #[inline(always)]
 #[cycle(write)]
 fn write_payload(value: &Value, headers: &[Header], taken: &mut usize, out: &mut Vec<u8>) -> bool
@@ -274,32 +265,15 @@ fn write_payload(value: &Value, headers: &[Header], taken: &mut usize, out: &mut
     ensures taken { result ≡ true → taken.new ≡ taken.old + length (headers_of (tree_of value.now)) }
 {
     match value {
-        Value::Null => true,
         Value::Bool(true) => put_few(&[1], out),
         Value::Bool(false) => put_few(&[0], out),
-        Value::Ubyte(v) => put_few(&[*v], out),
-        Value::Byte(v) => put_few(&[v.cast_unsigned()], out),
-        Value::Ushort(v) => put_few(&v.to_be_bytes(), out),
-        Value::Short(v) => put_few(&v.cast_unsigned().to_be_bytes(), out),
-        Value::Uint(v) => put_few(&v.to_be_bytes(), out),
-        Value::Int(v) => put_few(&v.cast_unsigned().to_be_bytes(), out),
-        Value::Ulong(v) => put_few(&v.to_be_bytes(), out),
-        Value::Long(v) => put_few(&v.cast_unsigned().to_be_bytes(), out),
-        Value::Float(v) => put_few(&v.into_inner().to_be_bytes(), out),
-        Value::Double(v) => put_few(&v.into_inner().to_be_bytes(), out),
-        Value::Char(v) => put_few(&(*v as u32).to_be_bytes(), out),
-        Value::Timestamp(v) => put_few(&v.milliseconds().cast_unsigned().to_be_bytes(), out),
-        Value::Decimal32(v) => put(v.as_inner(), out),
-        Value::Decimal64(v) => put(v.as_inner(), out),
-        Value::Decimal128(v) => put(v.as_inner(), out),
-        Value::Uuid(v) => put(v.as_inner(), out),
         Value::Binary(v) => put_text_payload(v.as_inner(), out),
         Value::String(v) => put_text_payload(v.as_bytes(), out),
         Value::Symbol(v) => put_text_payload(v.as_inner().as_bytes(), out),
         Value::List(v) => write_wide_list(v, headers, taken, out),
         Value::Map(v) => write_wide_map(v.as_slice(), headers, taken, out),
         Value::Array(v) => write_wide_array(v.as_inner(), headers, taken, out),
-        Value::Described(_) => false,
+        _ => write_rare_payload(value, out),
     }
 }
 

@@ -1,17 +1,17 @@
 //! Composites whose fields are serialized one by one, and structs without a descriptor.
 
-ghost use Rattle.std.specs.Prelude.{◌∷◌, [], Some};
+ghost use Rattle.std.specs.Prelude.{◌∷◌, [], Some, codes};
 ghost use Rattle.amqp_ser.specs.Composites.{as_described};
 ghost use Rattle.amqp_ser.specs.Compounds.{tree_of_parts};
-ghost use Rattle.amqp_ser.specs.Tree.{code, scalar, ubyte, int};
-ghost use Rattle.amqp_ser.specs.declared.kind.CompoundKind.TheVariants.{List};
+ghost use Rattle.amqp_ser.specs.Tree.{code, scalar, bool, string, ubyte, int};
+ghost use Rattle.amqp_ser.specs.declared.kind.CompoundKind.TheVariants.{List, Map};
 
 use super::described::letters;
 use super::no_sample;
 use super::plain::pairs;
 use crate::results::results;
 use amqp_data::{Array, Error, SymbolRef, markers};
-use amqp_ser::{Serialize, SerializeCompounds, Serializer};
+use amqp_ser::{MapOf, Serialize, SerializeCompounds, Serializer, fields};
 use std::alloc::Global;
 
 /// Returns the results of the sample with this name.
@@ -25,6 +25,8 @@ pub fn write(alloc: Global, name: &str) -> Result<String, Error> {
         "long_field" => results(alloc, &One(letters(alloc, b'x', 252)?)),
         "section_of_a_map" => results(alloc, &Section(pairs(alloc, [(a, 1i32), (b, 2i32)])?)),
         "section_of_a_struct" => results(alloc, &Section(Plain { a: 1 })),
+        "map" => results(alloc, &Properties(true, 9)),
+        "map_of_a_struct" => results(alloc, &Named(Plain { a: 1 })),
         "no_descriptor" => results(alloc, &Bare(7)),
         "in_an_array" => results(alloc, &Array::from(vec![in alloc; Empty]?)),
         "struct_in_a_tuple" => results(alloc, &(Outer { inner: Wrapped(3) },)),
@@ -90,6 +92,40 @@ impl<T: Serialize> Serialize for Section<T> {
         fields.serialize_field(markers::DESCRIPTOR, &1u64)?;
         fields.serialize_field("value", &self.0)?;
         fields.end()
+    }
+}
+
+/// A map composite with code 0x13 and the fields `is_fool` and `a`.
+#[derive(Drop)]
+struct Properties(bool, i32);
+
+impl Serialize for Properties {
+    ghost tree = { λ p. as_described (Some (code 0x13))
+        (tree_of_parts Map
+        (Some (scalar (string (codes "is_fool")))
+        ∷ (Some (scalar (bool p.0))
+        ∷ (Some (scalar (string (codes "a"))) ∷ (Some (scalar (int p.1)) ∷ []))))) };
+
+    fn serialize<S: Serializer>(&self, serializer: &mut S) -> Result<S::Ok, S::Error> {
+        serializer.serialize_described(
+            &0x13u64,
+            &MapOf(fields! { "is_fool": &self.0, "a": &self.1 }),
+        )
+    }
+}
+
+/// A map composite with code 0x13 and the field `p`.
+#[derive(Drop)]
+struct Named(Plain);
+
+impl Serialize for Named {
+    ghost tree = { λ n. as_described (Some (code 0x13))
+        (tree_of_parts Map
+        (Some (scalar (string (codes "p")))
+        ∷ (tree_of_parts List (Some (scalar (ubyte n.0.a)) ∷ []) ∷ []))) };
+
+    fn serialize<S: Serializer>(&self, serializer: &mut S) -> Result<S::Ok, S::Error> {
+        serializer.serialize_described(&0x13u64, &MapOf(fields! { "p": &self.0 }))
     }
 }
 

@@ -1,10 +1,10 @@
 //! Each public item for deserialization, by its path.
 
+use super::record_paths::records;
 use super::rows::{hold, holds, is};
 use serde_amqp::de::{
     Deserialize as _, DeserializeCompounds, DeserializeSeed as _, Deserializer as _,
-    EnumAccess as _, FieldValues, MapAccess as _, SeqAccess as _, VariantAccess as _, variant,
-    variants,
+    EnumAccess as _, MapAccess as _, SeqAccess as _, VariantAccess as _, variant, variants,
 };
 use serde_amqp::described::Described;
 use serde_amqp::descriptor::Descriptor;
@@ -13,7 +13,8 @@ use serde_amqp::{Error, Value, de, from_value, value};
 use std::alloc::Global;
 use std::marker::PhantomData;
 
-fn source(alloc: Global, value: Value) -> value::de::Deserializer {
+/// Returns the deserializer of the value.
+pub(super) fn source(alloc: Global, value: Value) -> value::de::Deserializer {
     value::de::Deserializer::new(alloc, value)
 }
 
@@ -21,12 +22,13 @@ fn uint(alloc: Global) -> value::de::Deserializer {
     source(alloc, Value::Uint(1))
 }
 
-fn list(alloc: Global) -> Result<value::de::Deserializer, Error> {
+/// Returns the deserializer of the list of the uint 1.
+pub(super) fn list(alloc: Global) -> Result<value::de::Deserializer, Error> {
     Ok(source(alloc, Value::List(vec![in alloc; Value::Uint(1)]?)))
 }
 
-// Returns the value with the descriptor 1.
-fn described(alloc: Global, value: Value) -> Result<value::de::Deserializer, Error> {
+/// Returns the value with the descriptor 1.
+pub(super) fn described(alloc: Global, value: Value) -> Result<value::de::Deserializer, Error> {
     let described = Described {
         descriptor: Descriptor::Code(1),
         value,
@@ -75,8 +77,8 @@ fn keys_are_distinct<K: value::MapKey>() {
     K::image_is_injective();
 }
 
-// Returns the required field `x`.
-fn required() -> de::Required<u32, ()> {
+/// Returns the required field `x`.
+pub(super) fn required() -> de::Required<u32, ()> {
     de::Required {
         name: "x",
         of: PhantomData,
@@ -185,64 +187,19 @@ impl de::Visitor for Shown {
     }
 }
 
-/// A count, read from a list.
-struct Count(u32);
-
-impl de::Record for Count {
-    ghost use Rattle.amqp_de.specs.Parts.{◌▸◌};
-
-    type Values = FieldValues<u32, ()>;
-
-    ghost parts = { λ c. c.0 ▸ tt };
+// Calls the law that the fields of restorable values have trees.
+fn fields_come_back<F: value::RoundTripFields>() {
+    F::law();
 }
 
-/// A count, read without a compound.
-struct Whole(u32);
-
-impl de::Record for Whole {
-    type Values = u32;
-
-    ghost parts = { λ w. w.0 };
-}
-
-// Returns the map from the string `x` to the uint 1.
-fn map(alloc: Global) -> Result<Value, Error> {
-    let mut map = OrderedMap::new(alloc);
-    drop(map.insert(Value::try_from_str(alloc, "x")?, Value::Uint(1))?);
-    Ok(Value::Map(map))
-}
-
-fn fields_of_a_map<F: de::FieldSeeds<Values = FieldValues<u32, ()>>>(
-    alloc: Global,
-    fields: F,
-) -> Result<FieldValues<u32, ()>, Error> {
-    de::read_map::<Count, _, F>(alloc, source(alloc, map(alloc)?), fields)
-}
-
-fn records_are_read(rt: &HostRuntime) -> Result<bool, Error> {
-    let a = rt.alloc();
-    let of = de::TypeSeed(PhantomData::<u32>);
-    let listed = de::read::<Count, _, _>(a, list(a)?, de::ListSeed(required()))?;
-    let value = described(a, Value::Uint(1))?;
-    let after = de::read_described::<Whole, _, _, _>(a, value, &1u64, of)?;
-    let of = de::TypeSeed(PhantomData::<u32>);
-    let value = described(a, Value::Uint(1))?;
-    let composite = de::read_composite::<Whole, _, _>(a, value, 1, of)?;
-    let mapped = fields_of_a_map(a, required())?;
-    let value = described(a, map(a)?)?;
-    let both = de::read_described_map::<Count, _, _, _>(a, value, &1u64, required())?;
-    Ok(
-        is(rt, "read", listed, "FieldValues { value: 1, rest: () }")
-            && is(rt, "read_described", after, "1")
-            && is(rt, "read_composite", composite, "1")
-            && is(rt, "read_map", mapped, "FieldValues { value: 1, rest: () }")
-            && is(
-                rt,
-                "read_described_map",
-                both,
-                "FieldValues { value: 1, rest: () }",
-            ),
-    )
+fn scalars_are_opened(rt: &HostRuntime) -> bool {
+    let plain = de::DeserializeScalars::deserialize_u32(uint(rt.alloc()), Shown);
+    let fixed = uint(rt.alloc()).into_fixed();
+    holds(
+        rt,
+        "deserialize_u32",
+        matches!(plain, Ok(de::Plain::U32(1))),
+    ) && holds(rt, "into_fixed", matches!(fixed, de::FixedContent::Uint(1)))
 }
 
 fn macros_select_a_variant(alloc: Global) -> bool {
@@ -279,6 +236,7 @@ fn types_of_a_program_are_read(rt: &HostRuntime) -> bool {
 fn reading_paths(rt: HostRuntime) {
     comes_back::<Option<u32>>();
     keys_are_distinct::<u32>();
+    fields_come_back::<de::Required<u32, ()>>();
     de::laws::keys_of_the_same_contents_are_equal();
     assert!(rt; values_are_read(&rt), "values");
     assert!(rt;
@@ -290,6 +248,7 @@ fn reading_paths(rt: HostRuntime) {
         hold(&rt, "one level", one_level_is_opened(&rt)),
         "one level"
     );
-    assert!(rt; hold(&rt, "records", records_are_read(&rt)), "records");
+    assert!(rt; records(&rt), "records");
+    assert!(rt; scalars_are_opened(&rt), "scalars");
     assert!(rt; types_of_a_program_are_read(&rt), "types of a program");
 }
