@@ -51,7 +51,9 @@ def names_file(table):
 
 PAGE = """# AMQP's own types
 
-The crate [amqp_types](../crates/amqp_types/src/lib.rt) has these types, which `tools/types` writes from [types_table.txt](../tools/types_table.txt). *m* marks a mandatory field, *n* one with several values. A default is what the method `FIELD_or_default` returns for `None`.
+The crate [amqp_types](../crates/amqp_types/src/lib.rt) has these types, which `tools/types` writes from [types_table.txt](../tools/types_table.txt). Each is written and read, after the code of its descriptor or after its name. *m* marks a mandatory field, *n* one with several values, an `Option<Multiple<T>>`. A default is what the method `FIELD_or_default` returns for `None`. `Unknown` keeps a value with another descriptor.
+
+[`Message`](../crates/amqp_types/src/message/whole.rt) is read from and written as its sections, [`LazyMessage`](../crates/amqp_types/src/message/lazy.rt) without decoding the body; `sections` splits the bytes. [`frame`](../crates/amqp_types/src/frame.rt) has transport frames and protocol headers, `names` the names of types and fields by code.
 """
 
 

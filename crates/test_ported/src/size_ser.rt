@@ -4,9 +4,9 @@ use crate::report::written;
 use crate::types::composites::{Annotations, Door, DoorMap, DoorTuple, Tail};
 use serde_amqp::described::Described;
 use serde_amqp::descriptor::Descriptor;
-use serde_amqp::primitives::{Symbol, Timestamp};
+use serde_amqp::primitives::{ByteBuf, Symbol, Timestamp};
 use serde_amqp::ser::to_lazy_value;
-use serde_amqp::{Error, Value};
+use serde_amqp::{Error, Value, serialized_size, to_vec};
 use std::collections::BTreeMap;
 
 /// Prints the cases.
@@ -16,6 +16,7 @@ pub fn cases(rt: &HostRuntime) -> Result<(), Error> {
     for (key, value) in [(9u8, 2u8), (4, 4), (250, 6)] {
         drop(map.insert(key, value)?);
     }
+    binary(rt)?;
     written(rt, "size_ser::serialized_size_of_map", &map)?;
     structs(rt)?;
     let mut annotations = BTreeMap::new(a);
@@ -41,6 +42,15 @@ pub fn cases(rt: &HostRuntime) -> Result<(), Error> {
         },
     )?;
     moments(rt)
+}
+
+// Prints the size of a long binary and the number of its bytes, without the bytes.
+fn binary(rt: &HostRuntime) -> Result<(), Error> {
+    let binary = ByteBuf::from(vec![in rt.alloc(); 0u8; 65_535]?);
+    let size = serialized_size(&binary)?;
+    let count = to_vec(rt.alloc(), &binary)?.len();
+    let _ = println!(rt; "size_ser::serialized_size_of_vbin: {size} {count}");
+    Ok(())
 }
 
 fn structs(rt: &HostRuntime) -> Result<(), Error> {

@@ -8,7 +8,7 @@
 //! | `decode BYTES` | the value, as the bytes that `to_vec` returns and its text |
 //! | `decode_within LIMIT BYTES` | like `decode`, with `decode_value_limited` |
 //! | `whole BYTES` | the length and the bytes by which the value encodes itself: `whole_len`, `whole_bytes` |
-//! | `long BYTES` | the number of elements or pairs, the size, and whether `to_vec` returns the bytes and `to_value` the value |
+//! | `long BYTES` | like `count`, with the size, and whether bytes and image are those given |
 //! | `text BYTES TEXT` | whether the text of the value has these bytes |
 //! | `code BYTES` | the format code of the value |
 //! | `count BYTES` | the number of elements or pairs of the compound |
@@ -23,8 +23,8 @@
 //! | `readers BYTES` | the scalar types that read the value; for all others it is invalid |
 //! | `parts READER BYTES` | the value by this reader (`parts`, `visitors`): its `Debug` text |
 //! | `visit CALL BYTES` | the visit that this call of a deserializer makes (`visits`) |
-//! | `calls BYTES` | the calls of a deserializer that make a visit for the value; for all others it is invalid |
-//! | `round_trip TYPE BYTES` | the value as this type, by `round_trip` and `round_trip_bytes`: its results |
+//! | `calls BYTES` | the calls that make a visit for the value; for all others it is invalid |
+//! | `round_trip TYPE BYTES` | like `read`, by `round_trip` and `round_trip_bytes` |
 //! | `write FAMILY NAME` | the sample with this name (`samples`): its results |
 //! | `lazy BYTES` | the lazy value at the start of the bytes: its results |
 //! | `hold BYTES` | the lazy value of the value: its results |

@@ -1,7 +1,7 @@
 //! Messages whose body is not decoded.
 
-ghost use Rattle.std.specs.Prelude.{◌≡◌, ◌++◌, List, ℕ, IfOk};
-ghost use Rattle.amqp_types.specs.Messages.{PutsSection};
+ghost use Rattle.std.specs.Prelude.{◌≡◌, ◌++◌, [], List, ℕ, IfOk};
+ghost use Rattle.amqp_types.specs.Messages.{PutsSection, TakesSection};
 
 use crate::annotations::{ApplicationProperties, DeliveryAnnotations, MessageAnnotations};
 use crate::header::Header;
@@ -10,6 +10,7 @@ use crate::message::error::MessageError;
 use crate::message::read::{check_end, split_body, take_section};
 use crate::message::write::{put, put_bytes};
 use crate::properties::Properties;
+use serde_amqp::derive::{Deserialize, Serialize};
 use std::alloc::Global;
 
 /// A message as a node between sender and receiver needs it: it reads the properties, changes the
@@ -48,8 +49,15 @@ impl<'a> LazyMessage<'a> {
     /// # Memory
     /// Allocates the header, the annotations and the properties from `alloc`. The body is not copied.
     pub fn from_slice(alloc: Global, bytes: &'a [u8]) -> Result<LazyMessage<'a>, MessageError>
-        ensures { IfOk result (λ m.
-            (before : List ℕ) × (bytes.now ≡ before ++ m.bare.now ++ m.footer.now)) }
+        ensures before { IfOk result (λ m. (s u : List ℕ)
+            × TakesSection ⟦<Header as Deserialize>⟧.reads bytes.now s m.header
+            × TakesSection ⟦<DeliveryAnnotations as Deserialize>⟧.reads s u m.delivery_annotations
+            × TakesSection ⟦<MessageAnnotations as Deserialize>⟧.reads u (m.bare.now ++ m.footer.now)
+            m.message_annotations) }
+        ensures bare { IfOk result (λ m. (s : List ℕ)
+            × TakesSection ⟦<Properties as Deserialize>⟧.reads (m.bare.now ++ m.footer.now) s m.properties
+            × TakesSection ⟦<ApplicationProperties as Deserialize>⟧.reads s (m.body.now ++ m.footer.now)
+            m.application_properties) }
     {
         check_order(bytes)?;
         let (header, rest) = take_section(alloc, bytes, SectionKind::Header)?;
@@ -92,8 +100,11 @@ impl<'a> LazyMessage<'a> {
     /// # Memory
     /// Allocates the bytes from `alloc`, and what `to_vec` allocates for the header and annotations.
     pub fn to_vec(&self, alloc: Global) -> Result<Vec<u8>, MessageError>
-        ensures { IfOk result (λ v. (before : List ℕ)
-            × (v.items ≡ before ++ self.now.bare.now ++ self.now.footer.now)) }
+        ensures { IfOk result (λ v. (s u w : List ℕ)
+            × PutsSection ⟦<Header as Serialize>⟧.tree [] s self.now.header
+            × PutsSection ⟦<DeliveryAnnotations as Serialize>⟧.tree s u self.now.delivery_annotations
+            × PutsSection ⟦<MessageAnnotations as Serialize>⟧.tree u w self.now.message_annotations
+            × (v.items ≡ w ++ self.now.bare.now ++ self.now.footer.now)) }
     {
         let mut out = Vec::new(alloc);
         put(alloc, &mut out, &self.header)?;

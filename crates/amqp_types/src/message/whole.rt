@@ -1,14 +1,17 @@
 //! Messages whose sections are all read.
 
+ghost use Rattle.std.specs.Prelude.{◌≡◌, ◌++◌, [], List, ℕ, IfOk};
+ghost use Rattle.amqp_types.specs.Messages.{PutsSection, PutsTree, TakesSection};
+
 use crate::annotations::{ApplicationProperties, DeliveryAnnotations, Footer, MessageAnnotations};
 use crate::header::Header;
 use crate::message::content::Body;
 use crate::message::encoded::{SectionKind, check_order};
 use crate::message::error::MessageError;
 use crate::message::read::{check_end, read_body, split_body, take_section};
-use crate::message::write::{put, put_bytes};
+use crate::message::write::{put, put_section};
 use crate::properties::Properties;
-use serde_amqp::to_vec;
+use serde_amqp::derive::{Deserialize, Serialize};
 use std::alloc::Global;
 
 /// A message (AMQP 1.0 part 3, section 3.2).
@@ -49,7 +52,16 @@ impl Message {
     ///
     /// # Example
     /// `0053704500537740` is a message with a header and the value null.
-    pub fn from_slice(alloc: Global, bytes: &[u8]) -> Result<Message, MessageError> {
+    pub fn from_slice(alloc: Global, bytes: &[u8]) -> Result<Message, MessageError>
+        ensures { IfOk result (λ m. (s u v w body after : List ℕ)
+            × TakesSection ⟦<Header as Deserialize>⟧.reads bytes.now s m.header
+            × TakesSection ⟦<DeliveryAnnotations as Deserialize>⟧.reads s u m.delivery_annotations
+            × TakesSection ⟦<MessageAnnotations as Deserialize>⟧.reads u v m.message_annotations
+            × TakesSection ⟦<Properties as Deserialize>⟧.reads v w m.properties
+            × TakesSection ⟦<ApplicationProperties as Deserialize>⟧.reads w (body ++ after)
+            m.application_properties
+            × TakesSection ⟦<Footer as Deserialize>⟧.reads after [] m.footer) }
+    {
         check_order(bytes)?;
         let (header, rest) = take_section(alloc, bytes, SectionKind::Header)?;
         let (delivery_annotations, rest) = take_section(
@@ -90,15 +102,23 @@ impl Message {
     ///
     /// # Memory
     /// Allocates the bytes from `alloc`, and what `to_vec` allocates for each section.
-    pub fn to_vec(&self, alloc: Global) -> Result<Vec<u8>, MessageError> {
+    pub fn to_vec(&self, alloc: Global) -> Result<Vec<u8>, MessageError>
+        ensures { IfOk result (λ all. (s u v w x y : List ℕ)
+            × PutsSection ⟦<Header as Serialize>⟧.tree [] s self.now.header
+            × PutsSection ⟦<DeliveryAnnotations as Serialize>⟧.tree s u self.now.delivery_annotations
+            × PutsSection ⟦<MessageAnnotations as Serialize>⟧.tree u v self.now.message_annotations
+            × PutsSection ⟦<Properties as Serialize>⟧.tree v w self.now.properties
+            × PutsSection ⟦<ApplicationProperties as Serialize>⟧.tree w x self.now.application_properties
+            × PutsTree (⟦<Body as Serialize>⟧.tree self.now.body) x y
+            × PutsSection ⟦<Footer as Serialize>⟧.tree y all.items self.now.footer) }
+    {
         let mut out = Vec::new(alloc);
         put(alloc, &mut out, &self.header)?;
         put(alloc, &mut out, &self.delivery_annotations)?;
         put(alloc, &mut out, &self.message_annotations)?;
         put(alloc, &mut out, &self.properties)?;
         put(alloc, &mut out, &self.application_properties)?;
-        let body = to_vec(alloc, &self.body)?;
-        put_bytes(&mut out, &body)?;
+        put_section(alloc, &mut out, &self.body)?;
         put(alloc, &mut out, &self.footer)?;
         Ok(out)
     }

@@ -1,14 +1,13 @@
 //! Writes sections.
 
 ghost use Rattle.std.specs.Prelude.{◌≡◌, ◌++◌, OnOk};
-ghost use Rattle.amqp_types.specs.Messages.{PutsSection};
+ghost use Rattle.amqp_types.specs.Messages.{PutsSection, PutsTree};
 
 use serde_amqp::derive::Serialize;
 use serde_amqp::{Error, to_vec};
 use std::alloc::Global;
 
 /// Appends a section, if there is one.
-#[tactic(auto, using(crate::proofs::MessageLemmas::put_tree))]
 pub(crate) fn put<T: Serialize>(
     alloc: Global,
     out: &mut Vec<u8>,
@@ -17,12 +16,22 @@ pub(crate) fn put<T: Serialize>(
     ensures { OnOk result (PutsSection T.tree out.old.items out.new.items section.now) }
 {
     match section {
-        Some(section) => {
-            let bytes = to_vec(alloc, section)?;
-            put_bytes(out, &bytes)
-        }
+        Some(section) => put_section(alloc, out, section),
         None => Ok(()),
     }
+}
+
+/// Appends a value.
+#[tactic(auto, using(crate::proofs::MessageLemmas::put_tree))]
+pub(crate) fn put_section<T: Serialize>(
+    alloc: Global,
+    out: &mut Vec<u8>,
+    section: &T,
+) -> Result<(), Error>
+    ensures { OnOk result (PutsTree (T.tree section.now) out.old.items out.new.items) }
+{
+    let bytes = to_vec(alloc, section)?;
+    put_bytes(out, &bytes)
 }
 
 /// Appends bytes.
