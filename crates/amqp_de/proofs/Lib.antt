@@ -12,3 +12,7 @@ pub mod FieldLemmas
 pub mod OtherCodes
 pub mod MultipleRefused
 pub mod LazyRefused
+pub mod NotArray
+pub mod MultipleReadings
+pub mod DefaultedReadings
+pub mod CompositeReadings

@@ -38,9 +38,9 @@ pub struct Footer(pub OrderedMap<AnnotationKey, Value>);
 
 // amqp: the impls below are written by tools/derive from the annotations above
 use serde_amqp::derive::{
-    Composite, Deserialize, DeserializeSeed, Deserializer, Global, PhantomData, Record, RoundTrip,
-    RoundTripComposite, Serialize, SerializeCompounds, Serializer, TypeSeed, laws, read,
-    read_composite_type,
+    Composite, Deserialize, DeserializeSeed, Deserializer, GaveUp, Global, PhantomData, Record,
+    RoundTrip, RoundTripComposite, Serialize, SerializeCompounds, Serializer, TypeSeed, laws, read,
+    read_composite_type, read_composite_type_encoded, read_parts_encoded,
 };
 
 impl Serialize for DeliveryAnnotations {
@@ -94,6 +94,17 @@ impl Composite for DeliveryAnnotations {
         )?;
         Ok(DeliveryAnnotations(part0))
     }
+
+    fn read_body_encoded(
+        alloc: Global,
+        code: u8,
+        input: &mut &[u8],
+        depth: u16,
+    ) -> Result<DeliveryAnnotations, GaveUp> {
+        let seed = TypeSeed(PhantomData::<OrderedMap<AnnotationKey, Value>>);
+        let part0 = read_parts_encoded::<DeliveryAnnotations, _>(alloc, code, input, depth, seed)?;
+        Ok(DeliveryAnnotations(part0))
+    }
 }
 
 impl Deserialize for DeliveryAnnotations {
@@ -114,6 +125,15 @@ impl Deserialize for DeliveryAnnotations {
         deserializer: D,
     ) -> Result<DeliveryAnnotations, D::Error> {
         read_composite_type::<DeliveryAnnotations, D>(alloc, deserializer)
+    }
+
+    fn read_encoded(
+        alloc: Global,
+        code: u8,
+        input: &mut &[u8],
+        depth: u16,
+    ) -> Result<DeliveryAnnotations, GaveUp> {
+        read_composite_type_encoded::<DeliveryAnnotations>(alloc, code, input, depth)
     }
 }
 
@@ -181,6 +201,17 @@ impl Composite for MessageAnnotations {
         )?;
         Ok(MessageAnnotations(part0))
     }
+
+    fn read_body_encoded(
+        alloc: Global,
+        code: u8,
+        input: &mut &[u8],
+        depth: u16,
+    ) -> Result<MessageAnnotations, GaveUp> {
+        let seed = TypeSeed(PhantomData::<OrderedMap<AnnotationKey, Value>>);
+        let part0 = read_parts_encoded::<MessageAnnotations, _>(alloc, code, input, depth, seed)?;
+        Ok(MessageAnnotations(part0))
+    }
 }
 
 impl Deserialize for MessageAnnotations {
@@ -201,6 +232,15 @@ impl Deserialize for MessageAnnotations {
         deserializer: D,
     ) -> Result<MessageAnnotations, D::Error> {
         read_composite_type::<MessageAnnotations, D>(alloc, deserializer)
+    }
+
+    fn read_encoded(
+        alloc: Global,
+        code: u8,
+        input: &mut &[u8],
+        depth: u16,
+    ) -> Result<MessageAnnotations, GaveUp> {
+        read_composite_type_encoded::<MessageAnnotations>(alloc, code, input, depth)
     }
 }
 
@@ -268,6 +308,19 @@ impl Composite for ApplicationProperties {
         )?;
         Ok(ApplicationProperties(part0))
     }
+
+    fn read_body_encoded(
+        alloc: Global,
+        code: u8,
+        input: &mut &[u8],
+        depth: u16,
+    ) -> Result<ApplicationProperties, GaveUp> {
+        let seed = TypeSeed(PhantomData::<OrderedMap<String, Value>>);
+        let part0 = read_parts_encoded::<ApplicationProperties, _>(
+            alloc, code, input, depth, seed,
+        )?;
+        Ok(ApplicationProperties(part0))
+    }
 }
 
 impl Deserialize for ApplicationProperties {
@@ -288,6 +341,15 @@ impl Deserialize for ApplicationProperties {
         deserializer: D,
     ) -> Result<ApplicationProperties, D::Error> {
         read_composite_type::<ApplicationProperties, D>(alloc, deserializer)
+    }
+
+    fn read_encoded(
+        alloc: Global,
+        code: u8,
+        input: &mut &[u8],
+        depth: u16,
+    ) -> Result<ApplicationProperties, GaveUp> {
+        read_composite_type_encoded::<ApplicationProperties>(alloc, code, input, depth)
     }
 }
 
@@ -352,6 +414,17 @@ impl Composite for Footer {
         )?;
         Ok(Footer(part0))
     }
+
+    fn read_body_encoded(
+        alloc: Global,
+        code: u8,
+        input: &mut &[u8],
+        depth: u16,
+    ) -> Result<Footer, GaveUp> {
+        let seed = TypeSeed(PhantomData::<OrderedMap<AnnotationKey, Value>>);
+        let part0 = read_parts_encoded::<Footer, _>(alloc, code, input, depth, seed)?;
+        Ok(Footer(part0))
+    }
 }
 
 impl Deserialize for Footer {
@@ -369,6 +442,15 @@ impl Deserialize for Footer {
 
     fn deserialize<D: Deserializer>(alloc: Global, deserializer: D) -> Result<Footer, D::Error> {
         read_composite_type::<Footer, D>(alloc, deserializer)
+    }
+
+    fn read_encoded(
+        alloc: Global,
+        code: u8,
+        input: &mut &[u8],
+        depth: u16,
+    ) -> Result<Footer, GaveUp> {
+        read_composite_type_encoded::<Footer>(alloc, code, input, depth)
     }
 }
 

@@ -29,9 +29,9 @@ pub struct AmqpValue(pub Value);
 
 // amqp: the impls below are written by tools/derive from the annotations above
 use serde_amqp::derive::{
-    Composite, Deserialize, DeserializeSeed, Deserializer, Global, PhantomData, Record, RoundTrip,
-    RoundTripComposite, Serialize, SerializeCompounds, Serializer, TypeSeed, laws, read,
-    read_composite_type,
+    Composite, Deserialize, DeserializeSeed, Deserializer, GaveUp, Global, PhantomData, Record,
+    RoundTrip, RoundTripComposite, Serialize, SerializeCompounds, Serializer, TypeSeed, laws, read,
+    read_composite_type, read_composite_type_encoded, read_parts_encoded,
 };
 
 impl Serialize for Data {
@@ -78,6 +78,17 @@ impl Composite for Data {
         let part0 = read::<Data, D, _>(alloc, deserializer, TypeSeed(PhantomData::<ByteBuf>))?;
         Ok(Data(part0))
     }
+
+    fn read_body_encoded(
+        alloc: Global,
+        code: u8,
+        input: &mut &[u8],
+        depth: u16,
+    ) -> Result<Data, GaveUp> {
+        let seed = TypeSeed(PhantomData::<ByteBuf>);
+        let part0 = read_parts_encoded::<Data, _>(alloc, code, input, depth, seed)?;
+        Ok(Data(part0))
+    }
 }
 
 impl Deserialize for Data {
@@ -95,6 +106,15 @@ impl Deserialize for Data {
 
     fn deserialize<D: Deserializer>(alloc: Global, deserializer: D) -> Result<Data, D::Error> {
         read_composite_type::<Data, D>(alloc, deserializer)
+    }
+
+    fn read_encoded(
+        alloc: Global,
+        code: u8,
+        input: &mut &[u8],
+        depth: u16,
+    ) -> Result<Data, GaveUp> {
+        read_composite_type_encoded::<Data>(alloc, code, input, depth)
     }
 }
 
@@ -162,6 +182,17 @@ impl Composite for AmqpSequence {
         )?;
         Ok(AmqpSequence(part0))
     }
+
+    fn read_body_encoded(
+        alloc: Global,
+        code: u8,
+        input: &mut &[u8],
+        depth: u16,
+    ) -> Result<AmqpSequence, GaveUp> {
+        let seed = TypeSeed(PhantomData::<Vec<Value>>);
+        let part0 = read_parts_encoded::<AmqpSequence, _>(alloc, code, input, depth, seed)?;
+        Ok(AmqpSequence(part0))
+    }
 }
 
 impl Deserialize for AmqpSequence {
@@ -182,6 +213,15 @@ impl Deserialize for AmqpSequence {
         deserializer: D,
     ) -> Result<AmqpSequence, D::Error> {
         read_composite_type::<AmqpSequence, D>(alloc, deserializer)
+    }
+
+    fn read_encoded(
+        alloc: Global,
+        code: u8,
+        input: &mut &[u8],
+        depth: u16,
+    ) -> Result<AmqpSequence, GaveUp> {
+        read_composite_type_encoded::<AmqpSequence>(alloc, code, input, depth)
     }
 }
 
@@ -242,6 +282,17 @@ impl Composite for AmqpValue {
         let part0 = read::<AmqpValue, D, _>(alloc, deserializer, TypeSeed(PhantomData::<Value>))?;
         Ok(AmqpValue(part0))
     }
+
+    fn read_body_encoded(
+        alloc: Global,
+        code: u8,
+        input: &mut &[u8],
+        depth: u16,
+    ) -> Result<AmqpValue, GaveUp> {
+        let seed = TypeSeed(PhantomData::<Value>);
+        let part0 = read_parts_encoded::<AmqpValue, _>(alloc, code, input, depth, seed)?;
+        Ok(AmqpValue(part0))
+    }
 }
 
 impl Deserialize for AmqpValue {
@@ -259,6 +310,15 @@ impl Deserialize for AmqpValue {
 
     fn deserialize<D: Deserializer>(alloc: Global, deserializer: D) -> Result<AmqpValue, D::Error> {
         read_composite_type::<AmqpValue, D>(alloc, deserializer)
+    }
+
+    fn read_encoded(
+        alloc: Global,
+        code: u8,
+        input: &mut &[u8],
+        depth: u16,
+    ) -> Result<AmqpValue, GaveUp> {
+        read_composite_type_encoded::<AmqpValue>(alloc, code, input, depth)
     }
 }
 

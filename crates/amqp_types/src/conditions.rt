@@ -103,8 +103,8 @@ pub enum TransactionCondition {
 
 // amqp: the impls below are written by tools/derive from the annotations above
 use serde_amqp::derive::{
-    Content, Deserialize, DeserializeError, Deserializer, Global, Name, RoundTrip, Serialize,
-    Serializer,
+    Content, Deserialize, DeserializeError, Deserializer, GaveUp, Global, Name, RoundTrip,
+    Serialize, Serializer,
 };
 
 impl AmqpCondition {
@@ -210,6 +210,56 @@ impl Deserialize for AmqpCondition {
             _ => Err(D::Error::invalid_value()),
         }
     }
+
+    fn read_encoded(
+        alloc: Global,
+        code: u8,
+        input: &mut &[u8],
+        depth: u16,
+    ) -> Result<AmqpCondition, GaveUp> {
+        let text = <Symbol as Deserialize>::read_encoded(alloc, code, input, depth)?;
+        let text = text.as_inner().as_str();
+        if text == "amqp:internal-error" {
+            return Ok(AmqpCondition::InternalError);
+        }
+        if text == "amqp:not-found" {
+            return Ok(AmqpCondition::NotFound);
+        }
+        if text == "amqp:unauthorized-access" {
+            return Ok(AmqpCondition::UnauthorizedAccess);
+        }
+        if text == "amqp:decode-error" {
+            return Ok(AmqpCondition::DecodeError);
+        }
+        if text == "amqp:resource-limit-exceeded" {
+            return Ok(AmqpCondition::ResourceLimitExceeded);
+        }
+        if text == "amqp:not-allowed" {
+            return Ok(AmqpCondition::NotAllowed);
+        }
+        if text == "amqp:invalid-field" {
+            return Ok(AmqpCondition::InvalidField);
+        }
+        if text == "amqp:not-implemented" {
+            return Ok(AmqpCondition::NotImplemented);
+        }
+        if text == "amqp:resource-locked" {
+            return Ok(AmqpCondition::ResourceLocked);
+        }
+        if text == "amqp:precondition-failed" {
+            return Ok(AmqpCondition::PreconditionFailed);
+        }
+        if text == "amqp:resource-deleted" {
+            return Ok(AmqpCondition::ResourceDeleted);
+        }
+        if text == "amqp:illegal-state" {
+            return Ok(AmqpCondition::IllegalState);
+        }
+        if text == "amqp:frame-size-too-small" {
+            return Ok(AmqpCondition::FrameSizeTooSmall);
+        }
+        Err(GaveUp)
+    }
 }
 
 impl RoundTrip for AmqpCondition {
@@ -278,6 +328,26 @@ impl Deserialize for ConnectionCondition {
             }
             _ => Err(D::Error::invalid_value()),
         }
+    }
+
+    fn read_encoded(
+        alloc: Global,
+        code: u8,
+        input: &mut &[u8],
+        depth: u16,
+    ) -> Result<ConnectionCondition, GaveUp> {
+        let text = <Symbol as Deserialize>::read_encoded(alloc, code, input, depth)?;
+        let text = text.as_inner().as_str();
+        if text == "amqp:connection:forced" {
+            return Ok(ConnectionCondition::ConnectionForced);
+        }
+        if text == "amqp:connection:framing-error" {
+            return Ok(ConnectionCondition::FramingError);
+        }
+        if text == "amqp:connection:redirect" {
+            return Ok(ConnectionCondition::Redirect);
+        }
+        Err(GaveUp)
     }
 }
 
@@ -351,6 +421,29 @@ impl Deserialize for SessionCondition {
             }
             _ => Err(D::Error::invalid_value()),
         }
+    }
+
+    fn read_encoded(
+        alloc: Global,
+        code: u8,
+        input: &mut &[u8],
+        depth: u16,
+    ) -> Result<SessionCondition, GaveUp> {
+        let text = <Symbol as Deserialize>::read_encoded(alloc, code, input, depth)?;
+        let text = text.as_inner().as_str();
+        if text == "amqp:session:window-violation" {
+            return Ok(SessionCondition::WindowViolation);
+        }
+        if text == "amqp:session:errant-link" {
+            return Ok(SessionCondition::ErrantLink);
+        }
+        if text == "amqp:session:handle-in-use" {
+            return Ok(SessionCondition::HandleInUse);
+        }
+        if text == "amqp:session:unattached-handle" {
+            return Ok(SessionCondition::UnattachedHandle);
+        }
+        Err(GaveUp)
     }
 }
 
@@ -429,6 +522,32 @@ impl Deserialize for LinkCondition {
             _ => Err(D::Error::invalid_value()),
         }
     }
+
+    fn read_encoded(
+        alloc: Global,
+        code: u8,
+        input: &mut &[u8],
+        depth: u16,
+    ) -> Result<LinkCondition, GaveUp> {
+        let text = <Symbol as Deserialize>::read_encoded(alloc, code, input, depth)?;
+        let text = text.as_inner().as_str();
+        if text == "amqp:link:detach-forced" {
+            return Ok(LinkCondition::DetachForced);
+        }
+        if text == "amqp:link:transfer-limit-exceeded" {
+            return Ok(LinkCondition::TransferLimitExceeded);
+        }
+        if text == "amqp:link:message-size-exceeded" {
+            return Ok(LinkCondition::MessageSizeExceeded);
+        }
+        if text == "amqp:link:redirect" {
+            return Ok(LinkCondition::Redirect);
+        }
+        if text == "amqp:link:stolen" {
+            return Ok(LinkCondition::Stolen);
+        }
+        Err(GaveUp)
+    }
 }
 
 impl RoundTrip for LinkCondition {
@@ -497,6 +616,26 @@ impl Deserialize for TransactionCondition {
             }
             _ => Err(D::Error::invalid_value()),
         }
+    }
+
+    fn read_encoded(
+        alloc: Global,
+        code: u8,
+        input: &mut &[u8],
+        depth: u16,
+    ) -> Result<TransactionCondition, GaveUp> {
+        let text = <Symbol as Deserialize>::read_encoded(alloc, code, input, depth)?;
+        let text = text.as_inner().as_str();
+        if text == "amqp:transaction:unknown-id" {
+            return Ok(TransactionCondition::UnknownId);
+        }
+        if text == "amqp:transaction:rollback" {
+            return Ok(TransactionCondition::TransactionRollback);
+        }
+        if text == "amqp:transaction:timeout" {
+            return Ok(TransactionCondition::TransactionTimeout);
+        }
+        Err(GaveUp)
     }
 }
 

@@ -37,9 +37,10 @@ pub struct Open {
 
 // amqp: the impls below are written by tools/derive from the annotations above
 use serde_amqp::derive::{
-    Composite, Deserialize, DeserializeSeed, Deserializer, FieldSeeds, FieldValues, Global, ListOf,
-    ListSeed, Optional, Record, Required, RoundTrip, RoundTripComposite, Serialize,
+    Composite, Deserialize, DeserializeSeed, Deserializer, FieldSeeds, FieldValues, GaveUp, Global,
+    ListOf, ListSeed, Optional, Record, Required, RoundTrip, RoundTripComposite, Serialize,
     SerializeCompounds, Serializer, fields, laws, named, read, read_composite_type,
+    read_composite_type_encoded, read_parts_encoded,
 };
 
 impl Serialize for Open {
@@ -209,6 +210,69 @@ impl Composite for Open {
             properties,
         })
     }
+
+    fn read_body_encoded(
+        alloc: Global,
+        code: u8,
+        input: &mut &[u8],
+        depth: u16,
+    ) -> Result<Open, GaveUp> {
+        let seed = ListSeed(
+            named! { "container-id", "hostname"?, "max-frame-size"?, "channel-max"?, "idle-time-out"?, "outgoing-locales"?, "incoming-locales"?, "offered-capabilities"?, "desired-capabilities"?, "properties"? },
+        );
+        let FieldValues {
+            value: container_id,
+            rest,
+        } = read_parts_encoded::<Open, _>(alloc, code, input, depth, seed)?;
+        let FieldValues {
+            value: hostname,
+            rest,
+        } = rest;
+        let FieldValues {
+            value: max_frame_size,
+            rest,
+        } = rest;
+        let FieldValues {
+            value: channel_max,
+            rest,
+        } = rest;
+        let FieldValues {
+            value: idle_time_out,
+            rest,
+        } = rest;
+        let FieldValues {
+            value: outgoing_locales,
+            rest,
+        } = rest;
+        let FieldValues {
+            value: incoming_locales,
+            rest,
+        } = rest;
+        let FieldValues {
+            value: offered_capabilities,
+            rest,
+        } = rest;
+        let FieldValues {
+            value: desired_capabilities,
+            rest,
+        } = rest;
+        let FieldValues {
+            value: properties,
+            rest: (),
+        } = rest;
+        Ok(Open {
+            container_id,
+            hostname,
+            max_frame_size,
+            channel_max,
+            idle_time_out,
+            outgoing_locales,
+            incoming_locales,
+            offered_capabilities,
+            desired_capabilities,
+            properties,
+        })
+    }
 }
 
 impl Deserialize for Open {
@@ -226,6 +290,15 @@ impl Deserialize for Open {
 
     fn deserialize<D: Deserializer>(alloc: Global, deserializer: D) -> Result<Open, D::Error> {
         read_composite_type::<Open, D>(alloc, deserializer)
+    }
+
+    fn read_encoded(
+        alloc: Global,
+        code: u8,
+        input: &mut &[u8],
+        depth: u16,
+    ) -> Result<Open, GaveUp> {
+        read_composite_type_encoded::<Open>(alloc, code, input, depth)
     }
 }
 

@@ -49,9 +49,10 @@ pub enum AnyTarget {
 // amqp: the impls below are written by tools/derive from the annotations above
 use serde_amqp::derive::{
     Alternatives, Composite, Content, Deserialize, DeserializeError, DeserializeSeed, Deserializer,
-    Either, FieldSeeds, FieldValues, Global, ListOf, ListSeed, Name, Never, Optional, Record,
-    RoundTrip, RoundTripAlternatives, RoundTripComposite, Serialize, SerializeCompounds,
-    Serializer, fields, laws, named, read, read_alternatives, read_composite_type,
+    Either, FieldSeeds, FieldValues, GaveUp, Global, ListOf, ListSeed, Name, Never, Optional,
+    Record, RoundTrip, RoundTripAlternatives, RoundTripComposite, Serialize, SerializeCompounds,
+    Serializer, fields, laws, named, read, read_alternatives, read_alternatives_encoded,
+    read_composite_type, read_composite_type_encoded, read_parts_encoded,
 };
 
 impl Serialize for Coordinator {
@@ -117,6 +118,20 @@ impl Composite for Coordinator {
         } = read::<Coordinator, D, _>(alloc, deserializer, ListSeed(named! { "capabilities"? }))?;
         Ok(Coordinator { capabilities })
     }
+
+    fn read_body_encoded(
+        alloc: Global,
+        code: u8,
+        input: &mut &[u8],
+        depth: u16,
+    ) -> Result<Coordinator, GaveUp> {
+        let seed = ListSeed(named! { "capabilities"? });
+        let FieldValues {
+            value: capabilities,
+            rest: (),
+        } = read_parts_encoded::<Coordinator, _>(alloc, code, input, depth, seed)?;
+        Ok(Coordinator { capabilities })
+    }
 }
 
 impl Deserialize for Coordinator {
@@ -137,6 +152,15 @@ impl Deserialize for Coordinator {
         deserializer: D,
     ) -> Result<Coordinator, D::Error> {
         read_composite_type::<Coordinator, D>(alloc, deserializer)
+    }
+
+    fn read_encoded(
+        alloc: Global,
+        code: u8,
+        input: &mut &[u8],
+        depth: u16,
+    ) -> Result<Coordinator, GaveUp> {
+        read_composite_type_encoded::<Coordinator>(alloc, code, input, depth)
     }
 }
 
@@ -224,6 +248,32 @@ impl Deserialize for TxnCapability {
             _ => Err(D::Error::invalid_value()),
         }
     }
+
+    fn read_encoded(
+        alloc: Global,
+        code: u8,
+        input: &mut &[u8],
+        depth: u16,
+    ) -> Result<TxnCapability, GaveUp> {
+        let text = <Symbol as Deserialize>::read_encoded(alloc, code, input, depth)?;
+        let text = text.as_inner().as_str();
+        if text == "amqp:local-transactions" {
+            return Ok(TxnCapability::LocalTransactions);
+        }
+        if text == "amqp:distributed-transactions" {
+            return Ok(TxnCapability::DistributedTransactions);
+        }
+        if text == "amqp:promotable-transactions" {
+            return Ok(TxnCapability::PromotableTransactions);
+        }
+        if text == "amqp:multi-txns-per-ssn" {
+            return Ok(TxnCapability::MultiTxnsPerSsn);
+        }
+        if text == "amqp:multi-ssns-per-txn" {
+            return Ok(TxnCapability::MultiSsnsPerTxn);
+        }
+        Err(GaveUp)
+    }
 }
 
 impl RoundTrip for TxnCapability {
@@ -264,6 +314,19 @@ impl Deserialize for AnyTarget {
 
     fn deserialize<D: Deserializer>(alloc: Global, deserializer: D) -> Result<AnyTarget, D::Error> {
         match read_alternatives::<AnyTarget, D>(alloc, deserializer)? {
+            Either::This(value) => Ok(AnyTarget::Target(value)),
+            Either::Other(Either::This(value)) => Ok(AnyTarget::Coordinator(value)),
+            Either::Other(Either::Other(never)) => match never {},
+        }
+    }
+
+    fn read_encoded(
+        alloc: Global,
+        code: u8,
+        input: &mut &[u8],
+        depth: u16,
+    ) -> Result<AnyTarget, GaveUp> {
+        match read_alternatives_encoded::<AnyTarget>(alloc, code, input, depth)? {
             Either::This(value) => Ok(AnyTarget::Target(value)),
             Either::Other(Either::This(value)) => Ok(AnyTarget::Coordinator(value)),
             Either::Other(Either::Other(never)) => match never {},

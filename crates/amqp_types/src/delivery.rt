@@ -61,9 +61,10 @@ pub struct Modified {
 
 // amqp: the impls below are written by tools/derive from the annotations above
 use serde_amqp::derive::{
-    Composite, Deserialize, DeserializeSeed, Deserializer, FieldSeeds, FieldValues, Global, ListOf,
-    ListSeed, Optional, Record, Required, RoundTrip, RoundTripComposite, Serialize,
-    SerializeCompounds, Serializer, fields, laws, named, read, read_composite_type, read_no_fields,
+    Composite, Deserialize, DeserializeSeed, Deserializer, FieldSeeds, FieldValues, GaveUp, Global,
+    ListOf, ListSeed, Optional, Record, Required, RoundTrip, RoundTripComposite, Serialize,
+    SerializeCompounds, Serializer, fields, laws, named, read, read_composite_type,
+    read_composite_type_encoded, read_no_fields, read_parts_encoded,
 };
 
 impl Serialize for Received {
@@ -143,6 +144,27 @@ impl Composite for Received {
             section_offset,
         })
     }
+
+    fn read_body_encoded(
+        alloc: Global,
+        code: u8,
+        input: &mut &[u8],
+        depth: u16,
+    ) -> Result<Received, GaveUp> {
+        let seed = ListSeed(named! { "section-number", "section-offset" });
+        let FieldValues {
+            value: section_number,
+            rest,
+        } = read_parts_encoded::<Received, _>(alloc, code, input, depth, seed)?;
+        let FieldValues {
+            value: section_offset,
+            rest: (),
+        } = rest;
+        Ok(Received {
+            section_number,
+            section_offset,
+        })
+    }
 }
 
 impl Deserialize for Received {
@@ -160,6 +182,15 @@ impl Deserialize for Received {
 
     fn deserialize<D: Deserializer>(alloc: Global, deserializer: D) -> Result<Received, D::Error> {
         read_composite_type::<Received, D>(alloc, deserializer)
+    }
+
+    fn read_encoded(
+        alloc: Global,
+        code: u8,
+        input: &mut &[u8],
+        depth: u16,
+    ) -> Result<Received, GaveUp> {
+        read_composite_type_encoded::<Received>(alloc, code, input, depth)
     }
 }
 
@@ -225,6 +256,17 @@ impl Composite for Accepted {
         let () = read_no_fields::<D>(deserializer)?;
         Ok(Accepted)
     }
+
+    fn read_body_encoded(
+        alloc: Global,
+        code: u8,
+        input: &mut &[u8],
+        depth: u16,
+    ) -> Result<Accepted, GaveUp> {
+        let seed = ListSeed(());
+        let () = read_parts_encoded::<Accepted, _>(alloc, code, input, depth, seed)?;
+        Ok(Accepted)
+    }
 }
 
 impl Deserialize for Accepted {
@@ -242,6 +284,15 @@ impl Deserialize for Accepted {
 
     fn deserialize<D: Deserializer>(alloc: Global, deserializer: D) -> Result<Accepted, D::Error> {
         read_composite_type::<Accepted, D>(alloc, deserializer)
+    }
+
+    fn read_encoded(
+        alloc: Global,
+        code: u8,
+        input: &mut &[u8],
+        depth: u16,
+    ) -> Result<Accepted, GaveUp> {
+        read_composite_type_encoded::<Accepted>(alloc, code, input, depth)
     }
 }
 
@@ -321,6 +372,20 @@ impl Composite for Rejected {
         } = read::<Rejected, D, _>(alloc, deserializer, ListSeed(named! { "error"? }))?;
         Ok(Rejected { error })
     }
+
+    fn read_body_encoded(
+        alloc: Global,
+        code: u8,
+        input: &mut &[u8],
+        depth: u16,
+    ) -> Result<Rejected, GaveUp> {
+        let seed = ListSeed(named! { "error"? });
+        let FieldValues {
+            value: error,
+            rest: (),
+        } = read_parts_encoded::<Rejected, _>(alloc, code, input, depth, seed)?;
+        Ok(Rejected { error })
+    }
 }
 
 impl Deserialize for Rejected {
@@ -338,6 +403,15 @@ impl Deserialize for Rejected {
 
     fn deserialize<D: Deserializer>(alloc: Global, deserializer: D) -> Result<Rejected, D::Error> {
         read_composite_type::<Rejected, D>(alloc, deserializer)
+    }
+
+    fn read_encoded(
+        alloc: Global,
+        code: u8,
+        input: &mut &[u8],
+        depth: u16,
+    ) -> Result<Rejected, GaveUp> {
+        read_composite_type_encoded::<Rejected>(alloc, code, input, depth)
     }
 }
 
@@ -403,6 +477,17 @@ impl Composite for Released {
         let () = read_no_fields::<D>(deserializer)?;
         Ok(Released)
     }
+
+    fn read_body_encoded(
+        alloc: Global,
+        code: u8,
+        input: &mut &[u8],
+        depth: u16,
+    ) -> Result<Released, GaveUp> {
+        let seed = ListSeed(());
+        let () = read_parts_encoded::<Released, _>(alloc, code, input, depth, seed)?;
+        Ok(Released)
+    }
 }
 
 impl Deserialize for Released {
@@ -420,6 +505,15 @@ impl Deserialize for Released {
 
     fn deserialize<D: Deserializer>(alloc: Global, deserializer: D) -> Result<Released, D::Error> {
         read_composite_type::<Released, D>(alloc, deserializer)
+    }
+
+    fn read_encoded(
+        alloc: Global,
+        code: u8,
+        input: &mut &[u8],
+        depth: u16,
+    ) -> Result<Released, GaveUp> {
+        read_composite_type_encoded::<Released>(alloc, code, input, depth)
     }
 }
 
@@ -521,6 +615,34 @@ impl Composite for Modified {
             message_annotations,
         })
     }
+
+    fn read_body_encoded(
+        alloc: Global,
+        code: u8,
+        input: &mut &[u8],
+        depth: u16,
+    ) -> Result<Modified, GaveUp> {
+        let seed = ListSeed(
+            named! { "delivery-failed"?, "undeliverable-here"?, "message-annotations"? },
+        );
+        let FieldValues {
+            value: delivery_failed,
+            rest,
+        } = read_parts_encoded::<Modified, _>(alloc, code, input, depth, seed)?;
+        let FieldValues {
+            value: undeliverable_here,
+            rest,
+        } = rest;
+        let FieldValues {
+            value: message_annotations,
+            rest: (),
+        } = rest;
+        Ok(Modified {
+            delivery_failed,
+            undeliverable_here,
+            message_annotations,
+        })
+    }
 }
 
 impl Deserialize for Modified {
@@ -538,6 +660,15 @@ impl Deserialize for Modified {
 
     fn deserialize<D: Deserializer>(alloc: Global, deserializer: D) -> Result<Modified, D::Error> {
         read_composite_type::<Modified, D>(alloc, deserializer)
+    }
+
+    fn read_encoded(
+        alloc: Global,
+        code: u8,
+        input: &mut &[u8],
+        depth: u16,
+    ) -> Result<Modified, GaveUp> {
+        read_composite_type_encoded::<Modified>(alloc, code, input, depth)
     }
 }
 

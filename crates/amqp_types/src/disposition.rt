@@ -28,9 +28,10 @@ pub struct Disposition {
 
 // amqp: the impls below are written by tools/derive from the annotations above
 use serde_amqp::derive::{
-    Composite, Deserialize, DeserializeSeed, Deserializer, FieldSeeds, FieldValues, Global, ListOf,
-    ListSeed, Optional, Record, Required, RoundTrip, RoundTripComposite, Serialize,
+    Composite, Deserialize, DeserializeSeed, Deserializer, FieldSeeds, FieldValues, GaveUp, Global,
+    ListOf, ListSeed, Optional, Record, Required, RoundTrip, RoundTripComposite, Serialize,
     SerializeCompounds, Serializer, fields, laws, named, read, read_composite_type,
+    read_composite_type_encoded, read_parts_encoded,
 };
 
 impl Serialize for Disposition {
@@ -133,6 +134,39 @@ impl Composite for Disposition {
             batchable,
         })
     }
+
+    fn read_body_encoded(
+        alloc: Global,
+        code: u8,
+        input: &mut &[u8],
+        depth: u16,
+    ) -> Result<Disposition, GaveUp> {
+        let seed = ListSeed(
+            named! { "role", "first", "last"?, "settled"?, "state"?, "batchable"? },
+        );
+        let FieldValues { value: role, rest } = read_parts_encoded::<Disposition, _>(
+            alloc, code, input, depth, seed,
+        )?;
+        let FieldValues { value: first, rest } = rest;
+        let FieldValues { value: last, rest } = rest;
+        let FieldValues {
+            value: settled,
+            rest,
+        } = rest;
+        let FieldValues { value: state, rest } = rest;
+        let FieldValues {
+            value: batchable,
+            rest: (),
+        } = rest;
+        Ok(Disposition {
+            role,
+            first,
+            last,
+            settled,
+            state,
+            batchable,
+        })
+    }
 }
 
 impl Deserialize for Disposition {
@@ -153,6 +187,15 @@ impl Deserialize for Disposition {
         deserializer: D,
     ) -> Result<Disposition, D::Error> {
         read_composite_type::<Disposition, D>(alloc, deserializer)
+    }
+
+    fn read_encoded(
+        alloc: Global,
+        code: u8,
+        input: &mut &[u8],
+        depth: u16,
+    ) -> Result<Disposition, GaveUp> {
+        read_composite_type_encoded::<Disposition>(alloc, code, input, depth)
     }
 }
 

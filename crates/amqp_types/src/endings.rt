@@ -42,9 +42,10 @@ pub struct Close {
 
 // amqp: the impls below are written by tools/derive from the annotations above
 use serde_amqp::derive::{
-    Composite, Deserialize, DeserializeSeed, Deserializer, FieldSeeds, FieldValues, Global, ListOf,
-    ListSeed, Optional, Record, Required, RoundTrip, RoundTripComposite, Serialize,
+    Composite, Deserialize, DeserializeSeed, Deserializer, FieldSeeds, FieldValues, GaveUp, Global,
+    ListOf, ListSeed, Optional, Record, Required, RoundTrip, RoundTripComposite, Serialize,
     SerializeCompounds, Serializer, fields, laws, named, read, read_composite_type,
+    read_composite_type_encoded, read_parts_encoded,
 };
 
 impl Serialize for Detach {
@@ -132,6 +133,32 @@ impl Composite for Detach {
             error,
         })
     }
+
+    fn read_body_encoded(
+        alloc: Global,
+        code: u8,
+        input: &mut &[u8],
+        depth: u16,
+    ) -> Result<Detach, GaveUp> {
+        let seed = ListSeed(named! { "handle", "closed"?, "error"? });
+        let FieldValues {
+            value: handle,
+            rest,
+        } = read_parts_encoded::<Detach, _>(alloc, code, input, depth, seed)?;
+        let FieldValues {
+            value: closed,
+            rest,
+        } = rest;
+        let FieldValues {
+            value: error,
+            rest: (),
+        } = rest;
+        Ok(Detach {
+            handle,
+            closed,
+            error,
+        })
+    }
 }
 
 impl Deserialize for Detach {
@@ -149,6 +176,15 @@ impl Deserialize for Detach {
 
     fn deserialize<D: Deserializer>(alloc: Global, deserializer: D) -> Result<Detach, D::Error> {
         read_composite_type::<Detach, D>(alloc, deserializer)
+    }
+
+    fn read_encoded(
+        alloc: Global,
+        code: u8,
+        input: &mut &[u8],
+        depth: u16,
+    ) -> Result<Detach, GaveUp> {
+        read_composite_type_encoded::<Detach>(alloc, code, input, depth)
     }
 }
 
@@ -243,6 +279,20 @@ impl Composite for End {
         } = read::<End, D, _>(alloc, deserializer, ListSeed(named! { "error"? }))?;
         Ok(End { error })
     }
+
+    fn read_body_encoded(
+        alloc: Global,
+        code: u8,
+        input: &mut &[u8],
+        depth: u16,
+    ) -> Result<End, GaveUp> {
+        let seed = ListSeed(named! { "error"? });
+        let FieldValues {
+            value: error,
+            rest: (),
+        } = read_parts_encoded::<End, _>(alloc, code, input, depth, seed)?;
+        Ok(End { error })
+    }
 }
 
 impl Deserialize for End {
@@ -260,6 +310,10 @@ impl Deserialize for End {
 
     fn deserialize<D: Deserializer>(alloc: Global, deserializer: D) -> Result<End, D::Error> {
         read_composite_type::<End, D>(alloc, deserializer)
+    }
+
+    fn read_encoded(alloc: Global, code: u8, input: &mut &[u8], depth: u16) -> Result<End, GaveUp> {
+        read_composite_type_encoded::<End>(alloc, code, input, depth)
     }
 }
 
@@ -339,6 +393,20 @@ impl Composite for Close {
         } = read::<Close, D, _>(alloc, deserializer, ListSeed(named! { "error"? }))?;
         Ok(Close { error })
     }
+
+    fn read_body_encoded(
+        alloc: Global,
+        code: u8,
+        input: &mut &[u8],
+        depth: u16,
+    ) -> Result<Close, GaveUp> {
+        let seed = ListSeed(named! { "error"? });
+        let FieldValues {
+            value: error,
+            rest: (),
+        } = read_parts_encoded::<Close, _>(alloc, code, input, depth, seed)?;
+        Ok(Close { error })
+    }
 }
 
 impl Deserialize for Close {
@@ -356,6 +424,15 @@ impl Deserialize for Close {
 
     fn deserialize<D: Deserializer>(alloc: Global, deserializer: D) -> Result<Close, D::Error> {
         read_composite_type::<Close, D>(alloc, deserializer)
+    }
+
+    fn read_encoded(
+        alloc: Global,
+        code: u8,
+        input: &mut &[u8],
+        depth: u16,
+    ) -> Result<Close, GaveUp> {
+        read_composite_type_encoded::<Close>(alloc, code, input, depth)
     }
 }
 

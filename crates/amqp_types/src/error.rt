@@ -20,9 +20,10 @@ pub struct AmqpError {
 
 // amqp: the impls below are written by tools/derive from the annotations above
 use serde_amqp::derive::{
-    Composite, Deserialize, DeserializeSeed, Deserializer, FieldSeeds, FieldValues, Global, ListOf,
-    ListSeed, Optional, Record, Required, RoundTrip, RoundTripComposite, Serialize,
+    Composite, Deserialize, DeserializeSeed, Deserializer, FieldSeeds, FieldValues, GaveUp, Global,
+    ListOf, ListSeed, Optional, Record, Required, RoundTrip, RoundTripComposite, Serialize,
     SerializeCompounds, Serializer, fields, laws, named, read, read_composite_type,
+    read_composite_type_encoded, read_parts_encoded,
 };
 
 impl Serialize for AmqpError {
@@ -110,6 +111,32 @@ impl Composite for AmqpError {
             info,
         })
     }
+
+    fn read_body_encoded(
+        alloc: Global,
+        code: u8,
+        input: &mut &[u8],
+        depth: u16,
+    ) -> Result<AmqpError, GaveUp> {
+        let seed = ListSeed(named! { "condition", "description"?, "info"? });
+        let FieldValues {
+            value: condition,
+            rest,
+        } = read_parts_encoded::<AmqpError, _>(alloc, code, input, depth, seed)?;
+        let FieldValues {
+            value: description,
+            rest,
+        } = rest;
+        let FieldValues {
+            value: info,
+            rest: (),
+        } = rest;
+        Ok(AmqpError {
+            condition,
+            description,
+            info,
+        })
+    }
 }
 
 impl Deserialize for AmqpError {
@@ -127,6 +154,15 @@ impl Deserialize for AmqpError {
 
     fn deserialize<D: Deserializer>(alloc: Global, deserializer: D) -> Result<AmqpError, D::Error> {
         read_composite_type::<AmqpError, D>(alloc, deserializer)
+    }
+
+    fn read_encoded(
+        alloc: Global,
+        code: u8,
+        input: &mut &[u8],
+        depth: u16,
+    ) -> Result<AmqpError, GaveUp> {
+        read_composite_type_encoded::<AmqpError>(alloc, code, input, depth)
     }
 }
 

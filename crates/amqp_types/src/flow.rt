@@ -38,9 +38,10 @@ pub struct Flow {
 
 // amqp: the impls below are written by tools/derive from the annotations above
 use serde_amqp::derive::{
-    Composite, Deserialize, DeserializeSeed, Deserializer, FieldSeeds, FieldValues, Global, ListOf,
-    ListSeed, Optional, Record, Required, RoundTrip, RoundTripComposite, Serialize,
+    Composite, Deserialize, DeserializeSeed, Deserializer, FieldSeeds, FieldValues, GaveUp, Global,
+    ListOf, ListSeed, Optional, Record, Required, RoundTrip, RoundTripComposite, Serialize,
     SerializeCompounds, Serializer, fields, laws, named, read, read_composite_type,
+    read_composite_type_encoded, read_parts_encoded,
 };
 
 impl Serialize for Flow {
@@ -215,6 +216,68 @@ impl Composite for Flow {
             properties,
         })
     }
+
+    fn read_body_encoded(
+        alloc: Global,
+        code: u8,
+        input: &mut &[u8],
+        depth: u16,
+    ) -> Result<Flow, GaveUp> {
+        let seed = ListSeed(
+            named! { "next-incoming-id"?, "incoming-window", "next-outgoing-id", "outgoing-window", "handle"?, "delivery-count"?, "link-credit"?, "available"?, "drain"?, "echo"?, "properties"? },
+        );
+        let FieldValues {
+            value: next_incoming_id,
+            rest,
+        } = read_parts_encoded::<Flow, _>(alloc, code, input, depth, seed)?;
+        let FieldValues {
+            value: incoming_window,
+            rest,
+        } = rest;
+        let FieldValues {
+            value: next_outgoing_id,
+            rest,
+        } = rest;
+        let FieldValues {
+            value: outgoing_window,
+            rest,
+        } = rest;
+        let FieldValues {
+            value: handle,
+            rest,
+        } = rest;
+        let FieldValues {
+            value: delivery_count,
+            rest,
+        } = rest;
+        let FieldValues {
+            value: link_credit,
+            rest,
+        } = rest;
+        let FieldValues {
+            value: available,
+            rest,
+        } = rest;
+        let FieldValues { value: drain, rest } = rest;
+        let FieldValues { value: echo, rest } = rest;
+        let FieldValues {
+            value: properties,
+            rest: (),
+        } = rest;
+        Ok(Flow {
+            next_incoming_id,
+            incoming_window,
+            next_outgoing_id,
+            outgoing_window,
+            handle,
+            delivery_count,
+            link_credit,
+            available,
+            drain,
+            echo,
+            properties,
+        })
+    }
 }
 
 impl Deserialize for Flow {
@@ -232,6 +295,15 @@ impl Deserialize for Flow {
 
     fn deserialize<D: Deserializer>(alloc: Global, deserializer: D) -> Result<Flow, D::Error> {
         read_composite_type::<Flow, D>(alloc, deserializer)
+    }
+
+    fn read_encoded(
+        alloc: Global,
+        code: u8,
+        input: &mut &[u8],
+        depth: u16,
+    ) -> Result<Flow, GaveUp> {
+        read_composite_type_encoded::<Flow>(alloc, code, input, depth)
     }
 }
 

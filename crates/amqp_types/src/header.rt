@@ -25,9 +25,10 @@ pub struct Header {
 
 // amqp: the impls below are written by tools/derive from the annotations above
 use serde_amqp::derive::{
-    Composite, Deserialize, DeserializeSeed, Deserializer, FieldSeeds, FieldValues, Global, ListOf,
-    ListSeed, Optional, Record, RoundTrip, RoundTripComposite, Serialize, SerializeCompounds,
-    Serializer, fields, laws, named, read, read_composite_type,
+    Composite, Deserialize, DeserializeSeed, Deserializer, FieldSeeds, FieldValues, GaveUp, Global,
+    ListOf, ListSeed, Optional, Record, RoundTrip, RoundTripComposite, Serialize,
+    SerializeCompounds, Serializer, fields, laws, named, read, read_composite_type,
+    read_composite_type_encoded, read_parts_encoded,
 };
 
 impl Serialize for Header {
@@ -130,6 +131,41 @@ impl Composite for Header {
             delivery_count,
         })
     }
+
+    fn read_body_encoded(
+        alloc: Global,
+        code: u8,
+        input: &mut &[u8],
+        depth: u16,
+    ) -> Result<Header, GaveUp> {
+        let seed = ListSeed(
+            named! { "durable"?, "priority"?, "ttl"?, "first-acquirer"?, "delivery-count"? },
+        );
+        let FieldValues {
+            value: durable,
+            rest,
+        } = read_parts_encoded::<Header, _>(alloc, code, input, depth, seed)?;
+        let FieldValues {
+            value: priority,
+            rest,
+        } = rest;
+        let FieldValues { value: ttl, rest } = rest;
+        let FieldValues {
+            value: first_acquirer,
+            rest,
+        } = rest;
+        let FieldValues {
+            value: delivery_count,
+            rest: (),
+        } = rest;
+        Ok(Header {
+            durable,
+            priority,
+            ttl,
+            first_acquirer,
+            delivery_count,
+        })
+    }
 }
 
 impl Deserialize for Header {
@@ -147,6 +183,15 @@ impl Deserialize for Header {
 
     fn deserialize<D: Deserializer>(alloc: Global, deserializer: D) -> Result<Header, D::Error> {
         read_composite_type::<Header, D>(alloc, deserializer)
+    }
+
+    fn read_encoded(
+        alloc: Global,
+        code: u8,
+        input: &mut &[u8],
+        depth: u16,
+    ) -> Result<Header, GaveUp> {
+        read_composite_type_encoded::<Header>(alloc, code, input, depth)
     }
 }
 

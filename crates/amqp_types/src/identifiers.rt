@@ -45,8 +45,8 @@ pub enum AnnotationKey {
 
 // amqp: the impls below are written by tools/derive from the annotations above
 use serde_amqp::derive::{
-    Content, Deserialize, DeserializeError, Deserializer, Global, MapKey, RoundTrip, Serialize,
-    Serializer,
+    Content, Deserialize, DeserializeError, Deserializer, GaveUp, Global, MapKey, RoundTrip,
+    Serialize, Serializer,
 };
 
 impl Serialize for MessageId {
@@ -96,6 +96,31 @@ impl Deserialize for MessageId {
             _ => Err(D::Error::invalid_value()),
         }
     }
+
+    fn read_encoded(
+        alloc: Global,
+        code: u8,
+        input: &mut &[u8],
+        depth: u16,
+    ) -> Result<MessageId, GaveUp> {
+        let start = *input;
+        if let Ok(value) = <u64 as Deserialize>::read_encoded(alloc, code, input, depth) {
+            return Ok(MessageId::Ulong(value));
+        }
+        *input = start;
+        if let Ok(value) = <Uuid as Deserialize>::read_encoded(alloc, code, input, depth) {
+            return Ok(MessageId::Uuid(value));
+        }
+        *input = start;
+        if let Ok(value) = <ByteBuf as Deserialize>::read_encoded(alloc, code, input, depth) {
+            return Ok(MessageId::Binary(value));
+        }
+        *input = start;
+        if let Ok(value) = <String as Deserialize>::read_encoded(alloc, code, input, depth) {
+            return Ok(MessageId::String(value));
+        }
+        Err(GaveUp)
+    }
 }
 
 impl RoundTrip for MessageId {
@@ -135,6 +160,19 @@ impl Deserialize for Address {
             Content::String(value) => Ok(Address::String(value)),
             _ => Err(D::Error::invalid_value()),
         }
+    }
+
+    fn read_encoded(
+        alloc: Global,
+        code: u8,
+        input: &mut &[u8],
+        depth: u16,
+    ) -> Result<Address, GaveUp> {
+        let start = *input;
+        if let Ok(value) = <String as Deserialize>::read_encoded(alloc, code, input, depth) {
+            return Ok(Address::String(value));
+        }
+        Err(GaveUp)
     }
 }
 
@@ -182,6 +220,23 @@ impl Deserialize for AnnotationKey {
             Content::Ulong(value) => Ok(AnnotationKey::Ulong(value)),
             _ => Err(D::Error::invalid_value()),
         }
+    }
+
+    fn read_encoded(
+        alloc: Global,
+        code: u8,
+        input: &mut &[u8],
+        depth: u16,
+    ) -> Result<AnnotationKey, GaveUp> {
+        let start = *input;
+        if let Ok(value) = <Symbol as Deserialize>::read_encoded(alloc, code, input, depth) {
+            return Ok(AnnotationKey::Symbol(value));
+        }
+        *input = start;
+        if let Ok(value) = <u64 as Deserialize>::read_encoded(alloc, code, input, depth) {
+            return Ok(AnnotationKey::Ulong(value));
+        }
+        Err(GaveUp)
     }
 }
 

@@ -53,9 +53,10 @@ pub enum LifetimePolicy {
 // amqp: the impls below are written by tools/derive from the annotations above
 use serde_amqp::derive::{
     Alternatives, Composite, Deserialize, DeserializeSeed, Deserializer, Either, FieldSeeds,
-    Global, ListOf, ListSeed, Never, Record, RoundTrip, RoundTripAlternatives, RoundTripComposite,
-    Serialize, SerializeCompounds, Serializer, fields, laws, read_alternatives,
-    read_composite_type, read_no_fields,
+    GaveUp, Global, ListOf, ListSeed, Never, Record, RoundTrip, RoundTripAlternatives,
+    RoundTripComposite, Serialize, SerializeCompounds, Serializer, fields, laws, read_alternatives,
+    read_alternatives_encoded, read_composite_type, read_composite_type_encoded, read_no_fields,
+    read_parts_encoded,
 };
 
 impl Serialize for DeleteOnClose {
@@ -110,6 +111,17 @@ impl Composite for DeleteOnClose {
         let () = read_no_fields::<D>(deserializer)?;
         Ok(DeleteOnClose)
     }
+
+    fn read_body_encoded(
+        alloc: Global,
+        code: u8,
+        input: &mut &[u8],
+        depth: u16,
+    ) -> Result<DeleteOnClose, GaveUp> {
+        let seed = ListSeed(());
+        let () = read_parts_encoded::<DeleteOnClose, _>(alloc, code, input, depth, seed)?;
+        Ok(DeleteOnClose)
+    }
 }
 
 impl Deserialize for DeleteOnClose {
@@ -130,6 +142,15 @@ impl Deserialize for DeleteOnClose {
         deserializer: D,
     ) -> Result<DeleteOnClose, D::Error> {
         read_composite_type::<DeleteOnClose, D>(alloc, deserializer)
+    }
+
+    fn read_encoded(
+        alloc: Global,
+        code: u8,
+        input: &mut &[u8],
+        depth: u16,
+    ) -> Result<DeleteOnClose, GaveUp> {
+        read_composite_type_encoded::<DeleteOnClose>(alloc, code, input, depth)
     }
 }
 
@@ -198,6 +219,17 @@ impl Composite for DeleteOnNoLinks {
         let () = read_no_fields::<D>(deserializer)?;
         Ok(DeleteOnNoLinks)
     }
+
+    fn read_body_encoded(
+        alloc: Global,
+        code: u8,
+        input: &mut &[u8],
+        depth: u16,
+    ) -> Result<DeleteOnNoLinks, GaveUp> {
+        let seed = ListSeed(());
+        let () = read_parts_encoded::<DeleteOnNoLinks, _>(alloc, code, input, depth, seed)?;
+        Ok(DeleteOnNoLinks)
+    }
 }
 
 impl Deserialize for DeleteOnNoLinks {
@@ -218,6 +250,15 @@ impl Deserialize for DeleteOnNoLinks {
         deserializer: D,
     ) -> Result<DeleteOnNoLinks, D::Error> {
         read_composite_type::<DeleteOnNoLinks, D>(alloc, deserializer)
+    }
+
+    fn read_encoded(
+        alloc: Global,
+        code: u8,
+        input: &mut &[u8],
+        depth: u16,
+    ) -> Result<DeleteOnNoLinks, GaveUp> {
+        read_composite_type_encoded::<DeleteOnNoLinks>(alloc, code, input, depth)
     }
 }
 
@@ -286,6 +327,17 @@ impl Composite for DeleteOnNoMessages {
         let () = read_no_fields::<D>(deserializer)?;
         Ok(DeleteOnNoMessages)
     }
+
+    fn read_body_encoded(
+        alloc: Global,
+        code: u8,
+        input: &mut &[u8],
+        depth: u16,
+    ) -> Result<DeleteOnNoMessages, GaveUp> {
+        let seed = ListSeed(());
+        let () = read_parts_encoded::<DeleteOnNoMessages, _>(alloc, code, input, depth, seed)?;
+        Ok(DeleteOnNoMessages)
+    }
 }
 
 impl Deserialize for DeleteOnNoMessages {
@@ -306,6 +358,15 @@ impl Deserialize for DeleteOnNoMessages {
         deserializer: D,
     ) -> Result<DeleteOnNoMessages, D::Error> {
         read_composite_type::<DeleteOnNoMessages, D>(alloc, deserializer)
+    }
+
+    fn read_encoded(
+        alloc: Global,
+        code: u8,
+        input: &mut &[u8],
+        depth: u16,
+    ) -> Result<DeleteOnNoMessages, GaveUp> {
+        read_composite_type_encoded::<DeleteOnNoMessages>(alloc, code, input, depth)
     }
 }
 
@@ -374,6 +435,19 @@ impl Composite for DeleteOnNoLinksOrMessages {
         let () = read_no_fields::<D>(deserializer)?;
         Ok(DeleteOnNoLinksOrMessages)
     }
+
+    fn read_body_encoded(
+        alloc: Global,
+        code: u8,
+        input: &mut &[u8],
+        depth: u16,
+    ) -> Result<DeleteOnNoLinksOrMessages, GaveUp> {
+        let seed = ListSeed(());
+        let () = read_parts_encoded::<DeleteOnNoLinksOrMessages, _>(
+            alloc, code, input, depth, seed,
+        )?;
+        Ok(DeleteOnNoLinksOrMessages)
+    }
 }
 
 impl Deserialize for DeleteOnNoLinksOrMessages {
@@ -394,6 +468,15 @@ impl Deserialize for DeleteOnNoLinksOrMessages {
         deserializer: D,
     ) -> Result<DeleteOnNoLinksOrMessages, D::Error> {
         read_composite_type::<DeleteOnNoLinksOrMessages, D>(alloc, deserializer)
+    }
+
+    fn read_encoded(
+        alloc: Global,
+        code: u8,
+        input: &mut &[u8],
+        depth: u16,
+    ) -> Result<DeleteOnNoLinksOrMessages, GaveUp> {
+        read_composite_type_encoded::<DeleteOnNoLinksOrMessages>(alloc, code, input, depth)
     }
 }
 
@@ -455,6 +538,25 @@ impl Deserialize for LifetimePolicy {
         deserializer: D,
     ) -> Result<LifetimePolicy, D::Error> {
         match read_alternatives::<LifetimePolicy, D>(alloc, deserializer)? {
+            Either::This(value) => Ok(LifetimePolicy::DeleteOnClose(value)),
+            Either::Other(Either::This(value)) => Ok(LifetimePolicy::DeleteOnNoLinks(value)),
+            Either::Other(Either::Other(Either::This(value))) => Ok(
+                LifetimePolicy::DeleteOnNoMessages(value),
+            ),
+            Either::Other(Either::Other(Either::Other(Either::This(value)))) => Ok(
+                LifetimePolicy::DeleteOnNoLinksOrMessages(value),
+            ),
+            Either::Other(Either::Other(Either::Other(Either::Other(never)))) => match never {},
+        }
+    }
+
+    fn read_encoded(
+        alloc: Global,
+        code: u8,
+        input: &mut &[u8],
+        depth: u16,
+    ) -> Result<LifetimePolicy, GaveUp> {
+        match read_alternatives_encoded::<LifetimePolicy>(alloc, code, input, depth)? {
             Either::This(value) => Ok(LifetimePolicy::DeleteOnClose(value)),
             Either::Other(Either::This(value)) => Ok(LifetimePolicy::DeleteOnNoLinks(value)),
             Either::Other(Either::Other(Either::This(value))) => Ok(

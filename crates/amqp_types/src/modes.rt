@@ -43,8 +43,8 @@ pub enum ReceiverSettleMode {
 
 // amqp: the impls below are written by tools/derive from the annotations above
 use serde_amqp::derive::{
-    Deserialize, DeserializeError, Deserializer, FixedContent, Global, RoundTrip, Serialize,
-    Serializer,
+    Deserialize, DeserializeError, Deserializer, FixedContent, GaveUp, Global, RoundTrip,
+    Serialize, Serializer,
 };
 
 impl Serialize for Role {
@@ -81,6 +81,19 @@ impl Deserialize for Role {
             FixedContent::Bool(false) => Ok(Role::Sender),
             FixedContent::Bool(true) => Ok(Role::Receiver),
             _ => Err(D::Error::invalid_value()),
+        }
+    }
+
+    fn read_encoded(
+        alloc: Global,
+        code: u8,
+        input: &mut &[u8],
+        depth: u16,
+    ) -> Result<Role, GaveUp> {
+        match <bool as Deserialize>::read_encoded(alloc, code, input, depth) {
+            Ok(false) => Ok(Role::Sender),
+            Ok(true) => Ok(Role::Receiver),
+            _ => Err(GaveUp),
         }
     }
 }
@@ -130,6 +143,20 @@ impl Deserialize for SenderSettleMode {
             _ => Err(D::Error::invalid_value()),
         }
     }
+
+    fn read_encoded(
+        alloc: Global,
+        code: u8,
+        input: &mut &[u8],
+        depth: u16,
+    ) -> Result<SenderSettleMode, GaveUp> {
+        match <u8 as Deserialize>::read_encoded(alloc, code, input, depth) {
+            Ok(0) => Ok(SenderSettleMode::Unsettled),
+            Ok(1) => Ok(SenderSettleMode::Settled),
+            Ok(2) => Ok(SenderSettleMode::Mixed),
+            _ => Err(GaveUp),
+        }
+    }
 }
 
 impl RoundTrip for SenderSettleMode {
@@ -173,6 +200,19 @@ impl Deserialize for ReceiverSettleMode {
             FixedContent::Ubyte(0) => Ok(ReceiverSettleMode::First),
             FixedContent::Ubyte(1) => Ok(ReceiverSettleMode::Second),
             _ => Err(D::Error::invalid_value()),
+        }
+    }
+
+    fn read_encoded(
+        alloc: Global,
+        code: u8,
+        input: &mut &[u8],
+        depth: u16,
+    ) -> Result<ReceiverSettleMode, GaveUp> {
+        match <u8 as Deserialize>::read_encoded(alloc, code, input, depth) {
+            Ok(0) => Ok(ReceiverSettleMode::First),
+            Ok(1) => Ok(ReceiverSettleMode::Second),
+            _ => Err(GaveUp),
         }
     }
 }

@@ -63,8 +63,9 @@ pub enum SaslFrame {
 
 // amqp: the impls below are written by tools/derive from the annotations above
 use serde_amqp::derive::{
-    Alternatives, Deserialize, Deserializer, Either, Global, Record, RoundTrip,
+    Alternatives, Deserialize, Deserializer, Either, GaveUp, Global, Record, RoundTrip,
     RoundTripAlternatives, Serialize, Serializer, laws, read_alternatives,
+    read_alternatives_encoded,
 };
 
 impl Record for Performative {
@@ -177,6 +178,64 @@ impl Deserialize for Performative {
             ) => Ok(Performative::Other(value)),
         }
     }
+
+    fn read_encoded(
+        alloc: Global,
+        code: u8,
+        input: &mut &[u8],
+        depth: u16,
+    ) -> Result<Performative, GaveUp> {
+        match read_alternatives_encoded::<Performative>(alloc, code, input, depth)? {
+            Either::This(value) => Ok(Performative::Open(value)),
+            Either::Other(Either::This(value)) => Ok(Performative::Begin(value)),
+            Either::Other(Either::Other(Either::This(value))) => Ok(Performative::Attach(value)),
+            Either::Other(Either::Other(Either::Other(Either::This(value)))) => Ok(
+                Performative::Flow(value),
+            ),
+            Either::Other(Either::Other(Either::Other(Either::Other(Either::This(value))))) => Ok(
+                Performative::Transfer(value),
+            ),
+            Either::Other(
+                Either::Other(Either::Other(Either::Other(Either::Other(Either::This(value))))),
+            ) => Ok(Performative::Disposition(value)),
+            Either::Other(
+                Either::Other(
+                    Either::Other(Either::Other(Either::Other(Either::Other(Either::This(value))))),
+                ),
+            ) => Ok(Performative::Detach(value)),
+            Either::Other(
+                Either::Other(
+                    Either::Other(
+                        Either::Other(
+                            Either::Other(Either::Other(Either::Other(Either::This(value)))),
+                        ),
+                    ),
+                ),
+            ) => Ok(Performative::End(value)),
+            Either::Other(
+                Either::Other(
+                    Either::Other(
+                        Either::Other(
+                            Either::Other(
+                                Either::Other(Either::Other(Either::Other(Either::This(value)))),
+                            ),
+                        ),
+                    ),
+                ),
+            ) => Ok(Performative::Close(value)),
+            Either::Other(
+                Either::Other(
+                    Either::Other(
+                        Either::Other(
+                            Either::Other(
+                                Either::Other(Either::Other(Either::Other(Either::Other(value)))),
+                            ),
+                        ),
+                    ),
+                ),
+            ) => Ok(Performative::Other(value)),
+        }
+    }
 }
 
 impl RoundTrip for Performative {
@@ -226,6 +285,30 @@ impl Deserialize for SaslFrame {
 
     fn deserialize<D: Deserializer>(alloc: Global, deserializer: D) -> Result<SaslFrame, D::Error> {
         match read_alternatives::<SaslFrame, D>(alloc, deserializer)? {
+            Either::This(value) => Ok(SaslFrame::SaslMechanisms(value)),
+            Either::Other(Either::This(value)) => Ok(SaslFrame::SaslInit(value)),
+            Either::Other(Either::Other(Either::This(value))) => Ok(SaslFrame::SaslChallenge(
+                value,
+            )),
+            Either::Other(Either::Other(Either::Other(Either::This(value)))) => Ok(
+                SaslFrame::SaslResponse(value),
+            ),
+            Either::Other(Either::Other(Either::Other(Either::Other(Either::This(value))))) => Ok(
+                SaslFrame::SaslOutcome(value),
+            ),
+            Either::Other(Either::Other(Either::Other(Either::Other(Either::Other(value))))) => Ok(
+                SaslFrame::Other(value),
+            ),
+        }
+    }
+
+    fn read_encoded(
+        alloc: Global,
+        code: u8,
+        input: &mut &[u8],
+        depth: u16,
+    ) -> Result<SaslFrame, GaveUp> {
+        match read_alternatives_encoded::<SaslFrame>(alloc, code, input, depth)? {
             Either::This(value) => Ok(SaslFrame::SaslMechanisms(value)),
             Either::Other(Either::This(value)) => Ok(SaslFrame::SaslInit(value)),
             Either::Other(Either::Other(Either::This(value))) => Ok(SaslFrame::SaslChallenge(

@@ -40,9 +40,10 @@ pub struct Properties {
 
 // amqp: the impls below are written by tools/derive from the annotations above
 use serde_amqp::derive::{
-    Composite, Deserialize, DeserializeSeed, Deserializer, FieldSeeds, FieldValues, Global, ListOf,
-    ListSeed, Optional, Record, RoundTrip, RoundTripComposite, Serialize, SerializeCompounds,
-    Serializer, fields, laws, named, read, read_composite_type,
+    Composite, Deserialize, DeserializeSeed, Deserializer, FieldSeeds, FieldValues, GaveUp, Global,
+    ListOf, ListSeed, Optional, Record, RoundTrip, RoundTripComposite, Serialize,
+    SerializeCompounds, Serializer, fields, laws, named, read, read_composite_type,
+    read_composite_type_encoded, read_parts_encoded,
 };
 
 impl Serialize for Properties {
@@ -239,6 +240,81 @@ impl Composite for Properties {
             reply_to_group_id,
         })
     }
+
+    fn read_body_encoded(
+        alloc: Global,
+        code: u8,
+        input: &mut &[u8],
+        depth: u16,
+    ) -> Result<Properties, GaveUp> {
+        let seed = ListSeed(
+            named! { "message-id"?, "user-id"?, "to"?, "subject"?, "reply-to"?, "correlation-id"?, "content-type"?, "content-encoding"?, "absolute-expiry-time"?, "creation-time"?, "group-id"?, "group-sequence"?, "reply-to-group-id"? },
+        );
+        let FieldValues {
+            value: message_id,
+            rest,
+        } = read_parts_encoded::<Properties, _>(alloc, code, input, depth, seed)?;
+        let FieldValues {
+            value: user_id,
+            rest,
+        } = rest;
+        let FieldValues { value: to, rest } = rest;
+        let FieldValues {
+            value: subject,
+            rest,
+        } = rest;
+        let FieldValues {
+            value: reply_to,
+            rest,
+        } = rest;
+        let FieldValues {
+            value: correlation_id,
+            rest,
+        } = rest;
+        let FieldValues {
+            value: content_type,
+            rest,
+        } = rest;
+        let FieldValues {
+            value: content_encoding,
+            rest,
+        } = rest;
+        let FieldValues {
+            value: absolute_expiry_time,
+            rest,
+        } = rest;
+        let FieldValues {
+            value: creation_time,
+            rest,
+        } = rest;
+        let FieldValues {
+            value: group_id,
+            rest,
+        } = rest;
+        let FieldValues {
+            value: group_sequence,
+            rest,
+        } = rest;
+        let FieldValues {
+            value: reply_to_group_id,
+            rest: (),
+        } = rest;
+        Ok(Properties {
+            message_id,
+            user_id,
+            to,
+            subject,
+            reply_to,
+            correlation_id,
+            content_type,
+            content_encoding,
+            absolute_expiry_time,
+            creation_time,
+            group_id,
+            group_sequence,
+            reply_to_group_id,
+        })
+    }
 }
 
 impl Deserialize for Properties {
@@ -259,6 +335,15 @@ impl Deserialize for Properties {
         deserializer: D,
     ) -> Result<Properties, D::Error> {
         read_composite_type::<Properties, D>(alloc, deserializer)
+    }
+
+    fn read_encoded(
+        alloc: Global,
+        code: u8,
+        input: &mut &[u8],
+        depth: u16,
+    ) -> Result<Properties, GaveUp> {
+        read_composite_type_encoded::<Properties>(alloc, code, input, depth)
     }
 }
 

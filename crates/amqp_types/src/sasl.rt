@@ -52,9 +52,10 @@ pub struct SaslResponse {
 
 // amqp: the impls below are written by tools/derive from the annotations above
 use serde_amqp::derive::{
-    Composite, Deserialize, DeserializeSeed, Deserializer, FieldSeeds, FieldValues, Global, ListOf,
-    ListSeed, Optional, Record, Required, RoundTrip, RoundTripComposite, Serialize,
+    Composite, Deserialize, DeserializeSeed, Deserializer, FieldSeeds, FieldValues, GaveUp, Global,
+    ListOf, ListSeed, Optional, Record, Required, RoundTrip, RoundTripComposite, Serialize,
     SerializeCompounds, Serializer, fields, laws, named, read, read_composite_type,
+    read_composite_type_encoded, read_parts_encoded,
 };
 
 impl Serialize for SaslMechanisms {
@@ -129,6 +130,22 @@ impl Composite for SaslMechanisms {
             sasl_server_mechanisms,
         })
     }
+
+    fn read_body_encoded(
+        alloc: Global,
+        code: u8,
+        input: &mut &[u8],
+        depth: u16,
+    ) -> Result<SaslMechanisms, GaveUp> {
+        let seed = ListSeed(named! { "sasl-server-mechanisms" });
+        let FieldValues {
+            value: sasl_server_mechanisms,
+            rest: (),
+        } = read_parts_encoded::<SaslMechanisms, _>(alloc, code, input, depth, seed)?;
+        Ok(SaslMechanisms {
+            sasl_server_mechanisms,
+        })
+    }
 }
 
 impl Deserialize for SaslMechanisms {
@@ -149,6 +166,15 @@ impl Deserialize for SaslMechanisms {
         deserializer: D,
     ) -> Result<SaslMechanisms, D::Error> {
         read_composite_type::<SaslMechanisms, D>(alloc, deserializer)
+    }
+
+    fn read_encoded(
+        alloc: Global,
+        code: u8,
+        input: &mut &[u8],
+        depth: u16,
+    ) -> Result<SaslMechanisms, GaveUp> {
+        read_composite_type_encoded::<SaslMechanisms>(alloc, code, input, depth)
     }
 }
 
@@ -250,6 +276,32 @@ impl Composite for SaslInit {
             hostname,
         })
     }
+
+    fn read_body_encoded(
+        alloc: Global,
+        code: u8,
+        input: &mut &[u8],
+        depth: u16,
+    ) -> Result<SaslInit, GaveUp> {
+        let seed = ListSeed(named! { "mechanism", "initial-response"?, "hostname"? });
+        let FieldValues {
+            value: mechanism,
+            rest,
+        } = read_parts_encoded::<SaslInit, _>(alloc, code, input, depth, seed)?;
+        let FieldValues {
+            value: initial_response,
+            rest,
+        } = rest;
+        let FieldValues {
+            value: hostname,
+            rest: (),
+        } = rest;
+        Ok(SaslInit {
+            mechanism,
+            initial_response,
+            hostname,
+        })
+    }
 }
 
 impl Deserialize for SaslInit {
@@ -267,6 +319,15 @@ impl Deserialize for SaslInit {
 
     fn deserialize<D: Deserializer>(alloc: Global, deserializer: D) -> Result<SaslInit, D::Error> {
         read_composite_type::<SaslInit, D>(alloc, deserializer)
+    }
+
+    fn read_encoded(
+        alloc: Global,
+        code: u8,
+        input: &mut &[u8],
+        depth: u16,
+    ) -> Result<SaslInit, GaveUp> {
+        read_composite_type_encoded::<SaslInit>(alloc, code, input, depth)
     }
 }
 
@@ -349,6 +410,20 @@ impl Composite for SaslChallenge {
         } = read::<SaslChallenge, D, _>(alloc, deserializer, ListSeed(named! { "challenge" }))?;
         Ok(SaslChallenge { challenge })
     }
+
+    fn read_body_encoded(
+        alloc: Global,
+        code: u8,
+        input: &mut &[u8],
+        depth: u16,
+    ) -> Result<SaslChallenge, GaveUp> {
+        let seed = ListSeed(named! { "challenge" });
+        let FieldValues {
+            value: challenge,
+            rest: (),
+        } = read_parts_encoded::<SaslChallenge, _>(alloc, code, input, depth, seed)?;
+        Ok(SaslChallenge { challenge })
+    }
 }
 
 impl Deserialize for SaslChallenge {
@@ -369,6 +444,15 @@ impl Deserialize for SaslChallenge {
         deserializer: D,
     ) -> Result<SaslChallenge, D::Error> {
         read_composite_type::<SaslChallenge, D>(alloc, deserializer)
+    }
+
+    fn read_encoded(
+        alloc: Global,
+        code: u8,
+        input: &mut &[u8],
+        depth: u16,
+    ) -> Result<SaslChallenge, GaveUp> {
+        read_composite_type_encoded::<SaslChallenge>(alloc, code, input, depth)
     }
 }
 
@@ -451,6 +535,20 @@ impl Composite for SaslResponse {
         } = read::<SaslResponse, D, _>(alloc, deserializer, ListSeed(named! { "response" }))?;
         Ok(SaslResponse { response })
     }
+
+    fn read_body_encoded(
+        alloc: Global,
+        code: u8,
+        input: &mut &[u8],
+        depth: u16,
+    ) -> Result<SaslResponse, GaveUp> {
+        let seed = ListSeed(named! { "response" });
+        let FieldValues {
+            value: response,
+            rest: (),
+        } = read_parts_encoded::<SaslResponse, _>(alloc, code, input, depth, seed)?;
+        Ok(SaslResponse { response })
+    }
 }
 
 impl Deserialize for SaslResponse {
@@ -471,6 +569,15 @@ impl Deserialize for SaslResponse {
         deserializer: D,
     ) -> Result<SaslResponse, D::Error> {
         read_composite_type::<SaslResponse, D>(alloc, deserializer)
+    }
+
+    fn read_encoded(
+        alloc: Global,
+        code: u8,
+        input: &mut &[u8],
+        depth: u16,
+    ) -> Result<SaslResponse, GaveUp> {
+        read_composite_type_encoded::<SaslResponse>(alloc, code, input, depth)
     }
 }
 

@@ -37,9 +37,9 @@ pub enum SaslCode {
 // amqp: the impls below are written by tools/derive from the annotations above
 use serde_amqp::derive::{
     Composite, Deserialize, DeserializeError, DeserializeSeed, Deserializer, FieldSeeds,
-    FieldValues, FixedContent, Global, ListOf, ListSeed, Optional, Record, Required, RoundTrip,
-    RoundTripComposite, Serialize, SerializeCompounds, Serializer, fields, laws, named, read,
-    read_composite_type,
+    FieldValues, FixedContent, GaveUp, Global, ListOf, ListSeed, Optional, Record, Required,
+    RoundTrip, RoundTripComposite, Serialize, SerializeCompounds, Serializer, fields, laws, named,
+    read, read_composite_type, read_composite_type_encoded, read_parts_encoded,
 };
 
 impl Serialize for SaslOutcome {
@@ -116,6 +116,26 @@ impl Composite for SaslOutcome {
             additional_data,
         })
     }
+
+    fn read_body_encoded(
+        alloc: Global,
+        code: u8,
+        input: &mut &[u8],
+        depth: u16,
+    ) -> Result<SaslOutcome, GaveUp> {
+        let seed = ListSeed(named! { "code", "additional-data"? });
+        let FieldValues { value: code, rest } = read_parts_encoded::<SaslOutcome, _>(
+            alloc, code, input, depth, seed,
+        )?;
+        let FieldValues {
+            value: additional_data,
+            rest: (),
+        } = rest;
+        Ok(SaslOutcome {
+            code,
+            additional_data,
+        })
+    }
 }
 
 impl Deserialize for SaslOutcome {
@@ -136,6 +156,15 @@ impl Deserialize for SaslOutcome {
         deserializer: D,
     ) -> Result<SaslOutcome, D::Error> {
         read_composite_type::<SaslOutcome, D>(alloc, deserializer)
+    }
+
+    fn read_encoded(
+        alloc: Global,
+        code: u8,
+        input: &mut &[u8],
+        depth: u16,
+    ) -> Result<SaslOutcome, GaveUp> {
+        read_composite_type_encoded::<SaslOutcome>(alloc, code, input, depth)
     }
 }
 
@@ -192,6 +221,22 @@ impl Deserialize for SaslCode {
             FixedContent::Ubyte(3) => Ok(SaslCode::SysPerm),
             FixedContent::Ubyte(4) => Ok(SaslCode::SysTemp),
             _ => Err(D::Error::invalid_value()),
+        }
+    }
+
+    fn read_encoded(
+        alloc: Global,
+        code: u8,
+        input: &mut &[u8],
+        depth: u16,
+    ) -> Result<SaslCode, GaveUp> {
+        match <u8 as Deserialize>::read_encoded(alloc, code, input, depth) {
+            Ok(0) => Ok(SaslCode::Ok),
+            Ok(1) => Ok(SaslCode::Auth),
+            Ok(2) => Ok(SaslCode::Sys),
+            Ok(3) => Ok(SaslCode::SysPerm),
+            Ok(4) => Ok(SaslCode::SysTemp),
+            _ => Err(GaveUp),
         }
     }
 }

@@ -31,9 +31,10 @@ pub struct Begin {
 
 // amqp: the impls below are written by tools/derive from the annotations above
 use serde_amqp::derive::{
-    Composite, Deserialize, DeserializeSeed, Deserializer, FieldSeeds, FieldValues, Global, ListOf,
-    ListSeed, Optional, Record, Required, RoundTrip, RoundTripComposite, Serialize,
+    Composite, Deserialize, DeserializeSeed, Deserializer, FieldSeeds, FieldValues, GaveUp, Global,
+    ListOf, ListSeed, Optional, Record, Required, RoundTrip, RoundTripComposite, Serialize,
     SerializeCompounds, Serializer, fields, laws, named, read, read_composite_type,
+    read_composite_type_encoded, read_parts_encoded,
 };
 
 impl Serialize for Begin {
@@ -181,6 +182,59 @@ impl Composite for Begin {
             properties,
         })
     }
+
+    fn read_body_encoded(
+        alloc: Global,
+        code: u8,
+        input: &mut &[u8],
+        depth: u16,
+    ) -> Result<Begin, GaveUp> {
+        let seed = ListSeed(
+            named! { "remote-channel"?, "next-outgoing-id", "incoming-window", "outgoing-window", "handle-max"?, "offered-capabilities"?, "desired-capabilities"?, "properties"? },
+        );
+        let FieldValues {
+            value: remote_channel,
+            rest,
+        } = read_parts_encoded::<Begin, _>(alloc, code, input, depth, seed)?;
+        let FieldValues {
+            value: next_outgoing_id,
+            rest,
+        } = rest;
+        let FieldValues {
+            value: incoming_window,
+            rest,
+        } = rest;
+        let FieldValues {
+            value: outgoing_window,
+            rest,
+        } = rest;
+        let FieldValues {
+            value: handle_max,
+            rest,
+        } = rest;
+        let FieldValues {
+            value: offered_capabilities,
+            rest,
+        } = rest;
+        let FieldValues {
+            value: desired_capabilities,
+            rest,
+        } = rest;
+        let FieldValues {
+            value: properties,
+            rest: (),
+        } = rest;
+        Ok(Begin {
+            remote_channel,
+            next_outgoing_id,
+            incoming_window,
+            outgoing_window,
+            handle_max,
+            offered_capabilities,
+            desired_capabilities,
+            properties,
+        })
+    }
 }
 
 impl Deserialize for Begin {
@@ -198,6 +252,15 @@ impl Deserialize for Begin {
 
     fn deserialize<D: Deserializer>(alloc: Global, deserializer: D) -> Result<Begin, D::Error> {
         read_composite_type::<Begin, D>(alloc, deserializer)
+    }
+
+    fn read_encoded(
+        alloc: Global,
+        code: u8,
+        input: &mut &[u8],
+        depth: u16,
+    ) -> Result<Begin, GaveUp> {
+        read_composite_type_encoded::<Begin>(alloc, code, input, depth)
     }
 }
 

@@ -47,8 +47,8 @@ pub enum DistributionMode {
 
 // amqp: the impls below are written by tools/derive from the annotations above
 use serde_amqp::derive::{
-    Content, Deserialize, DeserializeError, Deserializer, FixedContent, Global, Name, RoundTrip,
-    Serialize, Serializer,
+    Content, Deserialize, DeserializeError, Deserializer, FixedContent, GaveUp, Global, Name,
+    RoundTrip, Serialize, Serializer,
 };
 
 impl Serialize for TerminusDurability {
@@ -90,6 +90,20 @@ impl Deserialize for TerminusDurability {
             FixedContent::Uint(1) => Ok(TerminusDurability::Configuration),
             FixedContent::Uint(2) => Ok(TerminusDurability::UnsettledState),
             _ => Err(D::Error::invalid_value()),
+        }
+    }
+
+    fn read_encoded(
+        alloc: Global,
+        code: u8,
+        input: &mut &[u8],
+        depth: u16,
+    ) -> Result<TerminusDurability, GaveUp> {
+        match <u32 as Deserialize>::read_encoded(alloc, code, input, depth) {
+            Ok(0) => Ok(TerminusDurability::None),
+            Ok(1) => Ok(TerminusDurability::Configuration),
+            Ok(2) => Ok(TerminusDurability::UnsettledState),
+            _ => Err(GaveUp),
         }
     }
 }
@@ -165,6 +179,29 @@ impl Deserialize for TerminusExpiryPolicy {
             _ => Err(D::Error::invalid_value()),
         }
     }
+
+    fn read_encoded(
+        alloc: Global,
+        code: u8,
+        input: &mut &[u8],
+        depth: u16,
+    ) -> Result<TerminusExpiryPolicy, GaveUp> {
+        let text = <Symbol as Deserialize>::read_encoded(alloc, code, input, depth)?;
+        let text = text.as_inner().as_str();
+        if text == "link-detach" {
+            return Ok(TerminusExpiryPolicy::LinkDetach);
+        }
+        if text == "session-end" {
+            return Ok(TerminusExpiryPolicy::SessionEnd);
+        }
+        if text == "connection-close" {
+            return Ok(TerminusExpiryPolicy::ConnectionClose);
+        }
+        if text == "never" {
+            return Ok(TerminusExpiryPolicy::Never);
+        }
+        Err(GaveUp)
+    }
 }
 
 impl RoundTrip for TerminusExpiryPolicy {
@@ -229,6 +266,23 @@ impl Deserialize for DistributionMode {
             }
             _ => Err(D::Error::invalid_value()),
         }
+    }
+
+    fn read_encoded(
+        alloc: Global,
+        code: u8,
+        input: &mut &[u8],
+        depth: u16,
+    ) -> Result<DistributionMode, GaveUp> {
+        let text = <Symbol as Deserialize>::read_encoded(alloc, code, input, depth)?;
+        let text = text.as_inner().as_str();
+        if text == "move" {
+            return Ok(DistributionMode::Move);
+        }
+        if text == "copy" {
+            return Ok(DistributionMode::Copy);
+        }
+        Err(GaveUp)
     }
 }
 

@@ -54,9 +54,10 @@ pub struct TransactionalState {
 
 // amqp: the impls below are written by tools/derive from the annotations above
 use serde_amqp::derive::{
-    Composite, Deserialize, DeserializeSeed, Deserializer, FieldSeeds, FieldValues, Global, ListOf,
-    ListSeed, Optional, Record, Required, RoundTrip, RoundTripComposite, Serialize,
+    Composite, Deserialize, DeserializeSeed, Deserializer, FieldSeeds, FieldValues, GaveUp, Global,
+    ListOf, ListSeed, Optional, Record, Required, RoundTrip, RoundTripComposite, Serialize,
     SerializeCompounds, Serializer, fields, laws, named, read, read_composite_type,
+    read_composite_type_encoded, read_parts_encoded,
 };
 
 impl Serialize for Declare {
@@ -122,6 +123,20 @@ impl Composite for Declare {
         } = read::<Declare, D, _>(alloc, deserializer, ListSeed(named! { "global-id"? }))?;
         Ok(Declare { global_id })
     }
+
+    fn read_body_encoded(
+        alloc: Global,
+        code: u8,
+        input: &mut &[u8],
+        depth: u16,
+    ) -> Result<Declare, GaveUp> {
+        let seed = ListSeed(named! { "global-id"? });
+        let FieldValues {
+            value: global_id,
+            rest: (),
+        } = read_parts_encoded::<Declare, _>(alloc, code, input, depth, seed)?;
+        Ok(Declare { global_id })
+    }
 }
 
 impl Deserialize for Declare {
@@ -139,6 +154,15 @@ impl Deserialize for Declare {
 
     fn deserialize<D: Deserializer>(alloc: Global, deserializer: D) -> Result<Declare, D::Error> {
         read_composite_type::<Declare, D>(alloc, deserializer)
+    }
+
+    fn read_encoded(
+        alloc: Global,
+        code: u8,
+        input: &mut &[u8],
+        depth: u16,
+    ) -> Result<Declare, GaveUp> {
+        read_composite_type_encoded::<Declare>(alloc, code, input, depth)
     }
 }
 
@@ -225,6 +249,24 @@ impl Composite for Discharge {
         } = rest;
         Ok(Discharge { txn_id, fail })
     }
+
+    fn read_body_encoded(
+        alloc: Global,
+        code: u8,
+        input: &mut &[u8],
+        depth: u16,
+    ) -> Result<Discharge, GaveUp> {
+        let seed = ListSeed(named! { "txn-id", "fail"? });
+        let FieldValues {
+            value: txn_id,
+            rest,
+        } = read_parts_encoded::<Discharge, _>(alloc, code, input, depth, seed)?;
+        let FieldValues {
+            value: fail,
+            rest: (),
+        } = rest;
+        Ok(Discharge { txn_id, fail })
+    }
 }
 
 impl Deserialize for Discharge {
@@ -242,6 +284,15 @@ impl Deserialize for Discharge {
 
     fn deserialize<D: Deserializer>(alloc: Global, deserializer: D) -> Result<Discharge, D::Error> {
         read_composite_type::<Discharge, D>(alloc, deserializer)
+    }
+
+    fn read_encoded(
+        alloc: Global,
+        code: u8,
+        input: &mut &[u8],
+        depth: u16,
+    ) -> Result<Discharge, GaveUp> {
+        read_composite_type_encoded::<Discharge>(alloc, code, input, depth)
     }
 }
 
@@ -321,6 +372,20 @@ impl Composite for Declared {
         } = read::<Declared, D, _>(alloc, deserializer, ListSeed(named! { "txn-id" }))?;
         Ok(Declared { txn_id })
     }
+
+    fn read_body_encoded(
+        alloc: Global,
+        code: u8,
+        input: &mut &[u8],
+        depth: u16,
+    ) -> Result<Declared, GaveUp> {
+        let seed = ListSeed(named! { "txn-id" });
+        let FieldValues {
+            value: txn_id,
+            rest: (),
+        } = read_parts_encoded::<Declared, _>(alloc, code, input, depth, seed)?;
+        Ok(Declared { txn_id })
+    }
 }
 
 impl Deserialize for Declared {
@@ -338,6 +403,15 @@ impl Deserialize for Declared {
 
     fn deserialize<D: Deserializer>(alloc: Global, deserializer: D) -> Result<Declared, D::Error> {
         read_composite_type::<Declared, D>(alloc, deserializer)
+    }
+
+    fn read_encoded(
+        alloc: Global,
+        code: u8,
+        input: &mut &[u8],
+        depth: u16,
+    ) -> Result<Declared, GaveUp> {
+        read_composite_type_encoded::<Declared>(alloc, code, input, depth)
     }
 }
 
@@ -431,6 +505,24 @@ impl Composite for TransactionalState {
         } = rest;
         Ok(TransactionalState { txn_id, outcome })
     }
+
+    fn read_body_encoded(
+        alloc: Global,
+        code: u8,
+        input: &mut &[u8],
+        depth: u16,
+    ) -> Result<TransactionalState, GaveUp> {
+        let seed = ListSeed(named! { "txn-id", "outcome"? });
+        let FieldValues {
+            value: txn_id,
+            rest,
+        } = read_parts_encoded::<TransactionalState, _>(alloc, code, input, depth, seed)?;
+        let FieldValues {
+            value: outcome,
+            rest: (),
+        } = rest;
+        Ok(TransactionalState { txn_id, outcome })
+    }
 }
 
 impl Deserialize for TransactionalState {
@@ -451,6 +543,15 @@ impl Deserialize for TransactionalState {
         deserializer: D,
     ) -> Result<TransactionalState, D::Error> {
         read_composite_type::<TransactionalState, D>(alloc, deserializer)
+    }
+
+    fn read_encoded(
+        alloc: Global,
+        code: u8,
+        input: &mut &[u8],
+        depth: u16,
+    ) -> Result<TransactionalState, GaveUp> {
+        read_composite_type_encoded::<TransactionalState>(alloc, code, input, depth)
     }
 }
 

@@ -41,9 +41,10 @@ pub struct Transfer {
 
 // amqp: the impls below are written by tools/derive from the annotations above
 use serde_amqp::derive::{
-    Composite, Deserialize, DeserializeSeed, Deserializer, FieldSeeds, FieldValues, Global, ListOf,
-    ListSeed, Optional, Record, Required, RoundTrip, RoundTripComposite, Serialize,
+    Composite, Deserialize, DeserializeSeed, Deserializer, FieldSeeds, FieldValues, GaveUp, Global,
+    ListOf, ListSeed, Optional, Record, Required, RoundTrip, RoundTripComposite, Serialize,
     SerializeCompounds, Serializer, fields, laws, named, read, read_composite_type,
+    read_composite_type_encoded, read_parts_encoded,
 };
 
 impl Serialize for Transfer {
@@ -215,6 +216,68 @@ impl Composite for Transfer {
             batchable,
         })
     }
+
+    fn read_body_encoded(
+        alloc: Global,
+        code: u8,
+        input: &mut &[u8],
+        depth: u16,
+    ) -> Result<Transfer, GaveUp> {
+        let seed = ListSeed(
+            named! { "handle", "delivery-id"?, "delivery-tag"?, "message-format"?, "settled"?, "more"?, "rcv-settle-mode"?, "state"?, "resume"?, "aborted"?, "batchable"? },
+        );
+        let FieldValues {
+            value: handle,
+            rest,
+        } = read_parts_encoded::<Transfer, _>(alloc, code, input, depth, seed)?;
+        let FieldValues {
+            value: delivery_id,
+            rest,
+        } = rest;
+        let FieldValues {
+            value: delivery_tag,
+            rest,
+        } = rest;
+        let FieldValues {
+            value: message_format,
+            rest,
+        } = rest;
+        let FieldValues {
+            value: settled,
+            rest,
+        } = rest;
+        let FieldValues { value: more, rest } = rest;
+        let FieldValues {
+            value: rcv_settle_mode,
+            rest,
+        } = rest;
+        let FieldValues { value: state, rest } = rest;
+        let FieldValues {
+            value: resume,
+            rest,
+        } = rest;
+        let FieldValues {
+            value: aborted,
+            rest,
+        } = rest;
+        let FieldValues {
+            value: batchable,
+            rest: (),
+        } = rest;
+        Ok(Transfer {
+            handle,
+            delivery_id,
+            delivery_tag,
+            message_format,
+            settled,
+            more,
+            rcv_settle_mode,
+            state,
+            resume,
+            aborted,
+            batchable,
+        })
+    }
 }
 
 impl Deserialize for Transfer {
@@ -232,6 +295,15 @@ impl Deserialize for Transfer {
 
     fn deserialize<D: Deserializer>(alloc: Global, deserializer: D) -> Result<Transfer, D::Error> {
         read_composite_type::<Transfer, D>(alloc, deserializer)
+    }
+
+    fn read_encoded(
+        alloc: Global,
+        code: u8,
+        input: &mut &[u8],
+        depth: u16,
+    ) -> Result<Transfer, GaveUp> {
+        read_composite_type_encoded::<Transfer>(alloc, code, input, depth)
     }
 }
 

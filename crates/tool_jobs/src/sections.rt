@@ -35,8 +35,8 @@ pub struct Properties {
 
 // amqp: the impls below are written by tools/derive from the annotations above
 use serde_amqp::derive::{
-    Deserialize, DeserializeSeed, Deserializer, FieldSeeds, FieldValues, Global, ListSeed,
-    Optional, Record, named, read_composite,
+    Deserialize, DeserializeSeed, Deserializer, FieldSeeds, FieldValues, GaveUp, Global, ListSeed,
+    Optional, Record, named, read_composite, read_composite_encoded,
 };
 
 /// The fields of [`Header`], as they are read.
@@ -81,6 +81,41 @@ impl Deserialize for Header {
                 named! { "durable"?, "priority"?, "ttl"?, "first-acquirer"?, "delivery-count"? },
             ),
         )?;
+        let FieldValues {
+            value: priority,
+            rest,
+        } = rest;
+        let FieldValues { value: ttl, rest } = rest;
+        let FieldValues {
+            value: first_acquirer,
+            rest,
+        } = rest;
+        let FieldValues {
+            value: delivery_count,
+            rest: (),
+        } = rest;
+        Ok(Header {
+            durable,
+            priority,
+            ttl,
+            first_acquirer,
+            delivery_count,
+        })
+    }
+
+    fn read_encoded(
+        alloc: Global,
+        code: u8,
+        input: &mut &[u8],
+        depth: u16,
+    ) -> Result<Header, GaveUp> {
+        let seed = ListSeed(
+            named! { "durable"?, "priority"?, "ttl"?, "first-acquirer"?, "delivery-count"? },
+        );
+        let FieldValues {
+            value: durable,
+            rest,
+        } = read_composite_encoded::<Header, _>(alloc, code, input, depth, 0x70, seed)?;
         let FieldValues {
             value: priority,
             rest,
@@ -187,6 +222,81 @@ impl Deserialize for Properties {
                 named! { "message-id"?, "user-id"?, "to"?, "subject"?, "reply-to"?, "correlation-id"?, "content-type"?, "content-encoding"?, "absolute-expiry-time"?, "creation-time"?, "group-id"?, "group-sequence"?, "reply-to-group-id"? },
             ),
         )?;
+        let FieldValues {
+            value: user_id,
+            rest,
+        } = rest;
+        let FieldValues { value: to, rest } = rest;
+        let FieldValues {
+            value: subject,
+            rest,
+        } = rest;
+        let FieldValues {
+            value: reply_to,
+            rest,
+        } = rest;
+        let FieldValues {
+            value: correlation_id,
+            rest,
+        } = rest;
+        let FieldValues {
+            value: content_type,
+            rest,
+        } = rest;
+        let FieldValues {
+            value: content_encoding,
+            rest,
+        } = rest;
+        let FieldValues {
+            value: absolute_expiry_time,
+            rest,
+        } = rest;
+        let FieldValues {
+            value: creation_time,
+            rest,
+        } = rest;
+        let FieldValues {
+            value: group_id,
+            rest,
+        } = rest;
+        let FieldValues {
+            value: group_sequence,
+            rest,
+        } = rest;
+        let FieldValues {
+            value: reply_to_group_id,
+            rest: (),
+        } = rest;
+        Ok(Properties {
+            message_id,
+            user_id,
+            to,
+            subject,
+            reply_to,
+            correlation_id,
+            content_type,
+            content_encoding,
+            absolute_expiry_time,
+            creation_time,
+            group_id,
+            group_sequence,
+            reply_to_group_id,
+        })
+    }
+
+    fn read_encoded(
+        alloc: Global,
+        code: u8,
+        input: &mut &[u8],
+        depth: u16,
+    ) -> Result<Properties, GaveUp> {
+        let seed = ListSeed(
+            named! { "message-id"?, "user-id"?, "to"?, "subject"?, "reply-to"?, "correlation-id"?, "content-type"?, "content-encoding"?, "absolute-expiry-time"?, "creation-time"?, "group-id"?, "group-sequence"?, "reply-to-group-id"? },
+        );
+        let FieldValues {
+            value: message_id,
+            rest,
+        } = read_composite_encoded::<Properties, _>(alloc, code, input, depth, 0x73, seed)?;
         let FieldValues {
             value: user_id,
             rest,
