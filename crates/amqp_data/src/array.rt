@@ -11,7 +11,7 @@ ghost use Rattle.amqp_data.specs.Items.{array_items};
 ///
 /// # Example
 /// An empty array is encoded as `e00100`.
-#[derive(Debug, PartialEq, Eq, PartialOrd, Ord, Hash, Drop)]
+#[derive(Debug, PartialEq, Eq, PartialOrd, Ord, Hash, Clone, Drop)]
 pub struct Array<T>(Vec<T>);
 
 impl<T> Array<T> {

@@ -10,7 +10,7 @@ ghost use Rattle.amqp_data.specs.Items.{byte_buf_bytes};
 ///
 /// # Example
 /// An empty binary is encoded as `a000`.
-#[derive(Debug, PartialEq, Eq, PartialOrd, Ord, Hash, Drop)]
+#[derive(Debug, PartialEq, Eq, PartialOrd, Ord, Hash, Clone, Drop)]
 pub struct ByteBuf(Vec<u8>);
 
 impl ByteBuf {

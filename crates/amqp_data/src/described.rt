@@ -9,7 +9,7 @@ use crate::Descriptor;
 ///
 /// # Example
 /// The code 1 with an empty list is encoded as `00530145`.
-#[derive(Debug, PartialEq, Eq, PartialOrd, Ord, Hash, Drop)]
+#[derive(Debug, PartialEq, Eq, PartialOrd, Ord, Hash, Clone, Drop)]
 pub struct Described<T> {
     /// The descriptor of the value.
     pub descriptor: Descriptor,

@@ -14,7 +14,7 @@ use crate::Symbol;
 /// Null described by the code 1 is encoded as `00530140`, where `5301` is the descriptor. Null
 /// described by the name `a:b` is encoded as `00a303613a6240`, where `a303613a62` is the
 /// descriptor.
-#[derive(Debug, PartialEq, Eq, PartialOrd, Ord, Hash, Drop)]
+#[derive(Debug, PartialEq, Eq, PartialOrd, Ord, Hash, Clone, Drop)]
 pub enum Descriptor {
     /// A symbolic descriptor.
     Name(Symbol),

@@ -24,7 +24,7 @@ use std::{mem, vec};
 ///
 /// # Example
 /// An empty map is encoded as `c10100`.
-#[derive(Debug, PartialEq, Eq, PartialOrd, Ord, Hash, Drop)]
+#[derive(Debug, PartialEq, Eq, PartialOrd, Ord, Hash, Clone, Drop)]
 pub struct OrderedMap<K, V> {
     entries: Vec<(K, V)>,
 }

@@ -18,7 +18,7 @@ use std::fmt::{Formatter, Write};
 ///
 /// # Example
 /// `amqp` is encoded as `a304616d7170`.
-#[derive(Debug, PartialEq, Eq, PartialOrd, Ord, Hash, Drop)]
+#[derive(Debug, PartialEq, Eq, PartialOrd, Ord, Hash, Clone, Drop)]
 pub struct Symbol(String);
 
 impl Symbol {

@@ -22,7 +22,7 @@ use std::{slice, vec};
 ///
 /// # Example
 /// `true`, `false` and `true` are encoded as `414241`.
-#[derive(Debug, PartialEq, Eq, PartialOrd, Ord, Hash, Drop)]
+#[derive(Debug, PartialEq, Eq, PartialOrd, Ord, Hash, Clone, Drop)]
 pub struct TransparentVec<T>(Vec<T>);
 
 impl<T> TransparentVec<T> {

@@ -14,6 +14,7 @@ pub mod Sound
 pub mod MapBuilder
 pub mod Places
 pub mod ShortKeys
+pub mod FaultError
 pub mod EscapedBytes
 pub mod Measured
 pub mod Noted
