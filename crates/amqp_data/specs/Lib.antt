@@ -7,6 +7,8 @@ pub mod Index
 pub mod Items
 pub mod Iterates
 pub mod Lends
+pub mod MapIters
+pub mod MapLends
 pub mod Pairs
 pub mod Shown
 pub mod Text

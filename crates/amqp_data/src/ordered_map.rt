@@ -9,7 +9,13 @@ ghost use Rattle.std.specs.Option.{option_copied};
 ghost use Rattle.amqp_data.specs.Iterates.{GivesItems};
 ghost use Rattle.amqp_data.specs.Pairs.{entries_of, entries_left, insert_pair, AreDistinct};
 
+mod edits;
+mod lends;
+mod reads;
+
 use crate::Error;
+pub use lends::{IterMut, ValuesMut};
+pub use reads::{Keys, Values};
 use std::alloc::Global;
 use std::hash::Hash;
 use std::{mem, vec};
