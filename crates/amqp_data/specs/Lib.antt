@@ -1,5 +1,6 @@
 -- Definitions used by the contracts of public items.
 pub mod Compares
+pub mod DescriptorParts
 pub mod Fixed
 pub mod FormatCode
 pub mod Hexadecimal

@@ -21,6 +21,7 @@ pub mod markers;
 mod multiple;
 mod ordered_map;
 mod ordered_map_builder;
+mod parts;
 mod symbol;
 mod timestamp;
 mod transparent_vec;
