@@ -5,6 +5,7 @@
 //! which a value serializer returns, is encoded.
 #![tactic(auto)]
 
+mod accessors;
 mod distinct;
 mod escape;
 mod format_code;
@@ -19,6 +20,7 @@ mod try_from;
 mod value;
 mod whole;
 
+pub use accessors::ValueKind;
 pub use map_builder::MapBuilder;
 pub use short_keys::is_short_key;
 pub use try_from::ConvertFault;

@@ -1,6 +1,7 @@
 //! Untyped values: conversions, equality, and each law once. Rows of texts, of format codes and of
 //! order are data of the program `test_rows`.
 
+mod accessors;
 mod conversions;
 mod distinct_keys;
 mod maps;
