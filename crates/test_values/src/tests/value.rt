@@ -4,6 +4,7 @@
 mod accessors;
 mod conversions;
 mod distinct_keys;
+mod map_calls;
 mod maps;
 mod order;
 mod writers;
