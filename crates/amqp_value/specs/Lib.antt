@@ -17,6 +17,7 @@ pub mod ShortKeys
 pub mod Accessors
 pub mod ValueLends
 pub mod ValueKind
+pub mod Builds
 pub mod FaultError
 pub mod EscapedBytes
 pub mod Measured

@@ -6,6 +6,7 @@
 #![tactic(auto)]
 
 mod accessors;
+mod build;
 mod distinct;
 mod escape;
 mod format_code;
@@ -21,6 +22,8 @@ mod value;
 mod whole;
 
 pub use accessors::ValueKind;
+pub use amqp_data::SymbolRef;
+pub use build::{BuildList, BuildMap, IntoValue};
 pub use map_builder::MapBuilder;
 pub use short_keys::is_short_key;
 pub use try_from::ConvertFault;
