@@ -11,7 +11,7 @@ use crate::read::Read;
 use crate::take_value::take_value;
 use amqp_data::Error;
 use bytes::Bytes;
-use std::alloc::Global;
+use std::alloc::{AllocError, Global};
 use std::marker::Model;
 
 /// The bytes of exactly one encoded value, not decoded.
@@ -33,6 +33,17 @@ impl Model for LazyValue {
     ghost invariant = { λ value. IsFrame value.bytes };
 
     ghost inverse = { λ bytes. record { bytes = bytes } };
+}
+
+impl Clone for LazyValue {
+    ghost is_clone = { λ value clone. clone ≡ value };
+
+    /// Returns a lazy value with the same bytes, which are shared and not copied.
+    fn clone(&self) -> Result<LazyValue, AllocError> {
+        Ok(LazyValue {
+            bytes: self.bytes.clone()?,
+        })
+    }
 }
 
 impl LazyValue {

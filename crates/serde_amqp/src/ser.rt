@@ -3,7 +3,7 @@
 pub use crate::fields;
 pub use amqp_data::markers;
 pub use amqp_ser::{
-    CompoundKind, Field, Fields, Fixed, Keys, ListOf, MapOf, Marker, Name, OptionalField,
+    Compound, CompoundKind, Field, Fields, Fixed, Keys, ListOf, MapOf, Marker, Name, OptionalField,
     Serialize, SerializeCompounds, SerializeMap, SerializeScalars, SerializeSeq, SerializeStruct,
     SerializeStructVariant, SerializeTuple, SerializeTupleStruct, SerializeTupleVariant,
     Serializer, SymbolMapOf, VariantOf, marker_named,
