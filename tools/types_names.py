@@ -1,4 +1,4 @@
-"""The names of the described types, crates/amqp_types/src/names.rt, and the page of all types, docs/AMQP_TYPES.md."""
+"""The names of the described types, crates/amqp_types/src/names.rt, and the page of all types, crates/amqp_types/README.md."""
 
 from types_rust import variant
 from types_table import PARTS
@@ -51,9 +51,9 @@ def names_file(table):
 
 PAGE = """# AMQP's own types
 
-The crate [amqp_types](../crates/amqp_types/src/lib.rt) has these types, which `tools/types` writes from [types_table.txt](../tools/types_table.txt). Each is written and read, after the code of its descriptor or after its name. *m* marks a mandatory field, *n* one with several values, an `Option<Multiple<T>>`. A default is what the method `FIELD_or_default` returns for `None`. `Unknown` keeps a value with another descriptor.
+The crate [amqp_types](src/lib.rt) has these types, which `tools/types` writes from [types_table.txt](../../tools/types_table.txt). Each is written and read, after the code of its descriptor or after its name. *m* marks a mandatory field, *n* one with several values, an `Option<Multiple<T>>`. A default is what the method `FIELD_or_default` returns for `None`. `Unknown` keeps a value with another descriptor.
 
-[`Message`](../crates/amqp_types/src/message/whole.rt) is read from and written as its sections, [`LazyMessage`](../crates/amqp_types/src/message/lazy.rt) without decoding the body; `sections` splits the bytes. [`frame`](../crates/amqp_types/src/frame.rt) has transport frames and protocol headers, `names` the names of types and fields by code.
+[`Message`](src/message/whole.rt) is read from and written as its sections, [`LazyMessage`](src/message/lazy.rt) without decoding the body; `sections` splits the bytes. [`frame`](src/frame.rt) has transport frames and protocol headers, `names` the names of types and fields by code.
 """
 
 
