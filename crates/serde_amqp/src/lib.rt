@@ -26,7 +26,6 @@ mod input;
 pub mod laws;
 pub mod lazy;
 mod lines;
-mod macros;
 pub mod primitives;
 pub mod read;
 pub mod ser;
