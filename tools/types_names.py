@@ -51,7 +51,7 @@ def names_file(table):
 
 PAGE = """# AMQP's own types
 
-The crate [amqp_types](src/lib.rt) has these types, which `tools/types` writes from [types_table.txt](../../tools/types_table.txt). Each is written and read, after the code of its descriptor or after its name. *m* marks a mandatory field, *n* one with several values, an `Option<Multiple<T>>`. A default is what the method `FIELD_or_default` returns for `None`. `Unknown` keeps a value with another descriptor.
+The crate [amqp_types](src/lib.rt) has these types, which `tools/types` writes from [types_table.txt](../../tools/types_table.txt). Each is written and read, after the code of its descriptor or after its name. `!` marks a mandatory field, `[]` one with several values, an `Option<Multiple<T>>`, and `=` the default, which the method `FIELD_or_default` returns for `None`. `Unknown` keeps a value with another descriptor.
 
 [`Message`](src/message/whole.rt) is read from and written as its sections, [`LazyMessage`](src/message/lazy.rt) without decoding the body; `sections` splits the bytes. [`frame`](src/frame.rt) has transport frames and protocol headers, `names` the names of types and fields by code.
 """
@@ -63,28 +63,25 @@ def page(table):
         out += f"\n## Part {part}: {name}\n"
         types = [t for t in table.types.values() if t.part == part]
         described = [t for t in types if t.code]
-        out += "\n| Type | Code | Section | Fields |\n|---|---|---|---|\n"
+        out += "\n|Type|Code|Section|Fields|\n|---|---|---|---|\n"
         for t in described:
-            out += f"| `{t.rust}` | {t.code} | {t.section} | {fields(table, t)} |\n"
+            out += f"|`{t.rust}`|{t.code}|{t.section}|{fields(table, t)}|\n"
         others = [t for t in types if not t.code]
         if others:
-            out += "\n| Type | Section | Values |\n|---|---|---|\n"
+            out += "\n|Type|Section|Values|\n|---|---|---|\n"
             for t in others:
-                out += f"| `{t.rust}` | {t.section} | {values(table, t)} |\n"
+                out += f"|`{t.rust}`|{t.section}|{values(table, t)}|\n"
     return out
 
 
 def fields(table, t):
     if t.kind == "section":
         return f"`{table.rust(t.source)}`"
-    said = []
-    for f in t.fields:
-        marks = " *m*" * f.mandatory + " *n*" * f.multiple + (f" = {f.default}" if f.default else "")
-        said.append(f"{f.name} {f.type}{marks}")
-    return ", ".join(said) or "none"
+    said = [f.name + ":" + f.type + "[]" * f.multiple + "!" * f.mandatory + (f"={f.default}" if f.default else "") for f in t.fields]
+    return f"`{', '.join(said)}`" if said else "none"
 
 
 def values(table, t):
     if t.kind == "choice":
-        return f"{t.source}: " + ", ".join(f"{f.name} {f.type}" if f.type != f.name else f.name for f in t.fields)
+        return f"{t.source} `{', '.join(f.type if t.source == 'symbol' else f'{f.name}={f.type}' for f in t.fields)}`"
     return "one of " + ", ".join(f"`{table.rust(f.type)}`" for f in t.fields) + (", or `Unknown`" if t.others else "")

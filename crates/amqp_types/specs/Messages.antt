@@ -10,6 +10,10 @@ abbrev pub TakesSection : {T : Type 0} → (Tree → T → Type 0) → List ℕ 
 TakesSection R s rest None = rest ≡ s
 TakesSection R s rest (Some x) = (taken : List ℕ) × (s ≡ taken ++ rest) × ReadsSpelled R taken x
 
+-- The bare message begins with the properties and the application properties, which are read as these.
+abbrev pub IsBare : {T U : Type 0} → (Tree → T → Type 0) → (Tree → U → Type 0) → List ℕ → Option T → Option U → Type 0
+IsBare R Q s x y = (rest body : List ℕ) × TakesSection R s rest x × TakesSection Q rest body y
+
 -- The bytes are these with the encoding of the tree after them.
 abbrev pub PutsTree : Option Tree → List ℕ → List ℕ → Type 0
 PutsTree None s all = ⊥

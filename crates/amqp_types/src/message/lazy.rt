@@ -5,9 +5,9 @@ ghost use Rattle.amqp_types.specs.Messages.{PutsSection, TakesSection};
 
 use crate::annotations::{ApplicationProperties, DeliveryAnnotations, MessageAnnotations};
 use crate::header::Header;
-use crate::message::encoded::{SectionKind, check_order, split_section};
+use crate::message::encoded::{SectionKind, check_order};
 use crate::message::error::MessageError;
-use crate::message::read::{check_end, split_body, take_section};
+use crate::message::read::{split_footer, take_section};
 use crate::message::write::{put, put_bytes};
 use crate::properties::Properties;
 use serde_amqp::derive::{Deserialize, Serialize};
@@ -55,8 +55,8 @@ impl<'a> LazyMessage<'a> {
             × TakesSection ⟦<MessageAnnotations as Deserialize>⟧.reads u (m.bare.now ++ m.footer.now)
             m.message_annotations) }
         ensures bare { IfOk result (λ m. (s : List ℕ)
-            × TakesSection ⟦<Properties as Deserialize>⟧.reads (m.bare.now ++ m.footer.now) s m.properties
-            × TakesSection ⟦<ApplicationProperties as Deserialize>⟧.reads s (m.body.now ++ m.footer.now)
+            × TakesSection ⟦<Properties as Deserialize>⟧.reads m.bare.now s m.properties
+            × TakesSection ⟦<ApplicationProperties as Deserialize>⟧.reads s m.body.now
             m.application_properties) }
     {
         check_order(bytes)?;
@@ -66,26 +66,28 @@ impl<'a> LazyMessage<'a> {
             rest,
             SectionKind::DeliveryAnnotations,
         )?;
-        let (message_annotations, after) = take_section(
+        let (message_annotations, rest) = take_section(
             alloc,
             rest,
             SectionKind::MessageAnnotations,
         )?;
-        let (properties, rest) = take_section(alloc, after, SectionKind::Properties)?;
-        let (application_properties, rest) = take_section(
+        let (bare, footer) = split_footer(rest)?;
+        let (properties, rest) = take_section(alloc, bare, SectionKind::Properties)?;
+        let (application_properties, body) = take_section(
             alloc,
             rest,
             SectionKind::ApplicationProperties,
         )?;
-        let (body, footer) = split_body(rest)?;
-        check_footer(footer)?;
+        if body.is_empty() {
+            return Err(MessageError::NoBody);
+        }
         Ok(LazyMessage {
             header,
             delivery_annotations,
             message_annotations,
             properties,
             application_properties,
-            bare: &after[..after.len() - footer.len()],
+            bare,
             body,
             footer,
         })
@@ -113,17 +115,5 @@ impl<'a> LazyMessage<'a> {
         put_bytes(&mut out, self.bare)?;
         put_bytes(&mut out, self.footer)?;
         Ok(out)
-    }
-}
-
-// Returns an error unless the bytes after the body are one footer, or none.
-fn check_footer(bytes: &[u8]) -> Result<(), MessageError> {
-    match split_section(bytes) {
-        Ok(None) => Ok(()),
-        Ok(Some((section, rest))) if section.kind == SectionKind::Footer => {
-            check_end(rest, SectionKind::Footer)
-        }
-        Ok(Some(_)) => check_end(bytes, SectionKind::Data),
-        Err(error) => Err(error),
     }
 }

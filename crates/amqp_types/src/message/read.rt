@@ -1,6 +1,6 @@
 //! Reads sections in the order of a message.
 
-ghost use Rattle.std.specs.Prelude.{◌≡◌, ◌++◌, [], IfOk, OnOk};
+ghost use Rattle.std.specs.Prelude.{◌≡◌, ◌++◌, IfOk};
 ghost use Rattle.amqp_types.specs.Messages.{TakesSection};
 
 use crate::message::content::Body;
@@ -32,41 +32,24 @@ pub(crate) fn take_section<T: Deserialize>(
     }
 }
 
-/// Returns the bytes of the sections of the body, and the bytes after it.
-pub(crate) fn split_body(bytes: &[u8]) -> Result<(&[u8], &[u8]), MessageError>
+/// Returns the bytes before the footer, and those of the footer, if there is one.
+pub(crate) fn split_footer(bytes: &[u8]) -> Result<(&[u8], &[u8]), MessageError>
     ensures { IfOk result (λ r. bytes.now ≡ r.0.now ++ r.1.now) }
 {
-    let mut end = 0;
-    let mut last = None;
+    let mut rest = bytes;
     for _ in 0..bytes.len() {
-        match split_section(&bytes[end..]) {
-            Ok(Some((section, _))) if is_body(section.kind) => {
-                if let Some(last) = last {
-                    section.kind.follows(last)?;
-                }
-                last = Some(section.kind);
-                end = end.saturating_add(section.bytes.len()).min(bytes.len());
-            }
+        match split_section(rest) {
+            Ok(Some((section, after))) if section.kind != SectionKind::Footer => rest = after,
             Ok(_) => break,
             Err(error) => return Err(error),
         }
     }
-    if last.is_none() {
-        return Err(MessageError::NoBody);
-    }
-    Ok(bytes.split_at(end))
-}
-
-fn is_body(kind: SectionKind) -> bool {
-    matches!(
-        kind,
-        SectionKind::Data | SectionKind::AmqpSequence | SectionKind::AmqpValue
-    )
+    Ok(bytes.split_at(bytes.len().saturating_sub(rest.len())))
 }
 
 /// Reads the sections of a body.
 pub(crate) fn read_body(alloc: Global, bytes: &[u8]) -> Result<Body, MessageError> {
-    let Ok(Some((section, rest))) = split_section(bytes) else {
+    let Some((section, rest)) = split_section(bytes)? else {
         return Err(MessageError::NoBody);
     };
     match section.kind {
@@ -98,18 +81,4 @@ fn read_sections<T: Deserialize>(
         }
     }
     Ok(TransparentVec::new(sections))
-}
-
-/// Returns the error for the bytes after the footer, or after the body: there should be none.
-pub(crate) fn check_end(rest: &[u8], last: SectionKind) -> Result<(), MessageError>
-    ensures { OnOk result (rest.now ≡ []) }
-{
-    match split_section(rest) {
-        Ok(None) => Ok(()),
-        Ok(Some((section, _))) => match section.kind.follows(last) {
-            Ok(()) => Err(MessageError::OutOfOrder),
-            Err(error) => Err(error),
-        },
-        Err(error) => Err(error),
-    }
 }

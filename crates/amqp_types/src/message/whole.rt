@@ -1,14 +1,14 @@
 //! Messages whose sections are all read.
 
 ghost use Rattle.std.specs.Prelude.{◌≡◌, ◌++◌, [], List, ℕ, IfOk};
-ghost use Rattle.amqp_types.specs.Messages.{PutsSection, PutsTree, TakesSection};
+ghost use Rattle.amqp_types.specs.Messages.{IsBare, PutsSection, PutsTree, TakesSection};
 
 use crate::annotations::{ApplicationProperties, DeliveryAnnotations, Footer, MessageAnnotations};
 use crate::header::Header;
 use crate::message::content::Body;
 use crate::message::encoded::{SectionKind, check_order};
 use crate::message::error::MessageError;
-use crate::message::read::{check_end, read_body, split_body, take_section};
+use crate::message::read::{read_body, split_footer, take_section};
 use crate::message::write::{put, put_section};
 use crate::properties::Properties;
 use serde_amqp::derive::{Deserialize, Serialize};
@@ -53,14 +53,14 @@ impl Message {
     /// # Example
     /// `0053704500537740` is a message with a header and the value null.
     pub fn from_slice(alloc: Global, bytes: &[u8]) -> Result<Message, MessageError>
-        ensures { IfOk result (λ m. (s u v w body after : List ℕ)
+        ensures { IfOk result (λ m. (s u bare footer : List ℕ)
             × TakesSection ⟦<Header as Deserialize>⟧.reads bytes.now s m.header
             × TakesSection ⟦<DeliveryAnnotations as Deserialize>⟧.reads s u m.delivery_annotations
-            × TakesSection ⟦<MessageAnnotations as Deserialize>⟧.reads u v m.message_annotations
-            × TakesSection ⟦<Properties as Deserialize>⟧.reads v w m.properties
-            × TakesSection ⟦<ApplicationProperties as Deserialize>⟧.reads w (body ++ after)
-            m.application_properties
-            × TakesSection ⟦<Footer as Deserialize>⟧.reads after [] m.footer) }
+            × TakesSection ⟦<MessageAnnotations as Deserialize>⟧.reads u (bare ++ footer)
+            m.message_annotations
+            × IsBare ⟦<Properties as Deserialize>⟧.reads ⟦<ApplicationProperties as Deserialize>⟧.reads
+            bare m.properties m.application_properties
+            × TakesSection ⟦<Footer as Deserialize>⟧.reads footer [] m.footer) }
     {
         check_order(bytes)?;
         let (header, rest) = take_section(alloc, bytes, SectionKind::Header)?;
@@ -74,16 +74,18 @@ impl Message {
             rest,
             SectionKind::MessageAnnotations,
         )?;
-        let (properties, rest) = take_section(alloc, rest, SectionKind::Properties)?;
-        let (application_properties, rest) = take_section(
+        let (bare, footer) = split_footer(rest)?;
+        let (properties, rest) = take_section(alloc, bare, SectionKind::Properties)?;
+        let (application_properties, body) = take_section(
             alloc,
             rest,
             SectionKind::ApplicationProperties,
         )?;
-        let (body, rest) = split_body(rest)?;
         let body = read_body(alloc, body)?;
-        let (footer, rest) = take_section(alloc, rest, SectionKind::Footer)?;
-        check_end(rest, SectionKind::Footer)?;
+        let (footer, rest) = take_section(alloc, footer, SectionKind::Footer)?;
+        if !rest.is_empty() {
+            return Err(MessageError::OutOfOrder);
+        }
         Ok(Message {
             header,
             delivery_annotations,
