@@ -1,0 +1,33 @@
+//! Shows what is in AMQP bytes.
+//!
+//! The input is split into items, one after another, and each is shown on a line. The bytes of all
+//! items together are the input.
+#![tactic(auto)]
+
+mod describe;
+mod fault;
+mod frames;
+mod hex_reader;
+mod item;
+mod kinds;
+mod level;
+pub mod names;
+mod options;
+mod paint;
+mod path;
+mod run;
+mod scanner;
+mod source;
+mod texts;
+mod tree;
+
+pub use fault::Fault;
+pub use hex_reader::HexReader;
+pub use item::{Item, ItemKind};
+pub use kinds::{Kind, Shape, kind_of};
+pub use level::{Level, LevelKind};
+pub use options::{Form, Options};
+pub use run::{Report, run};
+pub use scanner::{MAX_DEPTH, Scanner};
+pub use source::Source;
+pub use tree::Found;

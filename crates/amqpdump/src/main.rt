@@ -1,0 +1,125 @@
+//! Shows what is in AMQP bytes of a file or of standard input.
+#![tactic(auto)]
+
+mod arguments;
+
+use amqp_dump::{Fault, HexReader, Options, Report, Source, run};
+use arguments::{Arguments, command, read_arguments};
+use serde_amqp::IoWriter;
+use serde_amqp::read::{IoReader, Read};
+use std::alloc::Global;
+use std::env::Env;
+use std::fs;
+use std::io;
+use std::io::{BufReader, BufWriter, IsTerminal};
+use std::process::ExitCode;
+use std::rt::Files;
+
+fn main(rt: HostRuntime) -> ExitCode {
+    let is_terminal = rt.stdout().is_terminal();
+    match start(&rt, is_terminal) {
+        Ok(code) => ExitCode::from(code),
+        Err(_) => {
+            let _ = eprintln!(rt; "amqpdump: input or output failed");
+            ExitCode::from(1)
+        }
+    }
+}
+
+// Reads the arguments and runs, and returns the exit status.
+fn start<R: Input + Print + Eprint + AllocGlobal + Files + Env>(
+    rt: &R,
+    is_terminal: bool,
+) -> io::Result<u8> {
+    let alloc = rt.alloc();
+    let words: Vec<String> = std::env::args(rt)?.collect(alloc)?;
+    let Ok(command) = command(alloc) else {
+        return Ok(out_of_memory(rt));
+    };
+    let arguments = match command.try_get_matches_from(words.as_slice()) {
+        Ok(matches) => read_arguments(&matches, is_terminal),
+        Err(error) => {
+            error.print(rt)?;
+            return Ok(if error.use_stderr() { 2 } else { 0 });
+        }
+    };
+    let Some(path) = arguments.file else {
+        return Ok(over_reader(rt, &arguments, rt.reader()));
+    };
+    match fs::open(rt, path) {
+        Ok(file) => Ok(over_reader(rt, &arguments, file)),
+        Err(_) => {
+            let _ = eprintln!(rt; "amqpdump: {path}: cannot be opened");
+            Ok(1)
+        }
+    }
+}
+
+fn out_of_memory<R: Eprint>(rt: &R) -> u8 {
+    let _ = eprintln!(rt; "amqpdump: out of memory");
+    1
+}
+
+// Shows what a reader has.
+fn over_reader<R: Print + Eprint + AllocGlobal, I: io::Read + Drop>(
+    rt: &R,
+    arguments: &Arguments<'_>,
+    input: I,
+) -> u8 {
+    let alloc = rt.alloc();
+    let Ok(input) = BufReader::new(alloc, input) else {
+        return out_of_memory(rt);
+    };
+    let reader = IoReader::new(input);
+    if !arguments.hex {
+        let mut source = Source::new(alloc, reader);
+        let result = over_source(rt, &mut source, &arguments.options);
+        return status(rt, alloc, result);
+    }
+    let mut source = Source::new(alloc, HexReader::new(reader));
+    let result = over_source(rt, &mut source, &arguments.options);
+    let code = status(rt, alloc, result);
+    if let Some(at) = source.reader().wrong_at() {
+        let _ = eprintln!(rt; "amqpdump: character {at} of the input is not hexadecimal");
+        return 1;
+    }
+    code
+}
+
+// Shows what a source has on standard output.
+fn over_source<R: Print + AllocGlobal, I: Read>(
+    rt: &R,
+    source: &mut Source<I>,
+    options: &Options,
+) -> Result<Report, Fault> {
+    let alloc = rt.alloc();
+    let Ok(output) = BufWriter::new(alloc, io::writer(rt)) else {
+        return Err(Fault::OutOfMemory);
+    };
+    let mut writer = IoWriter::new(output);
+    run(alloc, source, &mut writer, options)
+}
+
+// Returns the exit status, and tells what is wrong on standard error.
+fn status<R: Eprint>(rt: &R, alloc: Global, ended: Result<Report, Fault>) -> u8 {
+    match ended {
+        Ok(report) => {
+            let Some(first) = report.first else {
+                return 0;
+            };
+            if let Ok(text) = first.text(alloc) {
+                let _ = eprintln!(rt; "amqpdump: {text}");
+            }
+            1
+        }
+        Err(Fault::OutOfMemory) => out_of_memory(rt),
+        Err(Fault::Output) => {
+            let _ = eprintln!(rt; "amqpdump: output failed");
+            1
+        }
+        Err(_) => {
+            let _ = eprintln!(rt; "amqpdump: input failed");
+            1
+        }
+    }
+}
