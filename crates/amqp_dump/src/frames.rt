@@ -15,12 +15,12 @@ const RAW: u64 = 16;
 const TRANSFER: u64 = 0x14;
 
 impl Scanner {
-    // Takes a protocol header or the header of a frame.
+    // Takes a protocol header or the header of a frame, of which the first bytes may be taken.
     pub(crate) fn open_frame<R: Read>(
         &mut self,
         source: &mut Source<R>,
     ) -> Result<ItemKind, Fault> {
-        source.fill(8)?;
+        source.fill(8usize.saturating_sub(source.taken().len()))?;
         let Some(header) = source.taken().first_chunk::<8>().copied() else {
             return Err(Fault::EndOfInput(8));
         };

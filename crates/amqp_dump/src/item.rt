@@ -48,3 +48,39 @@ pub enum ItemKind {
     /// Bytes of a frame that are not shown as values.
     Raw,
 }
+
+impl ItemKind {
+    /// Returns whether a value begins with the item.
+    pub fn begins_value(self) -> bool {
+        matches!(
+            self,
+            ItemKind::Described(_)
+                | ItemKind::Reserved
+                | ItemKind::Opens(_, _, _)
+                | ItemKind::Repeats(_)
+                | ItemKind::Scalar(_, _)
+                | ItemKind::Long(_, _)
+        )
+    }
+}
+
+impl Item {
+    /// Returns whether a value of the item's depth ends with it, where `in_payload` says whether a
+    /// binary or a text is open after it.
+    pub fn ends_value(self, in_payload: bool) -> bool {
+        match self.kind {
+            ItemKind::Scalar(_, _) | ItemKind::Repeats(_) | ItemKind::Closes(_) => true,
+            ItemKind::Long(_, _) | ItemKind::More(_, _) => !in_payload,
+            _ => false,
+        }
+    }
+
+    /// Returns whether a value of the depth `base` ends with the item, or an item that is no value.
+    pub fn ends_line(self, base: usize, in_payload: bool) -> bool {
+        match self.kind {
+            ItemKind::Protocol | ItemKind::Frame(_, _) | ItemKind::Raw | ItemKind::Extended => true,
+            ItemKind::Closes(LevelKind::Frame) => false,
+            _ => self.ends_value(in_payload) && self.depth == base,
+        }
+    }
+}

@@ -11,6 +11,13 @@ pub struct Type {
     pub fields: &'static [&'static str],
 }
 
+impl Type {
+    /// Returns whether the type is a list of fields, perhaps of none.
+    pub fn has_fields(&self) -> bool {
+        self.symbol.ends_with(":list") && self.name != "amqp-sequence"
+    }
+}
+
 /// Returns the type with this numeric descriptor, or `None` if the standard has none.
 ///
 /// # Example

@@ -54,7 +54,8 @@ pub struct Scanner {
 }
 
 impl Scanner {
-    /// Creates a scanner of values, or of frames, at the start of an input. A payload of more than
+    /// Creates a scanner at the start of an input. The input is frames if `frames` is true or its
+    /// first two bytes are `AM`, which begin a protocol header and no values. A payload of more than
     /// `piece` bytes, and at least 16, is split.
     pub fn new(alloc: Global, frames: bool, piece: usize) -> Scanner {
         Scanner {
@@ -126,10 +127,17 @@ impl Scanner {
         }
         self.roots = self.roots.saturating_add(1);
         if self.frames {
-            self.open_frame(source)
-        } else {
-            self.take_value(source)
+            return self.open_frame(source);
         }
+        if self.start > 0 || source.peek()? != Some(b'A') {
+            return self.take_value(source);
+        }
+        let code = source.byte()?;
+        if source.peek()? == Some(b'M') {
+            self.frames = true;
+            return self.open_frame(source);
+        }
+        self.take_payload(source, code)
     }
 
     // Ends the innermost value.

@@ -102,6 +102,11 @@ impl Found {
         })
     }
 
+    /// Returns what was expected, in words.
+    pub fn expected(&self, alloc: Global) -> Result<String, Fault> {
+        expected(alloc, self.fault)
+    }
+
     /// Returns the offset, the byte, what was expected and the path, in words.
     pub fn text(&self, alloc: Global) -> Result<String, Fault> {
         let expected = expected(alloc, self.fault)?;

@@ -11,6 +11,10 @@ pub struct Arguments<'a> {
     pub file: Option<&'a str>,
     /// Whether the input is in hexadecimal.
     pub hex: bool,
+    /// The path to the values that are shown.
+    pub path: Option<&'a str>,
+    /// Whether counts are shown at the end.
+    pub summary: bool,
     /// What is shown, and how.
     pub options: Options,
 }
@@ -33,15 +37,21 @@ fn flag(alloc: Global, name: &'static str, help: &'static str) -> Arg<'static> {
 
 // Adds the forms of output.
 fn with_forms(alloc: Global, command: Command<'static>) -> Result<Command<'static>, Error> {
-    let tree = flag(alloc, "tree", "A line for each node (the default)")
+    let tree = flag(alloc, "tree", "A line for each node (the default on a terminal)")
         .conflicts_with_all(["text", "json"].as_slice())?;
-    let text = flag(alloc, "text", "A line for each encoded value").conflicts_with("json")?;
+    let text = flag(alloc, "text", "A line for each encoded value (the default elsewhere)")
+        .conflicts_with("json")?;
     let json = flag(alloc, "json", "A JSON object for each encoded value");
     Ok(command.arg(tree)?.arg(text)?.arg(json)?)
 }
 
 // Adds the limits and the colors.
 fn with_limits(alloc: Global, command: Command<'static>) -> Result<Command<'static>, Error> {
+    let select = Arg::new(alloc, "select")
+        .long("select")
+        .value_name("PATH")
+        .help("Show only what is there, as 0x73.message-id or /2/0");
+    let summary = flag(alloc, "summary", "End with counts by kind, depth and size");
     let depth = Arg::new(alloc, "max-depth")
         .long("max-depth")
         .value_name("N")
@@ -63,18 +73,14 @@ fn with_limits(alloc: Global, command: Command<'static>) -> Result<Command<'stat
         .value_parser(["auto", "always", "never"].as_slice())
         .default_value("auto")
         .help("Write colors");
-    Ok(command.arg(depth)?.arg(bytes)?.arg(limit)?.arg(color)?)
+    let command = command.arg(select)?.arg(summary)?.arg(depth)?;
+    Ok(command.arg(bytes)?.arg(limit)?.arg(color)?)
 }
 
 /// Returns what the arguments ask for.
 pub fn read_arguments<'a>(matches: &ArgMatches<'a>, is_terminal: bool) -> Arguments<'a> {
     let mut options = Options::tree();
-    if matches.get_flag("text") {
-        options.form = Form::Text;
-    }
-    if matches.get_flag("json") {
-        options.form = Form::Json;
-    }
+    options.form = form_of(matches, is_terminal);
     options.frames = matches.get_flag("frames");
     options.color = match matches.get_str("color") {
         Some("always") => true,
@@ -94,6 +100,18 @@ pub fn read_arguments<'a>(matches: &ArgMatches<'a>, is_terminal: bool) -> Argume
     Arguments {
         file: matches.get_str("file"),
         hex: matches.get_flag("hex"),
+        path: matches.get_str("select"),
+        summary: matches.get_flag("summary"),
         options,
+    }
+}
+
+fn form_of(matches: &ArgMatches<'_>, is_terminal: bool) -> Form {
+    if matches.get_flag("json") {
+        Form::Json
+    } else if matches.get_flag("tree") || (is_terminal && !matches.get_flag("text")) {
+        Form::Tree
+    } else {
+        Form::Text
     }
 }

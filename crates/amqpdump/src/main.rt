@@ -3,7 +3,7 @@
 
 mod arguments;
 
-use amqp_dump::{Fault, HexReader, Options, Report, Source, run};
+use amqp_dump::{Fault, HexReader, Report, Selector, Source, run};
 use arguments::{Arguments, command, read_arguments};
 use serde_amqp::IoWriter;
 use serde_amqp::read::{IoReader, Read};
@@ -43,15 +43,30 @@ fn start<R: Input + Print + Eprint + AllocGlobal + Files + Env>(
             return Ok(if error.use_stderr() { 2 } else { 0 });
         }
     };
-    let Some(path) = arguments.file else {
-        return Ok(over_reader(rt, &arguments, rt.reader()));
+    let selector = match selector_of(alloc, &arguments) {
+        Ok(selector) => selector,
+        Err(_) => return Ok(out_of_memory(rt)),
     };
-    match fs::open(rt, path) {
-        Ok(file) => Ok(over_reader(rt, &arguments, file)),
-        Err(_) => {
-            let _ = eprintln!(rt; "amqpdump: {path}: cannot be opened");
+    if selector.is_none() && arguments.path.is_some() {
+        let _ = eprintln!(rt; "amqpdump: the path is none, as 0x73.message-id or /2/0 are");
+        return Ok(2);
+    }
+    let Some(file) = arguments.file else {
+        return Ok(over_reader(rt, &arguments, &selector, rt.reader()));
+    };
+    match fs::open(rt, file) {
+        Ok(input) => Ok(over_reader(rt, &arguments, &selector, input)),
+        Err(error) => {
+            let _ = eprintln!(rt; "amqpdump: {file}: {error}");
             Ok(1)
         }
+    }
+}
+
+fn selector_of(alloc: Global, arguments: &Arguments<'_>) -> Result<Option<Selector>, Fault> {
+    match arguments.path {
+        Some(path) => Selector::parse(alloc, path),
+        None => Ok(None),
     }
 }
 
@@ -64,6 +79,7 @@ fn out_of_memory<R: Eprint>(rt: &R) -> u8 {
 fn over_reader<R: Print + Eprint + AllocGlobal, I: io::Read + Drop>(
     rt: &R,
     arguments: &Arguments<'_>,
+    selector: &Option<Selector>,
     input: I,
 ) -> u8 {
     let alloc = rt.alloc();
@@ -73,11 +89,11 @@ fn over_reader<R: Print + Eprint + AllocGlobal, I: io::Read + Drop>(
     let reader = IoReader::new(input);
     if !arguments.hex {
         let mut source = Source::new(alloc, reader);
-        let result = over_source(rt, &mut source, &arguments.options);
+        let result = over_source(rt, &mut source, arguments, selector);
         return status(rt, alloc, result);
     }
     let mut source = Source::new(alloc, HexReader::new(reader));
-    let result = over_source(rt, &mut source, &arguments.options);
+    let result = over_source(rt, &mut source, arguments, selector);
     let code = status(rt, alloc, result);
     if let Some(at) = source.reader().wrong_at() {
         let _ = eprintln!(rt; "amqpdump: character {at} of the input is not hexadecimal");
@@ -90,14 +106,22 @@ fn over_reader<R: Print + Eprint + AllocGlobal, I: io::Read + Drop>(
 fn over_source<R: Print + AllocGlobal, I: Read>(
     rt: &R,
     source: &mut Source<I>,
-    options: &Options,
+    arguments: &Arguments<'_>,
+    selector: &Option<Selector>,
 ) -> Result<Report, Fault> {
     let alloc = rt.alloc();
     let Ok(output) = BufWriter::new(alloc, io::writer(rt)) else {
         return Err(Fault::OutOfMemory);
     };
     let mut writer = IoWriter::new(output);
-    run(alloc, source, &mut writer, options)
+    let report = run(alloc, source, &mut writer, &arguments.options, selector.as_ref())?;
+    if arguments.summary {
+        let text = report.summary.text(alloc)?;
+        if rt.print(text).is_err() {
+            return Err(Fault::Output);
+        }
+    }
+    Ok(report)
 }
 
 // Returns the exit status, and tells what is wrong on standard error.
