@@ -1,13 +1,14 @@
 //! Frames, and the descriptors that a scanner remembers.
 
+ghost use Rattle.amqp_dump.specs.Kept.{Stays};
+
 use crate::fault::Fault;
 use crate::item::ItemKind;
 use crate::kinds::Kind;
 use crate::level::{Level, LevelKind};
 use crate::names;
 use crate::scanner::Scanner;
-use crate::source::Source;
-use serde_amqp::read::Read;
+use crate::source::{Taking, take_bytes};
 
 // The most bytes of a frame on one line that are not shown as values.
 const RAW: u64 = 16;
@@ -16,11 +17,14 @@ const TRANSFER: u64 = 0x14;
 
 impl Scanner {
     // Takes a protocol header or the header of a frame, of which the first bytes may be taken.
-    pub(crate) fn open_frame<R: Read>(
+    pub(crate) fn open_frame<S: Taking>(
         &mut self,
-        source: &mut Source<R>,
-    ) -> Result<ItemKind, Fault> {
-        source.fill(8usize.saturating_sub(source.taken().len()))?;
+        source: &mut S,
+    ) -> Result<ItemKind, Fault>
+        ensures kept { Stays (S.held source.old) (S.left source.old) (S.held source.new)
+            (S.left source.new) }
+    {
+        take_bytes(source, 8usize.saturating_sub(source.taken().len()))?;
         let Some(header) = source.taken().first_chunk::<8>().copied() else {
             return Err(Fault::EndOfInput(8));
         };
@@ -50,11 +54,14 @@ impl Scanner {
     }
 
     // Takes the next item of a frame.
-    pub(crate) fn next_in_frame<R: Read>(
+    pub(crate) fn next_in_frame<S: Taking>(
         &mut self,
-        source: &mut Source<R>,
+        source: &mut S,
         level: Level,
-    ) -> Result<ItemKind, Fault> {
+    ) -> Result<ItemKind, Fault>
+        ensures kept { Stays (S.held source.old) (S.left source.old) (S.held source.new)
+            (S.left source.new) }
+    {
         let left = level.end.saturating_sub(source.at());
         if left == 0 {
             return Ok(self.close_frame(level));
@@ -63,27 +70,30 @@ impl Scanner {
         if self.extended > 0 {
             let len = len.min(u64::from(self.extended));
             self.extended = self.extended.saturating_sub(len as u32);
-            source.fill(len as usize)?;
+            take_bytes(source, len as usize)?;
             return Ok(ItemKind::Extended);
         }
         if self.skipping || level.code > 1 {
-            source.fill(len as usize)?;
+            take_bytes(source, len as usize)?;
             return Ok(ItemKind::Raw);
         }
         if level.index > 0 && !self.has_sections(source, level)? {
             self.skipping = true;
-            source.fill(len as usize)?;
+            take_bytes(source, len as usize)?;
             return Ok(ItemKind::Raw);
         }
         self.take_value(source)
     }
 
     // Whether the payload of a frame is the sections of a message.
-    fn has_sections<R: Read>(
+    fn has_sections<S: Taking>(
         &self,
-        source: &mut Source<R>,
+        source: &mut S,
         level: Level,
-    ) -> Result<bool, Fault> {
+    ) -> Result<bool, Fault>
+        ensures kept { Stays (S.held source.old) (S.left source.old) (S.held source.new)
+            (S.left source.new) }
+    {
         let is_whole = !self.more && !self.continued;
         let is_described = source.peek()? == Some(0);
         Ok(level.descriptor == Some(TRANSFER) && is_whole && is_described)
@@ -112,7 +122,7 @@ impl Scanner {
     }
 
     // Remembers the descriptor of the innermost value, which was just taken, and returns its code.
-    pub(crate) fn name_descriptor<R: Read>(&mut self, source: &Source<R>) -> Option<u64> {
+    pub(crate) fn name_descriptor<S: Taking>(&mut self, source: &S) -> Option<u64> {
         let code = descriptor_code(source.taken());
         if let Some(level) = self.levels.last_mut() {
             level.descriptor = code;

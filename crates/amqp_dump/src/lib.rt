@@ -36,5 +36,5 @@ pub use run::{Report, run};
 pub use select::Selector;
 pub use summary::Summary;
 pub use scanner::{MAX_DEPTH, Scanner};
-pub use source::Source;
+pub use source::{Source, Taking, take_byte, take_bytes};
 pub use tree::Found;

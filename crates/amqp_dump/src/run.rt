@@ -8,12 +8,11 @@ use crate::marks::Marks;
 use crate::options::{Form, Options};
 use crate::scanner::Scanner;
 use crate::select::Selector;
-use crate::source::Source;
+use crate::source::Taking;
 use crate::summary::Summary;
 use crate::text::text_part;
 use crate::tree::{Found, fault_line, tree_line};
 use serde_amqp::Write;
-use serde_amqp::read::Read;
 use std::alloc::Global;
 
 /// What a run has found.
@@ -55,9 +54,9 @@ struct Run {
 /// # Memory
 ///
 /// One entry for each open value, and one item. A JSON object is kept until it is whole.
-pub fn run<R: Read, W: Write>(
+pub fn run<S: Taking, W: Write>(
     alloc: Global,
-    source: &mut Source<R>,
+    source: &mut S,
     writer: &mut W,
     options: &Options,
     selector: Option<&Selector>,
@@ -90,9 +89,9 @@ pub fn run<R: Read, W: Write>(
 
 impl Run {
     // Shows the next item. Returns false at the end.
-    fn step<R: Read, W: Write>(
+    fn step<S: Taking, W: Write>(
         &mut self,
-        source: &mut Source<R>,
+        source: &mut S,
         writer: &mut W,
         selector: Option<&Selector>,
     ) -> Result<bool, Fault> {
@@ -208,7 +207,7 @@ impl Run {
     }
 
     // Returns what is known of a fault, or the fault itself if the machine is its cause.
-    fn found<R: Read>(&self, source: &mut Source<R>, fault: Fault) -> Result<Found, Fault> {
+    fn found<S: Taking>(&self, source: &mut S, fault: Fault) -> Result<Found, Fault> {
         if fault.is_of_machine() {
             return Err(fault);
         }

@@ -1,12 +1,14 @@
 //! Splits the bytes of a source into items.
 
+ghost use Rattle.std.specs.Io.KnownBytes.{Consumes};
+ghost use Rattle.amqp_dump.specs.Kept.{Stays};
+
 use crate::fault::Fault;
 use crate::item::{Item, ItemKind};
 use crate::kinds::{Kind, Shape, kind_of};
 use crate::level::{Level, LevelKind};
-use crate::source::Source;
+use crate::source::{Taking, take_byte, take_bytes};
 use crate::texts::{bad_payload, missing_bytes};
-use serde_amqp::read::Read;
 use std::alloc::Global;
 
 /// The most values that are open at once, as in `decode_value`.
@@ -92,7 +94,9 @@ impl Scanner {
 
     /// Takes the next item. The bytes of the item, also of one that has a fault, are those that the
     /// source has taken.
-    pub fn next<R: Read>(&mut self, source: &mut Source<R>) -> Result<Item, Fault> {
+    pub fn next<S: Taking>(&mut self, source: &mut S) -> Result<Item, Fault>
+        ensures bytes { Consumes (S.left source.old) (S.left source.new) (S.held source.new) }
+    {
         source.begin();
         self.start = source.at();
         self.depth = self.levels.len();
@@ -104,7 +108,10 @@ impl Scanner {
         })
     }
 
-    fn next_kind<R: Read>(&mut self, source: &mut Source<R>) -> Result<ItemKind, Fault> {
+    fn next_kind<S: Taking>(&mut self, source: &mut S) -> Result<ItemKind, Fault>
+        ensures kept { Stays (S.held source.old) (S.left source.old) (S.held source.new)
+            (S.left source.new) }
+    {
         if let Some(long) = self.long {
             return self.take_more(source, long);
         }
@@ -121,7 +128,10 @@ impl Scanner {
         }
     }
 
-    fn next_root<R: Read>(&mut self, source: &mut Source<R>) -> Result<ItemKind, Fault> {
+    fn next_root<S: Taking>(&mut self, source: &mut S) -> Result<ItemKind, Fault>
+        ensures kept { Stays (S.held source.old) (S.left source.old) (S.held source.new)
+            (S.left source.new) }
+    {
         if source.peek()?.is_none() {
             return Ok(ItemKind::End);
         }
@@ -132,7 +142,7 @@ impl Scanner {
         if self.start > 0 || source.peek()? != Some(b'A') {
             return self.take_value(source);
         }
-        let code = source.byte()?;
+        let code = take_byte(source)?;
         if source.peek()? == Some(b'M') {
             self.frames = true;
             return self.open_frame(source);
@@ -141,7 +151,7 @@ impl Scanner {
     }
 
     // Ends the innermost value.
-    fn close<R: Read>(&mut self, source: &Source<R>, level: Level) -> Result<ItemKind, Fault> {
+    fn close<S: Taking>(&mut self, source: &S, level: Level) -> Result<ItemKind, Fault> {
         if let LevelKind::Compound(_) = level.kind {
             let left = level.end.saturating_sub(source.at());
             if left > 0 {
@@ -190,7 +200,7 @@ impl Scanner {
     }
 
     // Fails if fewer than `count` bytes are left of the innermost level.
-    fn need<R: Read>(&self, source: &Source<R>, count: u64) -> Result<(), Fault> {
+    fn need<S: Taking>(&self, source: &S, count: u64) -> Result<(), Fault> {
         let left = self.end().saturating_sub(source.at());
         if count > left {
             Err(Fault::PastEnd(left))
@@ -200,13 +210,16 @@ impl Scanner {
     }
 
     // Takes a value with its format code.
-    pub(crate) fn take_value<R: Read>(
+    pub(crate) fn take_value<S: Taking>(
         &mut self,
-        source: &mut Source<R>,
-    ) -> Result<ItemKind, Fault> {
+        source: &mut S,
+    ) -> Result<ItemKind, Fault>
+        ensures kept { Stays (S.held source.old) (S.left source.old) (S.held source.new)
+            (S.left source.new) }
+    {
         self.advance();
         self.need(source, 1)?;
-        let code = source.byte()?;
+        let code = take_byte(source)?;
         if code == 0 {
             return self.open_described(source);
         }
@@ -214,11 +227,14 @@ impl Scanner {
     }
 
     // Takes an element of an array.
-    fn take_element<R: Read>(
+    fn take_element<S: Taking>(
         &mut self,
-        source: &mut Source<R>,
+        source: &mut S,
         level: Level,
-    ) -> Result<ItemKind, Fault> {
+    ) -> Result<ItemKind, Fault>
+        ensures kept { Stays (S.held source.old) (S.left source.old) (S.held source.new)
+            (S.left source.new) }
+    {
         if level.code / 16 == 4 && level.count > SHOWN {
             if let Some(level) = self.levels.last_mut() {
                 level.index = level.count;
@@ -230,11 +246,14 @@ impl Scanner {
     }
 
     // Takes what follows a format code.
-    fn take_payload<R: Read>(
+    fn take_payload<S: Taking>(
         &mut self,
-        source: &mut Source<R>,
+        source: &mut S,
         code: u8,
-    ) -> Result<ItemKind, Fault> {
+    ) -> Result<ItemKind, Fault>
+        ensures kept { Stays (S.held source.old) (S.left source.old) (S.held source.new)
+            (S.left source.new) }
+    {
         match kind_of(code) {
             None => Err(Fault::FormatCode),
             Some((Kind::List, Shape::Fixed(_))) => {
@@ -245,7 +264,7 @@ impl Scanner {
             Some((kind, Shape::Fixed(width))) => {
                 self.need(source, u64::from(width))?;
                 let from = source.taken().len();
-                source.fill(usize::from(width))?;
+                take_bytes(source, usize::from(width))?;
                 self.check(source, kind, code, from)?;
                 if kind == Kind::Boolean {
                     self.note_more(code == 0x41 || source.taken().ends_with(&[0x56, 1]));
@@ -259,14 +278,17 @@ impl Scanner {
     }
 
     // Takes a number of four bytes if `wide`, otherwise of one.
-    fn take_number<R: Read>(&self, source: &mut Source<R>, wide: bool) -> Result<u32, Fault> {
+    fn take_number<S: Taking>(&self, source: &mut S, wide: bool) -> Result<u32, Fault>
+        ensures kept { Stays (S.held source.old) (S.left source.old) (S.held source.new)
+            (S.left source.new) }
+    {
         if !wide {
             self.need(source, 1)?;
-            return Ok(u32::from(source.byte()?));
+            return Ok(u32::from(take_byte(source)?));
         }
         self.need(source, 4)?;
         let from = source.taken().len();
-        source.fill(4)?;
+        take_bytes(source, 4)?;
         let mut number: u32 = 0;
         for byte in source.taken().iter().skip(from) {
             number = number.wrapping_mul(256).wrapping_add(u32::from(*byte));
@@ -275,18 +297,21 @@ impl Scanner {
     }
 
     // Takes a binary or a text.
-    fn take_sized<R: Read>(
+    fn take_sized<S: Taking>(
         &mut self,
-        source: &mut Source<R>,
+        source: &mut S,
         kind: Kind,
         code: u8,
         wide: bool,
-    ) -> Result<ItemKind, Fault> {
+    ) -> Result<ItemKind, Fault>
+        ensures kept { Stays (S.held source.old) (S.left source.old) (S.held source.new)
+            (S.left source.new) }
+    {
         let size = self.take_number(source, wide)?;
         self.need(source, u64::from(size))?;
         let from = source.taken().len();
         if size as usize <= self.piece {
-            source.fill(size as usize)?;
+            take_bytes(source, size as usize)?;
             self.check(source, kind, code, from)?;
             return Ok(ItemKind::Scalar(kind, code));
         }
@@ -296,29 +321,35 @@ impl Scanner {
     }
 
     // Takes more of a binary or a text.
-    fn take_more<R: Read>(
+    fn take_more<S: Taking>(
         &mut self,
-        source: &mut Source<R>,
+        source: &mut S,
         long: Long,
-    ) -> Result<ItemKind, Fault> {
+    ) -> Result<ItemKind, Fault>
+        ensures kept { Stays (S.held source.old) (S.left source.old) (S.held source.new)
+            (S.left source.new) }
+    {
         self.take_piece(source, long, PIECE)?;
         Ok(ItemKind::More(long.kind, self.long.is_none()))
     }
 
     // Takes about `most` bytes of a binary or a text: whole characters.
-    fn take_piece<R: Read>(
+    fn take_piece<S: Taking>(
         &mut self,
-        source: &mut Source<R>,
+        source: &mut S,
         long: Long,
         most: usize,
-    ) -> Result<(), Fault> {
+    ) -> Result<(), Fault>
+        ensures kept { Stays (S.held source.old) (S.left source.old) (S.held source.new)
+            (S.left source.new) }
+    {
         let from = source.taken().len();
         let len = long.left.min(most as u32);
-        source.fill(len as usize)?;
+        take_bytes(source, len as usize)?;
         let mut left = long.left.saturating_sub(len);
         if long.kind.is_text() {
             let missing = missing_bytes(source.taken()).min(left);
-            source.fill(missing as usize)?;
+            take_bytes(source, missing as usize)?;
             left = left.saturating_sub(missing);
             self.check(source, long.kind, 0xa1, from)?;
         }
@@ -334,9 +365,9 @@ impl Scanner {
     }
 
     // Checks the payload that begins at this place of the item.
-    fn check<R: Read>(
+    fn check<S: Taking>(
         &mut self,
-        source: &Source<R>,
+        source: &S,
         kind: Kind,
         code: u8,
         from: usize,
@@ -370,11 +401,14 @@ impl Scanner {
     }
 
     // Takes the size and the count of a compound, and returns them and the offset of its end.
-    fn take_header<R: Read>(
+    fn take_header<S: Taking>(
         &self,
-        source: &mut Source<R>,
+        source: &mut S,
         wide: bool,
-    ) -> Result<(u32, u32, u64), Fault> {
+    ) -> Result<(u32, u32, u64), Fault>
+        ensures kept { Stays (S.held source.old) (S.left source.old) (S.held source.new)
+            (S.left source.new) }
+    {
         let size = self.take_number(source, wide)?;
         self.need(source, u64::from(size))?;
         let end = source.at().saturating_add(u64::from(size));
@@ -387,12 +421,15 @@ impl Scanner {
     }
 
     // Takes the header of a list or a map.
-    fn open_compound<R: Read>(
+    fn open_compound<S: Taking>(
         &mut self,
-        source: &mut Source<R>,
+        source: &mut S,
         kind: Kind,
         wide: bool,
-    ) -> Result<ItemKind, Fault> {
+    ) -> Result<ItemKind, Fault>
+        ensures kept { Stays (S.held source.old) (S.left source.old) (S.held source.new)
+            (S.left source.new) }
+    {
         let (size, count, end) = self.take_header(source, wide)?;
         if kind == Kind::Map && count % 2 == 1 {
             return Err(Fault::OddCount);
@@ -403,11 +440,14 @@ impl Scanner {
     }
 
     // Takes the header of an array.
-    fn open_array<R: Read>(
+    fn open_array<S: Taking>(
         &mut self,
-        source: &mut Source<R>,
+        source: &mut S,
         wide: bool,
-    ) -> Result<ItemKind, Fault> {
+    ) -> Result<ItemKind, Fault>
+        ensures kept { Stays (S.held source.old) (S.left source.old) (S.held source.new)
+            (S.left source.new) }
+    {
         let (size, count, end) = self.take_header(source, wide)?;
         let level = self.compound(Kind::Array, count, end);
         self.push(level)?;
@@ -418,9 +458,12 @@ impl Scanner {
     }
 
     // Takes the constructor of the innermost array, or the 00 before its descriptor.
-    fn take_constructor<R: Read>(&mut self, source: &mut Source<R>) -> Result<ItemKind, Fault> {
+    fn take_constructor<S: Taking>(&mut self, source: &mut S) -> Result<ItemKind, Fault>
+        ensures kept { Stays (S.held source.old) (S.left source.old) (S.held source.new)
+            (S.left source.new) }
+    {
         self.need(source, 1)?;
-        let code = source.byte()?;
+        let code = take_byte(source)?;
         if code != 0 && kind_of(code).is_none() {
             return Err(Fault::FormatCode);
         }
@@ -436,7 +479,10 @@ impl Scanner {
     }
 
     // Takes the descriptor of a described value, if it is a ulong or a short symbol.
-    fn open_described<R: Read>(&mut self, source: &mut Source<R>) -> Result<ItemKind, Fault> {
+    fn open_described<S: Taking>(&mut self, source: &mut S) -> Result<ItemKind, Fault>
+        ensures kept { Stays (S.held source.old) (S.left source.old) (S.held source.new)
+            (S.left source.new) }
+    {
         let level = Level {
             kind: LevelKind::Described,
             index: 0,
@@ -462,7 +508,7 @@ impl Scanner {
     }
 
     /// Returns the offset of the byte that the fault is about.
-    pub fn fault_at<R: Read>(&self, source: &Source<R>, fault: Fault) -> u64 {
+    pub fn fault_at<S: Taking>(&self, source: &S, fault: Fault) -> u64 {
         let last = if source.taken().is_empty() {
             source.at()
         } else {

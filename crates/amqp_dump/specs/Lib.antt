@@ -1,0 +1,2 @@
+-- Definitions in the contracts of public items.
+pub mod Kept
