@@ -8,6 +8,7 @@ use crate::names;
 use crate::texts::{safe_text, text_of, value_of};
 use serde_amqp::Value;
 use std::alloc::Global;
+use std::num::{f32_from_bits_with_nan, f64_from_bits_with_nan};
 
 /// What a line says of an item: its name or kind, its text, and what is added for a reader.
 #[derive(Drop)]
@@ -161,32 +162,18 @@ fn describe_scalar(
     words.text.push_str(text_of(alloc, value)?.as_str())?;
     match value {
         Value::Binary(bytes) => push_printable(&mut words.note, bytes.as_inner()),
-        Value::Float(bits) => push_float(&mut words.note, *bits.as_inner()),
-        Value::Double(bits) => push_double(&mut words.note, *bits.as_inner()),
+        Value::Float(bits) => {
+            let number = f32_from_bits_with_nan(*bits.as_inner());
+            write!(words.note, "{number}")?;
+            Ok(())
+        }
+        Value::Double(bits) => {
+            let number = f64_from_bits_with_nan(*bits.as_inner());
+            write!(words.note, "{number}")?;
+            Ok(())
+        }
         _ => Ok(()),
     }
-}
-
-// Appends a float as a number.
-fn push_float(note: &mut String, bits: u32) -> Result<(), Fault> {
-    if bits & 0x7fff_ffff > 0x7f80_0000 {
-        note.push_str("NaN")?;
-    } else {
-        let number = f32::from_bits(bits);
-        write!(note, "{number}")?;
-    }
-    Ok(())
-}
-
-// Appends a double as a number.
-fn push_double(note: &mut String, bits: u64) -> Result<(), Fault> {
-    if bits & 0x7fff_ffff_ffff_ffff > 0x7ff0_0000_0000_0000 {
-        note.push_str("NaN")?;
-    } else {
-        let number = f64::from_bits(bits);
-        write!(note, "{number}")?;
-    }
-    Ok(())
 }
 
 // Appends bytes as text, if they are printable characters of ASCII.

@@ -80,7 +80,7 @@ impl<R: Read> HexReader<R> {
             self.wrong = true;
             return Ok(None);
         };
-        Ok(Some((high & 15) * 16 + (low & 15)))
+        Ok(Some(high.wrapping_mul(16).wrapping_add(low)))
     }
 }
 

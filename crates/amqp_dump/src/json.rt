@@ -11,6 +11,7 @@ use crate::texts::value_of;
 use crate::tree::Found;
 use serde_amqp::Value;
 use std::alloc::Global;
+use std::num::{f32_from_bits_with_nan, f64_from_bits_with_nan};
 
 /// The object of a value that is being written.
 #[derive(Drop)]
@@ -279,13 +280,12 @@ impl Json {
             | Value::Int(_) => write!(text, ",\"value\":{value}")?,
             Value::Float(bits) => {
                 let bits = *bits.as_inner();
-                let number = double_of(bits);
-                push_number(alloc, text, number)?;
+                push_number(alloc, text, f64::from(f32_from_bits_with_nan(bits)))?;
                 write!(text, ",\"bits\":\"{bits:08x}\"")?;
             }
             Value::Double(bits) => {
                 let bits = *bits.as_inner();
-                push_number(alloc, text, double_of_bits(bits))?;
+                push_number(alloc, text, f64_from_bits_with_nan(bits))?;
                 write!(text, ",\"bits\":\"{bits:016x}\"")?;
             }
             Value::Char(character) => {
@@ -315,30 +315,13 @@ fn is_map_value(level: &Level) -> bool {
     level.kind == LevelKind::Compound(Kind::Map) && level.index % 2 == 0
 }
 
-// Returns the number of a float, if it is finite.
-fn double_of(bits: u32) -> Option<f64> {
-    if bits & 0x7f80_0000 == 0x7f80_0000 {
-        return None;
-    }
-    Some(f64::from(f32::from_bits(bits)))
-}
-
-// Returns the number of a double, if it is finite.
-fn double_of_bits(bits: u64) -> Option<f64> {
-    if bits & 0x7ff0_0000_0000_0000 == 0x7ff0_0000_0000_0000 {
-        return None;
-    }
-    Some(f64::from_bits(bits))
-}
-
 // Appends the member `value` of a float. JSON has no infinite numbers.
-fn push_number(alloc: Global, text: &mut String, number: Option<f64>) -> Result<(), Fault> {
-    match number {
-        None => text.push_str(",\"value\":null")?,
-        Some(number) => {
-            let digits = format!(in alloc; "{number:?}")?;
-            write!(text, ",\"value\":{digits}")?;
-        }
+fn push_number(alloc: Global, text: &mut String, number: f64) -> Result<(), Fault> {
+    if number.is_finite() {
+        let digits = format!(in alloc; "{number:?}")?;
+        write!(text, ",\"value\":{digits}")?;
+    } else {
+        text.push_str(",\"value\":null")?;
     }
     Ok(())
 }

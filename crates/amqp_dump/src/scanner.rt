@@ -58,7 +58,7 @@ pub struct Scanner {
 impl Scanner {
     /// Creates a scanner at the start of an input. The input is frames if `frames` is true or its
     /// first two bytes are `AM`, which begin a protocol header and no values. A payload of more than
-    /// `piece` bytes, and at least 16, is split.
+    /// `piece` bytes is split.
     pub fn new(alloc: Global, frames: bool, piece: usize) -> Scanner {
         Scanner {
             levels: Vec::new(alloc),
@@ -66,7 +66,7 @@ impl Scanner {
             start: 0,
             depth: 0,
             roots: 0,
-            piece: piece.max(16),
+            piece,
             frames,
             extended: 0,
             skipping: false,
@@ -344,7 +344,7 @@ impl Scanner {
             (S.left source.new) }
     {
         let from = source.taken().len();
-        let len = long.left.min(most as u32);
+        let len = if most < long.left as usize { most as u32 } else { long.left };
         take_bytes(source, len as usize)?;
         let mut left = long.left.saturating_sub(len);
         if long.kind.is_text() {
@@ -495,9 +495,11 @@ impl Scanner {
         self.need(source, 1)?;
         match source.peek()? {
             Some(0x44 | 0x53 | 0x80 | 0xa3) => {
+                let code = take_byte(source)?;
+                self.advance();
                 let piece = self.piece;
                 self.piece = piece.max(255);
-                let taken = self.take_value(source);
+                let taken = self.take_payload(source, code);
                 self.piece = piece;
                 let _ = taken?;
                 Ok(ItemKind::Described(self.name_descriptor(source)))

@@ -11,6 +11,9 @@ use std::alloc::Global;
 // The most bytes that are read at once.
 const BLOCK: usize = 4096;
 
+// The most bytes that are read by way of a small block.
+const FEW: usize = 16;
+
 /// A source of bytes that keeps those of the item that is being read.
 ///
 /// # Implementer notes
@@ -108,32 +111,40 @@ impl<R: Read> Taking for Source<R> {
     }
 
     fn take_some(&mut self, most: usize) -> Result<usize, Fault> {
-        let got = read_more(&mut self.reader, &mut self.taken, most)?;
+        if most == 0 {
+            return Ok(0);
+        }
+        let got = if most <= FEW {
+            let mut block = [0; FEW];
+            read_more(&mut self.reader, &mut self.taken, &mut block[..most])?
+        } else {
+            let mut block = [0; BLOCK];
+            read_more(&mut self.reader, &mut self.taken, &mut block[..most])?
+        };
         self.at = self.at.saturating_add(got as u64);
         Ok(got)
     }
 }
 
-// Reads at least one byte and at most `most`, unless `most` is 0 or the input ends, and appends them.
-fn read_more<R: Read>(reader: &mut R, taken: &mut Vec<u8>, most: usize) -> Result<usize, Fault>
-    requires { most ≤ 4096 }
+// Reads at least one byte by way of `block`, unless the input ends, and appends what was read. Memory
+// is reserved first, so that no byte is lost.
+fn read_more<R: Read>(
+    reader: &mut R,
+    taken: &mut Vec<u8>,
+    block: &mut [u8],
+) -> Result<usize, Fault>
+    requires some { 0 < length block.old }
+    requires most { length block.old ≤ 4096 }
     ensures kept { Stays taken.old.items (R.left reader.old) taken.new.items (R.left reader.new) }
 {
-    if most == 0 {
-        return Ok(0);
-    }
-    let len = taken.len();
-    taken.resize(len + most, 0)?;
-    let answer = reader.read_some(&mut taken[len..]);
-    match answer {
-        Ok(got) => {
-            taken.truncate(len + got);
-            Ok(got)
-        }
-        Err(error) => {
-            taken.truncate(len);
-            Err(input_fault(error))
-        }
+    taken.reserve(block.len())?;
+    let got = match reader.read_some(block) {
+        Ok(got) => got,
+        Err(error) => return Err(input_fault(error)),
+    };
+    match taken.extend_from_slice(&block[..got]) {
+        Ok(()) => Ok(got),
+        Err(_) => unreachable!(),
     }
 }
 

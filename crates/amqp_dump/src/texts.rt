@@ -9,15 +9,17 @@ use std::str;
 
 /// Returns the number of bytes that the last character of a text needs more.
 pub(crate) fn missing_bytes(text: &[u8]) -> u32 {
-    for (index, byte) in text.iter().rev().take(3).enumerate() {
-        let needed = match byte {
+    let mut seen: u32 = 0;
+    for byte in text.iter().rev().take(3) {
+        seen = seen.saturating_add(1);
+        let needed: u32 = match byte {
             0x80..=0xbf => continue,
             0xc0..=0xdf => 2,
             0xe0..=0xef => 3,
             0xf0..=0xf7 => 4,
             _ => 1,
         };
-        return (needed as u32).saturating_sub((index as u32).saturating_add(1));
+        return needed.saturating_sub(seen);
     }
     0
 }

@@ -28,7 +28,7 @@ pub struct Report {
 
 // What a run remembers.
 #[derive(Drop)]
-struct Run {
+struct Dumper {
     alloc: Global,
     options: Options,
     scanner: Scanner,
@@ -62,7 +62,7 @@ pub fn run<S: Taking, W: Write>(
     selector: Option<&Selector>,
 ) -> Result<Report, Fault> {
     let piece = if options.form == Form::Tree { options.most_bytes } else { 4096 };
-    let mut run = Run {
+    let mut dumper = Dumper {
         alloc,
         options: *options,
         scanner: Scanner::new(alloc, options.frames, piece),
@@ -77,17 +77,17 @@ pub fn run<S: Taking, W: Write>(
         },
     };
     for _ in 0..u64::MAX {
-        if !run.step(source, writer, selector)? {
+        if !dumper.step(source, writer, selector)? {
             break;
         }
     }
     match writer.flush() {
-        Ok(()) => Ok(run.report),
+        Ok(()) => Ok(dumper.report),
         Err(error) => Err(output_fault(error)),
     }
 }
 
-impl Run {
+impl Dumper {
     // Shows the next item. Returns false at the end.
     fn step<S: Taking, W: Write>(
         &mut self,
