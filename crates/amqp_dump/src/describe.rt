@@ -5,7 +5,7 @@ use crate::item::{Item, ItemKind};
 use crate::kinds::{Kind, kind_of};
 use crate::level::{Level, LevelKind};
 use crate::names;
-use crate::texts::{safe_text, text_of, value_of};
+use crate::texts::{text_of, value_of};
 use serde_amqp::Value;
 use std::alloc::Global;
 use std::num::{f32_from_bits_with_nan, f64_from_bits_with_nan};
@@ -282,22 +282,43 @@ fn describe_frame(
 /// Returns what was expected, in words.
 pub(crate) fn expected(alloc: Global, fault: Fault) -> Result<String, Fault> {
     let text = match fault {
-        Fault::OutOfMemory => format!(in alloc; "out of memory")?,
-        Fault::Input => format!(in alloc; "input failed")?,
-        Fault::Output => format!(in alloc; "output failed")?,
-        Fault::EndOfInput(missing) => format!(in alloc; "expected {missing} more bytes")?,
-        Fault::FormatCode => format!(in alloc; "expected a format code")?,
-        Fault::PastEnd(0) => format!(in alloc; "expected a value in the size of what it is in")?,
-        Fault::PastEnd(left) => format!(in alloc; "expected at most {left} bytes, which are left of what it is in")?,
-        Fault::LeftOver(left) => format!(in alloc; "expected the end, {left} bytes before the end of its size")?,
-        Fault::SmallSize => format!(in alloc; "expected a size that includes the count")?,
-        Fault::OddCount => format!(in alloc; "expected an even count")?,
-        Fault::Payload(Kind::Boolean) => format!(in alloc; "expected 00 or 01")?,
-        Fault::Payload(Kind::Char) => format!(in alloc; "expected a Unicode scalar value")?,
-        Fault::Payload(_) => format!(in alloc; "expected UTF-8")?,
-        Fault::TooDeep => format!(in alloc; "expected at most 256 levels")?,
-        Fault::FrameSize(size) => format!(in alloc; "expected a frame of at least 8 bytes, not {size}")?,
-        Fault::DataOffset(offset) => format!(in alloc; "expected a data offset of at least 2 in the size of the frame, not {offset}")?,
+        Fault::EndOfInput(missing) => counted(alloc, "expected", missing, "more")?,
+        Fault::PastEnd(left) if left > 0 => {
+            counted(alloc, "expected at most", left, "before the size ends")?
+        }
+        Fault::LeftOver(left) => {
+            counted(alloc, "expected the size to end, but", left, "left of it")?
+        }
+        Fault::FrameSize(size) => {
+            format!(in alloc; "expected a frame of at least 8 bytes, not {size}")?
+        }
+        Fault::DataOffset(offset) => {
+            format!(in alloc; "expected a data offset from 2 on in the frame, not {offset}")?
+        }
+        fault => String::from_str(alloc, plain_expected(fault))?,
     };
-    safe_text(alloc, text.as_str())
+    Ok(text)
+}
+
+// Returns a text with a number of bytes in it.
+fn counted(alloc: Global, before: &str, count: u64, after: &str) -> Result<String, Fault> {
+    let plural = if count == 1 { "" } else { "s" };
+    Ok(format!(in alloc; "{before} {count} byte{plural} {after}")?)
+}
+
+fn plain_expected(fault: Fault) -> &'static str {
+    match fault {
+        Fault::OutOfMemory => "out of memory",
+        Fault::Input => "input failed",
+        Fault::Output => "output failed",
+        Fault::FormatCode => "expected a format code",
+        Fault::PastEnd(_) => "expected a value before the size ends",
+        Fault::SmallSize => "expected a size that includes the count",
+        Fault::OddCount => "expected an even count",
+        Fault::Payload(Kind::Boolean) => "expected 00 or 01",
+        Fault::Payload(Kind::Char) => "expected a Unicode scalar value",
+        Fault::Payload(_) => "expected UTF-8",
+        Fault::TooDeep => "expected at most 256 levels",
+        _ => "expected other bytes",
+    }
 }
