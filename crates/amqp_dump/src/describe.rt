@@ -73,7 +73,9 @@ fn describe_descriptor(
     code: Option<u64>,
     bytes: &[u8],
 ) -> Result<(), Fault> {
-    words.name.push_str(descriptor_text(alloc, bytes)?.as_str())?;
+    words
+        .name
+        .push_str(descriptor_text(alloc, bytes)?.as_str())?;
     if let Some(found) = code.and_then(names::type_of) {
         words.name.push_str(" ")?;
         words.name.push_str(found.name)?;
@@ -258,12 +260,7 @@ fn describe_protocol(words: &mut Words, bytes: &[u8]) -> Result<(), Fault> {
     Ok(())
 }
 
-fn describe_frame(
-    words: &mut Words,
-    kind: u8,
-    channel: u16,
-    bytes: &[u8],
-) -> Result<(), Fault> {
+fn describe_frame(words: &mut Words, kind: u8, channel: u16, bytes: &[u8]) -> Result<(), Fault> {
     words.name.push_str("frame")?;
     if let [a, b, c, d, offset, ..] = bytes {
         let size = u32::from_be_bytes([*a, *b, *c, *d]);

@@ -61,7 +61,11 @@ pub fn run<S: Taking, W: Write>(
     options: &Options,
     selector: Option<&Selector>,
 ) -> Result<Report, Fault> {
-    let piece = if options.form == Form::Tree { options.most_bytes } else { 4096 };
+    let piece = if options.form == Form::Tree {
+        options.most_bytes
+    } else {
+        4096
+    };
     let mut dumper = Dumper {
         alloc,
         options: *options,
@@ -158,7 +162,10 @@ impl Dumper {
         }
         let in_payload = self.scanner.is_in_payload();
         let base = self.selected.unwrap_or(0);
-        if self.json.add(item, base, self.scanner.levels(), bytes, in_payload)? {
+        if self
+            .json
+            .add(item, base, self.scanner.levels(), bytes, in_payload)?
+        {
             Ok(self.json.take())
         } else {
             Ok(String::new(self.alloc))
@@ -167,7 +174,10 @@ impl Dumper {
 
     // Whether a frame is open.
     fn is_in_frame(&self) -> bool {
-        self.scanner.levels().first().is_some_and(|level| level.kind == LevelKind::Frame)
+        self.scanner
+            .levels()
+            .first()
+            .is_some_and(|level| level.kind == LevelKind::Frame)
     }
 
     // Whether a selected value ends with the item.

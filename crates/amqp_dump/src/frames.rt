@@ -17,10 +17,7 @@ const TRANSFER: u64 = 0x14;
 
 impl Scanner {
     // Takes a protocol header or the header of a frame, of which the first bytes may be taken.
-    pub(crate) fn open_frame<S: Taking>(
-        &mut self,
-        source: &mut S,
-    ) -> Result<ItemKind, Fault>
+    pub(crate) fn open_frame<S: Taking>(&mut self, source: &mut S) -> Result<ItemKind, Fault>
         ensures kept { Stays (S.held source.old) (S.left source.old) (S.held source.new)
             (S.left source.new) }
     {
@@ -86,11 +83,7 @@ impl Scanner {
     }
 
     // Whether the payload of a frame is the sections of a message.
-    fn has_sections<S: Taking>(
-        &self,
-        source: &mut S,
-        level: Level,
-    ) -> Result<bool, Fault>
+    fn has_sections<S: Taking>(&self, source: &mut S, level: Level) -> Result<bool, Fault>
         ensures kept { Stays (S.held source.old) (S.left source.old) (S.held source.new)
             (S.left source.new) }
     {

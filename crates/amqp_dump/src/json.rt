@@ -72,7 +72,8 @@ impl Json {
         let is_key = level.is_some_and(|level| level.kind == LevelKind::Compound(Kind::Map));
         if is_described {
             let is_value = level.is_some_and(|level| level.index > 1);
-            self.text.push_str(if is_value { ",\"value\":" } else { "" })?;
+            self.text
+                .push_str(if is_value { ",\"value\":" } else { "" })?;
         } else if is_mapped {
             self.text.push_str(",")?;
         } else {
@@ -176,7 +177,9 @@ impl Json {
     fn add_opening(&mut self, kind: Kind, levels: &[Level]) -> Result<(), Fault> {
         self.add_kind(kind)?;
         self.comma = false;
-        let is_described = levels.last().is_some_and(|level| level.kind == LevelKind::Constructor);
+        let is_described = levels
+            .last()
+            .is_some_and(|level| level.kind == LevelKind::Constructor);
         if is_described {
             return self.add_text(",\"descriptors\":[");
         }
@@ -199,7 +202,9 @@ impl Json {
     }
 
     fn add_constructor(&mut self, levels: &[Level]) -> Result<(), Fault> {
-        let is_last = levels.last().is_some_and(|level| level.kind != LevelKind::Constructor);
+        let is_last = levels
+            .last()
+            .is_some_and(|level| level.kind != LevelKind::Constructor);
         if is_last {
             self.add_text("]")?;
             self.add_element_kind(Kind::Array, levels)?;
@@ -237,7 +242,10 @@ impl Json {
         let text = &mut self.text;
         if let [a, b, c, d, ..] = bytes {
             let size = u32::from_be_bytes([*a, *b, *c, *d]);
-            write!(text, "{{\"kind\":\"frame\",\"type\":{kind},\"channel\":{channel},")?;
+            write!(
+                text,
+                "{{\"kind\":\"frame\",\"type\":{kind},\"channel\":{channel},"
+            )?;
             write!(text, "\"size\":{size},\"value\":[")?;
         }
         self.comma = false;
@@ -352,8 +360,14 @@ fn push_escaped_char(text: &mut String, character: char) -> Result<(), Fault> {
     match character {
         '"' => text.push_str("\\\"")?,
         '\\' => text.push_str("\\\\")?,
-        '\0'..='\x1f' | '\x7f'..='\u{9f}' | '\u{200e}' | '\u{200f}' | '\u{2028}'..='\u{202e}'
-        | '\u{2066}'..='\u{2069}' | '\u{61c}' | '\u{feff}' => {
+        '\0'..='\x1f'
+        | '\x7f'..='\u{9f}'
+        | '\u{200e}'
+        | '\u{200f}'
+        | '\u{2028}'..='\u{202e}'
+        | '\u{2066}'..='\u{2069}'
+        | '\u{61c}'
+        | '\u{feff}' => {
             let code = character as u32;
             write!(text, "\\u{code:04x}")?;
         }

@@ -5,6 +5,7 @@
 #![tactic(auto)]
 
 mod describe;
+mod dumper;
 mod fault;
 mod frames;
 mod hex_reader;
@@ -17,7 +18,6 @@ pub mod names;
 mod options;
 mod paint;
 mod path;
-mod dumper;
 mod scanner;
 mod select;
 mod source;
@@ -26,15 +26,15 @@ mod text;
 mod texts;
 mod tree;
 
+pub use dumper::{Report, run};
 pub use fault::Fault;
 pub use hex_reader::HexReader;
 pub use item::{Item, ItemKind};
 pub use kinds::{Kind, Shape, kind_of};
 pub use level::{Level, LevelKind};
 pub use options::{Form, Options};
-pub use dumper::{Report, run};
-pub use select::Selector;
-pub use summary::Summary;
 pub use scanner::{MAX_DEPTH, Scanner};
+pub use select::Selector;
 pub use source::{Source, Taking, take_byte, take_bytes};
+pub use summary::Summary;
 pub use tree::Found;

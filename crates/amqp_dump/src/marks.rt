@@ -11,6 +11,7 @@ use std::alloc::Global;
 
 // The most keys of a map, and the most bytes of a key, that are kept to find repeated ones.
 const MAX_KEYS: usize = 64;
+
 const MAX_KEY: usize = 64;
 
 /// What is remembered to find marks.
@@ -51,12 +52,7 @@ impl Marks {
     }
 
     /// Finds the marks of an item. `levels` are those that are open after it.
-    pub(crate) fn add(
-        &mut self,
-        item: Item,
-        levels: &[Level],
-        bytes: &[u8],
-    ) -> Result<(), Fault> {
+    pub(crate) fn add(&mut self, item: Item, levels: &[Level], bytes: &[u8]) -> Result<(), Fault> {
         self.found.clear();
         let (outer, _) = levels.split_at(item.depth.min(levels.len()));
         if item.kind.begins_value() {
@@ -125,7 +121,9 @@ impl Marks {
         if kind == Kind::Array && size == 0 {
             self.found.push("array without a constructor")?;
         }
-        let is_described = levels.last().is_some_and(|level| level.kind == LevelKind::Constructor);
+        let is_described = levels
+            .last()
+            .is_some_and(|level| level.kind == LevelKind::Constructor);
         if is_described {
             self.found.push("described constructor")?;
         }

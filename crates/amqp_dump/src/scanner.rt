@@ -210,10 +210,7 @@ impl Scanner {
     }
 
     // Takes a value with its format code.
-    pub(crate) fn take_value<S: Taking>(
-        &mut self,
-        source: &mut S,
-    ) -> Result<ItemKind, Fault>
+    pub(crate) fn take_value<S: Taking>(&mut self, source: &mut S) -> Result<ItemKind, Fault>
         ensures kept { Stays (S.held source.old) (S.left source.old) (S.held source.new)
             (S.left source.new) }
     {
@@ -227,11 +224,7 @@ impl Scanner {
     }
 
     // Takes an element of an array.
-    fn take_element<S: Taking>(
-        &mut self,
-        source: &mut S,
-        level: Level,
-    ) -> Result<ItemKind, Fault>
+    fn take_element<S: Taking>(&mut self, source: &mut S, level: Level) -> Result<ItemKind, Fault>
         ensures kept { Stays (S.held source.old) (S.left source.old) (S.held source.new)
             (S.left source.new) }
     {
@@ -246,11 +239,7 @@ impl Scanner {
     }
 
     // Takes what follows a format code.
-    fn take_payload<S: Taking>(
-        &mut self,
-        source: &mut S,
-        code: u8,
-    ) -> Result<ItemKind, Fault>
+    fn take_payload<S: Taking>(&mut self, source: &mut S, code: u8) -> Result<ItemKind, Fault>
         ensures kept { Stays (S.held source.old) (S.left source.old) (S.held source.new)
             (S.left source.new) }
     {
@@ -321,11 +310,7 @@ impl Scanner {
     }
 
     // Takes more of a binary or a text.
-    fn take_more<S: Taking>(
-        &mut self,
-        source: &mut S,
-        long: Long,
-    ) -> Result<ItemKind, Fault>
+    fn take_more<S: Taking>(&mut self, source: &mut S, long: Long) -> Result<ItemKind, Fault>
         ensures kept { Stays (S.held source.old) (S.left source.old) (S.held source.new)
             (S.left source.new) }
     {
@@ -344,7 +329,11 @@ impl Scanner {
             (S.left source.new) }
     {
         let from = source.taken().len();
-        let len = if most < long.left as usize { most as u32 } else { long.left };
+        let len = if most < long.left as usize {
+            most as u32
+        } else {
+            long.left
+        };
         take_bytes(source, len as usize)?;
         let mut left = long.left.saturating_sub(len);
         if long.kind.is_text() {
@@ -401,11 +390,7 @@ impl Scanner {
     }
 
     // Takes the size and the count of a compound, and returns them and the offset of its end.
-    fn take_header<S: Taking>(
-        &self,
-        source: &mut S,
-        wide: bool,
-    ) -> Result<(u32, u32, u64), Fault>
+    fn take_header<S: Taking>(&self, source: &mut S, wide: bool) -> Result<(u32, u32, u64), Fault>
         ensures kept { Stays (S.held source.old) (S.left source.old) (S.held source.new)
             (S.left source.new) }
     {
@@ -440,11 +425,7 @@ impl Scanner {
     }
 
     // Takes the header of an array.
-    fn open_array<S: Taking>(
-        &mut self,
-        source: &mut S,
-        wide: bool,
-    ) -> Result<ItemKind, Fault>
+    fn open_array<S: Taking>(&mut self, source: &mut S, wide: bool) -> Result<ItemKind, Fault>
         ensures kept { Stays (S.held source.old) (S.left source.old) (S.held source.new)
             (S.left source.new) }
     {

@@ -128,11 +128,7 @@ impl<R: Read> Taking for Source<R> {
 
 // Reads at least one byte by way of `block`, unless the input ends, and appends what was read. Memory
 // is reserved first, so that no byte is lost.
-fn read_more<R: Read>(
-    reader: &mut R,
-    taken: &mut Vec<u8>,
-    block: &mut [u8],
-) -> Result<usize, Fault>
+fn read_more<R: Read>(reader: &mut R, taken: &mut Vec<u8>, block: &mut [u8]) -> Result<usize, Fault>
     requires some { 0 < length block.old }
     requires most { length block.old ≤ 4096 }
     ensures kept { Stays taken.old.items (R.left reader.old) taken.new.items (R.left reader.new) }

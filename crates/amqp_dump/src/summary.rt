@@ -121,10 +121,16 @@ impl Summary {
         let faults = self.faults;
         let deepest = self.deepest;
         let longest = self.longest;
-        writeln!(text, "summary: {bytes} bytes, {frames} frames, {faults} faults")?;
+        writeln!(
+            text,
+            "summary: {bytes} bytes, {frames} frames, {faults} faults"
+        )?;
         writeln!(text, "  {deepest:>10} levels at most")?;
         if longest > 0 {
-            writeln!(text, "  {longest:>10} bytes in the longest binary or text that was cut")?;
+            writeln!(
+                text,
+                "  {longest:>10} bytes in the longest binary or text that was cut"
+            )?;
         }
         for (count, kind) in self.kinds.iter().zip(KINDS.iter()) {
             if *count > 0 {

@@ -1,5 +1,10 @@
 //! The texts of scalars.
 
+ghost use Rattle.std.specs.Prelude.{◌≡◌, ◌++◌, IfOk, OnOk, string_bytes};
+ghost use Rattle.amqp_value.specs.Text.{text_of as shown};
+ghost use Rattle.amqp_value.specs.TreeOf.{tree_of};
+ghost use Rattle.amqp_dump.specs.Safe.{is_command, safe, safe_char};
+
 use crate::fault::{Fault, input_fault};
 use crate::kinds::Kind;
 use serde_amqp::Value;
@@ -67,34 +72,47 @@ fn decoded(alloc: Global, bytes: &[u8]) -> Result<Value, Fault> {
 
 /// Returns the text of a value as `Display` writes it, with the characters escaped that a terminal
 /// takes as commands.
-pub(crate) fn text_of(alloc: Global, value: &Value) -> Result<String, Fault> {
+pub(crate) fn text_of(alloc: Global, value: &Value) -> Result<String, Fault>
+    ensures text { IfOk result (λ text. string_bytes text ≡ safe (shown (tree_of value.now))) }
+{
     let text = value.to_string(alloc)?;
     safe_text(alloc, text.as_str())
 }
 
 /// Returns a text with the characters escaped that a terminal takes as commands.
-pub(crate) fn safe_text(alloc: Global, text: &str) -> Result<String, Fault> {
-    let mut safe = String::new(alloc);
+fn safe_text(alloc: Global, text: &str) -> Result<String, Fault>
+    ensures text { IfOk result (λ shown. string_bytes shown ≡ safe text.now) }
+{
+    let mut shown = String::new(alloc);
     for character in text.chars() {
-        push_safe(&mut safe, character)?;
+        push_safe(&mut shown, character)?;
     }
-    Ok(safe)
+    Ok(shown)
 }
 
-fn push_safe(text: &mut String, character: char) -> Result<(), Fault> {
-    if is_safe(character) {
-        text.push(character)?;
-        return Ok(());
-    }
+fn push_safe(text: &mut String, character: char) -> Result<(), Fault>
+    ensures text { OnOk result
+        (string_bytes text.new ≡ string_bytes text.old ++ safe_char character) }
+{
     let code = character as u32;
-    write!(text, "\\u{{{code:x}}}")?;
+    if is_command(code) {
+        write!(text, "\\u{{{code:x}}}")?;
+    } else {
+        text.push(character)?;
+    }
     Ok(())
 }
 
-// Whether a terminal shows the character: it is no control character, and does not turn the
-// direction of the text or its lines.
-fn is_safe(character: char) -> bool {
-    !matches!(character,
-        '\0'..='\x1f' | '\x7f'..='\u{9f}' | '\u{61c}' | '\u{200e}' | '\u{200f}'
-        | '\u{2028}'..='\u{202e}' | '\u{2066}'..='\u{2069}' | '\u{feff}')
+// Whether a terminal takes the character as a command, or changes the direction of the text or its
+// lines.
+fn is_command(code: u32) -> bool
+    ensures { result ≡ is_command code }
+{
+    code < 32
+        || (0x7f <= code && code <= 0x9f)
+        || code == 0x61c
+        || (0x200e <= code && code <= 0x200f)
+        || (0x2028 <= code && code <= 0x202e)
+        || (0x2066 <= code && code <= 0x2069)
+        || code == 0xfeff
 }

@@ -24,7 +24,10 @@ pub(crate) fn tree_line(
     options: &Options,
 ) -> Result<String, Fault> {
     let mut line = String::new(alloc);
-    let is_shown = !matches!(item.kind, ItemKind::End | ItemKind::Closes(_) | ItemKind::More(_, _));
+    let is_shown = !matches!(
+        item.kind,
+        ItemKind::End | ItemKind::Closes(_) | ItemKind::More(_, _)
+    );
     if !is_shown || item.depth >= options.most_levels {
         return Ok(line);
     }
@@ -61,7 +64,12 @@ pub(crate) fn fault_line(
         line.push_str("  ")?;
     }
     paint(&mut line, options.color, Part::Fault, "! ")?;
-    paint(&mut line, options.color, Part::Fault, found.text(alloc)?.as_str())?;
+    paint(
+        &mut line,
+        options.color,
+        Part::Fault,
+        found.text(alloc)?.as_str(),
+    )?;
     line.push_str("\n")?;
     Ok(line)
 }

@@ -24,23 +24,46 @@ pub fn command(alloc: Global) -> Result<Command<'static>, Error> {
     let command = Command::new(alloc, "amqpdump")
         .version("0.1.0")
         .about("Shows what is in AMQP bytes")
-        .arg(Arg::new(alloc, "file").value_name("FILE").help("A file, or else standard input"))?
-        .arg(flag(alloc, "hex", "The input is hexadecimal (white space and 0x are ignored)"))?
-        .arg(flag(alloc, "frames", "The input is protocol headers and frames of a connection"))?;
+        .arg(
+            Arg::new(alloc, "file")
+                .value_name("FILE")
+                .help("A file, or else standard input"),
+        )?
+        .arg(flag(
+            alloc,
+            "hex",
+            "The input is hexadecimal (white space and 0x are ignored)",
+        ))?
+        .arg(flag(
+            alloc,
+            "frames",
+            "The input is protocol headers and frames of a connection",
+        ))?;
     let command = with_forms(alloc, command)?;
     with_limits(alloc, command)
 }
 
 fn flag(alloc: Global, name: &'static str, help: &'static str) -> Arg<'static> {
-    Arg::new(alloc, name).long(name).action(ArgAction::SetTrue).help(help)
+    Arg::new(alloc, name)
+        .long(name)
+        .action(ArgAction::SetTrue)
+        .help(help)
 }
 
 // Adds the forms of output.
 fn with_forms(alloc: Global, command: Command<'static>) -> Result<Command<'static>, Error> {
-    let tree = flag(alloc, "tree", "A line for each node (the default on a terminal)")
-        .conflicts_with_all(["text", "json"].as_slice())?;
-    let text = flag(alloc, "text", "A line for each encoded value (the default elsewhere)")
-        .conflicts_with("json")?;
+    let tree = flag(
+        alloc,
+        "tree",
+        "A line for each node (the default on a terminal)",
+    )
+    .conflicts_with_all(["text", "json"].as_slice())?;
+    let text = flag(
+        alloc,
+        "text",
+        "A line for each encoded value (the default elsewhere)",
+    )
+    .conflicts_with("json")?;
     let json = flag(alloc, "json", "A JSON object for each encoded value");
     Ok(command.arg(tree)?.arg(text)?.arg(json)?)
 }

@@ -9,11 +9,10 @@ use serde_amqp::IoWriter;
 use serde_amqp::read::{IoReader, Read};
 use std::alloc::Global;
 use std::env::Env;
-use std::fs;
-use std::io;
 use std::io::{BufReader, BufWriter, IsTerminal};
 use std::process::ExitCode;
 use std::rt::Files;
+use std::{fs, io};
 
 fn main(rt: HostRuntime) -> ExitCode {
     let is_terminal = rt.stdout().is_terminal();
@@ -114,7 +113,13 @@ fn over_source<R: Print + AllocGlobal, I: Read>(
         return Err(Fault::OutOfMemory);
     };
     let mut writer = IoWriter::new(output);
-    let report = run(alloc, source, &mut writer, &arguments.options, selector.as_ref())?;
+    let report = run(
+        alloc,
+        source,
+        &mut writer,
+        &arguments.options,
+        selector.as_ref(),
+    )?;
     if arguments.summary {
         let text = report.summary.text(alloc)?;
         if rt.print(text).is_err() {

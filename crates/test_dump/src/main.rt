@@ -3,8 +3,8 @@
 #![tactic(auto)]
 
 use amqp_dump::{Fault, Form, HexReader, Options, Selector, Source, run};
-use serde_amqp::read::SliceReader;
 use serde_amqp::VecWriter;
+use serde_amqp::read::SliceReader;
 use std::alloc::Global;
 use std::process::ExitCode;
 
