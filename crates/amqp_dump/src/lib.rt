@@ -4,13 +4,16 @@
 //! items together are the input.
 #![tactic(auto)]
 
+mod compounds;
 mod describe;
 mod dumper;
+mod expected;
 mod fault;
 mod frames;
 mod hex_reader;
 mod item;
 mod json;
+mod json_text;
 mod kinds;
 mod level;
 mod marks;
@@ -18,6 +21,7 @@ pub mod names;
 mod options;
 mod paint;
 mod path;
+mod payloads;
 mod scanner;
 mod select;
 mod source;

@@ -1,6 +1,7 @@
 //! The lines of a tree.
 
-use crate::describe::{expected, words_of};
+use crate::describe::words_of;
+use crate::expected::expected;
 use crate::fault::Fault;
 use crate::item::{Item, ItemKind};
 use crate::kinds::Kind;
