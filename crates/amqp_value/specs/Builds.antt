@@ -32,7 +32,7 @@ pairs_of_builder = option_map collected_pairs
 
 -- The entries so far, as trees.
 abbrev pub pairs_built : BuildMap → Option Pairs
-pairs_built map = pairs_of_builder map.entries
+pairs_built builder = pairs_of_builder builder.entries
 
 -- The entries are those before and one more, inserted, whose key and value the relations permit.
 abbrev pub AddsEntry : (Value → Type 0) → (Value → Type 0) → Option Pairs → Pairs → Type 0

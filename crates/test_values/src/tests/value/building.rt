@@ -1,6 +1,6 @@
 //! Values written in place. Each row compares with the same value made by hand.
 
-use crate::tests::rows::{gives, is};
+use crate::tests::rows::gives;
 use crate::tests::values::{list, map};
 use amqp_data::{Error, Symbol};
 use amqp_value::{Value, list, map};
