@@ -9,8 +9,6 @@ use serde_amqp::read::SliceReader;
 use serde_amqp::ser::Serialize;
 use serde_amqp::{Error, to_vec};
 
-const TEXT: &str = "Good morning";
-
 /// Prints the cases.
 pub fn cases(rt: &HostRuntime) -> Result<(), Error> {
     let a = rt.alloc();
@@ -18,13 +16,15 @@ pub fn cases(rt: &HostRuntime) -> Result<(), Error> {
     let array = Array::from(vec![in a; -1i32, 0, 1, 127, 128]?);
     kept(rt, "lazy::test_read_array", &array)?;
     described(rt)?;
-    let lazy = lazy_of(rt, &TEXT)?;
+    compounds(rt)
+}
+
+fn compounds(rt: &HostRuntime) -> Result<(), Error> {
+    let text = String::from_str(rt.alloc(), "Good morning")?;
+    let lazy = lazy_of(rt, &text)?;
     written(rt, "lazy::test_serialize_compound", &[&lazy, &lazy, &lazy])?;
-    written(
-        rt,
-        "lazy::test_serialize_compound (texts)",
-        &[&TEXT, &TEXT, &TEXT],
-    )
+    let name = "lazy::test_serialize_compound (texts)";
+    written(rt, name, &[&text, &text, &text])
 }
 
 fn described(rt: &HostRuntime) -> Result<(), Error> {
