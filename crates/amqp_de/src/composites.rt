@@ -1,4 +1,4 @@
-//! Composites, which are read after a descriptor: a code, or the name that stands for it.
+//! Reading of composites: described values whose descriptor is the code or the name of their type.
 
 ghost use Rattle.std.specs.Prelude.{◌≡◌, ◌↔◌, ◌⊎◌, ◌∷◌, ℕ, List, [], IsTrue, IfOk, MatchResult};
 ghost use Rattle.amqp_ser.specs.Carried.{descriptor_content};
